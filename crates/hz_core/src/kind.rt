@@ -60,6 +60,7 @@ impl Kind {
         self.extended(pins)
     }
 
+    #[tactic(auto, using(crate::proofs::Kleene::kleene))]
     fn extended(self, pins: &[Tri]) -> Tri
         requires { IsTrue (takes self (length pins.now)) }
         ensures { result ≡ extension self pins.now }
