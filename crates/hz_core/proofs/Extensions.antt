@@ -6,6 +6,7 @@ use Rattle.hz_core.specs.declared.tri.Tri.TheVariants.{Zero, One, Unknown}
 use Rattle.hz_core.specs.Ternary.{tri_of, admits, is_below, AllBelow, Refines}
 use Rattle.hz_core.specs.Gate.{gate_value}
 use Rattle.hz_core.specs.Extension.{join_over, extension, IsExtension}
+use Rattle.hz_core.proofs.Refinements.{known-admits, Refines-AllBelow}
 use Rattle.hz_core.proofs.Joins.{IsTaken, admits-IsJoinOf, is_below-IsJoinOf, IsJoinOf-join_over}
 
 -- the extension is the join of the gate's values over all refining lists
@@ -18,30 +19,6 @@ admits-extension kind pins bits refines =
     admits-IsJoinOf (IsTaken (gate_value kind) pins) (extension kind pins) (gate_value kind bits)
     (IsJoinOf-join_over (gate_value kind) pins)
     (bits, refines, refl)
-
--- a value that admits a bit admits it below any greater value
-pub admits-is_below : (small large : Tri) (bit : Bool) → IsTrue (is_below small large) → IsTrue (admits small bit) → IsTrue (admits large bit)
-admits-is_below Zero Zero bit below admitted = admitted
-admits-is_below Zero One bit below admitted = cc
-admits-is_below Zero Unknown false below admitted = refl
-admits-is_below Zero Unknown true below admitted = refl
-admits-is_below One Zero bit below admitted = cc
-admits-is_below One One bit below admitted = admitted
-admits-is_below One Unknown false below admitted = refl
-admits-is_below One Unknown true below admitted = refl
-admits-is_below Unknown Zero bit below admitted = cc
-admits-is_below Unknown One bit below admitted = cc
-admits-is_below Unknown Unknown bit below admitted = admitted
-
--- what refines the lower list refines the greater one
-pub Refines-AllBelow : (bits : List Bool) (small large : List Tri) → AllBelow small large → Refines bits small → Refines bits large
-Refines-AllBelow [] [] [] below refines = tt
-Refines-AllBelow [] [] (l ∷ large) below refines = below
-Refines-AllBelow [] (s ∷ small) large below refines = absurd refines
-Refines-AllBelow (bit ∷ bits) [] large below refines = absurd refines
-Refines-AllBelow (bit ∷ bits) (s ∷ small) [] below refines = below
-Refines-AllBelow (bit ∷ bits) (s ∷ small) (l ∷ large) below refines =
-    (admits-is_below s l bit below.0 refines.0, Refines-AllBelow bits small large below.1 refines.1)
 
 -- the extension is monotone
 pub is_below-extension : (kind : Kind) (small large : List Tri) → AllBelow small large → IsTrue (is_below (extension kind small) (extension kind large))
@@ -61,14 +38,10 @@ join_over-map f (true ∷ bits) = join_over-map (λ rest. f (true ∷ rest)) bit
 pub extension-map : (kind : Kind) (bits : List Bool) → extension kind (map tri_of bits) ≡ tri_of (gate_value kind bits)
 extension-map kind bits = join_over-map (gate_value kind) bits
 
--- a known value admits its bit alone
-pub known-admits : (known bit : Bool) → IsTrue (admits (tri_of known) bit) → bit ≡ known
-known-admits false false h = refl
-known-admits false true h = cc
-known-admits true false h = cc
-known-admits true true h = refl
-
 -- where the extension is a known bit, the gate has this value on each refining list
 pub gate_value-known : (kind : Kind) (pins : List Tri) (bits : List Bool) (known : Bool) → extension kind pins ≡ tri_of known → Refines bits pins → gate_value kind bits ≡ known
 gate_value-known kind pins bits known e refines =
     known-admits known (gate_value kind bits) (rw (sym e) (admits-extension kind pins bits refines))
+
+-- the same, for the search
+pub ruleset joined = (IsExtension-extension)

@@ -52,6 +52,7 @@ impl Kind {
 
     /// The value of the ternary extension, the least that is above the gate's value on each list of
     /// bits that the pins may have: X only where these values differ.
+    #[tactic(auto, using(crate::proofs::Extensions::joined))]
     pub fn eval3(self, pins: &[Tri]) -> Tri
         requires { IsTrue (takes self (length pins.now)) }
         ensures value { result ≡ extension self pins.now }
