@@ -59,8 +59,8 @@ impl Circuit {
         ensures ok { IfOk result (λ number. (number ≡ length self.old.names) × (self.new ≡ with_input self.old name.now)) }
         ensures err { OnErr result (self.new ≡ self.old) }
     {
-        let number = self.inputs;
-        let Ok(text) = name.to_vec(*self.names.allocator()) else {
+        let number = self.names.len() as u32;
+        let Ok(text) = Vec::from_slice(*self.names.allocator(), name) else {
             return Err(Memory);
         };
         let Ok(_) = self.names.insert(text) else {
@@ -80,7 +80,7 @@ impl Circuit {
     {
         let number = self.names.len() as u32;
         let alloc = *self.names.allocator();
-        let Ok(text) = name.to_vec(alloc) else {
+        let Ok(text) = Vec::from_slice(alloc, name) else {
             return Err(Memory);
         };
         let Ok(()) = self.gates.reserve(1) else {
