@@ -1,0 +1,4 @@
+pub mod Ternary
+pub mod Gate
+pub mod Extension
+pub mod Netlist
