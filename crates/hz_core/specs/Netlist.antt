@@ -1,5 +1,6 @@
 -- Circuits: named inputs, gates with their sources, and outputs.
-use Rattle.std.specs.Prelude.{ℕ, ◌+◌, List, length, sum_by}
+use Rattle.std.specs.Prelude.{◌≡◌, ◌≢◌, ℕ, ◌+◌, ◌-◌, ◌<◌, ◌≤◌, Bool, true, ◌||◌, ◌&&◌, not, List, [], ◌∷◌, ◌++◌, length, All, Contains, sum_by, nat_le, ◌==◌, Option, Some, None, IsTrue, slice_get}
+use Rattle.std.specs.List.{slice_index_or}
 use Rattle.hz_core.specs.declared.kind.Kind.{Kind}
 use Rattle.hz_core.specs.declared.kind.Kind.TheVariants.{And, Nand, Or, Nor, Xor, Xnor, Not, Buff}
 use Rattle.hz_core.specs.declared.kind.TheConstants.{MAX_PINS}
