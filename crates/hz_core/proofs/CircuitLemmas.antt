@@ -1,16 +1,15 @@
 -- Each call of `Circuit` makes a circuit of a circuit.
-use Rattle.std.proofs.Common.{◌≡◌, ◌∙◌, sym, ap, refl, suc, ℕ, ◌+◌, ◌-◌, ◌<◌, ◌≤◌, Bool, true, false, cond, List, [], ◌∷◌, ◌++◌, length, Option, Some, None, IsTrue, All, get_or, set, map, arith, rules, subst, length-append, add-zero, Vec, Global}
+use Rattle.std.proofs.Common.{◌≡◌, ◌∙◌, sym, ap, refl, suc, ℕ, ◌+◌, ◌-◌, ◌<◌, ◌≤◌, Bool, false, cond, List, [], ◌∷◌, ◌++◌, length, None, IsTrue, All, get_or, set, map, arith, rules, subst, length-append, add-zero, Vec, Global}
 use Rattle.std.proofs.Math.ListN.{length-set}
-use Rattle.std.specs.List.{list_any, position, position_or_len, prefix_len, sum_by, Contains, IsDistinct}
+use Rattle.std.specs.List.{list_any, position, position_or_len, prefix_len, IsDistinct}
 use Rattle.std.specs.Str.{bytes_eq}
-use Rattle.std.specs.Cmp.Lexicographic.{pointwise, nat_list_eq_equiv}
-use Rattle.std.specs.Prelude.{nat_eq, nat_lt, not, ◌||◌}
-use Rattle.std.proofs.lemmas.Grind.{common_steps}
+use Rattle.std.specs.Cmp.Lexicographic.{nat_list_eq_equiv}
+use Rattle.std.specs.Prelude.{not, ◌||◌}
 use Rattle.std.proofs.lemmas.Bool.Decides.{nat_tests}
 use Rattle.std.proofs.lemmas.List.{map_push}
 use Rattle.std.proofs.lemmas.List.Sums.{fails_before_first, sum_by-append}
 use Rattle.std.proofs.lemmas.List.Folds.{list_any_none}
-use Rattle.std.proofs.lemmas.List.Elements.{All-nil, All-push, All-set, All-weaker, All-get_or, All-contains}
+use Rattle.std.proofs.lemmas.List.Elements.{All-nil, All-push, All-set, All-weaker}
 use Rattle.std.proofs.lemmas.Map.Keys.{IsDistinct-push}
 use Rattle.std.proofs.lemmas.List.Sums.{sum_by-set}
 use Rattle.std.proofs.lemmas.Option.{slice_get-get_or, get_or_from_slice_get}
@@ -21,7 +20,7 @@ use Rattle.hz_core.specs.declared.circuit.TheConstants.{MAX_VARIABLES}
 use Rattle.hz_core.specs.Gate.{takes}
 use Rattle.hz_core.specs.Inside.{netlist_of, HoldsCircuit}
 use Rattle.hz_core.specs.declared.circuit.Circuit.TheInside.{Inside}
-use Rattle.hz_core.specs.Netlist.{Gate, Netlist, IsName, IsCircuit, IsGateAmong, IsGateNumber, IsWhole, pin_count, variable_count, most_pins, gate_at, node_named, empty_netlist, with_input, with_gate, with_source, with_pin, with_output}
+use Rattle.hz_core.specs.Netlist.{Gate, Netlist, IsName, IsCircuit, IsGateAmong, IsGateNumber, IsWhole, pin_count, variable_count, most_pins, gate_at, node_named, empty_netlist, with_input, with_gate, with_source, with_pin}
 
 -- where the first place that passes is looked for in vain, no place passes
 pub list_any-from_position_none : {X : Type 0} (p : X → Bool) (xs : List X) → position p xs ≡ None → list_any p xs ≡ false
@@ -117,7 +116,7 @@ pub IsCircuit-with_gate :
 IsCircuit-with_gate netlist name kind circuit is_name fresh room =
     let gate : Gate = record { kind = kind; sources = [] } in
     let none : IsGateAmong (length (netlist.names ++ name ∷ [])) gate =
-      record { pins = omega arith; sources = All-nil (λ source. source < length (netlist.names ++ name ∷ [])) } in
+    record { pins = omega arith; sources = All-nil (λ source. source < length (netlist.names ++ name ∷ [])) } in
     record {
       names = All-push IsName netlist.names name circuit.names is_name;
       names_distinct = names_distinct-push netlist name circuit fresh;
@@ -138,8 +137,8 @@ pin_count-with_pin netlist node source circuit is_gate =
     omega (
       arith,
       sum_by-set (λ (gate : Gate). length gate.sources) netlist.gates (node - netlist.inputs) (with_source gate source)
-        (record { kind = And; sources = [] }) within,
-      length-append gate.sources (source ∷ [])
+          (record { kind = And; sources = [] }) within,
+      length-append gate.sources (source ∷ []),
     )
 
 pub IsCircuit-with_pin :
@@ -151,10 +150,10 @@ IsCircuit-with_pin netlist node source circuit is_gate is_node free room =
     let within : node - netlist.inputs < length netlist.gates = omega (arith, circuit.nodes) in
     let was : IsGateAmong (length netlist.names) gate = circuit.gates (node - netlist.inputs) _ within in
     let more : IsGateAmong (length netlist.names) (with_source gate source) =
-      record {
-        pins = omega (arith, length-append gate.sources (source ∷ []), free);
-        sources = All-push (λ source. source < length netlist.names) gate.sources source was.sources is_node;
-      } in
+    record {
+      pins = omega (arith, length-append gate.sources (source ∷ []), free);
+      sources = All-push (λ source. source < length netlist.names) gate.sources source was.sources is_node;
+    } in
     record {
       names = circuit.names;
       names_distinct = circuit.names_distinct;
@@ -218,8 +217,8 @@ pub names_grow :
     map f (insert_key (λ x y. bytes_eq (f x) (f y)) keys key) ≡ map f keys ++ name ∷ []
 names_grow f keys key name is fresh =
     let none : list_any (λ y. bytes_eq (f key) (f y)) keys ≡ false =
-      sym (list_any-map (bytes_eq (f key)) f keys) ∙
-        list_any-from_position_none (bytes_eq (f key)) (map f keys) (rw is fresh) in
+    sym (list_any-map (bytes_eq (f key)) f keys) ∙
+    list_any-from_position_none (bytes_eq (f key)) (map f keys) (rw is fresh) in
     rw none (map_push f keys key ∙ ap (λ last. map f keys ++ last ∷ []) is)
 
 -- the names after a new one came
@@ -230,7 +229,7 @@ name_came :
     (netlist_of new).names ≡ (netlist_of old).names ++ name ∷ []
 name_came old new netlist key name same fresh is keys =
     ap (map (λ (key : Vec ℕ Global). key.items)) keys ∙
-      names_grow (λ (key : Vec ℕ Global). key.items) old.names.keys key name is (ap (λ n. node_named n name) same ∙ fresh)
+    names_grow (λ (key : Vec ℕ Global). key.items) old.names.keys key name is (ap (λ n. node_named n name) same ∙ fresh)
 
 -- fields that stand for a circuit, and count its pins
 holds_circuit :
@@ -265,7 +264,7 @@ pub view-InputComes :
     node_named netlist name ≡ None → key.items ≡ name → InputComes old new key → netlist_of new ≡ with_input netlist name
 view-InputComes old new netlist key name same fresh is comes =
     same_netlist (netlist_of new) (with_input (netlist_of old) name) (name_came old new netlist key name same fresh is comes.names)
-      comes.inputs comes.gates comes.outputs ∙ ap (λ n. with_input n name) same
+    comes.inputs comes.gates comes.outputs ∙ ap (λ n. with_input n name) same
 
 pub HoldsCircuit-InputComes :
     (old new : Inside) (netlist : Netlist) (key : Vec ℕ Global) (name : List ℕ) → netlist_of old ≡ netlist →
@@ -289,7 +288,7 @@ pub view-GateComes :
     node_named netlist name ≡ None → key.items ≡ name → GateComes old new key kind → netlist_of new ≡ with_gate netlist name kind
 view-GateComes old new netlist key name kind same fresh is comes =
     same_netlist (netlist_of new) (with_gate (netlist_of old) name kind) (name_came old new netlist key name same fresh is comes.names)
-      comes.inputs comes.gates comes.outputs ∙ ap (λ n. with_gate n name kind) same
+    comes.inputs comes.gates comes.outputs ∙ ap (λ n. with_gate n name kind) same
 
 pub HoldsCircuit-GateComes :
     (old new : Inside) (netlist : Netlist) (key : Vec ℕ Global) (name : List ℕ) (kind : Kind) → netlist_of old ≡ netlist →
@@ -316,11 +315,11 @@ view-PinComes old new netlist was node source same holds is_gate comes =
     let is_gate_of_old : IsGateNumber (netlist_of old) node = subst (λ n. IsGateNumber n node) (sym same) is_gate in
     let within : node - old.inputs < length old.gates.items = omega (arith, holds.circuit.nodes, is_gate_of_old.0, is_gate_of_old.1) in
     let read : was ≡ gate_at (netlist_of old) node =
-      comes.read ∙ get_or-default old.gates.items (node - old.inputs) was (record { kind = And; sources = [] }) within in
+    comes.read ∙ get_or-default old.gates.items (node - old.inputs) was (record { kind = And; sources = [] }) within in
     same_netlist (netlist_of new) (with_pin (netlist_of old) node source) (ap (map (λ (key : Vec ℕ Global). key.items)) comes.names)
-      comes.inputs
-      (comes.gates ∙ ap (λ gate. set old.gates.items (node - old.inputs) (with_source gate source)) read)
-      comes.outputs ∙ ap (λ n. with_pin n node source) same
+    comes.inputs
+    (comes.gates ∙ ap (λ gate. set old.gates.items (node - old.inputs) (with_source gate source)) read)
+    comes.outputs ∙ ap (λ n. with_pin n node source) same
 
 pub HoldsCircuit-PinComes :
     (old new : Inside) (netlist : Netlist) (was : Gate) (node source : ℕ) → netlist_of old ≡ netlist → HoldsCircuit old →

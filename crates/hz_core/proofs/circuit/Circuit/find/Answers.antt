@@ -1,4 +1,4 @@
-use Rattle.std.proofs.Common.{◌≡◌, ◌∙◌, sym}
+use Rattle.std.proofs.Common.{◌∙◌, sym}
 use Rattle.hz_core.proofs.CircuitLemmas.{found_at}
 use Rattle.hz_core.proofs.circuit.Circuit.find.Goals as goal
 
