@@ -1,5 +1,5 @@
 use Rattle.std.proofs.Common.{◌∙◌, ap, refl, ◌++◌, ◌∷◌, []}
-use Rattle.hz_core.proofs.CircuitLemmas.{GateComes, HoldsCircuit-GateComes, view-GateComes, names_counted}
+use Rattle.hz_core.proofs.FieldLemmas.{GateComes, HoldsCircuit-GateComes, view-GateComes, names_counted}
 use Rattle.hz_core.proofs.circuit.Circuit.add_gate.Goals as goal
 
 comes :

@@ -1,5 +1,5 @@
 use Rattle.std.proofs.Common.{◌∙◌, refl, ◌+◌}
-use Rattle.hz_core.proofs.CircuitLemmas.{HoldsCircuit-InputComes, view-InputComes, names_counted}
+use Rattle.hz_core.proofs.FieldLemmas.{HoldsCircuit-InputComes, view-InputComes, names_counted}
 use Rattle.hz_core.proofs.circuit.Circuit.add_input.Goals as goal
 
 pub invariant_of-self-2 : goal.invariant_of-self-2
