@@ -1,0 +1,4 @@
+pub mod Network
+pub mod Variables
+pub mod Passes
+pub mod Starts
