@@ -1,2 +1,4 @@
 pub mod Flips
 pub mod CoverA
+pub mod Paths
+pub mod CoverB
