@@ -1,0 +1,4 @@
+pub mod Refinements
+pub mod Joins
+pub mod Kleene
+pub mod Extensions
