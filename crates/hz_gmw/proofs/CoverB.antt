@@ -1,13 +1,13 @@
 -- Algorithm B covers: every outcome state refines each state of its sequence.
 use Rattle.std.proofs.Common.{◌≡◌, ◌≢◌, ℕ, zero, suc, ◌+◌, ◌<◌, Bool, true, false, not, cond, List, [], ◌∷◌, ◌++◌, length, map, refl, sym, ap, ◌∙◌, subst, arith, IsTrue, inl, inr, ◌⊎◌}
 use Rattle.std.specs.List.{AllByRecursion}
-use Rattle.std.proofs.lemmas.List.{length-map}
 use Rattle.hz_core.specs.declared.tri.Tri.{Tri}
 use Rattle.hz_core.specs.declared.tri.Tri.TheVariants.{Zero, One, Unknown}
 use Rattle.hz_core.specs.Ternary.{tri_of, admits, Refines}
 use Rattle.hz_net.specs.Network.{Driver, bit_at, value_at, driver_at, driven3, excitation, IsUnstable}
 use Rattle.hz_net.specs.Passes.{excitations, algorithm_a, algorithm_b, AreRounds}
-use Rattle.hz_net.proofs.Refinement.{admits-driven, Refines-from_each, at-excitations}
+use Rattle.hz_core.proofs.Refinements.{known-admits, Refines-get_or}
+use Rattle.hz_net.proofs.Excitations.{admits-driven, length-excitations, at-excitations}
 use Rattle.hz_gmw.specs.Runs.{is_listed, IsStep, flipped, IsRun, end_of, IsReachable}
 use Rattle.hz_gmw.specs.Cycles.{states_of, WaitsAt, IsTransient, IsNontransient, IsOutcome}
 use Rattle.hz_gmw.proofs.Flips.{length-flipped, at-flipped}
@@ -85,18 +85,11 @@ admits-by One here known = rw (known true refl) refl
 admits-by Unknown false known = refl
 admits-by Unknown true known = refl
 
--- a known value admits its own bit alone
-known-admits : (known bit : Bool) → IsTrue (admits (tri_of known) bit) → bit ≡ known
-known-admits false false h = refl
-known-admits false true h = cc
-known-admits true false h = cc
-known-admits true true h = refl
-
 -- where all states that are reachable from a nontransient cycle refine a ternary state, they refine its excitations
 one-round : (net : List Driver) (input first : List Bool) (steps : List (List ℕ)) (values : List Tri) → IsNontransient net input first steps → length first ≡ length net → ((now : List Bool) → IsReachable net input first now → Refines now values) → (now : List Bool) → IsReachable net input first now → Refines now (excitations net input values)
 one-round net input first steps values cycle long refined now reach =
     let now_long : length now ≡ length net = length-IsReachable net input first now reach ∙ long in
-    Refines-from_each now (excitations net input values) (now_long ∙ sym (length-map net (driven3 input values))) (λ i inside.
+    Refines-get_or now (excitations net input values) (now_long ∙ sym (length-excitations net input values)) (λ i inside.
         let here : i < length net = subst (λ (n : ℕ). i < n) now_long inside in
         subst (λ (v : Tri). IsTrue (admits v (bit_at now i))) (sym (at-excitations net input values i here))
         (admits-by (driven3 input values (driver_at net i)) (bit_at now i) (λ bit known.
