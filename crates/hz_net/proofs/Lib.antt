@@ -1,2 +1,3 @@
 pub mod Excitations
 pub mod Sequences
+pub mod Ranks
