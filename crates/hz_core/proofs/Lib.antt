@@ -1,4 +1,5 @@
-pub mod Refinements
+pub mod CircuitLemmas
+pub mod Extensions
 pub mod Joins
 pub mod Kleene
-pub mod Extensions
+pub mod Refinements
