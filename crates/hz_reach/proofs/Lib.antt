@@ -1,3 +1,4 @@
 pub mod Turns
 pub mod Wired
 pub mod Spreads
+pub mod Ends

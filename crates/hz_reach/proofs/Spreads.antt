@@ -44,7 +44,7 @@ pub record IsPattern (net : List Driver) (input start : List Bool) (rounds : ℕ
   pub turns : gate_value kind pattern ≡ not (bit_at start gate)
   pub free : (k : ℕ) → k < pins → bit_at pattern k ≡ not (bit_at start (first + k)) → (value_at (algorithm_a net input start rounds) (first + k) ≡ Unknown) × (rank (first + k) < rank gate)
 
-not-same : (bit : Bool) → bit ≡ not bit → ⊥
+pub not-same : (bit : Bool) → bit ≡ not bit → ⊥
 not-same false e = cc
 not-same true e = cc
 
@@ -80,7 +80,7 @@ unequal-itself g gate e ne = grind (arith, nat_tests)
 listed-itself : (gate : ℕ) (bit : Bool) → cond (is_listed (gate ∷ []) gate) (not bit) bit ≡ not bit
 listed-itself gate bit = let e : is_listed (gate ∷ []) gate ≡ true = grind (arith, nat_tests) in ap (λ (b : Bool). cond b (not bit) bit) e
 
-not-listed : (listed now : Bool) → (listed ≡ true → ⊥) → cond listed (not now) now ≡ now
+pub not-listed : (listed now : Bool) → (listed ≡ true → ⊥) → cond listed (not now) now ≡ now
 not-listed false now unlisted = refl
 not-listed true now unlisted = absurd (unlisted refl)
 
@@ -99,7 +99,7 @@ neither false b e = (refl, e)
 
 module _ (net : List Driver) (inputs nodes : ℕ) (owner : ℕ → ℕ) (input start : List Bool) (rounds : ℕ) (rank : ℕ → ℕ) (wired : IsWired net inputs nodes owner) (stable : StartsStable net inputs start) (ranks : HaveRanks net input start rounds rank) where
   -- a source that is X and before the gate has changed
-  source-changed : (turned : ℕ → Bool) (steps : List (List ℕ)) (now : List Bool) (bound source : ℕ) → Spreads net inputs nodes owner input start rounds rank turned steps now → ((g : ℕ) → inputs ≤ g → g < nodes → value_at (algorithm_a net input start rounds) g ≡ Unknown → rank g < bound → turned g ≡ true) → source < nodes → value_at (algorithm_a net input start rounds) source ≡ Unknown → rank source < bound → bit_at now source ≡ not (bit_at start source)
+  pub source-changed : (turned : ℕ → Bool) (steps : List (List ℕ)) (now : List Bool) (bound source : ℕ) → Spreads net inputs nodes owner input start rounds rank turned steps now → ((g : ℕ) → inputs ≤ g → g < nodes → value_at (algorithm_a net input start rounds) g ≡ Unknown → rank g < bound → turned g ≡ true) → source < nodes → value_at (algorithm_a net input start rounds) source ≡ Unknown → rank source < bound → bit_at now source ≡ not (bit_at start source)
   source-changed turned steps now bound source spreads order node is before =
       elim (cases_lt source inputs) [ inl few ↦ spreads.inputs_done source few ∙ input-turns net inputs nodes owner input start rounds rank wired stable ranks source few is | inr after ↦ spreads.gates_done source after node (order source after node is before) ]
 

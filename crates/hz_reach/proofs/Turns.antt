@@ -59,12 +59,12 @@ pub record ChangesOnce (net : List Driver) (input start : List Bool) (steps : Li
   pub ends : end_of start steps ≡ now
   pub once : (i : ℕ) → changes_of steps i ≡ changed (bit_at start i) (bit_at now i)
 
-changed-not : (bit : Bool) → changed bit (not bit) ≡ 1
+pub changed-not : (bit : Bool) → changed bit (not bit) ≡ 1
 unfolding changed
 changed-not false = refl
 changed-not true = refl
 
-changed-same : (bit : Bool) → changed bit bit ≡ 0
+pub changed-same : (bit : Bool) → changed bit bit ≡ 0
 unfolding changed
 changed-same false = refl
 changed-same true = refl

@@ -4,7 +4,7 @@
 ghost use Rattle.std.specs.Prelude.{◌≡◌, ℕ, List, Bool, length};
 ghost use Rattle.hz_gmw.specs.Runs.{flipped};
 
-#[tactic(auto, using(crate::proofs::Spreads::and_gate))]
+#[tactic(auto, using(crate::proofs::Ends::listed_or))]
 pub fn place_holder()
     ensures { (state : List Bool) → state ≡ state }
 {
