@@ -3,3 +3,4 @@ pub mod Gate
 pub mod Extension
 pub mod Kleene
 pub mod Netlist
+pub mod Inside

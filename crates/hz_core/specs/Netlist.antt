@@ -5,6 +5,7 @@ use Rattle.std.specs.Str.{bytes_eq}
 use Rattle.hz_core.specs.declared.kind.Kind.{Kind}
 use Rattle.hz_core.specs.declared.kind.Kind.TheVariants.{And, Nand, Or, Nor, Xor, Xnor, Not, Buff}
 use Rattle.hz_core.specs.declared.kind.TheConstants.{MAX_PINS}
+use Rattle.hz_core.specs.declared.circuit.TheConstants.{MAX_VARIABLES}
 
 -- a gate: its kind, and the node that each of its pins reads, in the order of the pins
 pub record Gate : Type 0 where
@@ -107,7 +108,7 @@ pub record IsCircuit (netlist : Netlist) : Type 0 where
   pub gates : All (IsGateAmong (length netlist.names)) netlist.gates
   pub outputs : All (λ node. node < length netlist.names) netlist.outputs
   pub outputs_distinct : IsDistinct nat_eq netlist.outputs
-  pub variables : variable_count netlist ≤ 200000
+  pub variables : variable_count netlist ≤ MAX_VARIABLES
 
 -- each gate has a pin
 abbrev pub IsWhole : Netlist → Type 0
