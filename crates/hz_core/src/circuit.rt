@@ -206,3 +206,47 @@ fn every_gate_has_pins(gates: &[GateEntry]) -> bool
 {
     gates.iter().all(|gate| gate.has_pins())
 }
+
+#[cfg(test)]
+mod tests {
+    use super::*;
+    use std::test::Fail;
+
+    // Two NOR gates that read each other.
+    fn latch(alloc: Global) -> Result<Circuit, Memory> {
+        let mut circuit = Circuit::new(alloc);
+        let set = circuit.add_input(b"S")?;
+        let reset = circuit.add_input(b"R")?;
+        let upper = circuit.add_gate(b"Q", Kind::Nor)?;
+        let lower = circuit.add_gate(b"Q_", Kind::Nor)?;
+        circuit.connect(upper, reset)?;
+        circuit.connect(upper, lower)?;
+        circuit.connect(lower, set)?;
+        circuit.connect(lower, upper)?;
+        circuit.add_output(lower)?;
+        circuit.add_output(upper)?;
+        circuit.add_output(lower)?;
+        Ok(circuit)
+    }
+
+    #[test]
+    fn latch_is_seen_as_built(rt: HostRuntime) -> Result<(), Fail> {
+        let circuit = latch(rt.alloc())?;
+        assert_eq!(rt; circuit.inputs(), 2);
+        assert_eq!(rt; circuit.nodes(), 4);
+        assert_eq!(rt; circuit.variables(), 8);
+        let rows: [(&[u8], u32); 4] = [(b"S", 0), (b"R", 1), (b"Q", 2), (b"Q_", 3)];
+        for (name, node) in rows {
+            assert_eq!(rt; circuit.find(name), Some(node));
+        }
+        assert_eq!(rt; circuit.find(b"q"), None);
+        assert_eq!(rt; circuit.name(3), b"Q_".as_slice());
+        assert_eq!(rt; circuit.kind(2), Kind::Nor);
+        assert_eq!(rt; circuit.kind(3), Kind::Nor);
+        assert_eq!(rt; circuit.sources(2), [1, 3].as_slice());
+        assert_eq!(rt; circuit.sources(3), [0, 2].as_slice());
+        assert_eq!(rt; circuit.outputs(), [3, 2].as_slice());
+        assert!(rt; circuit.whole());
+        Ok(())
+    }
+}
