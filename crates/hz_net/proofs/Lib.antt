@@ -1,2 +1,4 @@
+pub mod Places
+pub mod Fields
 pub mod Excitations
 pub mod Sequences

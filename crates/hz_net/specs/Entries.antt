@@ -2,8 +2,8 @@
 use Rattle.std.specs.Prelude.{◌≡◌, ℕ, ◌+◌, ◌-◌, ◌<◌, ◌≤◌, List, [], ◌∷◌, ◌++◌, length, map, IsTrue, slice_get, Some}
 use Rattle.std.specs.List.{range_with_len}
 use Rattle.hz_core.specs.Gate.{takes}
-use Rattle.hz_core.specs.Netlist.{Netlist, Gate, IsGateNumber, gate_at, variable_count}
-use Rattle.hz_net.specs.Network.{Wire, wires_of, Driver, External, Function, Source}
+use Rattle.hz_core.specs.Netlist.{Netlist, Gate, IsGateNumber, gate_at}
+use Rattle.hz_net.specs.Network.{Wire, wires_of, Driver, External, Function, Source, network_of}
 use Rattle.hz_net.specs.Variables.{first_wire}
 use Rattle.hz_net.specs.declared.variable.VarKind.{VarKind}
 use Rattle.hz_net.specs.declared.variable.VarKind.TheVariants.{Input as InputKind, Gate as GateKind, Wire as WireKind}
@@ -43,7 +43,7 @@ abbrev pub IsEntryAt : Netlist → ℕ → Entry → Type 0
 IsEntryAt netlist var (InputEntry number) = (number ≡ var) × (var < netlist.inputs)
 IsEntryAt netlist var (GateEntry kind first pins) =
     IsGateNumber netlist var × (first ≡ first_wire netlist var) × (pins ≡ length (gate_at netlist var).sources)
-    × (first + pins ≤ variable_count netlist) × IsTrue (takes kind pins)
+    × (first + pins ≤ length (network_of netlist)) × IsTrue (takes kind pins)
 IsEntryAt netlist var (WireEntry gate pin source) =
     (length netlist.names ≤ var) × (source < length netlist.names)
     × (slice_get (wires_of netlist) (var - length netlist.names) ≡ Some (record { gate = gate; pin = pin; source = source }))

@@ -1,7 +1,7 @@
 //! The complete network of a circuit.
 ghost use Rattle.std.specs.Prelude.{◌≡◌, ◌+◌, ◌<◌, ◌≤◌, ◌↔◌, length, slice_get, Some, IfOk, IsTrue};
 ghost use Rattle.hz_core.specs.Netlist.{IsCircuit, IsWhole, IsGateNumber, variable_count, gate_at};
-ghost use Rattle.hz_net.specs.Network.{network_of, driver_at, excitation, excitation3, IsStable};
+ghost use Rattle.hz_net.specs.Network.{network_of, driver_at, bit_at, excitation, excitation3, IsStable};
 ghost use Rattle.hz_net.specs.Variables.{variables_of, first_wire, expanded};
 ghost use Rattle.hz_net.specs.Entries.{driver_of, seen_as, IsEntryAt};
 
@@ -83,7 +83,7 @@ impl Net {
         ensures pins { result.1 ≡ length (gate_at self.now gate).sources }
         ensures inside { result.0 + result.1 ≤ length (network_of self.now) }
     {
-        match self.entry(gate) {
+        match self.entries[gate as usize] {
             Entry::Gate { first, pins, .. } => (first, pins),
             Entry::Input { .. } => unreachable!(),
             Entry::Wire { .. } => unreachable!(),
@@ -100,7 +100,9 @@ impl Net {
     {
         match self.entry(var) {
             Entry::Input { number } => input[number as usize],
-            Entry::Gate { kind, first, pins } => kind.eval(&state[first as usize..(first + pins) as usize]),
+            Entry::Gate { kind, first, pins } => kind.eval(
+                &state[first as usize..(first + pins) as usize],
+            ),
             Entry::Wire { source, .. } => state[source as usize],
         }
     }
@@ -114,7 +116,9 @@ impl Net {
     {
         match self.entry(var) {
             Entry::Input { number } => Tri::of(input[number as usize]),
-            Entry::Gate { kind, first, pins } => kind.eval3(&state[first as usize..(first + pins) as usize]),
+            Entry::Gate { kind, first, pins } => kind.eval3(
+                &state[first as usize..(first + pins) as usize],
+            ),
             Entry::Wire { source, .. } => state[source as usize],
         }
     }
@@ -126,10 +130,7 @@ impl Net {
         ensures { state.new ≡ expanded self.now nodes.now }
     {
         for var in 0..self.len() {
-            state[var as usize] = match self.entry(var) {
-                Entry::Wire { source, .. } => nodes[source as usize],
-                _ => nodes[var as usize],
-            };
+            state[var as usize] = self.expanded_value(nodes, var);
         }
     }
 
@@ -147,11 +148,27 @@ impl Net {
         true
     }
 
+    // The value of a variable where each node has its given value and each wire its source's.
+    fn expanded_value(&self, nodes: &[bool], var: u32) -> bool
+        requires var { var < length (network_of self.now) }
+        requires nodes { length nodes.now ≡ length self.now.names }
+        ensures { result ≡ bit_at (expanded self.now nodes.now) var }
+    {
+        match self.entry(var) {
+            Entry::Input { .. } => nodes[var as usize],
+            Entry::Gate { .. } => nodes[var as usize],
+            Entry::Wire { source, .. } => nodes[source as usize],
+        }
+    }
+
+    // What the network keeps of a variable.
     fn entry(&self, var: u32) -> Entry
         requires { var < length (network_of self.now) }
         ensures driver { driver_at (network_of self.now) var ≡ driver_of result }
         ensures seen { slice_get (variables_of self.now) var ≡ Some (seen_as result) }
         ensures place { IsEntryAt self.now var result }
+        ensures bound { length (network_of self.now) ≤ 200000 }
+        ensures circuit { IsCircuit self.now }
     {
         self.entries[var as usize]
     }
