@@ -1,12 +1,10 @@
 -- Excitations of all variables at once: place by place, and against refinement and the order of ternary states.
-use Rattle.std.proofs.Common.{◌≡◌, ℕ, zero, suc, ◌+◌, ◌-◌, ◌<◌, Bool, List, [], ◌∷◌, length, map, IsTrue, refl, sym, ap, ◌∙◌, subst, arith}
+use Rattle.std.proofs.Common.{◌≡◌, ℕ, zero, suc, ◌+◌, ◌<◌, Bool, List, [], ◌∷◌, length, IsTrue, refl, ap, arith}
 use Rattle.std.proofs.lemmas.List.{get_or-map, length-map}
 use Rattle.hz_core.specs.declared.tri.Tri.{Tri}
 use Rattle.hz_core.specs.declared.tri.Tri.TheVariants.{Zero}
 use Rattle.hz_core.specs.Ternary.{tri_of, admits, is_below, join_of, AllBelow, Refines}
-use Rattle.hz_core.specs.Gate.{gate_value}
-use Rattle.hz_core.specs.Extension.{extension}
-use Rattle.hz_core.proofs.Refinements.{admits-tri_of, is_below-same, get_or-Refines, Refines-slice_range, get_or-AllBelow, AllBelow-slice_range, AllBelow-get_or}
+use Rattle.hz_core.proofs.Refinements.{admits-tri_of, is_below-same, get_or-Refines, Refines-slice_range, get_or-AllBelow, AllBelow-slice_range}
 use Rattle.hz_core.proofs.Extensions.{admits-extension, is_below-extension}
 use Rattle.hz_net.specs.Network.{Driver, External, Function, Source, bit_at, value_at, driver_at, driven, driven3}
 use Rattle.hz_net.specs.Passes.{excitations, join_each}

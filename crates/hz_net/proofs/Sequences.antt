@@ -1,10 +1,10 @@
 -- The sequences of the passes: how long their states are, how they grow or shrink, and where they stop.
-use Rattle.std.proofs.Common.{◌≡◌, ◌≢◌, ℕ, zero, suc, ◌+◌, ◌-◌, ◌<◌, ◌≤◌, Bool, List, [], ◌∷◌, length, map, IsTrue, refl, sym, ap, ◌∙◌, subst, arith, ◌⊎◌, inl, inr}
+use Rattle.std.proofs.Common.{◌≡◌, ℕ, zero, suc, ◌-◌, ◌<◌, ◌≤◌, Bool, List, [], ◌∷◌, length, refl, sym, ap, ◌∙◌, subst, arith, ◌⊎◌, inl, inr}
 use Rattle.std.proofs.lemmas.List.{length-map}
 use Rattle.hz_core.specs.declared.tri.Tri.{Tri}
 use Rattle.hz_core.specs.declared.tri.Tri.TheVariants.{Zero, One, Unknown}
-use Rattle.hz_core.specs.Ternary.{tri_of, admits, is_below, join_of, AllBelow, Refines}
-use Rattle.hz_core.proofs.Refinements.{is_below-join_of-left, is_below-join_of-right, AllBelow-same, Refines-map, Refines-AllBelow}
+use Rattle.hz_core.specs.Ternary.{tri_of, AllBelow, Refines}
+use Rattle.hz_core.proofs.Refinements.{is_below-join_of-left, is_below-join_of-right, Refines-map, Refines-AllBelow}
 use Rattle.hz_net.specs.Network.{Driver}
 use Rattle.hz_net.specs.Passes.{excitations, join_each, algorithm_a, algorithm_b, AreRounds}
 use Rattle.hz_net.proofs.Excitations.{length-excitations, AllBelow-excitations, length-join_each}
@@ -117,7 +117,7 @@ closed-result net input start zero long are = absurd (omega (arith, are.some))
 closed-result net input start (suc round) long are =
     let last : suc round - 1 ≡ round = omega arith in
     let settled : algorithm_a net input start (suc round) ≡ algorithm_a net input start round =
-        are.settled ∙ ap (algorithm_a net input start) last in
+    are.settled ∙ ap (algorithm_a net input start) last in
     record {
       long = length-algorithm_a net input start long (suc round);
       same = ap (λ (vs : List Tri). join_each vs (excitations net input vs)) (sym settled);

@@ -1,7 +1,7 @@
 -- The completed start: the values that listed values force upon the nodes that are not listed.
 use Rattle.std.specs.Prelude.{◌≡◌, ◌≢◌, ℕ, ◌<◌, ◌≤◌, ◌⊎◌, Bool, Option, Some, None, List, [], ◌∷◌, length, take, Contains, slice_get}
 use Rattle.hz_core.specs.Gate.{gate_value}
-use Rattle.hz_core.specs.Netlist.{Netlist, Gate, IsGateNumber, gate_at}
+use Rattle.hz_core.specs.Netlist.{Netlist, IsGateNumber, gate_at}
 use Rattle.hz_net.specs.Network.{bit_at, network_of, excitation}
 use Rattle.hz_net.specs.Variables.{expanded}
 
