@@ -2,14 +2,14 @@
 //!
 //! | Module | What lives in it |
 //! |---|---|
-//! | `spread` | Algorithm A, which finds what runs may change |
-//! | `settle` | Algorithm B, which finds what may stay changed |
+//! | `algorithm_a` | Algorithm A, which finds what runs may change |
+//! | `algorithm_b` | Algorithm B, which finds what may stay changed |
 //! | `rounds` | one round of each, and what is noted of it |
 #![tactic(auto)]
 
+mod algorithm_a;
+mod algorithm_b;
 mod rounds;
-mod settle;
-mod spread;
 
-pub use settle::settle;
-pub use spread::spread;
+pub use algorithm_a::spread;
+pub use algorithm_b::settle;

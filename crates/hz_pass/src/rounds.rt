@@ -13,8 +13,8 @@ pub(crate) fn know(bits: &[bool], values: &mut [Tri])
     requires { length values.old ≡ length bits.now }
     ensures { values.new ≡ map tri_of bits.now }
 {
-    for (value, bit) in values.iter_mut().zip(bits) {
-        *value = Tri::of(*bit);
+    for i in 0..bits.len() {
+        values[i] = Tri::of(bits[i]);
     }
 }
 
@@ -44,7 +44,7 @@ pub(crate) fn join_all(state: &[Tri], others: &mut [Tri])
 pub(crate) fn differ(before: &[Tri], after: &[Tri]) -> bool
     ensures { MatchBool result (before.now ≢ after.now) (before.now ≡ after.now) }
 {
-    before != after
+    !(before == after)
 }
 
 // Notes the round at each variable that it made X.
