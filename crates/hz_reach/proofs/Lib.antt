@@ -1,4 +1,0 @@
-pub mod Turns
-pub mod Wired
-pub mod Spreads
-pub mod Ends
