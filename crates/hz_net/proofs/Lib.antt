@@ -1,0 +1,5 @@
+pub mod Places
+pub mod Fields
+pub mod Excitations
+pub mod Sequences
+pub mod Ranks

@@ -1,0 +1,6 @@
+pub mod Network
+pub mod Variables
+pub mod Entries
+pub mod Inside
+pub mod Passes
+pub mod Starts
