@@ -1,0 +1,96 @@
+//! Files of the file system: the trusted edge.
+ghost use Rattle.std.specs.Prelude.{◌≡◌, ◌≤◌, vec_len, IfOk};
+ghost use Rattle.hz_outside.specs.DiskFiles.{empty_disk};
+
+use super::counts::PlaceCounts;
+use super::fault::{LoadFault, Place};
+use super::files::Files;
+use std::alloc::Global;
+use std::fs;
+use std::io::Read;
+use std::marker::Model;
+use std::rt;
+
+/// How many bytes one read asks for.
+const READ_SIZE: usize = 65_536;
+
+/// Files of the file system. They tell no content, and every load is granted.
+#[derive(Drop)]
+pub struct DiskFiles<'r, R: rt::Files> {
+    rt: &'r R,
+    faults: PlaceCounts,
+    longs: PlaceCounts,
+}
+
+impl<'r, R: rt::Files> Model for DiskFiles<'r, R> {
+    ghost use Rattle.hz_outside.specs.DiskFiles.{DiskState};
+
+    ghost Value = { DiskState };
+
+    ghost view = { λ files. record { faults = files.faults; longs = files.longs } };
+}
+
+impl<'r, R: rt::Files> DiskFiles<'r, R> {
+    /// The files that the runtime reaches.
+    pub fn new(rt: &'r R) -> DiskFiles<'r, R>
+        ensures { result ≡ empty_disk }
+    {
+        DiskFiles {
+            rt,
+            faults: PlaceCounts::new(),
+            longs: PlaceCounts::new(),
+        }
+    }
+}
+
+impl<'r, R: rt::Files> Files for DiskFiles<'r, R> {
+    ghost use Rattle.std.specs.Prelude.{⊤, None};
+    ghost use Rattle.hz_outside.specs.Places.{count_at};
+
+    ghost held = { λ _. None };
+
+    ghost granted = { λ _ _ _ _. ⊤ };
+
+    ghost faults = { λ files place. count_at files.faults place };
+
+    ghost longs = { λ files place. count_at files.longs place };
+
+    fn load(
+        &mut self,
+        alloc: Global,
+        place: Place,
+        name: &str,
+        most: usize,
+    ) -> Result<Vec<u8>, LoadFault> {
+        let loaded = match fs::open(self.rt, name) {
+            Ok(mut file) => read_up_to(alloc, &mut file, most),
+            Err(_) => Err(LoadFault::Failed),
+        };
+        match &loaded {
+            Err(LoadFault::Failed) => self.faults.raise(place),
+            Err(LoadFault::TooLong) => self.longs.raise(place),
+            Err(LoadFault::Memory) | Ok(_) => {}
+        }
+        loaded
+    }
+}
+
+/// Reads until a read gives nothing or more than `most` bytes came.
+fn read_up_to<R: Read>(alloc: Global, reader: &mut R, most: usize) -> Result<Vec<u8>, LoadFault>
+    ensures { IfOk result (λ file. vec_len file ≤ most) }
+{
+    let mut file = Vec::new(alloc);
+    let mut buffer = [0; READ_SIZE];
+    while file.len() <= most {
+        let Ok(count) = reader.read(&mut buffer) else {
+            return Err(LoadFault::Failed);
+        };
+        if count == 0 {
+            return Ok(file);
+        }
+        let Ok(_) = file.extend_from_slice(&buffer[..count]) else {
+            return Err(LoadFault::Memory);
+        };
+    }
+    Err(LoadFault::TooLong)
+}
