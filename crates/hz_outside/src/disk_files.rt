@@ -6,10 +6,9 @@ use super::counts::PlaceCounts;
 use super::fault::{LoadFault, Place};
 use super::files::Files;
 use std::alloc::Global;
-use std::fs;
 use std::io::Read;
 use std::marker::Model;
-use std::rt;
+use std::{fs, rt};
 
 /// How many bytes one read asks for.
 const READ_SIZE: usize = 65_536;

@@ -46,5 +46,5 @@ pub trait Files {
         ensures other_longs { longs self.new (other_place place) ≡ longs self.old (other_place place) }
         ensures other_granted { (other_name : List ℕ) (other_most : ℕ) →
             granted self.new (other_place place) other_name other_most
-                ↔ granted self.old (other_place place) other_name other_most };
+            ↔ granted self.old (other_place place) other_name other_most };
 }

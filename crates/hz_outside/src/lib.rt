@@ -23,7 +23,6 @@ mod plain_sink;
 mod shelf;
 mod sink;
 mod std_sink;
-
 #[cfg(test)]
 mod tests;
 

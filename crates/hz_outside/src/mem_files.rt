@@ -28,11 +28,11 @@ impl Model for MemFiles {
     ghost Value = { MemState };
 
     ghost view = { λ files. record {
-        files = files.shelf;
-        failing = files.failing.items;
-        calls = files.calls;
-        faults = files.faults;
-        longs = files.longs
+      files = files.shelf;
+      failing = files.failing.items;
+      calls = files.calls;
+      faults = files.faults;
+      longs = files.longs;
     } };
 }
 
@@ -53,7 +53,7 @@ impl MemFiles {
     /// Adds a file after those that are there.
     pub fn add(&mut self, name: &str, bytes: &[u8]) -> Result<(), Memory>
         ensures ok { OnOk result (self.new ≡ record self.old {
-            files = self.old.files ++ record { name = name.now; bytes = bytes.now } ∷ []
+          files = self.old.files ++ record { name = name.now; bytes = bytes.now } ∷ [];
         }) }
         ensures err { OnErr result (self.new ≡ self.old) }
     {

@@ -40,10 +40,10 @@ impl Model for MemSink {
     ghost Value = { SinkState };
 
     ghost view = { λ sink. record {
-        bytes = sink.bytes.items;
-        failing = sink.failing.items;
-        calls = sink.calls;
-        faults = sink.faults
+      bytes = sink.bytes.items;
+      failing = sink.failing.items;
+      calls = sink.calls;
+      faults = sink.faults;
     } };
 }
 
@@ -63,7 +63,7 @@ impl MemSink {
     /// Lets the put of this number fail after at most so many bytes of its piece.
     pub fn fail(&mut self, call: u64, taken: usize) -> Result<(), Memory>
         ensures ok { OnOk result (self.new ≡ record self.old {
-            failing = self.old.failing ++ record { call = call; taken = taken } ∷ []
+          failing = self.old.failing ++ record { call = call; taken = taken } ∷ [];
         }) }
         ensures err { OnErr result (self.new ≡ self.old) }
     {

@@ -38,7 +38,7 @@ impl PlainFiles {
     /// Adds a file after those that are there.
     pub fn add(&mut self, name: &str, bytes: &[u8]) -> Result<(), Memory>
         ensures ok { OnOk result (self.new ≡ record self.old {
-            files = self.old.files ++ record { name = name.now; bytes = bytes.now } ∷ []
+          files = self.old.files ++ record { name = name.now; bytes = bytes.now } ∷ [];
         }) }
         ensures err { OnErr result (self.new ≡ self.old) }
     {

@@ -1,13 +1,21 @@
-// A library with one function.
+//! Line writers over a [`Sink`](hz_outside::Sink), without allocation.
+//!
+//! A put never carries bytes of two lines. A line is one put where it fits the buffer of a [`Line`],
+//! and a longer one is put buffer by buffer. No call here answers want of memory by itself.
+//!
+//! | Module | What lives in it |
+//! |---|---|
+//! | `line` | [`Line`]: a line that is composed piece by piece, of any length |
+//! | `pieces` | [`put_line`]: a line that is given by its pieces |
 #![tactic(auto)]
 
-ghost use Rattle.std.specs.Prelude.{◌≡◌};
-ghost use Rattle.hz_write.specs.Echo.{echo_of};
+mod line;
+mod pieces;
 
-// The `ensures` clause is the contract: what `echo` returns is `echo_of` of its argument, a definition
-// in `specs/Echo.antt`, which a caller's clause can cite too.
-pub fn echo(x: usize) -> usize
-    ensures { result ≡ echo_of x }
-{
-    x
-}
+#[cfg(test)]
+mod samples;
+#[cfg(test)]
+mod tests;
+
+pub use line::{BUFFER_SIZE, Line};
+pub use pieces::put_line;

@@ -32,7 +32,7 @@ stopped (Some some) old new piece e =
 pub put-tells : goal.put-tells
 put-tells c = record {
   whole = on_ok _ _ c.result
-    (λ e. ap (λ (state : SinkState). Some state.bytes) e ∙ sym (grown-told _ _)) c.ensures.whole;
+      (λ e. ap (λ (state : SinkState). Some state.bytes) e ∙ sym (grown-told _ _)) c.ensures.whole;
   failed = λ e. let h = rw e at c.ensures.err in (stopped (taken_next c.args.self.now) _ _ _ h).rose;
   front = λ e. let h = rw e at c.ensures.err in (stopped (taken_next c.args.self.now) _ _ _ h).front;
   memory = λ e. let h = rw e at c.ensures.err in ap (λ (state : SinkState). Some state.bytes) h;
