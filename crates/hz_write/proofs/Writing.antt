@@ -49,9 +49,9 @@ pub joined-split : {X : Type 0} (text_of : X → List ℕ) (items : List X) (i :
 joined-split text_of items i d h =
     let parts : take (i + 1) items ++ drop (i + 1) items ≡ items = take-append-drop (i + 1) items in
     ap (λ (xs : List _). joined (map text_of xs)) (sym parts)
-      ∙ ap joined (map-append text_of (take (i + 1) items) (drop (i + 1) items))
-      ∙ joined-append _ _
-      ∙ ap (λ (text : List ℕ). text ++ joined (map text_of (drop (i + 1) items))) (joined-more text_of items i d h)
+    ∙ ap joined (map-append text_of (take (i + 1) items) (drop (i + 1) items))
+    ∙ joined-append _ _
+    ∙ ap (λ (text : List ℕ). text ++ joined (map text_of (drop (i + 1) items))) (joined-more text_of items i d h)
 
 module _ {S : Type 0} {written : S → Option (List ℕ)} {faults : S → ℕ} where
   -- nothing was written
@@ -158,21 +158,20 @@ module _ {S : Type 0} {written : S → Option (List ℕ)} {faults : S → ℕ} w
       → Waits written faults text a b waiting → Stops written faults fault (waiting ++ more) b c → Stops written faults fault (text ++ more) a c
   Stops-waiting more w s = rw (waiting_text more w) at (Stops-append w.puts s)
 
-  -- a loop inside a line: one item more, and a stop at an item; `start` is what the line has before the items, `rest` what comes after them
+  -- a loop inside a line: one item more, and a stop at an item; `start` is what the line has before the items
   pub Waits-more : {X : Type 0} (start : List ℕ) (text_of : X → List ℕ) (items : List X) (i : ℕ) (d : X) {waiting waiting' : List ℕ} {a b c : S} → i < length items
       → Waits written faults (start ++ joined (map text_of (take i items))) a b waiting
       → Waits written faults (waiting ++ text_of (get_or items i d)) b c waiting'
       → Waits written faults (start ++ joined (map text_of (take (i + 1) items))) a c waiting'
   Waits-more start text_of items i d h w v = rw (joined-more text_of items i d h, ← append_assoc) (Waits-append _ w v)
 
-  pub Stops-in_line : {X : Type 0} (start : List ℕ) (text_of : X → List ℕ) (items : List X) (i : ℕ) (d : X) (rest : List ℕ)
+  pub Stops-in_line : {X : Type 0} (start : List ℕ) (text_of : X → List ℕ) (items : List X) (i : ℕ) (d : X)
       {fault : PutFault} {waiting : List ℕ} {a b c : S} → i < length items
       → Waits written faults (start ++ joined (map text_of (take i items))) a b waiting
       → Stops written faults fault (waiting ++ text_of (get_or items i d)) b c
-      → Stops written faults fault ((start ++ joined (map text_of items)) ++ rest) a c
-  Stops-in_line start text_of items i d rest h w s =
-      rw (joined-split text_of items i d h, ← append_assoc, ← append_assoc)
-        (Stops-longer rest (Stops-longer _ (Stops-waiting _ w s)))
+      → Stops written faults fault (start ++ joined (map text_of items)) a c
+  Stops-in_line start text_of items i d h w s =
+      rw (joined-split text_of items i d h, ← append_assoc, ← append_assoc) (Stops-longer _ (Stops-waiting _ w s))
 
   -- a full buffer was put: what is left still waits
   pub Waits-put : {text : List ℕ} (waiting front back : List ℕ) {a b c : S}
@@ -189,8 +188,8 @@ module _ {S : Type 0} {written : S → Option (List ℕ)} {faults : S → ℕ} w
       → Waits written faults text a b (waiting ++ (front ++ back)) → Stops written faults fault (waiting ++ front) b c → Stops written faults fault text a c
   Stops-put {text = text} waiting front back w s =
       let same : (w.done ++ (waiting ++ front)) ++ back ≡ text =
-        append_assoc w.done (waiting ++ front) back
-          ∙ ap (λ (xs : List ℕ). w.done ++ xs) (append_assoc waiting front back) ∙ w.parts in
+      append_assoc w.done (waiting ++ front) back
+      ∙ ap (λ (xs : List ℕ). w.done ++ xs) (append_assoc waiting front back) ∙ w.parts in
       rw same at (Stops-longer back (Stops-append w.puts s))
 
   -- the exit of a `?`: the fault goes on as it is

@@ -11,7 +11,6 @@
 
 mod line;
 mod pieces;
-
 #[cfg(test)]
 mod samples;
 #[cfg(test)]

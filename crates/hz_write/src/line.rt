@@ -1,5 +1,6 @@
 //! A line that is composed piece by piece.
-ghost use Rattle.std.specs.Prelude.{◌≡◌, ◌+◌, ◌-◌, ◌≤◌, [], ◌++◌, length, decimal, OnErr};
+ghost use Rattle.std.specs.Prelude.{◌≡◌, ◌+◌, ◌-◌, ◌≤◌, [], ◌++◌, length, map, decimal, OnErr};
+ghost use Rattle.hz_outside.specs.Written.{joined};
 ghost use Rattle.hz_write.specs.Writes.{newline, Wrote, Added};
 
 use hz_outside::{PutFault, Sink};
@@ -65,6 +66,20 @@ impl Line {
     {
         let mut digits = Buffer::new();
         self.add(out, digits.format(number).as_bytes())
+    }
+
+    /// Adds pieces one after the other.
+    ///
+    /// After a refusal the line is dropped: nothing waits.
+    pub fn add_all<K: Sink>(&mut self, out: &mut K, pieces: &[&[u8]]) -> Result<(), PutFault>
+        ensures added { Added K.written K.faults
+            (self.old ++ joined (map (λ piece. piece.now) pieces.now)) out.old out.new self.new result }
+        ensures dropped { OnErr result (self.new ≡ []) }
+    {
+        for piece in pieces {
+            self.add(out, piece)?;
+        }
+        Ok(())
     }
 
     /// Ends the line by a line feed and puts what waits. Afterwards nothing waits, also after a refusal.

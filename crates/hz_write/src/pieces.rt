@@ -10,8 +10,6 @@ pub fn put_line<K: Sink>(out: &mut K, pieces: &[&[u8]]) -> Result<(), PutFault>
     ensures { Wrote K.written K.faults (line_of (map (λ piece. piece.now) pieces.now)) out.old out.new result }
 {
     let mut line = Line::new();
-    for piece in pieces {
-        line.add(out, piece)?;
-    }
+    line.add_all(out, pieces)?;
     line.end(out)
 }
