@@ -1,6 +1,6 @@
 //! Files of the file system: the trusted edge.
-ghost use Rattle.std.specs.Prelude.{◌≡◌, ◌≤◌, vec_len, IfOk};
-ghost use Rattle.hz_outside.specs.DiskFiles.{empty_disk};
+ghost use Rattle.std.specs.Prelude.{◌≡◌, ◌<◌, ◌≤◌, length, vec_len, IfOk, IfSome};
+ghost use Rattle.hz_outside.specs.DiskFiles.{empty_disk, counted};
 
 use super::counts::PlaceCounts;
 use super::fault::{LoadFault, Place};
@@ -40,6 +40,17 @@ impl<'r, R: rt::Files> DiskFiles<'r, R> {
             longs: PlaceCounts::new(),
         }
     }
+
+    /// Counts a fault at a place.
+    fn count(&mut self, place: Place, fault: LoadFault)
+        ensures { self.new ≡ counted self.old place fault }
+    {
+        match fault {
+            LoadFault::Failed => self.faults.raise(place),
+            LoadFault::TooLong => self.longs.raise(place),
+            LoadFault::Memory => {}
+        }
+    }
 }
 
 impl<'r, R: rt::Files> Files for DiskFiles<'r, R> {
@@ -65,10 +76,8 @@ impl<'r, R: rt::Files> Files for DiskFiles<'r, R> {
             Ok(mut file) => read_up_to(alloc, &mut file, most),
             Err(_) => Err(LoadFault::Failed),
         };
-        match &loaded {
-            Err(LoadFault::Failed) => self.faults.raise(place),
-            Err(LoadFault::TooLong) => self.longs.raise(place),
-            Err(LoadFault::Memory) | Ok(_) => {}
+        if let Err(fault) = &loaded {
+            self.count(place, *fault);
         }
         loaded
     }
@@ -76,7 +85,9 @@ impl<'r, R: rt::Files> Files for DiskFiles<'r, R> {
 
 /// Reads until a read gives nothing or more than `most` bytes came.
 fn read_up_to<R: Read>(alloc: Global, reader: &mut R, most: usize) -> Result<Vec<u8>, LoadFault>
-    ensures { IfOk result (λ file. vec_len file ≤ most) }
+    ensures short { IfOk result (λ file. vec_len file ≤ most) }
+    ensures whole { IfOk result (λ file. IfSome (R.remaining reader.old) (λ left. file.items ≡ left)) }
+    ensures over { result ≡ Err LoadFault.TooLong → IfSome (R.remaining reader.old) (λ left. most < length left) }
 {
     let mut file = Vec::new(alloc);
     let mut buffer = [0; READ_SIZE];

@@ -1,5 +1,5 @@
 //! Standard output: the trusted edge.
-ghost use Rattle.std.specs.Prelude.{◌≡◌, IsTrue};
+ghost use Rattle.std.specs.Prelude.{◌≡◌};
 
 use super::fault::PutFault;
 use super::sink::Sink;
