@@ -1,5 +1,5 @@
 -- How a text that may be told grows: the cases that the sinks meet.
-use Rattle.std.proofs.Common.{◌≡◌, ℕ, List, [], ◌++◌, take, drop, Option, Some, None, refl}
+use Rattle.std.proofs.Common.{◌≡◌, ℕ, List, [], ◌++◌, take, drop, Some, None, refl}
 use Rattle.std.proofs.lemmas.List.{take-append-drop, append-nil}
 use Rattle.hz_outside.specs.Written.{grown, GrewByFront}
 

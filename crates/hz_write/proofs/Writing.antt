@@ -1,11 +1,11 @@
 -- Writers one after the other: what a whole text's writer ensures, from what those of its parts do.
 use Rattle.std.proofs.Common.{Result, Ok, Err, OnOk, IsErrAnd, ◌≡◌, ◌≤◌, ◌<◌, ◌+◌, ℕ, List, [], ◌∷◌, ◌++◌, map, take, drop, length, get_or, Option, Some, None, refl, ap, sym, ◌∙◌, arith, append_assoc, rules}
-use Rattle.std.proofs.lemmas.List.{append-nil, take_more, map-append, take-append-drop, drop_more}
+use Rattle.std.proofs.lemmas.List.{append-nil, take_more, map-append, take-append-drop}
 use Rattle.hz_outside.specs.Counts.{Rose}
 use Rattle.hz_outside.specs.Written.{grown, joined, GrewByFront}
 use Rattle.hz_outside.specs.declared.fault.PutFault.{PutFault}
 use Rattle.hz_outside.specs.declared.fault.PutFault.TheVariants.{Failed, Memory}
-use Rattle.hz_write.specs.Writes.{newline, line_of, Puts, Stops, Wrote, Waits, Added}
+use Rattle.hz_write.specs.Writes.{Puts, Stops, Wrote, Waits, Added}
 
 -- a text that grows by nothing stays
 pub grown-nil : (text : Option (List ℕ)) → grown text [] ≡ text

@@ -10,19 +10,25 @@ use std::test::Fail;
 #[test]
 fn lines_by_buffers(rt: HostRuntime) -> Result<(), Fail> {
     let text = vec![in rt.alloc(); b'x'; 10_000]?;
-    for (len, puts) in [(0usize, 1u8), (4095, 1), (4096, 2), (8191, 2), (8192, 3)] {
+    let rows = [
+        (0, 1, 0, 1),
+        (4095, 1, 0, 4096),
+        (4096, 2, 4096, 4097),
+        (8191, 2, 4096, 8192),
+        (8192, 3, 8192, 8193),
+    ];
+    for (len, puts, stands, whole) in rows {
         let line = text.get(..len).ok_or("too long")?;
 
-        let mut short = MemSink::new(rt.alloc());
-        short.fail(u64::from(puts), 0)?;
-        assert_eq!(rt; put_line(&mut short, &[line]), Err(PutFault::Failed));
-        assert_eq!(rt; short.bytes().len(), (usize::from(puts) - 1) * 4096);
+        let mut broken = MemSink::new(rt.alloc());
+        broken.fail(puts, 0)?;
+        assert_eq!(rt; put_line(&mut broken, &[line]), Err(PutFault::Failed));
+        assert_eq!(rt; broken.bytes().len(), stands);
 
-        let mut whole = MemSink::new(rt.alloc());
-        whole.fail(u64::from(puts) + 1, 0)?;
-        assert_eq!(rt; put_line(&mut whole, &[line]), Ok(()));
-        assert_eq!(rt; whole.bytes().len(), len + 1);
-        assert_eq!(rt; whole.bytes().last(), Some(&b'\n'));
+        let mut sound = MemSink::new(rt.alloc());
+        sound.fail(puts.saturating_add(1), 0)?;
+        assert_eq!(rt; put_line(&mut sound, &[line]), Ok(()));
+        assert_eq!(rt; sound.bytes().len(), whole);
     }
     Ok(())
 }

@@ -1,5 +1,4 @@
 -- The pieces, and then the line feed.
-use Rattle.std.proofs.Common.{[]}
 use Rattle.hz_write.specs.Writes.{newline, line_of}
 use Rattle.hz_write.proofs.Writing.{Stops-longer, Wrote-waiting, Wrote-exit}
 use Rattle.hz_write.proofs.pieces.put_line.Goals as goal

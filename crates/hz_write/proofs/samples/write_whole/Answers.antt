@@ -1,5 +1,5 @@
 use Rattle.hz_write.specs.Samples.{whole_text}
-use Rattle.hz_write.proofs.Writing.{Puts-last, Stops-here, Stops-later, Wrote-last, Wrote-then, Wrote-exit}
+use Rattle.hz_write.proofs.Writing.{Stops-here, Stops-later, Wrote-last, Wrote-then, Wrote-exit}
 use Rattle.hz_write.proofs.samples.write_whole.Goals as goal
 
 pub returns-in_err-write_size : goal.returns-in_err-write_size

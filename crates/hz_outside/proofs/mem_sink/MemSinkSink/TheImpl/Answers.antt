@@ -1,7 +1,7 @@
 -- What a sink in memory answers gives what every sink ensures.
-use Rattle.std.proofs.Common.{◌≡◌, ◌≤◌, ℕ, List, ◌++◌, take, Option, Some, None, IsSomeAnd, rules, arith, sym, ap, ◌∙◌, OnOk, Ok, Err, Result}
+use Rattle.std.proofs.Common.{◌≡◌, ◌≤◌, ℕ, List, take, Option, Some, None, IsSomeAnd, rules, arith, sym, ap, ◌∙◌, OnOk, Ok, Err, Result}
 use Rattle.hz_outside.specs.Counts.{Rose, raised}
-use Rattle.hz_outside.specs.Written.{grown, GrewByFront}
+use Rattle.hz_outside.specs.Written.{GrewByFront}
 use Rattle.hz_outside.specs.MemSink.{SinkState, taken_next, put_by}
 use Rattle.hz_outside.proofs.WrittenLemmas.{grown-told, GrewByFront-take}
 use Rattle.hz_outside.proofs.mem_sink.MemSinkSink.TheImpl.Goals as goal

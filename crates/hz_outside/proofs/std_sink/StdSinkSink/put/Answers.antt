@@ -1,5 +1,5 @@
 -- Standard output tells nothing, so nothing is known of what was written.
-use Rattle.std.proofs.Common.{rules, sym}
+use Rattle.std.proofs.Common.{sym}
 use Rattle.hz_outside.proofs.WrittenLemmas.{grown-untold, GrewByFront-untold}
 use Rattle.hz_outside.proofs.std_sink.StdSinkSink.put.Goals as goal
 
