@@ -1,0 +1,4 @@
+pub mod Statement
+pub mod Text
+pub mod Entry
+pub mod Head
