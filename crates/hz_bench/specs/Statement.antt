@@ -71,6 +71,12 @@ form_of (Input name) = form.Input
 form_of (Output name) = form.Output
 form_of (Gate name kind sources) = form.Gate kind
 
+-- inputs and gates define their names
+abbrev pub form_defines : Form → Bool
+form_defines form.Input = true
+form_defines form.Output = false
+form_defines (form.Gate kind) = true
+
 -- the names that a gate's pins read
 abbrev pub sources_of : Statement → List (List ℕ)
 sources_of (Input name) = []
