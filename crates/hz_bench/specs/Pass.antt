@@ -1,5 +1,5 @@
 -- What the passes over a text find.
-use Rattle.std.specs.Prelude.{◌≡◌, ℕ, suc, ◌≤◌, List, [], ◌∷◌, length, map, Option, Some, None}
+use Rattle.std.specs.Prelude.{◌≡◌, ℕ, suc, ◌+◌, ◌≤◌, List, [], ◌∷◌, length, map, Option, Some, None}
 use Rattle.hz_line.specs.Line.{lines_of}
 use Rattle.hz_bench.specs.declared.entry.Entry.{Entry}
 use Rattle.hz_bench.specs.declared.fault.BenchFault.{BenchFault}
@@ -39,7 +39,7 @@ IsLineFault line text Memory = Unit {0}
 pub record IsParsed (text : List ℕ) (entries : List Entry) : Type 0 where
   pub statements : numbered_list entries ≡ numbered_statements text
   pub formed : first_malformed 1 (lines_of text) ≡ None
-  pub fits : variables_of (statements_of text) ≤ length text
+  pub fits : variables_of (statements_of text) ≤ length text + 1
 
 -- the fault of the first malformed line
 abbrev pub IsParseFault : List ℕ → BenchFault → Type 0

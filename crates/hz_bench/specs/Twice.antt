@@ -1,13 +1,10 @@
 -- Names that are defined twice.
 use Rattle.std.specs.Prelude.{◌≡◌, ℕ, List, [], ◌∷◌, ◌++◌, Option, Some, None}
-use Rattle.std.specs.Borrow.{Bor}
-use Rattle.std.specs.HashMap.{HashMap}
 use Rattle.hz_bench.specs.declared.fault.BenchFault.{BenchFault}
 use Rattle.hz_bench.specs.declared.fault.BenchFault.TheVariants.{Form, Name, KindUnknown, Clocked, Twice, Pins, Undefined, TooMany, Memory}
-use Rattle.hz_bench.specs.declared.entry.Entry.{Entry}
 use Rattle.hz_bench.specs.Statement.{defined_name}
 use Rattle.hz_bench.specs.Text.{Numbered}
-use Rattle.hz_bench.specs.Definition.{definer, line_for}
+use Rattle.hz_bench.specs.Definition.{definer}
 
 -- the fault of a line whose name has this earlier line, before one of later lines
 abbrev pub twice_or : ℕ → Option ℕ → Option BenchFault → Option BenchFault
@@ -40,7 +37,3 @@ IsFoundOrMemory found (Twice line first) = found ≡ Some (Twice line first)
 IsFoundOrMemory found (Pins line count) = found ≡ Some (Pins line count)
 IsFoundOrMemory found (Undefined line) = found ≡ Some (Undefined line)
 IsFoundOrMemory found (TooMany variables) = found ≡ Some (TooMany variables)
-
--- what becomes of a table when a name is put into it
-abbrev pub IsPutFault : {S : Type 0} → HashMap (Bor (List ℕ)) ℕ S → Entry → BenchFault → Type 0
-IsPutFault table entry fault = IsFoundOrMemory (twice_or entry.line (line_for table entry.name.now) None) fault

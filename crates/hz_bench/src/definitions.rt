@@ -1,11 +1,11 @@
 // The names that statements define.
 
-ghost use Rattle.std.specs.Prelude.{◌≡◌, ℕ, List, MatchResult, None, Some, is_some, if◌then◌else◌};
-ghost use Rattle.std.specs.Str.{bytes_eq};
-ghost use Rattle.hz_bench.specs.Definition.{definer, line_for, IsTableOf};
+ghost use Rattle.std.specs.Prelude.{◌≡◌, MatchResult, None, is_some};
+ghost use Rattle.hz_bench.specs.Definition.{line_for, line_for_defined, IsPut, IsTableOf};
 ghost use Rattle.hz_bench.specs.Entry.{numbered_list};
-ghost use Rattle.hz_bench.specs.Text.{Numbered};
-ghost use Rattle.hz_bench.specs.Twice.{twice_fault, IsFoundOrMemory, IsPutFault};
+ghost use Rattle.hz_bench.specs.Statement.{defined_name};
+ghost use Rattle.hz_bench.specs.Text.{statement_in};
+ghost use Rattle.hz_bench.specs.Twice.{twice_or, twice_fault, IsFoundOrMemory};
 
 use crate::entry::Entry;
 use crate::fault::BenchFault;
@@ -23,19 +23,23 @@ pub(crate) fn definitions<'a>(alloc: Global, entries: &[Entry<'a>]) -> Result<De
 {
     let mut lines: Definitions<'a> = IndexMap::new(alloc);
     for entry in entries {
-        if entry.form.defines() {
-            define(&mut lines, entry)?;
+        match define(&mut lines, entry) {
+            Ok(()) => {}
+            Err(fault) => return Err(fault),
         }
     }
     Ok(lines)
 }
 
-// Puts the name of a statement into the table, if it is new.
+// Puts the name that a statement defines into the table, if it is new there.
 fn define<'a>(lines: &mut Definitions<'a>, entry: &Entry<'a>) -> Result<(), BenchFault>
     ensures { MatchResult result
-        (λ _. (line_for lines.old entry.now.name.now ≡ None) × ((name : List ℕ) → line_for lines.new name ≡ (if bytes_eq name entry.now.name.now then Some entry.now.line else line_for lines.old name)))
-        (λ fault. IsPutFault lines.old entry.now fault) }
+        (λ _. IsPut lines.old lines.new entry.now.line (defined_name (statement_in entry.now.text.now)))
+        (λ fault. IsFoundOrMemory (twice_or entry.now.line (line_for_defined lines.old (defined_name (statement_in entry.now.text.now))) None) fault) }
 {
+    if !entry.form.defines() {
+        return Ok(());
+    }
     match lines.insert(entry.name, entry.line) {
         Ok(None) => Ok(()),
         Ok(Some(first)) => Err(BenchFault::Twice {
