@@ -1,0 +1,30 @@
+-- What the passes answer is a finding.
+use Rattle.std.proofs.Common.{◌≡◌, ℕ, ◌+◌, ◌≤◌, Bool, List, length, sym, ap, ◌∙◌, subst}
+use Rattle.hz_core.specs.declared.tri.Tri.{Tri}
+use Rattle.hz_core.specs.Ternary.{Refines, AllBelow}
+use Rattle.hz_net.specs.Network.{Driver}
+use Rattle.hz_net.specs.Passes.{excitations, algorithm_a, algorithm_b, AreRounds}
+use Rattle.hz_net.proofs.Sequences.{AllBelow-closed, closed-result}
+use Rattle.hz_gmw.proofs.CoverA.{covers}
+use Rattle.hz_gmw.proofs.CoverB.{covers_outcomes}
+use Rattle.hz_top.specs.Finding.{IsFinding}
+
+-- the result of Algorithm A lies above its excitations, so Algorithm B may begin with it
+pub below-result : (net : List Driver) (input start : List Bool) (a b : List Tri) (rounds : ℕ) → length start ≡ length net → AreRounds (algorithm_a net input start) rounds → a ≡ algorithm_a net input start rounds → b ≡ a → AllBelow (excitations net input b) b
+below-result net input start a b rounds long are is same =
+    subst (λ (values : List Tri). AllBelow (excitations net input values) values) (sym (same ∙ is))
+    (AllBelow-closed net input (algorithm_a net input start rounds) (closed-result net input start rounds long are))
+
+pub is-finding : (net : List Driver) (input start : List Bool) (a copy b : List Tri) (rounds_a rounds_b : ℕ) → length start ≡ length net → AreRounds (algorithm_a net input start) rounds_a → a ≡ algorithm_a net input start rounds_a → rounds_a ≤ length net + 1 → copy ≡ a → AreRounds (algorithm_b net input copy) rounds_b → b ≡ algorithm_b net input copy rounds_b → rounds_b ≤ length net + 1 → IsFinding net input start a rounds_a b rounds_b
+is-finding net input start a copy b rounds_a rounds_b long a_are a_is a_few same b_are b_is b_few =
+    let from_a : b ≡ algorithm_b net input a rounds_b = b_is ∙ ap (λ (first : List Tri). algorithm_b net input first rounds_b) same in
+    record {
+      a_settles = a_are;
+      a_result = a_is;
+      a_bound = a_few;
+      a_covers = λ state reach. subst (Refines state) (sym a_is) (covers net input start state rounds_a long a_are reach);
+      b_settles = subst (λ (first : List Tri). AreRounds (algorithm_b net input first) rounds_b) same b_are;
+      b_result = from_a;
+      b_bound = b_few;
+      b_covers = λ state outcome. subst (Refines state) (sym (from_a ∙ ap (λ (first : List Tri). algorithm_b net input first rounds_b) a_is)) (covers_outcomes net input start state rounds_a rounds_b long a_are outcome);
+    }

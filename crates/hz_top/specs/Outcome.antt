@@ -1,0 +1,116 @@
+-- What a job comes to, in the order of work: the status and the text that is written.
+use Rattle.std.specs.Prelude.{◌≡◌, ℕ, ◌<◌, ◌≤◌, ◌⊎◌, Bool, List, [], ◌∷◌, length, take, fold, slice_set, Option, Some, None, IfSome}
+use Rattle.hz_outside.specs.Counts.{Rose}
+use Rattle.hz_outside.specs.Written.{joined}
+use Rattle.hz_outside.specs.declared.fault.Place.{Place}
+use Rattle.hz_outside.specs.declared.fault.Place.TheVariants.{First, Second}
+use Rattle.hz_core.specs.declared.tri.Tri.{Tri}
+use Rattle.hz_core.specs.Netlist.{Netlist}
+use Rattle.hz_net.specs.Network.{network_of, IsStable}
+use Rattle.hz_net.specs.Starts.{IsCompletedStart, IsLeastOpen, IsLeastUnstable}
+use Rattle.hz_bench.specs.declared.fault.BenchFault.{BenchFault}
+use Rattle.hz_bench.specs.Fault as bench
+use Rattle.hz_bench.specs.Netlist.{IsNetlistOf}
+use Rattle.hz_text.specs.declared.fault.TextFault.{TextFault}
+use Rattle.hz_text.specs.ScriptFault as script
+use Rattle.hz_text.specs.ScriptText.{IsValue}
+use Rattle.hz_text.specs.ScriptValue.{ScriptOf}
+use Rattle.hz_report.specs.Report.{head_text, change_text}
+use Rattle.hz_top.specs.declared.status.Status.{Status}
+use Rattle.hz_top.specs.declared.status.Status.TheVariants as status
+use Rattle.hz_top.specs.Answer.{Says}
+use Rattle.hz_top.specs.Finding.{IsFinding}
+use Rattle.hz_top.specs.Job.{JobOf, Analyse}
+use Rattle.hz_top.specs.Refusal.{words_line, unread_line, long_line, netlist_line, script_line, sequence_line, open_line, unstable_line}
+
+-- the most bytes of a file
+abbrev pub most_bytes : ℕ
+most_bytes = 16777216
+
+-- the new input: the present one with the assignments of a change
+abbrev pub changed_input : List Bool → List (ℕ × Bool) → List Bool
+changed_input input change = fold (λ bits assignment. slice_set bits assignment.0 assignment.1) input change
+
+-- the text of one change from a start: for some finding
+abbrev pub ChangeReads : Netlist → List Bool → ℕ → List (ℕ × Bool) → List ℕ → Type 0
+ChangeReads netlist start number change text =
+    (a : List Tri) × (rounds_a : ℕ) × (b : List Tri) × (rounds_b : ℕ)
+    × IsFinding (network_of netlist) (changed_input (take netlist.inputs start) change) start a rounds_a b rounds_b
+    × (text ≡ change_text netlist number change start rounds_a a rounds_b b)
+
+-- the text of a start and the changes from it
+abbrev pub Reads : Netlist → List Bool → List (List (ℕ × Bool)) → List ℕ → Type 0
+Reads netlist start [] text = text ≡ head_text netlist start
+Reads netlist start (change ∷ []) text =
+    (report : List ℕ) × ChangeReads netlist start 1 change report × (text ≡ joined (head_text netlist start ∷ report ∷ []))
+Reads netlist start (change ∷ second ∷ changes) text = ⊥
+
+-- a start that is completed, and stable under its own inputs
+pub record IsStableStart (netlist : Netlist) (listed : List (Option Bool)) (start : List Bool) : Type 0 where
+  pub completed : IsCompletedStart netlist listed start
+  pub stable : IsStable (network_of netlist) (take netlist.inputs start) start
+
+-- the start of a script is refused
+abbrev pub StartRefused : Netlist → List (Option Bool) → List ℕ → Type 0
+StartRefused netlist listed text =
+    ((gate : ℕ) × IsLeastOpen netlist listed gate × (text ≡ open_line netlist gate))
+    ⊎ ((gate : ℕ) × IsLeastUnstable netlist listed gate × (text ≡ unstable_line netlist gate))
+
+-- what a script without a fault comes to
+abbrev pub ScriptComes : Netlist → ScriptOf → Status → List ℕ → Type 0
+ScriptComes netlist script own text =
+    ((1 < length script.changes) × Says status.Text sequence_line own text)
+    ⊎ ((length script.changes ≤ 1) × (own ≡ status.Start) × StartRefused netlist script.start text)
+    ⊎ ((length script.changes ≤ 1) × (own ≡ status.Done)
+    × ((start : List Bool) × IsStableStart netlist script.start start × Reads netlist start script.changes text))
+
+-- what the second text comes to, on a circuit
+abbrev pub SecondTextComes : Netlist → List ℕ → Status → List ℕ → Type 0
+SecondTextComes netlist bytes own text =
+    ((fault : TextFault) × script.IsLeastFault netlist bytes fault × Says status.Text (script_line netlist fault) own text)
+    ⊎ ((value : ScriptOf) × script.IsFaultless netlist bytes × IsValue netlist bytes value × ScriptComes netlist value own text)
+
+-- what files tell and count: the bytes under each name where they are told, and the counts of loads that failed and of
+-- files that were too long, before the call and after it
+pub record Told : Type 0 where
+  pub held : Option (List ℕ → List ℕ)
+  pub faults : Place → ℕ
+  pub faults_after : Place → ℕ
+  pub longs : Place → ℕ
+  pub longs_after : Place → ℕ
+
+-- the file at a place was not read, or was too long: its count shows it
+abbrev pub Unread : Told → Place → List ℕ → Status → List ℕ → Type 0
+Unread told place name own text =
+    (Rose (told.faults place) (told.faults_after place) × Says status.File (unread_line place) own text)
+    ⊎ (Rose (told.longs place) (told.longs_after place)
+    × IfSome told.held (λ bytes_of. most_bytes < length (bytes_of name)) × Says status.TooLong (long_line place) own text)
+
+-- the bytes are those of the file, where they are told, and not too many
+abbrev pub IsFile : Told → List ℕ → List ℕ → Type 0
+IsFile told name bytes = IfSome told.held (λ bytes_of. bytes ≡ bytes_of name) × (length bytes ≤ most_bytes)
+
+-- what the second file comes to, on a circuit
+abbrev pub SecondComes : Told → Netlist → List ℕ → Status → List ℕ → Type 0
+SecondComes told netlist name own text =
+    Unread told Second name own text
+    ⊎ ((bytes : List ℕ) × IsFile told name bytes × SecondTextComes netlist bytes own text)
+
+-- what the first text comes to, and then the second file
+abbrev pub FirstTextComes : Told → List ℕ → List ℕ → Status → List ℕ → Type 0
+FirstTextComes told bytes second own text =
+    ((fault : BenchFault) × bench.IsLeastFault bytes fault × Says status.Netlist (netlist_line fault) own text)
+    ⊎ ((netlist : Netlist) × IsNetlistOf bytes netlist × SecondComes told netlist second own text)
+
+-- what the two files come to
+abbrev pub FilesCome : Told → List ℕ → List ℕ → Status → List ℕ → Type 0
+FilesCome told first second own text =
+    Unread told First first own text
+    ⊎ ((bytes : List ℕ) × IsFile told first bytes × FirstTextComes told bytes second own text)
+
+-- what a job comes to; without a job the words are refused, and no file is loaded
+abbrev pub JobComes : Told → Option JobOf → Status → List ℕ → Type 0
+JobComes told None own text =
+    ((place : Place) → (told.faults_after place ≡ told.faults place) × (told.longs_after place ≡ told.longs place))
+    × Says status.Words words_line own text
+JobComes told (Some (Analyse first second)) own text = FilesCome told first second own text

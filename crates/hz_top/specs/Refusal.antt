@@ -1,0 +1,80 @@
+-- The lines of refusals.
+use Rattle.std.specs.Prelude.{ℕ, List, [], ◌∷◌, codes, decimal}
+use Rattle.hz_outside.specs.declared.fault.Place.{Place}
+use Rattle.hz_outside.specs.declared.fault.Place.TheVariants.{First, Second}
+use Rattle.hz_write.specs.Writes.{line_of}
+use Rattle.hz_core.specs.Netlist.{Netlist}
+use Rattle.hz_report.specs.Words.{node_name}
+use Rattle.hz_bench.specs.declared.fault.BenchFault.{BenchFault}
+use Rattle.hz_bench.specs.declared.fault.BenchFault.TheVariants as bench
+use Rattle.hz_text.specs.declared.fault.TextFault.{TextFault}
+use Rattle.hz_text.specs.declared.fault.TextFault.TheVariants as fault
+
+-- words that name no job
+unfoldable pub words_line : List ℕ
+words_line = line_of (codes "refused: words; usage: hazard JOB FIRST [SECOND] [--cap N] [--show nodes|all]" ∷ [])
+
+-- a file by its place
+abbrev pub place_word : Place → List ℕ
+place_word First = codes "first"
+place_word Second = codes "second"
+
+-- a file that was not read
+unfoldable pub unread_line : Place → List ℕ
+unread_line place = line_of (codes "refused: " ∷ place_word place ∷ codes " file not read" ∷ [])
+
+-- a file with too many bytes
+unfoldable pub long_line : Place → List ℕ
+long_line place = line_of (codes "refused: " ∷ place_word place ∷ codes " file too long" ∷ [])
+
+-- a fault at a line of a text
+unfoldable pub fault_line : List ℕ → ℕ → List ℕ → List ℕ
+fault_line text line fault = line_of (codes "refused: " ∷ text ∷ codes " line " ∷ decimal line ∷ fault ∷ [])
+
+-- a fault at a line of a netlist, with a number
+unfoldable pub counted_line : ℕ → List ℕ → ℕ → List ℕ
+counted_line line fault count =
+    line_of (codes "refused: netlist line " ∷ decimal line ∷ fault ∷ decimal count ∷ [])
+
+-- more variables than there may be
+unfoldable pub variables_line : ℕ → List ℕ
+variables_line variables = line_of (codes "refused: netlist: variables " ∷ decimal variables ∷ [])
+
+-- an input that a start does not list
+unfoldable pub missing_line : Netlist → ℕ → List ℕ
+missing_line netlist node = line_of (codes "refused: script: no value for " ∷ node_name netlist node ∷ [])
+
+-- a fault of a netlist's text; for want of memory there is no line
+abbrev pub netlist_line : BenchFault → List ℕ
+netlist_line (bench.Form line) = fault_line (codes "netlist") line (codes ": form")
+netlist_line (bench.Name line) = fault_line (codes "netlist") line (codes ": name too long")
+netlist_line (bench.KindUnknown line) = fault_line (codes "netlist") line (codes ": unknown kind")
+netlist_line (bench.Clocked line) = fault_line (codes "netlist") line (codes ": clocked")
+netlist_line (bench.Twice line first) = counted_line line (codes ": defined twice, first on line ") first
+netlist_line (bench.Pins line count) = counted_line line (codes ": pins ") count
+netlist_line (bench.Undefined line) = fault_line (codes "netlist") line (codes ": undefined name")
+netlist_line (bench.TooMany variables) = variables_line variables
+netlist_line bench.Memory = []
+
+-- a fault of a script's text on a circuit; for want of memory there is no line
+abbrev pub script_line : Netlist → TextFault → List ℕ
+script_line netlist (fault.Form line) = fault_line (codes "script") line (codes ": form")
+script_line netlist (fault.Unknown line) = fault_line (codes "script") line (codes ": unknown name")
+script_line netlist (fault.Twice line) = fault_line (codes "script") line (codes ": assigned twice")
+script_line netlist (fault.Missing node) = missing_line netlist node
+script_line netlist (fault.Bit line) = fault_line (codes "script") line (codes ": bit")
+script_line netlist (fault.Order line) = fault_line (codes "script") line (codes ": order")
+script_line netlist (fault.TooMany line) = fault_line (codes "script") line (codes ": too many")
+script_line netlist fault.Memory = []
+
+-- a script with more than one change, until sequences of changes are analysed
+unfoldable pub sequence_line : List ℕ
+sequence_line = line_of (codes "refused: script: not built" ∷ [])
+
+-- a gate that the start leaves open
+unfoldable pub open_line : Netlist → ℕ → List ℕ
+open_line netlist gate = line_of (codes "refused: start: open " ∷ node_name netlist gate ∷ [])
+
+-- a gate that is unstable at the start
+unfoldable pub unstable_line : Netlist → ℕ → List ℕ
+unstable_line netlist gate = line_of (codes "refused: start: unstable " ∷ node_name netlist gate ∷ [])

@@ -1,0 +1,161 @@
+//! The lines of refusals.
+ghost use Rattle.std.specs.Prelude.{◌≡◌};
+ghost use Rattle.hz_write.specs.Writes.{Wrote};
+ghost use Rattle.hz_report.specs.Words.{node_name};
+ghost use Rattle.hz_top.specs.Refusal.{words_line, unread_line, long_line, place_word, fault_line, counted_line, variables_line, missing_line, netlist_line, script_line, sequence_line, open_line, unstable_line};
+
+use hz_bench::BenchFault;
+use hz_net::Net;
+use hz_outside::{Place, PutFault, Sink};
+use hz_text::TextFault;
+use hz_write::put_line;
+use itoa::Buffer;
+
+// Words that name no job.
+#[tactic(auto, unfolding(crate::specs::Refusal::words_line))]
+pub(crate) fn put_words<K: Sink>(out: &mut K) -> Result<(), PutFault>
+    ensures { Wrote K.written K.faults words_line out.old out.new result }
+{
+    put_line(out, &[b"refused: words; usage: hazard JOB FIRST [SECOND] [--cap N] [--show nodes|all]"])
+}
+
+// The word for a file's place.
+fn place_word(place: Place) -> &'static [u8]
+    ensures { result.now ≡ place_word place }
+{
+    match place {
+        Place::First => b"first",
+        Place::Second => b"second",
+    }
+}
+
+// A file that was not read.
+#[tactic(auto, unfolding(crate::specs::Refusal::unread_line))]
+pub(crate) fn put_unread<K: Sink>(out: &mut K, place: Place) -> Result<(), PutFault>
+    ensures { Wrote K.written K.faults (unread_line place) out.old out.new result }
+{
+    put_line(out, &[b"refused: ", place_word(place), b" file not read"])
+}
+
+// A file with too many bytes.
+#[tactic(auto, unfolding(crate::specs::Refusal::long_line))]
+pub(crate) fn put_long<K: Sink>(out: &mut K, place: Place) -> Result<(), PutFault>
+    ensures { Wrote K.written K.faults (long_line place) out.old out.new result }
+{
+    put_line(out, &[b"refused: ", place_word(place), b" file too long"])
+}
+
+// A fault at a line of a text.
+#[tactic(auto, unfolding(crate::specs::Refusal::fault_line))]
+fn put_at<K: Sink>(out: &mut K, text: &[u8], line: u32, fault: &[u8]) -> Result<(), PutFault>
+    ensures { Wrote K.written K.faults (fault_line text.now line fault.now) out.old out.new result }
+{
+    let mut of_line = Buffer::new();
+    let line = of_line.format(line).as_bytes();
+    put_line(out, &[b"refused: ", text, b" line ", line, fault])
+}
+
+// A fault at a line of a netlist, with a number.
+#[tactic(auto, unfolding(crate::specs::Refusal::counted_line))]
+fn put_counted<K: Sink>(out: &mut K, line: u32, fault: &[u8], count: u32) -> Result<(), PutFault>
+    ensures { Wrote K.written K.faults (counted_line line fault.now count) out.old out.new result }
+{
+    let mut of_line = Buffer::new();
+    let mut of_count = Buffer::new();
+    let line = of_line.format(line).as_bytes();
+    let count = of_count.format(count).as_bytes();
+    put_line(out, &[b"refused: netlist line ", line, fault, count])
+}
+
+// More variables than there may be.
+#[tactic(auto, unfolding(crate::specs::Refusal::variables_line))]
+fn put_variables<K: Sink>(out: &mut K, variables: u32) -> Result<(), PutFault>
+    ensures { Wrote K.written K.faults (variables_line variables) out.old out.new result }
+{
+    let mut of_variables = Buffer::new();
+    let variables = of_variables.format(variables).as_bytes();
+    put_line(out, &[b"refused: netlist: variables ", variables])
+}
+
+// A fault of a netlist's text. For want of memory there is no line.
+pub(crate) fn put_netlist_fault<K: Sink>(out: &mut K, fault: BenchFault) -> Result<(), PutFault>
+    ensures { Wrote K.written K.faults (netlist_line fault) out.old out.new result }
+{
+    match fault {
+        BenchFault::Form { line } => put_at(out, b"netlist", line, b": form"),
+        BenchFault::Name { line } => put_at(out, b"netlist", line, b": name too long"),
+        BenchFault::KindUnknown { line } => put_at(out, b"netlist", line, b": unknown kind"),
+        BenchFault::Clocked { line } => put_at(out, b"netlist", line, b": clocked"),
+        BenchFault::Twice { line, first } => {
+            put_counted(out, line, b": defined twice, first on line ", first)
+        }
+        BenchFault::Pins { line, count } => put_counted(out, line, b": pins ", count),
+        BenchFault::Undefined { line } => put_at(out, b"netlist", line, b": undefined name"),
+        BenchFault::TooMany { variables } => put_variables(out, variables),
+        BenchFault::Memory => Ok(()),
+    }
+}
+
+// The name of a node; of no node the empty name.
+fn node_name(net: &Net, node: u32) -> &[u8]
+    ensures { result.now ≡ node_name net.now node }
+{
+    let circuit = net.circuit();
+    if node < circuit.nodes() {
+        circuit.name(node)
+    } else {
+        b""
+    }
+}
+
+// An input that a start does not list.
+#[tactic(auto, unfolding(crate::specs::Refusal::missing_line))]
+fn put_missing<K: Sink>(out: &mut K, net: &Net, node: u32) -> Result<(), PutFault>
+    ensures { Wrote K.written K.faults (missing_line net.now node) out.old out.new result }
+{
+    put_line(out, &[b"refused: script: no value for ", node_name(net, node)])
+}
+
+// A fault of a script's text. For want of memory there is no line.
+pub(crate) fn put_script_fault<K: Sink>(
+    out: &mut K,
+    net: &Net,
+    fault: TextFault,
+) -> Result<(), PutFault>
+    ensures { Wrote K.written K.faults (script_line net.now fault) out.old out.new result }
+{
+    match fault {
+        TextFault::Form { line } => put_at(out, b"script", line, b": form"),
+        TextFault::Unknown { line } => put_at(out, b"script", line, b": unknown name"),
+        TextFault::Twice { line } => put_at(out, b"script", line, b": assigned twice"),
+        TextFault::Missing { node } => put_missing(out, net, node),
+        TextFault::Bit { line } => put_at(out, b"script", line, b": bit"),
+        TextFault::Order { line } => put_at(out, b"script", line, b": order"),
+        TextFault::TooMany { line } => put_at(out, b"script", line, b": too many"),
+        TextFault::Memory => Ok(()),
+    }
+}
+
+// A script with more than one change.
+#[tactic(auto, unfolding(crate::specs::Refusal::sequence_line))]
+pub(crate) fn put_sequence<K: Sink>(out: &mut K) -> Result<(), PutFault>
+    ensures { Wrote K.written K.faults sequence_line out.old out.new result }
+{
+    put_line(out, &[b"refused: script: not built"])
+}
+
+// A gate that the start leaves open.
+#[tactic(auto, unfolding(crate::specs::Refusal::open_line))]
+pub(crate) fn put_open<K: Sink>(out: &mut K, net: &Net, gate: u32) -> Result<(), PutFault>
+    ensures { Wrote K.written K.faults (open_line net.now gate) out.old out.new result }
+{
+    put_line(out, &[b"refused: start: open ", node_name(net, gate)])
+}
+
+// A gate that is unstable at the start.
+#[tactic(auto, unfolding(crate::specs::Refusal::unstable_line))]
+pub(crate) fn put_unstable<K: Sink>(out: &mut K, net: &Net, gate: u32) -> Result<(), PutFault>
+    ensures { Wrote K.written K.faults (unstable_line net.now gate) out.old out.new result }
+{
+    put_line(out, &[b"refused: start: unstable ", node_name(net, gate)])
+}
