@@ -2,3 +2,4 @@ pub mod Ternary
 pub mod Gate
 pub mod Extension
 pub mod Netlist
+pub mod Inside

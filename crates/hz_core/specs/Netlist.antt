@@ -1,9 +1,11 @@
 -- Circuits: named inputs, gates with their sources, and outputs.
-use Rattle.std.specs.Prelude.{◌≡◌, ◌≢◌, ℕ, ◌+◌, ◌-◌, ◌<◌, ◌≤◌, Bool, true, ◌||◌, ◌&&◌, not, List, [], ◌∷◌, ◌++◌, length, All, Contains, sum_by, nat_le, ◌==◌, Option, Some, None, IsTrue, slice_get}
-use Rattle.std.specs.List.{slice_index_or}
+use Rattle.std.specs.Prelude.{◌≡◌, ℕ, ◌+◌, ◌-◌, ◌<◌, ◌≤◌, Bool, not, ◌||◌, ◌&&◌, List, [], ◌∷◌, ◌++◌, length, All, IsTrue, Option, position, sum_by, nat_le, ◌==◌, nat_eq, slice_set, if◌then◌else◌}
+use Rattle.std.specs.List.{slice_index_or, list_any, list_all, IsDistinct}
+use Rattle.std.specs.Str.{bytes_eq}
 use Rattle.hz_core.specs.declared.kind.Kind.{Kind}
 use Rattle.hz_core.specs.declared.kind.Kind.TheVariants.{And, Nand, Or, Nor, Xor, Xnor, Not, Buff}
 use Rattle.hz_core.specs.declared.kind.TheConstants.{MAX_PINS}
+use Rattle.hz_core.specs.declared.circuit.TheConstants.{MAX_VARIABLES}
 
 -- a gate: its kind, and the node that each of its pins reads, in the order of the pins
 pub record Gate : Type 0 where
@@ -16,6 +18,17 @@ pub record Netlist : Type 0 where
   pub inputs : ℕ
   pub gates : List Gate
   pub outputs : List ℕ
+
+-- a byte that may stand in a name: 0x21 to 0x7E, and none of the signs ( ) , = #
+abbrev pub is_name_byte : ℕ → Bool
+is_name_byte byte =
+    nat_le 33 byte && nat_le byte 126 && not (byte == 40 || byte == 41 || byte == 44 || byte == 61 || byte == 35)
+
+-- a name is 1 to 255 such bytes
+pub record IsName (name : List ℕ) : Type 0 where
+  pub some : 1 ≤ length name
+  pub short : length name ≤ 255
+  pub bytes : IsTrue (list_all is_name_byte name)
 
 -- how many pins the gates have in all
 abbrev pub pin_count : Netlist → ℕ
@@ -35,3 +48,68 @@ most_pins Or = MAX_PINS
 most_pins Nor = MAX_PINS
 most_pins Xor = MAX_PINS
 most_pins Xnor = MAX_PINS
+
+-- the node is a gate: gates are numbered after the inputs
+abbrev pub IsGateNumber : Netlist → ℕ → Type 0
+IsGateNumber netlist node = (netlist.inputs ≤ node) × (node < length netlist.names)
+
+-- the gate with this node number
+abbrev pub gate_at : Netlist → ℕ → Gate
+gate_at netlist node = slice_index_or netlist.gates (node - netlist.inputs) (record { kind = And; sources = [] })
+
+-- the node with this name, if there is one
+abbrev pub node_named : Netlist → List ℕ → Option ℕ
+node_named netlist name = position (bytes_eq name) netlist.names
+
+-- the circuit without nodes
+abbrev pub empty_netlist : Netlist
+empty_netlist = record { names = []; inputs = 0; gates = []; outputs = [] }
+
+-- the circuit with one input more, after its last node
+abbrev pub with_input : Netlist → List ℕ → Netlist
+with_input netlist name = record netlist { names = netlist.names ++ name ∷ []; inputs = netlist.inputs + 1 }
+
+-- the circuit with one gate more, which has no pin yet, after its last node
+abbrev pub with_gate : Netlist → List ℕ → Kind → Netlist
+with_gate netlist name kind =
+    record netlist {
+      names = netlist.names ++ name ∷ [];
+      gates = netlist.gates ++ record { kind = kind; sources = [] } ∷ [];
+    }
+
+-- the gate with one pin more, after its last pin
+abbrev pub with_source : Gate → ℕ → Gate
+with_source gate source = record gate { sources = gate.sources ++ source ∷ [] }
+
+-- the circuit with one pin more at a gate
+abbrev pub with_pin : Netlist → ℕ → ℕ → Netlist
+with_pin netlist node source =
+    record netlist {
+      gates = slice_set netlist.gates (node - netlist.inputs) (with_source (gate_at netlist node) source);
+    }
+
+-- the circuit with the node among its outputs: it stays where it is, or comes last
+abbrev pub with_output : Netlist → ℕ → Netlist
+with_output netlist node =
+    record netlist {
+      outputs = if list_any (nat_eq node) netlist.outputs then netlist.outputs else netlist.outputs ++ node ∷ [];
+    }
+
+-- a gate of a circuit that has so many nodes: no more pins than its kind takes, each of which reads a node
+pub record IsGateAmong (nodes : ℕ) (gate : Gate) : Type 0 where
+  pub pins : length gate.sources ≤ most_pins gate.kind
+  pub sources : All (λ source. source < nodes) gate.sources
+
+-- what holds of every circuit
+pub record IsCircuit (netlist : Netlist) : Type 0 where
+  pub names : All IsName netlist.names
+  pub names_distinct : IsDistinct bytes_eq netlist.names
+  pub nodes : length netlist.names ≡ netlist.inputs + length netlist.gates
+  pub gates : All (IsGateAmong (length netlist.names)) netlist.gates
+  pub outputs : All (λ node. node < length netlist.names) netlist.outputs
+  pub outputs_distinct : IsDistinct nat_eq netlist.outputs
+  pub variables : variable_count netlist ≤ MAX_VARIABLES
+
+-- each gate has a pin
+abbrev pub IsWhole : Netlist → Type 0
+IsWhole netlist = All (λ gate. 1 ≤ length gate.sources) netlist.gates

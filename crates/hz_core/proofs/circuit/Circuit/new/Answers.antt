@@ -1,0 +1,7 @@
+use Rattle.std.proofs.Common.{refl}
+use Rattle.hz_core.proofs.CircuitLemmas.{HoldsCircuit-empty}
+use Rattle.hz_core.proofs.circuit.Circuit.new.Goals as goal
+
+pub invariant_of-result : goal.invariant_of-result
+invariant_of-result c =
+    HoldsCircuit-empty _ c.new.ensures.empty refl c.new-2.ensures.items c.new-3.ensures.empty refl

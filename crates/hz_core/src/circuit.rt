@@ -1,0 +1,252 @@
+//! Circuits: named inputs, gates with their sources, and outputs.
+ghost use Rattle.std.specs.Prelude.{◌≡◌, ◌+◌, ◌<◌, ◌≤◌, ◌↔◌, length, slice_get, Some, None, IsTrue, IfOk, OnOk, OnErr, [], All};
+ghost use Rattle.hz_core.specs.Netlist.{IsName, IsCircuit, IsGateNumber, IsWhole, node_named, variable_count, most_pins, gate_at, empty_netlist, with_input, with_gate, with_pin, with_output};
+
+use crate::gate::GateEntry;
+use crate::{Kind, Memory};
+use indexmap::IndexSet;
+use std::alloc::Global;
+use std::marker::Model;
+
+/// The most variables of a circuit's complete network: its nodes and its pins.
+pub const MAX_VARIABLES: u32 = 200_000;
+
+/// A circuit of gates, which may read each other in a circle.
+///
+/// A node is an input or a gate. Nodes are numbered from 0 in the order in which they were added, inputs before gates, and
+/// each has a name. Each pin of a gate reads a node, its source.
+#[derive(Debug, Drop)]
+pub struct Circuit {
+    names: IndexSet<Vec<u8>>,
+    inputs: u32,
+    gates: Vec<GateEntry>,
+    outputs: IndexSet<u32>,
+    pins: u32,
+}
+
+impl Model for Circuit {
+    ghost use Rattle.hz_core.specs.Netlist.{Netlist};
+
+    ghost Value = { Netlist };
+
+    ghost use Rattle.hz_core.specs.Inside.{netlist_of, HoldsCircuit};
+
+    ghost view = { netlist_of };
+
+    ghost invariant = { HoldsCircuit };
+}
+
+impl Circuit {
+    /// A circuit without nodes. It allocates nothing.
+    pub fn new(alloc: Global) -> Circuit
+        ensures { result ≡ empty_netlist }
+    {
+        Circuit {
+            names: IndexSet::new(alloc),
+            inputs: 0,
+            gates: Vec::new(alloc),
+            outputs: IndexSet::new(alloc),
+            pins: 0,
+        }
+    }
+
+    /// Adds an input, and answers its number. Inputs come before gates.
+    pub fn add_input(&mut self, name: &[u8]) -> Result<u32, Memory>
+        requires name { IsName name.now }
+        requires fresh { node_named self.old name.now ≡ None }
+        requires no_gate { self.old.gates ≡ [] }
+        requires room { variable_count self.old < MAX_VARIABLES }
+        ensures ok { IfOk result (λ number. (number ≡ length self.old.names) × (self.new ≡ with_input self.old name.now)) }
+        ensures err { OnErr result (self.new ≡ self.old) }
+    {
+        let number = self.names.len() as u32;
+        let Ok(text) = Vec::from_slice(*self.names.allocator(), name) else {
+            return Err(Memory);
+        };
+        let Ok(_) = self.names.insert(text) else {
+            return Err(Memory);
+        };
+        self.inputs += 1;
+        Ok(number)
+    }
+
+    /// Adds a gate, which has no pin yet, and answers its number.
+    pub fn add_gate(&mut self, name: &[u8], kind: Kind) -> Result<u32, Memory>
+        requires name { IsName name.now }
+        requires fresh { node_named self.old name.now ≡ None }
+        requires room { variable_count self.old < MAX_VARIABLES }
+        ensures ok { IfOk result (λ number. (number ≡ length self.old.names) × (self.new ≡ with_gate self.old name.now kind)) }
+        ensures err { OnErr result (self.new ≡ self.old) }
+    {
+        let number = self.names.len() as u32;
+        let alloc = *self.names.allocator();
+        let Ok(text) = Vec::from_slice(alloc, name) else {
+            return Err(Memory);
+        };
+        let Ok(()) = self.gates.reserve(1) else {
+            return Err(Memory);
+        };
+        let Ok(_) = self.names.insert(text) else {
+            return Err(Memory);
+        };
+        self.gates.push_reserved(GateEntry::new(alloc, kind));
+        Ok(number)
+    }
+
+    /// Adds a pin to a gate, after its last one.
+    pub fn connect(&mut self, gate: u32, source: u32) -> Result<(), Memory>
+        requires gate { IsGateNumber self.old gate }
+        requires source { source < length self.old.names }
+        requires pins { length (gate_at self.old gate).sources < most_pins (gate_at self.old gate).kind }
+        requires room { variable_count self.old < MAX_VARIABLES }
+        ensures ok { OnOk result (self.new ≡ with_pin self.old gate source) }
+        ensures err { OnErr result (self.new ≡ self.old) }
+    {
+        let number = (gate - self.inputs) as usize;
+        let Ok(()) = self.gates[number].connect(source) else {
+            return Err(Memory);
+        };
+        self.pins += 1;
+        Ok(())
+    }
+
+    /// Makes a node an output. One that is an output already stays in its place.
+    pub fn add_output(&mut self, node: u32) -> Result<(), Memory>
+        requires { node < length self.old.names }
+        ensures ok { OnOk result (self.new ≡ with_output self.old node) }
+        ensures err { OnErr result (self.new ≡ self.old) }
+    {
+        let Ok(_) = self.outputs.insert(node) else {
+            return Err(Memory);
+        };
+        Ok(())
+    }
+
+    /// The node with this name, by its bytes.
+    pub fn find(&self, name: &[u8]) -> Option<u32>
+        ensures found { result ≡ node_named self.now name.now }
+        ensures circuit { IsCircuit self.now }
+    {
+        let index = self.names.get_index_of(name)?;
+        Some(index as u32)
+    }
+
+    /// A node's name.
+    pub fn name(&self, node: u32) -> &[u8]
+        requires { node < length self.now.names }
+        ensures name { slice_get self.now.names node ≡ Some result.now }
+        ensures circuit { IsCircuit self.now }
+    {
+        self.names.as_slice()[node as usize].as_slice()
+    }
+
+    /// The number of inputs.
+    pub fn inputs(&self) -> u32
+        ensures inputs { result ≡ self.now.inputs }
+        ensures circuit { IsCircuit self.now }
+    {
+        self.inputs
+    }
+
+    /// The number of nodes.
+    pub fn nodes(&self) -> u32
+        ensures nodes { result ≡ length self.now.names }
+        ensures circuit { IsCircuit self.now }
+    {
+        self.names.len() as u32
+    }
+
+    /// The number of variables of the complete network: nodes and pins. It counts nothing, and takes no longer for a
+    /// large circuit.
+    pub fn variables(&self) -> u32
+        ensures variables { result ≡ variable_count self.now }
+        ensures circuit { IsCircuit self.now }
+    {
+        self.names.len() as u32 + self.pins
+    }
+
+    /// The kind of a gate.
+    pub fn kind(&self, gate: u32) -> Kind
+        requires { IsGateNumber self.now gate }
+        ensures kind { result ≡ (gate_at self.now gate).kind }
+        ensures circuit { IsCircuit self.now }
+    {
+        self.gates[(gate - self.inputs) as usize].kind()
+    }
+
+    /// The nodes that a gate's pins read, in the order of the pins.
+    pub fn sources(&self, gate: u32) -> &[u32]
+        requires { IsGateNumber self.now gate }
+        ensures sources { result.now ≡ (gate_at self.now gate).sources }
+        ensures circuit { IsCircuit self.now }
+    {
+        self.gates[(gate - self.inputs) as usize].sources()
+    }
+
+    /// The outputs, in the order in which they were first added.
+    pub fn outputs(&self) -> &[u32]
+        ensures outputs { result.now ≡ self.now.outputs }
+        ensures circuit { IsCircuit self.now }
+    {
+        self.outputs.as_slice()
+    }
+
+    /// Whether each gate has a pin. Then each has as many as its kind takes.
+    pub fn whole(&self) -> bool
+        ensures whole { IsTrue result ↔ IsWhole self.now }
+        ensures circuit { IsCircuit self.now }
+    {
+        every_gate_has_pins(self.gates.as_slice())
+    }
+}
+
+// Whether each gate has a pin.
+fn every_gate_has_pins(gates: &[GateEntry]) -> bool
+    ensures { IsTrue result ↔ All (λ gate. 1 ≤ length gate.sources) gates.now }
+{
+    gates.iter().all(|gate| gate.has_pins())
+}
+
+#[cfg(test)]
+mod tests {
+    use super::*;
+    use std::test::Fail;
+
+    // Two NOR gates that read each other.
+    fn latch(alloc: Global) -> Result<Circuit, Memory> {
+        let mut circuit = Circuit::new(alloc);
+        let set = circuit.add_input(b"S")?;
+        let reset = circuit.add_input(b"R")?;
+        let upper = circuit.add_gate(b"Q", Kind::Nor)?;
+        let lower = circuit.add_gate(b"Q_", Kind::Nor)?;
+        circuit.connect(upper, reset)?;
+        circuit.connect(upper, lower)?;
+        circuit.connect(lower, set)?;
+        circuit.connect(lower, upper)?;
+        circuit.add_output(lower)?;
+        circuit.add_output(upper)?;
+        circuit.add_output(lower)?;
+        Ok(circuit)
+    }
+
+    #[test]
+    fn latch_is_seen_as_built(rt: HostRuntime) -> Result<(), Fail> {
+        let circuit = latch(rt.alloc())?;
+        assert_eq!(rt; circuit.inputs(), 2);
+        assert_eq!(rt; circuit.nodes(), 4);
+        assert_eq!(rt; circuit.variables(), 8);
+        let rows: [(&[u8], u32); 4] = [(b"S", 0), (b"R", 1), (b"Q", 2), (b"Q_", 3)];
+        for (name, node) in rows {
+            assert_eq!(rt; circuit.find(name), Some(node));
+        }
+        assert_eq!(rt; circuit.find(b"q"), None);
+        assert_eq!(rt; circuit.name(3), b"Q_".as_slice());
+        assert_eq!(rt; circuit.kind(2), Kind::Nor);
+        assert_eq!(rt; circuit.kind(3), Kind::Nor);
+        assert_eq!(rt; circuit.sources(2), [1, 3].as_slice());
+        assert_eq!(rt; circuit.sources(3), [0, 2].as_slice());
+        assert_eq!(rt; circuit.outputs(), [3, 2].as_slice());
+        assert!(rt; circuit.whole());
+        Ok(())
+    }
+}
