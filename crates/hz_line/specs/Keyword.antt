@@ -1,7 +1,7 @@
 -- Keywords, read in any letter case.
-use Rattle.std.specs.Prelude.{◌≡◌, ℕ, List, map}
-use Rattle.std.specs.Char.{to_ascii_lowercase}
+use Rattle.std.specs.Prelude.{ℕ, Bool, List}
+use Rattle.std.specs.Str.{str_eq_ignore_ascii_case}
 
 -- the word is the keyword but for the case of its letters
-abbrev pub SpellsKeyword : List ℕ → List ℕ → Type 0
-SpellsKeyword word keyword = map to_ascii_lowercase word ≡ map to_ascii_lowercase keyword
+abbrev pub is_keyword : List ℕ → List ℕ → Bool
+is_keyword word keyword = str_eq_ignore_ascii_case word keyword
