@@ -1,13 +1,9 @@
-// A library with one function.
+//! Scripts: a start and changes of the inputs of a circuit, read from a text and printed.
 #![tactic(auto)]
 
-ghost use Rattle.std.specs.Prelude.{◌≡◌};
-ghost use Rattle.hz_text.specs.Echo.{echo_of};
+mod fault;
+mod keyword;
+mod script;
 
-// The `ensures` clause is the contract: what `echo` returns is `echo_of` of its argument, a definition
-// in `specs/Echo.antt`, which a caller's clause can cite too.
-pub fn echo(x: usize) -> usize
-    ensures { result ≡ echo_of x }
-{
-    x
-}
+pub use fault::TextFault;
+pub use script::{MAX_CHANGES, Script};
