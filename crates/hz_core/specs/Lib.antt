@@ -1,5 +1,6 @@
 pub mod Ternary
 pub mod Gate
 pub mod Extension
+pub mod Kleene
 pub mod Netlist
 pub mod Inside

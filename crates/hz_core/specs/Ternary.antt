@@ -35,6 +35,25 @@ join_of Unknown Zero = Unknown
 join_of Unknown One = Unknown
 join_of Unknown Unknown = Unknown
 
+-- whether a value lies below another or is equal to it: every bit that refines the first refines the second
+abbrev pub is_below : Tri → Tri → Bool
+is_below Zero Zero = true
+is_below Zero One = false
+is_below Zero Unknown = true
+is_below One Zero = false
+is_below One One = true
+is_below One Unknown = true
+is_below Unknown Zero = false
+is_below Unknown One = false
+is_below Unknown Unknown = true
+
+-- two lists of values where each value of the first lies below the value at its place or is equal to it
+abbrev pub AllBelow : List Tri → List Tri → Type 0
+AllBelow [] [] = Unit {0}
+AllBelow [] (large ∷ larger) = ⊥
+AllBelow (small ∷ smaller) [] = ⊥
+AllBelow (small ∷ smaller) (large ∷ larger) = IsTrue (is_below small large) × AllBelow smaller larger
+
 -- a list of bits refines a list of values where each bit refines the value at its place
 abbrev pub Refines : List Bool → List Tri → Type 0
 Refines [] [] = Unit {0}

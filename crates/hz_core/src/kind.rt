@@ -1,5 +1,10 @@
 ghost use Rattle.std.specs.Prelude.{◌≡◌, IsTrue, length};
-ghost use Rattle.hz_core.specs.Gate.{takes, gate_value};
+ghost use Rattle.std.specs.List.{fold};
+ghost use Rattle.hz_core.specs.Gate.{takes, gate_value, every_pin, some_pin, odd_pins};
+ghost use Rattle.hz_core.specs.Extension.{extension, IsExtension};
+ghost use Rattle.hz_core.specs.Kleene.{and_of, or_of, xor_of};
+
+use crate::tri::Tri;
 
 /// The most pins of a gate.
 pub const MAX_PINS: usize = 256;
@@ -24,7 +29,7 @@ impl Kind {
     {
         match self {
             Kind::Not | Kind::Buff => pins == 1,
-            _ => 1 <= pins && pins <= MAX_PINS,
+            _ => (1..=MAX_PINS).contains(&pins),
         }
     }
 
@@ -34,14 +39,82 @@ impl Kind {
         ensures { result ≡ gate_value self pins.now }
     {
         match self {
-            Kind::And => pins.iter().all(|pin| *pin),
-            Kind::Nand => !pins.iter().all(|pin| *pin),
-            Kind::Or => pins.iter().any(|pin| *pin),
-            Kind::Nor => !pins.iter().any(|pin| *pin),
-            Kind::Xor => pins.iter().filter(|pin| **pin).count() % 2 == 1,
-            Kind::Xnor => pins.iter().filter(|pin| **pin).count() % 2 == 0,
+            Kind::And => every(pins),
+            Kind::Nand => !every(pins),
+            Kind::Or => some(pins),
+            Kind::Nor => !some(pins),
+            Kind::Xor => odd(pins),
+            Kind::Xnor => !odd(pins),
             Kind::Not => !pins[0],
             Kind::Buff => pins[0],
         }
     }
+
+    /// The value of the ternary extension, the least that is above the gate's value on each list of
+    /// bits that the pins may have: X only where these values differ.
+    #[tactic(auto, using(crate::proofs::Extensions::joined))]
+    pub fn eval3(self, pins: &[Tri]) -> Tri
+        requires { IsTrue (takes self (length pins.now)) }
+        ensures value { result ≡ extension self pins.now }
+        ensures join { IsExtension self pins.now result }
+    {
+        self.extended(pins)
+    }
+
+    // By Kleene's connectives, pin by pin.
+    #[tactic(auto, using(crate::proofs::Kleene::kleene))]
+    fn extended(self, pins: &[Tri]) -> Tri
+        requires { IsTrue (takes self (length pins.now)) }
+        ensures { result ≡ extension self pins.now }
+    {
+        match self {
+            Kind::And => conjunction(pins),
+            Kind::Nand => conjunction(pins).complement(),
+            Kind::Or => disjunction(pins),
+            Kind::Nor => disjunction(pins).complement(),
+            Kind::Xor => parity(pins),
+            Kind::Xnor => parity(pins).complement(),
+            Kind::Not => pins[0].complement(),
+            Kind::Buff => pins[0],
+        }
+    }
 }
+
+fn every(pins: &[bool]) -> bool
+    ensures { result ≡ every_pin pins.now }
+{
+    pins.iter().all(|pin| *pin)
+}
+
+fn some(pins: &[bool]) -> bool
+    ensures { result ≡ some_pin pins.now }
+{
+    pins.iter().any(|pin| *pin)
+}
+
+fn odd(pins: &[bool]) -> bool
+    ensures { result ≡ odd_pins pins.now }
+{
+    pins.iter().filter(|pin| **pin).count() % 2 == 1
+}
+
+fn conjunction(pins: &[Tri]) -> Tri
+    ensures { result ≡ fold and_of Tri.One pins.now }
+{
+    pins.iter().fold(Tri::One, |value, pin| value.and(*pin))
+}
+
+fn disjunction(pins: &[Tri]) -> Tri
+    ensures { result ≡ fold or_of Tri.Zero pins.now }
+{
+    pins.iter().fold(Tri::Zero, |value, pin| value.or(*pin))
+}
+
+fn parity(pins: &[Tri]) -> Tri
+    ensures { result ≡ fold xor_of Tri.Zero pins.now }
+{
+    pins.iter().fold(Tri::Zero, |value, pin| value.xor(*pin))
+}
+
+#[cfg(test)]
+mod tests;

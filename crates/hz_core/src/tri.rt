@@ -1,5 +1,6 @@
 ghost use Rattle.std.specs.Prelude.{◌≡◌};
 ghost use Rattle.hz_core.specs.Ternary.{tri_of, known_bit, admits, join_of};
+ghost use Rattle.hz_core.specs.Kleene.{complement_of, and_of, or_of, xor_of};
 
 /// A ternary value: 0, 1 or X, which stands for "0 or 1, nobody knows which".
 #[derive(Clone, Copy, Debug, PartialEq, Eq, Hash)]
@@ -48,5 +49,72 @@ impl Tri {
             (Tri::One, Tri::One) => Tri::One,
             _ => Tri::Unknown,
         }
+    }
+
+    /// The other bit, or X.
+    pub(crate) fn complement(self) -> Tri
+        ensures { result ≡ complement_of self }
+    {
+        match self {
+            Tri::Zero => Tri::One,
+            Tri::One => Tri::Zero,
+            Tri::Unknown => Tri::Unknown,
+        }
+    }
+
+    /// Kleene's conjunction.
+    pub(crate) fn and(self, other: Tri) -> Tri
+        ensures { result ≡ and_of self other }
+    {
+        match (self, other) {
+            (Tri::Zero, _) => Tri::Zero,
+            (Tri::One, _) => other,
+            (Tri::Unknown, Tri::Zero) => Tri::Zero,
+            (Tri::Unknown, _) => Tri::Unknown,
+        }
+    }
+
+    /// Kleene's disjunction.
+    pub(crate) fn or(self, other: Tri) -> Tri
+        ensures { result ≡ or_of self other }
+    {
+        match (self, other) {
+            (Tri::One, _) => Tri::One,
+            (Tri::Zero, _) => other,
+            (Tri::Unknown, Tri::One) => Tri::One,
+            (Tri::Unknown, _) => Tri::Unknown,
+        }
+    }
+
+    /// The sum modulo 2 of known bits, else X.
+    pub(crate) fn xor(self, other: Tri) -> Tri
+        ensures { result ≡ xor_of self other }
+    {
+        match self {
+            Tri::Zero => other,
+            Tri::One => other.complement(),
+            Tri::Unknown => Tri::Unknown,
+        }
+    }
+}
+
+#[cfg(test)]
+mod tests {
+    use super::Tri;
+    use super::Tri::{One, Unknown, Zero};
+
+    #[test]
+    fn ternary_values_have_their_bits_and_joins(rt: HostRuntime) {
+        for (value, bit, zero, one) in [
+            (Zero, Some(false), true, false),
+            (One, Some(true), false, true),
+            (Unknown, None, true, true),
+        ] {
+            assert_eq!(rt; value.bit(), bit);
+            assert_eq!(rt; (value.admits(false), value.admits(true)), (zero, one));
+            assert_eq!(rt; (value.join(value), value.join(Unknown)), (value, Unknown));
+        }
+        assert_eq!(rt; (Zero.join(One), One.join(Zero)), (Unknown, Unknown));
+        assert_eq!(rt; (Tri::of(false), Tri::of(true)), (Zero, One));
     }
 }
