@@ -1,5 +1,5 @@
 -- The tokens of a line, from the front.
-use Rattle.std.proofs.Common.{IfSome, lit<, ◌≡◌, ◌∙◌, ℕ, ◌+◌, ◌<◌, List, [], ◌∷◌, ◌++◌, Bool, true, false, Option, Some, None, length, drop, get_or, cond, suc, refl, ap, arith}
+use Rattle.std.proofs.Common.{IfSome, lit<, ◌≡◌, ◌∙◌, ℕ, ◌+◌, ◌<◌, ◌≤◌, List, [], ◌∷◌, ◌++◌, Bool, true, false, Option, Some, None, length, drop, get_or, cond, suc, refl, ap, arith}
 use Rattle.std.specs.List.{prefix_len}
 use Rattle.std.specs.List.{take_while}
 use Rattle.std.proofs.lemmas.List.Sums.{take_while-cons}
@@ -102,3 +102,33 @@ tokens_with-AreWords byte Forbidden rest tokens e h = tt
 pub tokens_of-AreWords : (line : List ℕ) → IfSome (tokens_of line) AreWords
 tokens_of-AreWords [] = tt
 tokens_of-AreWords (byte ∷ rest) = tokens_with-AreWords byte (class_of byte) rest (tokens_of rest) refl (tokens_of-AreWords rest)
+
+with_token-length : (token : TokenOf) (tokens : Option (List TokenOf)) (n : ℕ) → IfSome tokens (λ all. length all ≤ n) → IfSome (with_token token tokens) (λ all. length all ≤ suc n)
+with_token-length token None n h = tt
+with_token-length token (Some tokens) n h = omega arith
+
+lengthen-length : (byte : ℕ) (tokens : Option (List TokenOf)) (n : ℕ) → IfSome tokens (λ all. length all ≤ n) → IfSome (lengthen byte tokens) (λ all. length all ≤ suc n)
+lengthen-length byte None n h = tt
+lengthen-length byte (Some []) n h = omega arith
+lengthen-length byte (Some (WordOf word ∷ tokens)) n h = omega arith
+lengthen-length byte (Some (MarkOf mark ∷ tokens)) n h = omega arith
+
+more-length : (tokens : Option (List TokenOf)) (n : ℕ) → IfSome tokens (λ all. length all ≤ n) → IfSome tokens (λ all. length all ≤ suc n)
+more-length None n h = tt
+more-length (Some tokens) n h = omega arith
+
+letter-length : (byte : ℕ) (more : Bool) (tokens : Option (List TokenOf)) (n : ℕ) → IfSome tokens (λ all. length all ≤ n) → IfSome (cond more (lengthen byte tokens) (with_token (WordOf (byte ∷ [])) tokens)) (λ all. length all ≤ suc n)
+letter-length byte true tokens n h = lengthen-length byte tokens n h
+letter-length byte false tokens n h = with_token-length (WordOf (byte ∷ [])) tokens n h
+
+tokens_with-length : (byte : ℕ) (class : Class) (rest : List ℕ) (tokens : Option (List TokenOf)) → IfSome tokens (λ all. length all ≤ length rest) → IfSome (tokens_with byte class rest tokens) (λ all. length all ≤ suc (length rest))
+tokens_with-length byte Blank rest tokens h = more-length tokens (length rest) h
+tokens_with-length byte Hash rest tokens h = omega arith
+tokens_with-length byte (Sign mark) rest tokens h = with_token-length (MarkOf mark) tokens (length rest) h
+tokens_with-length byte Letter rest tokens h = letter-length byte (begins_in_word rest) tokens (length rest) h
+tokens_with-length byte Forbidden rest tokens h = tt
+
+-- a line has no more tokens than bytes
+pub tokens_of-length : (line : List ℕ) → IfSome (tokens_of line) (λ tokens. length tokens ≤ length line)
+tokens_of-length [] = omega arith
+tokens_of-length (byte ∷ rest) = tokens_with-length byte (class_of byte) rest (tokens_of rest) (tokens_of-length rest)

@@ -1,8 +1,8 @@
 // Lines of a text.
 
-ghost use Rattle.std.specs.Prelude.{◌≡◌, ◌∷◌, position};
+ghost use Rattle.std.specs.Prelude.{◌≡◌, ◌+◌, ◌<◌, ◌≤◌, IfSome, ◌∷◌, length, position};
 ghost use Rattle.std.specs.Str.Lines.{strip_carriage_return};
-ghost use Rattle.hz_line.specs.Line.{is_line_feed, lines_of, lines_of_rest};
+ghost use Rattle.hz_line.specs.Line.{is_line_feed, lines_of, lines_of_rest, rest_length};
 
 /// A line, and what the text has after its line feed: nothing at the last line.
 #[derive(Clone, Copy, Debug)]
@@ -14,7 +14,8 @@ pub struct Cut<'a> {
 /// Cuts the first line off a text, in time linear in the line. A text that ends in a line feed has an
 /// empty line after it.
 pub fn cut_line<'a>(text: &'a [u8]) -> Cut<'a>
-    ensures { lines_of text.now ≡ result.line.now ∷ lines_of_rest result.rest }
+    ensures lines { lines_of text.now ≡ result.line.now ∷ lines_of_rest result.rest }
+    ensures within { length result.line.now + rest_length result.rest ≤ length text.now }
 {
     match first_line_feed(text) {
         Some(end) => Cut {
@@ -30,14 +31,16 @@ pub fn cut_line<'a>(text: &'a [u8]) -> Cut<'a>
 
 // The index of the first line feed.
 fn first_line_feed(text: &[u8]) -> Option<usize>
-    ensures { result ≡ position is_line_feed text.now }
+    ensures value { result ≡ position is_line_feed text.now }
+    ensures within { IfSome result (λ index. index < length text.now) }
 {
     text.iter().position(|byte| *byte == b'\n')
 }
 
 // The line without one carriage return at its end.
 fn strip_carriage_return(line: &[u8]) -> &[u8]
-    ensures { result.now ≡ strip_carriage_return line.now }
+    ensures value { result.now ≡ strip_carriage_return line.now }
+    ensures within { length result.now ≤ length line.now }
 {
     match line.last() {
         Some(b'\r') => &line[..line.len() - 1],
