@@ -1,6 +1,8 @@
 //! Scripts: a start and changes of the inputs of a circuit, read from a text and printed.
 #![tactic(auto)]
 
+mod assigned;
+mod entry;
 mod fault;
 mod keyword;
 mod script;
