@@ -60,3 +60,15 @@ PassesOn test (first ∷ later) line = ((first.line ≡ line) × (test first.sta
 -- the line of the first statement that passes the test, if one does
 abbrev pub first_line : {S : Type 0} → (S → Bool) → List (Numbered S) → Option ℕ
 first_line test statements = option_map (λ numbered. numbered.line) (find (λ numbered. test numbered.statement) statements)
+
+-- the first malformed line, where the line with this number means this, and later ones have this first one
+abbrev pub malformed_before : {S : Type 0} → ℕ → Meaning S → Option ℕ → Option ℕ
+malformed_before line Nothing later = later
+malformed_before line Malformed later = Some line
+malformed_before line (Means statement) later = later
+
+-- the number of the first malformed line, if there is one; the first of these lines has this number
+abbrev pub first_malformed : {S : Type 0} → (List TokenOf → Option S) → ℕ → List (List ℕ) → Option ℕ
+first_malformed grammar line [] = None
+first_malformed grammar line (first ∷ rest) =
+    malformed_before line (meaning_of grammar first) (first_malformed grammar (suc line) rest)

@@ -8,9 +8,10 @@ use Rattle.hz_text.specs.declared.keyword.Keyword.{Keyword}
 use Rattle.hz_text.specs.declared.assigned.Assigned.{Assigned}
 use Rattle.hz_text.specs.declared.assigned.Unread.{Unread}
 use Rattle.hz_text.specs.declared.assigned.Unread.TheVariants.{Form, Memory}
+use Rattle.hz_text.specs.declared.statement.Held.{Held}
 use Rattle.hz_text.specs.declared.entry.Entry.{Entry}
 use Rattle.hz_text.specs.Assignment.{Assignment, assignments_of, bit_of}
-use Rattle.hz_text.specs.Statement.{Statement}
+use Rattle.hz_text.specs.Statement.{Statement, statement_of}
 
 -- the node and the bit of an assignment
 abbrev pub assigned_of : Netlist → Assignment → Assigned
@@ -29,9 +30,17 @@ looked_of netlist statement = record { keyword = statement.keyword; assigned = m
 abbrev pub looked_up : Netlist → Numbered Statement → Numbered Looked
 looked_up netlist numbered = record { line = numbered.line; statement = looked_of netlist numbered.statement }
 
--- what an entry holds
-abbrev pub held_by : Entry → Numbered Looked
-held_by entry = record { line = entry.line; statement = record { keyword = entry.keyword; assigned = entry.assigned.items } }
+-- the statement of a token list by its nodes and bits, if it is one
+abbrev pub looked_by : Netlist → List TokenOf → Option Looked
+looked_by netlist tokens = option_map (looked_of netlist) (statement_of tokens)
+
+-- what a statement that was read holds
+abbrev pub held_by : Held → Looked
+held_by held = record { keyword = held.keyword; assigned = held.assigned.items }
+
+-- the same with its line
+abbrev pub entered : Entry → Numbered Looked
+entered entry = record { line = entry.line; statement = held_by entry.held }
 
 -- the nodes and bits of the assignments that tokens are
 abbrev pub assigned_by : Netlist → List TokenOf → Option (List Assigned)

@@ -6,6 +6,8 @@ mod entry;
 mod fault;
 mod keyword;
 mod script;
+mod statement;
 
+pub use entry::MAX_TEXT;
 pub use fault::TextFault;
 pub use script::{MAX_CHANGES, Script};
