@@ -5,6 +5,7 @@ mod assigned;
 mod entry;
 mod fault;
 mod keyword;
+mod passes;
 mod script;
 mod statement;
 
