@@ -1,5 +1,5 @@
 -- What the passes over a script's statements answer.
-use Rattle.std.specs.Prelude.{◌≡◌, ℕ, ◌<◌, Bool, not, nat_eq, List, [], ◌∷◌, map, All, position, slice_get, Option, Some, None, IfSome, if◌then◌else◌}
+use Rattle.std.specs.Prelude.{◌≡◌, ℕ, ◌<◌, Bool, true, not, nat_eq, List, [], ◌∷◌, map, All, position, slice_set, Option, Some, None, IfSome, if◌then◌else◌}
 use Rattle.std.specs.List.{filter_map, range_with_len}
 use Rattle.std.specs.Option.{option_map}
 use Rattle.hz_line.specs.Statement.{Numbered, first_line}
@@ -38,3 +38,8 @@ least_missing inputs (first ∷ later) = if is_start first.statement then least_
 abbrev pub first_out_of_order : List (Numbered Looked) → Option ℕ
 first_out_of_order [] = Some 0
 first_out_of_order (first ∷ later) = if is_start first.statement then first_line is_start later else Some first.line
+
+-- the list with the entry of this node, if there is one, made true
+abbrev pub marked : List Bool → Option ℕ → List Bool
+marked marks None = marks
+marked marks (Some node) = slice_set marks node true

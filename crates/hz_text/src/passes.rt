@@ -1,13 +1,13 @@
 // Passes over the statements of a script, one for each fault.
 
-ghost use Rattle.std.specs.Prelude.{◌≡◌, ◌<◌, ◌≤◌, All, length, map, Some, None, IfOk, slice_get, slice_index, EachIndex, not, nat_eq, is_none, position};
+ghost use Rattle.std.specs.Prelude.{◌≡◌, ◌<◌, ◌≤◌, All, length, map, Some, None, IfOk, IfSome, vec_len, slice_get, slice_index, EachIndex, not, nat_eq, is_none, position};
 ghost use Rattle.std.specs.List.{range_with_len, list_any};
 ghost use Rattle.std.specs.Option.{option_map};
 ghost use Rattle.hz_line.specs.Statement.{first_line};
 ghost use Rattle.hz_text.specs.Assignment.{has_repeat};
 ghost use Rattle.hz_text.specs.Lookup.{held_by};
 ghost use Rattle.hz_text.specs.ScriptFault.{is_unknown, has_unknown, has_no_bit, is_start, assigns};
-ghost use Rattle.hz_text.specs.Pass.{entered_all, has_node_twice, nodes_of, AreBelow, least_unassigned, least_missing, first_out_of_order};
+ghost use Rattle.hz_text.specs.Pass.{entered_all, has_node_twice, nodes_of, marked, AreBelow, least_unassigned, least_missing, first_out_of_order};
 
 use crate::assigned::Assigned;
 use crate::entry::Entry;
@@ -132,26 +132,35 @@ fn least_unassigned(alloc: Global, all: &[Assigned], inputs: u32) -> Result<Opti
 }
 
 fn first_unlisted(listed: &[bool]) -> Option<usize>
-    ensures { result ≡ position not listed.now }
+    ensures first { result ≡ position not listed.now }
+    ensures within { IfSome result (λ node. node < length listed.now) }
 {
     listed.iter().position(|listed| !*listed)
 }
 
 // For each input, whether it is assigned.
 fn listed_inputs(alloc: Global, all: &[Assigned], inputs: u32) -> Result<Vec<bool>, Memory>
-    ensures { IfOk result (λ listed. listed.items ≡ map (assigns all.now) (range_with_len 0 inputs)) }
+    ensures listed { IfOk result (λ listed. listed.items ≡ map (assigns all.now) (range_with_len 0 inputs)) }
+    ensures len { IfOk result (λ listed. vec_len listed ≡ inputs) }
 {
     let Ok(mut listed) = vec![in alloc; false; inputs as usize] else {
         return Err(Memory);
     };
     for assigned in all {
-        if let Some(node) = assigned.node
-            && (node as usize) < listed.len()
-        {
-            listed[node as usize] = true;
-        }
+        mark(listed.as_mut_slice(), assigned.node);
     }
     Ok(listed)
+}
+
+// Marks a node, if there is one among those of the list.
+fn mark(marks: &mut [bool], node: Option<u32>)
+    ensures { marks.new ≡ marked marks.old node }
+{
+    let Some(node) = node else { return };
+    let node = node as usize;
+    if node < marks.len() {
+        marks[node] = true;
+    }
 }
 
 // The line of the first statement that assigns a node twice.
