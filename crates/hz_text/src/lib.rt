@@ -2,6 +2,8 @@
 #![tactic(auto)]
 
 mod assigned;
+mod build;
+mod check;
 mod entry;
 mod fault;
 mod keyword;

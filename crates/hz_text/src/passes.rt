@@ -1,13 +1,12 @@
 // Passes over the statements of a script, one for each fault.
 
-ghost use Rattle.std.specs.Prelude.{◌≡◌, ◌<◌, ◌≤◌, All, length, map, Some, None, IfOk, IfSome, vec_len, slice_get, slice_index, EachIndex, not, nat_eq, is_none, position};
+ghost use Rattle.std.specs.Prelude.{◌≡◌, ◌<◌, ◌≤◌, All, length, map, Some, None, IfOk, IfSome, vec_len, slice_index, EachIndex, not, nat_eq, is_none, position};
 ghost use Rattle.std.specs.List.{range_with_len, list_any};
-ghost use Rattle.std.specs.Option.{option_map};
 ghost use Rattle.hz_line.specs.Statement.{first_line};
 ghost use Rattle.hz_text.specs.Assignment.{has_repeat};
 ghost use Rattle.hz_text.specs.Lookup.{held_by};
 ghost use Rattle.hz_text.specs.ScriptFault.{is_unknown, has_unknown, has_no_bit, is_start, assigns};
-ghost use Rattle.hz_text.specs.Pass.{entered_all, has_node_twice, nodes_of, marked, AreBelow, least_unassigned, least_missing, first_out_of_order};
+ghost use Rattle.hz_text.specs.Pass.{entered_all, has_node_twice, nodes_of, marked, AreBelow, least_unassigned, least_missing, first_out_of_order, last_beyond};
 
 use crate::assigned::Assigned;
 use crate::entry::Entry;
@@ -101,7 +100,7 @@ fn first_start(entries: &[Entry]) -> Option<u32>
 
 // The line of the change past the most, where the first statement alone is no change.
 pub(crate) fn line_beyond(entries: &[Entry]) -> Option<u32>
-    ensures { result ≡ option_map (λ numbered. numbered.line) (slice_get (entered_all entries.now) 10001) }
+    ensures { result ≡ last_beyond (entered_all entries.now) }
 {
     let entry = entries.get(MAX_CHANGES + 1)?;
     Some(entry.line)
