@@ -1,3 +1,4 @@
 pub mod PieceLemmas
 pub mod ScriptLemmas
 pub mod NodeLemmas
+pub mod BuildLemmas

@@ -17,6 +17,10 @@ bit_at (first ∷ later) node = if is_node node first.node then first.bit else b
 abbrev pub assignment_to : ℕ × Bool → Assigned
 assignment_to pair = record { node = Some pair.0; bit = Some pair.1 }
 
+-- for each of so many nodes, the bit that is assigned to it
+abbrev pub bits_at : List (ℕ × Bool) → ℕ → List (Option Bool)
+bits_at pairs nodes = map (bit_at (map assignment_to pairs)) (range_with_len 0 nodes)
+
 -- the script of a start and changes: at each node the start's bit, and the assignments of each change in their order
 pub record IsScriptBy (nodes : ℕ) (first : Looked) (later : List (Numbered Looked)) (script : ScriptOf) : Type 0 where
   pub start : script.start ≡ map (bit_at first.assigned) (range_with_len 0 nodes)

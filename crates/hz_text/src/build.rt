@@ -1,11 +1,11 @@
 // The script of statements without a fault.
 
-ghost use Rattle.std.specs.Prelude.{◌≡◌, ◌<◌, ◌≤◌, ◌∷◌, [], length, replicate, map, All, None, IfOk, OnOk, nat_eq, false};
-ghost use Rattle.std.specs.List.{filter_map, range_with_len};
-ghost use Rattle.hz_text.specs.Assignment.{has_repeat};
+ghost use Rattle.std.specs.Prelude.{◌≡◌, ◌<◌, ◌≤◌, ◌∷◌, ◌++◌, [], length, replicate, map, All, None, IfOk, OnOk, option_to_list};
+ghost use Rattle.std.specs.List.{filter_map};
 ghost use Rattle.hz_text.specs.Lookup.{held_by};
-ghost use Rattle.hz_text.specs.Pass.{entered_all, IsPair, IsSound, pair_of, has_node_twice, nodes_of};
-ghost use Rattle.hz_text.specs.ScriptText.{bit_at, assignment_to, IsScriptOf};
+ghost use Rattle.hz_text.specs.Pass.{entered_all, IsSound, pair_of};
+ghost use Rattle.hz_text.specs.ScriptValue.{IsChange};
+ghost use Rattle.hz_text.specs.ScriptText.{bits_at, assignment_to, IsScriptOf};
 
 use crate::assigned::Assigned;
 use crate::entry::Entry;
@@ -24,28 +24,27 @@ pub(crate) fn build(alloc: Global, nodes: u32, entries: &[Entry]) -> Result<Scri
     let [first, later @ ..] = entries else {
         return Ok(script);
     };
-    list_all(&mut script, first.held.assigned.as_slice());
-    add_changes(alloc, &mut script, later)?;
+    let mut pairs = Vec::new(alloc);
+    read_pairs(first.held.assigned.as_slice(), &mut pairs)?;
+    list_all(&mut script, pairs.as_slice());
+    add_changes(&mut script, later, &mut pairs)?;
     Ok(script)
 }
 
-// Lists what a start assigns.
-fn list_all(script: &mut Script, all: &[Assigned])
+// Lists nodes with their bits.
+fn list_all(script: &mut Script, pairs: &[(u32, bool)])
     requires none { script.old.start ≡ replicate (length script.old.start) None }
-    requires pairs { All (IsPair (length script.old.start)) all.now }
-    requires fresh { has_repeat nat_eq (nodes_of all.now) ≡ false }
-    ensures start { script.new.start ≡ map (bit_at all.now) (range_with_len 0 (length script.old.start)) }
+    requires change { IsChange (length script.old.start) pairs.now }
+    ensures start { script.new.start ≡ bits_at pairs.now (length script.old.start) }
     ensures changes { script.new.changes ≡ script.old.changes }
 {
-    for assigned in all {
-        if let (Some(node), Some(bit)) = (assigned.node, assigned.bit) {
-            script.list(node, bit);
-        }
+    for (node, bit) in pairs {
+        script.list(*node, *bit);
     }
 }
 
 // Adds a change for each of these statements.
-fn add_changes(alloc: Global, script: &mut Script, entries: &[Entry]) -> Result<(), Memory>
+fn add_changes(script: &mut Script, entries: &[Entry], pairs: &mut Vec<(u32, bool)>) -> Result<(), Memory>
     requires none { script.old.changes ≡ [] }
     requires few { length entries.now ≤ 10000 }
     requires sound { All (λ entry. IsSound (length script.old.start) (held_by entry.held)) entries.now }
@@ -53,9 +52,8 @@ fn add_changes(alloc: Global, script: &mut Script, entries: &[Entry]) -> Result<
     ensures changes { OnOk result
         (map (map assignment_to) script.new.changes ≡ map (λ numbered. numbered.statement.assigned) (entered_all entries.now)) }
 {
-    let mut pairs = Vec::new(alloc);
     for entry in entries {
-        read_pairs(entry.held.assigned.as_slice(), &mut pairs)?;
+        read_pairs(entry.held.assigned.as_slice(), pairs)?;
         script.add_change(pairs.as_slice())?;
     }
     Ok(())
@@ -67,11 +65,20 @@ fn read_pairs(all: &[Assigned], pairs: &mut Vec<(u32, bool)>) -> Result<(), Memo
 {
     pairs.clear();
     for assigned in all {
-        if let (Some(node), Some(bit)) = (assigned.node, assigned.bit) {
-            let Ok(_) = pairs.push((node, bit)) else {
-                return Err(Memory);
-            };
-        }
+        push_pair(pairs, assigned)?;
     }
+    Ok(())
+}
+
+// Adds the node and the bit of an assignment that has both.
+fn push_pair(pairs: &mut Vec<(u32, bool)>, assigned: &Assigned) -> Result<(), Memory>
+    ensures { OnOk result (pairs.new.items ≡ pairs.old.items ++ option_to_list (pair_of assigned.now)) }
+{
+    let (Some(node), Some(bit)) = (assigned.node, assigned.bit) else {
+        return Ok(());
+    };
+    let Ok(_) = pairs.push((node, bit)) else {
+        return Err(Memory);
+    };
     Ok(())
 }

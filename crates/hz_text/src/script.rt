@@ -61,7 +61,7 @@ impl Script {
     /// Adds a change after the last one: numbers of inputs with their bits, in any order.
     pub fn add_change(&mut self, change: &[(u32, bool)]) -> Result<(), Memory>
         requires change { IsChange (length self.old.start) change.now }
-        requires few { length self.old.changes < MAX_CHANGES }
+        requires few { length self.old.changes < 10000 }
         ensures ok { OnOk result (self.new ≡ record self.old { changes = self.old.changes ++ change.now ∷ [] }) }
         ensures err { OnErr result (self.new ≡ self.old) }
     {
