@@ -24,7 +24,7 @@ pub numbered_from-Ascends : {S : Type 0} (grammar : List TokenOf → Option S) (
 numbered_from-Ascends grammar line [] = tt
 numbered_from-Ascends grammar line (first ∷ rest) = with_meaning-Ascends line (meaning_of grammar first) _ (numbered_from-Ascends grammar (suc line) rest)
 
-PassesOn-above : {S : Type 0} (test : S → Bool) (statements : List (Numbered S)) (low line : ℕ) → Ascends low statements → PassesOn test statements line → low ≤ line
+pub PassesOn-above : {S : Type 0} (test : S → Bool) (statements : List (Numbered S)) (low line : ℕ) → Ascends low statements → PassesOn test statements line → low ≤ line
 PassesOn-above test [] low line h p = absurd p
 PassesOn-above test (first ∷ later) low line h (inl p) = omega (arith, h.0, p.0)
 PassesOn-above test (first ∷ later) low line h (inr p) = omega (arith, h.0, PassesOn-above test later (suc first.line) line h.1 p)

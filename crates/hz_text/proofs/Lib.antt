@@ -2,3 +2,4 @@ pub mod PieceLemmas
 pub mod ScriptLemmas
 pub mod NodeLemmas
 pub mod BuildLemmas
+pub mod FaultLaws

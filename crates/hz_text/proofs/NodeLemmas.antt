@@ -36,7 +36,7 @@ marks_of all nodes = map (assigns all) (range_with_len 0 nodes)
 pub length-marks : (all : List Assigned) (nodes : ℕ) → length (marks_of all nodes) ≡ nodes
 length-marks all nodes = length-map (range_with_len 0 nodes) (assigns all) ∙ length-range_with_len 0 nodes
 
-get_or-marks : (all : List Assigned) (nodes i : ℕ) (d : Bool) → i < nodes → get_or (marks_of all nodes) i d ≡ assigns all i
+pub get_or-marks : (all : List Assigned) (nodes i : ℕ) (d : Bool) → i < nodes → get_or (marks_of all nodes) i d ≡ assigns all i
 get_or-marks all nodes i d h = get_or-map-range_with_len (assigns all) 0 nodes i i d h (zero-add i)
 
 pub marks_of-none : (nodes : ℕ) → replicate nodes false ≡ marks_of [] nodes
