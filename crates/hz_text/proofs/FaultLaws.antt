@@ -177,14 +177,14 @@ unassigned-Some inputs all node e =
     }
   where
     by_place : {node : ℕ} → (other : ℕ) → (other < node) ⊎ (node ≤ other) → assigns all other ≡ false → (other < node → assigns all other ≡ true) → node ≤ other
-    by_place other (inl less) unset yes = let wrong : true ≡ false = sym (yes less) ∙ unset in cc
-    by_place other (inr more) unset yes = more
+    by_place other (inl less) unset seen = let wrong : true ≡ false = sym (seen less) ∙ unset in cc
+    by_place other (inr more) unset seen = more
 
 before_position : {X : Type 0} (test : X → Bool) (xs : List X) (k : ℕ) (d : X) → k < position_or_len test xs → test (get_or xs k d) ≡ false
 before_position test [] k d l = absurd (omega arith)
 before_position test (x ∷ xs) k d l = by_test (test x) k refl l (λ j. before_position test xs j d)
   where
-    by_test : (b : Bool) (k : ℕ) → test x ≡ b → k < cond b 0 (1 + position_or_len test xs) → ((j : ℕ) → j < position_or_len test xs → test (get_or xs j d) ≡ false) → test (get_or (x ∷ xs) k d) ≡ false
+    by_test : (b : Bool) (k : ℕ) → test x ≡ b → k < cond (not b) (1 + position_or_len test xs) 0 → ((j : ℕ) → j < position_or_len test xs → test (get_or xs j d) ≡ false) → test (get_or (x ∷ xs) k d) ≡ false
     by_test true k e l ih = absurd (omega arith)
     by_test false zero e l ih = e
     by_test false (suc k) e l ih = ih k (omega (arith, l))
@@ -196,7 +196,7 @@ position-None test xs k d e l = by_test (ltb (position_or_len test xs) (length x
     by_test true t w = cc
     by_test false t w = before_position test xs k d (omega (arith, l, ltb-false _ _ t))
 
-unassigned-None : (inputs : ℕ) (all : List Assigned) → least_unassigned inputs all ≡ None → (node : ℕ) → node < inputs → assigns all node ≡ true
+pub unassigned-None : (inputs : ℕ) (all : List Assigned) → least_unassigned inputs all ≡ None → (node : ℕ) → node < inputs → assigns all node ≡ true
 unassigned-None inputs all e node l =
     sym (get_or-marks all inputs node false l) ∙ not-false _ (position-None not (marks_of all inputs) node false e (omega (arith, l, length-marks all inputs)))
 
@@ -246,7 +246,7 @@ abbrev pub IsOrdered : List (Numbered Looked) → Type 0
 IsOrdered [] = ⊥
 IsOrdered (first ∷ later) = (is_start first.statement ≡ true) × (first_line is_start later ≡ None)
 
-order-None : (statements : List (Numbered Looked)) → first_out_of_order statements ≡ None → IsOrdered statements
+pub order-None : (statements : List (Numbered Looked)) → first_out_of_order statements ≡ None → IsOrdered statements
 order-None [] e = cc
 order-None (first ∷ later) e = by_test (is_start first.statement) refl e
   where
@@ -284,3 +284,98 @@ outcome-beyond netlist text None no0 no1 no2 no3 no4 no5 e =
     faultless netlist text no0 no1 no2 no3 no4 no5 (λ line p. none-some line (sym e ∙ p))
 outcome-beyond netlist text (Some line) no0 no1 no2 no3 no4 no5 e =
     record { stands = e; first = toomany-first netlist text line no0 no1 no2 no3 no4 no5 (λ other p. omega (arith, same_Some line other (sym e ∙ p))) }
+
+-- names of nodes are equal where the nodes are
+name-eq : (netlist : Netlist) (a b : List ℕ) (i j : ℕ) → node_named netlist a ≡ Some i → node_named netlist b ≡ Some j → nat_eq i j ≡ bytes_eq a b
+name-eq netlist a b i j ea eb =
+    let at = λ (name : List ℕ) (k : ℕ) (e : node_named netlist name ≡ Some k). (bytes_eq-Decides name (get_or netlist.names k [])).0 (position-Some (bytes_eq name) netlist.names k [] e).1 in
+    by_test (bytes_eq a b) refl (at a i ea) (at b j eb)
+  where
+    other : (t : Bool) → nat_eq i j ≡ t → bytes_eq a b ≡ false → a ≡ get_or netlist.names i [] → b ≡ get_or netlist.names j [] → t ≡ false
+    other false t e na nb = refl
+    other true t e na nb =
+      let nodes : i ≡ j = grind (arith, nat_tests, t) in
+      let same : a ≡ b = na ∙ ap (λ k. get_or netlist.names k []) nodes ∙ sym nb in
+      let wrong : true ≡ false = sym ((bytes_eq-Decides a b).1 same) ∙ e in cc
+    by_test : (r : Bool) → bytes_eq a b ≡ r → a ≡ get_or netlist.names i [] → b ≡ get_or netlist.names j [] → nat_eq i j ≡ r
+    by_test true e na nb =
+      let same : a ≡ b = (bytes_eq-Decides a b).0 e in
+      let nodes : i ≡ j = same_Some i j (sym ea ∙ ap (node_named netlist) same ∙ eb) in
+      grind (arith, nat_tests, nodes)
+    by_test false e na nb = other (nat_eq i j) refl e na nb
+
+-- a name that is not unknown is a node's
+pub known : (inputs : ℕ) (keyword : Keyword) (node : Option ℕ) → is_unknown inputs keyword node ≡ false → (k : ℕ) × (node ≡ Some k)
+known inputs Start None e = cc
+known inputs Start (Some node) e = (node, refl)
+known inputs Change None e = cc
+known inputs Change (Some node) e = (node, refl)
+
+pub or_parts : (a b : Bool) → (a || b) ≡ false → (a ≡ false) × (b ≡ false)
+or_parts true b h = cc
+or_parts false b h = (refl, h)
+
+-- no name of these is unknown
+abbrev pub AllKnown : Netlist → Keyword → List Assignment → Type 0
+AllKnown netlist keyword assignments = list_any (λ assigned. is_unknown netlist.inputs keyword assigned.node) (map (assigned_of netlist) assignments) ≡ false
+
+any-names : (netlist : Netlist) (keyword : Keyword) (name : List ℕ) (node : ℕ) (assignments : List Assignment) → node_named netlist name ≡ Some node → AllKnown netlist keyword assignments → list_any (nat_eq node) (nodes_of (map (assigned_of netlist) assignments)) ≡ list_any (bytes_eq name) (map (λ assignment. assignment.name) assignments)
+any-names netlist keyword name node [] e h = refl
+any-names netlist keyword name node (first ∷ later) e h =
+    let parts = or_parts (is_unknown netlist.inputs keyword (node_named netlist first.name)) _ h in
+    step (known netlist.inputs keyword (node_named netlist first.name) parts.0) (any-names netlist keyword name node later e parts.1)
+  where
+    step : (k : ℕ) × (node_named netlist first.name ≡ Some k) → list_any (nat_eq node) (nodes_of (map (assigned_of netlist) later)) ≡ list_any (bytes_eq name) (map (λ assignment. assignment.name) later) → list_any (nat_eq node) (nodes_of (map (assigned_of netlist) (first ∷ later))) ≡ list_any (bytes_eq name) (map (λ assignment. assignment.name) (first ∷ later))
+    step (k, is) ih = rw is (ap (λ b. b || list_any (nat_eq node) (nodes_of (map (assigned_of netlist) later))) (name-eq netlist name first.name node k e is) ∙ ap (λ b. bytes_eq name first.name || b) ih)
+
+twice-names : (netlist : Netlist) (keyword : Keyword) (assignments : List Assignment) → AllKnown netlist keyword assignments → has_repeat nat_eq (nodes_of (map (assigned_of netlist) assignments)) ≡ has_repeat bytes_eq (map (λ assignment. assignment.name) assignments)
+twice-names netlist keyword [] h = refl
+twice-names netlist keyword (first ∷ later) h =
+    let parts = or_parts (is_unknown netlist.inputs keyword (node_named netlist first.name)) _ h in
+    step parts.1 (known netlist.inputs keyword (node_named netlist first.name) parts.0) (twice-names netlist keyword later parts.1)
+  where
+    step : AllKnown netlist keyword later → (k : ℕ) × (node_named netlist first.name ≡ Some k) → has_repeat nat_eq (nodes_of (map (assigned_of netlist) later)) ≡ has_repeat bytes_eq (map (λ assignment. assignment.name) later) → has_repeat nat_eq (nodes_of (map (assigned_of netlist) (first ∷ later))) ≡ has_repeat bytes_eq (map (λ assignment. assignment.name) (first ∷ later))
+    step rest (k, is) ih = rw is (ap (λ b. b || has_repeat nat_eq (nodes_of (map (assigned_of netlist) later))) (any-names netlist keyword first.name k later is rest) ∙ ap (λ b. list_any (bytes_eq first.name) (map (λ assignment. assignment.name) later) || b) ih)
+
+pub first_line-cons : {S : Type 0} (test : S → Bool) (first : Numbered S) (later : List (Numbered S)) → first_line test (first ∷ later) ≡ cond (test first.statement) (Some first.line) (first_line test later)
+first_line-cons test first later = by_test (test first.statement) refl
+  where
+    by_test : (b : Bool) → test first.statement ≡ b → first_line test (first ∷ later) ≡ cond b (Some first.line) (first_line test later)
+    by_test true t = rw t refl
+    by_test false t = rw t refl
+
+twice-line : (netlist : Netlist) (statements : List (Numbered Statement)) → first_line (has_unknown netlist.inputs) (map (looked_up netlist) statements) ≡ None → first_line has_node_twice (map (looked_up netlist) statements) ≡ first_line has_twice statements
+twice-line netlist [] e = refl
+twice-line netlist (first ∷ later) e =
+    by_test (has_unknown netlist.inputs (looked_of netlist first.statement)) refl (sym (first_line-cons (has_unknown netlist.inputs) (looked_up netlist first) (map (looked_up netlist) later)) ∙ e) (twice-line netlist later)
+  where
+    by_test : (b : Bool) → has_unknown netlist.inputs (looked_of netlist first.statement) ≡ b → cond b (Some first.line) (first_line (has_unknown netlist.inputs) (map (looked_up netlist) later)) ≡ None → (first_line (has_unknown netlist.inputs) (map (looked_up netlist) later) ≡ None → first_line has_node_twice (map (looked_up netlist) later) ≡ first_line has_twice later) → first_line has_node_twice (map (looked_up netlist) (first ∷ later)) ≡ first_line has_twice (first ∷ later)
+    by_test true t w ih = cc
+    by_test false t w ih =
+      first_line-cons has_node_twice (looked_up netlist first) (map (looked_up netlist) later)
+      ∙ ap (λ b. cond b (Some first.line) (first_line has_node_twice (map (looked_up netlist) later))) (twice-names netlist first.statement.keyword first.statement.assignments t)
+      ∙ ap (λ rest. cond (has_twice first.statement) (Some first.line) rest) (ih w)
+      ∙ sym (first_line-cons has_twice first later)
+
+-- what the passes answer over the statements of a text without a malformed line
+pub first_fault-outcome : (netlist : Netlist) (text : List ℕ) → NoneOf netlist text Form → Outcome netlist text (first_fault netlist.inputs (looked_statements netlist text))
+first_fault-outcome netlist text no0 =
+    let looked = looked_statements netlist text in
+    outcome-unknown netlist text (first_line (has_unknown netlist.inputs) looked) _ no0 refl
+    (λ unknown.
+      let no1 : NoneOf netlist text Unknown = first_line-None (has_unknown netlist.inputs) looked unknown in
+      let same = twice-line netlist (statements_of text) unknown in
+      rw same (outcome-twice netlist text (first_line has_twice (statements_of text)) _ no0 no1 refl
+      (λ twice.
+        let no2 : NoneOf netlist text Twice = first_line-None has_twice (statements_of text) twice in
+        outcome-missing netlist text (least_missing netlist.inputs looked) _ no0 no1 no2 refl
+        (λ missing.
+          let no3 : NoneOf netlist text Missing = missing-None netlist.inputs looked missing in
+          outcome-bit netlist text (first_line has_no_bit looked) _ no0 no1 no2 no3 refl
+          (λ bit.
+            let no4 : NoneOf netlist text Bit = first_line-None has_no_bit looked bit in
+            outcome-order netlist text (first_out_of_order looked) _ no0 no1 no2 no3 no4 refl
+            (λ order.
+              let ordered = order-None looked order in
+              let no5 : NoneOf netlist text Order = ordered-none looked ordered in
+              outcome-beyond netlist text (last_beyond looked) no0 no1 no2 no3 no4 no5 (line_beyond-ordered looked ordered)))))))

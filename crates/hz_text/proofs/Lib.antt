@@ -3,3 +3,4 @@ pub mod ScriptLemmas
 pub mod NodeLemmas
 pub mod BuildLemmas
 pub mod FaultLaws
+pub mod ReadLaws

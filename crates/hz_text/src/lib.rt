@@ -8,9 +8,11 @@ mod entry;
 mod fault;
 mod keyword;
 mod passes;
+mod read;
 mod script;
 mod statement;
 
 pub use entry::MAX_TEXT;
 pub use fault::TextFault;
+pub use read::read_script;
 pub use script::{MAX_CHANGES, Script};
