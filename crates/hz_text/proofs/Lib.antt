@@ -1,0 +1,6 @@
+pub mod PieceLemmas
+pub mod ScriptLemmas
+pub mod NodeLemmas
+pub mod BuildLemmas
+pub mod FaultLaws
+pub mod ReadLaws
