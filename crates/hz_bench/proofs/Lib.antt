@@ -1,3 +1,4 @@
 pub mod DefinitionLemmas
+pub mod EntryLemmas
 pub mod ParseLemmas
 pub mod StatementLemmas

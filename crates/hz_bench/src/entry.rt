@@ -25,5 +25,6 @@ pub struct Entry<'a> {
     ghost named: { name.now ≡ name_of (statement_in text.now) },
     ghost formed: { form ≡ form_of (statement_in text.now) },
     ghost counted: { pins ≡ length (sources_of (statement_in text.now)) },
+    ghost small: { pins < 2 ^ 32 },
     ghost measured: { long ≡ has_long_name (statement_in text.now) },
 }

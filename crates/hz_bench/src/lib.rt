@@ -1,11 +1,13 @@
 //! Netlists in the .bench format: reading them into circuits, and printing circuits.
 #![tactic(auto)]
 
+mod checks;
 mod definitions;
 mod entry;
 mod fault;
 mod forms;
 mod parse;
 mod statement;
+mod uses;
 
 pub use fault::BenchFault;

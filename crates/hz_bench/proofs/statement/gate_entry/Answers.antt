@@ -1,4 +1,4 @@
-use Rattle.std.proofs.Common.{◌∙◌, length, ap, sym}
+use Rattle.std.proofs.Common.{◌∙◌, length, ap, sym, arith}
 use Rattle.hz_bench.specs.Statement.{form_of, name_of, sources_of, has_long_name}
 use Rattle.hz_bench.proofs.StatementLemmas.{gate_meant, means-itself, half-words}
 use Rattle.hz_bench.specs.declared.forms.Form.TheVariants as form
@@ -13,5 +13,6 @@ invariant_of-result c =
       named = sym (ap name_of meant.statement_is);
       formed = ap form.Gate c.kind_word.ensures ∙ sym (ap form_of meant.statement_is);
       counted = half-words c.args.head.now names ∙ sym (ap (λ statement. length (sources_of statement)) meant.statement_is);
+      small = omega arith;
       measured = c.has_long_name.ensures ∙ sym (ap has_long_name meant.statement_is);
     }

@@ -1,4 +1,4 @@
-use Rattle.std.proofs.Common.{◌∙◌, ◌||◌, false, length, ap, sym}
+use Rattle.std.proofs.Common.{◌∙◌, ◌||◌, false, length, ap, sym, lit<}
 use Rattle.std.specs.List.{list_any}
 use Rattle.hz_bench.specs.Statement.{form_of, name_of, sources_of, has_long_name, is_long, port_of}
 use Rattle.hz_bench.proofs.StatementLemmas.{port_meant, means-itself, form_of-port_of, name_of-port_of, sources_of-port_of, port_long}
@@ -13,5 +13,6 @@ invariant_of-result c =
       named = sym (ap name_of meant.statement_is ∙ name_of-port_of _ c.in_ok-form.form);
       formed = sym (ap form_of meant.statement_is ∙ form_of-port_of _ _ c.in_ok-form.form port);
       counted = sym (ap (λ statement. length (sources_of statement)) meant.statement_is ∙ ap length (sources_of-port_of _ c.in_ok-form.form));
+      small = lit< tt;
       measured = c.is_long.ensures ∙ sym (ap has_long_name meant.statement_is ∙ port_long _ c.in_ok-form.form);
     }
