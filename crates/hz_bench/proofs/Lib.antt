@@ -1,3 +1,4 @@
+pub mod BuildLemmas
 pub mod DefinitionLemmas
 pub mod EntryLemmas
 pub mod ParseLemmas

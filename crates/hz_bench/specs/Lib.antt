@@ -8,3 +8,5 @@ pub mod Pass
 pub mod Check
 pub mod Fault
 pub mod Netlist
+pub mod Built
+pub mod Answer
