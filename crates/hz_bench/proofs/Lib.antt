@@ -1,3 +1,5 @@
+pub mod BuildLemmas
 pub mod DefinitionLemmas
+pub mod EntryLemmas
 pub mod ParseLemmas
 pub mod StatementLemmas

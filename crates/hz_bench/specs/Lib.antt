@@ -5,3 +5,8 @@ pub mod Head
 pub mod Definition
 pub mod Twice
 pub mod Pass
+pub mod Check
+pub mod Fault
+pub mod Netlist
+pub mod Built
+pub mod Answer
