@@ -72,12 +72,13 @@ pair_of_known inputs nodes keyword assigned u b l = by_node (known inputs keywor
     has_bit : (bit : Option Bool) → is_none bit ≡ false → IsSome bit
     has_bit None h = cc
     has_bit (Some bit) h = refl
+
     by_node : (k : ℕ) × (assigned.node ≡ Some k) → IsPair nodes assigned
     by_node (k, is) =
-      let P : Option ℕ → Type 0 = λ node. IsSomeAnd node (λ node. node < nodes) in
-      let Q : Option ℕ → Type 0 = λ node. IfSome node (λ node. node < nodes) in
-      let below : k < nodes = subst Q is l in
-      record { node = subst P (sym is) below; bit = has_bit assigned.bit b }
+        let P : Option ℕ → Type 0 = λ node. IsSomeAnd node (λ node. node < nodes) in
+        let Q : Option ℕ → Type 0 = λ node. IfSome node (λ node. node < nodes) in
+        let below : k < nodes = subst Q is l in
+        record { node = subst P (sym is) below; bit = has_bit assigned.bit b }
 
 pairs-sound : (inputs nodes : ℕ) (keyword : Keyword) (all : List Assigned) → list_any (λ assigned. is_unknown inputs keyword assigned.node) all ≡ false → list_any (λ assigned. is_none assigned.bit) all ≡ false → AreBelow nodes all → All (IsPair nodes) all
 pairs-sound inputs nodes keyword [] u b l = All-nil (IsPair nodes)
@@ -159,6 +160,7 @@ short statements e = by_place (cases_lt 10001 (length statements))
   where
     nothing : Numbered Looked
     nothing = record { line = 0; statement = record { keyword = Start; assigned = [] } }
+
     by_place : (10001 < length statements) ⊎ (length statements ≤ 10001) → length statements ≤ 10001
     by_place (inl more) = let wrong = ap (option_map (λ (numbered : Numbered Looked). numbered.line)) (slice_get-get_or statements 10001 nothing more) in absurd (none-some _ (sym e ∙ wrong))
     by_place (inr few) = few
@@ -214,14 +216,14 @@ usable netlist (first ∷ later) script whole h below is =
     record {
       nodes = long;
       inputs = λ k d l.
-        let low : k < inputs = omega (arith, l, length-take-le inputs script.start (omega (arith, long, within))) in
-        rw (get_or-take inputs script.start k d low, is.start, get_or-map-range_with_len (bit_at all) 0 nodes k k d (omega (arith, low, within)) (zero-add k))
-        (bit-some all k (unassigned-None inputs all missing k low) bits);
+          let low : k < inputs = omega (arith, l, length-take-le inputs script.start (omega (arith, long, within))) in
+          rw (get_or-take inputs script.start k d low, is.start, get_or-map-range_with_len (bit_at all) 0 nodes k k d (omega (arith, low, within)) (zero-add k))
+          (bit-some all k (unassigned-None inputs all missing k low) bits);
       changes = λ k d l.
-        let at : k < length later = omega (arith, l, many) in
-        change-input inputs ((get_or later k first).statement) (get_or script.changes k d)
-        (sym (get_or-map (map assignment_to) script.changes k d [] l) ∙ ap (λ lists. get_or lists k []) is.changes ∙ get_or-map (λ (numbered : Numbered Looked). numbered.statement.assigned) later k first [] at)
-        (starts k first at) (unknown k first at) (twice k first at);
+          let at : k < length later = omega (arith, l, many) in
+          change-input inputs ((get_or later k first).statement) (get_or script.changes k d)
+          (sym (get_or-map (map assignment_to) script.changes k d [] l) ∙ ap (λ lists. get_or lists k []) is.changes ∙ get_or-map (λ (numbered : Numbered Looked). numbered.statement.assigned) later k first [] at)
+          (starts k first at) (unknown k first at) (twice k first at);
       few = omega (arith, many, short (first ∷ later) h.few);
     }
 

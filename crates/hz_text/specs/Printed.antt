@@ -14,7 +14,7 @@ abbrev pub assignment_text : Netlist → ℕ × Bool → List ℕ
 assignment_text netlist pair = 32 ∷ slice_index_or netlist.names pair.0 [] ++ 61 ∷ letter_of pair.1 ∷ []
 
 -- a statement on a line of its own: its keyword and its assignments
-abbrev pub statement_text : Netlist → List ℕ → List (ℕ × Bool) → List ℕ
+unfoldable pub statement_text : Netlist → List ℕ → List (ℕ × Bool) → List ℕ
 statement_text netlist keyword pairs = keyword ++ flat_map (assignment_text netlist) pairs ++ 10 ∷ []
 
 -- the nodes that a start lists, with their bits; the first of these entries is for the node with this number

@@ -18,3 +18,6 @@ pub use fault::TextFault;
 pub use print::print_script;
 pub use read::read_script;
 pub use script::{MAX_CHANGES, Script};
+
+#[cfg(test)]
+mod tests;

@@ -1,6 +1,6 @@
 //! Printing scripts.
 
-ghost use Rattle.std.specs.Prelude.{◌≡◌, ◌<◌, ◌^◌, ◌∷◌, ◌++◌, [], length, All, IfOk, OnOk, codes};
+ghost use Rattle.std.specs.Prelude.{◌≡◌, ◌<◌, ◌∷◌, ◌++◌, [], length, All, IfOk, OnOk, codes};
 ghost use Rattle.std.specs.List.{flat_map};
 ghost use Rattle.hz_text.specs.Printed.{letter_of, assignment_text, statement_text, listed_from, script_text};
 ghost use Rattle.hz_text.specs.ScriptText.{IsScriptFor};
@@ -17,7 +17,7 @@ pub fn print_script(alloc: Global, circuit: &Circuit, script: &Script) -> Result
 {
     let mut text = Vec::new(alloc);
     let mut pairs = Vec::new(alloc);
-    list_pairs(script.start(), &mut pairs)?;
+    list_pairs(script.start(), circuit.nodes(), &mut pairs)?;
     push_statement(&mut text, circuit, b"start", pairs.as_slice())?;
     for number in 0..script.changes() {
         push_statement(&mut text, circuit, b"change", script.change(number))?;
@@ -25,15 +25,19 @@ pub fn print_script(alloc: Global, circuit: &Circuit, script: &Script) -> Result
     Ok(text)
 }
 
-// The nodes that a start lists, with their bits.
-fn list_pairs(start: &[Option<bool>], pairs: &mut Vec<(u32, bool)>) -> Result<(), Memory>
-    requires small { length start.now < 2 ^ 32 }
+// The nodes that a start lists, with their bits. It has one entry for each of so many nodes.
+fn list_pairs(
+    start: &[Option<bool>],
+    nodes: u32,
+    pairs: &mut Vec<(u32, bool)>,
+) -> Result<(), Memory>
+    requires nodes { length start.now ≡ nodes }
     requires none { pairs.old.items ≡ [] }
     ensures { OnOk result (pairs.new.items ≡ listed_from 0 start.now) }
 {
-    for (node, bit) in start.iter().enumerate() {
-        if let Some(bit) = bit {
-            let Ok(_) = pairs.push((node as u32, *bit)) else {
+    for node in 0..nodes {
+        if let Some(bit) = start[node as usize] {
+            let Ok(_) = pairs.push((node, bit)) else {
                 return Err(Memory);
             };
         }
@@ -42,7 +46,13 @@ fn list_pairs(start: &[Option<bool>], pairs: &mut Vec<(u32, bool)>) -> Result<()
 }
 
 // Adds a statement on a line of its own.
-fn push_statement(text: &mut Vec<u8>, circuit: &Circuit, keyword: &[u8], pairs: &[(u32, bool)]) -> Result<(), Memory>
+#[tactic(auto, unfolding(crate::specs::Printed::statement_text))]
+fn push_statement(
+    text: &mut Vec<u8>,
+    circuit: &Circuit,
+    keyword: &[u8],
+    pairs: &[(u32, bool)],
+) -> Result<(), Memory>
     requires { All (λ pair. pair.0 < length circuit.now.names) pairs.now }
     ensures { OnOk result (text.new.items ≡ text.old.items ++ statement_text circuit.now keyword.now pairs.now) }
 {
@@ -52,7 +62,11 @@ fn push_statement(text: &mut Vec<u8>, circuit: &Circuit, keyword: &[u8], pairs: 
 }
 
 // Adds assignments, each after a space.
-fn push_assignments(text: &mut Vec<u8>, circuit: &Circuit, pairs: &[(u32, bool)]) -> Result<(), Memory>
+fn push_assignments(
+    text: &mut Vec<u8>,
+    circuit: &Circuit,
+    pairs: &[(u32, bool)],
+) -> Result<(), Memory>
     requires { All (λ pair. pair.0 < length circuit.now.names) pairs.now }
     ensures { OnOk result (text.new.items ≡ text.old.items ++ flat_map (assignment_text circuit.now) pairs.now) }
 {
@@ -63,7 +77,12 @@ fn push_assignments(text: &mut Vec<u8>, circuit: &Circuit, pairs: &[(u32, bool)]
 }
 
 // Adds an assignment after a space.
-fn push_assignment(text: &mut Vec<u8>, circuit: &Circuit, node: u32, bit: bool) -> Result<(), Memory>
+fn push_assignment(
+    text: &mut Vec<u8>,
+    circuit: &Circuit,
+    node: u32,
+    bit: bool,
+) -> Result<(), Memory>
     requires { node < length circuit.now.names }
     ensures { OnOk result (text.new.items ≡ text.old.items ++ assignment_text circuit.now (node, bit)) }
 {
