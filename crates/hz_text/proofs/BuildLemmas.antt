@@ -104,13 +104,13 @@ pub bits_at-push : (pairs : List (ℕ × Bool)) (nodes node : ℕ) (bit : Bool) 
 bits_at-push pairs nodes node bit within new =
     same_lists _ _ (length-set (bits_at pairs nodes) node (Some bit) ∙ length-bits pairs nodes ∙ sym (length-bits (pairs ++ (node, bit) ∷ []) nodes))
     (λ i d h.
-      let l : i < nodes = omega (arith, h, length-set (bits_at pairs nodes) node (Some bit), length-bits pairs nodes) in
-      elim (cases_eq i node) [
-        inl same ↦
+    let l : i < nodes = omega (arith, h, length-set (bits_at pairs nodes) node (Some bit), length-bits pairs nodes) in
+    elim (cases_eq i node) [
+      | inl same ↦
           rw same (get_or-set_same (bits_at pairs nodes) node (Some bit) d (omega (arith, length-bits pairs nodes)) ∙ sym (bit_at-push_same pairs node bit new) ∙ sym (get_or-bits (pairs ++ (node, bit) ∷ []) nodes node d within))
-        | inr ne ↦
+      | inr ne ↦
           get_or-set_other (bits_at pairs nodes) node i (Some bit) d ne ∙ get_or-bits pairs nodes i d l ∙ sym (bit_at-push_other pairs node i bit ne) ∙ sym (get_or-bits (pairs ++ (node, bit) ∷ []) nodes i d l)
-      ])
+    ])
 
 -- no node of a front is that of the pair after it
 pub new_at : (pairs : List (ℕ × Bool)) (i : ℕ) (d : ℕ × Bool) → i < length pairs → has_repeat nat_eq (map (λ pair. pair.0) pairs) ≡ false → list_any (nat_eq ((get_or pairs i d).0)) (map (λ pair. pair.0) (take i pairs)) ≡ false

@@ -209,8 +209,8 @@ missing-Some inputs (first ∷ later) node e = by_test (is_start first.statement
   where
     by_test : (b : Bool) → is_start first.statement ≡ b → cond b (least_unassigned inputs first.statement.assigned) None ≡ Some node → IsMissing inputs (first ∷ later) node × ((other : ℕ) → IsMissing inputs (first ∷ later) other → node ≤ other)
     by_test true t w =
-      let h = unassigned-Some inputs first.statement.assigned node w in
-      ((t, h.below, h.unassigned), λ other p. h.least other p.1 p.2)
+        let h = unassigned-Some inputs first.statement.assigned node w in
+        ((t, h.below, h.unassigned), λ other p. h.least other p.1 p.2)
     by_test false t w = cc
 
 missing-None : (inputs : ℕ) (statements : List (Numbered Looked)) → least_missing inputs statements ≡ None → (node : ℕ) → IsMissing inputs statements node → ⊥
@@ -229,17 +229,21 @@ order-Some (first ∷ later) low line h e = by_test (is_start first.statement) r
   where
     by_test : (b : Bool) → is_start first.statement ≡ b → cond b (first_line is_start later) (Some first.line) ≡ Some line → IsOutOfOrder (first ∷ later) line × ((other : ℕ) → IsOutOfOrder (first ∷ later) other → line ≤ other)
     by_test true t w =
-      let is = first_line-Some is_start later (suc first.line) line h.1 w in
-      (inr is.passes, λ other p. elim p [
-        inl q ↦ (elim q [ inl at ↦ absurd (true-false (sym (at.1) ∙ ap not t)) | inr none ↦ absurd none ])
-        | inr q ↦ is.least other q
-      ])
+        let is = first_line-Some is_start later (suc first.line) line h.1 w in (
+          inr is.passes,
+          λ other p. elim p [
+            | inl q ↦ (elim q [ inl at ↦ absurd (true-false (sym (at.1) ∙ ap not t)) | inr none ↦ absurd none ])
+            | inr q ↦ is.least other q
+          ],
+        )
     by_test false t w =
-      let same : first.line ≡ line = same_Some first.line line w in
-      (inl (inl (same, ap not t)), λ other p. elim p [
-        inl q ↦ (elim q [ inl at ↦ omega (arith, same, at.0) | inr none ↦ absurd none ])
-        | inr q ↦ omega (arith, same, PassesOn-above is_start later (suc first.line) other h.1 q)
-      ])
+        let same : first.line ≡ line = same_Some first.line line w in (
+          inl (inl (same, ap not t)),
+          λ other p. elim p [
+            | inl q ↦ (elim q [ inl at ↦ omega (arith, same, at.0) | inr none ↦ absurd none ])
+            | inr q ↦ omega (arith, same, PassesOn-above is_start later (suc first.line) other h.1 q)
+          ],
+        )
 
 -- statements in order: a start, and no start after it
 abbrev pub IsOrdered : List (Numbered Looked) → Type 0
@@ -294,14 +298,15 @@ name-eq netlist a b i j ea eb =
     other : (t : Bool) → nat_eq i j ≡ t → bytes_eq a b ≡ false → a ≡ get_or netlist.names i [] → b ≡ get_or netlist.names j [] → t ≡ false
     other false t e na nb = refl
     other true t e na nb =
-      let nodes : i ≡ j = grind (arith, nat_tests, t) in
-      let same : a ≡ b = na ∙ ap (λ k. get_or netlist.names k []) nodes ∙ sym nb in
-      let wrong : true ≡ false = sym ((bytes_eq-Decides a b).1 same) ∙ e in cc
+        let nodes : i ≡ j = grind (arith, nat_tests, t) in
+        let same : a ≡ b = na ∙ ap (λ k. get_or netlist.names k []) nodes ∙ sym nb in
+        let wrong : true ≡ false = sym ((bytes_eq-Decides a b).1 same) ∙ e in cc
+
     by_test : (r : Bool) → bytes_eq a b ≡ r → a ≡ get_or netlist.names i [] → b ≡ get_or netlist.names j [] → nat_eq i j ≡ r
     by_test true e na nb =
-      let same : a ≡ b = (bytes_eq-Decides a b).0 e in
-      let nodes : i ≡ j = same_Some i j (sym ea ∙ ap (node_named netlist) same ∙ eb) in
-      grind (arith, nat_tests, nodes)
+        let same : a ≡ b = (bytes_eq-Decides a b).0 e in
+        let nodes : i ≡ j = same_Some i j (sym ea ∙ ap (node_named netlist) same ∙ eb) in
+        grind (arith, nat_tests, nodes)
     by_test false e na nb = other (nat_eq i j) refl e na nb
 
 -- a name that is not unknown is a node's
@@ -352,10 +357,10 @@ twice-line netlist (first ∷ later) e =
     by_test : (b : Bool) → has_unknown netlist.inputs (looked_of netlist first.statement) ≡ b → cond b (Some first.line) (first_line (has_unknown netlist.inputs) (map (looked_up netlist) later)) ≡ None → (first_line (has_unknown netlist.inputs) (map (looked_up netlist) later) ≡ None → first_line has_node_twice (map (looked_up netlist) later) ≡ first_line has_twice later) → first_line has_node_twice (map (looked_up netlist) (first ∷ later)) ≡ first_line has_twice (first ∷ later)
     by_test true t w ih = cc
     by_test false t w ih =
-      first_line-cons has_node_twice (looked_up netlist first) (map (looked_up netlist) later)
-      ∙ ap (λ b. cond b (Some first.line) (first_line has_node_twice (map (looked_up netlist) later))) (twice-names netlist first.statement.keyword first.statement.assignments t)
-      ∙ ap (λ rest. cond (has_twice first.statement) (Some first.line) rest) (ih w)
-      ∙ sym (first_line-cons has_twice first later)
+        first_line-cons has_node_twice (looked_up netlist first) (map (looked_up netlist) later)
+        ∙ ap (λ b. cond b (Some first.line) (first_line has_node_twice (map (looked_up netlist) later))) (twice-names netlist first.statement.keyword first.statement.assignments t)
+        ∙ ap (λ rest. cond (has_twice first.statement) (Some first.line) rest) (ih w)
+        ∙ sym (first_line-cons has_twice first later)
 
 -- what the passes answer over the statements of a text without a malformed line
 pub first_fault-outcome : (netlist : Netlist) (text : List ℕ) → NoneOf netlist text Form → Outcome netlist text (first_fault netlist.inputs (looked_statements netlist text))
@@ -363,19 +368,19 @@ first_fault-outcome netlist text no0 =
     let looked = looked_statements netlist text in
     outcome-unknown netlist text (first_line (has_unknown netlist.inputs) looked) _ no0 refl
     (λ unknown.
-      let no1 : NoneOf netlist text Unknown = first_line-None (has_unknown netlist.inputs) looked unknown in
-      let same = twice-line netlist (statements_of text) unknown in
-      rw same (outcome-twice netlist text (first_line has_twice (statements_of text)) _ no0 no1 refl
-      (λ twice.
-        let no2 : NoneOf netlist text Twice = first_line-None has_twice (statements_of text) twice in
-        outcome-missing netlist text (least_missing netlist.inputs looked) _ no0 no1 no2 refl
-        (λ missing.
-          let no3 : NoneOf netlist text Missing = missing-None netlist.inputs looked missing in
-          outcome-bit netlist text (first_line has_no_bit looked) _ no0 no1 no2 no3 refl
-          (λ bit.
-            let no4 : NoneOf netlist text Bit = first_line-None has_no_bit looked bit in
-            outcome-order netlist text (first_out_of_order looked) _ no0 no1 no2 no3 no4 refl
-            (λ order.
-              let ordered = order-None looked order in
-              let no5 : NoneOf netlist text Order = ordered-none looked ordered in
-              outcome-beyond netlist text (last_beyond looked) no0 no1 no2 no3 no4 no5 (line_beyond-ordered looked ordered)))))))
+    let no1 : NoneOf netlist text Unknown = first_line-None (has_unknown netlist.inputs) looked unknown in
+    let same = twice-line netlist (statements_of text) unknown in
+    rw same (outcome-twice netlist text (first_line has_twice (statements_of text)) _ no0 no1 refl
+    (λ twice.
+    let no2 : NoneOf netlist text Twice = first_line-None has_twice (statements_of text) twice in
+    outcome-missing netlist text (least_missing netlist.inputs looked) _ no0 no1 no2 refl
+    (λ missing.
+    let no3 : NoneOf netlist text Missing = missing-None netlist.inputs looked missing in
+    outcome-bit netlist text (first_line has_no_bit looked) _ no0 no1 no2 no3 refl
+    (λ bit.
+    let no4 : NoneOf netlist text Bit = first_line-None has_no_bit looked bit in
+    outcome-order netlist text (first_out_of_order looked) _ no0 no1 no2 no3 no4 refl
+    (λ order.
+    let ordered = order-None looked order in
+    let no5 : NoneOf netlist text Order = ordered-none looked ordered in
+    outcome-beyond netlist text (last_beyond looked) no0 no1 no2 no3 no4 no5 (line_beyond-ordered looked ordered)))))))

@@ -4,3 +4,4 @@ pub mod NodeLemmas
 pub mod BuildLemmas
 pub mod FaultLaws
 pub mod ReadLaws
+pub mod PrintLemmas

@@ -63,21 +63,21 @@ marks_of-set : (all : List Assigned) (one : Assigned) (nodes node : ℕ) → one
 marks_of-set all one nodes node e within =
     same_lists _ _ (length-set (marks_of all nodes) node true ∙ length-marks all nodes ∙ sym (length-marks (all ++ one ∷ []) nodes))
     (λ i d h.
-      let l : i < nodes = omega (arith, h, length-set (marks_of all nodes) node true, length-marks all nodes) in
-      elim (cases_eq i node) [
-        inl same ↦
+    let l : i < nodes = omega (arith, h, length-set (marks_of all nodes) node true, length-marks all nodes) in
+    elim (cases_eq i node) [
+      | inl same ↦
           rw same (get_or-set_same (marks_of all nodes) node true d (omega (arith, length-marks all nodes)) ∙ sym (assigns-push_this all one node (this-node node one.node e)) ∙ sym (get_or-marks (all ++ one ∷ []) nodes node d within))
-        | inr ne ↦ get_or-set_other (marks_of all nodes) node i true d ne ∙ same-marks all one nodes i d l (other-node i node one.node e ne)
-      ])
+      | inr ne ↦ get_or-set_other (marks_of all nodes) node i true d ne ∙ same-marks all one nodes i d l (other-node i node one.node e ne)
+    ])
 
 marked_at : (all : List Assigned) (one : Assigned) (nodes : ℕ) (o : Option ℕ) → one.node ≡ o → marked (marks_of all nodes) o ≡ marks_of (all ++ one ∷ []) nodes
 marked_at all one nodes None e = marks_of-same all one nodes (λ i h. rw e refl)
 marked_at all one nodes (Some node) e =
     elim (cases_lt node nodes) [
-      inl within ↦ marks_of-set all one nodes node e within
+      | inl within ↦ marks_of-set all one nodes node e within
       | inr past ↦
-        set_past (marks_of all nodes) node true (omega (arith, length-marks all nodes))
-        ∙ marks_of-same all one nodes (λ i h. other-node i node one.node e (λ same. absurd (omega (arith, same))))
+          set_past (marks_of all nodes) node true (omega (arith, length-marks all nodes))
+          ∙ marks_of-same all one nodes (λ i h. other-node i node one.node e (λ same. absurd (omega (arith, same))))
     ]
 
 -- one assignment more
@@ -145,23 +145,24 @@ AreMarked-push all one marks mark node e within ne h =
     record {
       fresh = rw (same, has_repeat-push (nodes_of all) node, h.fresh, new) refl;
       marked = λ k l.
-        let inside : k < length marks = omega (arith, l, length-set marks node mark) in
-        rw (same, list_any-append (nat_eq k) (nodes_of all) (node ∷ [])) (
+          let inside : k < length marks = omega (arith, l, length-set marks node mark) in
+          rw (same, list_any-append (nat_eq k) (nodes_of all) (node ∷ [])) (
           elim (cases_eq k node) [
-            inl at ↦ rw (at, get_or-set_same marks node mark 0 within) (or-last (list_any (nat_eq node) (nodes_of all)) (nat_eq node node) (nat_eq mark mark) (grind (arith, nat_tests)) (grind (arith, nat_tests)))
+            | inl at ↦ rw (at, get_or-set_same marks node mark 0 within) (or-last (list_any (nat_eq node) (nodes_of all)) (nat_eq node node) (nat_eq mark mark) (grind (arith, nat_tests)) (grind (arith, nat_tests)))
             | inr off ↦ rw (get_or-set_other marks node k mark 0 off) (or-first (list_any (nat_eq k) (nodes_of all)) (nat_eq k node) (grind (arith, nat_tests, off)) ∙ h.marked k inside)
           ]);
       above = λ k l.
-        let inside : k < length marks = omega (arith, l, length-set marks node mark) in
-        elim (cases_eq k node) [
-          inl at ↦ omega (arith, ap (λ m. get_or (set marks node mark) m 0) at, get_or-set_same marks node mark 0 within)
-          | inr off ↦ omega (arith, get_or-set_other marks node k mark 0 off, h.above k inside)
-        ];
+          let inside : k < length marks = omega (arith, l, length-set marks node mark) in
+          elim (cases_eq k node) [
+            | inl at ↦ omega (arith, ap (λ m. get_or (set marks node mark) m 0) at, get_or-set_same marks node mark 0 within)
+            | inr off ↦ omega (arith, get_or-set_other marks node k mark 0 off, h.above k inside)
+          ];
     }
   where
     or-last : (a b c : Bool) → b ≡ true → c ≡ true → (a || (b || false)) ≡ c
     or-last true b c p q = sym q
     or-last false b c p q = or-false b ∙ p ∙ sym q
+
     or-first : (a b : Bool) → b ≡ false → (a || (b || false)) ≡ a
     or-first true b p = refl
     or-first false b p = or-false b ∙ p

@@ -59,11 +59,11 @@ last_beyond statements = option_map (λ numbered. numbered.line) (slice_get stat
 abbrev pub first_fault : ℕ → List (Numbered Looked) → Option TextFault
 first_fault inputs statements =
     first_of (option_map Unknown (first_line (has_unknown inputs) statements))
-      (first_of (option_map Twice (first_line has_node_twice statements))
-      (first_of (option_map Missing (least_missing inputs statements))
-      (first_of (option_map Bit (first_line has_no_bit statements))
-      (first_of (option_map Order (first_out_of_order statements))
-      (option_map TooMany (last_beyond statements))))))
+    (first_of (option_map Twice (first_line has_node_twice statements))
+    (first_of (option_map Missing (least_missing inputs statements))
+    (first_of (option_map Bit (first_line has_no_bit statements))
+    (first_of (option_map Order (first_out_of_order statements))
+    (option_map TooMany (last_beyond statements))))))
 
 -- the fault is the answer; memory may always run out
 abbrev pub IsAnswer : Option TextFault → TextFault → Type 0

@@ -25,14 +25,24 @@ pub(crate) enum Unread {
 }
 
 // The assignments that tokens are.
-pub(crate) fn read_assignments(alloc: Global, circuit: &Circuit, tokens: &[Token]) -> Result<Vec<Assigned>, Unread>
+pub(crate) fn read_assignments(
+    alloc: Global,
+    circuit: &Circuit,
+    tokens: &[Token],
+) -> Result<Vec<Assigned>, Unread>
     ensures { MatchResult result
         (λ read. assigned_by circuit.now (map token_of tokens.now) ≡ Some read.items)
         (λ why. IsUnread why (assigned_by circuit.now (map token_of tokens.now))) }
 {
     let mut read = Vec::new(alloc);
     let mut rest = tokens;
-    while let [Token::Word(name), Token::Sign(Mark::Equals), Token::Word(word), after @ ..] = rest {
+    while let [
+        Token::Word(name),
+        Token::Sign(Mark::Equals),
+        Token::Word(word),
+        after @ ..,
+    ] = rest
+    {
         let assigned = Assigned {
             node: circuit.find(name),
             bit: bit(word),
@@ -42,7 +52,11 @@ pub(crate) fn read_assignments(alloc: Global, circuit: &Circuit, tokens: &[Token
         };
         rest = after;
     }
-    if rest.is_empty() { Ok(read) } else { Err(Unread::Form) }
+    if rest.is_empty() {
+        Ok(read)
+    } else {
+        Err(Unread::Form)
+    }
 }
 
 // The bit that a word is.

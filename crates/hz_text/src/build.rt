@@ -44,7 +44,11 @@ fn list_all(script: &mut Script, pairs: &[(u32, bool)])
 }
 
 // Adds a change for each of these statements.
-fn add_changes(script: &mut Script, entries: &[Entry], pairs: &mut Vec<(u32, bool)>) -> Result<(), Memory>
+fn add_changes(
+    script: &mut Script,
+    entries: &[Entry],
+    pairs: &mut Vec<(u32, bool)>,
+) -> Result<(), Memory>
     requires none { script.old.changes ≡ [] }
     requires few { length entries.now ≤ 10000 }
     requires sound { All (λ entry. IsSound (length script.old.start) (held_by entry.held)) entries.now }

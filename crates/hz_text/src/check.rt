@@ -5,11 +5,18 @@ ghost use Rattle.hz_text.specs.Pass.{entered_all, AreBelow, first_fault, IsAnswe
 
 use crate::entry::Entry;
 use crate::fault::TextFault;
-use crate::passes::{first_out_of_order, first_twice, first_unknown, first_without_bit, least_missing, line_beyond};
+use crate::passes::{
+    first_out_of_order, first_twice, first_unknown, first_without_bit, least_missing, line_beyond,
+};
 use std::alloc::Global;
 
 // Whether the statements are without a fault: one pass for each, in the order of their numbers.
-pub(crate) fn check(alloc: Global, entries: &[Entry], inputs: u32, nodes: u32) -> Result<(), TextFault>
+pub(crate) fn check(
+    alloc: Global,
+    entries: &[Entry],
+    inputs: u32,
+    nodes: u32,
+) -> Result<(), TextFault>
     requires { All (λ entry. AreBelow nodes entry.held.assigned.items) entries.now }
     ensures { MatchResult result
         (λ _. first_fault inputs (entered_all entries.now) ≡ None)

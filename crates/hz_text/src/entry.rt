@@ -21,7 +21,11 @@ pub(crate) struct Entry {
 }
 
 // The statements of a text, looked up in a circuit.
-pub(crate) fn read_entries(alloc: Global, circuit: &Circuit, text: &[u8]) -> Result<Vec<Entry>, TextFault>
+pub(crate) fn read_entries(
+    alloc: Global,
+    circuit: &Circuit,
+    text: &[u8],
+) -> Result<Vec<Entry>, TextFault>
     requires { length text.now ≤ MAX_TEXT }
     ensures { MatchResult result
         (λ entries. IsRead circuit.now text.now entries.items)

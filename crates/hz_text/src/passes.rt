@@ -39,7 +39,8 @@ fn has_unknown(held: &Held, inputs: u32) -> bool
 fn any_unknown(all: &[Assigned], keyword: Keyword, inputs: u32) -> bool
     ensures { result ≡ list_any (λ assigned. is_unknown inputs keyword assigned.node) all.now }
 {
-    all.iter().any(|assigned| is_unknown(assigned.node, keyword, inputs))
+    all.iter()
+        .any(|assigned| is_unknown(assigned.node, keyword, inputs))
 }
 
 // Whether a statement may not assign this.
@@ -107,7 +108,11 @@ pub(crate) fn line_beyond(entries: &[Entry]) -> Option<u32>
 }
 
 // The least input that the first statement, where it is a start, does not assign.
-pub(crate) fn least_missing(alloc: Global, entries: &[Entry], inputs: u32) -> Result<Option<u32>, Memory>
+pub(crate) fn least_missing(
+    alloc: Global,
+    entries: &[Entry],
+    inputs: u32,
+) -> Result<Option<u32>, Memory>
     ensures { IfOk result (λ missing. missing ≡ least_missing inputs (entered_all entries.now)) }
 {
     let [first, ..] = entries else {
@@ -163,7 +168,11 @@ fn mark(marks: &mut [bool], node: Option<u32>)
 }
 
 // The line of the first statement that assigns a node twice.
-pub(crate) fn first_twice(alloc: Global, entries: &[Entry], nodes: u32) -> Result<Option<u32>, Memory>
+pub(crate) fn first_twice(
+    alloc: Global,
+    entries: &[Entry],
+    nodes: u32,
+) -> Result<Option<u32>, Memory>
     requires { All (λ entry. AreBelow nodes entry.held.assigned.items) entries.now }
     ensures { IfOk result (λ line. line ≡ first_line has_node_twice (entered_all entries.now)) }
 {
@@ -171,7 +180,11 @@ pub(crate) fn first_twice(alloc: Global, entries: &[Entry], nodes: u32) -> Resul
         return Err(Memory);
     };
     for (index, entry) in entries.iter().enumerate() {
-        if repeats(entry.held.assigned.as_slice(), marks.as_mut_slice(), index + 1) {
+        if repeats(
+            entry.held.assigned.as_slice(),
+            marks.as_mut_slice(),
+            index + 1,
+        ) {
             return Ok(Some(entry.line));
         }
     }

@@ -37,9 +37,9 @@ returns c =
     let back = ap (map assignment_to) pairs ∙ pairs_back nodes first.held.assigned.items sound.pairs in
     whole_script nodes entries first c.add_changes.new.script c.requires.some c.first-item.is (record {
       start =
-        c.in_ok-add_changes.ensures.start
-        ∙ c.list_all.ensures.start
-        ∙ ap (bits_at c.as_slice-2.result.now) long
-        ∙ ap (λ all. map (bit_at all) (range_with_len 0 nodes)) back;
+          c.in_ok-add_changes.ensures.start
+          ∙ c.list_all.ensures.start
+          ∙ ap (bits_at c.as_slice-2.result.now) long
+          ∙ ap (λ all. map (bit_at all) (range_with_len 0 nodes)) back;
       changes = c.in_ok-add_changes.ensures.changes;
     })

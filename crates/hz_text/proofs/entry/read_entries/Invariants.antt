@@ -8,9 +8,9 @@ abbrev pub invariant-loop-rest : goal.invariant-loop-rest
 invariant-loop-rest l = record {
   counted : l.line + rest_length l.rest ≤ suc (length l.text);
   statements :
-    numbered_statements (looked_by l.circuit) l.text ≡ map entered l.entries.items ++ numbered_from (looked_by l.circuit) (suc l.line) (lines_of_rest l.rest);
+      numbered_statements (looked_by l.circuit) l.text ≡ map entered l.entries.items ++ numbered_from (looked_by l.circuit) (suc l.line) (lines_of_rest l.rest);
   formed :
-    first_malformed (looked_by l.circuit) 1 (lines_of l.text) ≡ first_malformed (looked_by l.circuit) (suc l.line) (lines_of_rest l.rest);
+      first_malformed (looked_by l.circuit) 1 (lines_of l.text) ≡ first_malformed (looked_by l.circuit) (suc l.line) (lines_of_rest l.rest);
 }
 
 abbrev pub decreases-loop-rest : goal.decreases-loop-rest

@@ -32,11 +32,11 @@ loop-assigned-preserved c =
     let all = c.args.all.now in
     let i = c.loop-assigned.assigned-index in
     elim c.match-assigned.branch [
-      in-Some+else-marks-node w ↦
-        let within : w.in-Some.node < length c.loop-assigned.marks = omega (arith, below all i w.in-Some.node (length c.args.marks.now) c.requires.nodes c.loop-assigned-test.true w.in-Some.is, c.loop-assigned.auto.marks) in
-        rw (w.marks-is, take_more all i nothing c.loop-assigned-test.true)
-        (AreMarked-push (take i all) (get_or all i nothing) c.loop-assigned.marks c.args.mark w.in-Some.node w.in-Some.is within w.if-marks-node.false c.loop-assigned.invariant)
+      | in-Some+else-marks-node w ↦
+          let within : w.in-Some.node < length c.loop-assigned.marks = omega (arith, below all i w.in-Some.node (length c.args.marks.now) c.requires.nodes c.loop-assigned-test.true w.in-Some.is, c.loop-assigned.auto.marks) in
+          rw (w.marks-is, take_more all i nothing c.loop-assigned-test.true)
+          (AreMarked-push (take i all) (get_or all i nothing) c.loop-assigned.marks c.args.mark w.in-Some.node w.in-Some.is within w.if-marks-node.false c.loop-assigned.invariant)
       | in_default w ↦
-        rw (w.marks-is, take_more all i nothing c.loop-assigned-test.true)
-        (AreMarked-push_none (take i all) (get_or all i nothing) c.loop-assigned.marks c.args.mark w.in_default.is c.loop-assigned.invariant)
+          rw (w.marks-is, take_more all i nothing c.loop-assigned-test.true)
+          (AreMarked-push_none (take i all) (get_or all i nothing) c.loop-assigned.marks c.args.mark w.in_default.is c.loop-assigned.invariant)
     ]
