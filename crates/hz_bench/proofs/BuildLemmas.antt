@@ -86,10 +86,10 @@ fold-append step start [] back = refl
 fold-append step start (first ∷ front) back = fold-append step (step start first) front back
 
 -- the pins of one token more
-pub pins_more : (gate : ℕ) (start now new : Netlist) (tokens : List Token) (index : ℕ) (token : Token) → index < length tokens → token ≡ get_or tokens index token
+pub pins_more : (gate : ℕ) (start now new : Netlist) (tokens : List Token) (index : ℕ) (token other : Token) → index < length tokens → token ≡ get_or tokens index other
     → now ≡ fold (after_pin gate) start (words_of (map token_of (take index tokens))) → new ≡ fold (after_pin gate) now (words_of (token_of token ∷ []))
     → new ≡ fold (after_pin gate) start (words_of (map token_of (take (index + 1) tokens)))
-pins_more gate start now new tokens index token inside is so_far more =
+pins_more gate start now new tokens index token other inside is so_far more =
     let words : words_of (map token_of (take (index + 1) tokens)) ≡ words_of (map token_of (take index tokens)) ++ words_of (token_of token ∷ []) =
-      ap (λ all. words_of (map token_of all)) (take_more tokens index token inside ∙ ap (λ last. take index tokens ++ last ∷ []) (sym is)) ∙ ap words_of (map_push token_of (take index tokens) token) ∙ words_of-append (map token_of (take index tokens)) (token_of token ∷ []) in
+      ap (λ all. words_of (map token_of all)) (take_more tokens index other inside ∙ ap (λ last. take index tokens ++ last ∷ []) (sym is)) ∙ ap words_of (map_push token_of (take index tokens) token) ∙ words_of-append (map token_of (take index tokens)) (token_of token ∷ []) in
     more ∙ ap (λ netlist. fold (after_pin gate) netlist (words_of (token_of token ∷ []))) so_far ∙ sym (ap (fold (after_pin gate) start) words ∙ fold-append (after_pin gate) start (words_of (map token_of (take index tokens))) (words_of (token_of token ∷ [])))

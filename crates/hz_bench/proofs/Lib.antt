@@ -1,5 +1,6 @@
 pub mod BuildLemmas
 pub mod DefinitionLemmas
 pub mod EntryLemmas
+pub mod NetlistLemmas
 pub mod ParseLemmas
 pub mod StatementLemmas

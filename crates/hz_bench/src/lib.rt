@@ -14,3 +14,6 @@ mod uses;
 
 pub use fault::BenchFault;
 pub use reading::read;
+
+#[cfg(test)]
+mod tests;

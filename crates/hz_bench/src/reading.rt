@@ -2,9 +2,9 @@
 
 ghost use Rattle.std.specs.Prelude.{◌≡◌, ◌<◌, ◌≤◌, ◌^◌, IfOk, IfErr, MatchResult, None, length};
 ghost use Rattle.hz_bench.specs.Answer.{answer_of, IsAnswerOf};
-ghost use Rattle.hz_bench.specs.Built.{built};
 ghost use Rattle.hz_bench.specs.Check.{first_fault};
 ghost use Rattle.hz_bench.specs.Entry.{numbered_list};
+ghost use Rattle.hz_bench.specs.Netlist.{netlist_of};
 ghost use Rattle.hz_bench.specs.Text.{statements_of, variables_among};
 ghost use Rattle.hz_bench.specs.Twice.{IsFoundOrMemory};
 
@@ -27,7 +27,7 @@ use std::alloc::Global;
 pub fn read(alloc: Global, text: &[u8]) -> Result<Circuit, BenchFault>
     requires { length text.now ≤ 16777216 }
     ensures faultless { IfOk result (λ _. answer_of text.now ≡ None) }
-    ensures circuit { IfOk result (λ circuit. circuit ≡ built (statements_of text.now)) }
+    ensures circuit { IfOk result (λ circuit. circuit ≡ netlist_of (statements_of text.now)) }
     ensures fault { IfErr result (λ fault. IsAnswerOf text.now fault) }
 {
     let entries = parse(alloc, text)?;
