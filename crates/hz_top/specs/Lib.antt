@@ -1,3 +1,7 @@
 pub mod Ending
 pub mod Job
 pub mod Finding
+pub mod Answer
+pub mod Refusal
+pub mod Reports
+pub mod Outcome

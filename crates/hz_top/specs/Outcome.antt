@@ -4,51 +4,30 @@ use Rattle.hz_outside.specs.Counts.{Rose}
 use Rattle.hz_outside.specs.Written.{joined}
 use Rattle.hz_outside.specs.declared.fault.Place.{Place}
 use Rattle.hz_outside.specs.declared.fault.Place.TheVariants.{First, Second}
+use Rattle.hz_outside.specs.declared.fault.LoadFault.{LoadFault}
+use Rattle.hz_outside.specs.declared.fault.LoadFault.TheVariants as load
 use Rattle.hz_core.specs.declared.tri.Tri.{Tri}
 use Rattle.hz_core.specs.Netlist.{Netlist}
-use Rattle.hz_net.specs.Network.{network_of, IsStable}
-use Rattle.hz_net.specs.Starts.{IsCompletedStart, IsLeastOpen, IsLeastUnstable}
+use Rattle.hz_net.specs.Network.{network_of}
+use Rattle.hz_net.specs.Starts.{IsAcceptedStart, IsLeastOpen, IsLeastUnstable}
 use Rattle.hz_bench.specs.declared.fault.BenchFault.{BenchFault}
 use Rattle.hz_bench.specs.Fault as bench
-use Rattle.hz_bench.specs.Netlist.{IsNetlistOf}
+use Rattle.hz_bench.specs.Netlist.{netlist_of}
+use Rattle.hz_bench.specs.Text.{statements_of}
 use Rattle.hz_text.specs.declared.fault.TextFault.{TextFault}
 use Rattle.hz_text.specs.ScriptFault as script
 use Rattle.hz_text.specs.ScriptText.{IsValue}
 use Rattle.hz_text.specs.ScriptValue.{ScriptOf}
-use Rattle.hz_report.specs.Report.{head_text, change_text}
 use Rattle.hz_top.specs.declared.status.Status.{Status}
 use Rattle.hz_top.specs.declared.status.Status.TheVariants as status
 use Rattle.hz_top.specs.Answer.{Says}
-use Rattle.hz_top.specs.Finding.{IsFinding}
+use Rattle.hz_top.specs.Reports.{Reports}
 use Rattle.hz_top.specs.Job.{JobOf, Analyse}
 use Rattle.hz_top.specs.Refusal.{words_line, unread_line, long_line, netlist_line, script_line, sequence_line, open_line, unstable_line}
 
 -- the most bytes of a file
 abbrev pub most_bytes : ℕ
 most_bytes = 16777216
-
--- the new input: the present one with the assignments of a change
-abbrev pub changed_input : List Bool → List (ℕ × Bool) → List Bool
-changed_input input change = fold (λ bits assignment. slice_set bits assignment.0 assignment.1) input change
-
--- the text of one change from a start: for some finding
-abbrev pub ChangeReads : Netlist → List Bool → ℕ → List (ℕ × Bool) → List ℕ → Type 0
-ChangeReads netlist start number change text =
-    (a : List Tri) × (rounds_a : ℕ) × (b : List Tri) × (rounds_b : ℕ)
-    × IsFinding (network_of netlist) (changed_input (take netlist.inputs start) change) start a rounds_a b rounds_b
-    × (text ≡ change_text netlist number change start rounds_a a rounds_b b)
-
--- the text of a start and the changes from it
-abbrev pub Reads : Netlist → List Bool → List (List (ℕ × Bool)) → List ℕ → Type 0
-Reads netlist start [] text = text ≡ head_text netlist start
-Reads netlist start (change ∷ []) text =
-    (report : List ℕ) × ChangeReads netlist start 1 change report × (text ≡ joined (head_text netlist start ∷ report ∷ []))
-Reads netlist start (change ∷ second ∷ changes) text = ⊥
-
--- a start that is completed, and stable under its own inputs
-pub record IsStableStart (netlist : Netlist) (listed : List (Option Bool)) (start : List Bool) : Type 0 where
-  pub completed : IsCompletedStart netlist listed start
-  pub stable : IsStable (network_of netlist) (take netlist.inputs start) start
 
 -- the start of a script is refused
 abbrev pub StartRefused : Netlist → List (Option Bool) → List ℕ → Type 0
@@ -61,8 +40,8 @@ abbrev pub ScriptComes : Netlist → ScriptOf → Status → List ℕ → Type 0
 ScriptComes netlist script own text =
     ((1 < length script.changes) × Says status.Text sequence_line own text)
     ⊎ ((length script.changes ≤ 1) × (own ≡ status.Start) × StartRefused netlist script.start text)
-    ⊎ ((length script.changes ≤ 1) × (own ≡ status.Done)
-    × ((start : List Bool) × IsStableStart netlist script.start start × Reads netlist start script.changes text))
+    ⊎ ((length script.changes ≤ 1)
+    × ((start : List Bool) × IsAcceptedStart netlist script.start start × Reports netlist start script.changes own text))
 
 -- what the second text comes to, on a circuit
 abbrev pub SecondTextComes : Netlist → List ℕ → Status → List ℕ → Type 0
@@ -86,6 +65,17 @@ Unread told place name own text =
     ⊎ (Rose (told.longs place) (told.longs_after place)
     × IfSome told.held (λ bytes_of. most_bytes < length (bytes_of name)) × Says status.TooLong (long_line place) own text)
 
+-- what the files tell and count before a call and after it
+abbrev pub told_by : {S : Type 0} → (S → Option (List ℕ → List ℕ)) → (S → Place → ℕ) → (S → Place → ℕ) → S → S → Told
+told_by held faults longs was now =
+    record { held = held was; faults = faults was; faults_after = faults now; longs = longs was; longs_after = longs now }
+
+-- what is written of a load that gave no file: for want of memory nothing
+abbrev pub LoadSays : Place → LoadFault → Status → List ℕ → Type 0
+LoadSays place load.Failed own text = Says status.File (unread_line place) own text
+LoadSays place load.TooLong own text = Says status.TooLong (long_line place) own text
+LoadSays place load.Memory own text = ⊥
+
 -- the bytes are those of the file, where they are told, and not too many
 abbrev pub IsFile : Told → List ℕ → List ℕ → Type 0
 IsFile told name bytes = IfSome told.held (λ bytes_of. bytes ≡ bytes_of name) × (length bytes ≤ most_bytes)
@@ -100,7 +90,7 @@ SecondComes told netlist name own text =
 abbrev pub FirstTextComes : Told → List ℕ → List ℕ → Status → List ℕ → Type 0
 FirstTextComes told bytes second own text =
     ((fault : BenchFault) × bench.IsLeastFault bytes fault × Says status.Netlist (netlist_line fault) own text)
-    ⊎ ((netlist : Netlist) × IsNetlistOf bytes netlist × SecondComes told netlist second own text)
+    ⊎ (bench.IsFaultless bytes × SecondComes told (netlist_of (statements_of bytes)) second own text)
 
 -- what the two files come to
 abbrev pub FilesCome : Told → List ℕ → List ℕ → Status → List ℕ → Type 0
@@ -114,3 +104,8 @@ JobComes told None own text =
     ((place : Place) → (told.faults_after place ≡ told.faults place) × (told.longs_after place ≡ told.longs place))
     × Says status.Words words_line own text
 JobComes told (Some (Analyse first second)) own text = FilesCome told first second own text
+
+-- the loads that a job may make: each of its two files at its place, with the limit
+abbrev pub MayLoad : (Place → List ℕ → ℕ → Type 0) → Option JobOf → Type 0
+MayLoad granted None = Unit {0}
+MayLoad granted (Some (Analyse first second)) = granted First first most_bytes × granted Second second most_bytes

@@ -10,6 +10,8 @@
 
 mod finding;
 mod job;
+mod refusal;
+mod reporting;
 mod status;
 
 pub use status::Status;

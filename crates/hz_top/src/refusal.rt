@@ -16,7 +16,10 @@ use itoa::Buffer;
 pub(crate) fn put_words<K: Sink>(out: &mut K) -> Result<(), PutFault>
     ensures { Wrote K.written K.faults words_line out.old out.new result }
 {
-    put_line(out, &[b"refused: words; usage: hazard JOB FIRST [SECOND] [--cap N] [--show nodes|all]"])
+    put_line(
+        out,
+        &[b"refused: words; usage: hazard JOB FIRST [SECOND] [--cap N] [--show nodes|all]"],
+    )
 }
 
 // The word for a file's place.
@@ -113,7 +116,10 @@ fn node_name(net: &Net, node: u32) -> &[u8]
 fn put_missing<K: Sink>(out: &mut K, net: &Net, node: u32) -> Result<(), PutFault>
     ensures { Wrote K.written K.faults (missing_line net.now node) out.old out.new result }
 {
-    put_line(out, &[b"refused: script: no value for ", node_name(net, node)])
+    put_line(
+        out,
+        &[b"refused: script: no value for ", node_name(net, node)],
+    )
 }
 
 // A fault of a script's text. For want of memory there is no line.

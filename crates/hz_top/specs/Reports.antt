@@ -1,0 +1,32 @@
+-- What is reported of a start and of a change from it.
+use Rattle.std.specs.Prelude.{◌≡◌, ℕ, Bool, List, [], ◌∷◌, take, fold, slice_set}
+use Rattle.hz_outside.specs.Written.{joined}
+use Rattle.hz_core.specs.declared.tri.Tri.{Tri}
+use Rattle.hz_core.specs.Netlist.{Netlist}
+use Rattle.hz_net.specs.Network.{network_of}
+use Rattle.hz_report.specs.Report.{head_text, change_text}
+use Rattle.hz_top.specs.declared.status.Status.{Status}
+use Rattle.hz_top.specs.declared.status.Status.TheVariants as status
+use Rattle.hz_top.specs.Finding.{IsFinding}
+
+-- the new input: the present one with the assignments of a change
+abbrev pub changed_input : List Bool → List (ℕ × Bool) → List Bool
+changed_input input change = fold (λ bits assignment. slice_set bits assignment.0 assignment.1) input change
+
+-- the text of one change from a start: for some finding
+abbrev pub ChangeReads : Netlist → List Bool → ℕ → List (ℕ × Bool) → List ℕ → Type 0
+ChangeReads netlist start number change text =
+    (a : List Tri) × (rounds_a : ℕ) × (b : List Tri) × (rounds_b : ℕ)
+    × IsFinding (network_of netlist) (changed_input (take netlist.inputs start) change) start a rounds_a b rounds_b
+    × (text ≡ change_text netlist number change start rounds_a a rounds_b b)
+
+-- the text of a start and of at most one change from it
+abbrev pub Reads : Netlist → List Bool → List (List (ℕ × Bool)) → List ℕ → Type 0
+Reads netlist start [] text = text ≡ head_text netlist start
+Reads netlist start (change ∷ []) text =
+    (report : List ℕ) × ChangeReads netlist start 1 change report × (text ≡ joined (head_text netlist start ∷ report ∷ []))
+Reads netlist start (change ∷ second ∷ changes) text = ⊥
+
+-- the job is done with this text
+abbrev pub Reports : Netlist → List Bool → List (List (ℕ × Bool)) → Status → List ℕ → Type 0
+Reports netlist start changes own text = (own ≡ status.Done) × Reads netlist start changes text
