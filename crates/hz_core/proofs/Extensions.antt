@@ -1,8 +1,7 @@
 -- What the ternary extension says of the lists of bits that refine the pins.
-use Rattle.std.proofs.Common.{◌≡◌, ℕ, Bool, true, false, List, [], ◌∷◌, map, length, IsTrue, refl, sym, ap, ◌∙◌}
+use Rattle.std.proofs.Common.{◌≡◌, Bool, true, false, List, [], ◌∷◌, map, IsTrue, refl, sym}
 use Rattle.hz_core.specs.declared.kind.Kind.{Kind}
 use Rattle.hz_core.specs.declared.tri.Tri.{Tri}
-use Rattle.hz_core.specs.declared.tri.Tri.TheVariants.{Zero, One, Unknown}
 use Rattle.hz_core.specs.Ternary.{tri_of, admits, is_below, AllBelow, Refines}
 use Rattle.hz_core.specs.Gate.{gate_value}
 use Rattle.hz_core.specs.Extension.{join_over, extension, IsExtension}

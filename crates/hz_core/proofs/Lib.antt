@@ -1,5 +1,7 @@
-pub mod Refinements
+pub mod ListLemmas
+pub mod CircuitLemmas
+pub mod FieldLemmas
+pub mod Extensions
 pub mod Joins
 pub mod Kleene
-pub mod Extensions
-pub mod CircuitLemmas
+pub mod Refinements

@@ -1,20 +1,19 @@
 -- Gate functions: how many pins a kind of gate takes, and its value on a list of bits.
-use Rattle.std.specs.Prelude.{ℕ, ◌%◌, Bool, true, false, not, ◌&&◌, List, nat_le, ◌==◌}
+use Rattle.std.specs.Prelude.{ℕ, ◌%◌, Bool, false, not, ◌&&◌, List, nat_le, ◌==◌}
 use Rattle.std.specs.List.{list_any, list_all, count_by, slice_index_or}
 use Rattle.hz_core.specs.declared.kind.Kind.{Kind}
 use Rattle.hz_core.specs.declared.kind.Kind.TheVariants.{And, Nand, Or, Nor, Xor, Xnor, Not, Buff}
-use Rattle.hz_core.specs.declared.kind.TheConstants.{MAX_PINS}
 
 -- one pin for an inverter or a buffer, 1 to 256 pins for any other gate
 abbrev pub takes : Kind → ℕ → Bool
 takes Not pins = pins == 1
 takes Buff pins = pins == 1
-takes And pins = nat_le 1 pins && nat_le pins MAX_PINS
-takes Nand pins = nat_le 1 pins && nat_le pins MAX_PINS
-takes Or pins = nat_le 1 pins && nat_le pins MAX_PINS
-takes Nor pins = nat_le 1 pins && nat_le pins MAX_PINS
-takes Xor pins = nat_le 1 pins && nat_le pins MAX_PINS
-takes Xnor pins = nat_le 1 pins && nat_le pins MAX_PINS
+takes And pins = nat_le 1 pins && nat_le pins 256
+takes Nand pins = nat_le 1 pins && nat_le pins 256
+takes Or pins = nat_le 1 pins && nat_le pins 256
+takes Nor pins = nat_le 1 pins && nat_le pins 256
+takes Xor pins = nat_le 1 pins && nat_le pins 256
+takes Xnor pins = nat_le 1 pins && nat_le pins 256
 
 -- every pin is 1
 abbrev pub every_pin : List Bool → Bool

@@ -29,7 +29,7 @@ impl Kind {
     {
         match self {
             Kind::Not | Kind::Buff => pins == 1,
-            _ => 1 <= pins && pins <= MAX_PINS,
+            _ => (1..=MAX_PINS).contains(&pins),
         }
     }
 
@@ -61,6 +61,7 @@ impl Kind {
         self.extended(pins)
     }
 
+    // By Kleene's connectives, pin by pin.
     #[tactic(auto, using(crate::proofs::Kleene::kleene))]
     fn extended(self, pins: &[Tri]) -> Tri
         requires { IsTrue (takes self (length pins.now)) }
@@ -114,3 +115,6 @@ fn parity(pins: &[Tri]) -> Tri
 {
     pins.iter().fold(Tri::Zero, |value, pin| value.xor(*pin))
 }
+
+#[cfg(test)]
+mod tests;

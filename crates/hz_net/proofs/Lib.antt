@@ -3,3 +3,4 @@ pub mod FanOutLemmas
 pub mod Fields
 pub mod Excitations
 pub mod Sequences
+pub mod Ranks

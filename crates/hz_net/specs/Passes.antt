@@ -65,3 +65,8 @@ IsSettlingRound sequence i One result round = round ≡ 0
 pub record AreRanks (sequence : ℕ → List Tri) (result : List Tri) (ranks : List ℕ) : Type 0 where
   pub long : length ranks ≡ length result
   pub each : (i : ℕ) → i < length result → IsRank sequence i (value_at result i) (slice_index ranks i)
+
+-- each variable's settling round
+pub record AreSettlingRounds (sequence : ℕ → List Tri) (first result : List Tri) (rounds : List ℕ) : Type 0 where
+  pub long : length rounds ≡ length first
+  pub each : (i : ℕ) → i < length first → IsSettlingRound sequence i (value_at first i) (value_at result i) (slice_index rounds i)

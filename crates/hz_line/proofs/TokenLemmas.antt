@@ -1,0 +1,134 @@
+-- The tokens of a line, from the front.
+use Rattle.std.proofs.Common.{IfSome, lit<, ◌≡◌, ◌∙◌, ℕ, ◌+◌, ◌<◌, ◌≤◌, List, [], ◌∷◌, ◌++◌, Bool, true, false, Option, Some, None, length, drop, get_or, cond, suc, refl, ap, arith}
+use Rattle.std.specs.List.{prefix_len}
+use Rattle.std.specs.List.{take_while}
+use Rattle.std.proofs.lemmas.List.Sums.{take_while-cons}
+use Rattle.hz_line.specs.Byte.{class_of, is_letter, is_letter_class}
+use Rattle.hz_line.specs.declared.bytes.Class.{Class}
+use Rattle.hz_line.specs.declared.bytes.Class.TheVariants.{Blank, Hash, Sign, Letter, Forbidden}
+use Rattle.hz_line.specs.Token.{TokenOf, WordOf, MarkOf, tokens_of, tokens_with, with_token, lengthen, begins_in_word, IsWord, AreWords}
+
+-- these tokens before others
+abbrev pub with_tokens : List TokenOf → Option (List TokenOf) → Option (List TokenOf)
+with_tokens [] rest = rest
+with_tokens (token ∷ tokens) rest = with_token token (with_tokens tokens rest)
+
+pub with_tokens-push : (tokens : List TokenOf) (token : TokenOf) (rest : Option (List TokenOf)) → with_tokens (tokens ++ token ∷ []) rest ≡ with_tokens tokens (with_token token rest)
+with_tokens-push [] token rest = refl
+with_tokens-push (first ∷ tokens) token rest = ap (with_token first) (with_tokens-push tokens token rest)
+
+pub with_tokens-none : (tokens : List TokenOf) → with_tokens tokens None ≡ None
+with_tokens-none [] = refl
+with_tokens-none (first ∷ tokens) = ap (with_token first) (with_tokens-none tokens)
+
+pub with_tokens-end : (tokens : List TokenOf) → with_tokens tokens (Some []) ≡ Some tokens
+with_tokens-end [] = refl
+with_tokens-end (first ∷ tokens) = ap (with_token first) (with_tokens-end tokens)
+
+pub lengthen-with_token : (byte : ℕ) (word : List ℕ) (tokens : Option (List TokenOf)) → lengthen byte (with_token (WordOf word) tokens) ≡ with_token (WordOf (byte ∷ word)) tokens
+lengthen-with_token byte word None = refl
+lengthen-with_token byte word (Some tokens) = refl
+
+pub Letter-from_is_letter : (class : Class) → is_letter_class class ≡ true → class ≡ Letter
+Letter-from_is_letter Blank h = cc
+Letter-from_is_letter Hash h = cc
+Letter-from_is_letter (Sign mark) h = cc
+Letter-from_is_letter Letter h = refl
+Letter-from_is_letter Forbidden h = cc
+
+-- the line begins with its first word, and the tokens of what follows it come next
+abbrev pub BeginsWithItsWord : List ℕ → Type 0
+BeginsWithItsWord line = tokens_of line ≡ with_token (WordOf (take_while is_letter line)) (tokens_of (drop (prefix_len is_letter line) line))
+
+front : (byte : ℕ) (rest : List ℕ) → class_of byte ≡ Letter → take_while is_letter (byte ∷ rest) ≡ byte ∷ take_while is_letter rest
+front byte rest e = take_while-cons is_letter byte rest ∙ ap (λ (class : Class). cond (is_letter_class class) (byte ∷ take_while is_letter rest) []) e
+
+drop-by_one : (n m byte : ℕ) (rest : List ℕ) → m ≡ suc n → drop m (byte ∷ rest) ≡ drop n rest
+drop-by_one n m byte rest e = rw e refl
+
+after : (byte : ℕ) (rest : List ℕ) → class_of byte ≡ Letter → drop (prefix_len is_letter (byte ∷ rest)) (byte ∷ rest) ≡ drop (prefix_len is_letter rest) rest
+after byte rest e =
+    ap (λ (class : Class). drop (cond (is_letter_class class) (1 + prefix_len is_letter rest) 0) (byte ∷ rest)) e
+    ∙ drop-by_one (prefix_len is_letter rest) _ byte rest (omega arith)
+
+prefix_len-no_word : (rest : List ℕ) → begins_in_word rest ≡ false → prefix_len is_letter rest ≡ 0
+prefix_len-no_word [] h = refl
+prefix_len-no_word (byte ∷ rest) h = rw h refl
+
+word_step : (byte : ℕ) (rest : List ℕ) (more : Bool) → class_of byte ≡ Letter → begins_in_word rest ≡ more → (begins_in_word rest ≡ true → BeginsWithItsWord rest) → BeginsWithItsWord (byte ∷ rest)
+word_step byte rest true e h ih = rw (front byte rest e, after byte rest e, e, h, ih h) (lengthen-with_token byte _ _)
+word_step byte rest false e h ih = rw (front byte rest e, after byte rest e, e, h, prefix_len-no_word rest h) refl
+
+pub tokens_of-word : (line : List ℕ) → begins_in_word line ≡ true → BeginsWithItsWord line
+tokens_of-word [] h = cc
+tokens_of-word (byte ∷ rest) h = word_step byte rest (begins_in_word rest) (Letter-from_is_letter (class_of byte) h) refl (tokens_of-word rest)
+
+-- the same at a line that is not empty, with the word's length
+pub tokens_of-word_at : (line : List ℕ) → 0 < length line → class_of (get_or line 0 0) ≡ Letter → BeginsWithItsWord line × (0 < prefix_len is_letter line)
+tokens_of-word_at [] more e = absurd (omega arith)
+tokens_of-word_at (byte ∷ rest) more e = (tokens_of-word (byte ∷ rest) (ap is_letter_class e), rw e (omega arith))
+
+is_letter-Letter : (byte : ℕ) → class_of byte ≡ Letter → is_letter byte ≡ true
+is_letter-Letter byte e = ap is_letter_class e
+
+one_letter : (byte : ℕ) → is_letter byte ≡ true → IsWord (byte ∷ [])
+one_letter byte h = record { some = lit< tt; letters = rw h refl }
+
+one_more : (byte : ℕ) (word : List ℕ) → is_letter byte ≡ true → IsWord word → IsWord (byte ∷ word)
+one_more byte word h rest = record { some = omega arith; letters = rw h rest.letters }
+
+with_token-AreWords : (token : TokenOf) (tokens : Option (List TokenOf)) → ((rest : List TokenOf) → AreWords rest → AreWords (token ∷ rest)) → IfSome tokens AreWords → IfSome (with_token token tokens) AreWords
+with_token-AreWords token None one h = h
+with_token-AreWords token (Some tokens) one h = one tokens h
+
+lengthen-AreWords : (byte : ℕ) (tokens : Option (List TokenOf)) → is_letter byte ≡ true → IfSome tokens AreWords → IfSome (lengthen byte tokens) AreWords
+lengthen-AreWords byte None e h = h
+lengthen-AreWords byte (Some []) e h = h
+lengthen-AreWords byte (Some (WordOf word ∷ tokens)) e h = (one_more byte word e h.0, h.1)
+lengthen-AreWords byte (Some (MarkOf mark ∷ tokens)) e h = h
+
+letter-AreWords : (byte : ℕ) (more : Bool) (tokens : Option (List TokenOf)) → is_letter byte ≡ true → IfSome tokens AreWords → IfSome (cond more (lengthen byte tokens) (with_token (WordOf (byte ∷ [])) tokens)) AreWords
+letter-AreWords byte true tokens e h = lengthen-AreWords byte tokens e h
+letter-AreWords byte false tokens e h = with_token-AreWords (WordOf (byte ∷ [])) tokens (λ rest r. (one_letter byte e, r)) h
+
+tokens_with-AreWords : (byte : ℕ) (class : Class) (rest : List ℕ) (tokens : Option (List TokenOf)) → class_of byte ≡ class → IfSome tokens AreWords → IfSome (tokens_with byte class rest tokens) AreWords
+tokens_with-AreWords byte Blank rest tokens e h = h
+tokens_with-AreWords byte Hash rest tokens e h = tt
+tokens_with-AreWords byte (Sign mark) rest tokens e h = with_token-AreWords (MarkOf mark) tokens (λ after r. r) h
+tokens_with-AreWords byte Letter rest tokens e h = letter-AreWords byte (begins_in_word rest) tokens (is_letter-Letter byte e) h
+tokens_with-AreWords byte Forbidden rest tokens e h = tt
+
+-- the words that a line has are words
+pub tokens_of-AreWords : (line : List ℕ) → IfSome (tokens_of line) AreWords
+tokens_of-AreWords [] = tt
+tokens_of-AreWords (byte ∷ rest) = tokens_with-AreWords byte (class_of byte) rest (tokens_of rest) refl (tokens_of-AreWords rest)
+
+with_token-length : (token : TokenOf) (tokens : Option (List TokenOf)) (n : ℕ) → IfSome tokens (λ all. length all ≤ n) → IfSome (with_token token tokens) (λ all. length all ≤ suc n)
+with_token-length token None n h = tt
+with_token-length token (Some tokens) n h = omega arith
+
+lengthen-length : (byte : ℕ) (tokens : Option (List TokenOf)) (n : ℕ) → IfSome tokens (λ all. length all ≤ n) → IfSome (lengthen byte tokens) (λ all. length all ≤ suc n)
+lengthen-length byte None n h = tt
+lengthen-length byte (Some []) n h = omega arith
+lengthen-length byte (Some (WordOf word ∷ tokens)) n h = omega arith
+lengthen-length byte (Some (MarkOf mark ∷ tokens)) n h = omega arith
+
+more-length : (tokens : Option (List TokenOf)) (n : ℕ) → IfSome tokens (λ all. length all ≤ n) → IfSome tokens (λ all. length all ≤ suc n)
+more-length None n h = tt
+more-length (Some tokens) n h = omega arith
+
+letter-length : (byte : ℕ) (more : Bool) (tokens : Option (List TokenOf)) (n : ℕ) → IfSome tokens (λ all. length all ≤ n) → IfSome (cond more (lengthen byte tokens) (with_token (WordOf (byte ∷ [])) tokens)) (λ all. length all ≤ suc n)
+letter-length byte true tokens n h = lengthen-length byte tokens n h
+letter-length byte false tokens n h = with_token-length (WordOf (byte ∷ [])) tokens n h
+
+tokens_with-length : (byte : ℕ) (class : Class) (rest : List ℕ) (tokens : Option (List TokenOf)) → IfSome tokens (λ all. length all ≤ length rest) → IfSome (tokens_with byte class rest tokens) (λ all. length all ≤ suc (length rest))
+tokens_with-length byte Blank rest tokens h = more-length tokens (length rest) h
+tokens_with-length byte Hash rest tokens h = omega arith
+tokens_with-length byte (Sign mark) rest tokens h = with_token-length (MarkOf mark) tokens (length rest) h
+tokens_with-length byte Letter rest tokens h = letter-length byte (begins_in_word rest) tokens (length rest) h
+tokens_with-length byte Forbidden rest tokens h = tt
+
+-- a line has no more tokens than bytes
+pub tokens_of-length : (line : List ℕ) → IfSome (tokens_of line) (λ tokens. length tokens ≤ length line)
+tokens_of-length [] = omega arith
+tokens_of-length (byte ∷ rest) = tokens_with-length byte (class_of byte) rest (tokens_of rest) (tokens_of-length rest)

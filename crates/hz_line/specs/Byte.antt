@@ -1,0 +1,28 @@
+-- The class of a byte in a line.
+use Rattle.std.specs.Prelude.{ℕ, Bool, true, false, ◌==◌, ◌||◌, ◌&&◌, nat_le, if◌then◌else◌}
+use Rattle.hz_line.specs.declared.bytes.Mark.TheVariants.{Open, Close, Comma, Equals}
+use Rattle.hz_line.specs.declared.bytes.Class.{Class}
+use Rattle.hz_line.specs.declared.bytes.Class.TheVariants.{Blank, Hash, Sign, Letter, Forbidden}
+
+-- blanks are space and tab; '#' starts a comment; '(' ')' ',' '=' are marks; the other bytes from 0x21 to 0x7E are letters of words
+unfoldable pub class_of : ℕ → Class
+class_of byte =
+    if byte == 32 || byte == 9 then Blank
+    else (if byte == 35 then Hash
+    else (if byte == 40 then Sign Open
+    else (if byte == 41 then Sign Close
+    else (if byte == 44 then Sign Comma
+    else (if byte == 61 then Sign Equals
+    else (if nat_le 0x21 byte && nat_le byte 0x7e then Letter else Forbidden))))))
+
+-- the class is that of letters
+abbrev pub is_letter_class : Class → Bool
+is_letter_class Blank = false
+is_letter_class Hash = false
+is_letter_class (Sign mark) = false
+is_letter_class Letter = true
+is_letter_class Forbidden = false
+
+-- the byte may stand in a word
+abbrev pub is_letter : ℕ → Bool
+is_letter byte = is_letter_class (class_of byte)

@@ -1,0 +1,4 @@
+pub mod Byte
+pub mod Keyword
+pub mod Line
+pub mod Token

@@ -1,0 +1,59 @@
+// The class of a byte in a line.
+
+ghost use Rattle.std.specs.Prelude.{◌≡◌};
+ghost use Rattle.hz_line.specs.Byte.{class_of, is_letter};
+
+/// The marks, each a token by itself.
+#[derive(Clone, Copy, Debug, PartialEq, Eq)]
+pub enum Mark {
+    /// `(`
+    Open,
+    /// `)`
+    Close,
+    /// `,`
+    Comma,
+    /// `=`
+    Equals,
+}
+
+/// What a byte does in a line, before the comment.
+#[derive(Clone, Copy, Debug, PartialEq, Eq)]
+pub enum Class {
+    /// A space or a tab, which separates tokens.
+    Blank,
+    /// `#`, which starts the comment.
+    Hash,
+    /// One of the marks.
+    Sign(Mark),
+    /// Any other printing byte of ASCII, a part of a word.
+    Letter,
+    /// Any other byte, as a control byte, a carriage return or a byte from 0x80 on.
+    Forbidden,
+}
+
+/// The class of a byte.
+#[tactic(auto, unfolding(crate::specs::Byte::class_of))]
+pub fn class_of(byte: u8) -> Class
+    ensures { result ≡ class_of byte }
+{
+    match byte {
+        b' ' | b'\t' => Class::Blank,
+        b'#' => Class::Hash,
+        b'(' => Class::Sign(Mark::Open),
+        b')' => Class::Sign(Mark::Close),
+        b',' => Class::Sign(Mark::Comma),
+        b'=' => Class::Sign(Mark::Equals),
+        0x21..=0x7e => Class::Letter,
+        _ => Class::Forbidden,
+    }
+}
+
+// Whether the byte is a part of a word.
+pub(crate) fn is_letter(byte: u8) -> bool
+    ensures { result ≡ is_letter byte }
+{
+    match class_of(byte) {
+        Class::Letter => true,
+        _ => false,
+    }
+}

@@ -1,0 +1,44 @@
+// Each public function once, with ample memory.
+
+use crate::{Cut, LineFault, Mark, Token, cut_line, is_keyword, read_tokens};
+use std::test::Fail;
+
+// The bytes of a token.
+fn spelling<'a>(token: &Token<'a>) -> &'a [u8] {
+    match token {
+        Token::Word(word) => *word,
+        Token::Sign(Mark::Open) => b"(",
+        Token::Sign(Mark::Close) => b")",
+        Token::Sign(Mark::Comma) => b",",
+        Token::Sign(Mark::Equals) => b"=",
+    }
+}
+
+#[test]
+fn reads_lines(rt: HostRuntime) -> Result<(), Fail> {
+    let Cut { line, rest } = cut_line(b"\t[g]=Buf( a.0,$b )#\xff=\r\nx\r");
+    let Cut {
+        line: last,
+        rest: none,
+    } = cut_line(rest.unwrap_or(b""));
+    assert!(rt; none.is_none());
+    assert_eq!(rt; last, b"x".as_slice());
+
+    let mut tokens = Vec::new(rt.alloc());
+    assert_eq!(rt; read_tokens(line, &mut tokens), Ok(()));
+    let expected = b"[g] = Buf ( a.0 , $b )";
+    let mut spelled = Vec::new(rt.alloc());
+    for token in &tokens {
+        if !spelled.is_empty() {
+            spelled.push(b' ')?;
+        }
+        spelled.extend_from_slice(spelling(token))?;
+    }
+    assert_eq!(rt; spelled.as_slice(), expected.as_slice());
+    assert_eq!(rt;
+        read_tokens(b"a\rb # c", &mut tokens),
+        Err(LineFault::Forbidden)
+    );
+    assert!(rt; is_keyword(b"Buf", b"BUF"));
+    Ok(())
+}
