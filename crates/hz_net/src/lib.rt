@@ -2,6 +2,7 @@
 #![tactic(auto)]
 
 mod entry;
+mod fan_out;
 mod net;
 mod variable;
 

@@ -1,12 +1,13 @@
 //! The complete network of a circuit.
-ghost use Rattle.std.specs.Prelude.{◌≡◌, ◌+◌, ◌<◌, ◌≤◌, ◌↔◌, length, slice_get, Some, IfOk, IsTrue};
+ghost use Rattle.std.specs.Prelude.{◌≡◌, ◌+◌, ◌<◌, ◌≤◌, ◌↔◌, length, slice_get, slice_range, Some, IfOk, IsTrue};
 ghost use Rattle.hz_core.specs.Netlist.{IsCircuit, IsWhole, IsGateNumber, variable_count, gate_at};
 ghost use Rattle.hz_net.specs.Network.{network_of, driver_at, bit_at, excitation, excitation3, IsStable};
-ghost use Rattle.hz_net.specs.Variables.{variables_of, first_wire, expanded};
+ghost use Rattle.hz_net.specs.Variables.{variables_of, first_wire, fan_out_of, expanded};
 ghost use Rattle.hz_net.specs.Entries.{driver_of, seen_as, IsEntryAt};
 
 use crate::VarKind;
 use crate::entry::{Entry, list_entries};
+use crate::fan_out::{FanOut, list_fan_out};
 use hz_core::{Circuit, Memory, Tri};
 use std::alloc::Global;
 use std::marker::Model;
@@ -20,6 +21,7 @@ use std::marker::Model;
 pub struct Net {
     circuit: Circuit,
     entries: Vec<Entry>,
+    fan_out: FanOut,
 }
 
 impl Model for Net {
@@ -41,7 +43,12 @@ impl Net {
         ensures ok { IfOk result (λ net. net ≡ circuit) }
     {
         let entries = list_entries(alloc, &circuit)?;
-        Ok(Net { circuit, entries })
+        let fan_out = list_fan_out(alloc, circuit.nodes(), entries.as_slice())?;
+        Ok(Net {
+            circuit,
+            entries,
+            fan_out,
+        })
     }
 
     /// The circuit that the network was built from.
@@ -88,6 +95,16 @@ impl Net {
             Entry::Input { .. } => unreachable!(),
             Entry::Wire { .. } => unreachable!(),
         }
+    }
+
+    /// The wires whose source is the node, ascending.
+    pub fn fan_out(&self, node: u32) -> &[u32]
+        requires { node < length self.now.names }
+        ensures { result.now ≡ fan_out_of self.now node }
+    {
+        let start = self.fan_out.starts[node as usize];
+        let end = self.fan_out.starts[node as usize + 1];
+        part(self.fan_out.readers.as_slice(), start, end)
     }
 
     /// The excitation of a variable: the external input for an input, the gate function of its own wires for a gate, the
@@ -172,4 +189,13 @@ impl Net {
     {
         self.entries[var as usize]
     }
+}
+
+// The part of a list from a start up to an end.
+fn part(list: &[u32], start: usize, end: usize) -> &[u32]
+    requires ordered { start ≤ end }
+    requires inside { end ≤ length list.now }
+    ensures { result.now ≡ slice_range list.now start end }
+{
+    &list[start..end]
 }
