@@ -83,7 +83,7 @@ turns-before-rank net input start i zero long inside first =
     absurd (known-differs (bit_at start i) (sym (at-tri_of start i) ∙ first.there))
 turns-before-rank net input start i (suc round) long inside first =
     let before : value_at (algorithm_a net input start round) i ≡ tri_of (bit_at start i) =
-        elim (unknown-or-start net input start long i round) [ inl e ↦ absurd (first.least round (omega arith) e) | inr e ↦ e ] in
+    elim (unknown-or-start net input start long i round) [ inl e ↦ absurd (first.least round (omega arith) e) | inr e ↦ e ] in
     let joined : join_of (tri_of (bit_at start i)) (driven3 input (algorithm_a net input start round) (driver_at net i)) ≡ Unknown =
-        ap (λ (v : Tri). join_of v (driven3 input (algorithm_a net input start round) (driver_at net i))) (sym before) ∙ (sym (one-round net input start long i round inside) ∙ first.there) in
+    ap (λ (v : Tri). join_of v (driven3 input (algorithm_a net input start round) (driver_at net i))) (sym before) ∙ (sym (one-round net input start long i round inside) ∙ first.there) in
     (round, refl, record { before = before; drives = turned-by (bit_at start i) _ joined })
