@@ -7,16 +7,24 @@ use Rattle.std.proofs.lemmas.List.{get_or_past}
 use Rattle.std.proofs.lemmas.List.Elements.{All-nil, All-cons, All-append}
 use Rattle.hz_core.specs.Netlist.{Gate, Netlist, IsCircuit, IsGateNumber, gate_at, variable_count}
 use Rattle.hz_net.specs.Network.{Wire, gate_wires, wires_from, wires_of, External, Function, Source, network_of, driver_at, excitation3, Driver, value_at}
-use Rattle.hz_net.specs.Variables.{variables_of, first_wire, readers_from, fan_out_of}
+use Rattle.hz_net.specs.Variables.{variables_of, first_wire, readers_from, fan_out_of, GoesInto}
 use Rattle.hz_net.specs.declared.variable.VarKind.TheVariants.{Wire as WireKind}
 use Rattle.hz_net.specs.Entries.{wire_entry}
-use Rattle.hz_net.proofs.Places.{no_wire, length-network_of, length-wires_of, driver_at-input, driver_at-gate, driver_at-wire, wire_at-pin, first_wire-bound, at-entries_of-wire, variables_of-entry}
+use Rattle.hz_net.proofs.Places.{no_wire, All-wires_of, length-network_of, length-wires_of, driver_at-input, driver_at-gate, driver_at-wire, wire_at-pin, first_wire-bound, at-entries_of-wire, variables_of-entry}
 
 -- a variable is a wire from a node
 pub record IsWireFrom (netlist : Netlist) (wire node : ℕ) : Type 0 where
   pub above : length netlist.names ≤ wire
   pub below : wire < variable_count netlist
   pub source : (get_or (wires_of netlist) (wire - length netlist.names) no_wire).source ≡ node
+
+-- a wire comes from a node
+pub IsWireFrom-node : (netlist : Netlist) (wire node : ℕ) → IsCircuit netlist → IsWireFrom netlist wire node → node < length netlist.names
+IsWireFrom-node netlist wire node circuit from =
+    let below = from.below in
+    let above = from.above in
+    subst (λ (n : ℕ). n < length netlist.names) from.source
+    (All-wires_of netlist circuit (wire - length netlist.names) no_wire (omega (arith, length-wires_of netlist)))
 
 -- what a node drives is a wire
 pub IsWireFrom-driver_at : (netlist : Netlist) (wire node : ℕ) → IsCircuit netlist → driver_at (network_of netlist) wire ≡ Source node → IsWireFrom netlist wire node
@@ -129,11 +137,6 @@ All-wires_from-gate low high number (gate ∷ gates) ge le =
     All-append (λ (wire : Wire). (low ≤ wire.gate) × (wire.gate < high)) (gate_wires number 0 gate.sources) (wires_from (number + 1) gates)
     (All-gate_wires-gate low high number 0 gate.sources ge (omega (arith, le)))
     (All-wires_from-gate low high (number + 1) gates (omega (arith, ge)) (omega (arith, le)))
-
--- a wire goes into a gate: the gate, and no other, has it among its pins
-pub record GoesInto (netlist : Netlist) (wire gate : ℕ) : Type 0 where
-  pub is_gate : IsGateNumber netlist gate
-  pub only : (other pin : ℕ) → IsGateNumber netlist other → pin < length (gate_at netlist other).sources → first_wire netlist other + pin ≡ wire → other ≡ gate
 
 -- what a variable is, is told by its wire
 pub variables_of-wire : (netlist : Netlist) (var : ℕ) → IsCircuit netlist → length netlist.names ≤ var → var < variable_count netlist → slice_get (variables_of netlist) var ≡ Some (WireKind (get_or (wires_of netlist) (var - length netlist.names) no_wire).gate (get_or (wires_of netlist) (var - length netlist.names) no_wire).pin (get_or (wires_of netlist) (var - length netlist.names) no_wire).source)
