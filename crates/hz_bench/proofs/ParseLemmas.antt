@@ -1,11 +1,12 @@
 -- Reading the statements of a text line by line.
-use Rattle.std.proofs.Common.{◌≡◌, ◌∙◌, ℕ, ◌+◌, ◌*◌, ◌≤◌, suc, List, [], ◌∷◌, ◌++◌, Bool, Option, Some, None, option_map, length, map, refl, sym, ap, subst, arith, add-one, append_assoc, sum_by, IfSome, is_some, lit≤}
+use Rattle.std.proofs.Common.{◌≡◌, ◌∙◌, ℕ, ◌+◌, ◌≤◌, suc, List, [], ◌∷◌, ◌++◌, Option, Some, None, option_map, length, take, drop, ◌-◌, map, refl, sym, ap, subst, arith, add-one, append_assoc, IfSome, is_some, lit≤}
 use Rattle.std.specs.Borrow.{Bor}
-use Rattle.std.proofs.lemmas.List.{map_push, append-nil}
+use Rattle.std.proofs.lemmas.List.{map_push, append-nil, take_rest, drop-map}
+use Rattle.hz_line.specs.declared.tokens.Token.{Token}
 use Rattle.std.proofs.lemmas.List.Sums.{sum_by-append, sum_by-cons}
 use Rattle.hz_line.specs.declared.bytes.Mark.TheVariants.{Open, Close, Comma, Equals}
 use Rattle.hz_line.specs.Line.{lines_of, lines_of_rest, rest_length}
-use Rattle.hz_line.specs.Token.{TokenOf, WordOf, MarkOf, tokens_of}
+use Rattle.hz_line.specs.Token.{TokenOf, WordOf, MarkOf, tokens_of, token_of}
 use Rattle.hz_line.proofs.TokenLemmas.{tokens_of-length}
 use Rattle.hz_bench.specs.declared.entry.Entry.{Entry}
 use Rattle.hz_bench.specs.declared.forms.Form.{Form}
@@ -13,13 +14,9 @@ use Rattle.hz_bench.specs.declared.forms.Form.TheVariants as form
 use Rattle.hz_bench.specs.declared.forms.KindWord.{KindWord}
 use Rattle.hz_bench.specs.Entry.{numbered_of, numbered_list}
 use Rattle.hz_bench.specs.Pass.{malformed_or, first_malformed, IsLineRead, IsParsed}
-use Rattle.hz_bench.specs.Statement.{Statement, Input, Output, Gate, statement_of, names_of, port_form, port_of, kind_word_of, variables_in, words_of}
-use Rattle.hz_bench.specs.Text.{Meaning, Nothing, Malformed, Means, Numbered, with_meaning, meaning_by, meaning_of, meaning_of_tokens, statement_in, numbered_from, numbered_statements, statements_of, variables_of}
-use Rattle.hz_bench.proofs.StatementLemmas.{IsNameList, IsNameList-from_some, sources_of-port_of}
-
--- the variables of numbered statements
-abbrev pub variables_among : List Numbered → ℕ
-variables_among statements = sum_by (λ (numbered : Numbered). variables_in numbered.statement) statements
+use Rattle.hz_bench.specs.Statement.{Statement, Input, Output, Gate, statement_of, names_of, port_form, port_of, kind_word_of, variables_in, words_of, sources_of}
+use Rattle.hz_bench.specs.Text.{Nothing, Means, Numbered, with_meaning, meaning_by, meaning_of, meaning_of_tokens, statement_in, numbered_from, numbered_statements, variables_of, variables_among}
+use Rattle.hz_bench.proofs.StatementLemmas.{IsNameList-from_some, sources_of-port_of}
 
 -- what was read so far, before the rest of the text
 pub record IsParsing (text : List ℕ) (entries : List Entry) (line : ℕ) (left : Option (Bor (List ℕ))) : Type 0 where
@@ -146,3 +143,67 @@ IsParsing-statement text entries entry line first left whole was cut shorter rea
       lines = let l = was.lines in omega arith;
       variables = let v = was.variables in omega arith;
     }
+
+pub few_tokens : (line : List ℕ) (tokens : List TokenOf) → tokens_of line ≡ Some tokens → length tokens ≤ length line
+few_tokens line tokens h = subst (λ (found : Option (List TokenOf)). IfSome found (λ all. length all ≤ length line)) h (tokens_of-length line)
+
+-- after the first four tokens of a statement come the names that its pins read
+pub record HasSources (tokens : List TokenOf) (statement : Statement) : Type 0 where
+  pub long : 4 ≤ length tokens
+  pub words : words_of (drop 4 tokens) ≡ sources_of statement
+
+port_sources : (name word : List ℕ) (made : Option Form) (statement : Statement) → option_map (port_of name) made ≡ Some statement → [] ≡ sources_of statement
+port_sources name word None statement h = cc
+port_sources name word (Some made) statement h = sym (ap sources_of (some_same h) ∙ sources_of-port_of name made)
+  where
+    some_same : {a b : Statement} → Some a ≡ Some b → b ≡ a
+    some_same e = cc
+
+gate_sources : (name : List ℕ) (kind : KindWord) (rest : List TokenOf) (names : Option (List (List ℕ))) (statement : Statement) → names ≡ names_of rest → option_map (λ (sources : List (List ℕ)). Gate name kind sources) names ≡ Some statement → words_of rest ≡ sources_of statement
+gate_sources name kind rest None statement same h = cc
+gate_sources name kind rest (Some names) (Input other) same h = cc
+gate_sources name kind rest (Some names) (Output other) same h = cc
+gate_sources name kind rest (Some names) (Gate other word sources) same h =
+    let list = IsNameList-from_some rest (ap is_some (sym same)) in
+    cc (list.words, same, h)
+
+sources_in : (tokens : List TokenOf) (statement : Statement) → statement_of tokens ≡ Some statement → HasSources tokens statement
+sources_in [] statement h = cc
+sources_in (MarkOf mark ∷ rest) statement h = cc
+sources_in (WordOf first ∷ []) statement h = cc
+sources_in (WordOf first ∷ WordOf second ∷ rest) statement h = cc
+sources_in (WordOf first ∷ MarkOf Close ∷ rest) statement h = cc
+sources_in (WordOf first ∷ MarkOf Comma ∷ rest) statement h = cc
+sources_in (WordOf first ∷ MarkOf Open ∷ []) statement h = cc
+sources_in (WordOf first ∷ MarkOf Open ∷ MarkOf mark ∷ rest) statement h = cc
+sources_in (WordOf first ∷ MarkOf Open ∷ WordOf second ∷ []) statement h = cc
+sources_in (WordOf first ∷ MarkOf Open ∷ WordOf second ∷ WordOf third ∷ rest) statement h = cc
+sources_in (WordOf first ∷ MarkOf Open ∷ WordOf second ∷ MarkOf Open ∷ rest) statement h = cc
+sources_in (WordOf first ∷ MarkOf Open ∷ WordOf second ∷ MarkOf Comma ∷ rest) statement h = cc
+sources_in (WordOf first ∷ MarkOf Open ∷ WordOf second ∷ MarkOf Equals ∷ rest) statement h = cc
+sources_in (WordOf first ∷ MarkOf Open ∷ WordOf second ∷ MarkOf Close ∷ []) statement h = record { long = omega arith; words = port_sources second first (port_form first) statement h }
+sources_in (WordOf first ∷ MarkOf Open ∷ WordOf second ∷ MarkOf Close ∷ token ∷ rest) statement h = cc
+sources_in (WordOf first ∷ MarkOf Equals ∷ []) statement h = cc
+sources_in (WordOf first ∷ MarkOf Equals ∷ MarkOf mark ∷ rest) statement h = cc
+sources_in (WordOf first ∷ MarkOf Equals ∷ WordOf second ∷ []) statement h = cc
+sources_in (WordOf first ∷ MarkOf Equals ∷ WordOf second ∷ WordOf third ∷ rest) statement h = cc
+sources_in (WordOf first ∷ MarkOf Equals ∷ WordOf second ∷ MarkOf Close ∷ rest) statement h = cc
+sources_in (WordOf first ∷ MarkOf Equals ∷ WordOf second ∷ MarkOf Comma ∷ rest) statement h = cc
+sources_in (WordOf first ∷ MarkOf Equals ∷ WordOf second ∷ MarkOf Equals ∷ rest) statement h = cc
+sources_in (WordOf first ∷ MarkOf Equals ∷ WordOf second ∷ MarkOf Open ∷ rest) statement h = record { long = omega arith; words = gate_sources first (kind_word_of second) rest (names_of rest) statement refl h }
+
+sources_found : (tokens : List TokenOf) (found : Option Statement) (statement : Statement) → found ≡ statement_of tokens → meaning_by found ≡ Means statement → HasSources tokens statement
+sources_found tokens None statement same h = cc
+sources_found tokens (Some found) statement same h = sources_in tokens statement (cc (same, h))
+
+sources_meant : (tokens : Option (List TokenOf)) (read : List TokenOf) (statement : Statement) → tokens ≡ Some read → meaning_of_tokens tokens ≡ Means statement → HasSources read statement
+sources_meant None read statement e h = cc
+sources_meant (Some []) read statement e h = cc
+sources_meant (Some (token ∷ tokens)) read statement e h = let same : token ∷ tokens ≡ read = cc in subst (λ (all : List TokenOf). HasSources all statement) same (sources_found (token ∷ tokens) (statement_of (token ∷ tokens)) statement refl h)
+
+-- the sources of an entry, from the tokens of its line
+pub entry_sources : (entry : Entry) (tokens : List TokenOf) → tokens_of entry.text.now ≡ Some tokens → HasSources tokens (statement_in entry.text.now)
+entry_sources entry tokens e = sources_meant (tokens_of entry.text.now) tokens (statement_in entry.text.now) e entry.means
+
+pub drop_tokens : (tokens : List Token) → words_of (map token_of (take (length tokens - 4) (drop 4 tokens))) ≡ words_of (drop 4 (map token_of tokens))
+drop_tokens tokens = ap words_of (ap (map token_of) (take_rest tokens 4) ∙ sym (drop-map token_of 4 tokens))

@@ -17,3 +17,7 @@ numbered_list entries = map numbered_of entries
 abbrev pub IsRead : ℕ → List ℕ → List TokenOf → Option Entry → Type 0
 IsRead line text tokens None = statement_of tokens ≡ None
 IsRead line text tokens (Some entry) = (entry.line ≡ line) × (entry.text.now ≡ text) × (statement_of tokens ≡ Some (statement_in text))
+
+-- the statements of entries
+abbrev pub statement_list : List Entry → List Statement
+statement_list entries = map (λ entry. statement_in entry.text.now) entries

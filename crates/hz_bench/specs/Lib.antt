@@ -5,3 +5,9 @@ pub mod Head
 pub mod Definition
 pub mod Twice
 pub mod Pass
+pub mod Check
+pub mod Fault
+pub mod Netlist
+pub mod Built
+pub mod Answer
+pub mod Printed

@@ -1,5 +1,5 @@
 -- The statements of a text, by their lines.
-use Rattle.std.specs.Prelude.{◌≡◌, ℕ, zero, suc, List, [], ◌∷◌, map, sum_by, Option, Some, None}
+use Rattle.std.specs.Prelude.{ℕ, zero, suc, List, [], ◌∷◌, map, sum_by, Option, Some, None}
 use Rattle.std.specs.List.{slice_index_or}
 use Rattle.hz_line.specs.Line.{lines_of}
 use Rattle.hz_line.specs.Token.{TokenOf, tokens_of}
@@ -68,3 +68,7 @@ statements_of text = map (λ numbered. numbered.statement) (numbered_statements 
 -- inputs, gates and pins of the statements in all
 abbrev pub variables_of : List Statement → ℕ
 variables_of statements = sum_by variables_in statements
+
+-- the variables of numbered statements
+abbrev pub variables_among : List Numbered → ℕ
+variables_among statements = sum_by (λ numbered. variables_in numbered.statement) statements

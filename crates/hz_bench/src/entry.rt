@@ -1,6 +1,7 @@
 // A statement of the text, as the passes over the statements read it.
 
 ghost use Rattle.std.specs.Prelude.{◌≡◌, ◌<◌, ◌^◌, length};
+ghost use Rattle.hz_line.specs.Token.{IsWord};
 ghost use Rattle.hz_bench.specs.Statement.{name_of, form_of, sources_of, has_long_name};
 ghost use Rattle.hz_bench.specs.Text.{Means, meaning_of, statement_in};
 
@@ -23,7 +24,9 @@ pub struct Entry<'a> {
     pub long: bool,
     ghost means: { meaning_of text.now ≡ Means (statement_in text.now) },
     ghost named: { name.now ≡ name_of (statement_in text.now) },
+    ghost worded: { IsWord name.now },
     ghost formed: { form ≡ form_of (statement_in text.now) },
     ghost counted: { pins ≡ length (sources_of (statement_in text.now)) },
+    ghost small: { pins < 2 ^ 32 },
     ghost measured: { long ≡ has_long_name (statement_in text.now) },
 }

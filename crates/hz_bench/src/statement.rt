@@ -1,6 +1,6 @@
 // The statement of a line.
 
-ghost use Rattle.std.specs.Prelude.{◌≡◌, ◌∷◌, ◌<◌, ◌^◌, length, map, Some, is_some};
+ghost use Rattle.std.specs.Prelude.{◌≡◌, ◌∷◌, ◌<◌, ◌≤◌, ◌^◌, IfSome, length, map, Some, is_some};
 ghost use Rattle.std.specs.List.{list_any};
 ghost use Rattle.hz_line.specs.Token.{token_of, tokens_of};
 ghost use Rattle.hz_bench.specs.Entry.{IsRead};
@@ -14,6 +14,7 @@ use hz_line::{Mark, Token, is_keyword};
 /// The statement of a line with these tokens, if they are one.
 pub(crate) fn entry_of<'a>(line: u32, text: &'a [u8], tokens: &[Token<'a>]) -> Option<Entry<'a>>
     requires tokens { tokens_of text.now ≡ Some (map token_of tokens.now) }
+    requires few { length tokens.now < 2 ^ 32 }
     ensures { IsRead line text.now (map token_of tokens.now) result }
 {
     let head = head_of(tokens)?;
@@ -36,7 +37,8 @@ struct Head<'t, 'a> {
 
 // The head of a line's tokens, if they begin as a statement does.
 fn head_of<'t, 'a>(tokens: &'t [Token<'a>]) -> Option<Head<'t, 'a>>
-    ensures { IsHeadOf (map token_of tokens.now) result }
+    ensures head { IsHeadOf (map token_of tokens.now) result }
+    ensures shorter { IfSome result (λ head. length head.rest.now ≤ length tokens.now) }
 {
     match tokens {
         [
@@ -82,6 +84,7 @@ fn gate_entry<'a>(line: u32, text: &'a [u8], head: &Head<'_, 'a>) -> Option<Entr
     requires tokens { tokens_of text.now ≡ Some (head_tokens head.now) }
     requires equals { head.now.mark ≡ Mark.Equals }
     requires opened { head.now.next ≡ Mark.Open }
+    requires few { length head.now.rest.now < 2 ^ 32 }
     ensures { IsRead line text.now (head_tokens head.now) result }
 {
     if !is_name_list(head.rest) {
