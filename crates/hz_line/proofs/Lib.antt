@@ -1,3 +1,4 @@
 pub mod LineLemmas
 pub mod TokenLemmas
 pub mod WrittenLemmas
+pub mod StatementLemmas

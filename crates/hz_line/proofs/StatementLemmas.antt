@@ -1,0 +1,165 @@
+-- The statements of a text ascend by their lines, and the first that passes a test is the least.
+use Rattle.std.proofs.Common.{◌≡◌, ◌∙◌, ℕ, ◌+◌, ◌<◌, ◌≤◌, Bool, true, false, cond, List, [], ◌∷◌, Option, Some, None, zero, suc, inl, inr, refl, ap, sym, subst, map, length, slice_index, arith, get_or}
+use Rattle.std.specs.List.{find, slice_index_or}
+use Rattle.std.specs.Option.{option_map}
+use Rattle.hz_line.specs.Line.{lines_of}
+use Rattle.hz_line.specs.Token.{TokenOf, tokens_of}
+use Rattle.hz_line.specs.Statement.{Meaning, Nothing, Malformed, Means, meaning_by, meaning_of_tokens, meaning_of, meaning_at, Numbered, with_meaning, numbered_from, PassesOn, first_line, malformed_before, first_malformed}
+
+-- the lines of statements ascend from a line on
+abbrev pub Ascends : {S : Type 0} → ℕ → List (Numbered S) → Type 0
+Ascends low [] = Unit {0}
+Ascends low (first ∷ later) = (low ≤ first.line) × Ascends (suc first.line) later
+
+Ascends-weaker : {S : Type 0} (low high : ℕ) (statements : List (Numbered S)) → low ≤ high → Ascends high statements → Ascends low statements
+Ascends-weaker low high [] l h = tt
+Ascends-weaker low high (first ∷ later) l h = (omega (arith, l, h.0), h.1)
+
+with_meaning-Ascends : {S : Type 0} (line : ℕ) (meaning : Meaning S) (later : List (Numbered S)) → Ascends (suc line) later → Ascends line (with_meaning line meaning later)
+with_meaning-Ascends line Nothing later h = Ascends-weaker line (suc line) later (omega arith) h
+with_meaning-Ascends line Malformed later h = Ascends-weaker line (suc line) later (omega arith) h
+with_meaning-Ascends line (Means statement) later h = (omega arith, h)
+
+pub numbered_from-Ascends : {S : Type 0} (grammar : List TokenOf → Option S) (line : ℕ) (lines : List (List ℕ)) → Ascends line (numbered_from grammar line lines)
+numbered_from-Ascends grammar line [] = tt
+numbered_from-Ascends grammar line (first ∷ rest) = with_meaning-Ascends line (meaning_of grammar first) _ (numbered_from-Ascends grammar (suc line) rest)
+
+pub PassesOn-above : {S : Type 0} (test : S → Bool) (statements : List (Numbered S)) (low line : ℕ) → Ascends low statements → PassesOn test statements line → low ≤ line
+PassesOn-above test [] low line h p = absurd p
+PassesOn-above test (first ∷ later) low line h (inl p) = omega (arith, h.0, p.0)
+PassesOn-above test (first ∷ later) low line h (inr p) = omega (arith, h.0, PassesOn-above test later (suc first.line) line h.1 p)
+
+-- the line passes, and no earlier one does
+pub record IsFirstLine {S : Type 0} (test : S → Bool) (statements : List (Numbered S)) (line : ℕ) : Type 0 where
+  pub passes : PassesOn test statements line
+  pub least : (other : ℕ) → PassesOn test statements other → line ≤ other
+
+true-false : true ≡ false → ⊥
+true-false e = cc
+
+first_line-at : {S : Type 0} (test : S → Bool) (first : Numbered S) (later : List (Numbered S)) (low line : ℕ) (b : Bool) → test first.statement ≡ b → Ascends low (first ∷ later) → first_line test (first ∷ later) ≡ Some line → (first_line test later ≡ Some line → IsFirstLine test later line) → IsFirstLine test (first ∷ later) line
+first_line-at test first later low line true t h e ih =
+    let at : Some first.line ≡ Some line = rw t at e in
+    let same : first.line ≡ line = cc in
+    record {
+      passes = inl (same, t);
+      least = λ other p. elim p [ inl q ↦ omega (arith, same, q.0) | inr q ↦ omega (arith, same, PassesOn-above test later (suc first.line) other h.1 q) ];
+    }
+first_line-at test first later low line false t h e ih =
+    let rest = ih (rw t at e) in
+    record {
+      passes = inr rest.passes;
+      least = λ other p. elim p [ inl q ↦ absurd (true-false (sym q.1 ∙ t)) | inr q ↦ rest.least other q ];
+    }
+
+pub first_line-Some : {S : Type 0} (test : S → Bool) (statements : List (Numbered S)) (low line : ℕ) → Ascends low statements → first_line test statements ≡ Some line → IsFirstLine test statements line
+first_line-Some test [] low line h e = cc
+first_line-Some test (first ∷ later) low line h e =
+    first_line-at test first later low line (test first.statement) refl h e (first_line-Some test later (suc first.line) line h.1)
+
+first_line-none_at : {S : Type 0} (test : S → Bool) (first : Numbered S) (later : List (Numbered S)) (line : ℕ) (b : Bool) → test first.statement ≡ b → first_line test (first ∷ later) ≡ None → (first_line test later ≡ None → PassesOn test later line → ⊥) → PassesOn test (first ∷ later) line → ⊥
+first_line-none_at test first later line true t e ih p = let at : Some first.line ≡ None = rw t at e in cc
+first_line-none_at test first later line false t e ih (inl q) = true-false (sym q.1 ∙ t)
+first_line-none_at test first later line false t e ih (inr q) = ih (rw t at e) q
+
+pub first_line-None : {S : Type 0} (test : S → Bool) (statements : List (Numbered S)) → first_line test statements ≡ None → (line : ℕ) → PassesOn test statements line → ⊥
+first_line-None test [] e line p = p
+first_line-None test (first ∷ later) e line p = first_line-none_at test first later line (test first.statement) refl e (λ f. first_line-None test later f line) p
+
+-- the line is malformed, and no earlier one is
+pub record IsFirstMalformed {S : Type 0} (grammar : List TokenOf → Option S) (lines : List (List ℕ)) (above : ℕ) : Type 0 where
+  pub malformed : meaning_of grammar (slice_index_or lines above []) ≡ Malformed
+  pub least : (other : ℕ) → meaning_of grammar (slice_index_or lines other []) ≡ Malformed → above ≤ other
+
+later_malformed : {S : Type 0} (grammar : List TokenOf → Option S) (first : List ℕ) (rest : List (List ℕ)) (line number : ℕ) → (meaning_of grammar first ≡ Malformed → ⊥) → (above : ℕ) × (number ≡ suc line + above) × IsFirstMalformed grammar rest above → (above : ℕ) × (number ≡ line + above) × IsFirstMalformed grammar (first ∷ rest) above
+later_malformed grammar first rest line number formed (above, at, is) = (suc above, omega (arith, at), record {
+    malformed = is.malformed;
+    least = λ other p. later_least other p;
+  })
+  where
+    later_least : (other : ℕ) → meaning_of grammar (slice_index_or (first ∷ rest) other []) ≡ Malformed → suc above ≤ other
+    later_least zero p = absurd (formed p)
+    later_least (suc other) p = omega (arith, is.least other p)
+
+first_malformed-at : {S : Type 0} (grammar : List TokenOf → Option S) (first : List ℕ) (rest : List (List ℕ)) (line number : ℕ) (meaning : Meaning S) → meaning_of grammar first ≡ meaning → malformed_before line meaning (first_malformed grammar (suc line) rest) ≡ Some number → (first_malformed grammar (suc line) rest ≡ Some number → (above : ℕ) × (number ≡ suc line + above) × IsFirstMalformed grammar rest above) → (above : ℕ) × (number ≡ line + above) × IsFirstMalformed grammar (first ∷ rest) above
+first_malformed-at grammar first rest line number Nothing m e ih = later_malformed grammar first rest line number (λ w. (let wrong : Nothing ≡ Malformed = sym m ∙ w in cc)) (ih e)
+first_malformed-at grammar first rest line number Malformed m e ih = (0, (let same : line ≡ number = cc in omega (arith, same)), record { malformed = m; least = λ other p. omega arith })
+first_malformed-at grammar first rest line number (Means statement) m e ih = later_malformed grammar first rest line number (λ w. (let wrong : Means statement ≡ Malformed = sym m ∙ w in cc)) (ih e)
+
+pub first_malformed-Some : {S : Type 0} (grammar : List TokenOf → Option S) (line : ℕ) (lines : List (List ℕ)) (number : ℕ) → first_malformed grammar line lines ≡ Some number → (above : ℕ) × (number ≡ line + above) × IsFirstMalformed grammar lines above
+first_malformed-Some grammar line [] number e = cc
+first_malformed-Some grammar line (first ∷ rest) number e =
+    first_malformed-at grammar first rest line number (meaning_of grammar first) refl e (first_malformed-Some grammar (suc line) rest number)
+
+formed_at : {S : Type 0} (grammar : List TokenOf → Option S) (first : List ℕ) (rest : List (List ℕ)) (line : ℕ) (meaning : Meaning S) → meaning_of grammar first ≡ meaning → malformed_before line meaning (first_malformed grammar (suc line) rest) ≡ None → (other : ℕ) → (first_malformed grammar (suc line) rest ≡ None → (k : ℕ) → meaning_of grammar (slice_index_or rest k []) ≡ Malformed → ⊥) → meaning_of grammar (slice_index_or (first ∷ rest) other []) ≡ Malformed → ⊥
+formed_at grammar first rest line Malformed m e other ih p = cc
+formed_at grammar first rest line Nothing m e zero ih p = let wrong : Nothing ≡ Malformed = sym m ∙ p in cc
+formed_at grammar first rest line Nothing m e (suc other) ih p = ih e other p
+formed_at grammar first rest line (Means statement) m e zero ih p = let wrong : Means statement ≡ Malformed = sym m ∙ p in cc
+formed_at grammar first rest line (Means statement) m e (suc other) ih p = ih e other p
+
+pub first_malformed-None : {S : Type 0} (grammar : List TokenOf → Option S) (line : ℕ) (lines : List (List ℕ)) → first_malformed grammar line lines ≡ None → (other : ℕ) → meaning_of grammar (slice_index_or lines other []) ≡ Malformed → ⊥
+first_malformed-None grammar line [] e other p = cc
+first_malformed-None grammar line (first ∷ rest) e other p =
+    formed_at grammar first rest line (meaning_of grammar first) refl e other (first_malformed-None grammar (suc line) rest) p
+
+-- the same by line numbers of a text
+pub meaning_at-first : {S : Type 0} (grammar : List TokenOf → Option S) (text : List ℕ) (number : ℕ) → first_malformed grammar 1 (lines_of text) ≡ Some number → (meaning_at grammar text number ≡ Malformed) × ((other : ℕ) → meaning_at grammar text other ≡ Malformed → number ≤ other)
+meaning_at-first grammar text number e = by_number (first_malformed-Some grammar 1 (lines_of text) number e)
+  where
+    least_at : (above : ℕ) → number ≡ 1 + above → IsFirstMalformed grammar (lines_of text) above → (other : ℕ) → meaning_at grammar text other ≡ Malformed → number ≤ other
+    least_at above at is zero p = cc
+    least_at above at is (suc other) p = omega (arith, at, is.least other p)
+    by_number : (above : ℕ) × (number ≡ 1 + above) × IsFirstMalformed grammar (lines_of text) above → (meaning_at grammar text number ≡ Malformed) × ((other : ℕ) → meaning_at grammar text other ≡ Malformed → number ≤ other)
+    by_number (above, at, is) =
+      let same : number ≡ suc above = omega (arith, at) in
+      (rw same is.malformed, least_at above at is)
+
+pub meaning_at-none : {S : Type 0} (grammar : List TokenOf → Option S) (text : List ℕ) → first_malformed grammar 1 (lines_of text) ≡ None → (other : ℕ) → meaning_at grammar text other ≡ Malformed → ⊥
+meaning_at-none grammar text e zero p = cc
+meaning_at-none grammar text e (suc other) p = first_malformed-None grammar 1 (lines_of text) e other p
+
+-- a grammar whose statements are mapped
+abbrev pub mapped : {S T : Type 0} → (S → T) → (List TokenOf → Option S) → List TokenOf → Option T
+mapped h grammar tokens = option_map h (grammar tokens)
+
+abbrev pub numbered_map : {S T : Type 0} → (S → T) → Numbered S → Numbered T
+numbered_map h numbered = record { line = numbered.line; statement = h numbered.statement }
+
+abbrev meaning_map : {S T : Type 0} → (S → T) → Meaning S → Meaning T
+meaning_map h Nothing = Nothing
+meaning_map h Malformed = Malformed
+meaning_map h (Means statement) = Means (h statement)
+
+meaning_by-map : {S T : Type 0} (h : S → T) (o : Option S) → meaning_by (option_map h o) ≡ meaning_map h (meaning_by o)
+meaning_by-map h None = refl
+meaning_by-map h (Some statement) = refl
+
+meaning_of_tokens-map : {S T : Type 0} (h : S → T) (grammar : List TokenOf → Option S) (tokens : Option (List TokenOf)) → meaning_of_tokens (mapped h grammar) tokens ≡ meaning_map h (meaning_of_tokens grammar tokens)
+meaning_of_tokens-map h grammar None = refl
+meaning_of_tokens-map h grammar (Some []) = refl
+meaning_of_tokens-map h grammar (Some (token ∷ tokens)) = meaning_by-map h (grammar (token ∷ tokens))
+
+with_meaning-map : {S T : Type 0} (h : S → T) (line : ℕ) (meaning : Meaning S) (later : List (Numbered S)) → with_meaning line (meaning_map h meaning) (map (numbered_map h) later) ≡ map (numbered_map h) (with_meaning line meaning later)
+with_meaning-map h line Nothing later = refl
+with_meaning-map h line Malformed later = refl
+with_meaning-map h line (Means statement) later = refl
+
+malformed_before-map : {S T : Type 0} (h : S → T) (line : ℕ) (meaning : Meaning S) (later : Option ℕ) → malformed_before line (meaning_map h meaning) later ≡ malformed_before line meaning later
+malformed_before-map h line Nothing later = refl
+malformed_before-map h line Malformed later = refl
+malformed_before-map h line (Means statement) later = refl
+
+pub numbered_from-map : {S T : Type 0} (h : S → T) (grammar : List TokenOf → Option S) (line : ℕ) (lines : List (List ℕ)) → numbered_from (mapped h grammar) line lines ≡ map (numbered_map h) (numbered_from grammar line lines)
+numbered_from-map h grammar line [] = refl
+numbered_from-map h grammar line (first ∷ rest) =
+    ap (λ later. with_meaning line (meaning_of (mapped h grammar) first) later) (numbered_from-map h grammar (suc line) rest)
+    ∙ ap (λ meaning. with_meaning line meaning (map (numbered_map h) (numbered_from grammar (suc line) rest))) (meaning_of_tokens-map h grammar (tokens_of first))
+    ∙ with_meaning-map h line (meaning_of grammar first) (numbered_from grammar (suc line) rest)
+
+pub first_malformed-map : {S T : Type 0} (h : S → T) (grammar : List TokenOf → Option S) (line : ℕ) (lines : List (List ℕ)) → first_malformed (mapped h grammar) line lines ≡ first_malformed grammar line lines
+first_malformed-map h grammar line [] = refl
+first_malformed-map h grammar line (first ∷ rest) =
+    ap (λ later. malformed_before line (meaning_of (mapped h grammar) first) later) (first_malformed-map h grammar (suc line) rest)
+    ∙ ap (λ meaning. malformed_before line meaning (first_malformed grammar (suc line) rest)) (meaning_of_tokens-map h grammar (tokens_of first))
+    ∙ malformed_before-map h line (meaning_of grammar first) (first_malformed grammar (suc line) rest)

@@ -1,0 +1,386 @@
+-- The first answer of the passes is the least fault.
+use Rattle.std.proofs.Common.{◌≡◌, ◌∙◌, ℕ, ◌+◌, ◌<◌, ◌≤◌, Bool, true, false, not, ◌||◌, cond, nat_eq, List, [], ◌∷◌, Option, Some, None, zero, suc, length, get_or, map, filter, refl, ap, sym, subst, inl, inr, arith, ltb, lit<}
+use Rattle.std.specs.List.{list_any, slice_get, position, position_or_len, range_with_len, All, slice_index_or}
+use Rattle.std.specs.Option.{option_map, MatchOption, IfSome}
+use Rattle.std.specs.Str.{bytes_eq}
+use Rattle.std.proofs.lemmas.List.Quantifiers.{position-Some}
+use Rattle.std.proofs.lemmas.List.Elements.{All-nil, All-cons, All-map}
+use Rattle.std.proofs.lemmas.List.{get_or-map}
+use Rattle.std.proofs.lemmas.Slice.Eq.{bytes_eq-Decides}
+use Rattle.std.proofs.lemmas.Bool.Decides.{nat_tests}
+use Rattle.std.proofs.lemmas.Bool.{cases_lt, ltb-false}
+use Rattle.std.specs.Prelude.{◌⊎◌}
+use Rattle.std.proofs.lemmas.Option.{same_Some, none-some}
+use Rattle.hz_core.specs.Netlist.{Netlist, node_named}
+use Rattle.hz_line.specs.Line.{lines_of}
+use Rattle.hz_line.specs.Statement.{Numbered, PassesOn, first_line, numbered_statements, first_malformed, Malformed, meaning_at}
+use Rattle.hz_line.proofs.StatementLemmas.{Ascends, numbered_from-Ascends, IsFirstLine, PassesOn-above, first_line-Some, first_line-None, meaning_at-first, meaning_at-none, numbered_from-map, first_malformed-map}
+use Rattle.hz_text.specs.declared.assigned.Assigned.{Assigned}
+use Rattle.hz_text.specs.declared.keyword.Keyword.{Keyword}
+use Rattle.hz_text.specs.declared.keyword.Keyword.TheVariants.{Start, Change}
+use Rattle.hz_text.specs.declared.fault.TextFault.{TextFault}
+use Rattle.hz_text.specs.declared.fault.TextFault.TheVariants.{Form, Unknown, Twice, Missing, Bit, Order, TooMany, Memory}
+use Rattle.hz_text.specs.Assignment.{Assignment, has_repeat}
+use Rattle.hz_text.specs.Statement.{Statement, statement_of, statements_of}
+use Rattle.hz_text.specs.Lookup.{Looked, looked_of, looked_up, looked_by, assigned_of}
+use Rattle.hz_text.specs.ScriptFault.{looked_statements, is_unknown, has_unknown, has_twice, has_no_bit, is_start, assigns, IsMissing, IsOutOfOrder, line_beyond, Stands, number_of, place_of, ComesFirst, IsLeastFault, IsFaultless}
+use Rattle.hz_text.specs.Pass.{nodes_of, has_node_twice, least_unassigned, least_missing, first_out_of_order, last_beyond, first_of, first_fault}
+use Rattle.hz_text.proofs.NodeLemmas.{marks_of, length-marks, get_or-marks}
+
+-- no fault of this kind stands in the text
+abbrev pub NoneOf : Netlist → List ℕ → (ℕ → TextFault) → Type 0
+NoneOf netlist text kind = (place : ℕ) → Stands netlist text (kind place) → ⊥
+
+form-first : (netlist : Netlist) (text : List ℕ) (place : ℕ) → ((other : ℕ) → Stands netlist text (Form other) → place ≤ other) → (other : TextFault) → Stands netlist text other → ComesFirst (Form place) other
+form-first netlist text place least (Form other) p = inr (refl, least other p)
+form-first netlist text place least (Unknown other) p = inl (lit< tt)
+form-first netlist text place least (Twice other) p = inl (lit< tt)
+form-first netlist text place least (Missing other) p = inl (lit< tt)
+form-first netlist text place least (Bit other) p = inl (lit< tt)
+form-first netlist text place least (Order other) p = inl (lit< tt)
+form-first netlist text place least (TooMany other) p = inl (lit< tt)
+form-first netlist text place least Memory p = absurd p
+
+unknown-first : (netlist : Netlist) (text : List ℕ) (place : ℕ) → NoneOf netlist text Form → ((other : ℕ) → Stands netlist text (Unknown other) → place ≤ other) → (other : TextFault) → Stands netlist text other → ComesFirst (Unknown place) other
+unknown-first netlist text place no0 least (Form other) p = absurd (no0 other p)
+unknown-first netlist text place no0 least (Unknown other) p = inr (refl, least other p)
+unknown-first netlist text place no0 least (Twice other) p = inl (lit< tt)
+unknown-first netlist text place no0 least (Missing other) p = inl (lit< tt)
+unknown-first netlist text place no0 least (Bit other) p = inl (lit< tt)
+unknown-first netlist text place no0 least (Order other) p = inl (lit< tt)
+unknown-first netlist text place no0 least (TooMany other) p = inl (lit< tt)
+unknown-first netlist text place no0 least Memory p = absurd p
+
+twice-first : (netlist : Netlist) (text : List ℕ) (place : ℕ) → NoneOf netlist text Form → NoneOf netlist text Unknown → ((other : ℕ) → Stands netlist text (Twice other) → place ≤ other) → (other : TextFault) → Stands netlist text other → ComesFirst (Twice place) other
+twice-first netlist text place no0 no1 least (Form other) p = absurd (no0 other p)
+twice-first netlist text place no0 no1 least (Unknown other) p = absurd (no1 other p)
+twice-first netlist text place no0 no1 least (Twice other) p = inr (refl, least other p)
+twice-first netlist text place no0 no1 least (Missing other) p = inl (lit< tt)
+twice-first netlist text place no0 no1 least (Bit other) p = inl (lit< tt)
+twice-first netlist text place no0 no1 least (Order other) p = inl (lit< tt)
+twice-first netlist text place no0 no1 least (TooMany other) p = inl (lit< tt)
+twice-first netlist text place no0 no1 least Memory p = absurd p
+
+missing-first : (netlist : Netlist) (text : List ℕ) (place : ℕ) → NoneOf netlist text Form → NoneOf netlist text Unknown → NoneOf netlist text Twice → ((other : ℕ) → Stands netlist text (Missing other) → place ≤ other) → (other : TextFault) → Stands netlist text other → ComesFirst (Missing place) other
+missing-first netlist text place no0 no1 no2 least (Form other) p = absurd (no0 other p)
+missing-first netlist text place no0 no1 no2 least (Unknown other) p = absurd (no1 other p)
+missing-first netlist text place no0 no1 no2 least (Twice other) p = absurd (no2 other p)
+missing-first netlist text place no0 no1 no2 least (Missing other) p = inr (refl, least other p)
+missing-first netlist text place no0 no1 no2 least (Bit other) p = inl (lit< tt)
+missing-first netlist text place no0 no1 no2 least (Order other) p = inl (lit< tt)
+missing-first netlist text place no0 no1 no2 least (TooMany other) p = inl (lit< tt)
+missing-first netlist text place no0 no1 no2 least Memory p = absurd p
+
+bit-first : (netlist : Netlist) (text : List ℕ) (place : ℕ) → NoneOf netlist text Form → NoneOf netlist text Unknown → NoneOf netlist text Twice → NoneOf netlist text Missing → ((other : ℕ) → Stands netlist text (Bit other) → place ≤ other) → (other : TextFault) → Stands netlist text other → ComesFirst (Bit place) other
+bit-first netlist text place no0 no1 no2 no3 least (Form other) p = absurd (no0 other p)
+bit-first netlist text place no0 no1 no2 no3 least (Unknown other) p = absurd (no1 other p)
+bit-first netlist text place no0 no1 no2 no3 least (Twice other) p = absurd (no2 other p)
+bit-first netlist text place no0 no1 no2 no3 least (Missing other) p = absurd (no3 other p)
+bit-first netlist text place no0 no1 no2 no3 least (Bit other) p = inr (refl, least other p)
+bit-first netlist text place no0 no1 no2 no3 least (Order other) p = inl (lit< tt)
+bit-first netlist text place no0 no1 no2 no3 least (TooMany other) p = inl (lit< tt)
+bit-first netlist text place no0 no1 no2 no3 least Memory p = absurd p
+
+order-first : (netlist : Netlist) (text : List ℕ) (place : ℕ) → NoneOf netlist text Form → NoneOf netlist text Unknown → NoneOf netlist text Twice → NoneOf netlist text Missing → NoneOf netlist text Bit → ((other : ℕ) → Stands netlist text (Order other) → place ≤ other) → (other : TextFault) → Stands netlist text other → ComesFirst (Order place) other
+order-first netlist text place no0 no1 no2 no3 no4 least (Form other) p = absurd (no0 other p)
+order-first netlist text place no0 no1 no2 no3 no4 least (Unknown other) p = absurd (no1 other p)
+order-first netlist text place no0 no1 no2 no3 no4 least (Twice other) p = absurd (no2 other p)
+order-first netlist text place no0 no1 no2 no3 no4 least (Missing other) p = absurd (no3 other p)
+order-first netlist text place no0 no1 no2 no3 no4 least (Bit other) p = absurd (no4 other p)
+order-first netlist text place no0 no1 no2 no3 no4 least (Order other) p = inr (refl, least other p)
+order-first netlist text place no0 no1 no2 no3 no4 least (TooMany other) p = inl (lit< tt)
+order-first netlist text place no0 no1 no2 no3 no4 least Memory p = absurd p
+
+toomany-first : (netlist : Netlist) (text : List ℕ) (place : ℕ) → NoneOf netlist text Form → NoneOf netlist text Unknown → NoneOf netlist text Twice → NoneOf netlist text Missing → NoneOf netlist text Bit → NoneOf netlist text Order → ((other : ℕ) → Stands netlist text (TooMany other) → place ≤ other) → (other : TextFault) → Stands netlist text other → ComesFirst (TooMany place) other
+toomany-first netlist text place no0 no1 no2 no3 no4 no5 least (Form other) p = absurd (no0 other p)
+toomany-first netlist text place no0 no1 no2 no3 no4 no5 least (Unknown other) p = absurd (no1 other p)
+toomany-first netlist text place no0 no1 no2 no3 no4 no5 least (Twice other) p = absurd (no2 other p)
+toomany-first netlist text place no0 no1 no2 no3 no4 no5 least (Missing other) p = absurd (no3 other p)
+toomany-first netlist text place no0 no1 no2 no3 no4 no5 least (Bit other) p = absurd (no4 other p)
+toomany-first netlist text place no0 no1 no2 no3 no4 no5 least (Order other) p = absurd (no5 other p)
+toomany-first netlist text place no0 no1 no2 no3 no4 no5 least (TooMany other) p = inr (refl, least other p)
+toomany-first netlist text place no0 no1 no2 no3 no4 no5 least Memory p = absurd p
+
+faultless : (netlist : Netlist) (text : List ℕ) → NoneOf netlist text Form → NoneOf netlist text Unknown → NoneOf netlist text Twice → NoneOf netlist text Missing → NoneOf netlist text Bit → NoneOf netlist text Order → NoneOf netlist text TooMany → IsFaultless netlist text
+faultless netlist text no0 no1 no2 no3 no4 no5 no6 (Form place) p = no0 place p
+faultless netlist text no0 no1 no2 no3 no4 no5 no6 (Unknown place) p = no1 place p
+faultless netlist text no0 no1 no2 no3 no4 no5 no6 (Twice place) p = no2 place p
+faultless netlist text no0 no1 no2 no3 no4 no5 no6 (Missing place) p = no3 place p
+faultless netlist text no0 no1 no2 no3 no4 no5 no6 (Bit place) p = no4 place p
+faultless netlist text no0 no1 no2 no3 no4 no5 no6 (Order place) p = no5 place p
+faultless netlist text no0 no1 no2 no3 no4 no5 no6 (TooMany place) p = no6 place p
+faultless netlist text no0 no1 no2 no3 no4 no5 no6 Memory p = p
+
+-- the statements that the reader reads are those of the text, looked up
+pub looked_statements-read : (netlist : Netlist) (text : List ℕ) → numbered_statements (looked_by netlist) text ≡ looked_statements netlist text
+looked_statements-read netlist text = numbered_from-map (looked_of netlist) statement_of 1 (lines_of text)
+
+looked-Ascends : (netlist : Netlist) (text : List ℕ) → Ascends 1 (looked_statements netlist text)
+looked-Ascends netlist text = subst (Ascends 1) (looked_statements-read netlist text) (numbered_from-Ascends (looked_by netlist) 1 (lines_of text))
+
+formed : (netlist : Netlist) (text : List ℕ) (answer : Option ℕ) → first_malformed (looked_by netlist) 1 (lines_of text) ≡ answer → first_malformed statement_of 1 (lines_of text) ≡ answer
+formed netlist text answer e = sym (first_malformed-map (looked_of netlist) statement_of 1 (lines_of text)) ∙ e
+
+-- the first malformed line is the least fault
+pub form-least : (netlist : Netlist) (text : List ℕ) (line : ℕ) → first_malformed (looked_by netlist) 1 (lines_of text) ≡ Some line → IsLeastFault netlist text (Form line)
+form-least netlist text line e =
+    let at = meaning_at-first statement_of text line (formed netlist text (Some line) e) in
+    record { stands = at.0; first = form-first netlist text line at.1 }
+
+pub form-none : (netlist : Netlist) (text : List ℕ) → first_malformed (looked_by netlist) 1 (lines_of text) ≡ None → NoneOf netlist text Form
+form-none netlist text e = meaning_at-none statement_of text (formed netlist text None e)
+
+-- what an answer says of the text
+abbrev pub Outcome : Netlist → List ℕ → Option TextFault → Type 0
+Outcome netlist text answer = MatchOption answer (IsFaultless netlist text) (IsLeastFault netlist text)
+
+outcome-unknown : (netlist : Netlist) (text : List ℕ) (answer : Option ℕ) (rest : Option TextFault) → NoneOf netlist text Form → first_line (has_unknown netlist.inputs) (looked_statements netlist text) ≡ answer → (first_line (has_unknown netlist.inputs) (looked_statements netlist text) ≡ None → Outcome netlist text rest) → Outcome netlist text (first_of (option_map Unknown answer) rest)
+outcome-unknown netlist text None rest no0 e next = next e
+outcome-unknown netlist text (Some line) rest no0 e next =
+    let h = first_line-Some (has_unknown netlist.inputs) (looked_statements netlist text) 1 line (looked-Ascends netlist text) e in
+    record { stands = h.passes; first = unknown-first netlist text line no0 h.least }
+
+outcome-twice : (netlist : Netlist) (text : List ℕ) (answer : Option ℕ) (rest : Option TextFault) → NoneOf netlist text Form → NoneOf netlist text Unknown → first_line has_twice (statements_of text) ≡ answer → (first_line has_twice (statements_of text) ≡ None → Outcome netlist text rest) → Outcome netlist text (first_of (option_map Twice answer) rest)
+outcome-twice netlist text None rest no0 no1 e next = next e
+outcome-twice netlist text (Some line) rest no0 no1 e next =
+    let h = first_line-Some has_twice (statements_of text) 1 line (numbered_from-Ascends statement_of 1 (lines_of text)) e in
+    record { stands = h.passes; first = twice-first netlist text line no0 no1 h.least }
+
+outcome-bit : (netlist : Netlist) (text : List ℕ) (answer : Option ℕ) (rest : Option TextFault) → NoneOf netlist text Form → NoneOf netlist text Unknown → NoneOf netlist text Twice → NoneOf netlist text Missing → first_line has_no_bit (looked_statements netlist text) ≡ answer → (first_line has_no_bit (looked_statements netlist text) ≡ None → Outcome netlist text rest) → Outcome netlist text (first_of (option_map Bit answer) rest)
+outcome-bit netlist text None rest no0 no1 no2 no3 e next = next e
+outcome-bit netlist text (Some line) rest no0 no1 no2 no3 e next =
+    let h = first_line-Some has_no_bit (looked_statements netlist text) 1 line (looked-Ascends netlist text) e in
+    record { stands = h.passes; first = bit-first netlist text line no0 no1 no2 no3 h.least }
+
+-- the first input that is not assigned
+pub record IsLeastUnassigned (inputs : ℕ) (all : List Assigned) (node : ℕ) : Type 0 where
+  pub below : node < inputs
+  pub unassigned : assigns all node ≡ false
+  pub least : (other : ℕ) → other < inputs → assigns all other ≡ false → node ≤ other
+
+not-true : (b : Bool) → not b ≡ true → b ≡ false
+not-true true h = cc
+not-true false h = refl
+
+not-false : (b : Bool) → not b ≡ false → b ≡ true
+not-false true h = refl
+not-false false h = cc
+
+unassigned-Some : (inputs : ℕ) (all : List Assigned) (node : ℕ) → least_unassigned inputs all ≡ Some node → IsLeastUnassigned inputs all node
+unassigned-Some inputs all node e =
+    let found = position-Some not (marks_of all inputs) node false e in
+    let below : node < inputs = omega (arith, found.0, length-marks all inputs) in
+    record {
+      below = below;
+      unassigned = sym (get_or-marks all inputs node false below) ∙ not-true _ found.1;
+      least = λ other l unset. by_place other (cases_lt other node) unset (λ less. sym (get_or-marks all inputs other false l) ∙ not-false _ (found.2 other less));
+    }
+  where
+    by_place : {node : ℕ} → (other : ℕ) → (other < node) ⊎ (node ≤ other) → assigns all other ≡ false → (other < node → assigns all other ≡ true) → node ≤ other
+    by_place other (inl less) unset seen = let wrong : true ≡ false = sym (seen less) ∙ unset in cc
+    by_place other (inr more) unset seen = more
+
+before_position : {X : Type 0} (test : X → Bool) (xs : List X) (k : ℕ) (d : X) → k < position_or_len test xs → test (get_or xs k d) ≡ false
+before_position test [] k d l = absurd (omega arith)
+before_position test (x ∷ xs) k d l = by_test (test x) k refl l (λ j. before_position test xs j d)
+  where
+    by_test : (b : Bool) (k : ℕ) → test x ≡ b → k < cond (not b) (1 + position_or_len test xs) 0 → ((j : ℕ) → j < position_or_len test xs → test (get_or xs j d) ≡ false) → test (get_or (x ∷ xs) k d) ≡ false
+    by_test true k e l ih = absurd (omega arith)
+    by_test false zero e l ih = e
+    by_test false (suc k) e l ih = ih k (omega (arith, l))
+
+position-None : {X : Type 0} (test : X → Bool) (xs : List X) (k : ℕ) (d : X) → position test xs ≡ None → k < length xs → test (get_or xs k d) ≡ false
+position-None test xs k d e l = by_test (ltb (position_or_len test xs) (length xs)) refl e
+  where
+    by_test : (b : Bool) → ltb (position_or_len test xs) (length xs) ≡ b → cond b (Some (position_or_len test xs)) None ≡ None → test (get_or xs k d) ≡ false
+    by_test true t w = cc
+    by_test false t w = before_position test xs k d (omega (arith, l, ltb-false _ _ t))
+
+pub unassigned-None : (inputs : ℕ) (all : List Assigned) → least_unassigned inputs all ≡ None → (node : ℕ) → node < inputs → assigns all node ≡ true
+unassigned-None inputs all e node l =
+    sym (get_or-marks all inputs node false l) ∙ not-false _ (position-None not (marks_of all inputs) node false e (omega (arith, l, length-marks all inputs)))
+
+true-false : true ≡ false → ⊥
+true-false e = cc
+
+missing-Some : (inputs : ℕ) (statements : List (Numbered Looked)) (node : ℕ) → least_missing inputs statements ≡ Some node → IsMissing inputs statements node × ((other : ℕ) → IsMissing inputs statements other → node ≤ other)
+missing-Some inputs [] node e = cc
+missing-Some inputs (first ∷ later) node e = by_test (is_start first.statement) refl e
+  where
+    by_test : (b : Bool) → is_start first.statement ≡ b → cond b (least_unassigned inputs first.statement.assigned) None ≡ Some node → IsMissing inputs (first ∷ later) node × ((other : ℕ) → IsMissing inputs (first ∷ later) other → node ≤ other)
+    by_test true t w =
+        let h = unassigned-Some inputs first.statement.assigned node w in
+        ((t, h.below, h.unassigned), λ other p. h.least other p.1 p.2)
+    by_test false t w = cc
+
+missing-None : (inputs : ℕ) (statements : List (Numbered Looked)) → least_missing inputs statements ≡ None → (node : ℕ) → IsMissing inputs statements node → ⊥
+missing-None inputs [] e node p = p
+missing-None inputs (first ∷ later) e node p = true-false (sym (unassigned-None inputs first.statement.assigned (rw p.0 at e) node p.1) ∙ p.2)
+
+outcome-missing : (netlist : Netlist) (text : List ℕ) (answer : Option ℕ) (rest : Option TextFault) → NoneOf netlist text Form → NoneOf netlist text Unknown → NoneOf netlist text Twice → least_missing netlist.inputs (looked_statements netlist text) ≡ answer → (least_missing netlist.inputs (looked_statements netlist text) ≡ None → Outcome netlist text rest) → Outcome netlist text (first_of (option_map Missing answer) rest)
+outcome-missing netlist text None rest no0 no1 no2 e next = next e
+outcome-missing netlist text (Some node) rest no0 no1 no2 e next =
+    let h = missing-Some netlist.inputs (looked_statements netlist text) node e in
+    record { stands = h.0; first = missing-first netlist text node no0 no1 no2 h.1 }
+
+order-Some : (statements : List (Numbered Looked)) (low line : ℕ) → Ascends low statements → first_out_of_order statements ≡ Some line → IsOutOfOrder statements line × ((other : ℕ) → IsOutOfOrder statements other → line ≤ other)
+order-Some [] low line h e = (sym (same_Some 0 line e), λ other p. omega (arith, same_Some 0 line e))
+order-Some (first ∷ later) low line h e = by_test (is_start first.statement) refl e
+  where
+    by_test : (b : Bool) → is_start first.statement ≡ b → cond b (first_line is_start later) (Some first.line) ≡ Some line → IsOutOfOrder (first ∷ later) line × ((other : ℕ) → IsOutOfOrder (first ∷ later) other → line ≤ other)
+    by_test true t w =
+        let is = first_line-Some is_start later (suc first.line) line h.1 w in (
+          inr is.passes,
+          λ other p. elim p [
+            | inl q ↦ (elim q [ inl at ↦ absurd (true-false (sym (at.1) ∙ ap not t)) | inr none ↦ absurd none ])
+            | inr q ↦ is.least other q
+          ],
+        )
+    by_test false t w =
+        let same : first.line ≡ line = same_Some first.line line w in (
+          inl (inl (same, ap not t)),
+          λ other p. elim p [
+            | inl q ↦ (elim q [ inl at ↦ omega (arith, same, at.0) | inr none ↦ absurd none ])
+            | inr q ↦ omega (arith, same, PassesOn-above is_start later (suc first.line) other h.1 q)
+          ],
+        )
+
+-- statements in order: a start, and no start after it
+abbrev pub IsOrdered : List (Numbered Looked) → Type 0
+IsOrdered [] = ⊥
+IsOrdered (first ∷ later) = (is_start first.statement ≡ true) × (first_line is_start later ≡ None)
+
+pub order-None : (statements : List (Numbered Looked)) → first_out_of_order statements ≡ None → IsOrdered statements
+order-None [] e = cc
+order-None (first ∷ later) e = by_test (is_start first.statement) refl e
+  where
+    by_test : (b : Bool) → is_start first.statement ≡ b → cond b (first_line is_start later) (Some first.line) ≡ None → (is_start first.statement ≡ true) × (first_line is_start later ≡ None)
+    by_test true t w = (t, w)
+    by_test false t w = cc
+
+ordered-none : (statements : List (Numbered Looked)) → IsOrdered statements → (line : ℕ) → IsOutOfOrder statements line → ⊥
+ordered-none [] h line p = h
+ordered-none (first ∷ later) h line (inl (inl at)) = true-false (sym at.1 ∙ ap not h.0)
+ordered-none (first ∷ later) h line (inl (inr none)) = none
+ordered-none (first ∷ later) h line (inr q) = first_line-None is_start later h.1 line q
+
+outcome-order : (netlist : Netlist) (text : List ℕ) (answer : Option ℕ) (rest : Option TextFault) → NoneOf netlist text Form → NoneOf netlist text Unknown → NoneOf netlist text Twice → NoneOf netlist text Missing → NoneOf netlist text Bit → first_out_of_order (looked_statements netlist text) ≡ answer → (first_out_of_order (looked_statements netlist text) ≡ None → Outcome netlist text rest) → Outcome netlist text (first_of (option_map Order answer) rest)
+outcome-order netlist text None rest no0 no1 no2 no3 no4 e next = next e
+outcome-order netlist text (Some line) rest no0 no1 no2 no3 no4 e next =
+    let h = order-Some (looked_statements netlist text) 1 line (looked-Ascends netlist text) e in
+    record { stands = h.0; first = order-first netlist text line no0 no1 no2 no3 no4 h.1 }
+
+filter-changes : (statements : List (Numbered Looked)) → first_line is_start statements ≡ None → filter (λ numbered. not (is_start numbered.statement)) statements ≡ statements
+filter-changes [] e = refl
+filter-changes (first ∷ later) e = by_test (is_start first.statement) refl (filter-changes later)
+  where
+    by_test : (b : Bool) → is_start first.statement ≡ b → (first_line is_start later ≡ None → filter (λ numbered. not (is_start numbered.statement)) later ≡ later) → filter (λ numbered. not (is_start numbered.statement)) (first ∷ later) ≡ first ∷ later
+    by_test true t ih = let wrong : Some first.line ≡ None = rw t at e in cc
+    by_test false t ih = rw t (ap (λ rest. first ∷ rest) (ih (rw t at e)))
+
+pub line_beyond-ordered : (statements : List (Numbered Looked)) → IsOrdered statements → line_beyond statements ≡ last_beyond statements
+line_beyond-ordered [] h = absurd h
+line_beyond-ordered (first ∷ later) h =
+    rw (h.0, filter-changes later h.1) refl
+
+outcome-beyond : (netlist : Netlist) (text : List ℕ) (answer : Option ℕ) → NoneOf netlist text Form → NoneOf netlist text Unknown → NoneOf netlist text Twice → NoneOf netlist text Missing → NoneOf netlist text Bit → NoneOf netlist text Order → line_beyond (looked_statements netlist text) ≡ answer → Outcome netlist text (option_map TooMany answer)
+outcome-beyond netlist text None no0 no1 no2 no3 no4 no5 e =
+    faultless netlist text no0 no1 no2 no3 no4 no5 (λ line p. none-some line (sym e ∙ p))
+outcome-beyond netlist text (Some line) no0 no1 no2 no3 no4 no5 e =
+    record { stands = e; first = toomany-first netlist text line no0 no1 no2 no3 no4 no5 (λ other p. omega (arith, same_Some line other (sym e ∙ p))) }
+
+-- names of nodes are equal where the nodes are
+name-eq : (netlist : Netlist) (a b : List ℕ) (i j : ℕ) → node_named netlist a ≡ Some i → node_named netlist b ≡ Some j → nat_eq i j ≡ bytes_eq a b
+name-eq netlist a b i j ea eb =
+    let at = λ (name : List ℕ) (k : ℕ) (e : node_named netlist name ≡ Some k). (bytes_eq-Decides name (get_or netlist.names k [])).0 (position-Some (bytes_eq name) netlist.names k [] e).1 in
+    by_test (bytes_eq a b) refl (at a i ea) (at b j eb)
+  where
+    other : (t : Bool) → nat_eq i j ≡ t → bytes_eq a b ≡ false → a ≡ get_or netlist.names i [] → b ≡ get_or netlist.names j [] → t ≡ false
+    other false t e na nb = refl
+    other true t e na nb =
+        let nodes : i ≡ j = grind (arith, nat_tests, t) in
+        let same : a ≡ b = na ∙ ap (λ k. get_or netlist.names k []) nodes ∙ sym nb in
+        let wrong : true ≡ false = sym ((bytes_eq-Decides a b).1 same) ∙ e in cc
+
+    by_test : (r : Bool) → bytes_eq a b ≡ r → a ≡ get_or netlist.names i [] → b ≡ get_or netlist.names j [] → nat_eq i j ≡ r
+    by_test true e na nb =
+        let same : a ≡ b = (bytes_eq-Decides a b).0 e in
+        let nodes : i ≡ j = same_Some i j (sym ea ∙ ap (node_named netlist) same ∙ eb) in
+        grind (arith, nat_tests, nodes)
+    by_test false e na nb = other (nat_eq i j) refl e na nb
+
+-- a name that is not unknown is a node's
+pub known : (inputs : ℕ) (keyword : Keyword) (node : Option ℕ) → is_unknown inputs keyword node ≡ false → (k : ℕ) × (node ≡ Some k)
+known inputs Start None e = cc
+known inputs Start (Some node) e = (node, refl)
+known inputs Change None e = cc
+known inputs Change (Some node) e = (node, refl)
+
+pub or_parts : (a b : Bool) → (a || b) ≡ false → (a ≡ false) × (b ≡ false)
+or_parts true b h = cc
+or_parts false b h = (refl, h)
+
+-- no name of these is unknown
+abbrev pub AllKnown : Netlist → Keyword → List Assignment → Type 0
+AllKnown netlist keyword assignments = list_any (λ assigned. is_unknown netlist.inputs keyword assigned.node) (map (assigned_of netlist) assignments) ≡ false
+
+any-names : (netlist : Netlist) (keyword : Keyword) (name : List ℕ) (node : ℕ) (assignments : List Assignment) → node_named netlist name ≡ Some node → AllKnown netlist keyword assignments → list_any (nat_eq node) (nodes_of (map (assigned_of netlist) assignments)) ≡ list_any (bytes_eq name) (map (λ assignment. assignment.name) assignments)
+any-names netlist keyword name node [] e h = refl
+any-names netlist keyword name node (first ∷ later) e h =
+    let parts = or_parts (is_unknown netlist.inputs keyword (node_named netlist first.name)) _ h in
+    step (known netlist.inputs keyword (node_named netlist first.name) parts.0) (any-names netlist keyword name node later e parts.1)
+  where
+    step : (k : ℕ) × (node_named netlist first.name ≡ Some k) → list_any (nat_eq node) (nodes_of (map (assigned_of netlist) later)) ≡ list_any (bytes_eq name) (map (λ assignment. assignment.name) later) → list_any (nat_eq node) (nodes_of (map (assigned_of netlist) (first ∷ later))) ≡ list_any (bytes_eq name) (map (λ assignment. assignment.name) (first ∷ later))
+    step (k, is) ih = rw is (ap (λ b. b || list_any (nat_eq node) (nodes_of (map (assigned_of netlist) later))) (name-eq netlist name first.name node k e is) ∙ ap (λ b. bytes_eq name first.name || b) ih)
+
+twice-names : (netlist : Netlist) (keyword : Keyword) (assignments : List Assignment) → AllKnown netlist keyword assignments → has_repeat nat_eq (nodes_of (map (assigned_of netlist) assignments)) ≡ has_repeat bytes_eq (map (λ assignment. assignment.name) assignments)
+twice-names netlist keyword [] h = refl
+twice-names netlist keyword (first ∷ later) h =
+    let parts = or_parts (is_unknown netlist.inputs keyword (node_named netlist first.name)) _ h in
+    step parts.1 (known netlist.inputs keyword (node_named netlist first.name) parts.0) (twice-names netlist keyword later parts.1)
+  where
+    step : AllKnown netlist keyword later → (k : ℕ) × (node_named netlist first.name ≡ Some k) → has_repeat nat_eq (nodes_of (map (assigned_of netlist) later)) ≡ has_repeat bytes_eq (map (λ assignment. assignment.name) later) → has_repeat nat_eq (nodes_of (map (assigned_of netlist) (first ∷ later))) ≡ has_repeat bytes_eq (map (λ assignment. assignment.name) (first ∷ later))
+    step rest (k, is) ih = rw is (ap (λ b. b || has_repeat nat_eq (nodes_of (map (assigned_of netlist) later))) (any-names netlist keyword first.name k later is rest) ∙ ap (λ b. list_any (bytes_eq first.name) (map (λ assignment. assignment.name) later) || b) ih)
+
+pub first_line-cons : {S : Type 0} (test : S → Bool) (first : Numbered S) (later : List (Numbered S)) → first_line test (first ∷ later) ≡ cond (test first.statement) (Some first.line) (first_line test later)
+first_line-cons test first later = by_test (test first.statement) refl
+  where
+    by_test : (b : Bool) → test first.statement ≡ b → first_line test (first ∷ later) ≡ cond b (Some first.line) (first_line test later)
+    by_test true t = rw t refl
+    by_test false t = rw t refl
+
+twice-line : (netlist : Netlist) (statements : List (Numbered Statement)) → first_line (has_unknown netlist.inputs) (map (looked_up netlist) statements) ≡ None → first_line has_node_twice (map (looked_up netlist) statements) ≡ first_line has_twice statements
+twice-line netlist [] e = refl
+twice-line netlist (first ∷ later) e =
+    by_test (has_unknown netlist.inputs (looked_of netlist first.statement)) refl (sym (first_line-cons (has_unknown netlist.inputs) (looked_up netlist first) (map (looked_up netlist) later)) ∙ e) (twice-line netlist later)
+  where
+    by_test : (b : Bool) → has_unknown netlist.inputs (looked_of netlist first.statement) ≡ b → cond b (Some first.line) (first_line (has_unknown netlist.inputs) (map (looked_up netlist) later)) ≡ None → (first_line (has_unknown netlist.inputs) (map (looked_up netlist) later) ≡ None → first_line has_node_twice (map (looked_up netlist) later) ≡ first_line has_twice later) → first_line has_node_twice (map (looked_up netlist) (first ∷ later)) ≡ first_line has_twice (first ∷ later)
+    by_test true t w ih = cc
+    by_test false t w ih =
+        first_line-cons has_node_twice (looked_up netlist first) (map (looked_up netlist) later)
+        ∙ ap (λ b. cond b (Some first.line) (first_line has_node_twice (map (looked_up netlist) later))) (twice-names netlist first.statement.keyword first.statement.assignments t)
+        ∙ ap (λ rest. cond (has_twice first.statement) (Some first.line) rest) (ih w)
+        ∙ sym (first_line-cons has_twice first later)
+
+-- what the passes answer over the statements of a text without a malformed line
+pub first_fault-outcome : (netlist : Netlist) (text : List ℕ) → NoneOf netlist text Form → Outcome netlist text (first_fault netlist.inputs (looked_statements netlist text))
+first_fault-outcome netlist text no0 =
+    let looked = looked_statements netlist text in
+    outcome-unknown netlist text (first_line (has_unknown netlist.inputs) looked) _ no0 refl
+    (λ unknown.
+    let no1 : NoneOf netlist text Unknown = first_line-None (has_unknown netlist.inputs) looked unknown in
+    let same = twice-line netlist (statements_of text) unknown in
+    rw same (outcome-twice netlist text (first_line has_twice (statements_of text)) _ no0 no1 refl
+    (λ twice.
+    let no2 : NoneOf netlist text Twice = first_line-None has_twice (statements_of text) twice in
+    outcome-missing netlist text (least_missing netlist.inputs looked) _ no0 no1 no2 refl
+    (λ missing.
+    let no3 : NoneOf netlist text Missing = missing-None netlist.inputs looked missing in
+    outcome-bit netlist text (first_line has_no_bit looked) _ no0 no1 no2 no3 refl
+    (λ bit.
+    let no4 : NoneOf netlist text Bit = first_line-None has_no_bit looked bit in
+    outcome-order netlist text (first_out_of_order looked) _ no0 no1 no2 no3 no4 refl
+    (λ order.
+    let ordered = order-None looked order in
+    let no5 : NoneOf netlist text Order = ordered-none looked ordered in
+    outcome-beyond netlist text (last_beyond looked) no0 no1 no2 no3 no4 no5 (line_beyond-ordered looked ordered)))))))

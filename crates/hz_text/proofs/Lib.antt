@@ -1,0 +1,9 @@
+pub mod PieceLemmas
+pub mod ScriptLemmas
+pub mod NodeLemmas
+pub mod BuildLemmas
+pub mod FaultLaws
+pub mod ReadLaws
+pub mod PrintLemmas
+pub mod WordLaws
+pub mod PrintLaws

@@ -1,0 +1,29 @@
+-- The printed text of a script.
+use Rattle.std.specs.Prelude.{ℕ, suc, Bool, true, false, List, [], ◌∷◌, ◌++◌, codes, Option, Some, None}
+use Rattle.std.specs.List.{flat_map, slice_index_or}
+use Rattle.hz_core.specs.Netlist.{Netlist}
+use Rattle.hz_text.specs.ScriptValue.{ScriptOf}
+
+-- the letter of a bit
+abbrev pub letter_of : Bool → ℕ
+letter_of false = 48
+letter_of true = 49
+
+-- a space, and the assignment of a bit to a node's name
+abbrev pub assignment_text : Netlist → ℕ × Bool → List ℕ
+assignment_text netlist pair = 32 ∷ slice_index_or netlist.names pair.0 [] ++ 61 ∷ letter_of pair.1 ∷ []
+
+-- a statement on a line of its own: its keyword and its assignments
+unfoldable pub statement_text : Netlist → List ℕ → List (ℕ × Bool) → List ℕ
+statement_text netlist keyword pairs = keyword ++ flat_map (assignment_text netlist) pairs ++ 10 ∷ []
+
+-- the nodes that a start lists, with their bits; the first of these entries is for the node with this number
+abbrev pub listed_from : ℕ → List (Option Bool) → List (ℕ × Bool)
+listed_from node [] = []
+listed_from node (None ∷ later) = listed_from (suc node) later
+listed_from node (Some bit ∷ later) = (node, bit) ∷ listed_from (suc node) later
+
+-- a line for the start, in the order of the nodes, and one for each change, in its own order
+abbrev pub script_text : Netlist → ScriptOf → List ℕ
+script_text netlist script =
+    statement_text netlist (codes "start") (listed_from 0 script.start) ++ flat_map (statement_text netlist (codes "change")) script.changes

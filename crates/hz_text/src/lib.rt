@@ -1,0 +1,23 @@
+//! Scripts: a start and changes of the inputs of a circuit, read from a text and printed.
+#![tactic(auto)]
+
+mod assigned;
+mod build;
+mod check;
+mod entry;
+mod fault;
+mod keyword;
+mod passes;
+mod print;
+mod read;
+mod script;
+mod statement;
+
+pub use entry::MAX_TEXT;
+pub use fault::TextFault;
+pub use print::print_script;
+pub use read::read_script;
+pub use script::{MAX_CHANGES, Script};
+
+#[cfg(test)]
+mod tests;
