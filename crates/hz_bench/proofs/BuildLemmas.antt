@@ -1,5 +1,5 @@
 -- When a node or a pin may be added.
-use Rattle.std.proofs.Common.{◌≡◌, ◌∙◌, ℕ, ◌+◌, ◌<◌, ◌≤◌, List, [], ◌∷◌, Bool, true, false, not, ◌++◌, ◌||◌, ◌&&◌, ◌==◌, cond, nat_le, nat_lt, Option, Some, None, is_some, IsTrue, length, map, take, fold, get_or, refl, sym, ap, subst, arith}
+use Rattle.std.proofs.Common.{◌≡◌, ◌∙◌, ℕ, ◌+◌, ◌<◌, ◌≤◌, List, [], ◌∷◌, Bool, true, false, not, ◌++◌, ◌||◌, ◌&&◌, ◌==◌, cond, nat_le, Option, Some, None, is_some, length, map, take, fold, get_or, refl, sym, ap, arith}
 use Rattle.std.specs.Bool.{OnTrue}
 use Rattle.std.specs.List.{list_all}
 use Rattle.std.proofs.lemmas.Bool.Decides.{nat_tests}
@@ -13,10 +13,10 @@ use Rattle.hz_line.specs.declared.bytes.Mark.TheVariants.{Open, Close, Comma, Eq
 use Rattle.hz_line.specs.Byte.{class_of, is_letter, is_letter_class}
 use Rattle.std.proofs.lemmas.List.{take_more, map_push}
 use Rattle.hz_line.specs.declared.tokens.Token.{Token}
-use Rattle.hz_line.specs.Token.{TokenOf, WordOf, MarkOf, token_of, IsWord}
+use Rattle.hz_line.specs.Token.{TokenOf, WordOf, MarkOf, token_of}
 use Rattle.hz_line.proofs.WrittenLemmas.{both}
 use Rattle.hz_bench.specs.declared.entry.Entry.{Entry}
-use Rattle.hz_bench.specs.Built.{MayAdd, HasPinLeft, after_pin}
+use Rattle.hz_bench.specs.Built.{MayAdd, after_pin}
 use Rattle.hz_bench.specs.Statement.{name_of, is_long, words_of}
 use Rattle.hz_bench.specs.Text.{statement_in}
 
@@ -91,5 +91,5 @@ pub pins_more : (gate : ℕ) (start now new : Netlist) (tokens : List Token) (in
     → new ≡ fold (after_pin gate) start (words_of (map token_of (take (index + 1) tokens)))
 pins_more gate start now new tokens index token other inside is so_far more =
     let words : words_of (map token_of (take (index + 1) tokens)) ≡ words_of (map token_of (take index tokens)) ++ words_of (token_of token ∷ []) =
-      ap (λ all. words_of (map token_of all)) (take_more tokens index other inside ∙ ap (λ last. take index tokens ++ last ∷ []) (sym is)) ∙ ap words_of (map_push token_of (take index tokens) token) ∙ words_of-append (map token_of (take index tokens)) (token_of token ∷ []) in
+    ap (λ all. words_of (map token_of all)) (take_more tokens index other inside ∙ ap (λ last. take index tokens ++ last ∷ []) (sym is)) ∙ ap words_of (map_push token_of (take index tokens) token) ∙ words_of-append (map token_of (take index tokens)) (token_of token ∷ []) in
     more ∙ ap (λ netlist. fold (after_pin gate) netlist (words_of (token_of token ∷ []))) so_far ∙ sym (ap (fold (after_pin gate) start) words ∙ fold-append (after_pin gate) start (words_of (map token_of (take index tokens))) (words_of (token_of token ∷ [])))

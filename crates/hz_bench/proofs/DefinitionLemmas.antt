@@ -1,5 +1,5 @@
 -- The table of names, statement by statement.
-use Rattle.std.proofs.Common.{◌≡◌, ◌∙◌, ℕ, ◌+◌, ◌<◌, ◌≤◌, suc, List, [], ◌∷◌, ◌++◌, Bool, true, false, Option, Some, None, cond, length, map, take, drop, refl, sym, ap, subst, arith, append_assoc, get_or}
+use Rattle.std.proofs.Common.{◌≡◌, ◌∙◌, ℕ, ◌+◌, ◌<◌, List, [], ◌∷◌, ◌++◌, Bool, true, false, Option, Some, None, cond, length, take, drop, refl, sym, ap, subst, get_or}
 use Rattle.std.proofs.lemmas.List.{take_more, at_drop_more}
 use Rattle.std.proofs.lemmas.Slice.Eq.{bytes_eq-Decides}
 use Rattle.std.specs.Borrow.{Bor}
@@ -8,8 +8,7 @@ use Rattle.std.specs.Str.{bytes_eq}
 use Rattle.hz_bench.specs.declared.entry.Entry.{Entry}
 use Rattle.hz_bench.specs.declared.fault.BenchFault.{BenchFault}
 use Rattle.hz_bench.specs.declared.fault.BenchFault.TheVariants.{Form, Name, KindUnknown, Clocked, Twice, Pins, Undefined, TooMany, Memory}
-use Rattle.hz_bench.specs.Definition.{is_that, definer, line_for, line_for_defined, IsPut, IsTableOf}
-use Rattle.hz_bench.specs.Entry.{numbered_of, numbered_list}
+use Rattle.hz_bench.specs.Definition.{is_that, definer, line_for_defined, IsPut, IsTableOf}
 use Rattle.hz_bench.specs.Statement.{Statement, Input, Output, Gate, defined_name, name_of, form_of, form_defines}
 use Rattle.hz_bench.specs.Text.{Numbered, statement_in}
 use Rattle.hz_bench.specs.Twice.{twice_or, earlier_line, twice_after, twice_fault, IsFoundOrMemory}
@@ -52,7 +51,6 @@ nothing_earlier old new line (Some defined) added = added.0
 pub record IsDefining {S : Type 0} (statements : List Numbered) (index : ℕ) (lines : HashMap (Bor (List ℕ)) ℕ S) : Type 0 where
   pub table : IsTableOf (take index statements) lines
   pub rest : twice_after (take index statements) (drop index statements) ≡ twice_fault statements
-
 
 twice_after-drop : (statements : List Numbered) (index : ℕ) (next : Numbered) → index < length statements → next ≡ get_or statements index next
     → twice_after (take index statements) (drop index statements) ≡ twice_or next.line (earlier_line (take index statements) (defined_name next.statement)) (twice_after (take index statements ++ next ∷ []) (drop (index + 1) statements))

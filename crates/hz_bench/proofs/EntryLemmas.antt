@@ -1,5 +1,5 @@
 -- Entries as statements with their lines.
-use Rattle.std.proofs.Common.{◌≡◌, ◌∙◌, ℕ, ◌+◌, ◌<◌, ◌≤◌, List, [], ◌∷◌, length, map, take, get_or, refl, sym, ap, arith}
+use Rattle.std.proofs.Common.{◌≡◌, ◌∙◌, ℕ, ◌+◌, ◌<◌, ◌≤◌, List, length, take, get_or, sym, ap, arith}
 use Rattle.std.proofs.lemmas.List.{get_or-map, length-map}
 use Rattle.hz_bench.specs.declared.entry.Entry.{Entry}
 use Rattle.std.proofs.lemmas.List.Sums.{sum_by_more, sum_by_more_le}

@@ -3,4 +3,5 @@ pub mod DefinitionLemmas
 pub mod EntryLemmas
 pub mod NetlistLemmas
 pub mod ParseLemmas
+pub mod PrintedLemmas
 pub mod StatementLemmas

@@ -1,14 +1,13 @@
 -- The circuit that is built is the circuit of the statements.
-use Rattle.std.proofs.Common.{◌≡◌, ◌∙◌, ℕ, ◌+◌, ◌-◌, ◌<◌, ◌≤◌, suc, List, [], ◌∷◌, ◌++◌, Bool, true, false, cond, length, map, fold, take, drop, get_or, refl, sym, ap, subst, arith, append_assoc, nat_eq, set, add-zero, zero-add, length-append}
+use Rattle.std.proofs.Common.{◌≡◌, ◌∙◌, ℕ, ◌+◌, ◌-◌, suc, List, [], ◌∷◌, ◌++◌, length, map, fold, refl, sym, ap, arith, append_assoc, set, add-zero, zero-add, length-append}
 use Rattle.hz_core.specs.declared.kind.Kind.TheVariants.{And}
 use Rattle.std.proofs.lemmas.List.{set_at, get_or_at, append-nil}
-use Rattle.std.specs.List.{list_any, slice_set, slice_index_or}
 use Rattle.hz_core.specs.declared.kind.Kind.{Kind}
 use Rattle.hz_core.specs.Netlist as netlist
 use Rattle.hz_bench.specs.declared.entry.Entry.{Entry}
-use Rattle.hz_bench.specs.Built.{Connecting, after_input, after_gate, after_pin, after_pins, after_output, nodes_of, connected, built}
+use Rattle.hz_bench.specs.Built.{after_input, after_gate, after_pin, after_pins, after_output, nodes_of, connected, built}
 use Rattle.hz_bench.specs.Entry.{numbered_list, statement_list}
-use Rattle.hz_bench.specs.Netlist.{input_names, gate_names, output_names, node_names, number_in, kind_of_word, gates_of, add_once, each_once, netlist_of}
+use Rattle.hz_bench.specs.Netlist.{input_names, gate_names, output_names, node_names, number_in, kind_of_word, gates_of, add_once, netlist_of}
 use Rattle.hz_bench.specs.Statement.{Statement, Input, Output, Gate}
 use Rattle.hz_bench.specs.Text.{Numbered, statement_in}
 

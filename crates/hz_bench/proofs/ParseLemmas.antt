@@ -1,5 +1,5 @@
 -- Reading the statements of a text line by line.
-use Rattle.std.proofs.Common.{◌≡◌, ◌∙◌, ℕ, ◌+◌, ◌*◌, ◌≤◌, suc, List, [], ◌∷◌, ◌++◌, Bool, Option, Some, None, option_map, length, take, drop, ◌-◌, map, refl, sym, ap, subst, arith, add-one, append_assoc, sum_by, IfSome, is_some, lit≤}
+use Rattle.std.proofs.Common.{◌≡◌, ◌∙◌, ℕ, ◌+◌, ◌≤◌, suc, List, [], ◌∷◌, ◌++◌, Option, Some, None, option_map, length, take, drop, ◌-◌, map, refl, sym, ap, subst, arith, add-one, append_assoc, IfSome, is_some, lit≤}
 use Rattle.std.specs.Borrow.{Bor}
 use Rattle.std.proofs.lemmas.List.{map_push, append-nil, take_rest, drop-map}
 use Rattle.hz_line.specs.declared.tokens.Token.{Token}
@@ -15,8 +15,8 @@ use Rattle.hz_bench.specs.declared.forms.KindWord.{KindWord}
 use Rattle.hz_bench.specs.Entry.{numbered_of, numbered_list}
 use Rattle.hz_bench.specs.Pass.{malformed_or, first_malformed, IsLineRead, IsParsed}
 use Rattle.hz_bench.specs.Statement.{Statement, Input, Output, Gate, statement_of, names_of, port_form, port_of, kind_word_of, variables_in, words_of, sources_of}
-use Rattle.hz_bench.specs.Text.{Meaning, Nothing, Malformed, Means, Numbered, with_meaning, meaning_by, meaning_of, meaning_of_tokens, statement_in, numbered_from, numbered_statements, statements_of, variables_of, variables_among}
-use Rattle.hz_bench.proofs.StatementLemmas.{IsNameList, IsNameList-from_some, sources_of-port_of}
+use Rattle.hz_bench.specs.Text.{Nothing, Means, Numbered, with_meaning, meaning_by, meaning_of, meaning_of_tokens, statement_in, numbered_from, numbered_statements, variables_of, variables_among}
+use Rattle.hz_bench.proofs.StatementLemmas.{IsNameList-from_some, sources_of-port_of}
 
 -- what was read so far, before the rest of the text
 pub record IsParsing (text : List ℕ) (entries : List Entry) (line : ℕ) (left : Option (Bor (List ℕ))) : Type 0 where

@@ -1,5 +1,5 @@
 -- The statement that a line means, from the head of its tokens.
-use Rattle.std.proofs.Common.{◌≡◌, ◌∙◌, ℕ, ◌+◌, ◌*◌, ◌/◌, ◌||◌, ◌==◌, suc, List, [], ◌∷◌, Bool, true, false, Option, Some, None, option_map, is_some, length, map, cond, refl, sym, ap, subst, arith, codes, IfSome}
+use Rattle.std.proofs.Common.{◌≡◌, ◌∙◌, ℕ, ◌*◌, ◌/◌, ◌||◌, ◌==◌, List, [], ◌∷◌, Bool, true, false, Option, Some, None, option_map, is_some, length, map, cond, refl, ap, subst, arith, codes, IfSome}
 use Rattle.std.proofs.lemmas.List.{length-map}
 use Rattle.std.proofs.lemmas.Bool.Decides.{nat_tests}
 use Rattle.hz_line.specs.declared.bytes.Mark.TheVariants.{Open, Close, Comma, Equals}
@@ -10,7 +10,7 @@ use Rattle.hz_bench.specs.declared.forms.Form.{Form}
 use Rattle.hz_bench.specs.declared.forms.Form.TheVariants as form
 use Rattle.hz_bench.specs.declared.statement.Head.{Head}
 use Rattle.hz_bench.specs.Head.{head_tokens}
-use Rattle.hz_bench.specs.Statement.{Statement, Gate, statement_of, names_of, words_of, port_form, port_of, form_of, name_of, sources_of, kind_word_of, has_long_name, is_long}
+use Rattle.hz_bench.specs.Statement.{Statement, Gate, names_of, words_of, port_form, port_of, form_of, name_of, sources_of, kind_word_of, has_long_name, is_long}
 use Rattle.hz_bench.specs.Text.{Means, meaning_of, meaning_of_tokens, statement_in, statement_meant}
 
 -- a line means its statement

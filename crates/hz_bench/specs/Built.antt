@@ -1,5 +1,5 @@
 -- A circuit that is built statement by statement: inputs, gates, pins, outputs.
-use Rattle.std.specs.Prelude.{◌≡◌, ℕ, ◌+◌, suc, ◌<◌, List, [], length, fold, Option, Some, None}
+use Rattle.std.specs.Prelude.{◌≡◌, ℕ, suc, ◌<◌, List, length, fold, None}
 use Rattle.hz_core.specs.declared.circuit.TheConstants.{MAX_VARIABLES}
 use Rattle.hz_core.specs.Netlist.{Netlist, IsName, empty_netlist, with_input, with_gate, with_pin, with_output, node_named, variable_count, IsGateNumber, gate_at, most_pins}
 use Rattle.hz_bench.specs.Netlist.{kind_of_word, number_in}

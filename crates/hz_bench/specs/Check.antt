@@ -1,5 +1,5 @@
 -- The checks of single statements.
-use Rattle.std.specs.Prelude.{◌≡◌, ℕ, Bool, not, nat_lt, List, [], ◌∷◌, length, map, Option, Some, None, is_some, if◌then◌else◌}
+use Rattle.std.specs.Prelude.{ℕ, Bool, not, nat_lt, List, [], ◌∷◌, length, Option, Some, None, is_some, if◌then◌else◌}
 use Rattle.std.specs.List.{list_any}
 use Rattle.hz_bench.specs.declared.checks.Check.{Check}
 use Rattle.hz_bench.specs.declared.checks.Check.TheVariants.{LongName, UnknownKind, ClockedKind, WrongPins}

@@ -3,7 +3,7 @@ use Rattle.std.specs.Prelude.{◌≡◌, ℕ, Bool, false, List, [], ◌∷◌, 
 use Rattle.std.specs.Str.{bytes_eq}
 use Rattle.std.specs.Borrow.{Bor}
 use Rattle.std.specs.HashMap.{HashMap, get_by}
-use Rattle.hz_bench.specs.Statement.{Statement, defined_name}
+use Rattle.hz_bench.specs.Statement.{defined_name}
 use Rattle.hz_bench.specs.Text.{Numbered}
 
 -- the name is the one that is defined, if one is

@@ -1,11 +1,11 @@
 -- Exactly when each fault stands in a text, and which of several is the answer.
-use Rattle.std.specs.Prelude.{◌≡◌, ◌≢◌, ℕ, ◌<◌, ◌≤◌, ◌⊎◌, Bool, true, false, List, [], Option, Some, None, Contains}
+use Rattle.std.specs.Prelude.{◌≡◌, ℕ, ◌<◌, ◌≤◌, ◌⊎◌, Bool, true, List, Some, Contains}
 use Rattle.hz_core.specs.declared.circuit.TheConstants.{MAX_VARIABLES}
 use Rattle.hz_bench.specs.declared.fault.BenchFault.{BenchFault}
 use Rattle.hz_bench.specs.declared.fault.BenchFault.TheVariants.{Form, Name, KindUnknown, Clocked, Twice, Pins, Undefined, TooMany, Memory}
 use Rattle.hz_bench.specs.Check.{has_unknown_kind, has_clocked_kind, has_wrong_pins, pin_count}
 use Rattle.hz_bench.specs.Statement.{Statement, defined_name, used_names, has_long_name}
-use Rattle.hz_bench.specs.Text.{Meaning, Nothing, Malformed, Means, meaning_at, statements_of, variables_of}
+use Rattle.hz_bench.specs.Text.{Malformed, Means, meaning_at, statements_of, variables_of}
 
 -- the line has a statement
 abbrev pub States : List ℕ → ℕ → Statement → Type 0

@@ -10,3 +10,4 @@ pub mod Fault
 pub mod Netlist
 pub mod Built
 pub mod Answer
+pub mod Printed

@@ -1,11 +1,11 @@
 -- What the passes over a text find.
-use Rattle.std.specs.Prelude.{◌≡◌, ℕ, suc, ◌+◌, ◌≤◌, List, [], ◌∷◌, length, map, Option, Some, None}
+use Rattle.std.specs.Prelude.{◌≡◌, ℕ, suc, ◌+◌, ◌≤◌, List, [], ◌∷◌, length, Option, Some, None}
 use Rattle.hz_line.specs.Line.{lines_of}
 use Rattle.hz_bench.specs.declared.entry.Entry.{Entry}
 use Rattle.hz_bench.specs.declared.fault.BenchFault.{BenchFault}
 use Rattle.hz_bench.specs.declared.fault.BenchFault.TheVariants.{Form, Name, KindUnknown, Clocked, Twice, Pins, Undefined, TooMany, Memory}
 use Rattle.hz_bench.specs.Entry.{numbered_list}
-use Rattle.hz_bench.specs.Text.{Meaning, Nothing, Malformed, Means, Numbered, meaning_of, statement_in, numbered_statements, statements_of, variables_of}
+use Rattle.hz_bench.specs.Text.{Meaning, Nothing, Malformed, Means, meaning_of, numbered_statements, statements_of, variables_of}
 
 -- this line, if it is malformed, before one of later lines
 abbrev pub malformed_or : ℕ → Meaning → Option ℕ → Option ℕ

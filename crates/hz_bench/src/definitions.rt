@@ -16,7 +16,10 @@ use std::alloc::Global;
 pub(crate) type Definitions<'a> = IndexMap<&'a [u8], u32>;
 
 /// The definitions of the statements, or the first that is not the first of its name.
-pub(crate) fn definitions<'a>(alloc: Global, entries: &[Entry<'a>]) -> Result<Definitions<'a>, BenchFault>
+pub(crate) fn definitions<'a>(
+    alloc: Global,
+    entries: &[Entry<'a>],
+) -> Result<Definitions<'a>, BenchFault>
     ensures { MatchResult result
         (λ lines. (twice_fault (numbered_list entries.now) ≡ None) × IsTableOf (numbered_list entries.now) lines)
         (λ fault. IsFoundOrMemory (twice_fault (numbered_list entries.now)) fault) }

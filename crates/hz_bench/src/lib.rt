@@ -8,11 +8,13 @@ mod entry;
 mod fault;
 mod forms;
 mod parse;
+mod printing;
 mod reading;
 mod statement;
 mod uses;
 
 pub use fault::BenchFault;
+pub use printing::print;
 pub use reading::read;
 
 #[cfg(test)]

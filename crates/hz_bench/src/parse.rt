@@ -34,7 +34,11 @@ pub(crate) fn parse<'a>(alloc: Global, text: &'a [u8]) -> Result<Vec<Entry<'a>>,
 }
 
 // The statement of a line, if it has tokens.
-fn read_line<'a>(line: u32, text: &'a [u8], tokens: &mut Vec<Token<'a>>) -> Result<Option<Entry<'a>>, BenchFault>
+fn read_line<'a>(
+    line: u32,
+    text: &'a [u8],
+    tokens: &mut Vec<Token<'a>>,
+) -> Result<Option<Entry<'a>>, BenchFault>
     requires { length text.now < 2 ^ 32 }
     ensures { MatchResult result
         (λ found. IsLineRead line text.now found)

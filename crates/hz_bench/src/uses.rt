@@ -69,7 +69,10 @@ fn has_undefined(tokens: &[Token], lines: &Definitions) -> bool
 }
 
 /// The tokens from the sources of a gate on, read again from its line.
-pub(crate) fn read_sources<'t, 'a>(entry: &Entry<'a>, tokens: &'t mut Vec<Token<'a>>) -> Result<&'t [Token<'a>], Memory>
+pub(crate) fn read_sources<'t, 'a>(
+    entry: &Entry<'a>,
+    tokens: &'t mut Vec<Token<'a>>,
+) -> Result<&'t [Token<'a>], Memory>
     ensures { IfOk result (λ sources. words_of (map token_of sources.now) ≡ sources_of (statement_in entry.now.text.now)) }
 {
     let Ok(()) = read_tokens(entry.text, tokens) else {

@@ -4,3 +4,6 @@ pub mod Fields
 pub mod Excitations
 pub mod Sequences
 pub mod Ranks
+pub mod Derivations
+pub mod Wires
+pub mod StartLemmas

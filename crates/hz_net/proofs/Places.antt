@@ -244,7 +244,8 @@ at-entries_of-gate netlist var d circuit is_gate =
     get_or-append_right inputs gates netlist.inputs var d counted is_gate.0 ∙
     at-gate_entries netlist.gates (length netlist.names) (var - netlist.inputs) d (omega (arith, circuit.nodes))
 
-at-entries_of-wire :
+-- a wire stands behind the nodes
+pub at-entries_of-wire :
     (netlist : Netlist) (var : ℕ) (d : Entry) → IsCircuit netlist → length netlist.names ≤ var → var < variable_count netlist →
     get_or (entries_of netlist) var d ≡ wire_entry (get_or (wires_of netlist) (var - length netlist.names) no_wire)
 unfolding entries_of

@@ -1,11 +1,11 @@
 -- What the rank of a variable says of what drives it one round earlier.
-use Rattle.std.proofs.Common.{◌≡◌, ◌≢◌, ℕ, zero, suc, ◌+◌, ◌-◌, ◌<◌, ◌≤◌, Bool, true, false, not, List, [], ◌∷◌, length, map, IsTrue, refl, sym, ap, ◌∙◌, subst, arith, ◌⊎◌, inl, inr}
+use Rattle.std.proofs.Common.{◌≡◌, ℕ, zero, suc, ◌+◌, ◌-◌, ◌<◌, ◌≤◌, Bool, true, false, not, List, [], ◌∷◌, length, map, IsTrue, refl, sym, ap, ◌∙◌, subst, arith, ◌⊎◌, inl, inr}
 use Rattle.hz_core.specs.declared.tri.Tri.{Tri}
 use Rattle.hz_core.specs.declared.tri.Tri.TheVariants.{Zero, One, Unknown}
-use Rattle.hz_core.specs.Ternary.{tri_of, admits, is_below, join_of, AllBelow, Refines}
+use Rattle.hz_core.specs.Ternary.{tri_of, admits, is_below, join_of, AllBelow}
 use Rattle.hz_core.proofs.Refinements.{get_or-AllBelow, get_or-Refines, AllBelow-same, AllBelow-through}
 use Rattle.hz_net.specs.Network.{Driver, bit_at, value_at, driver_at, driven3}
-use Rattle.hz_net.specs.Passes.{excitations, join_each, algorithm_a, IsFirstRound, IsUnknown}
+use Rattle.hz_net.specs.Passes.{excitations, algorithm_a, IsFirstRound, IsUnknown}
 use Rattle.hz_net.proofs.Excitations.{length-excitations, at-excitations, at-join_each}
 use Rattle.hz_net.proofs.Sequences.{length-algorithm_a, AllBelow-algorithm_a, start-refines}
 
@@ -83,7 +83,7 @@ turns-before-rank net input start i zero long inside first =
     absurd (known-differs (bit_at start i) (sym (at-tri_of start i) ∙ first.there))
 turns-before-rank net input start i (suc round) long inside first =
     let before : value_at (algorithm_a net input start round) i ≡ tri_of (bit_at start i) =
-        elim (unknown-or-start net input start long i round) [ inl e ↦ absurd (first.least round (omega arith) e) | inr e ↦ e ] in
+    elim (unknown-or-start net input start long i round) [ inl e ↦ absurd (first.least round (omega arith) e) | inr e ↦ e ] in
     let joined : join_of (tri_of (bit_at start i)) (driven3 input (algorithm_a net input start round) (driver_at net i)) ≡ Unknown =
-        ap (λ (v : Tri). join_of v (driven3 input (algorithm_a net input start round) (driver_at net i))) (sym before) ∙ (sym (one-round net input start long i round inside) ∙ first.there) in
+    ap (λ (v : Tri). join_of v (driven3 input (algorithm_a net input start round) (driver_at net i))) (sym before) ∙ (sym (one-round net input start long i round inside) ∙ first.there) in
     (round, refl, record { before = before; drives = turned-by (bit_at start i) _ joined })

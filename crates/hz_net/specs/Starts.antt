@@ -1,8 +1,8 @@
 -- The completed start: the values that listed values force upon the nodes that are not listed.
-use Rattle.std.specs.Prelude.{◌≡◌, ◌≢◌, ℕ, ◌<◌, ◌≤◌, ◌⊎◌, Bool, Option, Some, None, List, [], ◌∷◌, length, take, Contains, slice_get}
+use Rattle.std.specs.Prelude.{◌≡◌, ℕ, ◌<◌, ◌≤◌, ◌⊎◌, Bool, Option, Some, None, List, [], ◌∷◌, length, take, Contains, slice_get}
 use Rattle.hz_core.specs.Gate.{gate_value}
 use Rattle.hz_core.specs.Netlist.{Netlist, IsGateNumber, gate_at}
-use Rattle.hz_net.specs.Network.{bit_at, network_of, excitation}
+use Rattle.hz_net.specs.Network.{bit_at, network_of, excitation, IsUnstable, IsStable}
 use Rattle.hz_net.specs.Variables.{expanded}
 
 -- bits for a gate's pins that agree with pairs of a node and its bit: at a source that a pair names, the bit is the pair's
@@ -35,15 +35,22 @@ IsForced netlist listed node bit =
 abbrev pub IsOpen : Netlist → List (Option Bool) → ℕ → Type 0
 IsOpen netlist listed node = (bit : Bool) → IsForced netlist listed node bit → ⊥
 
+-- each input has a listed value
+abbrev pub ListsInputs : Netlist → List (Option Bool) → Type 0
+ListsInputs netlist listed =
+    (input : ℕ) → input < netlist.inputs → (bit : Bool) × (slice_get listed input ≡ Some (Some bit))
+
 -- The completed start, which is there where no node is open: each node has the bit to which it is forced, each wire its
 -- source's.
 pub record IsCompletedStart (netlist : Netlist) (listed : List (Option Bool)) (state : List Bool) : Type 0 where
+  pub long : length state ≡ length (network_of netlist)
   pub forced : (node : ℕ) → node < length netlist.names → IsForced netlist listed node (bit_at state node)
   pub wires : state ≡ expanded netlist (take (length netlist.names) state)
 
--- a gate is unstable at the start where its bit differs from its gate function of its wires
-abbrev pub IsUnstableAt : Netlist → List Bool → ℕ → Type 0
-IsUnstableAt netlist state gate = bit_at state gate ≢ excitation (network_of netlist) state state gate
+-- a completed start that is accepted: it is stable under its own inputs
+pub record IsAcceptedStart (netlist : Netlist) (listed : List (Option Bool)) (state : List Bool) : Type 0 where
+  pub completed : IsCompletedStart netlist listed state
+  pub stable : IsStable (network_of netlist) (take netlist.inputs state) state
 
 -- the least gate that is open
 pub record IsLeastOpen (netlist : Netlist) (listed : List (Option Bool)) (gate : ℕ) : Type 0 where
@@ -51,10 +58,10 @@ pub record IsLeastOpen (netlist : Netlist) (listed : List (Option Bool)) (gate :
   pub is_open : IsOpen netlist listed gate
   pub least : (other : ℕ) → other < gate → (bit : Bool) × IsForced netlist listed other bit
 
--- the least gate that is unstable at the completed start
+-- The least gate that is unstable at the completed start: its bit differs from its gate function of its wires.
 pub record IsLeastUnstable (netlist : Netlist) (listed : List (Option Bool)) (gate : ℕ) : Type 0 where
   pub state : List Bool
   pub completed : IsCompletedStart netlist listed state
   pub is_gate : IsGateNumber netlist gate
-  pub is_unstable : IsUnstableAt netlist state gate
-  pub least : (other : ℕ) → netlist.inputs ≤ other → other < gate → bit_at state other ≡ excitation (network_of netlist) state state other
+  pub is_unstable : IsUnstable (network_of netlist) (take netlist.inputs state) state gate
+  pub least : (other : ℕ) → netlist.inputs ≤ other → other < gate → bit_at state other ≡ excitation (network_of netlist) (take netlist.inputs state) state other

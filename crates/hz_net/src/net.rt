@@ -199,3 +199,64 @@ fn part(list: &[u32], start: usize, end: usize) -> &[u32]
 {
     &list[start..end]
 }
+
+#[cfg(test)]
+mod tests {
+    use super::*;
+    use hz_core::Kind;
+    use std::test::Fail;
+
+    // A gate that reads an input, itself and the input again: variables a, y, y(1), y(2), y(3).
+    fn ring(alloc: Global) -> Result<Circuit, Memory> {
+        let mut circuit = Circuit::new(alloc);
+        let input = circuit.add_input(b"a")?;
+        let gate = circuit.add_gate(b"y", Kind::Or)?;
+        circuit.connect(gate, input)?;
+        circuit.connect(gate, gate)?;
+        circuit.connect(gate, input)?;
+        Ok(circuit)
+    }
+
+    #[test]
+    fn variables_of_a_ring(rt: HostRuntime) -> Result<(), Fail> {
+        let circuit = ring(rt.alloc())?;
+        assert!(rt; circuit.whole());
+        let net = Net::build(rt.alloc(), circuit)?;
+        assert_eq!(rt; net.len(), 5);
+        assert_eq!(rt; net.circuit().inputs(), 1);
+        assert_eq!(rt; net.circuit().nodes(), 2);
+        assert_eq!(rt; net.kind_of(0), VarKind::Input { number: 0 });
+        assert_eq!(rt; net.kind_of(1), VarKind::Gate { kind: Kind::Or });
+        assert_eq!(rt;
+            net.kind_of(3),
+            VarKind::Wire {
+                gate: 1,
+                pin: 1,
+                source: 1
+            }
+        );
+        assert_eq!(rt; net.wires_in(1), (2, 3));
+        assert_eq!(rt; net.fan_out(0), [2, 4].as_slice());
+        Ok(())
+    }
+
+    // The input goes to 0 while y is 1.
+    #[test]
+    fn excitations_of_a_ring(rt: HostRuntime) -> Result<(), Fail> {
+        let circuit = ring(rt.alloc())?;
+        assert!(rt; circuit.whole());
+        let net = Net::build(rt.alloc(), circuit)?;
+        assert_eq!(rt; net.len(), 5);
+        assert_eq!(rt; net.circuit().inputs(), 1);
+        assert_eq!(rt; net.circuit().nodes(), 2);
+        let mut state = [false; 5];
+        net.expand(&[true, true], &mut state);
+        assert!(rt; net.settled(&[true], &state));
+        assert!(rt; !net.settled(&[false], &state));
+        assert!(rt; !net.excite(&[false], &state, 0));
+        assert!(rt; net.excite(&[false], &state, 1));
+        let values = [Tri::Zero, Tri::Unknown, Tri::Zero, Tri::Unknown, Tri::Zero];
+        assert_eq!(rt; net.excite3(&[false], &values, 1), Tri::Unknown);
+        Ok(())
+    }
+}

@@ -26,6 +26,7 @@ below-set xs i v f inside before here k few = elim (cases_lt k i) [ inl lt ↦ l
   where
     lower : k < i → value_at (set xs i v) k ≡ f k
     lower lt = let other : k ≢ i = omega arith in get_or-set_other xs i k v Zero other ∙ before k lt
+
     same : i ≤ k → value_at (set xs i v) k ≡ f k
     same ge = let e : k ≡ i = omega (arith, few) in ap (value_at (set xs i v)) e ∙ (get_or-set_same xs i v Zero inside ∙ (here ∙ ap f (sym e)))
 
@@ -39,14 +40,14 @@ above-set xs i v f after k beyond =
 pub are-excitations : (net : List Driver) (input : List Bool) (state excited : List Tri) → length excited ≡ length net → ((k : ℕ) → k < length net → value_at excited k ≡ driven3 input state (driver_at net k)) → excited ≡ excitations net input state
 are-excitations net input state excited long each =
     same-values excited (excitations net input state) (long ∙ sym (length-excitations net input state)) (λ k few.
-        let here : k < length net = omega (arith, few, long) in
-        each k here ∙ sym (at-excitations net input state k here))
+    let here : k < length net = omega (arith, few, long) in
+    each k here ∙ sym (at-excitations net input state k here))
 
 -- a list with the join at each place
 pub are-joined : (state others joined : List Tri) → length others ≡ length state → length joined ≡ length state → ((k : ℕ) → k < length state → value_at joined k ≡ join_of (value_at state k) (value_at others k)) → joined ≡ join_each state others
 are-joined state others joined others_long long each =
     same-values joined (join_each state others) (long ∙ sym (length-join_each state others (sym others_long))) (λ k few.
-        each k (omega (arith, few, long)) ∙ sym (at-join_each state others (sym others_long) k))
+    each k (omega (arith, few, long)) ∙ sym (at-join_each state others (sym others_long) k))
 
 -- a list with the known bit at each place
 pub are-known : (bits : List Bool) (values : List Tri) → length values ≡ length bits → ((k : ℕ) → k < length bits → value_at values k ≡ tri_of (bit_at bits k)) → values ≡ map tri_of bits

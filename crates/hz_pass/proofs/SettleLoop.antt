@@ -101,12 +101,15 @@ module _ (net : List Driver) (input : List Bool) (first : List Tri) (long : leng
 
   pub settle-end : (round : ℕ) (state work : List Tri) (noted : List ℕ) → SettlesSoFar net input first round state noted → work ≡ excitations net input state → state ≡ work → AreRounds (algorithm_b net input first) (suc round) × (state ≡ algorithm_b net input first (suc round)) × (suc round ≤ length net + 1)
   settle-end round state work noted so_far made same =
-      let next : work ≡ algorithm_b net input first (suc round) = made ∙ ap (excitations net input) so_far.now in
-      (record {
-        some = omega arith;
-        settled = sym next ∙ (sym same ∙ (so_far.now ∙ ap (algorithm_b net input first) (let last : round ≡ suc round - 1 = omega arith in last)));
-        least = λ k some few. so_far.least k some (omega (arith, few));
-      }, same ∙ next, omega (arith, so_far.few, unknowns-le-length first, long))
+      let next : work ≡ algorithm_b net input first (suc round) = made ∙ ap (excitations net input) so_far.now in (
+        record {
+          some = omega arith;
+          settled = sym next ∙ (sym same ∙ (so_far.now ∙ ap (algorithm_b net input first) (let last : round ≡ suc round - 1 = omega arith in last)));
+          least = λ k some few. so_far.least k some (omega (arith, few));
+        },
+        same ∙ next,
+        omega (arith, so_far.few, unknowns-le-length first, long),
+      )
 
   -- the rounds so far are no more than the variables
   pub settle-bound : (round : ℕ) (state : List Tri) (noted : List ℕ) → SettlesSoFar net input first round state noted → round ≤ length net

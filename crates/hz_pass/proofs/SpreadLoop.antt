@@ -74,12 +74,15 @@ module _ (net : List Driver) (input start : List Bool) (long : length start ≡ 
   pub spread-end : (round : ℕ) (out work : List Tri) (rank : List ℕ) → SpreadSoFar net input start round out rank → work ≡ join_each out (excitations net input out) → out ≡ work → AreRounds (algorithm_a net input start) (suc round) × (out ≡ algorithm_a net input start (suc round)) × (suc round ≤ length net + 1)
   spread-end round out work rank so_far made same =
       let next : work ≡ algorithm_a net input start (suc round) = made ∙ ap (λ (s : List Tri). join_each s (excitations net input s)) so_far.now in
-      let out_long : length out ≡ length net = ap (length {A = Tri}) so_far.now ∙ length-algorithm_a net input start long round in
-      (record {
-        some = omega arith;
-        settled = sym next ∙ (sym same ∙ (so_far.now ∙ ap (algorithm_a net input start) (let last : round ≡ suc round - 1 = omega arith in last)));
-        least = λ k some few. so_far.least k some (omega (arith, few));
-      }, same ∙ next, omega (arith, so_far.few, unknowns-le-length out, out_long))
+      let out_long : length out ≡ length net = ap (length {A = Tri}) so_far.now ∙ length-algorithm_a net input start long round in (
+        record {
+          some = omega arith;
+          settled = sym next ∙ (sym same ∙ (so_far.now ∙ ap (algorithm_a net input start) (let last : round ≡ suc round - 1 = omega arith in last)));
+          least = λ k some few. so_far.least k some (omega (arith, few));
+        },
+        same ∙ next,
+        omega (arith, so_far.few, unknowns-le-length out, out_long),
+      )
 
   -- the rounds so far are no more than the variables
   pub spread-bound : (round : ℕ) (out : List Tri) (rank : List ℕ) → SpreadSoFar net input start round out rank → round ≤ length net

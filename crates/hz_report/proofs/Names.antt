@@ -75,20 +75,20 @@ before_wires netlist var kind circuit seen below =
     let left : get_or (variables_of netlist) var kind ≡ get_or (seen_nodes netlist) var kind =
     get_or_append_left (seen_nodes netlist) (map seen_wire (wires_of netlist)) kind var (omega arith) in
     elim (cases_lt var netlist.inputs) [
-      inl input ↦
-        let first : get_or (seen_nodes netlist) var kind ≡ get_or inputs var kind =
-        get_or_append_left inputs gates kind var (omega arith) in
-        let is : get_or inputs var kind ≡ InputKind (get_or (range_with_len 0 netlist.inputs) var 0) =
-        get_or-map InputKind (range_with_len 0 netlist.inputs) var 0 kind (omega (arith, length-range_with_len 0 netlist.inputs)) in
-        let same : InputKind (get_or (range_with_len 0 netlist.inputs) var 0) ≡ kind = sym is ∙ sym first ∙ sym left ∙ read in
-        subst IsNode same tt
-    | inr gate ↦
-        let second : get_or (seen_nodes netlist) var kind ≡ get_or gates (var - netlist.inputs) kind =
-        get_or-append_right inputs gates netlist.inputs var kind few gate in
-        let is : get_or gates (var - netlist.inputs) kind ≡ seen_gate (get_or netlist.gates (var - netlist.inputs) no_gate) =
-        get_or-map seen_gate netlist.gates (var - netlist.inputs) no_gate kind (omega (arith, circuit.nodes)) in
-        let same : seen_gate (get_or netlist.gates (var - netlist.inputs) no_gate) ≡ kind = sym is ∙ sym second ∙ sym left ∙ read in
-        subst IsNode same tt
+      | inl input ↦
+          let first : get_or (seen_nodes netlist) var kind ≡ get_or inputs var kind =
+          get_or_append_left inputs gates kind var (omega arith) in
+          let is : get_or inputs var kind ≡ InputKind (get_or (range_with_len 0 netlist.inputs) var 0) =
+          get_or-map InputKind (range_with_len 0 netlist.inputs) var 0 kind (omega (arith, length-range_with_len 0 netlist.inputs)) in
+          let same : InputKind (get_or (range_with_len 0 netlist.inputs) var 0) ≡ kind = sym is ∙ sym first ∙ sym left ∙ read in
+          subst IsNode same tt
+      | inr gate ↦
+          let second : get_or (seen_nodes netlist) var kind ≡ get_or gates (var - netlist.inputs) kind =
+          get_or-append_right inputs gates netlist.inputs var kind few gate in
+          let is : get_or gates (var - netlist.inputs) kind ≡ seen_gate (get_or netlist.gates (var - netlist.inputs) no_gate) =
+          get_or-map seen_gate netlist.gates (var - netlist.inputs) no_gate kind (omega (arith, circuit.nodes)) in
+          let same : seen_gate (get_or netlist.gates (var - netlist.inputs) no_gate) ≡ kind = sym is ∙ sym second ∙ sym left ∙ read in
+          subst IsNode same tt
     ]
 
 -- a node's number is that of a name
@@ -97,8 +97,8 @@ pub node_is_below :
     IsNode kind → var < length netlist.names
 node_is_below netlist var kind circuit seen node =
     elim (cases_lt var (length netlist.names)) [
-      inl below ↦ below
-    | inr past ↦ absurd (subst IsNode (past_nodes netlist var kind circuit seen past).1 node)
+      | inl below ↦ below
+      | inr past ↦ absurd (subst IsNode (past_nodes netlist var kind circuit seen past).1 node)
     ]
 
 -- a wire's number is past those of the nodes
@@ -107,8 +107,8 @@ pub wire_is_past :
     length netlist.names ≤ var
 wire_is_past netlist var gate pin source circuit seen =
     elim (cases_lt var (length netlist.names)) [
-      inl below ↦ absurd (before_wires netlist var (WireKind gate pin source) circuit seen below)
-    | inr past ↦ past
+      | inl below ↦ absurd (before_wires netlist var (WireKind gate pin source) circuit seen below)
+      | inr past ↦ past
     ]
 
 -- a wire goes into a pin of a gate

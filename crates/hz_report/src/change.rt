@@ -111,7 +111,8 @@ fn write_nodes<K: Sink>(
     ensures wrote { Wrote K.written K.faults (node_lines net.now start.now found.now.a.now found.now.b.now) out.old out.new result }
     ensures emptied { line.new ≡ [] }
 {
-    for node in 0..net.circuit().nodes() {
+    let nodes = net.circuit().nodes();
+    for node in 0..nodes {
         write_node(line, out, net, start, found, node)?;
     }
     Ok(())

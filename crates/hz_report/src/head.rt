@@ -63,7 +63,8 @@ fn write_start<K: Sink>(
     ensures emptied { line.new ≡ [] }
 {
     line.add(out, b"start")?;
-    for node in 0..net.circuit().nodes() {
+    let nodes = net.circuit().nodes();
+    for node in 0..nodes {
         add_assignment(line, out, net, node, start[node as usize])?;
     }
     line.end(out)

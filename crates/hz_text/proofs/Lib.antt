@@ -5,3 +5,5 @@ pub mod BuildLemmas
 pub mod FaultLaws
 pub mod ReadLaws
 pub mod PrintLemmas
+pub mod WordLaws
+pub mod PrintLaws

@@ -3,17 +3,21 @@
 ghost use Rattle.std.specs.Prelude.{◌≡◌, ◌<◌, ◌∷◌, ◌++◌, [], length, All, IfOk, OnOk, codes};
 ghost use Rattle.std.specs.List.{flat_map};
 ghost use Rattle.hz_text.specs.Printed.{letter_of, assignment_text, statement_text, listed_from, script_text};
-ghost use Rattle.hz_text.specs.ScriptText.{IsScriptFor};
+ghost use Rattle.hz_text.specs.ScriptFault.{IsFaultless};
+ghost use Rattle.hz_text.specs.ScriptText.{IsScriptFor, IsValue};
 
 use crate::script::Script;
 use hz_core::{Circuit, Memory};
 use std::alloc::Global;
 
 /// Prints a script of a circuit: the start in the order of the nodes, then each change in its own order. Keywords are in
-/// small letters, words are separated by one space, and each line ends with a line feed.
+/// small letters, words are separated by one space, and each line ends with a line feed. Where the text has at most
+/// 16,777,216 bytes, [`crate::read_script`] gives the script back.
 pub fn print_script(alloc: Global, circuit: &Circuit, script: &Script) -> Result<Vec<u8>, Memory>
     requires { IsScriptFor circuit.now script.now }
-    ensures { IfOk result (λ text. text.items ≡ script_text circuit.now script.now) }
+    ensures text { IfOk result (λ text. text.items ≡ script_text circuit.now script.now) }
+    ensures faultless { IfOk result (λ text. IsFaultless circuit.now text.items) }
+    ensures value { IfOk result (λ text. IsValue circuit.now text.items script.now) }
 {
     let mut text = Vec::new(alloc);
     let mut pairs = Vec::new(alloc);

@@ -1,4 +1,4 @@
-use Rattle.std.proofs.Common.{◌∙◌, sym, ap, arith, ◌+◌}
+use Rattle.std.proofs.Common.{arith}
 use Rattle.hz_bench.proofs.EntryLemmas.{counts_more}
 use Rattle.hz_bench.proofs.checks.variables.Goals as goal
 

@@ -1,4 +1,3 @@
-use Rattle.std.proofs.Common.{take}
 use Rattle.hz_bench.proofs.DefinitionLemmas.{IsDefining}
 use Rattle.hz_bench.specs.Entry.{numbered_list}
 use Rattle.hz_bench.proofs.definitions.definitions.Given as goal

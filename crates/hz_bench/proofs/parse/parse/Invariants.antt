@@ -1,8 +1,4 @@
-use Rattle.std.proofs.Common.{◌≡◌, ℕ, ◌+◌, ◌≤◌, suc, List, ◌++◌, length, Option}
-use Rattle.hz_line.specs.Line.{lines_of, lines_of_rest, rest_length}
-use Rattle.hz_bench.specs.Entry.{numbered_list}
-use Rattle.hz_bench.specs.Pass.{first_malformed}
-use Rattle.hz_bench.specs.Text.{numbered_from, numbered_statements}
+use Rattle.hz_line.specs.Line.{rest_length}
 use Rattle.hz_bench.proofs.ParseLemmas.{IsParsing}
 use Rattle.hz_bench.proofs.parse.parse.Given as goal
 

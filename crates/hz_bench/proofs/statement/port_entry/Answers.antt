@@ -1,6 +1,5 @@
-use Rattle.std.proofs.Common.{◌∙◌, ◌||◌, false, length, ap, sym, lit<}
-use Rattle.std.specs.List.{list_any}
-use Rattle.hz_bench.specs.Statement.{form_of, name_of, sources_of, has_long_name, is_long, port_of}
+use Rattle.std.proofs.Common.{◌∙◌, length, ap, sym, lit<}
+use Rattle.hz_bench.specs.Statement.{form_of, name_of, sources_of, has_long_name}
 use Rattle.hz_bench.proofs.StatementLemmas.{port_meant, means-itself, form_of-port_of, name_of-port_of, sources_of-port_of, port_long, words_in}
 use Rattle.hz_bench.proofs.statement.port_entry.Goals as goal
 

@@ -1,7 +1,5 @@
-use Rattle.std.proofs.Common.{◌∙◌, sym, ap, map, drop, arith, rules, length}
-use Rattle.std.proofs.lemmas.Grind.{common_steps}
+use Rattle.std.proofs.Common.{◌∙◌, map}
 use Rattle.hz_line.specs.Token.{token_of}
-use Rattle.hz_bench.specs.Statement.{words_of}
 use Rattle.hz_bench.proofs.ParseLemmas.{entry_sources, drop_tokens}
 use Rattle.hz_bench.proofs.uses.read_sources.Goals as goal
 

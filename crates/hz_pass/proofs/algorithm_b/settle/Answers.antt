@@ -12,11 +12,12 @@ loop-state-smaller c =
     omega (arith, c.loop-state.invariant.0, settle-bound (network_of c.args.net.now) c.args.input.now c.args.state.now c.requires.state c.requires.below _ _ _ c.loop-state.invariant.3)
 
 pub loop-state-preserved : goal.loop-state-preserved
-loop-state-preserved c =
-    (omega arith,
-    c.narrow.auto.next ∙ c.loop-state.invariant.1,
-    c.loop-state.invariant.2,
-    settle-on (network_of c.args.net.now) c.args.input.now c.args.state.now c.requires.state c.requires.below c.loop-state.rounds c.loop-state.state c.narrow.new.next c.copy_from_slice.new.self c.loop-state.when c.note_known.new.noted c.loop-state.invariant.0 c.loop-state.invariant.3 c.narrow.ensures.next c.loop-state-test.ensures.differs c.copy_from_slice.ensures.after c.note_known.ensures.long c.note_known.ensures.each)
+loop-state-preserved c = (
+  omega arith,
+  c.narrow.auto.next ∙ c.loop-state.invariant.1,
+  c.loop-state.invariant.2,
+  settle-on (network_of c.args.net.now) c.args.input.now c.args.state.now c.requires.state c.requires.below c.loop-state.rounds c.loop-state.state c.narrow.new.next c.copy_from_slice.new.self c.loop-state.when c.note_known.new.noted c.loop-state.invariant.0 c.loop-state.invariant.3 c.narrow.ensures.next c.loop-state-test.ensures.differs c.copy_from_slice.ensures.after c.note_known.ensures.long c.note_known.ensures.each,
+)
 
 pub returns-clause-rounds : goal.returns-clause-rounds
 returns-clause-rounds c =

@@ -6,10 +6,11 @@ use Rattle.hz_pass.proofs.Places.{below-set, above-set, are-joined}
 use Rattle.hz_pass.proofs.rounds.join_all.Goals as goal
 
 pub loop-i-preserved : goal.loop-i-preserved
-loop-i-preserved c =
-    (length-set c.loop-i.others c.loop-i.i c.join.result ∙ c.loop-i.invariant.0,
-    below-set c.loop-i.others c.loop-i.i c.join.result (λ k. join_of (value_at c.args.state.now k) (value_at c.args.others.now k)) (omega arith) c.loop-i.invariant.1 (c.join.ensures ∙ ap (join_of (value_at c.args.state.now c.loop-i.i)) (c.loop-i.invariant.2 c.loop-i.i (omega arith))),
-    above-set c.loop-i.others c.loop-i.i c.join.result (value_at c.args.others.now) c.loop-i.invariant.2)
+loop-i-preserved c = (
+  length-set c.loop-i.others c.loop-i.i c.join.result ∙ c.loop-i.invariant.0,
+  below-set c.loop-i.others c.loop-i.i c.join.result (λ k. join_of (value_at c.args.state.now k) (value_at c.args.others.now k)) (omega arith) c.loop-i.invariant.1 (c.join.ensures ∙ ap (join_of (value_at c.args.state.now c.loop-i.i)) (c.loop-i.invariant.2 c.loop-i.i (omega arith))),
+  above-set c.loop-i.others c.loop-i.i c.join.result (value_at c.args.others.now) c.loop-i.invariant.2,
+)
 
 pub returns : goal.returns
 returns c =

@@ -13,8 +13,14 @@ returns-clause-wrote g c =
     let wrote = rw c.requires at c.end_with.ensures.wrote in
     let spelled =
     rw (
-      c.as_bytes.ensures.value, c.format.ensures.text, c.as_bytes-2.ensures.value, c.format-2.ensures.text,
-      c.as_bytes-3.ensures.value, c.format-3.ensures.text, c.as_bytes-4.ensures.value, c.format-4.ensures.text,
+      c.as_bytes.ensures.value,
+      c.format.ensures.text,
+      c.as_bytes-2.ensures.value,
+      c.format-2.ensures.text,
+      c.as_bytes-3.ensures.value,
+      c.format-3.ensures.text,
+      c.as_bytes-4.ensures.value,
+      c.format-4.ensures.text,
     ) at wrote in
     rw (netlist_line-counts net c.inputs-inputs.result c.nodes-nodes.result c.variables-variables.result c.circuit-circuit.ensures.circuit of_inputs of_nodes of_variables)
     spelled

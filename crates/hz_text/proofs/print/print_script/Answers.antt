@@ -1,11 +1,18 @@
-use Rattle.std.proofs.Common.{◌≡◌, ◌∙◌, ◌<◌, ◌≤◌, ◌++◌, ◌∷◌, [], ℕ, List, Bool, Some, length, get_or, sym, ap, subst, arith, codes}
+use Rattle.std.proofs.Common.{◌≡◌, ◌∙◌, ◌<◌, ◌≤◌, ◌++◌, ◌∷◌, [], ℕ, List, Bool, Some, length, take, get_or, sym, ap, subst, arith, codes}
 use Rattle.std.specs.List.{All, flat_map}
 use Rattle.std.proofs.lemmas.Option.{get_or_from_slice_get, slice_get_within}
 use Rattle.std.proofs.lemmas.List.Elements.{All-weaker}
-use Rattle.hz_text.specs.Printed.{statement_text, listed_from}
-use Rattle.hz_text.specs.ScriptValue.{IsChange}
+use Rattle.std.proofs.lemmas.List.{take_all}
+use Rattle.hz_core.specs.Netlist.{Netlist}
+use Rattle.hz_text.specs.Printed.{statement_text, listed_from, script_text}
+use Rattle.hz_text.specs.ScriptValue.{IsChange, ScriptOf}
 use Rattle.hz_text.proofs.PrintLemmas.{listed-below, lines_more}
+use Rattle.hz_text.proofs.PrintLaws.{printed-faultless, printed-value}
 use Rattle.hz_text.proofs.print.print_script.Goals as goal
+
+-- the text after the last change
+printed : (netlist : Netlist) (script : ScriptOf) (text : List ℕ) (number : ℕ) → text ≡ statement_text netlist (codes "start") (listed_from 0 script.start) ++ flat_map (statement_text netlist (codes "change")) (take number script.changes) → length script.changes ≤ number → text ≡ script_text netlist script
+printed netlist script text number is l = is ∙ ap (λ changes. statement_text netlist (codes "start") (listed_from 0 script.start) ++ flat_map (statement_text netlist (codes "change")) changes) (take_all number script.changes l)
 
 pub push_statement-requires : goal.push_statement-requires
 push_statement-requires c =
@@ -32,3 +39,15 @@ loop-number-preserved c =
     let at = get_or_from_slice_get changes number pairs pairs c.change.ensures.change in
     let within = slice_get_within changes number pairs c.change.ensures.change in
     lines_more line (statement_text c.args.circuit.now (codes "start") (listed_from 0 c.args.script.now.start)) changes number pairs c.loop-number.text.items c.push_statement-in-loop-number.new.text.items within c.loop-number.invariant (c.in_ok-push_statement-2.ensures ∙ ap (λ last. c.loop-number.text.items ++ line last) (sym at))
+
+pub returns-clause-faultless : goal.returns-clause-faultless
+returns-clause-faultless c =
+    let netlist = c.args.circuit.now in
+    let script = c.args.script.now in
+    rw (printed netlist script c.loop-number.text.items c.loop-number.number c.loop-number.invariant (omega (arith, c.loop-number-test.false, c.changes-number-end.ensures.changes))) (printed-faultless netlist script c.nodes.ensures.circuit c.requires)
+
+pub returns-clause-value : goal.returns-clause-value
+returns-clause-value c =
+    let netlist = c.args.circuit.now in
+    let script = c.args.script.now in
+    rw (printed netlist script c.loop-number.text.items c.loop-number.number c.loop-number.invariant (omega (arith, c.loop-number-test.false, c.changes-number-end.ensures.changes))) (printed-value netlist script c.nodes.ensures.circuit c.requires)

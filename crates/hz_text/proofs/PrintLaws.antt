@@ -1,0 +1,233 @@
+-- A printed script has no fault, and stands for the script.
+use Rattle.std.proofs.Common.{◌≡◌, ◌∙◌, ℕ, ◌+◌, ◌<◌, ◌≤◌, Bool, true, false, not, ◌||◌, cond, nat_eq, nat_le, ltb, List, [], ◌∷◌, ◌++◌, Option, Some, None, zero, suc, length, get_or, take, map, codes, refl, ap, sym, subst, arith, zero-add}
+use Rattle.std.specs.List.{list_any, flat_map, slice_index_or, slice_get, position, position_or_len, range_with_len, All}
+use Rattle.std.specs.Option.{option_map, IsSome, is_none}
+use Rattle.std.specs.Str.{bytes_eq}
+use Rattle.std.proofs.lemmas.Bool.Decides.{nat_tests}
+use Rattle.std.proofs.lemmas.List.{same_lists, length-map, get_or-map, length-take-le, get_or-take, get_or_default}
+use Rattle.std.proofs.lemmas.List.Elements.{All-head, All-tail, All-weaker}
+use Rattle.std.proofs.lemmas.List.FromFn.{length-range_with_len, get_or-map-range_with_len}
+use Rattle.std.proofs.lemmas.List.Sums.{position_or_len_is}
+use Rattle.std.proofs.lemmas.Map.Keys.{apart_from_distinct}
+use Rattle.std.proofs.lemmas.Option.{slice_get_past}
+use Rattle.std.proofs.lemmas.Slice.Eq.{bytes_eq-Decides}
+use Rattle.hz_core.specs.Netlist.{Netlist, IsCircuit, node_named}
+use Rattle.hz_line.specs.Line.{lines_of}
+use Rattle.hz_line.specs.Statement.{Numbered, numbered_from, first_line, first_malformed}
+use Rattle.hz_line.proofs.StatementLemmas.{meaning_at-none}
+use Rattle.hz_text.specs.declared.assigned.Assigned.{Assigned}
+use Rattle.hz_text.specs.declared.keyword.Keyword.{Keyword}
+use Rattle.hz_text.specs.declared.keyword.Keyword.TheVariants.{Start, Change}
+use Rattle.hz_text.specs.declared.fault.TextFault.{TextFault}
+use Rattle.hz_text.specs.Assignment.{Assignment, has_repeat, bit_of}
+use Rattle.hz_text.specs.Statement.{Statement, statement_of, statements_of}
+use Rattle.hz_text.specs.Lookup.{Looked, looked_of, looked_up, assigned_of}
+use Rattle.hz_text.specs.ScriptFault.{looked_statements, is_unknown, has_unknown, has_no_bit, is_start, is_node, assigns, IsFaultless}
+use Rattle.hz_text.specs.Pass.{nodes_of, has_node_twice, least_unassigned, least_missing, first_out_of_order, last_beyond, first_fault}
+use Rattle.hz_text.specs.ScriptValue.{ScriptOf, IsChange}
+use Rattle.hz_text.specs.ScriptText.{bit_at, assignment_to, IsScriptBy, IsScriptOf, IsScriptFor, IsValue}
+use Rattle.hz_text.specs.Printed.{letter_of, statement_text, listed_from, script_text}
+use Rattle.hz_text.proofs.NodeLemmas.{marks_of, length-marks, get_or-marks}
+use Rattle.hz_text.proofs.BuildLemmas.{nodes_of-pairs, repeat_from_IsDistinct}
+use Rattle.hz_text.proofs.FaultLaws.{first_line-cons, first_fault-outcome, Outcome}
+use Rattle.hz_text.proofs.PrintLemmas.{listed-below}
+use Rattle.hz_text.proofs.WordLaws.{AreNodes, spelled, stated, numbered-statement, formed-statement}
+
+bytes_eq-flip : (a b : List ℕ) → bytes_eq a b ≡ false → bytes_eq b a ≡ false
+bytes_eq-flip a b h = by_test (bytes_eq b a) refl
+  where
+    by_test : (t : Bool) → bytes_eq b a ≡ t → t ≡ false
+    by_test false e = refl
+    by_test true e = let wrong : true ≡ false = sym ((bytes_eq-Decides a b).1 (sym ((bytes_eq-Decides b a).0 e))) ∙ h in cc
+
+-- a node is found by its name
+node_at : (netlist : Netlist) (node : ℕ) → IsCircuit netlist → node < length netlist.names → node_named netlist (slice_index_or netlist.names node []) ≡ Some node
+node_at netlist node whole l =
+    let name = slice_index_or netlist.names node [] in
+    let at = position_or_len_is (bytes_eq name) netlist.names node [] (omega arith) (λ k h. bytes_eq-flip (get_or netlist.names k []) name (apart_from_distinct bytes_eq netlist.names k node [] whole.names_distinct h l)) (λ h. (bytes_eq-Decides name name).1 refl) in
+    let within : ltb node (length netlist.names) ≡ true = grind (arith, nat_tests, l) in
+    rw (at, within) refl
+
+bit_back : (bit : Bool) → bit_of (letter_of bit ∷ []) ≡ Some bit
+bit_back true = refl
+bit_back false = refl
+
+assigned_back : (netlist : Netlist) (pairs : List (ℕ × Bool)) → IsCircuit netlist → AreNodes netlist pairs → map (assigned_of netlist) (map (spelled netlist) pairs) ≡ map assignment_to pairs
+assigned_back netlist [] whole h = refl
+assigned_back netlist (pair ∷ pairs) whole h =
+    let P : ℕ × Bool → Type 0 = λ pair. pair.0 < length netlist.names in
+    rw (node_at netlist pair.0 whole (All-head P pair pairs h), bit_back pair.1) (ap (λ rest. assignment_to pair ∷ rest) (assigned_back netlist pairs whole (All-tail P pair pairs h)))
+
+-- a statement that was printed, by its nodes and bits
+abbrev pub sent : Keyword → List (ℕ × Bool) → Looked
+sent keyword pairs = record { keyword = keyword; assigned = map assignment_to pairs }
+
+-- the changes that were printed
+abbrev pub changes_sent : ℕ → List (List (ℕ × Bool)) → List (Numbered Looked)
+changes_sent line [] = []
+changes_sent line (change ∷ changes) = record { line = line; statement = sent Change change } ∷ changes_sent (suc line) changes
+
+looked_back : (netlist : Netlist) (keyword : Keyword) (pairs : List (ℕ × Bool)) (line : ℕ) → IsCircuit netlist → AreNodes netlist pairs → looked_up netlist (record { line = line; statement = stated netlist keyword pairs }) ≡ record { line = line; statement = sent keyword pairs }
+looked_back netlist keyword pairs line whole h =
+    let F : List Assigned → Numbered Looked = λ all. record { line = line; statement = record { keyword = keyword; assigned = all } } in
+    ap F (assigned_back netlist pairs whole h)
+
+change_nodes : (netlist : Netlist) (change : List (ℕ × Bool)) → IsCircuit netlist → IsChange netlist.inputs change → AreNodes netlist change
+change_nodes netlist change whole h = All-weaker (λ (pair : ℕ × Bool). pair.0 < netlist.inputs) (λ (pair : ℕ × Bool). pair.0 < length netlist.names) (λ pair l. omega (arith, l, whole.nodes)) change h.below
+
+changes_read : (netlist : Netlist) (changes : List (List (ℕ × Bool))) (line : ℕ) → IsCircuit netlist → All (IsChange netlist.inputs) changes → map (looked_up netlist) (numbered_from statement_of line (lines_of (flat_map (statement_text netlist (codes "change")) changes))) ≡ changes_sent line changes
+changes_read netlist [] line whole h = refl
+changes_read netlist (change ∷ changes) line whole h =
+    let P = IsChange netlist.inputs in
+    let nodes = change_nodes netlist change whole (All-head P change changes h) in
+    let ih = changes_read netlist changes (suc line) whole (All-tail P change changes h) in
+    ap (map (looked_up netlist)) (numbered-statement netlist Change change (flat_map (statement_text netlist (codes "change")) changes) line whole nodes)
+    ∙ ap (λ first. first ∷ map (looked_up netlist) (numbered_from statement_of (suc line) (lines_of (flat_map (statement_text netlist (codes "change")) changes)))) (looked_back netlist Change change line whole nodes)
+    ∙ ap (λ rest. record { line = line; statement = sent Change change } ∷ rest) ih
+
+changes_formed : (netlist : Netlist) (changes : List (List (ℕ × Bool))) (line : ℕ) → IsCircuit netlist → All (IsChange netlist.inputs) changes → first_malformed statement_of line (lines_of (flat_map (statement_text netlist (codes "change")) changes)) ≡ None
+changes_formed netlist [] line whole h = refl
+changes_formed netlist (change ∷ changes) line whole h =
+    let P = IsChange netlist.inputs in
+    formed-statement netlist Change change (flat_map (statement_text netlist (codes "change")) changes) line whole (change_nodes netlist change whole (All-head P change changes h))
+    ∙ changes_formed netlist changes (suc line) whole (All-tail P change changes h)
+
+-- what a script's text is read as
+abbrev pub script_sent : ScriptOf → List (Numbered Looked)
+script_sent script = record { line = 1; statement = sent Start (listed_from 0 script.start) } ∷ changes_sent 2 script.changes
+
+start_nodes : (netlist : Netlist) (script : ScriptOf) → IsScriptFor netlist script → AreNodes netlist (listed_from 0 script.start)
+start_nodes netlist script h = let P : ℕ → Type 0 = λ nodes. All (λ (pair : ℕ × Bool). pair.0 < nodes) (listed_from 0 script.start) in subst P h.nodes (listed-below script.start)
+
+script_read : (netlist : Netlist) (script : ScriptOf) → IsCircuit netlist → IsScriptFor netlist script → looked_statements netlist (script_text netlist script) ≡ script_sent script
+script_read netlist script whole h =
+    let rest = flat_map (statement_text netlist (codes "change")) script.changes in
+    let nodes = start_nodes netlist script h in
+    ap (map (looked_up netlist)) (numbered-statement netlist Start (listed_from 0 script.start) rest 1 whole nodes)
+    ∙ ap (λ first. first ∷ map (looked_up netlist) (numbered_from statement_of 2 (lines_of rest))) (looked_back netlist Start (listed_from 0 script.start) 1 whole nodes)
+    ∙ ap (λ later. record { line = 1; statement = sent Start (listed_from 0 script.start) } ∷ later) (changes_read netlist script.changes 2 whole h.changes)
+
+script_formed : (netlist : Netlist) (script : ScriptOf) → IsCircuit netlist → IsScriptFor netlist script → first_malformed statement_of 1 (lines_of (script_text netlist script)) ≡ None
+script_formed netlist script whole h =
+    formed-statement netlist Start (listed_from 0 script.start) (flat_map (statement_text netlist (codes "change")) script.changes) 1 whole (start_nodes netlist script h)
+    ∙ changes_formed netlist script.changes 2 whole h.changes
+
+-- no change that was printed passes a test that no change passes
+changes-none : (inputs : ℕ) (test : Looked → Bool) → ((change : List (ℕ × Bool)) → IsChange inputs change → test (sent Change change) ≡ false) → (changes : List (List (ℕ × Bool))) (line : ℕ) → All (IsChange inputs) changes → first_line test (changes_sent line changes) ≡ None
+changes-none inputs test fails [] line h = refl
+changes-none inputs test fails (change ∷ changes) line h =
+    let P = IsChange inputs in
+    first_line-cons test (record { line = line; statement = sent Change change }) (changes_sent (suc line) changes)
+    ∙ ap (λ b. cond b (Some line) (first_line test (changes_sent (suc line) changes))) (fails change (All-head P change changes h))
+    ∙ changes-none inputs test fails changes (suc line) (All-tail P change changes h)
+
+start-known : (inputs : ℕ) (pairs : List (ℕ × Bool)) → has_unknown inputs (sent Start pairs) ≡ false
+start-known inputs [] = refl
+start-known inputs (pair ∷ pairs) = start-known inputs pairs
+
+all-bits : (keyword : Keyword) (pairs : List (ℕ × Bool)) → has_no_bit (sent keyword pairs) ≡ false
+all-bits keyword [] = refl
+all-bits keyword (pair ∷ pairs) = all-bits keyword pairs
+
+inputs-known : (inputs : ℕ) (pairs : List (ℕ × Bool)) → All (λ pair. pair.0 < inputs) pairs → has_unknown inputs (sent Change pairs) ≡ false
+inputs-known inputs [] h = refl
+inputs-known inputs (pair ∷ pairs) h =
+    let P : ℕ × Bool → Type 0 = λ pair. pair.0 < inputs in
+    let below = All-head P pair pairs h in
+    let first : nat_le inputs pair.0 ≡ false = grind (arith, nat_tests, below) in
+    rw first (inputs-known inputs pairs (All-tail P pair pairs h))
+
+change-fresh : (inputs : ℕ) (change : List (ℕ × Bool)) → IsChange inputs change → has_node_twice (sent Change change) ≡ false
+change-fresh inputs change h = ap (has_repeat nat_eq) (nodes_of-pairs change) ∙ repeat_from_IsDistinct _ h.distinct
+
+listed-above : (node from : ℕ) (start : List (Option Bool)) → node < from → list_any (nat_eq node) (map (λ pair. pair.0) (listed_from from start)) ≡ false
+listed-above node from [] h = refl
+listed-above node from (None ∷ later) h = listed-above node (suc from) later (omega arith)
+listed-above node from (Some bit ∷ later) h = let other : nat_eq node from ≡ false = grind (arith, nat_tests, h) in rw other (listed-above node (suc from) later (omega arith))
+
+listed-fresh : (from : ℕ) (start : List (Option Bool)) → has_repeat nat_eq (map (λ pair. pair.0) (listed_from from start)) ≡ false
+listed-fresh from [] = refl
+listed-fresh from (None ∷ later) = listed-fresh (suc from) later
+listed-fresh from (Some bit ∷ later) = rw (listed-above from (suc from) later (omega arith)) (listed-fresh (suc from) later)
+
+below-none : (node from : ℕ) (start : List (Option Bool)) → node < from → bit_at (map assignment_to (listed_from from start)) node ≡ None
+below-none node from [] h = refl
+below-none node from (None ∷ later) h = below-none node (suc from) later (omega arith)
+below-none node from (Some bit ∷ later) h = let other : nat_eq node from ≡ false = grind (arith, nat_tests, h) in rw other (below-none node (suc from) later (omega arith))
+
+bit_at-listed : (from place node : ℕ) (start : List (Option Bool)) → node ≡ from + place → bit_at (map assignment_to (listed_from from start)) node ≡ get_or start place None
+bit_at-listed from place node [] e = refl
+bit_at-listed from zero node (None ∷ later) e = below-none node (suc from) later (omega (arith, e))
+bit_at-listed from zero node (Some bit ∷ later) e = let same : nat_eq node from ≡ true = grind (arith, nat_tests, e) in rw same refl
+bit_at-listed from (suc place) node (None ∷ later) e = bit_at-listed (suc from) place node later (omega (arith, e))
+bit_at-listed from (suc place) node (Some bit ∷ later) e = let other : nat_eq node from ≡ false = grind (arith, nat_tests, e) in rw other (bit_at-listed (suc from) place node later (omega (arith, e)))
+
+assigns-bit : (all : List Assigned) (node : ℕ) → IsSome (bit_at all node) → assigns all node ≡ true
+assigns-bit [] node h = cc
+assigns-bit (first ∷ later) node h = by_test (is_node node first.node) refl (assigns-bit later node)
+  where
+    by_test : (t : Bool) → is_node node first.node ≡ t → (IsSome (bit_at later node) → assigns later node ≡ true) → (t || assigns later node) ≡ true
+    by_test true t ih = refl
+    by_test false t ih = ih (rw t at h)
+
+position-nowhere : {X : Type 0} (test : X → Bool) (xs : List X) (d : X) → ((k : ℕ) → k < length xs → test (get_or xs k d) ≡ false) → position test xs ≡ None
+position-nowhere test xs d h =
+    let at = position_or_len_is test xs (length xs) d (omega arith) h (λ l. absurd (omega arith)) in
+    let past : ltb (length xs) (length xs) ≡ false = grind (arith, nat_tests) in
+    rw (at, past) refl
+
+start-whole : (netlist : Netlist) (script : ScriptOf) → IsCircuit netlist → IsScriptFor netlist script → least_unassigned netlist.inputs (map assignment_to (listed_from 0 script.start)) ≡ None
+start-whole netlist script whole h =
+    let all = map assignment_to (listed_from 0 script.start) in
+    let inputs = netlist.inputs in
+    position-nowhere not (marks_of all inputs) false (λ k l.
+      let low : k < inputs = omega (arith, l, length-marks all inputs) in
+      let long : inputs ≤ length script.start = omega (arith, h.nodes, whole.nodes) in
+      let listed : IsSome (get_or script.start k None) = rw (get_or-take inputs script.start k None low) at (h.inputs k None (omega (arith, low, length-take-le inputs script.start long))) in
+      let found = assigns-bit all k (rw (bit_at-listed 0 k k script.start (sym (zero-add k))) listed) in
+      rw (get_or-marks all inputs k false low, found) refl)
+
+length-sent : (changes : List (List (ℕ × Bool))) (line : ℕ) → length (changes_sent line changes) ≡ length changes
+length-sent [] line = refl
+length-sent (change ∷ changes) line = ap suc (length-sent changes (suc line))
+
+changes_back : (changes : List (List (ℕ × Bool))) (line : ℕ) → map (map assignment_to) changes ≡ map (λ numbered. numbered.statement.assigned) (changes_sent line changes)
+changes_back [] line = refl
+changes_back (change ∷ changes) line = ap (λ rest. map assignment_to change ∷ rest) (changes_back changes (suc line))
+
+sent-clear : (netlist : Netlist) (script : ScriptOf) → IsCircuit netlist → IsScriptFor netlist script → first_fault netlist.inputs (script_sent script) ≡ None
+sent-clear netlist script whole h =
+    let inputs = netlist.inputs in
+    let start : Numbered Looked = record { line = 1; statement = sent Start (listed_from 0 script.start) } in
+    let later = changes_sent 2 script.changes in
+    let unknown : first_line (has_unknown inputs) (script_sent script) ≡ None = first_line-cons (has_unknown inputs) start later ∙ ap (λ b. cond b (Some 1) (first_line (has_unknown inputs) later)) (start-known inputs (listed_from 0 script.start)) ∙ changes-none inputs (has_unknown inputs) (λ change is. inputs-known inputs change is.below) script.changes 2 h.changes in
+    let twice : first_line has_node_twice (script_sent script) ≡ None = first_line-cons has_node_twice start later ∙ ap (λ b. cond b (Some 1) (first_line has_node_twice later)) (ap (has_repeat nat_eq) (nodes_of-pairs (listed_from 0 script.start)) ∙ listed-fresh 0 script.start) ∙ changes-none inputs has_node_twice (change-fresh inputs) script.changes 2 h.changes in
+    let bit : first_line has_no_bit (script_sent script) ≡ None = first_line-cons has_no_bit start later ∙ ap (λ b. cond b (Some 1) (first_line has_no_bit later)) (all-bits Start (listed_from 0 script.start)) ∙ changes-none inputs has_no_bit (λ change is. all-bits Change change) script.changes 2 h.changes in
+    let order : first_out_of_order (script_sent script) ≡ None = changes-none inputs is_start (λ change is. refl) script.changes 2 h.changes in
+    let few : last_beyond (script_sent script) ≡ None = ap (option_map (λ (numbered : Numbered Looked). numbered.line)) (slice_get_past (script_sent script) 10001 (omega (arith, h.few, length-sent script.changes 2))) in
+    rw (unknown, twice, start-whole netlist script whole h, bit, order, few) refl
+
+-- what was printed has no fault
+pub printed-faultless : (netlist : Netlist) (script : ScriptOf) → IsCircuit netlist → IsScriptFor netlist script → IsFaultless netlist (script_text netlist script)
+printed-faultless netlist script whole h =
+    let text = script_text netlist script in
+    let none : first_fault netlist.inputs (looked_statements netlist text) ≡ None = ap (first_fault netlist.inputs) (script_read netlist script whole h) ∙ sent-clear netlist script whole h in
+    let P : Option TextFault → Type 0 = Outcome netlist text in
+    subst P none (first_fault-outcome netlist text (meaning_at-none statement_of text (script_formed netlist script whole h)))
+
+start_back : (netlist : Netlist) (script : ScriptOf) → IsScriptFor netlist script → script.start ≡ map (bit_at (map assignment_to (listed_from 0 script.start))) (range_with_len 0 (length netlist.names))
+start_back netlist script h =
+    let all = map assignment_to (listed_from 0 script.start) in
+    let nodes = length netlist.names in
+    same_lists _ _ (h.nodes ∙ sym (length-map (range_with_len 0 nodes) (bit_at all) ∙ length-range_with_len 0 nodes))
+    (λ k d l.
+      let low : k < nodes = omega (arith, l, h.nodes) in
+      get_or_default script.start k d None l
+      ∙ sym (bit_at-listed 0 k k script.start (sym (zero-add k)))
+      ∙ sym (get_or-map-range_with_len (bit_at all) 0 nodes k k d low (zero-add k)))
+
+-- what was printed stands for the script
+pub printed-value : (netlist : Netlist) (script : ScriptOf) → IsCircuit netlist → IsScriptFor netlist script → IsValue netlist (script_text netlist script) script
+printed-value netlist script whole h =
+    let P : List (Numbered Looked) → Type 0 = λ statements. IsScriptOf (length netlist.names) statements script in
+    subst P (sym (script_read netlist script whole h)) (record { start = start_back netlist script h; changes = changes_back script.changes 2 })

@@ -1,0 +1,156 @@
+-- The lines of a printed script are read as its statements.
+use Rattle.std.proofs.Common.{◌≡◌, ◌∙◌, ℕ, ◌+◌, ◌<◌, ◌≤◌, Bool, true, false, not, ◌&&◌, ◌||◌, ◌==◌, cond, nat_le, List, [], ◌∷◌, ◌++◌, Option, Some, None, zero, suc, length, get_or, map, codes, refl, ap, sym, subst, arith, append_assoc}
+use Rattle.std.specs.List.{list_all, flat_map, slice_index_or, All}
+use Rattle.std.specs.Option.{option_map}
+use Rattle.std.proofs.lemmas.Bool.Decides.{nat_tests}
+use Rattle.std.proofs.lemmas.List.Folds.{list_all-append}
+use Rattle.std.proofs.lemmas.List.Elements.{All-head, All-tail}
+use Rattle.hz_core.specs.Netlist.{Netlist, IsName, IsCircuit, is_name_byte}
+use Rattle.hz_line.specs.declared.bytes.Mark.TheVariants.{Equals}
+use Rattle.hz_line.specs.Byte.{class_of, is_letter}
+use Rattle.hz_line.specs.Line.{lines_of}
+use Rattle.hz_line.specs.Token.{TokenOf, WordOf, MarkOf, tokens_of, with_token, begins_in_word}
+use Rattle.hz_line.specs.Statement.{meaning_of, meaning_of_tokens, Means, Numbered, numbered_from, with_meaning, first_malformed, malformed_before}
+use Rattle.hz_line.proofs.WrittenLemmas.{tokens_of-equals, tokens_of-space, is_letter-separators, both, tokens_of-word_before, is_inline, lines_of-written}
+use Rattle.hz_text.specs.declared.keyword.Keyword.{Keyword}
+use Rattle.hz_text.specs.declared.keyword.Keyword.TheVariants.{Start, Change}
+use Rattle.hz_text.specs.Assignment.{Assignment, assignments_of}
+use Rattle.hz_text.specs.Statement.{Statement, keyword_of, statement_of}
+use Rattle.hz_text.specs.Printed.{letter_of, assignment_text, statement_text}
+
+off : (a : Bool) → not a ≡ true → a ≡ false
+off true h = cc
+off false h = refl
+
+far : (byte at : ℕ) → nat_le 33 byte ≡ true → nat_le at 32 ≡ true → (byte == at) ≡ false
+far byte at h l = grind (arith, nat_tests, h, l)
+
+-- a byte of a name is a letter, and ends no line
+name_byte : (byte : ℕ) → is_name_byte byte ≡ true → (is_letter byte ≡ true) × (is_inline byte ≡ true)
+unfolding class_of
+name_byte byte h =
+    let parts = both (nat_le 33 byte && nat_le byte 126) _ h in
+    let range = both (nat_le 33 byte) (nat_le byte 126) parts.0 in
+    let a = split_last (byte == 40 || byte == 41 || byte == 44 || byte == 61) (byte == 35) parts.1 in
+    let b = split_last (byte == 40 || byte == 41 || byte == 44) (byte == 61) a.0 in
+    let c = split_last (byte == 40 || byte == 41) (byte == 44) b.0 in
+    let d = split_last (byte == 40) (byte == 41) c.0 in
+    let space = far byte 32 range.0 refl in
+    let tab = far byte 9 range.0 refl in
+    let feed = far byte 10 range.0 refl in
+    let back = far byte 13 range.0 refl in
+    let open_mark = off (byte == 40) d.0 in
+    (rw (space, tab, a.1, open_mark, d.1, c.1, b.1, range.0, range.1) refl, rw (feed, back) refl)
+  where
+    split_last : (a b : Bool) → not (a || b) ≡ true → (not a ≡ true) × (b ≡ false)
+    split_last true b h = cc
+    split_last false true h = cc
+    split_last false false h = (refl, refl)
+
+name_bytes : (name : List ℕ) → list_all is_name_byte name ≡ true → (list_all is_letter name ≡ true) × (list_all is_inline name ≡ true)
+name_bytes [] h = (refl, refl)
+name_bytes (byte ∷ name) h =
+    let parts = both (is_name_byte byte) _ h in
+    let this = name_byte byte parts.0 in
+    let rest = name_bytes name parts.1 in
+    (rw (this.0, rest.0) refl, rw (this.1, rest.1) refl)
+
+letter_word : (bit : Bool) → (list_all is_letter (letter_of bit ∷ []) ≡ true) × (is_inline (letter_of bit) ≡ true)
+unfolding class_of
+letter_word true = (refl, refl)
+letter_word false = (refl, refl)
+
+-- the tokens of assignments
+abbrev pub pair_tokens : Netlist → List (ℕ × Bool) → List TokenOf
+pair_tokens netlist [] = []
+pair_tokens netlist (pair ∷ pairs) = WordOf (slice_index_or netlist.names pair.0 []) ∷ MarkOf Equals ∷ WordOf (letter_of pair.1 ∷ []) ∷ pair_tokens netlist pairs
+
+-- the pairs name nodes
+abbrev pub AreNodes : Netlist → List (ℕ × Bool) → Type 0
+AreNodes netlist pairs = All (λ pair. pair.0 < length netlist.names) pairs
+
+no_word : (netlist : Netlist) (pairs : List (ℕ × Bool)) → begins_in_word (flat_map (assignment_text netlist) pairs) ≡ false
+no_word netlist [] = refl
+no_word netlist (pair ∷ pairs) = is_letter-separators.0
+
+name_at : (netlist : Netlist) (node : ℕ) → IsCircuit netlist → node < length netlist.names → IsName (slice_index_or netlist.names node [])
+name_at netlist node whole l = whole.names node [] l
+
+one_assignment : (name : List ℕ) (bit : Bool) (rest : List ℕ) (tokens : List TokenOf) → IsName name → begins_in_word rest ≡ false → tokens_of rest ≡ Some tokens → tokens_of ((32 ∷ name ++ 61 ∷ letter_of bit ∷ []) ++ rest) ≡ Some (WordOf name ∷ MarkOf Equals ∷ WordOf (letter_of bit ∷ []) ∷ tokens)
+one_assignment name bit rest tokens is ends read =
+    let words = name_bytes name is.bytes in
+    let letters = letter_word bit in
+    tokens_of-space ((name ++ 61 ∷ letter_of bit ∷ []) ++ rest)
+    ∙ ap tokens_of (append_assoc name (61 ∷ letter_of bit ∷ []) rest)
+    ∙ tokens_of-word_before name (61 ∷ letter_of bit ∷ rest) (omega (arith, is.some)) words.0 is_letter-separators.4
+    ∙ ap (with_token (WordOf name)) (tokens_of-equals (letter_of bit ∷ rest) ∙ ap (with_token (MarkOf Equals)) (tokens_of-word_before (letter_of bit ∷ []) rest (omega arith) letters.0 ends ∙ ap (with_token (WordOf (letter_of bit ∷ []))) read))
+
+pairs_read : (netlist : Netlist) (pairs : List (ℕ × Bool)) → IsCircuit netlist → AreNodes netlist pairs → tokens_of (flat_map (assignment_text netlist) pairs) ≡ Some (pair_tokens netlist pairs)
+pairs_read netlist [] whole h = refl
+pairs_read netlist (pair ∷ pairs) whole h =
+    let P : ℕ × Bool → Type 0 = λ pair. pair.0 < length netlist.names in
+    one_assignment (slice_index_or netlist.names pair.0 []) pair.1 (flat_map (assignment_text netlist) pairs) (pair_tokens netlist pairs) (name_at netlist pair.0 whole (All-head P pair pairs h)) (no_word netlist pairs) (pairs_read netlist pairs whole (All-tail P pair pairs h))
+
+pairs_inline : (netlist : Netlist) (pairs : List (ℕ × Bool)) → IsCircuit netlist → AreNodes netlist pairs → list_all is_inline (flat_map (assignment_text netlist) pairs) ≡ true
+pairs_inline netlist [] whole h = refl
+pairs_inline netlist (pair ∷ pairs) whole h =
+    let P : ℕ × Bool → Type 0 = λ pair. pair.0 < length netlist.names in
+    let name = slice_index_or netlist.names pair.0 [] in
+    let words = name_bytes name (name_at netlist pair.0 whole (All-head P pair pairs h)).bytes in
+    let first : list_all is_inline (name ++ 61 ∷ letter_of pair.1 ∷ []) ≡ true = rw (list_all-append is_inline name (61 ∷ letter_of pair.1 ∷ []), words.1, (letter_word pair.1).1) refl in
+    rw (list_all-append is_inline (name ++ 61 ∷ letter_of pair.1 ∷ []) (flat_map (assignment_text netlist) pairs), first, pairs_inline netlist pairs whole (All-tail P pair pairs h)) refl
+
+-- an assignment of a bit to a node's name
+abbrev pub spelled : Netlist → ℕ × Bool → Assignment
+spelled netlist pair = record { name = slice_index_or netlist.names pair.0 []; word = letter_of pair.1 ∷ [] }
+
+pub assignments_read : (netlist : Netlist) (pairs : List (ℕ × Bool)) → assignments_of (pair_tokens netlist pairs) ≡ Some (map (spelled netlist) pairs)
+assignments_read netlist [] = refl
+assignments_read netlist (pair ∷ pairs) = ap (option_map (λ assignments. spelled netlist pair ∷ assignments)) (assignments_read netlist pairs)
+
+-- the keyword of a statement, spelled
+abbrev pub keyword_text : Keyword → List ℕ
+keyword_text Start = codes "start"
+keyword_text Change = codes "change"
+
+keyword_facts : (keyword : Keyword) → (keyword_of (keyword_text keyword) ≡ Some keyword) × (list_all is_letter (keyword_text keyword) ≡ true) × (list_all is_inline (keyword_text keyword) ≡ true) × (0 < length (keyword_text keyword))
+unfolding keyword_of class_of
+keyword_facts Start = (refl, refl, refl, omega arith)
+keyword_facts Change = (refl, refl, refl, omega arith)
+
+-- the statement of a keyword and pairs
+abbrev pub stated : Netlist → Keyword → List (ℕ × Bool) → Statement
+stated netlist keyword pairs = record { keyword = keyword; assignments = map (spelled netlist) pairs }
+
+-- the bytes of a line before its line feed
+abbrev pub body : Netlist → Keyword → List (ℕ × Bool) → List ℕ
+body netlist keyword pairs = keyword_text keyword ++ flat_map (assignment_text netlist) pairs
+
+line_tokens : (netlist : Netlist) (keyword : Keyword) (pairs : List (ℕ × Bool)) → IsCircuit netlist → AreNodes netlist pairs → tokens_of (body netlist keyword pairs) ≡ Some (WordOf (keyword_text keyword) ∷ pair_tokens netlist pairs)
+line_tokens netlist keyword pairs whole h =
+    let facts = keyword_facts keyword in
+    tokens_of-word_before (keyword_text keyword) (flat_map (assignment_text netlist) pairs) facts.3 facts.1 (no_word netlist pairs) ∙ ap (with_token (WordOf (keyword_text keyword))) (pairs_read netlist pairs whole h)
+
+line_meaning : (netlist : Netlist) (keyword : Keyword) (pairs : List (ℕ × Bool)) → IsCircuit netlist → AreNodes netlist pairs → meaning_of statement_of (body netlist keyword pairs) ≡ Means (stated netlist keyword pairs)
+line_meaning netlist keyword pairs whole h =
+    rw (line_tokens netlist keyword pairs whole h, (keyword_facts keyword).0, assignments_read netlist pairs) refl
+
+line_inline : (netlist : Netlist) (keyword : Keyword) (pairs : List (ℕ × Bool)) → IsCircuit netlist → AreNodes netlist pairs → list_all is_inline (body netlist keyword pairs) ≡ true
+line_inline netlist keyword pairs whole h =
+    rw (list_all-append is_inline (keyword_text keyword) (flat_map (assignment_text netlist) pairs), (keyword_facts keyword).2, pairs_inline netlist pairs whole h) refl
+
+-- a printed line before other lines
+pub lines_of-statement : (netlist : Netlist) (keyword : Keyword) (pairs : List (ℕ × Bool)) (rest : List ℕ) → IsCircuit netlist → AreNodes netlist pairs → lines_of (statement_text netlist (keyword_text keyword) pairs ++ rest) ≡ body netlist keyword pairs ∷ lines_of rest
+unfolding statement_text
+lines_of-statement netlist keyword pairs rest whole h =
+    ap lines_of (append_assoc (body netlist keyword pairs) (10 ∷ []) rest) ∙ lines_of-written (body netlist keyword pairs) rest (line_inline netlist keyword pairs whole h)
+
+pub numbered-statement : (netlist : Netlist) (keyword : Keyword) (pairs : List (ℕ × Bool)) (rest : List ℕ) (line : ℕ) → IsCircuit netlist → AreNodes netlist pairs → numbered_from statement_of line (lines_of (statement_text netlist (keyword_text keyword) pairs ++ rest)) ≡ record { line = line; statement = stated netlist keyword pairs } ∷ numbered_from statement_of (suc line) (lines_of rest)
+numbered-statement netlist keyword pairs rest line whole h =
+    ap (numbered_from statement_of line) (lines_of-statement netlist keyword pairs rest whole h)
+    ∙ ap (λ meaning. with_meaning line meaning (numbered_from statement_of (suc line) (lines_of rest))) (line_meaning netlist keyword pairs whole h)
+
+pub formed-statement : (netlist : Netlist) (keyword : Keyword) (pairs : List (ℕ × Bool)) (rest : List ℕ) (line : ℕ) → IsCircuit netlist → AreNodes netlist pairs → first_malformed statement_of line (lines_of (statement_text netlist (keyword_text keyword) pairs ++ rest)) ≡ first_malformed statement_of (suc line) (lines_of rest)
+formed-statement netlist keyword pairs rest line whole h =
+    ap (first_malformed statement_of line) (lines_of-statement netlist keyword pairs rest whole h)
+    ∙ ap (λ meaning. malformed_before line meaning (first_malformed statement_of (suc line) (lines_of rest))) (line_meaning netlist keyword pairs whole h)
