@@ -4,14 +4,21 @@
 //! |---|---|
 //! | `status` | how a call of the program ends |
 //! | `job` | what the words ask for |
-//! | `source` | the two files |
+//! | `refusal` | the lines of refusals |
 //! | `finding` | what one change may do |
+//! | `reporting` | what is printed of a start and of a change |
+//! | `analysis` | the job `analyse`, from its two files on |
+//! | `running` | the top call |
 #![tactic(auto)]
 
+mod analysis;
 mod finding;
 mod job;
 mod refusal;
 mod reporting;
+mod running;
 mod status;
 
+pub use analysis::MAX_BYTES;
+pub use running::run;
 pub use status::Status;
