@@ -1,6 +1,5 @@
 -- Lines made piece by piece, and lines and words with one part for each node.
-use Rattle.std.proofs.Common.{◌≡◌, ◌∙◌, sym, ap, refl, ℕ, ◌+◌, ◌-◌, ◌<◌, ◌≤◌, List, [], ◌∷◌, ◌++◌, length, get_or, map, take, Option, Result, Ok, Err, arith, append_assoc, codes, decimal, zero-add}
-use Rattle.std.specs.List.{range_with_len}
+use Rattle.std.proofs.Common.{◌≡◌, ◌∙◌, sym, ℕ, ◌+◌, ◌-◌, ◌<◌, List, [], ◌∷◌, ◌++◌, length, get_or, map, take, Option, Result, Ok, Err, arith, append_assoc, codes, decimal, zero-add}
 use Rattle.std.proofs.lemmas.List.FromFn.{length-range_with_len, get_or-range_with_len}
 use Rattle.hz_outside.specs.Written.{joined}
 use Rattle.hz_outside.specs.declared.fault.PutFault.{PutFault}

@@ -1,5 +1,5 @@
 -- Names of variables, by what a variable is.
-use Rattle.std.proofs.Common.{◌≡◌, ◌∙◌, sym, ap, subst, refl, ℕ, ◌+◌, ◌-◌, ◌<◌, ◌≤◌, ◌^◌, List, [], ◌∷◌, ◌++◌, length, Some, All, get_or, map, arith, slice_get, length-append, codes, decimal, inl, inr}
+use Rattle.std.proofs.Common.{◌≡◌, ◌∙◌, sym, ap, subst, refl, ℕ, ◌+◌, ◌-◌, ◌<◌, ◌≤◌, List, [], ◌∷◌, ◌++◌, length, Some, All, get_or, map, arith, slice_get, length-append, codes, decimal, inl, inr}
 use Rattle.std.specs.List.{range_with_len}
 use Rattle.std.proofs.lemmas.List.{length-map, get_or-map, get_or_append_left, get_or-append_right}
 use Rattle.std.proofs.lemmas.List.FromFn.{length-range_with_len, length-map-range_with_len}
@@ -15,7 +15,7 @@ use Rattle.hz_net.specs.Variables.{variables_of}
 use Rattle.hz_net.specs.declared.variable.VarKind.{VarKind}
 use Rattle.hz_net.specs.declared.variable.VarKind.TheVariants.{Input as InputKind, Gate as GateKind, Wire as WireKind}
 use Rattle.hz_net.proofs.Places.{no_gate, no_wire}
-use Rattle.hz_report.specs.Words.{node_name, wire_name, variable_names, variable_name}
+use Rattle.hz_report.specs.Words.{node_name, wire_name, variable_name}
 
 -- what a wire is
 abbrev seen_wire : Wire → VarKind

@@ -4,40 +4,11 @@ ghost use Rattle.hz_net.specs.Network.{network_of};
 
 use super::{Found, write_change, write_head};
 use hz_core::Tri::{One, Unknown, Zero};
-use hz_core::{Circuit, Kind, Memory, Tri};
+use hz_core::{Circuit, Kind, Memory};
 use hz_net::Net;
 use hz_outside::{MemSink, PlainSink, PutFault};
 use std::alloc::{AllocError, Global};
 use std::test::Fail;
-
-// The circuit c17.
-fn c17(alloc: Global) -> Result<Circuit, Memory> {
-    let mut circuit = Circuit::new(alloc);
-    circuit.add_input(b"1")?;
-    circuit.add_input(b"2")?;
-    circuit.add_input(b"3")?;
-    circuit.add_input(b"6")?;
-    circuit.add_input(b"7")?;
-    let g10 = circuit.add_gate(b"10", Kind::Nand)?;
-    circuit.connect(g10, 0)?;
-    circuit.connect(g10, 2)?;
-    let g11 = circuit.add_gate(b"11", Kind::Nand)?;
-    circuit.connect(g11, 2)?;
-    circuit.connect(g11, 3)?;
-    let g16 = circuit.add_gate(b"16", Kind::Nand)?;
-    circuit.connect(g16, 1)?;
-    circuit.connect(g16, g11)?;
-    let g19 = circuit.add_gate(b"19", Kind::Nand)?;
-    circuit.connect(g19, g11)?;
-    circuit.connect(g19, 4)?;
-    let g22 = circuit.add_gate(b"22", Kind::Nand)?;
-    circuit.connect(g22, g10)?;
-    circuit.connect(g22, g16)?;
-    let g23 = circuit.add_gate(b"23", Kind::Nand)?;
-    circuit.connect(g23, g16)?;
-    circuit.connect(g23, g19)?;
-    Ok(circuit)
-}
 
 // The NOR latch whose first input is named like a word of the lines.
 fn latch(alloc: Global) -> Result<Circuit, Memory> {
@@ -76,67 +47,6 @@ fn network(alloc: Global, circuit: Circuit, nodes: u32) -> Result<Net, Fail>
     Ok(Net::build(alloc, circuit)?)
 }
 
-// What Algorithms A and B find in c17 where 3 and 1 rise.
-const A_OF_C17: [Tri; 11] = [
-    Unknown, Zero, Unknown, Zero, Zero, Unknown, One, One, One, Unknown, Zero,
-];
-
-const B_OF_C17: [Tri; 11] = [One, Zero, One, Zero, Zero, Zero, One, One, One, One, Zero];
-
-#[test]
-fn a_line_for_each_node(rt: HostRuntime) -> Result<(), Fail> {
-    let net = network(rt.alloc(), c17(rt.alloc())?, 11)?;
-    let nodes = [
-        false, false, false, false, false, true, true, true, true, false, false,
-    ];
-    let start = values(rt.alloc(), &net, &nodes, true)?;
-    let a = values(rt.alloc(), &net, &A_OF_C17, One)?;
-    let b = values(rt.alloc(), &net, &B_OF_C17, Unknown)?;
-    let found = Found {
-        a: &a,
-        rounds_a: 6,
-        b: &b,
-        rounds_b: 6,
-    };
-    let change = [(2, true), (0, true)];
-
-    let mut whole = PlainSink::new(rt.alloc());
-    assert_eq!(rt; write_head(&mut whole, &net, &start), Ok(()));
-    assert_eq!(rt;
-        write_change(&mut whole, &net, 1, &change, &start, &found),
-        Ok(())
-    );
-    let text = b"netlist inputs 5 gates 6 wires 12 variables 23\n\
-        start 1=0 2=0 3=0 6=0 7=0 10=1 11=1 16=1 19=1 22=0 23=0\n\
-        change 1 3=1 1=1\n\
-        rounds A 6 B 6\n\
-        1 start 0 A X B 1\n\
-        2 start 0 A 0 B 0\n\
-        3 start 0 A X B 1\n\
-        6 start 0 A 0 B 0\n\
-        7 start 0 A 0 B 0\n\
-        10 start 1 A X B 0\n\
-        11 start 1 A 1 B 1\n\
-        16 start 1 A 1 B 1\n\
-        19 start 1 A 1 B 1\n\
-        22 start 0 A X B 1\n\
-        23 start 0 A 0 B 0\n";
-    assert_eq!(rt; whole.bytes(), text.as_slice());
-
-    let mut broken = MemSink::new(rt.alloc());
-    broken.fail(3, 5)?;
-    assert_eq!(rt; write_head(&mut broken, &net, &start), Ok(()));
-    assert_eq!(rt;
-        write_change(&mut broken, &net, 1, &change, &start, &found),
-        Err(PutFault::Failed)
-    );
-    let front = b"netlist inputs 5 gates 6 wires 12 variables 23\n\
-        start 1=0 2=0 3=0 6=0 7=0 10=1 11=1 16=1 19=1 22=0 23=0\n\
-        chang";
-    assert_eq!(rt; broken.bytes(), front.as_slice());
-    Ok(())
-}
-
 #[test]
 fn a_node_named_start(rt: HostRuntime) -> Result<(), Fail> {
     let net = network(rt.alloc(), latch(rt.alloc())?, 4)?;
@@ -166,6 +76,16 @@ fn a_node_named_start(rt: HostRuntime) -> Result<(), Fail> {
         q start 0 A X B X\n\
         qb start 0 A X B X\n";
     assert_eq!(rt; whole.bytes(), text.as_slice());
+
+    let mut broken = MemSink::new(rt.alloc());
+    broken.fail(3, 5)?;
+    assert_eq!(rt; write_head(&mut broken, &net, &start), Ok(()));
+    assert_eq!(rt;
+        write_change(&mut broken, &net, 1, &change, &start, &found),
+        Err(PutFault::Failed)
+    );
+    let front = b"netlist inputs 2 gates 2 wires 4 variables 8\nstart start=1 s=1 q=0 qb=0\nchang";
+    assert_eq!(rt; broken.bytes(), front.as_slice());
     Ok(())
 }
 

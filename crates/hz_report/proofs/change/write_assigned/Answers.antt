@@ -1,5 +1,5 @@
 -- The number, the word of each assignment, and then the line feed.
-use Rattle.std.proofs.Common.{◌≡◌, ◌<◌, ◌≤◌, ℕ, Bool, false, List, [], ◌∷◌, length, arith, codes, decimal, get_or}
+use Rattle.std.proofs.Common.{◌<◌, ◌≤◌, ℕ, Bool, false, List, [], ◌∷◌, length, arith, codes, decimal, get_or}
 use Rattle.std.proofs.lemmas.List.{take_all, append-nil}
 use Rattle.std.proofs.lemmas.List.Elements.{All-get_or}
 use Rattle.hz_outside.specs.Written.{joined}

@@ -1,6 +1,4 @@
 -- The name, and then the letters and the line feed.
-use Rattle.std.proofs.Common.{◌≡◌}
-use Rattle.hz_write.specs.Writes.{line_of}
 use Rattle.hz_write.proofs.Writing.{Stops-longer, Wrote-waiting, Wrote-exit}
 use Rattle.hz_report.specs.Report.{node_line}
 use Rattle.hz_report.proofs.Lines.{line_of-cons}

@@ -1,5 +1,5 @@
 -- The line of each node.
-use Rattle.std.proofs.Common.{◌≡◌, ◌<◌, ◌≤◌, length, arith}
+use Rattle.std.proofs.Common.{◌<◌, ◌≤◌, length, arith}
 use Rattle.std.proofs.lemmas.List.{take_all}
 use Rattle.hz_write.proofs.Writing.{Puts-none, Wrote-exit}
 use Rattle.hz_report.specs.Report.{nodes_of, node_line, node_lines}

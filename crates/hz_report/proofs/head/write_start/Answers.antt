@@ -1,7 +1,6 @@
 -- The word of each node, and then the line feed.
-use Rattle.std.proofs.Common.{◌≡◌, ◌<◌, ◌≤◌, length, arith, codes}
+use Rattle.std.proofs.Common.{◌<◌, ◌≤◌, length, arith, codes}
 use Rattle.std.proofs.lemmas.List.{take_all}
-use Rattle.hz_net.specs.Network.{network_of}
 use Rattle.hz_net.proofs.Places.{length-network_of}
 use Rattle.hz_write.specs.Writes.{newline}
 use Rattle.hz_write.proofs.Writing.{joined-nil, Stops-longer, Wrote-waiting, Wrote-exit}

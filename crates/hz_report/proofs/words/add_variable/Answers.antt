@@ -1,8 +1,6 @@
 -- A node's name is its own; a wire's is made of its gate and its pin.
-use Rattle.std.proofs.Common.{◌≡◌, ◌<◌, ◌^◌, ℕ, Some, slice_get, arith, length, subst, sym, ◌++◌, List}
-use Rattle.hz_core.specs.Netlist.{IsCircuit}
-use Rattle.hz_net.specs.declared.variable.VarKind.TheVariants.{Input as InputKind, Gate as GateKind, Wire as WireKind}
-use Rattle.hz_report.specs.Words.{variable_name}
+use Rattle.std.proofs.Common.{arith}
+use Rattle.hz_net.specs.declared.variable.VarKind.TheVariants.{Input as InputKind, Gate as GateKind}
 use Rattle.hz_report.proofs.Names.{node_is_below, wire_goes_into, variable_name-node, variable_name-wire}
 use Rattle.hz_report.proofs.words.add_variable.Goals as goal
 
