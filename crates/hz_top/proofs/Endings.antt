@@ -11,7 +11,7 @@ use Rattle.hz_top.specs.Answer.{Answers, WroteWhole, WroteFront}
 use Rattle.hz_top.specs.Ending.{status_after}
 
 -- the statuses of a job that came to its end
-pub IsEnd : Status → Type 0
+abbrev pub IsEnd : Status → Type 0
 IsEnd status.Done = Unit {0}
 IsEnd status.No = Unit {0}
 IsEnd status.Words = Unit {0}
@@ -33,8 +33,8 @@ Answers-whole written faults comes was now status.Text is whole = whole
 Answers-whole written faults comes was now status.Start is whole = whole
 Answers-whole written faults comes was now status.File is whole = whole
 Answers-whole written faults comes was now status.TooLong is whole = whole
-Answers-whole written faults comes was now status.Sink () whole
-Answers-whole written faults comes was now status.Memory () whole
+Answers-whole written faults comes was now status.Sink is whole = absurd is
+Answers-whole written faults comes was now status.Memory is whole = absurd is
 
 -- where a text that comes with the job's own status was put, or its put stopped, the call so ends
 pub Answers-put : {S : Type 0} (written : S → Option (List ℕ)) (faults : S → ℕ) (comes : Status → List ℕ → Type 0) (was now : S) (own : Status) (text : List ℕ) (put : Result (Unit {0}) PutFault) (ends : Status) → IsEnd own → comes own text → Wrote written faults text was now put → ends ≡ status_after put own → Answers written faults comes was now ends
