@@ -1,4 +1,6 @@
+pub mod ListLemmas
 pub mod CircuitLemmas
+pub mod FieldLemmas
 pub mod Extensions
 pub mod Joins
 pub mod Kleene

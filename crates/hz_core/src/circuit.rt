@@ -80,13 +80,13 @@ impl Circuit {
     {
         let number = self.names.len() as u32;
         let alloc = *self.names.allocator();
-        let Ok(text) = Vec::from_slice(alloc, name) else {
+        let Ok(key) = Vec::from_slice(alloc, name) else {
             return Err(Memory);
         };
         let Ok(()) = self.gates.reserve(1) else {
             return Err(Memory);
         };
-        let Ok(_) = self.names.insert(text) else {
+        let Ok(_) = self.names.insert(key) else {
             return Err(Memory);
         };
         self.gates.push_reserved(GateEntry::new(alloc, kind));

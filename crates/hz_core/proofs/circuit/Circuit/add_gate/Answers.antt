@@ -1,5 +1,5 @@
-use Rattle.std.proofs.Common.{◌≡◌, ◌∙◌, ap, refl, ◌++◌, ◌∷◌, []}
-use Rattle.hz_core.proofs.CircuitLemmas.{GateComes, HoldsCircuit-GateComes, view-GateComes, names_counted}
+use Rattle.std.proofs.Common.{◌∙◌, ap, refl, ◌++◌, ◌∷◌, []}
+use Rattle.hz_core.proofs.FieldLemmas.{GateComes, HoldsCircuit-GateComes, view-GateComes, names_counted}
 use Rattle.hz_core.proofs.circuit.Circuit.add_gate.Goals as goal
 
 comes :
@@ -12,13 +12,13 @@ comes :
       outputs = c.self.inside.outputs;
       pins = c.self.inside.pins;
     })
-    c.in-Ok.text c.args.kind
+    c.in-Ok.key c.args.kind
 comes c =
     record {
       names = c.in-Ok-insert.ensures.keys;
       inputs = refl;
       gates = c.push_reserved.ensures.items ∙
-        (ap (λ was. was ++ c.new.result ∷ []) c.reserve.ensures.items ∙ ap (λ last. c.self.inside.gates.items ++ last ∷ []) c.new.ensures);
+          (ap (λ was. was ++ c.new.result ∷ []) c.reserve.ensures.items ∙ ap (λ last. c.self.inside.gates.items ++ last ∷ []) c.new.ensures);
       outputs = refl;
       pins = refl;
     }
@@ -29,6 +29,7 @@ invariant_of-self-2 c =
     c.requires.name c.requires.room
 
 pub returns-clause-ok : goal.returns-clause-ok
-returns-clause-ok c =
-    (c.len-number.ensures.len ∙ names_counted c.self.inside c.args.self.now c.self.view_is,
-      view-GateComes _ _ _ _ _ _ c.self.view_is c.requires.fresh c.in-Ok.ensures.items (comes c))
+returns-clause-ok c = (
+  c.len-number.ensures.len ∙ names_counted c.self.inside c.args.self.now c.self.view_is,
+  view-GateComes _ _ _ _ _ _ c.self.view_is c.requires.fresh c.in-Ok.ensures.items (comes c),
+)

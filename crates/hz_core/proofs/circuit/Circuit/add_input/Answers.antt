@@ -1,5 +1,5 @@
-use Rattle.std.proofs.Common.{◌≡◌, ◌∙◌, refl, ◌+◌}
-use Rattle.hz_core.proofs.CircuitLemmas.{HoldsCircuit-InputComes, view-InputComes, names_counted}
+use Rattle.std.proofs.Common.{◌∙◌, refl, ◌+◌}
+use Rattle.hz_core.proofs.FieldLemmas.{HoldsCircuit-InputComes, view-InputComes, names_counted}
 use Rattle.hz_core.proofs.circuit.Circuit.add_input.Goals as goal
 
 pub invariant_of-self-2 : goal.invariant_of-self-2
@@ -10,9 +10,9 @@ invariant_of-self-2 c =
     c.self.invariant c.requires.name c.requires.no_gate c.requires.room
 
 pub returns-clause-ok : goal.returns-clause-ok
-returns-clause-ok c =
-    (c.len-number.ensures.len ∙ names_counted c.self.inside c.args.self.now c.self.view_is,
-      view-InputComes c.self.inside
+returns-clause-ok c = (
+  c.len-number.ensures.len ∙ names_counted c.self.inside c.args.self.now c.self.view_is,
+  view-InputComes c.self.inside
       (record {
         names = c.insert.new.self;
         inputs = c.self.inside.inputs + 1;
@@ -21,4 +21,5 @@ returns-clause-ok c =
         pins = c.self.inside.pins;
       })
       c.args.self.now c.in-Ok.text c.args.name.now c.self.view_is c.requires.fresh c.in-Ok.ensures.items
-      (record { names = c.in-Ok-insert.ensures.keys; inputs = refl; gates = refl; outputs = refl; pins = refl }))
+      (record { names = c.in-Ok-insert.ensures.keys; inputs = refl; gates = refl; outputs = refl; pins = refl }),
+)

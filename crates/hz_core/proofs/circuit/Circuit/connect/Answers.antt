@@ -1,5 +1,5 @@
-use Rattle.std.proofs.Common.{◌≡◌, ◌∙◌, ap, refl, ◌+◌, ◌-◌, set}
-use Rattle.hz_core.proofs.CircuitLemmas.{PinComes, HoldsCircuit-PinComes}
+use Rattle.std.proofs.Common.{ap, refl, ◌-◌, set}
+use Rattle.hz_core.proofs.FieldLemmas.{HoldsCircuit-PinComes}
 use Rattle.hz_core.proofs.circuit.Circuit.connect.Goals as goal
 
 pub invariant_of-self-2 : goal.invariant_of-self-2

@@ -1,5 +1,5 @@
-use Rattle.std.proofs.Common.{◌≡◌, ◌∙◌, sym}
-use Rattle.hz_core.proofs.CircuitLemmas.{found_at}
+use Rattle.std.proofs.Common.{◌∙◌, sym}
+use Rattle.hz_core.proofs.FieldLemmas.{found_at}
 use Rattle.hz_core.proofs.circuit.Circuit.find.Goals as goal
 
 pub returns-in_err-index-clause-found : goal.returns-in_err-index-clause-found

@@ -1,5 +1,5 @@
 use Rattle.std.proofs.Common.{refl}
-use Rattle.hz_core.proofs.CircuitLemmas.{HoldsCircuit-empty}
+use Rattle.hz_core.proofs.FieldLemmas.{HoldsCircuit-empty}
 use Rattle.hz_core.proofs.circuit.Circuit.new.Goals as goal
 
 pub invariant_of-result : goal.invariant_of-result

@@ -1,0 +1,104 @@
+-- The table of names, statement by statement.
+use Rattle.std.proofs.Common.{◌≡◌, ◌∙◌, ℕ, ◌+◌, ◌<◌, List, [], ◌∷◌, ◌++◌, Bool, true, false, Option, Some, None, cond, length, take, drop, refl, sym, ap, subst, get_or}
+use Rattle.std.proofs.lemmas.List.{take_more, at_drop_more}
+use Rattle.std.proofs.lemmas.Slice.Eq.{bytes_eq-Decides}
+use Rattle.std.specs.Borrow.{Bor}
+use Rattle.std.specs.HashMap.{HashMap}
+use Rattle.std.specs.Str.{bytes_eq}
+use Rattle.hz_bench.specs.declared.entry.Entry.{Entry}
+use Rattle.hz_bench.specs.declared.fault.BenchFault.{BenchFault}
+use Rattle.hz_bench.specs.declared.fault.BenchFault.TheVariants.{Form, Name, KindUnknown, Clocked, Twice, Pins, Undefined, TooMany, Memory}
+use Rattle.hz_bench.specs.Definition.{is_that, definer, line_for_defined, IsPut, IsTableOf}
+use Rattle.hz_bench.specs.Statement.{Statement, Input, Output, Gate, defined_name, name_of, form_of, form_defines}
+use Rattle.hz_bench.specs.Text.{Numbered, statement_in}
+use Rattle.hz_bench.specs.Twice.{twice_or, earlier_line, twice_after, twice_fault, IsFoundOrMemory}
+
+abbrev or_line : Option ℕ → Option ℕ → Option ℕ
+or_line None later = later
+or_line (Some line) later = Some line
+
+definer-append : (seen : List Numbered) (next : Numbered) (name : List ℕ) → definer (seen ++ next ∷ []) name ≡ or_line (definer seen name) (cond (is_that name (defined_name next.statement)) (Some next.line) None)
+definer-append [] next name = refl
+definer-append (first ∷ rest) next name = or_line-cond (is_that name (defined_name first.statement)) first.line (definer (rest ++ next ∷ []) name) (definer rest name) _ (definer-append rest next name)
+  where
+    or_line-cond : (test : Bool) (line : ℕ) (all some later : Option ℕ) → all ≡ or_line some later → cond test (Some line) all ≡ or_line (cond test (Some line) some) later
+    or_line-cond true line all some later h = refl
+    or_line-cond false line all some later h = h
+
+or_line-none : (line : Option ℕ) → or_line line None ≡ line
+or_line-none None = refl
+or_line-none (Some line) = refl
+
+put_one : (defined name : List ℕ) (line : ℕ) (seen : List Numbered) (test : Bool) → bytes_eq defined name ≡ test → definer seen defined ≡ None → cond test (Some line) (definer seen name) ≡ or_line (definer seen name) (cond test (Some line) None)
+put_one defined name line seen true same none = let e = (bytes_eq-Decides defined name).0 same in rw (ap (definer seen) (sym e) ∙ none) refl
+put_one defined name line seen false same none = sym (or_line-none (definer seen name))
+
+put : {S : Type 0} (old new : HashMap (Bor (List ℕ)) ℕ S) (seen : List Numbered) (next : Numbered) (defined : Option (List ℕ)) → defined_name next.statement ≡ defined → IsPut old new next.line defined → IsTableOf seen old → IsTableOf (seen ++ next ∷ []) new
+put old new seen next None e added table = λ name. added name ∙ table name ∙ sym (definer-append seen next name ∙ ap (λ d. or_line (definer seen name) (cond (is_that name d) (Some next.line) None)) e ∙ or_line-none (definer seen name))
+put old new seen next (Some defined) e added table = λ name.
+    added.1 name ∙ ap (cond (bytes_eq defined name) (Some next.line)) (table name) ∙ put_one defined name next.line seen (bytes_eq defined name) refl (sym (table defined) ∙ added.0)
+    ∙ sym (definer-append seen next name ∙ ap (λ d. or_line (definer seen name) (cond (is_that name d) (Some next.line) None)) e)
+
+earlier_line-table : {S : Type 0} (lines : HashMap (Bor (List ℕ)) ℕ S) (seen : List Numbered) (defined : Option (List ℕ)) → IsTableOf seen lines → line_for_defined lines defined ≡ earlier_line seen defined
+earlier_line-table lines seen None table = refl
+earlier_line-table lines seen (Some defined) table = table defined
+
+nothing_earlier : {S : Type 0} (old new : HashMap (Bor (List ℕ)) ℕ S) (line : ℕ) (defined : Option (List ℕ)) → IsPut old new line defined → line_for_defined old defined ≡ None
+nothing_earlier old new line None added = refl
+nothing_earlier old new line (Some defined) added = added.0
+
+-- the statements so far are in the table, and the first of a name among the rest is the first of all
+pub record IsDefining {S : Type 0} (statements : List Numbered) (index : ℕ) (lines : HashMap (Bor (List ℕ)) ℕ S) : Type 0 where
+  pub table : IsTableOf (take index statements) lines
+  pub rest : twice_after (take index statements) (drop index statements) ≡ twice_fault statements
+
+twice_after-drop : (statements : List Numbered) (index : ℕ) (next : Numbered) → index < length statements → next ≡ get_or statements index next
+    → twice_after (take index statements) (drop index statements) ≡ twice_or next.line (earlier_line (take index statements) (defined_name next.statement)) (twice_after (take index statements ++ next ∷ []) (drop (index + 1) statements))
+twice_after-drop statements index next inside is = at_drop_more (twice_after (take index statements)) statements index next inside ∙ rw (sym is) refl
+
+pub IsDefining-step : {S : Type 0} (old new : HashMap (Bor (List ℕ)) ℕ S) (statements : List Numbered) (index : ℕ) (next : Numbered) → index < length statements → next ≡ get_or statements index next
+    → IsPut old new next.line (defined_name next.statement) → IsDefining statements index old → IsDefining statements (index + 1) new
+IsDefining-step old new statements index next inside is added was =
+    let more : take (index + 1) statements ≡ take index statements ++ next ∷ [] = take_more statements index next inside ∙ ap (λ (last : Numbered). take index statements ++ last ∷ []) (sym is) in
+    let none = sym (earlier_line-table old (take index statements) (defined_name next.statement) was.table) ∙ nothing_earlier old new next.line (defined_name next.statement) added in
+    record {
+      table = rw more (put old new (take index statements) next (defined_name next.statement) refl added was.table);
+      rest = rw more (sym (twice_after-drop statements index next inside is ∙ ap (λ earlier. twice_or next.line earlier (twice_after (take index statements ++ next ∷ []) (drop (index + 1) statements))) none) ∙ was.rest);
+    }
+
+IsFoundOrMemory-later : (line : ℕ) (earlier : Option ℕ) (later : Option BenchFault) (fault : BenchFault) → IsFoundOrMemory (twice_or line earlier None) fault → IsFoundOrMemory (twice_or line earlier later) fault
+IsFoundOrMemory-later line (Some first) later fault h = h
+IsFoundOrMemory-later line None later Memory h = tt
+IsFoundOrMemory-later line None later (Form at) h = cc
+IsFoundOrMemory-later line None later (Name at) h = cc
+IsFoundOrMemory-later line None later (KindUnknown at) h = cc
+IsFoundOrMemory-later line None later (Clocked at) h = cc
+IsFoundOrMemory-later line None later (Twice at first) h = cc
+IsFoundOrMemory-later line None later (Pins at count) h = cc
+IsFoundOrMemory-later line None later (Undefined at) h = cc
+IsFoundOrMemory-later line None later (TooMany variables) h = cc
+
+pub IsDefining-fault : {S : Type 0} (old : HashMap (Bor (List ℕ)) ℕ S) (statements : List Numbered) (index : ℕ) (next : Numbered) (fault : BenchFault) → index < length statements → next ≡ get_or statements index next
+    → IsFoundOrMemory (twice_or next.line (line_for_defined old (defined_name next.statement)) None) fault → IsDefining statements index old → IsFoundOrMemory (twice_fault statements) fault
+IsDefining-fault old statements index next fault inside is found was =
+    let e = earlier_line-table old (take index statements) (defined_name next.statement) was.table in
+    let all = sym was.rest ∙ twice_after-drop statements index next inside is in
+    let found' = subst (λ earlier. IsFoundOrMemory (twice_or next.line earlier None) fault) e found in
+    subst (λ all. IsFoundOrMemory all fault) (sym all) (IsFoundOrMemory-later next.line _ _ fault found')
+
+-- a statement whose form defines its name
+defined-from_form : (statement : Statement) → form_defines (form_of statement) ≡ true → defined_name statement ≡ Some (name_of statement)
+defined-from_form (Input name) h = refl
+defined-from_form (Output name) h = cc
+defined-from_form (Gate name kind sources) h = refl
+
+undefined-from_form : (statement : Statement) → form_defines (form_of statement) ≡ false → defined_name statement ≡ None
+undefined-from_form (Input name) h = cc
+undefined-from_form (Output name) h = refl
+undefined-from_form (Gate name kind sources) h = cc
+
+pub entry-defines : (entry : Entry) → form_defines entry.form ≡ true → defined_name (statement_in entry.text.now) ≡ Some entry.name.now
+entry-defines entry h = defined-from_form _ (sym (ap form_defines entry.formed) ∙ h) ∙ ap Some (sym entry.named)
+
+pub entry-uses : (entry : Entry) → form_defines entry.form ≡ false → defined_name (statement_in entry.text.now) ≡ None
+entry-uses entry h = undefined-from_form _ (sym (ap form_defines entry.formed) ∙ h)

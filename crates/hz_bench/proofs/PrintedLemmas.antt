@@ -1,0 +1,45 @@
+-- A printed text, line by line.
+use Rattle.std.proofs.Common.{◌≡◌, ◌∙◌, ℕ, ◌+◌, ◌-◌, ◌<◌, ◌≤◌, suc, List, [], ◌∷◌, ◌++◌, length, map, take, get_or, sym, ap, arith, append_assoc, codes, add-zero}
+use Rattle.std.proofs.lemmas.List.{take_more, map_push, append-nil, length-take-le}
+use Rattle.hz_core.specs.Netlist.{Gate}
+use Rattle.hz_bench.specs.Printed.{name_at, port_line, port_lines, more_sources, gate_line, gate_lines}
+
+-- a text with a piece more
+pub text_more : (old now new front back whole : List ℕ) → now ≡ old ++ front → new ≡ now ++ back → whole ≡ front ++ back → new ≡ old ++ whole
+text_more old now new front back whole so_far more split = more ∙ ap (λ text. text ++ back) so_far ∙ append_assoc old front back ∙ ap (λ piece. old ++ piece) (sym split)
+
+port_lines-push : (word : List ℕ) (names : List (List ℕ)) (name : List ℕ) → port_lines word (names ++ name ∷ []) ≡ port_lines word names ++ port_line word name
+port_lines-push word [] name = append-nil (port_line word name)
+port_lines-push word (first ∷ names) name = ap (λ rest. port_line word first ++ rest) (port_lines-push word names name) ∙ sym (append_assoc (port_line word first) (port_lines word names) (port_line word name))
+
+pub inputs_more : (word : List ℕ) (names : List (List ℕ)) (node : ℕ) → node < length names → port_lines word (take (node + 1) names) ≡ port_lines word (take node names) ++ port_line word (name_at names node)
+inputs_more word names node inside = ap (port_lines word) (take_more names node [] inside) ∙ port_lines-push word (take node names) (name_at names node)
+
+pub outputs_more : (word : List ℕ) (names : List (List ℕ)) (outputs : List ℕ) (index : ℕ) → index < length outputs → port_lines word (map (name_at names) (take (index + 1) outputs)) ≡ port_lines word (map (name_at names) (take index outputs)) ++ port_line word (name_at names (get_or outputs index 0))
+outputs_more word names outputs index inside = ap (λ nodes. port_lines word (map (name_at names) nodes)) (take_more outputs index 0 inside) ∙ ap (port_lines word) (map_push (name_at names) (take index outputs) (get_or outputs index 0)) ∙ port_lines-push word (map (name_at names) (take index outputs)) (name_at names (get_or outputs index 0))
+
+more_sources-push : (names : List (List ℕ)) (sources : List ℕ) (source : ℕ) → more_sources names (sources ++ source ∷ []) ≡ more_sources names sources ++ (codes ", " ++ name_at names source)
+more_sources-push names [] source = append-nil (codes ", " ++ name_at names source)
+more_sources-push names (first ∷ sources) source = ap (λ rest. (codes ", " ++ name_at names first) ++ rest) (more_sources-push names sources source) ∙ sym (append_assoc (codes ", " ++ name_at names first) (more_sources names sources) (codes ", " ++ name_at names source))
+
+pub sources_more : (names : List (List ℕ)) (sources : List ℕ) (index : ℕ) → index < length sources → more_sources names (take (index + 1) sources) ≡ more_sources names (take index sources) ++ (codes ", " ++ name_at names (get_or sources index 0))
+sources_more names sources index inside = ap (more_sources names) (take_more sources index 0 inside) ∙ more_sources-push names (take index sources) (get_or sources index 0)
+
+gate_lines-push : (names : List (List ℕ)) (node : ℕ) (gates : List Gate) (gate : Gate) → gate_lines names node (gates ++ gate ∷ []) ≡ gate_lines names node gates ++ gate_line names (name_at names (node + length gates)) gate
+gate_lines-push names node [] gate = append-nil (gate_line names (name_at names node) gate) ∙ ap (λ place. gate_line names (name_at names place) gate) (sym (add-zero node))
+gate_lines-push names node (first ∷ gates) gate =
+    ap (λ rest. gate_line names (name_at names node) first ++ rest) (gate_lines-push names (suc node) gates gate ∙ ap (λ place. gate_lines names (suc node) gates ++ gate_line names (name_at names place) gate) (shift node (length gates)))
+    ∙ sym (append_assoc (gate_line names (name_at names node) first) (gate_lines names (suc node) gates) (gate_line names (name_at names (node + suc (length gates))) gate))
+  where
+    shift : (a b : ℕ) → suc a + b ≡ a + suc b
+    shift a b = omega arith
+
+pub gates_more : (names : List (List ℕ)) (inputs : ℕ) (gates : List Gate) (node : ℕ) (other : Gate) → inputs ≤ node → node < inputs + length gates
+    → gate_lines names inputs (take (node + 1 - inputs) gates) ≡ gate_lines names inputs (take (node - inputs) gates) ++ gate_line names (name_at names node) (get_or gates (node - inputs) other)
+gates_more names inputs gates node other low high =
+    let inside : node - inputs < length gates = omega arith in
+    let next : node + 1 - inputs ≡ (node - inputs) + 1 = omega arith in
+    let place : inputs + length (take (node - inputs) gates) ≡ node = let short = length-take-le (node - inputs) gates (omega arith) in omega arith in
+    ap (λ count. gate_lines names inputs (take count gates)) next ∙ ap (gate_lines names inputs) (take_more gates (node - inputs) other inside)
+    ∙ gate_lines-push names inputs (take (node - inputs) gates) (get_or gates (node - inputs) other)
+    ∙ ap (λ at. gate_lines names inputs (take (node - inputs) gates) ++ gate_line names (name_at names at) (get_or gates (node - inputs) other)) place

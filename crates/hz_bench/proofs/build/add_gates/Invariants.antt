@@ -1,0 +1,7 @@
+use Rattle.std.proofs.Common.{◌≡◌, take, fold}
+use Rattle.hz_bench.specs.Built.{after_gate}
+use Rattle.hz_bench.specs.Entry.{statement_list}
+use Rattle.hz_bench.proofs.build.add_gates.Given as goal
+
+abbrev pub invariant-loop-entry : goal.invariant-loop-entry
+invariant-loop-entry l = l.circuit ≡ fold after_gate l.fn.circuit (statement_list (take l.entry-index l.entries))

@@ -1,0 +1,7 @@
+use Rattle.std.proofs.Common.{◌≡◌, take, fold}
+use Rattle.hz_bench.specs.Built.{after_pins}
+use Rattle.hz_bench.specs.Entry.{statement_list}
+use Rattle.hz_bench.proofs.build.connect_gates.Given as goal
+
+abbrev pub invariant-loop-entry : goal.invariant-loop-entry
+invariant-loop-entry l = record { netlist = l.circuit; gate = l.gate } ≡ fold after_pins (record { netlist = l.fn.circuit; gate = l.fn.circuit.inputs }) (statement_list (take l.entry-index l.entries))

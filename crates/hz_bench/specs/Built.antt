@@ -1,0 +1,63 @@
+-- A circuit that is built statement by statement: inputs, gates, pins, outputs.
+use Rattle.std.specs.Prelude.{◌≡◌, ℕ, suc, ◌<◌, List, length, fold, None}
+use Rattle.hz_core.specs.declared.circuit.TheConstants.{MAX_VARIABLES}
+use Rattle.hz_core.specs.Netlist.{Netlist, IsName, empty_netlist, with_input, with_gate, with_pin, with_output, node_named, variable_count, IsGateNumber, gate_at, most_pins}
+use Rattle.hz_bench.specs.Netlist.{kind_of_word, number_in}
+use Rattle.hz_bench.specs.Statement.{Statement, Input, Output, Gate}
+
+-- the input of a statement, if it is one
+abbrev pub after_input : Netlist → Statement → Netlist
+after_input netlist (Input name) = with_input netlist name
+after_input netlist (Output name) = netlist
+after_input netlist (Gate name kind sources) = netlist
+
+-- the gate of a statement, if it is one, without pins
+abbrev pub after_gate : Netlist → Statement → Netlist
+after_gate netlist (Input name) = netlist
+after_gate netlist (Output name) = netlist
+after_gate netlist (Gate name kind sources) = with_gate netlist name (kind_of_word kind)
+
+-- a pin that reads the node with a name
+abbrev pub after_pin : ℕ → Netlist → List ℕ → Netlist
+after_pin gate netlist source = with_pin netlist gate (number_in netlist.names source)
+
+-- a circuit and the number of the gate whose pins come next
+pub record Connecting : Type 0 where
+  pub netlist : Netlist
+  pub gate : ℕ
+
+-- the pins of a statement, if it is a gate
+abbrev pub after_pins : Connecting → Statement → Connecting
+after_pins now (Input name) = now
+after_pins now (Output name) = now
+after_pins now (Gate name kind sources) = record { netlist = fold (after_pin now.gate) now.netlist sources; gate = suc now.gate }
+
+-- the output of a statement, if it is one
+abbrev pub after_output : Netlist → Statement → Netlist
+after_output netlist (Input name) = netlist
+after_output netlist (Output name) = with_output netlist (number_in netlist.names name)
+after_output netlist (Gate name kind sources) = netlist
+
+-- the inputs and gates of statements, without pins
+abbrev pub nodes_of : List Statement → Netlist
+nodes_of statements = fold after_gate (fold after_input empty_netlist statements) statements
+
+-- the same with the pins
+abbrev pub connected : Netlist → List Statement → Netlist
+connected netlist statements = (fold after_pins (record { netlist = netlist; gate = netlist.inputs }) statements).netlist
+
+-- the circuit of statements, built
+abbrev pub built : List Statement → Netlist
+built statements = fold after_output (connected (nodes_of statements) statements) statements
+
+-- a node with this name may be added
+pub record MayAdd (netlist : Netlist) (name : List ℕ) : Type 0 where
+  pub name_is : IsName name
+  pub fresh : node_named netlist name ≡ None
+  pub room : variable_count netlist < MAX_VARIABLES
+
+-- the gate is one, and may have a pin more
+pub record HasPinLeft (netlist : Netlist) (gate : ℕ) : Type 0 where
+  pub gate_is : IsGateNumber netlist gate
+  pub pins : length (gate_at netlist gate).sources < most_pins (gate_at netlist gate).kind
+  pub room : variable_count netlist < MAX_VARIABLES

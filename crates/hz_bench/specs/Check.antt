@@ -1,0 +1,69 @@
+-- The checks of single statements.
+use Rattle.std.specs.Prelude.{ℕ, Bool, not, nat_lt, List, [], ◌∷◌, length, Option, Some, None, is_some, if◌then◌else◌}
+use Rattle.std.specs.List.{list_any}
+use Rattle.hz_bench.specs.declared.checks.Check.{Check}
+use Rattle.hz_bench.specs.declared.checks.Check.TheVariants.{LongName, UnknownKind, ClockedKind, WrongPins}
+use Rattle.hz_bench.specs.Definition.{definer}
+use Rattle.hz_bench.specs.Statement.{Statement, form_of, sources_of, used_names, has_long_name, is_unknown, is_clocked, refuses_pins}
+use Rattle.hz_bench.specs.Text.{Numbered, variables_among}
+use Rattle.hz_bench.specs.Twice.{twice_fault}
+use Rattle.hz_core.specs.declared.circuit.TheConstants.{MAX_VARIABLES}
+use Rattle.hz_bench.specs.declared.fault.BenchFault.{BenchFault}
+use Rattle.hz_bench.specs.declared.fault.BenchFault.TheVariants as fault
+
+-- how many pins a gate has
+abbrev pub pin_count : Statement → ℕ
+pin_count statement = length (sources_of statement)
+
+-- the kind of the statement does not take its pins
+abbrev pub has_wrong_pins : Statement → Bool
+has_wrong_pins statement = refuses_pins (form_of statement) (pin_count statement)
+
+-- the kind of the statement is none
+abbrev pub has_unknown_kind : Statement → Bool
+has_unknown_kind statement = is_unknown (form_of statement)
+
+-- the statement is a flip-flop
+abbrev pub has_clocked_kind : Statement → Bool
+has_clocked_kind statement = is_clocked (form_of statement)
+
+-- the statement fails the check
+abbrev pub fails : Check → Statement → Bool
+fails LongName statement = has_long_name statement
+fails UnknownKind statement = has_unknown_kind statement
+fails ClockedKind statement = has_clocked_kind statement
+fails WrongPins statement = has_wrong_pins statement
+
+-- the statement uses a name that none of these defines
+abbrev pub uses_undefined : List Numbered → Statement → Bool
+uses_undefined statements statement = list_any (λ name. not (is_some (definer statements name))) (used_names statement)
+
+-- the first statement that passes a test
+abbrev pub first_that : (Statement → Bool) → List Numbered → Option Numbered
+first_that test [] = None
+first_that test (first ∷ rest) = if test first.statement then Some first else first_that test rest
+
+-- the fault of a statement that was found, before others
+abbrev pub fault_or : (Numbered → BenchFault) → Option Numbered → Option BenchFault → Option BenchFault
+fault_or fault None later = later
+fault_or fault (Some found) later = Some (fault found)
+
+-- a fault before others
+abbrev pub first_or : Option BenchFault → Option BenchFault → Option BenchFault
+first_or None later = later
+first_or (Some fault) later = Some fault
+
+-- more inputs, gates and pins than a circuit has
+abbrev pub too_many : ℕ → Option BenchFault
+too_many variables = if nat_lt MAX_VARIABLES variables then Some (fault.TooMany variables) else None
+
+-- the fault of statements, none of which is malformed: the least number and, of this number, the first line
+abbrev pub first_fault : List Numbered → Option BenchFault
+first_fault statements =
+    fault_or (λ found. fault.Name found.line) (first_that has_long_name statements)
+    (fault_or (λ found. fault.KindUnknown found.line) (first_that has_unknown_kind statements)
+    (fault_or (λ found. fault.Clocked found.line) (first_that has_clocked_kind statements)
+    (first_or (twice_fault statements)
+    (fault_or (λ found. fault.Pins found.line (pin_count found.statement)) (first_that has_wrong_pins statements)
+    (fault_or (λ found. fault.Undefined found.line) (first_that (uses_undefined statements) statements)
+    (too_many (variables_among statements)))))))

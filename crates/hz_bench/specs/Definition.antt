@@ -1,0 +1,35 @@
+-- Which line defines a name.
+use Rattle.std.specs.Prelude.{◌≡◌, ℕ, Bool, false, List, [], ◌∷◌, Option, Some, None, if◌then◌else◌}
+use Rattle.std.specs.Str.{bytes_eq}
+use Rattle.std.specs.Borrow.{Bor}
+use Rattle.std.specs.HashMap.{HashMap, get_by}
+use Rattle.hz_bench.specs.Statement.{defined_name}
+use Rattle.hz_bench.specs.Text.{Numbered}
+
+-- the name is the one that is defined, if one is
+abbrev pub is_that : List ℕ → Option (List ℕ) → Bool
+is_that name None = false
+is_that name (Some defined) = bytes_eq defined name
+
+-- the line of the first statement that defines the name
+abbrev pub definer : List Numbered → List ℕ → Option ℕ
+definer [] name = None
+definer (first ∷ rest) name = if is_that name (defined_name first.statement) then Some first.line else definer rest name
+
+-- the line that a table has for a name
+abbrev pub line_for : {S : Type 0} → HashMap (Bor (List ℕ)) ℕ S → List ℕ → Option ℕ
+line_for table name = get_by (λ key. bytes_eq name key.now) table
+
+-- the table has the line of each name that the statements define
+abbrev pub IsTableOf : {S : Type 0} → List Numbered → HashMap (Bor (List ℕ)) ℕ S → Type 0
+IsTableOf statements table = (name : List ℕ) → line_for table name ≡ definer statements name
+
+-- the line of the defined name is put into a table that has none for it; without a defined name the table stays
+abbrev pub IsPut : {S : Type 0} → HashMap (Bor (List ℕ)) ℕ S → HashMap (Bor (List ℕ)) ℕ S → ℕ → Option (List ℕ) → Type 0
+IsPut old new line None = (name : List ℕ) → line_for new name ≡ line_for old name
+IsPut old new line (Some defined) = (line_for old defined ≡ None) × ((name : List ℕ) → line_for new name ≡ (if bytes_eq defined name then Some line else line_for old name))
+
+-- the line that a table has for the defined name, if one is defined
+abbrev pub line_for_defined : {S : Type 0} → HashMap (Bor (List ℕ)) ℕ S → Option (List ℕ) → Option ℕ
+line_for_defined table None = None
+line_for_defined table (Some defined) = line_for table defined

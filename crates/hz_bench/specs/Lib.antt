@@ -1,0 +1,13 @@
+pub mod Statement
+pub mod Text
+pub mod Entry
+pub mod Head
+pub mod Definition
+pub mod Twice
+pub mod Pass
+pub mod Check
+pub mod Fault
+pub mod Netlist
+pub mod Built
+pub mod Answer
+pub mod Printed

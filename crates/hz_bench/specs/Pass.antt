@@ -1,0 +1,54 @@
+-- What the passes over a text find.
+use Rattle.std.specs.Prelude.{◌≡◌, ℕ, suc, ◌+◌, ◌≤◌, List, [], ◌∷◌, length, Option, Some, None}
+use Rattle.hz_line.specs.Line.{lines_of}
+use Rattle.hz_bench.specs.declared.entry.Entry.{Entry}
+use Rattle.hz_bench.specs.declared.fault.BenchFault.{BenchFault}
+use Rattle.hz_bench.specs.declared.fault.BenchFault.TheVariants.{Form, Name, KindUnknown, Clocked, Twice, Pins, Undefined, TooMany, Memory}
+use Rattle.hz_bench.specs.Entry.{numbered_list}
+use Rattle.hz_bench.specs.Text.{Meaning, Nothing, Malformed, Means, meaning_of, numbered_statements, statements_of, variables_of}
+
+-- this line, if it is malformed, before one of later lines
+abbrev pub malformed_or : ℕ → Meaning → Option ℕ → Option ℕ
+malformed_or line Nothing later = later
+malformed_or line Malformed later = Some line
+malformed_or line (Means statement) later = later
+
+-- the first malformed line, where the first line has this number
+abbrev pub first_malformed : ℕ → List (List ℕ) → Option ℕ
+first_malformed line [] = None
+first_malformed line (first ∷ rest) = malformed_or line (meaning_of first) (first_malformed (suc line) rest)
+
+-- what is read of a line: nothing, or its statement
+abbrev pub IsLineRead : ℕ → List ℕ → Option Entry → Type 0
+IsLineRead line text None = meaning_of text ≡ Nothing
+IsLineRead line text (Some entry) = (entry.line ≡ line) × (entry.text.now ≡ text)
+
+-- a fault in a line
+abbrev pub IsLineFault : ℕ → List ℕ → BenchFault → Type 0
+IsLineFault line text (Form at) = (at ≡ line) × (meaning_of text ≡ Malformed)
+IsLineFault line text (Name at) = ⊥
+IsLineFault line text (KindUnknown at) = ⊥
+IsLineFault line text (Clocked at) = ⊥
+IsLineFault line text (Twice at first) = ⊥
+IsLineFault line text (Pins at count) = ⊥
+IsLineFault line text (Undefined at) = ⊥
+IsLineFault line text (TooMany variables) = ⊥
+IsLineFault line text Memory = Unit {0}
+
+-- the entries are the statements of a text without a malformed line
+pub record IsParsed (text : List ℕ) (entries : List Entry) : Type 0 where
+  pub statements : numbered_list entries ≡ numbered_statements text
+  pub formed : first_malformed 1 (lines_of text) ≡ None
+  pub fits : variables_of (statements_of text) ≤ length text + 1
+
+-- the fault of the first malformed line
+abbrev pub IsParseFault : List ℕ → BenchFault → Type 0
+IsParseFault text (Form at) = first_malformed 1 (lines_of text) ≡ Some at
+IsParseFault text (Name at) = ⊥
+IsParseFault text (KindUnknown at) = ⊥
+IsParseFault text (Clocked at) = ⊥
+IsParseFault text (Twice at first) = ⊥
+IsParseFault text (Pins at count) = ⊥
+IsParseFault text (Undefined at) = ⊥
+IsParseFault text (TooMany variables) = ⊥
+IsParseFault text Memory = Unit {0}

@@ -1,0 +1,60 @@
+-- The text of a circuit.
+use Rattle.std.specs.Prelude.{ℕ, suc, List, [], ◌∷◌, ◌++◌, map, take, codes}
+use Rattle.std.specs.List.{slice_index_or}
+use Rattle.hz_core.specs.declared.kind.Kind.{Kind}
+use Rattle.hz_core.specs.declared.kind.Kind.TheVariants.{And, Nand, Or, Nor, Xor, Xnor, Not, Buff}
+use Rattle.hz_core.specs.Netlist.{Netlist, Gate}
+
+-- the name of a node
+abbrev pub name_at : List (List ℕ) → ℕ → List ℕ
+name_at names node = slice_index_or names node []
+
+-- how a kind is written
+abbrev pub kind_name : Kind → List ℕ
+kind_name And = codes "AND"
+kind_name Nand = codes "NAND"
+kind_name Or = codes "OR"
+kind_name Nor = codes "NOR"
+kind_name Xor = codes "XOR"
+kind_name Xnor = codes "XNOR"
+kind_name Not = codes "NOT"
+kind_name Buff = codes "BUFF"
+
+-- the line of an input or an output: the word and the name in parentheses
+unfoldable pub port_line : List ℕ → List ℕ → List ℕ
+port_line word name = word ++ (codes "(" ++ (name ++ (codes ")" ++ 10 ∷ [])))
+
+-- such a line for each name
+abbrev pub port_lines : List ℕ → List (List ℕ) → List ℕ
+port_lines word [] = []
+port_lines word (name ∷ rest) = port_line word name ++ port_lines word rest
+
+-- a comma and the name of each further source
+abbrev pub more_sources : List (List ℕ) → List ℕ → List ℕ
+more_sources names [] = []
+more_sources names (source ∷ rest) = (codes ", " ++ name_at names source) ++ more_sources names rest
+
+-- the names of the sources, with a comma and a space between them
+abbrev pub source_list : List (List ℕ) → List ℕ → List ℕ
+source_list names [] = []
+source_list names (first ∷ rest) = name_at names first ++ more_sources names rest
+
+-- the name and the kind of a gate, up to its sources
+unfoldable pub gate_head : List ℕ → Kind → List ℕ
+gate_head name kind = name ++ (codes " = " ++ (kind_name kind ++ codes "("))
+
+-- the line of a gate
+unfoldable pub gate_line : List (List ℕ) → List ℕ → Gate → List ℕ
+gate_line names name gate = gate_head name gate.kind ++ (source_list names gate.sources ++ (codes ")" ++ 10 ∷ []))
+
+-- the lines of gates, the first of which is this node
+abbrev pub gate_lines : List (List ℕ) → ℕ → List Gate → List ℕ
+gate_lines names node [] = []
+gate_lines names node (gate ∷ rest) = gate_line names (name_at names node) gate ++ gate_lines names (suc node) rest
+
+-- the text of a circuit: inputs, outputs and gates, a line each
+unfoldable pub printed : Netlist → List ℕ
+printed netlist =
+    port_lines (codes "INPUT") (take netlist.inputs netlist.names)
+    ++ port_lines (codes "OUTPUT") (map (name_at netlist.names) netlist.outputs)
+    ++ gate_lines netlist.names netlist.inputs netlist.gates

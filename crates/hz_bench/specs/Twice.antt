@@ -1,0 +1,39 @@
+-- Names that are defined twice.
+use Rattle.std.specs.Prelude.{◌≡◌, ℕ, List, [], ◌∷◌, ◌++◌, Option, Some, None}
+use Rattle.hz_bench.specs.declared.fault.BenchFault.{BenchFault}
+use Rattle.hz_bench.specs.declared.fault.BenchFault.TheVariants.{Form, Name, KindUnknown, Clocked, Twice, Pins, Undefined, TooMany, Memory}
+use Rattle.hz_bench.specs.Statement.{defined_name}
+use Rattle.hz_bench.specs.Text.{Numbered}
+use Rattle.hz_bench.specs.Definition.{definer}
+
+-- the fault of a line whose name has this earlier line, before one of later lines
+abbrev pub twice_or : ℕ → Option ℕ → Option BenchFault → Option BenchFault
+twice_or line None later = later
+twice_or line (Some first) later = Some (Twice line first)
+
+-- the earlier line of the name that is defined, if one is
+abbrev pub earlier_line : List Numbered → Option (List ℕ) → Option ℕ
+earlier_line seen None = None
+earlier_line seen (Some name) = definer seen name
+
+-- the first statement that defines a name which an earlier one defines, where these came before
+abbrev pub twice_after : List Numbered → List Numbered → Option BenchFault
+twice_after seen [] = None
+twice_after seen (first ∷ rest) =
+    twice_or first.line (earlier_line seen (defined_name first.statement)) (twice_after (seen ++ first ∷ []) rest)
+
+-- the first statement that defines a name which an earlier one defines
+abbrev pub twice_fault : List Numbered → Option BenchFault
+twice_fault statements = twice_after [] statements
+
+-- the fault is this one, if memory did not run out
+abbrev pub IsFoundOrMemory : Option BenchFault → BenchFault → Type 0
+IsFoundOrMemory found Memory = Unit {0}
+IsFoundOrMemory found (Form line) = found ≡ Some (Form line)
+IsFoundOrMemory found (Name line) = found ≡ Some (Name line)
+IsFoundOrMemory found (KindUnknown line) = found ≡ Some (KindUnknown line)
+IsFoundOrMemory found (Clocked line) = found ≡ Some (Clocked line)
+IsFoundOrMemory found (Twice line first) = found ≡ Some (Twice line first)
+IsFoundOrMemory found (Pins line count) = found ≡ Some (Pins line count)
+IsFoundOrMemory found (Undefined line) = found ≡ Some (Undefined line)
+IsFoundOrMemory found (TooMany variables) = found ≡ Some (TooMany variables)

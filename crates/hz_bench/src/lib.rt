@@ -1,0 +1,21 @@
+//! Netlists in the .bench format: reading them into circuits, and printing circuits.
+#![tactic(auto)]
+
+mod build;
+mod checks;
+mod definitions;
+mod entry;
+mod fault;
+mod forms;
+mod parse;
+mod printing;
+mod reading;
+mod statement;
+mod uses;
+
+pub use fault::BenchFault;
+pub use printing::print;
+pub use reading::read;
+
+#[cfg(test)]
+mod tests;

@@ -1,0 +1,159 @@
+// Printing a circuit.
+
+ghost use Rattle.std.specs.Prelude.{◌≡◌, ◌++◌, ◌<◌, All, IfOk, OnOk, codes, length, map, take};
+ghost use Rattle.hz_core.specs.Netlist.{IsCircuit, IsGateNumber, IsWhole, gate_at};
+ghost use Rattle.hz_bench.specs.Printed.{gate_head, gate_line, gate_lines, kind_name, more_sources, name_at, port_line, port_lines, printed, source_list};
+
+use hz_core::{Circuit, Kind, Memory};
+use std::alloc::Global;
+
+/// Prints a circuit in the .bench format: first the inputs, then the outputs, then the gates, a line each, each in order,
+/// kinds in capitals and the buffer as `BUFF`, each line ended by a line feed.
+#[tactic(auto, unfolding(crate::specs::Printed::printed))]
+pub fn print(alloc: Global, circuit: &Circuit) -> Result<Vec<u8>, Memory>
+    requires { IsWhole circuit.now }
+    ensures { IfOk result (λ text. text.items ≡ printed circuit.now) }
+{
+    let mut text = Vec::new(alloc);
+    print_inputs(&mut text, circuit)?;
+    print_outputs(&mut text, circuit)?;
+    print_gates(&mut text, circuit)?;
+    Ok(text)
+}
+
+// Prints the inputs.
+fn print_inputs(text: &mut Vec<u8>, circuit: &Circuit) -> Result<(), Memory>
+    ensures { OnOk result (text.new.items ≡ text.old.items ++ port_lines (codes "INPUT") (take circuit.now.inputs circuit.now.names)) }
+{
+    for node in 0..circuit.inputs() {
+        match print_port(text, b"INPUT", circuit, node) {
+            Ok(()) => {}
+            Err(Memory) => return Err(Memory),
+        }
+    }
+    Ok(())
+}
+
+// Prints the outputs.
+fn print_outputs(text: &mut Vec<u8>, circuit: &Circuit) -> Result<(), Memory>
+    ensures { OnOk result (text.new.items ≡ text.old.items ++ port_lines (codes "OUTPUT") (map (name_at circuit.now.names) circuit.now.outputs)) }
+{
+    let outputs = circuit.outputs();
+    for node in outputs {
+        match print_port(text, b"OUTPUT", circuit, *node) {
+            Ok(()) => {}
+            Err(Memory) => return Err(Memory),
+        }
+    }
+    Ok(())
+}
+
+// Prints the line of an input or an output.
+#[tactic(auto, unfolding(crate::specs::Printed::port_line))]
+fn print_port(text: &mut Vec<u8>, word: &[u8], circuit: &Circuit, node: u32) -> Result<(), Memory>
+    requires { node < length circuit.now.names }
+    ensures { OnOk result (text.new.items ≡ text.old.items ++ port_line word.now (name_at circuit.now.names node)) }
+{
+    put(text, word)?;
+    put(text, b"(")?;
+    put(text, circuit.name(node))?;
+    put(text, b")\n")
+}
+
+// Prints the gates.
+fn print_gates(text: &mut Vec<u8>, circuit: &Circuit) -> Result<(), Memory>
+    ensures { OnOk result (text.new.items ≡ text.old.items ++ gate_lines circuit.now.names circuit.now.inputs circuit.now.gates) }
+{
+    for gate in circuit.inputs()..circuit.nodes() {
+        match print_gate(text, circuit, gate) {
+            Ok(()) => {}
+            Err(Memory) => return Err(Memory),
+        }
+    }
+    Ok(())
+}
+
+// Prints the line of a gate.
+#[tactic(auto, unfolding(crate::specs::Printed::gate_line))]
+fn print_gate(text: &mut Vec<u8>, circuit: &Circuit, gate: u32) -> Result<(), Memory>
+    requires { IsGateNumber circuit.now gate }
+    ensures { OnOk result (text.new.items ≡ text.old.items ++ gate_line circuit.now.names (name_at circuit.now.names gate) (gate_at circuit.now gate)) }
+{
+    print_gate_head(text, circuit.name(gate), circuit.kind(gate))?;
+    print_sources(text, circuit, circuit.sources(gate))?;
+    put(text, b")\n")
+}
+
+// Prints the name and the kind of a gate, up to its sources.
+#[tactic(auto, unfolding(crate::specs::Printed::gate_head))]
+fn print_gate_head(text: &mut Vec<u8>, name: &[u8], kind: Kind) -> Result<(), Memory>
+    ensures { OnOk result (text.new.items ≡ text.old.items ++ gate_head name.now kind) }
+{
+    put(text, name)?;
+    put(text, b" = ")?;
+    put(text, kind_name(kind))?;
+    put(text, b"(")
+}
+
+// Prints the names of sources, with a comma and a space between them.
+fn print_sources(text: &mut Vec<u8>, circuit: &Circuit, sources: &[u32]) -> Result<(), Memory>
+    requires { All (λ source. source < length circuit.now.names) sources.now }
+    ensures { OnOk result (text.new.items ≡ text.old.items ++ source_list circuit.now.names sources.now) }
+{
+    match sources {
+        [] => Ok(()),
+        [first, rest @ ..] => {
+            put(text, circuit.name(*first))?;
+            print_rest(text, circuit, rest)
+        }
+    }
+}
+
+// Prints the names of further sources, with a comma and a space before each.
+fn print_rest(text: &mut Vec<u8>, circuit: &Circuit, rest: &[u32]) -> Result<(), Memory>
+    requires { All (λ source. source < length circuit.now.names) rest.now }
+    ensures { OnOk result (text.new.items ≡ text.old.items ++ more_sources circuit.now.names rest.now) }
+{
+    for source in rest {
+        match print_more(text, circuit, *source) {
+            Ok(()) => {}
+            Err(Memory) => return Err(Memory),
+        }
+    }
+    Ok(())
+}
+
+// Prints a comma, a space and the name of a source.
+fn print_more(text: &mut Vec<u8>, circuit: &Circuit, source: u32) -> Result<(), Memory>
+    requires { source < length circuit.now.names }
+    ensures { OnOk result (text.new.items ≡ text.old.items ++ (codes ", " ++ name_at circuit.now.names source)) }
+{
+    put(text, b", ")?;
+    put(text, circuit.name(source))
+}
+
+// How a kind is written.
+fn kind_name(kind: Kind) -> &'static [u8]
+    ensures { result.now ≡ kind_name kind }
+{
+    match kind {
+        Kind::And => b"AND",
+        Kind::Nand => b"NAND",
+        Kind::Or => b"OR",
+        Kind::Nor => b"NOR",
+        Kind::Xor => b"XOR",
+        Kind::Xnor => b"XNOR",
+        Kind::Not => b"NOT",
+        Kind::Buff => b"BUFF",
+    }
+}
+
+// Puts bytes at the end of a text.
+fn put(text: &mut Vec<u8>, bytes: &[u8]) -> Result<(), Memory>
+    ensures { OnOk result (text.new.items ≡ text.old.items ++ bytes.now) }
+{
+    match text.extend_from_slice(bytes) {
+        Ok(()) => Ok(()),
+        Err(_) => Err(Memory),
+    }
+}

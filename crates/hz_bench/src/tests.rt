@@ -1,0 +1,90 @@
+// Netlists read as a whole: each public function with ample memory, and the refused texts.
+
+use crate::{BenchFault, print, read};
+use hz_core::Kind;
+use std::alloc::Global;
+use std::test::Fail;
+
+// The answer to a text: nothing, if it is a netlist.
+fn fault_of(alloc: Global, text: &[u8]) -> Option<BenchFault> {
+    if text.len() > 16_777_216 {
+        return None;
+    }
+    read(alloc, text).err()
+}
+
+#[test]
+fn refuses(rt: HostRuntime) -> Result<(), Fail> {
+    let alloc = rt.alloc();
+    let cases: [(&[u8], BenchFault); 12] = [
+        (
+            b"INPUT(a)\nOUTPUT(g)\ng = FOO(a)\n",
+            BenchFault::KindUnknown { line: 3 },
+        ),
+        (b"INPUT(a)\ng = dff(a)\n", BenchFault::Clocked { line: 2 }),
+        (
+            b"INPUT(a)\ng = NOT(a)\n#\n#\ng = BUF(a)\n",
+            BenchFault::Twice { line: 5, first: 2 },
+        ),
+        (
+            b"INPUT(a)\ng = NOT(a, a)\n",
+            BenchFault::Pins { line: 2, count: 2 },
+        ),
+        (
+            b"INPUT(a)\ng = AND(a, h)\n",
+            BenchFault::Undefined { line: 2 },
+        ),
+        (
+            b"INPUT(a)\ng = AND(a, h)\nOUTPUT(g\n",
+            BenchFault::Form { line: 3 },
+        ),
+        (b"g = AND()\n", BenchFault::Form { line: 1 }),
+        (b"INPUT(a)\rg", BenchFault::Form { line: 1 }),
+        (b"INPUT(a)\r\r\n", BenchFault::Form { line: 1 }),
+        (b"INPUT(a)\xff#\n", BenchFault::Form { line: 1 }),
+        (
+            b"g = DFF(h)\nf = FOO(g)\n",
+            BenchFault::KindUnknown { line: 2 },
+        ),
+        (
+            b"INPUT(a)\nOUTPUT(h)\nINPUT(a)\n",
+            BenchFault::Twice { line: 3, first: 1 },
+        ),
+    ];
+    for (text, fault) in &cases {
+        assert_eq!(rt; fault_of(alloc, text), Some(*fault));
+    }
+    Ok(())
+}
+
+#[test]
+fn accepts(rt: HostRuntime) -> Result<(), Fail> {
+    let circuit = read(
+        rt.alloc(),
+        b"Input ( a )\r\n\tg=buf( INPUT )#c\nOUTPUT(g)\n\nINPUT = nand(a,g)\nOUTPUT(a)\nOUTPUT(g)\r",
+    )?;
+    assert_eq!(rt; circuit.inputs(), 1);
+    assert_eq!(rt; circuit.nodes(), 3);
+    assert_eq!(rt; circuit.variables(), 6);
+    assert_eq!(rt; circuit.find(b"INPUT"), Some(2));
+    assert_eq!(rt; circuit.outputs(), [1, 0].as_slice());
+    assert_eq!(rt; circuit.kind(1), Kind::Buff);
+    assert_eq!(rt; circuit.sources(1), [2].as_slice());
+    assert_eq!(rt; circuit.sources(2), [0, 1].as_slice());
+    Ok(())
+}
+
+#[test]
+fn prints(rt: HostRuntime) -> Result<(), Fail> {
+    let text =
+        b"INPUT(a)\nINPUT($b[1])\nOUTPUT(h)\nOUTPUT(a)\nc = AND(a, a, $b[1])\nd = NAND(c)\ne = OR(d)\nf = NOR(e)\ng = XOR(f, g)\nh = XNOR(g)\ni = NOT(h)\nj = BUFF(i)\n";
+    let circuit = read(rt.alloc(), text)?;
+    if circuit.whole() {
+        let Ok(printed) = print(rt.alloc(), &circuit) else {
+            return Err(Fail::from("memory"));
+        };
+        assert_eq!(rt; printed.as_slice(), text.as_slice());
+    }
+    assert!(rt; circuit.whole());
+    Ok(())
+}

@@ -1,0 +1,4 @@
+pub mod Flips
+pub mod CoverA
+pub mod Paths
+pub mod CoverB

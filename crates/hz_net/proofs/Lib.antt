@@ -1,0 +1,9 @@
+pub mod Places
+pub mod FanOutLemmas
+pub mod Fields
+pub mod Excitations
+pub mod Sequences
+pub mod Ranks
+pub mod Derivations
+pub mod Wires
+pub mod StartLemmas

@@ -1,0 +1,136 @@
+-- The sequences of the passes: how long their states are, how they grow or shrink, and where they stop.
+use Rattle.std.proofs.Common.{◌≡◌, ℕ, zero, suc, ◌-◌, ◌<◌, ◌≤◌, Bool, List, [], ◌∷◌, length, refl, sym, ap, ◌∙◌, subst, arith, ◌⊎◌, inl, inr}
+use Rattle.std.proofs.lemmas.List.{length-map}
+use Rattle.hz_core.specs.declared.tri.Tri.{Tri}
+use Rattle.hz_core.specs.declared.tri.Tri.TheVariants.{Zero, One, Unknown}
+use Rattle.hz_core.specs.Ternary.{tri_of, AllBelow, Refines}
+use Rattle.hz_core.proofs.Refinements.{is_below-join_of-left, is_below-join_of-right, Refines-map, Refines-AllBelow}
+use Rattle.hz_net.specs.Network.{Driver}
+use Rattle.hz_net.specs.Passes.{excitations, join_each, algorithm_a, algorithm_b, AreRounds}
+use Rattle.hz_net.proofs.Excitations.{length-excitations, AllBelow-excitations, length-join_each}
+
+-- how many variables are X
+pub unknowns : List Tri → ℕ
+unknowns [] = 0
+unknowns (Zero ∷ values) = unknowns values
+unknowns (One ∷ values) = unknowns values
+unknowns (Unknown ∷ values) = suc (unknowns values)
+
+pub unknowns-le-length : (values : List Tri) → unknowns values ≤ length values
+unfolding unknowns
+unknowns-le-length [] = omega arith
+unknowns-le-length (Zero ∷ values) = omega (arith, unknowns-le-length values)
+unknowns-le-length (One ∷ values) = omega (arith, unknowns-le-length values)
+unknowns-le-length (Unknown ∷ values) = omega (arith, unknowns-le-length values)
+
+-- a greater state has no fewer X, and more where it differs
+pub unknowns-le-AllBelow : (small large : List Tri) → AllBelow small large → unknowns small ≤ unknowns large
+unfolding unknowns
+unknowns-le-AllBelow [] [] h = omega arith
+unknowns-le-AllBelow [] (y ∷ ys) h = absurd h
+unknowns-le-AllBelow (x ∷ xs) [] h = absurd h
+unknowns-le-AllBelow (Zero ∷ xs) (Zero ∷ ys) h = unknowns-le-AllBelow xs ys h.1
+unknowns-le-AllBelow (Zero ∷ xs) (One ∷ ys) h = unknowns-le-AllBelow xs ys h.1
+unknowns-le-AllBelow (Zero ∷ xs) (Unknown ∷ ys) h = omega (arith, unknowns-le-AllBelow xs ys h.1)
+unknowns-le-AllBelow (One ∷ xs) (Zero ∷ ys) h = unknowns-le-AllBelow xs ys h.1
+unknowns-le-AllBelow (One ∷ xs) (One ∷ ys) h = unknowns-le-AllBelow xs ys h.1
+unknowns-le-AllBelow (One ∷ xs) (Unknown ∷ ys) h = omega (arith, unknowns-le-AllBelow xs ys h.1)
+unknowns-le-AllBelow (Unknown ∷ xs) (Zero ∷ ys) h = cc
+unknowns-le-AllBelow (Unknown ∷ xs) (One ∷ ys) h = cc
+unknowns-le-AllBelow (Unknown ∷ xs) (Unknown ∷ ys) h = omega (arith, unknowns-le-AllBelow xs ys h.1)
+
+same-head : (value : Tri) (xs ys : List Tri) → (xs ≡ ys) ⊎ (unknowns xs < unknowns ys) → (value ∷ xs ≡ value ∷ ys) ⊎ (unknowns (value ∷ xs) < unknowns (value ∷ ys))
+unfolding unknowns
+same-head Zero xs ys (inl e) = inl (ap (λ (rest : List Tri). Zero ∷ rest) e)
+same-head Zero xs ys (inr less) = inr less
+same-head One xs ys (inl e) = inl (ap (λ (rest : List Tri). One ∷ rest) e)
+same-head One xs ys (inr less) = inr less
+same-head Unknown xs ys (inl e) = inl (ap (λ (rest : List Tri). Unknown ∷ rest) e)
+same-head Unknown xs ys (inr less) = inr (omega (arith, less))
+
+pub same-or-more : (small large : List Tri) → AllBelow small large → (small ≡ large) ⊎ (unknowns small < unknowns large)
+unfolding unknowns
+same-or-more [] [] h = inl refl
+same-or-more [] (y ∷ ys) h = absurd h
+same-or-more (x ∷ xs) [] h = absurd h
+same-or-more (Zero ∷ xs) (Zero ∷ ys) h = same-head Zero xs ys (same-or-more xs ys h.1)
+same-or-more (Zero ∷ xs) (One ∷ ys) h = cc
+same-or-more (Zero ∷ xs) (Unknown ∷ ys) h = inr (omega (arith, unknowns-le-AllBelow xs ys h.1))
+same-or-more (One ∷ xs) (Zero ∷ ys) h = cc
+same-or-more (One ∷ xs) (One ∷ ys) h = same-head One xs ys (same-or-more xs ys h.1)
+same-or-more (One ∷ xs) (Unknown ∷ ys) h = inr (omega (arith, unknowns-le-AllBelow xs ys h.1))
+same-or-more (Unknown ∷ xs) (Zero ∷ ys) h = cc
+same-or-more (Unknown ∷ xs) (One ∷ ys) h = cc
+same-or-more (Unknown ∷ xs) (Unknown ∷ ys) h = same-head Unknown xs ys (same-or-more xs ys h.1)
+
+-- a state lies below its join with any other
+pub AllBelow-join_each : (values others : List Tri) → length values ≡ length others → AllBelow values (join_each values others)
+AllBelow-join_each [] [] same = tt
+AllBelow-join_each [] (other ∷ others) same = cc
+AllBelow-join_each (value ∷ values) [] same = cc
+AllBelow-join_each (value ∷ values) (other ∷ others) same =
+    (is_below-join_of-left value other, AllBelow-join_each values others (omega (arith, same)))
+
+-- and so does the other
+pub AllBelow-join_each_right : (values others : List Tri) → length values ≡ length others → AllBelow others (join_each values others)
+AllBelow-join_each_right [] [] same = tt
+AllBelow-join_each_right [] (other ∷ others) same = cc
+AllBelow-join_each_right (value ∷ values) [] same = cc
+AllBelow-join_each_right (value ∷ values) (other ∷ others) same =
+    (is_below-join_of-right value other, AllBelow-join_each_right values others (omega (arith, same)))
+
+-- Algorithm A
+
+pub length-algorithm_a : (net : List Driver) (input start : List Bool) → length start ≡ length net → (round : ℕ) → length (algorithm_a net input start round) ≡ length net
+length-algorithm_a net input start long zero = length-map start tri_of ∙ long
+length-algorithm_a net input start long (suc round) =
+    let before = algorithm_a net input start round in
+    let before_long : length before ≡ length net = length-algorithm_a net input start long round in
+    length-join_each before (excitations net input before) (before_long ∙ sym (length-excitations net input before)) ∙ before_long
+
+-- each state lies below the next
+pub AllBelow-algorithm_a : (net : List Driver) (input start : List Bool) → length start ≡ length net → (round : ℕ) → AllBelow (algorithm_a net input start round) (algorithm_a net input start (suc round))
+AllBelow-algorithm_a net input start long round =
+    let before = algorithm_a net input start round in
+    AllBelow-join_each before (excitations net input before) (length-algorithm_a net input start long round ∙ sym (length-excitations net input before))
+
+-- the start refines each state
+pub start-refines : (net : List Driver) (input start : List Bool) → length start ≡ length net → (round : ℕ) → Refines start (algorithm_a net input start round)
+start-refines net input start long zero = Refines-map start
+start-refines net input start long (suc round) =
+    Refines-AllBelow start (algorithm_a net input start round) (algorithm_a net input start (suc round)) (AllBelow-algorithm_a net input start long round) (start-refines net input start long round)
+
+-- a ternary state that one round of Algorithm A leaves as it is
+pub record IsClosed (net : List Driver) (input : List Bool) (values : List Tri) : Type 0 where
+  pub long : length values ≡ length net
+  pub same : values ≡ join_each values (excitations net input values)
+
+-- its excitations lie below it
+pub AllBelow-closed : (net : List Driver) (input : List Bool) (values : List Tri) → IsClosed net input values → AllBelow (excitations net input values) values
+AllBelow-closed net input values closed =
+    subst (λ (vs : List Tri). AllBelow (excitations net input values) vs) (sym closed.same)
+    (AllBelow-join_each_right values (excitations net input values) (closed.long ∙ sym (length-excitations net input values)))
+
+-- the result of Algorithm A is closed
+pub closed-result : (net : List Driver) (input start : List Bool) (rounds : ℕ) → length start ≡ length net → AreRounds (algorithm_a net input start) rounds → IsClosed net input (algorithm_a net input start rounds)
+closed-result net input start zero long are = absurd (omega (arith, are.some))
+closed-result net input start (suc round) long are =
+    let last : suc round - 1 ≡ round = omega arith in
+    let settled : algorithm_a net input start (suc round) ≡ algorithm_a net input start round =
+    are.settled ∙ ap (algorithm_a net input start) last in
+    record {
+      long = length-algorithm_a net input start long (suc round);
+      same = ap (λ (vs : List Tri). join_each vs (excitations net input vs)) (sym settled);
+    }
+
+-- Algorithm B
+
+pub length-algorithm_b : (net : List Driver) (input : List Bool) (first : List Tri) → length first ≡ length net → (round : ℕ) → length (algorithm_b net input first round) ≡ length net
+length-algorithm_b net input first long zero = long
+length-algorithm_b net input first long (suc round) = length-excitations net input (algorithm_b net input first round)
+
+-- from a state that lies above its excitations each state lies above the next
+pub AllBelow-algorithm_b : (net : List Driver) (input : List Bool) (first : List Tri) → AllBelow (excitations net input first) first → (round : ℕ) → AllBelow (algorithm_b net input first (suc round)) (algorithm_b net input first round)
+AllBelow-algorithm_b net input first below zero = below
+AllBelow-algorithm_b net input first below (suc round) =
+    AllBelow-excitations net input (algorithm_b net input first (suc round)) (algorithm_b net input first round) (AllBelow-algorithm_b net input first below round)

@@ -1,0 +1,67 @@
+-- The completed start: the values that listed values force upon the nodes that are not listed.
+use Rattle.std.specs.Prelude.{◌≡◌, ℕ, ◌<◌, ◌≤◌, ◌⊎◌, Bool, Option, Some, None, List, [], ◌∷◌, length, take, Contains, slice_get}
+use Rattle.hz_core.specs.Gate.{gate_value}
+use Rattle.hz_core.specs.Netlist.{Netlist, IsGateNumber, gate_at}
+use Rattle.hz_net.specs.Network.{bit_at, network_of, excitation, IsUnstable, IsStable}
+use Rattle.hz_net.specs.Variables.{expanded}
+
+-- bits for a gate's pins that agree with pairs of a node and its bit: at a source that a pair names, the bit is the pair's
+abbrev pub AgreeWith : List (ℕ × Bool) → List ℕ → List Bool → Type 0
+AgreeWith pairs [] [] = Unit {0}
+AgreeWith pairs [] (bit ∷ bits) = ⊥
+AgreeWith pairs (source ∷ sources) [] = ⊥
+AgreeWith pairs (source ∷ sources) (bit ∷ bits) =
+    ((other : Bool) → Contains pairs (source, other) → other ≡ bit) × AgreeWith pairs sources bits
+
+-- A gate that is not listed has a bit whatever its pins hold that the pairs leave open.
+pub record Follows (netlist : Netlist) (listed : List (Option Bool)) (pairs : List (ℕ × Bool)) (gate : ℕ) (bit : Bool) : Type 0 where
+  pub is_gate : IsGateNumber netlist gate
+  pub unlisted : slice_get listed gate ≡ Some None
+  pub always : (bits : List Bool) → AgreeWith pairs (gate_at netlist gate).sources bits → gate_value (gate_at netlist gate).kind bits ≡ bit
+
+-- A derivation, its newest pair first: each pair of a node and a bit is a listed value, or follows from the earlier ones.
+abbrev pub IsDerivation : Netlist → List (Option Bool) → List (ℕ × Bool) → Type 0
+IsDerivation netlist listed [] = Unit {0}
+IsDerivation netlist listed (pair ∷ earlier) =
+    ((slice_get listed pair.0 ≡ Some (Some pair.1)) ⊎ Follows netlist listed earlier pair.0 pair.1)
+    × IsDerivation netlist listed earlier
+
+-- a node is forced to a bit where some derivation ends with this pair
+abbrev pub IsForced : Netlist → List (Option Bool) → ℕ → Bool → Type 0
+IsForced netlist listed node bit =
+    (earlier : List (ℕ × Bool)) × IsDerivation netlist listed ((node, bit) ∷ earlier)
+
+-- a node is open where it is forced to no bit
+abbrev pub IsOpen : Netlist → List (Option Bool) → ℕ → Type 0
+IsOpen netlist listed node = (bit : Bool) → IsForced netlist listed node bit → ⊥
+
+-- each input has a listed value
+abbrev pub ListsInputs : Netlist → List (Option Bool) → Type 0
+ListsInputs netlist listed =
+    (input : ℕ) → input < netlist.inputs → (bit : Bool) × (slice_get listed input ≡ Some (Some bit))
+
+-- The completed start, which is there where no node is open: each node has the bit to which it is forced, each wire its
+-- source's.
+pub record IsCompletedStart (netlist : Netlist) (listed : List (Option Bool)) (state : List Bool) : Type 0 where
+  pub long : length state ≡ length (network_of netlist)
+  pub forced : (node : ℕ) → node < length netlist.names → IsForced netlist listed node (bit_at state node)
+  pub wires : state ≡ expanded netlist (take (length netlist.names) state)
+
+-- a completed start that is accepted: it is stable under its own inputs
+pub record IsAcceptedStart (netlist : Netlist) (listed : List (Option Bool)) (state : List Bool) : Type 0 where
+  pub completed : IsCompletedStart netlist listed state
+  pub stable : IsStable (network_of netlist) (take netlist.inputs state) state
+
+-- the least gate that is open
+pub record IsLeastOpen (netlist : Netlist) (listed : List (Option Bool)) (gate : ℕ) : Type 0 where
+  pub is_gate : IsGateNumber netlist gate
+  pub is_open : IsOpen netlist listed gate
+  pub least : (other : ℕ) → other < gate → (bit : Bool) × IsForced netlist listed other bit
+
+-- The least gate that is unstable at the completed start: its bit differs from its gate function of its wires.
+pub record IsLeastUnstable (netlist : Netlist) (listed : List (Option Bool)) (gate : ℕ) : Type 0 where
+  pub state : List Bool
+  pub completed : IsCompletedStart netlist listed state
+  pub is_gate : IsGateNumber netlist gate
+  pub is_unstable : IsUnstable (network_of netlist) (take netlist.inputs state) state gate
+  pub least : (other : ℕ) → netlist.inputs ≤ other → other < gate → bit_at state other ≡ excitation (network_of netlist) (take netlist.inputs state) state other

@@ -1,0 +1,37 @@
+-- The variables of the complete network by what they are, and how nodes and wires hang together.
+use Rattle.std.specs.Prelude.{◌≡◌, ℕ, suc, ◌+◌, ◌-◌, ◌<◌, Bool, List, [], ◌∷◌, ◌++◌, length, map, take, sum_by, if◌then◌else◌, ◌==◌}
+use Rattle.std.specs.List.{range_with_len}
+use Rattle.hz_core.specs.Netlist.{Netlist, IsGateNumber, gate_at}
+use Rattle.hz_net.specs.Network.{Wire, wires_of, bit_at}
+use Rattle.hz_net.specs.declared.variable.VarKind.{VarKind}
+use Rattle.hz_net.specs.declared.variable.VarKind.TheVariants.{Input, Gate as GateVariable, Wire as WireVariable}
+
+-- what each variable is: inputs, then gates, then wires by gate and pin
+abbrev pub variables_of : Netlist → List VarKind
+variables_of netlist =
+    map Input (range_with_len 0 netlist.inputs) ++ map (λ gate. GateVariable gate.kind) netlist.gates
+    ++ map (λ wire. WireVariable wire.gate wire.pin wire.source) (wires_of netlist)
+
+-- the first wire of a gate: behind the nodes and the wires of the earlier gates
+abbrev pub first_wire : Netlist → ℕ → ℕ
+first_wire netlist gate =
+    length netlist.names + sum_by (λ earlier. length earlier.sources) (take (gate - netlist.inputs) netlist.gates)
+
+-- of wires whose variables begin at a number, the variables of those that come from a node
+abbrev pub readers_from : ℕ → List Wire → ℕ → List ℕ
+readers_from first [] node = []
+readers_from first (wire ∷ wires) node =
+    if wire.source == node then first ∷ readers_from (suc first) wires node else readers_from (suc first) wires node
+
+-- the fan-out of a node: the wires that come from it, ascending
+abbrev pub fan_out_of : Netlist → ℕ → List ℕ
+fan_out_of netlist node = readers_from (length netlist.names) (wires_of netlist) node
+
+-- the state in which each node has a given value and each wire its source's
+abbrev pub expanded : Netlist → List Bool → List Bool
+expanded netlist nodes = nodes ++ map (λ wire. bit_at nodes wire.source) (wires_of netlist)
+
+-- A wire goes into a gate: the gate, and no other, has it among its pins.
+pub record GoesInto (netlist : Netlist) (wire gate : ℕ) : Type 0 where
+  pub is_gate : IsGateNumber netlist gate
+  pub only : (other pin : ℕ) → IsGateNumber netlist other → pin < length (gate_at netlist other).sources → first_wire netlist other + pin ≡ wire → other ≡ gate

@@ -1,0 +1,262 @@
+//! The complete network of a circuit.
+ghost use Rattle.std.specs.Prelude.{◌≡◌, ◌+◌, ◌<◌, ◌≤◌, ◌↔◌, length, slice_get, slice_range, Some, IfOk, IsTrue};
+ghost use Rattle.hz_core.specs.Netlist.{IsCircuit, IsWhole, IsGateNumber, variable_count, gate_at};
+ghost use Rattle.hz_net.specs.Network.{network_of, driver_at, bit_at, excitation, excitation3, IsStable};
+ghost use Rattle.hz_net.specs.Variables.{variables_of, first_wire, fan_out_of, expanded};
+ghost use Rattle.hz_net.specs.Entries.{driver_of, seen_as, IsEntryAt};
+
+use crate::VarKind;
+use crate::entry::{Entry, list_entries};
+use crate::fan_out::{FanOut, list_fan_out};
+use hz_core::{Circuit, Memory, Tri};
+use std::alloc::Global;
+use std::marker::Model;
+
+/// The complete network of a circuit (Brzozowski and Seger): a variable for each input, each gate and each wire, where a wire
+/// is a pin of a gate.
+///
+/// Variables are numbered from 0: inputs, then gates, then wires by gate and pin. A node has the same number as in the
+/// circuit. The wires of a gate are neighbours.
+#[derive(Debug, Drop)]
+pub struct Net {
+    circuit: Circuit,
+    entries: Vec<Entry>,
+    fan_out: FanOut,
+}
+
+impl Model for Net {
+    ghost use Rattle.hz_core.specs.Netlist.{Netlist};
+
+    ghost Value = { Netlist };
+
+    ghost use Rattle.hz_net.specs.Inside.{HoldsNetwork};
+
+    ghost view = { λ net. net.circuit };
+
+    ghost invariant = { HoldsNetwork };
+}
+
+impl Net {
+    /// The network of a circuit in which each gate has a pin.
+    pub fn build(alloc: Global, circuit: Circuit) -> Result<Net, Memory>
+        requires { IsWhole circuit }
+        ensures ok { IfOk result (λ net. net ≡ circuit) }
+    {
+        let entries = list_entries(alloc, &circuit)?;
+        let fan_out = list_fan_out(alloc, circuit.nodes(), entries.as_slice())?;
+        Ok(Net {
+            circuit,
+            entries,
+            fan_out,
+        })
+    }
+
+    /// The circuit that the network was built from.
+    pub fn circuit(&self) -> &Circuit
+        ensures same { result.now ≡ self.now }
+        ensures circuit { IsCircuit self.now }
+        ensures whole { IsWhole self.now }
+    {
+        &self.circuit
+    }
+
+    /// The number of variables.
+    pub fn len(&self) -> u32
+        ensures len { result ≡ length (network_of self.now) }
+        ensures variables { result ≡ variable_count self.now }
+        ensures bound { result ≤ 200000 }
+        ensures circuit { IsCircuit self.now }
+        ensures whole { IsWhole self.now }
+    {
+        self.circuit.variables()
+    }
+
+    /// What a variable is.
+    pub fn kind_of(&self, var: u32) -> VarKind
+        requires { var < length (network_of self.now) }
+        ensures { slice_get (variables_of self.now) var ≡ Some result }
+    {
+        match self.entry(var) {
+            Entry::Input { number } => VarKind::Input { number },
+            Entry::Gate { kind, .. } => VarKind::Gate { kind },
+            Entry::Wire { gate, pin, source } => VarKind::Wire { gate, pin, source },
+        }
+    }
+
+    /// The first wire of a gate, and the number of its pins.
+    pub fn wires_in(&self, gate: u32) -> (u32, u32)
+        requires { IsGateNumber self.now gate }
+        ensures first { result.0 ≡ first_wire self.now gate }
+        ensures pins { result.1 ≡ length (gate_at self.now gate).sources }
+        ensures inside { result.0 + result.1 ≤ length (network_of self.now) }
+    {
+        match self.entries[gate as usize] {
+            Entry::Gate { first, pins, .. } => (first, pins),
+            Entry::Input { .. } => unreachable!(),
+            Entry::Wire { .. } => unreachable!(),
+        }
+    }
+
+    /// The wires whose source is the node, ascending.
+    pub fn fan_out(&self, node: u32) -> &[u32]
+        requires { node < length self.now.names }
+        ensures { result.now ≡ fan_out_of self.now node }
+    {
+        let start = self.fan_out.starts[node as usize];
+        let end = self.fan_out.starts[node as usize + 1];
+        part(self.fan_out.readers.as_slice(), start, end)
+    }
+
+    /// The excitation of a variable: the external input for an input, the gate function of its own wires for a gate, the
+    /// value of its source for a wire.
+    pub fn excite(&self, input: &[bool], state: &[bool], var: u32) -> bool
+        requires var { var < length (network_of self.now) }
+        requires input { length input.now ≡ self.now.inputs }
+        requires state { length state.now ≡ length (network_of self.now) }
+        ensures { result ≡ excitation (network_of self.now) input.now state.now var }
+    {
+        match self.entry(var) {
+            Entry::Input { number } => input[number as usize],
+            Entry::Gate { kind, first, pins } => kind.eval(
+                &state[first as usize..(first + pins) as usize],
+            ),
+            Entry::Wire { source, .. } => state[source as usize],
+        }
+    }
+
+    /// The ternary extension of the excitation.
+    pub fn excite3(&self, input: &[bool], state: &[Tri], var: u32) -> Tri
+        requires var { var < length (network_of self.now) }
+        requires input { length input.now ≡ self.now.inputs }
+        requires state { length state.now ≡ length (network_of self.now) }
+        ensures { result ≡ excitation3 (network_of self.now) input.now state.now var }
+    {
+        match self.entry(var) {
+            Entry::Input { number } => Tri::of(input[number as usize]),
+            Entry::Gate { kind, first, pins } => kind.eval3(
+                &state[first as usize..(first + pins) as usize],
+            ),
+            Entry::Wire { source, .. } => state[source as usize],
+        }
+    }
+
+    /// Sets each node to its given value and each wire to its source's.
+    pub fn expand(&self, nodes: &[bool], state: &mut [bool])
+        requires nodes { length nodes.now ≡ length self.now.names }
+        requires state { length state.old ≡ length (network_of self.now) }
+        ensures { state.new ≡ expanded self.now nodes.now }
+    {
+        for var in 0..self.len() {
+            state[var as usize] = self.expanded_value(nodes, var);
+        }
+    }
+
+    /// Whether each variable has the value of its excitation.
+    pub fn settled(&self, input: &[bool], state: &[bool]) -> bool
+        requires input { length input.now ≡ self.now.inputs }
+        requires state { length state.now ≡ length (network_of self.now) }
+        ensures { IsTrue result ↔ IsStable (network_of self.now) input.now state.now }
+    {
+        for var in 0..self.len() {
+            if state[var as usize] != self.excite(input, state, var) {
+                return false;
+            }
+        }
+        true
+    }
+
+    // The value of a variable where each node has its given value and each wire its source's.
+    fn expanded_value(&self, nodes: &[bool], var: u32) -> bool
+        requires var { var < length (network_of self.now) }
+        requires nodes { length nodes.now ≡ length self.now.names }
+        ensures { result ≡ bit_at (expanded self.now nodes.now) var }
+    {
+        match self.entry(var) {
+            Entry::Input { .. } => nodes[var as usize],
+            Entry::Gate { .. } => nodes[var as usize],
+            Entry::Wire { source, .. } => nodes[source as usize],
+        }
+    }
+
+    // What the network keeps of a variable.
+    fn entry(&self, var: u32) -> Entry
+        requires { var < length (network_of self.now) }
+        ensures driver { driver_at (network_of self.now) var ≡ driver_of result }
+        ensures seen { slice_get (variables_of self.now) var ≡ Some (seen_as result) }
+        ensures place { IsEntryAt self.now var result }
+        ensures bound { length (network_of self.now) ≤ 200000 }
+        ensures circuit { IsCircuit self.now }
+    {
+        self.entries[var as usize]
+    }
+}
+
+// The part of a list from a start up to an end.
+fn part(list: &[u32], start: usize, end: usize) -> &[u32]
+    requires ordered { start ≤ end }
+    requires inside { end ≤ length list.now }
+    ensures { result.now ≡ slice_range list.now start end }
+{
+    &list[start..end]
+}
+
+#[cfg(test)]
+mod tests {
+    use super::*;
+    use hz_core::Kind;
+    use std::test::Fail;
+
+    // A gate that reads an input, itself and the input again: variables a, y, y(1), y(2), y(3).
+    fn ring(alloc: Global) -> Result<Circuit, Memory> {
+        let mut circuit = Circuit::new(alloc);
+        let input = circuit.add_input(b"a")?;
+        let gate = circuit.add_gate(b"y", Kind::Or)?;
+        circuit.connect(gate, input)?;
+        circuit.connect(gate, gate)?;
+        circuit.connect(gate, input)?;
+        Ok(circuit)
+    }
+
+    #[test]
+    fn variables_of_a_ring(rt: HostRuntime) -> Result<(), Fail> {
+        let circuit = ring(rt.alloc())?;
+        assert!(rt; circuit.whole());
+        let net = Net::build(rt.alloc(), circuit)?;
+        assert_eq!(rt; net.len(), 5);
+        assert_eq!(rt; net.circuit().inputs(), 1);
+        assert_eq!(rt; net.circuit().nodes(), 2);
+        assert_eq!(rt; net.kind_of(0), VarKind::Input { number: 0 });
+        assert_eq!(rt; net.kind_of(1), VarKind::Gate { kind: Kind::Or });
+        assert_eq!(rt;
+            net.kind_of(3),
+            VarKind::Wire {
+                gate: 1,
+                pin: 1,
+                source: 1
+            }
+        );
+        assert_eq!(rt; net.wires_in(1), (2, 3));
+        assert_eq!(rt; net.fan_out(0), [2, 4].as_slice());
+        Ok(())
+    }
+
+    // The input goes to 0 while y is 1.
+    #[test]
+    fn excitations_of_a_ring(rt: HostRuntime) -> Result<(), Fail> {
+        let circuit = ring(rt.alloc())?;
+        assert!(rt; circuit.whole());
+        let net = Net::build(rt.alloc(), circuit)?;
+        assert_eq!(rt; net.len(), 5);
+        assert_eq!(rt; net.circuit().inputs(), 1);
+        assert_eq!(rt; net.circuit().nodes(), 2);
+        let mut state = [false; 5];
+        net.expand(&[true, true], &mut state);
+        assert!(rt; net.settled(&[true], &state));
+        assert!(rt; !net.settled(&[false], &state));
+        assert!(rt; !net.excite(&[false], &state, 0));
+        assert!(rt; net.excite(&[false], &state, 1));
+        let values = [Tri::Zero, Tri::Unknown, Tri::Zero, Tri::Unknown, Tri::Zero];
+        assert_eq!(rt; net.excite3(&[false], &values, 1), Tri::Unknown);
+        Ok(())
+    }
+}

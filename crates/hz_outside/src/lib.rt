@@ -1,0 +1,37 @@
+//! The outside of the program: files that are loaded, and a sink that bytes are put into.
+//!
+//! | Module | What lives in it |
+//! |---|---|
+//! | `fault` | the faults of a load and of a put, the two places, want of memory |
+//! | `files` | the trait [`Files`]: a load gives the whole bytes of a file |
+//! | `sink` | the trait [`Sink`]: a put writes a piece |
+//! | `counts` | counts of faults, one for each place |
+//! | `shelf` | named files in memory |
+//! | `mem_files`, `plain_files` | files in memory, with and without loads that fail |
+//! | `mem_sink`, `plain_sink` | sinks in memory, with and without puts that fail |
+//! | `disk_files`, `std_sink` | the trusted edge: the file system and standard output |
+#![tactic(auto)]
+
+mod counts;
+mod disk_files;
+mod fault;
+mod files;
+mod mem_files;
+mod mem_sink;
+mod plain_files;
+mod plain_sink;
+mod shelf;
+mod sink;
+mod std_sink;
+#[cfg(test)]
+mod tests;
+
+pub use disk_files::DiskFiles;
+pub use fault::{LoadFault, Memory, Place, PutFault};
+pub use files::Files;
+pub use mem_files::MemFiles;
+pub use mem_sink::MemSink;
+pub use plain_files::PlainFiles;
+pub use plain_sink::PlainSink;
+pub use sink::Sink;
+pub use std_sink::StdSink;

@@ -1,0 +1,63 @@
+//! Standard output: the trusted edge.
+ghost use Rattle.std.specs.Prelude.{◌≡◌};
+
+use super::fault::PutFault;
+use super::sink::Sink;
+use std::io::Print;
+use std::marker::Model;
+
+/// Standard output, without a buffer. It tells nothing of what was written, and is seen as its count
+/// of faults.
+#[derive(Drop)]
+pub struct StdSink<'r, R: Print> {
+    rt: &'r R,
+    faults: u64,
+}
+
+impl<'r, R: Print> Model for StdSink<'r, R> {
+    ghost use Rattle.std.specs.Prelude.{ℕ};
+
+    ghost Value = { ℕ };
+
+    ghost view = { λ sink. sink.faults };
+}
+
+impl<'r, R: Print> StdSink<'r, R> {
+    /// What the runtime prints to.
+    pub fn new(rt: &'r R) -> StdSink<'r, R>
+        ensures { result ≡ 0 }
+    {
+        StdSink { rt, faults: 0 }
+    }
+}
+
+impl<'r, R: Print> Sink for StdSink<'r, R> {
+    ghost use Rattle.std.specs.Prelude.{None};
+
+    ghost written = { λ _. None };
+
+    ghost faults = { λ sink. sink };
+
+    fn put(&mut self, piece: &[u8]) -> Result<(), PutFault> {
+        if write_all(self.rt, piece) {
+            return Ok(());
+        }
+        self.faults = self.faults.saturating_add(1);
+        Err(PutFault::Failed)
+    }
+}
+
+/// Writes until nothing is left, or until a write fails or takes nothing.
+fn write_all<R: Print>(rt: &R, piece: &[u8]) -> bool {
+    let mut rest = piece;
+    while !rest.is_empty() {
+        let Ok(count) = rt.write_some(rest) else {
+            return false;
+        };
+        if count == 0 {
+            return false;
+        }
+        rest = &rest[count..];
+    }
+    true
+}

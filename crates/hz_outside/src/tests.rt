@@ -1,0 +1,119 @@
+//! The happy paths of the fakes, with ample memory, and one test of each trusted edge.
+
+use super::{
+    DiskFiles, Files, LoadFault, MemFiles, MemSink, Place, PlainFiles, PlainSink, PutFault, Sink,
+    StdSink,
+};
+use std::fmt::Display;
+use std::io::Print;
+use std::test::Fail;
+use std::{env, fs, io, process};
+
+/// One row of the table: the second name is held twice, and the second load fails.
+#[test]
+fn files_in_memory(rt: HostRuntime) -> Result<(), Fail> {
+    let mut failing = MemFiles::new(rt.alloc());
+    let mut plain = PlainFiles::new(rt.alloc());
+    for (name, bytes) in [("a", "abc"), ("b", "first"), ("b", "second")] {
+        failing.add(name, bytes.as_bytes())?;
+        plain.add(name, bytes.as_bytes())?;
+    }
+    failing.fail(2)?;
+
+    let rows = [
+        ("a", 3, Some("abc"), Some("abc")),
+        ("a", 3, None, Some("abc")),
+        ("a", 2, None, None),
+        ("b", 5, Some("first"), Some("first")),
+        ("c", 0, Some(""), Some("")),
+    ];
+    for (name, most, from_failing, from_plain) in rows {
+        let loaded = failing.load(rt.alloc(), Place::First, name, most).ok();
+        assert_eq!(rt; text_of(&loaded), from_failing.map(str::as_bytes));
+        let loaded = plain.load(rt.alloc(), Place::Second, name, most).ok();
+        assert_eq!(rt; text_of(&loaded), from_plain.map(str::as_bytes));
+    }
+    Ok(())
+}
+
+fn text_of(loaded: &Option<Vec<u8>>) -> Option<&[u8]> {
+    match loaded {
+        Some(bytes) => Some(bytes.as_slice()),
+        None => None,
+    }
+}
+
+/// The second put takes two bytes and fails.
+#[test]
+fn sinks_in_memory(rt: HostRuntime) -> Result<(), Fail> {
+    let mut failing = MemSink::new(rt.alloc());
+    let mut plain = PlainSink::new(rt.alloc());
+    failing.fail(2, 2)?;
+    let rows = [
+        ("one", Ok(()), "one"),
+        ("two", Err(PutFault::Failed), "onetw"),
+        ("three", Ok(()), "onetwthree"),
+    ];
+    for (piece, answer, bytes) in rows {
+        assert_eq!(rt; failing.put(piece.as_bytes()), answer);
+        assert_eq!(rt; failing.bytes(), bytes.as_bytes());
+        assert_eq!(rt; plain.put(piece.as_bytes()), Ok(()));
+    }
+    assert_eq!(rt; plain.bytes(), b"onetwothree".as_slice());
+    Ok(())
+}
+
+/// A file that takes two reads, a limit one below its length, a folder and a name that isn't there.
+#[test]
+fn files_on_disk(rt: HostRuntime) -> Result<(), Fail> {
+    let id = process::id(rt.process());
+    let folder = env::temp_dir(&rt)?;
+    let path = format!(in rt.alloc(); "{}/hazard-outside-{id}", folder.display())?;
+    let bytes = vec![in rt.alloc(); 7u8; 70_000]?;
+    fs::write(&rt, path.as_str(), bytes.as_slice())?;
+
+    let mut files = DiskFiles::new(&rt);
+    let whole = files.load(rt.alloc(), Place::First, path.as_str(), 70_000)?;
+    assert_eq!(rt; whole.as_slice(), bytes.as_slice());
+    let long = files.load(rt.alloc(), Place::First, path.as_str(), 69_999);
+    fs::remove_file(&rt, path.as_str())?;
+    assert_eq!(rt; long.err(), Some(LoadFault::TooLong));
+    let gone = files.load(rt.alloc(), Place::Second, path.as_str(), 70_000);
+    assert_eq!(rt; gone.err(), Some(LoadFault::Failed));
+    let of_folder = files.load(rt.alloc(), Place::Second, "/", 70_000);
+    assert_eq!(rt; of_folder.err(), Some(LoadFault::Failed));
+    Ok(())
+}
+
+/// A runtime whose writes take at most so many bytes.
+struct Slow(usize);
+
+impl Print for Slow {
+    fn print<D: Display + Drop>(&self, _value: D) -> io::Result<()> {
+        Ok(())
+    }
+
+    fn println<D: Display + Drop>(&self, _value: D) -> io::Result<()> {
+        Ok(())
+    }
+
+    fn write_all(&self, _bytes: &[u8]) -> io::Result<()> {
+        Ok(())
+    }
+
+    fn write_some(&self, bytes: &[u8]) -> io::Result<usize> {
+        Ok(self.0.min(bytes.len()))
+    }
+}
+
+/// The real output takes a piece, a slow one takes it byte by byte, and a stuck one is a fault.
+#[test]
+fn standard_output(rt: HostRuntime) -> Result<(), Fail> {
+    assert_eq!(rt; StdSink::new(&rt).put(b"a piece\n"), Ok(()));
+    assert_eq!(rt; StdSink::new(&Slow(1)).put(b"a piece\n"), Ok(()));
+    assert_eq!(rt;
+        StdSink::new(&Slow(0)).put(b"a piece\n"),
+        Err(PutFault::Failed)
+    );
+    Ok(())
+}

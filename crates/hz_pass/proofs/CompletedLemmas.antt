@@ -1,0 +1,118 @@
+-- What forced values make of a start: the least open gate, the completed state, the least unstable gate.
+use Rattle.std.proofs.Common.{◌≡◌, ◌≢◌, ℕ, ◌+◌, ◌-◌, ◌<◌, ◌≤◌, ◌⊎◌, Bool, true, false, Option, Some, List, [], ◌∷◌, ◌++◌, length, map, take, drop, get_or, slice_get, refl, sym, ap, ◌∙◌, subst, arith, inl, inr, min}
+use Rattle.std.proofs.lemmas.Bool.{cases_lt}
+use Rattle.std.proofs.lemmas.List.{length-map, get_or-map, get_or-take, length-take, take_at, take_all, drop_all, append-nil}
+use Rattle.hz_core.specs.declared.tri.Tri.{Tri}
+use Rattle.hz_core.specs.declared.tri.Tri.TheVariants.{Zero, One, Unknown}
+use Rattle.hz_core.specs.Ternary.{tri_of}
+use Rattle.hz_core.specs.Netlist.{Netlist, IsCircuit, IsGateNumber, variable_count}
+use Rattle.hz_net.specs.Network.{network_of, wires_of, value_at, bit_at, excitation, driven}
+use Rattle.hz_net.specs.Variables.{expanded}
+use Rattle.hz_net.specs.Starts.{IsForced, ListsInputs, IsCompletedStart, IsAcceptedStart, IsLeastOpen, IsLeastUnstable}
+use Rattle.hz_net.proofs.Places.{no_wire, length-network_of, length-expanded, bit_at-expanded-node, bit_at-expanded-wire, driver_at-input, driver_at-wire}
+use Rattle.hz_net.proofs.Derivations.{forced-listed}
+use Rattle.hz_net.proofs.Wires.{IsWireFrom-node}
+use Rattle.hz_pass.specs.Forcing.{AreForcedValues}
+use Rattle.hz_pass.specs.Completed.{bit_or_zero, IsLeastUnknown, IsLeastUnstableIn}
+
+-- a slice of a whole vector, written back
+pub written-back : (count : ℕ) (new items : List Tri) → length new ≡ count → length items ≤ count → take count (new ++ drop (length new) items) ≡ new
+written-back count new items long few =
+    ap (λ (rest : List Tri). take count (new ++ rest)) (drop_all (length new) items (omega (arith, long, few))) ∙
+    (ap (take count) (append-nil new) ∙ take_all count new (omega (arith, long)))
+
+known-value : (value : Tri) → value ≢ Unknown → (bit : Bool) × (value ≡ tri_of bit) × (bit_or_zero value ≡ bit)
+known-value Zero known = (false, refl, refl)
+known-value One known = (true, refl, refl)
+known-value Unknown known = absurd (known refl)
+
+module _ (netlist : Netlist) (listed : List (Option Bool)) (values : List Tri) (circuit : IsCircuit netlist) (inputs : ListsInputs netlist listed) (forced : AreForcedValues netlist listed values) where
+  -- an input is known
+  input-known : (input : ℕ) → input < netlist.inputs → value_at values input ≢ Unknown
+  input-known input few unknown =
+      let given = inputs input few in
+      forced.opens input (omega (arith, few, circuit.nodes)) unknown given.0 (forced-listed netlist listed input given.0 given.1)
+
+  -- a known node is forced
+  node-forced : (node : ℕ) → node < length netlist.names → value_at values node ≢ Unknown → IsForced netlist listed node (bit_or_zero (value_at values node))
+  node-forced node few known =
+      let bit = known-value (value_at values node) known in
+      subst (IsForced netlist listed node) (sym bit.2) (forced.forced node bit.0 few bit.1)
+
+  -- the least gate that is X is the least open one
+  pub least-open : (gate : ℕ) → IsLeastUnknown netlist values gate → IsLeastOpen netlist listed gate
+  least-open gate found =
+      let is_gate = found.is_gate in
+      record {
+        is_gate = is_gate;
+        is_open = forced.opens gate is_gate.1 found.is_unknown;
+        least = λ other less.
+            let few : other < length netlist.names = omega (arith, less, is_gate.1) in (
+              bit_or_zero (value_at values other),
+              node-forced other few (elim (cases_lt other netlist.inputs) [
+                | inl input ↦ input-known other input
+                | inr beyond ↦ found.least other beyond less
+              ]),
+            );
+      }
+
+  -- where no gate is X, each node's bit and each wire's source make the completed start
+  pub completed-start : (state : List Bool) → ((gate : ℕ) → IsGateNumber netlist gate → value_at values gate ≢ Unknown) → state ≡ expanded netlist (map bit_or_zero (take (length netlist.names) values)) → IsCompletedStart netlist listed state
+  completed-start state known made =
+      let names = length netlist.names in
+      let nodes = map bit_or_zero (take names values) in
+      let values_long = forced.long in
+      let nodes_long : length nodes ≡ names =
+      length-map (take names values) bit_or_zero ∙ (length-take names values ∙ omega (arith, values_long, length-network_of netlist circuit)) in
+      let front : take names state ≡ nodes = ap (take names) made ∙ take_at nodes (map (λ wire. bit_at nodes wire.source) (wires_of netlist)) names nodes_long in
+      record {
+        long = ap length made ∙ length-expanded netlist nodes circuit nodes_long;
+        forced = λ node few.
+            let bit : bit_at state node ≡ bit_or_zero (value_at values node) =
+            ap (λ (s : List Bool). bit_at s node) made ∙
+            (bit_at-expanded-node netlist nodes node nodes_long few ∙
+            (get_or-map bit_or_zero (take names values) node Zero false (omega (arith, few, nodes_long, length-map (take names values) bit_or_zero)) ∙
+            ap bit_or_zero (get_or-take names values node Zero few))) in
+            subst (IsForced netlist listed node) (sym bit) (node-forced node few (elim (cases_lt node netlist.inputs) [
+              | inl input ↦ input-known node input
+              | inr beyond ↦ known node (beyond, few)
+            ]));
+        wires = made ∙ ap (expanded netlist) (sym front);
+      }
+
+-- a completed start in which each gate is stable is accepted
+pub accepted-start : (netlist : Netlist) (listed : List (Option Bool)) (state : List Bool) → IsCircuit netlist → IsCompletedStart netlist listed state → ((gate : ℕ) → IsGateNumber netlist gate → bit_at state gate ≡ excitation (network_of netlist) (take netlist.inputs state) state gate) → IsAcceptedStart netlist listed state
+accepted-start netlist listed state circuit completed gates =
+    let names = length netlist.names in
+    let nodes = take names state in
+    let long = completed.long in
+    let nodes_long : length nodes ≡ names = length-take names state ∙ omega (arith, long, length-network_of netlist circuit) in
+    record {
+      completed = completed;
+      stable = λ i inside. elim (cases_lt i netlist.inputs) [
+        | inl input ↦ sym (ap (driven (take netlist.inputs state) state) (driver_at-input netlist i circuit input) ∙ get_or-take netlist.inputs state i false input)
+        | inr beyond ↦ elim (cases_lt i names) [
+          | inl node ↦ gates i (beyond, node)
+          | inr wire ↦ (
+              let below : i < variable_count netlist = omega (arith, inside, length-network_of netlist circuit) in
+              let source = (get_or (wires_of netlist) (i - names) no_wire).source in
+              let is_node : source < names = IsWireFrom-node netlist i source circuit (record { above = wire; below = below; source = refl }) in
+              ap (λ (s : List Bool). bit_at s i) completed.wires ∙
+              (bit_at-expanded-wire netlist nodes i nodes_long wire below ∙
+              (get_or-take names state source false is_node ∙
+              sym (ap (driven (take netlist.inputs state) state) (driver_at-wire netlist i circuit wire below))))
+              )
+        ]
+      ];
+    }
+
+-- the least unstable gate of the completed state
+pub least-unstable : (netlist : Netlist) (listed : List (Option Bool)) (state : List Bool) (gate : ℕ) → IsCompletedStart netlist listed state → IsLeastUnstableIn netlist state gate → IsLeastUnstable netlist listed gate
+least-unstable netlist listed state gate completed found =
+    record {
+      state = state;
+      completed = completed;
+      is_gate = found.is_gate;
+      is_unstable = found.is_unstable;
+      least = found.least;
+    }

@@ -1,0 +1,7 @@
+use Rattle.std.proofs.Common.{◌<◌, length, arith}
+use Rattle.hz_pass.proofs.Places.{are-known}
+use Rattle.hz_pass.proofs.rounds.know.Goals as goal
+
+pub returns : goal.returns
+returns c =
+    are-known c.args.bits.now c.loop-i.values c.loop-i.invariant.0 (λ k few. c.loop-i.invariant.1 k (omega (arith, few)))

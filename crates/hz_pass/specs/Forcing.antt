@@ -1,0 +1,65 @@
+-- How values are forced: what is known while they are carried from node to node.
+use Rattle.std.specs.Prelude.{◌≡◌, ◌≢◌, ℕ, suc, ◌+◌, ◌<◌, ◌⊎◌, Bool, Option, Some, None, List, [], ◌∷◌, ◌++◌, length, All, Contains, slice_get, slice_range, slice_set}
+use Rattle.hz_core.specs.declared.tri.Tri.{Tri}
+use Rattle.hz_core.specs.declared.tri.Tri.TheVariants.{Zero, One, Unknown}
+use Rattle.hz_core.specs.Ternary.{tri_of}
+use Rattle.hz_core.specs.Extension.{extension}
+use Rattle.hz_core.specs.Netlist.{Netlist, IsGateNumber, gate_at}
+use Rattle.hz_net.specs.Network.{network_of, Source, driver_at, value_at}
+use Rattle.hz_net.specs.Variables.{first_wire}
+use Rattle.hz_net.specs.Starts.{IsForced, IsOpen}
+
+-- the value of a node that listed values give it, X where they give none
+abbrev pub listed_value : Option (Option Bool) → Tri
+listed_value None = Unknown
+listed_value (Some None) = Unknown
+listed_value (Some (Some bit)) = tri_of bit
+
+-- the listed values are set, and the nodes that they are given to wait
+pub record IsListed (listed : List (Option Bool)) (values : List Tri) (waiting : List ℕ) : Type 0 where
+  pub values_are : (var : ℕ) → var < length values → value_at values var ≡ listed_value (slice_get listed var)
+  pub wait : (node : ℕ) (bit : Bool) → slice_get listed node ≡ Some (Some bit) → Contains waiting node
+  pub are_listed : All (λ node. (bit : Bool) × (slice_get listed node ≡ Some (Some bit))) waiting
+
+-- the values of a gate's wires
+abbrev pub pin_values : Netlist → List Tri → ℕ → List Tri
+pin_values netlist values gate =
+    slice_range values (first_wire netlist gate) (first_wire netlist gate + length (gate_at netlist gate).sources)
+
+-- the ternary extension of a gate's function on its wires
+abbrev pub gate_extension : Netlist → List Tri → ℕ → Tri
+gate_extension netlist values gate = extension (gate_at netlist gate).kind (pin_values netlist values gate)
+
+-- a gate that was X and has a known extension is set to it and waits; else nothing changes
+abbrev pub SetsGate : Tri → Tri → ℕ → List Tri → List Tri → List ℕ → List ℕ → Type 0
+SetsGate Zero extended gate values values' waiting waiting' = (values' ≡ values) × (waiting' ≡ waiting)
+SetsGate One extended gate values values' waiting waiting' = (values' ≡ values) × (waiting' ≡ waiting)
+SetsGate Unknown Unknown gate values values' waiting waiting' = (values' ≡ values) × (waiting' ≡ waiting)
+SetsGate Unknown Zero gate values values' waiting waiting' =
+    (values' ≡ slice_set values gate Zero) × (waiting' ≡ waiting ++ gate ∷ [])
+SetsGate Unknown One gate values values' waiting waiting' =
+    (values' ≡ slice_set values gate One) × (waiting' ≡ waiting ++ gate ∷ [])
+
+-- What is known while values are forced, beside the nodes that wait, the wires of a node that are due, and the gates one
+-- of whose wires was set: what is set is forced, and nothing else holds a gate back whose extension is known.
+pub record ForcedSoFar (netlist : Netlist) (listed : List (Option Bool)) (values : List Tri) (waiting due touched : List ℕ) : Type 0 where
+  pub long : length values ≡ length (network_of netlist)
+  pub agrees : (node : ℕ) (bit : Bool) → slice_get listed node ≡ Some (Some bit) → value_at values node ≡ tri_of bit
+  pub sound : (node : ℕ) (bit : Bool) → node < length netlist.names → value_at values node ≡ tri_of bit → IsForced netlist listed node bit
+  pub carried : (wire node : ℕ) → driver_at (network_of netlist) wire ≡ Source node → (value_at values wire ≡ Unknown) ⊎ (value_at values wire ≡ value_at values node)
+  pub delivered : (wire node : ℕ) → driver_at (network_of netlist) wire ≡ Source node → (value_at values wire ≡ value_at values node) ⊎ (Contains waiting node ⊎ Contains due wire)
+  pub closed : (gate : ℕ) → IsGateNumber netlist gate → value_at values gate ≡ Unknown → (gate_extension netlist values gate ≡ Unknown) ⊎ Contains touched gate
+  pub waits : All (λ node. (node < length netlist.names) × (value_at values node ≢ Unknown)) waiting
+
+-- how many values are X
+abbrev pub open_count : List Tri → ℕ
+open_count [] = 0
+open_count (Zero ∷ values) = open_count values
+open_count (One ∷ values) = open_count values
+open_count (Unknown ∷ values) = suc (open_count values)
+
+-- a node has the bit to which it is forced, and is X where it is open
+pub record AreForcedValues (netlist : Netlist) (listed : List (Option Bool)) (values : List Tri) : Type 0 where
+  pub long : length values ≡ length (network_of netlist)
+  pub forced : (node : ℕ) (bit : Bool) → node < length netlist.names → value_at values node ≡ tri_of bit → IsForced netlist listed node bit
+  pub opens : (node : ℕ) → node < length netlist.names → value_at values node ≡ Unknown → IsOpen netlist listed node

@@ -1,0 +1,20 @@
+//! Algorithms A and B on the complete network, and the start that they begin with.
+//!
+//! | Module | What lives in it |
+//! |---|---|
+//! | `algorithm_a` | Algorithm A, which finds what runs may change |
+//! | `algorithm_b` | Algorithm B, which finds what may stay changed |
+//! | `completed_start` | the start that listed values force, or what keeps them from one |
+//! | `forcing` | how values are forced from node to node |
+//! | `rounds` | one round of each, and what is noted of it |
+#![tactic(auto)]
+
+mod algorithm_a;
+mod algorithm_b;
+mod completed_start;
+mod forcing;
+mod rounds;
+
+pub use algorithm_a::spread;
+pub use algorithm_b::settle;
+pub use completed_start::{StartFault, complete};

@@ -1,0 +1,41 @@
+-- What a writer of a text over a sink ensures. The sink's `written` and `faults` come first, then the text, then the sink as it was and as it is now.
+use Rattle.std.specs.Prelude.{◌≡◌, ℕ, ◌≤◌, List, [], ◌∷◌, ◌++◌, Option, Result, MatchResult}
+use Rattle.hz_outside.specs.Counts.{Rose}
+use Rattle.hz_outside.specs.Written.{grown, joined, GrewByFront}
+use Rattle.hz_outside.specs.declared.fault.PutFault.{PutFault}
+use Rattle.hz_outside.specs.declared.fault.PutFault.TheVariants.{Failed}
+
+-- the bytes that end a line
+abbrev pub newline : List ℕ
+newline = 10 ∷ []
+
+-- the line of these pieces
+unfoldable pub line_of : List (List ℕ) → List ℕ
+line_of pieces = joined pieces ++ newline
+
+-- the whole text was written
+pub record Puts {S : Type 0} (written : S → Option (List ℕ)) (faults : S → ℕ) (text : List ℕ) (was now : S) : Type 0 where
+  pub grew : written now ≡ grown (written was) text
+  pub never_fell : faults was ≤ faults now
+
+-- a front of the text was written, and a put failed only where the count rose
+pub record Stops {S : Type 0} (written : S → Option (List ℕ)) (faults : S → ℕ) (fault : PutFault) (text : List ℕ) (was now : S) : Type 0 where
+  pub front : GrewByFront (written was) text (written now)
+  pub cause : fault ≡ Failed → Rose (faults was) (faults now)
+  pub never_fell : faults was ≤ faults now
+
+-- the answer of a writer of this text
+abbrev pub Wrote : {S : Type 0} → (S → Option (List ℕ)) → (S → ℕ) → List ℕ → S → S → Result (Unit {0}) PutFault → Type 0
+Wrote written faults text was now result =
+    MatchResult result (λ _. Puts written faults text was now) (λ fault. Stops written faults fault text was now)
+
+-- the text is what was written and then what waits
+pub record Waits {S : Type 0} (written : S → Option (List ℕ)) (faults : S → ℕ) (text : List ℕ) (was now : S) (waiting : List ℕ) : Type 0 where
+  pub done : List ℕ
+  pub puts : Puts written faults done was now
+  pub parts : done ++ waiting ≡ text
+
+-- the answer of a call after which some of this text may wait
+abbrev pub Added : {S : Type 0} → (S → Option (List ℕ)) → (S → ℕ) → List ℕ → S → S → List ℕ → Result (Unit {0}) PutFault → Type 0
+Added written faults text was now waiting result =
+    MatchResult result (λ _. Waits written faults text was now waiting) (λ fault. Stops written faults fault text was now)

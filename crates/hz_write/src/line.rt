@@ -1,0 +1,123 @@
+//! A line that is composed piece by piece.
+ghost use Rattle.std.specs.Prelude.{◌≡◌, ◌+◌, ◌-◌, ◌≤◌, [], ◌++◌, length, map, decimal, OnErr};
+ghost use Rattle.hz_outside.specs.Written.{joined};
+ghost use Rattle.hz_write.specs.Writes.{newline, Wrote, Added};
+
+use hz_outside::{PutFault, Sink};
+use itoa::Buffer;
+use std::marker::Model;
+
+/// How many bytes of a line one put carries at most.
+pub const BUFFER_SIZE: usize = 4096;
+
+/// The bytes of a line that wait for its end, or for a full buffer. It is seen as these bytes.
+#[derive(Drop)]
+pub struct Line {
+    buffer: [u8; BUFFER_SIZE],
+    len: usize,
+}
+
+impl Model for Line {
+    ghost use Rattle.std.specs.Prelude.{List, ℕ, ◌≤◌, take};
+    ghost use Rattle.hz_write.specs.declared.line.TheConstants.{BUFFER_SIZE};
+
+    ghost Value = { List ℕ };
+
+    ghost view = { λ line. take line.len line.buffer };
+
+    ghost invariant = { λ line. line.len ≤ BUFFER_SIZE };
+}
+
+impl Line {
+    /// A line that is empty so far.
+    pub fn new() -> Line
+        ensures { result ≡ [] }
+    {
+        Line {
+            buffer: [0; BUFFER_SIZE],
+            len: 0,
+        }
+    }
+
+    /// Adds a piece to the line, and puts what waits each time that the buffer is full and more comes.
+    ///
+    /// After a refusal the line is dropped: nothing waits.
+    pub fn add<K: Sink>(&mut self, out: &mut K, piece: &[u8]) -> Result<(), PutFault>
+        ensures added { Added K.written K.faults (self.old ++ piece.now) out.old out.new self.new result }
+        ensures dropped { OnErr result (self.new ≡ []) }
+    {
+        let mut rest = piece;
+        while self.room() < rest.len() {
+            let (front, back) = rest.split_at(self.room());
+            self.push(front);
+            self.put_waiting(out)?;
+            rest = back;
+        }
+        self.push(rest);
+        Ok(())
+    }
+
+    /// Adds a number in decimal digits.
+    ///
+    /// After a refusal the line is dropped: nothing waits.
+    pub fn add_number<K: Sink>(&mut self, out: &mut K, number: usize) -> Result<(), PutFault>
+        ensures added { Added K.written K.faults (self.old ++ decimal number) out.old out.new self.new result }
+        ensures dropped { OnErr result (self.new ≡ []) }
+    {
+        let mut digits = Buffer::new();
+        self.add(out, digits.format(number).as_bytes())
+    }
+
+    /// Adds pieces one after the other.
+    ///
+    /// After a refusal the line is dropped: nothing waits.
+    pub fn add_all<K: Sink>(&mut self, out: &mut K, pieces: &[&[u8]]) -> Result<(), PutFault>
+        ensures added { Added K.written K.faults
+            (self.old ++ joined (map (λ piece. piece.now) pieces.now)) out.old out.new self.new result }
+        ensures dropped { OnErr result (self.new ≡ []) }
+    {
+        for piece in pieces {
+            self.add(out, piece)?;
+        }
+        Ok(())
+    }
+
+    /// Ends the line by a line feed and puts what waits. Afterwards nothing waits, also after a refusal.
+    pub fn end<K: Sink>(&mut self, out: &mut K) -> Result<(), PutFault>
+        ensures wrote { Wrote K.written K.faults (self.old ++ newline) out.old out.new result }
+        ensures emptied { self.new ≡ [] }
+    {
+        self.add(out, b"\n")?;
+        self.put_waiting(out)
+    }
+
+    /// How many bytes fit until the buffer is full.
+    fn room(&self) -> usize
+        ensures room { result + length self.now ≡ BUFFER_SIZE }
+    {
+        BUFFER_SIZE - self.len
+    }
+
+    /// Lets more bytes wait.
+    fn push(&mut self, piece: &[u8])
+        requires { length self.old + length piece.now ≤ BUFFER_SIZE }
+        ensures { self.new ≡ self.old ++ piece.now }
+    {
+        let end = self.len + piece.len();
+        self.buffer[self.len..end].copy_from_slice(piece);
+        self.len = end;
+    }
+
+    /// Puts what waits, if anything does.
+    fn put_waiting<K: Sink>(&mut self, out: &mut K) -> Result<(), PutFault>
+        ensures wrote { Wrote K.written K.faults self.old out.old out.new result }
+        ensures emptied { self.new ≡ [] }
+    {
+        let len = self.len;
+        self.len = 0;
+        if len == 0 {
+            return Ok(());
+        }
+        out.put(&self.buffer[..len])
+    }
+}
