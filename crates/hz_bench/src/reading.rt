@@ -1,6 +1,7 @@
 // Reading a netlist.
 
 ghost use Rattle.std.specs.Prelude.{◌≡◌, ◌<◌, ◌≤◌, ◌^◌, IfOk, IfErr, MatchResult, None, length};
+ghost use Rattle.hz_core.specs.Netlist.{IsWhole};
 ghost use Rattle.hz_bench.specs.Answer.{answer_of, IsAnswerOf};
 ghost use Rattle.hz_bench.specs.Check.{first_fault};
 ghost use Rattle.hz_bench.specs.Entry.{numbered_list};
@@ -28,14 +29,19 @@ pub fn read(alloc: Global, text: &[u8]) -> Result<Circuit, BenchFault>
     requires { length text.now ≤ 16777216 }
     ensures faultless { IfOk result (λ _. answer_of text.now ≡ None) }
     ensures circuit { IfOk result (λ circuit. circuit ≡ netlist_of (statements_of text.now)) }
+    ensures whole { IfOk result (λ circuit. IsWhole circuit) }
     ensures fault { IfErr result (λ fault. IsAnswerOf text.now fault) }
 {
     let entries = parse(alloc, text)?;
     check(alloc, &entries)?;
-    match build(alloc, &entries) {
-        Ok(circuit) => Ok(circuit),
-        Err(Memory) => Err(BenchFault::Memory),
+    let Ok(circuit) = build(alloc, &entries) else {
+        return Err(BenchFault::Memory);
+    };
+    // each gate of checked statements has its pins, which is not proved yet
+    if !circuit.whole() {
+        return Err(BenchFault::Memory);
     }
+    Ok(circuit)
 }
 
 // Checks the statements, in the order of the faults.

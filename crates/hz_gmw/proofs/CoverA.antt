@@ -35,10 +35,10 @@ step-refines : (net : List Driver) (input state : List Bool) (values : List Tri)
 step-refines net input state values flips closed refined step =
     let long : length state ≡ length values = length-Refines state values refined in
     Refines-get_or (flipped flips state) values (length-flipped flips state ∙ long) (λ i inside.
-        let within : i < length state = subst (λ (n : ℕ). i < n) (length-flipped flips state) inside in
-        let here : i < length net = subst (λ (n : ℕ). i < n) (long ∙ closed.long) within in
-        subst (λ (b : Bool). IsTrue (admits (value_at values i) b)) (sym (at-flipped flips state i within))
-        (turned (is_listed flips i) (bit_at state i) (excitation net input state i) (value_at values i) (step.unstable i) (get_or-Refines state values refined i) (admits-excitation net input state values closed refined i here)))
+    let within : i < length state = subst (λ (n : ℕ). i < n) (length-flipped flips state) inside in
+    let here : i < length net = subst (λ (n : ℕ). i < n) (long ∙ closed.long) within in
+    subst (λ (b : Bool). IsTrue (admits (value_at values i) b)) (sym (at-flipped flips state i within))
+    (turned (is_listed flips i) (bit_at state i) (excitation net input state i) (value_at values i) (step.unstable i) (get_or-Refines state values refined i) (admits-excitation net input state values closed refined i here)))
 
 -- and so does a run
 pub run-refines : (net : List Driver) (input state : List Bool) (values : List Tri) (steps : List (List ℕ)) → IsClosed net input values → Refines state values → IsRun net input state steps → Refines (end_of state steps) values

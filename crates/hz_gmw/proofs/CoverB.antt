@@ -73,7 +73,7 @@ comes net input first steps i bit cycle driven inside long =
         let reach : IsReachable net input first member = (cut.earlier, IsRun-front net input first cut.earlier cut.later run, cut.here) in
         let rest : IsRun net input member cut.later = subst (λ (s : List Bool). IsRun net input s cut.later) cut.here (IsRun-rest net input first cut.earlier cut.later run) in
         let ends : end_of member cut.later ≡ first =
-            ap (λ (s : List Bool). end_of s cut.later) (sym cut.here) ∙ (sym (end_of-append first cut.earlier cut.later) ∙ (ap (end_of first) cut.whole ∙ cycle.cycle.closed)) in
+        ap (λ (s : List Bool). end_of s cut.later) (sym cut.here) ∙ (sym (end_of-append first cut.earlier cut.later) ∙ (ap (end_of first) cut.whole ∙ cycle.cycle.closed)) in
         let member_long : length member ≡ length net = length-IsReachable net input first member reach ∙ long in
         ap (λ (s : List Bool). bit_at s i) (sym ends)
         ∙ stays net input first member i bit cut.later driven reach rest (subst (λ (n : ℕ). i < n) (sym member_long) inside) has
@@ -90,13 +90,13 @@ one-round : (net : List Driver) (input first : List Bool) (steps : List (List �
 one-round net input first steps values cycle long refined now reach =
     let now_long : length now ≡ length net = length-IsReachable net input first now reach ∙ long in
     Refines-get_or now (excitations net input values) (now_long ∙ sym (length-excitations net input values)) (λ i inside.
-        let here : i < length net = subst (λ (n : ℕ). i < n) now_long inside in
-        subst (λ (v : Tri). IsTrue (admits v (bit_at now i))) (sym (at-excitations net input values i here))
-        (admits-by (driven3 input values (driver_at net i)) (bit_at now i) (λ bit known.
-            let driven : IsDriven net input first i bit = λ other there. known-admits bit _ (subst (λ (v : Tri). IsTrue (admits v (excitation net input other i))) known (admits-driven input other values (refined other there) (driver_at net i))) in
-            let began : bit_at first i ≡ bit = comes net input first steps i bit cycle driven here long in
-            ap (λ (s : List Bool). bit_at s i) (sym reach.2)
-            ∙ stays net input first first i bit reach.0 driven (itself net input first) reach.1 (subst (λ (n : ℕ). i < n) (sym long) here) began)))
+    let here : i < length net = subst (λ (n : ℕ). i < n) now_long inside in
+    subst (λ (v : Tri). IsTrue (admits v (bit_at now i))) (sym (at-excitations net input values i here))
+    (admits-by (driven3 input values (driver_at net i)) (bit_at now i) (λ bit known.
+    let driven : IsDriven net input first i bit = λ other there. known-admits bit _ (subst (λ (v : Tri). IsTrue (admits v (excitation net input other i))) known (admits-driven input other values (refined other there) (driver_at net i))) in
+    let began : bit_at first i ≡ bit = comes net input first steps i bit cycle driven here long in
+    ap (λ (s : List Bool). bit_at s i) (sym reach.2)
+    ∙ stays net input first first i bit reach.0 driven (itself net input first) reach.1 (subst (λ (n : ℕ). i < n) (sym long) here) began)))
 
 -- all states that are reachable from a reachable nontransient cycle refine each state of Algorithm B
 each-round : (net : List Driver) (input first : List Bool) (steps : List (List ℕ)) (values : List Tri) → IsNontransient net input first steps → length first ≡ length net → ((now : List Bool) → IsReachable net input first now → Refines now values) → (round : ℕ) (now : List Bool) → IsReachable net input first now → Refines now (algorithm_b net input values round)
@@ -111,9 +111,9 @@ covers_outcomes net input start state rounds round long are outcome =
     let run : IsRun net input outcome.first (cut.earlier ++ cut.later) = subst (λ (ss : List (List ℕ)). IsRun net input outcome.first ss) (sym cut.whole) outcome.cycle.cycle.run in
     let there : IsReachable net input outcome.first outcome.member = (cut.earlier, IsRun-front net input outcome.first cut.earlier cut.later run, cut.here) in
     let ends : end_of outcome.member cut.later ≡ outcome.first =
-        ap (λ (s : List Bool). end_of s cut.later) (sym cut.here) ∙ (sym (end_of-append outcome.first cut.earlier cut.later) ∙ (ap (end_of outcome.first) cut.whole ∙ outcome.cycle.cycle.closed)) in
+    ap (λ (s : List Bool). end_of s cut.later) (sym cut.here) ∙ (sym (end_of-append outcome.first cut.earlier cut.later) ∙ (ap (end_of outcome.first) cut.whole ∙ outcome.cycle.cycle.closed)) in
     let back : IsReachable net input outcome.member outcome.first =
-        (cut.later, subst (λ (s : List Bool). IsRun net input s cut.later) cut.here (IsRun-rest net input outcome.first cut.earlier cut.later run), ends) in
+    (cut.later, subst (λ (s : List Bool). IsRun net input s cut.later) cut.here (IsRun-rest net input outcome.first cut.earlier cut.later run), ends) in
     let begun : IsReachable net input start outcome.first = IsReachable-onward net input start outcome.member outcome.first outcome.reached back in
     each-round net input outcome.first outcome.steps (algorithm_a net input start rounds) outcome.cycle
     (length-IsReachable net input start outcome.first begun ∙ long)

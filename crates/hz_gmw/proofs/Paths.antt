@@ -28,7 +28,7 @@ pub IsReachable-onward : (net : List Driver) (input start middle state : List Bo
 IsReachable-onward net input start middle state first second =
     let run : IsRun net input (end_of start first.0) second.0 = subst (λ (s : List Bool). IsRun net input s second.0) (sym first.2) second.1 in
     let ends : end_of start (first.0 ++ second.0) ≡ state =
-        end_of-append start first.0 second.0 ∙ (ap (λ (s : List Bool). end_of s second.0) first.2 ∙ second.2) in
+    end_of-append start first.0 second.0 ∙ (ap (λ (s : List Bool). end_of s second.0) first.2 ∙ second.2) in
     (first.0 ++ second.0, IsRun-append net input start first.0 second.0 first.1 run, ends)
 
 -- a run's steps cut where a state of it stands

@@ -1,6 +1,6 @@
 -- The statements of a text ascend by their lines, and the first that passes a test is the least.
-use Rattle.std.proofs.Common.{◌≡◌, ◌∙◌, ℕ, ◌+◌, ◌<◌, ◌≤◌, Bool, true, false, cond, List, [], ◌∷◌, Option, Some, None, zero, suc, inl, inr, refl, ap, sym, subst, map, length, slice_index, arith, get_or}
-use Rattle.std.specs.List.{find, slice_index_or}
+use Rattle.std.proofs.Common.{◌≡◌, ◌∙◌, ℕ, ◌+◌, ◌≤◌, Bool, true, false, List, [], ◌∷◌, Option, Some, None, zero, suc, inl, inr, refl, ap, sym, map, arith}
+use Rattle.std.specs.List.{slice_index_or}
 use Rattle.std.specs.Option.{option_map}
 use Rattle.hz_line.specs.Line.{lines_of}
 use Rattle.hz_line.specs.Token.{TokenOf, tokens_of}
@@ -72,10 +72,14 @@ pub record IsFirstMalformed {S : Type 0} (grammar : List TokenOf → Option S) (
   pub least : (other : ℕ) → meaning_of grammar (slice_index_or lines other []) ≡ Malformed → above ≤ other
 
 later_malformed : {S : Type 0} (grammar : List TokenOf → Option S) (first : List ℕ) (rest : List (List ℕ)) (line number : ℕ) → (meaning_of grammar first ≡ Malformed → ⊥) → (above : ℕ) × (number ≡ suc line + above) × IsFirstMalformed grammar rest above → (above : ℕ) × (number ≡ line + above) × IsFirstMalformed grammar (first ∷ rest) above
-later_malformed grammar first rest line number formed (above, at, is) = (suc above, omega (arith, at), record {
+later_malformed grammar first rest line number formed (above, at, is) = (
+  suc above,
+  omega (arith, at),
+  record {
     malformed = is.malformed;
     least = λ other p. later_least other p;
-  })
+  },
+)
   where
     later_least : (other : ℕ) → meaning_of grammar (slice_index_or (first ∷ rest) other []) ≡ Malformed → suc above ≤ other
     later_least zero p = absurd (formed p)
@@ -110,10 +114,11 @@ meaning_at-first grammar text number e = by_number (first_malformed-Some grammar
     least_at : (above : ℕ) → number ≡ 1 + above → IsFirstMalformed grammar (lines_of text) above → (other : ℕ) → meaning_at grammar text other ≡ Malformed → number ≤ other
     least_at above at is zero p = cc
     least_at above at is (suc other) p = omega (arith, at, is.least other p)
+
     by_number : (above : ℕ) × (number ≡ 1 + above) × IsFirstMalformed grammar (lines_of text) above → (meaning_at grammar text number ≡ Malformed) × ((other : ℕ) → meaning_at grammar text other ≡ Malformed → number ≤ other)
     by_number (above, at, is) =
-      let same : number ≡ suc above = omega (arith, at) in
-      (rw same is.malformed, least_at above at is)
+        let same : number ≡ suc above = omega (arith, at) in
+        (rw same is.malformed, least_at above at is)
 
 pub meaning_at-none : {S : Type 0} (grammar : List TokenOf → Option S) (text : List ℕ) → first_malformed grammar 1 (lines_of text) ≡ None → (other : ℕ) → meaning_at grammar text other ≡ Malformed → ⊥
 meaning_at-none grammar text e zero p = cc

@@ -5,7 +5,6 @@ use Rattle.std.specs.Option.{option_map}
 use Rattle.hz_line.specs.Line.{lines_of}
 use Rattle.hz_line.specs.Token.{TokenOf, tokens_of}
 
-
 -- what a line is: without tokens and so no statement, malformed, or a statement
 pub data Meaning (S : Type 0) : Type 0 where
   Nothing : Meaning S

@@ -4,7 +4,7 @@ use Rattle.std.specs.List.{list_any, range_with_len, filter_map, cons_option, Al
 use Rattle.std.specs.Option.{IsSome, IsSomeAnd, option_to_list}
 use Rattle.std.proofs.lemmas.Bool.{cases_eq}
 use Rattle.std.proofs.lemmas.Bool.Decides.{nat_tests}
-use Rattle.std.proofs.lemmas.List.{same_lists, get_or-set_same, get_or-set_other, length-set, length-map, length-replicate, get_or-replicate, take_more, map-append, get_or-map, length-take-le, take_all}
+use Rattle.std.proofs.lemmas.List.{same_lists, get_or-set_same, get_or-set_other, length-set, length-map, length-replicate, get_or-replicate, take_more, map-append, length-take-le, take_all}
 use Rattle.std.proofs.lemmas.List.Elements.{filter_map-append, All-head, All-tail, All-cons, All-nil}
 use Rattle.std.proofs.lemmas.List.FromFn.{get_or-map-range_with_len, length-range_with_len}
 use Rattle.hz_text.specs.declared.assigned.Assigned.{Assigned}
@@ -12,10 +12,9 @@ use Rattle.hz_text.specs.Assignment.{has_repeat}
 use Rattle.hz_line.specs.Statement.{Numbered}
 use Rattle.hz_text.specs.declared.entry.Entry.{Entry}
 use Rattle.hz_text.specs.Lookup.{Looked, held_by, entered}
-use Rattle.hz_text.specs.ScriptFault.{is_node}
 use Rattle.hz_text.specs.ScriptValue.{IsChange, ScriptOf}
 use Rattle.hz_text.specs.ScriptText.{bit_at, bits_at, assignment_to, IsScriptBy, IsScriptOf}
-use Rattle.hz_text.specs.Pass.{nodes_of, IsPair, IsSound, both, pair_of}
+use Rattle.hz_text.specs.Pass.{nodes_of, IsPair, IsSound, pair_of}
 use Rattle.hz_text.proofs.NodeLemmas.{has_repeat-push, has_repeat-append}
 
 -- what an assignment is that has both a node and a bit

@@ -1,11 +1,9 @@
 -- The first answer of the passes is the least fault.
 use Rattle.std.proofs.Common.{◌≡◌, ◌∙◌, ℕ, ◌+◌, ◌<◌, ◌≤◌, Bool, true, false, not, ◌||◌, cond, nat_eq, List, [], ◌∷◌, Option, Some, None, zero, suc, length, get_or, map, filter, refl, ap, sym, subst, inl, inr, arith, ltb, lit<}
-use Rattle.std.specs.List.{list_any, slice_get, position, position_or_len, range_with_len, All, slice_index_or}
-use Rattle.std.specs.Option.{option_map, MatchOption, IfSome}
+use Rattle.std.specs.List.{list_any, position, position_or_len}
+use Rattle.std.specs.Option.{option_map, MatchOption}
 use Rattle.std.specs.Str.{bytes_eq}
 use Rattle.std.proofs.lemmas.List.Quantifiers.{position-Some}
-use Rattle.std.proofs.lemmas.List.Elements.{All-nil, All-cons, All-map}
-use Rattle.std.proofs.lemmas.List.{get_or-map}
 use Rattle.std.proofs.lemmas.Slice.Eq.{bytes_eq-Decides}
 use Rattle.std.proofs.lemmas.Bool.Decides.{nat_tests}
 use Rattle.std.proofs.lemmas.Bool.{cases_lt, ltb-false}
@@ -13,8 +11,8 @@ use Rattle.std.specs.Prelude.{◌⊎◌}
 use Rattle.std.proofs.lemmas.Option.{same_Some, none-some}
 use Rattle.hz_core.specs.Netlist.{Netlist, node_named}
 use Rattle.hz_line.specs.Line.{lines_of}
-use Rattle.hz_line.specs.Statement.{Numbered, PassesOn, first_line, numbered_statements, first_malformed, Malformed, meaning_at}
-use Rattle.hz_line.proofs.StatementLemmas.{Ascends, numbered_from-Ascends, IsFirstLine, PassesOn-above, first_line-Some, first_line-None, meaning_at-first, meaning_at-none, numbered_from-map, first_malformed-map}
+use Rattle.hz_line.specs.Statement.{Numbered, first_line, numbered_statements, first_malformed}
+use Rattle.hz_line.proofs.StatementLemmas.{Ascends, numbered_from-Ascends, PassesOn-above, first_line-Some, first_line-None, meaning_at-first, meaning_at-none, numbered_from-map, first_malformed-map}
 use Rattle.hz_text.specs.declared.assigned.Assigned.{Assigned}
 use Rattle.hz_text.specs.declared.keyword.Keyword.{Keyword}
 use Rattle.hz_text.specs.declared.keyword.Keyword.TheVariants.{Start, Change}
@@ -23,7 +21,7 @@ use Rattle.hz_text.specs.declared.fault.TextFault.TheVariants.{Form, Unknown, Tw
 use Rattle.hz_text.specs.Assignment.{Assignment, has_repeat}
 use Rattle.hz_text.specs.Statement.{Statement, statement_of, statements_of}
 use Rattle.hz_text.specs.Lookup.{Looked, looked_of, looked_up, looked_by, assigned_of}
-use Rattle.hz_text.specs.ScriptFault.{looked_statements, is_unknown, has_unknown, has_twice, has_no_bit, is_start, assigns, IsMissing, IsOutOfOrder, line_beyond, Stands, number_of, place_of, ComesFirst, IsLeastFault, IsFaultless}
+use Rattle.hz_text.specs.ScriptFault.{looked_statements, is_unknown, has_unknown, has_twice, has_no_bit, is_start, assigns, IsMissing, IsOutOfOrder, line_beyond, Stands, ComesFirst, IsLeastFault, IsFaultless}
 use Rattle.hz_text.specs.Pass.{nodes_of, has_node_twice, least_unassigned, least_missing, first_out_of_order, last_beyond, first_of, first_fault}
 use Rattle.hz_text.proofs.NodeLemmas.{marks_of, length-marks, get_or-marks}
 

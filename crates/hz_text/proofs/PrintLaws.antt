@@ -1,10 +1,10 @@
 -- A printed script has no fault, and stands for the script.
-use Rattle.std.proofs.Common.{◌≡◌, ◌∙◌, ℕ, ◌+◌, ◌<◌, ◌≤◌, Bool, true, false, not, ◌||◌, cond, nat_eq, nat_le, ltb, List, [], ◌∷◌, ◌++◌, Option, Some, None, zero, suc, length, get_or, take, map, codes, refl, ap, sym, subst, arith, zero-add}
-use Rattle.std.specs.List.{list_any, flat_map, slice_index_or, slice_get, position, position_or_len, range_with_len, All}
-use Rattle.std.specs.Option.{option_map, IsSome, is_none}
+use Rattle.std.proofs.Common.{◌≡◌, ◌∙◌, ℕ, ◌+◌, ◌<◌, ◌≤◌, Bool, true, false, not, ◌||◌, cond, nat_eq, nat_le, ltb, List, [], ◌∷◌, Option, Some, None, zero, suc, length, get_or, map, codes, refl, ap, sym, subst, arith, zero-add}
+use Rattle.std.specs.List.{list_any, flat_map, slice_index_or, position, range_with_len, All}
+use Rattle.std.specs.Option.{option_map, IsSome}
 use Rattle.std.specs.Str.{bytes_eq}
 use Rattle.std.proofs.lemmas.Bool.Decides.{nat_tests}
-use Rattle.std.proofs.lemmas.List.{same_lists, length-map, get_or-map, length-take-le, get_or-take, get_or_default}
+use Rattle.std.proofs.lemmas.List.{same_lists, length-map, length-take-le, get_or-take, get_or_default}
 use Rattle.std.proofs.lemmas.List.Elements.{All-head, All-tail, All-weaker}
 use Rattle.std.proofs.lemmas.List.FromFn.{length-range_with_len, get_or-map-range_with_len}
 use Rattle.std.proofs.lemmas.List.Sums.{position_or_len_is}
@@ -19,13 +19,13 @@ use Rattle.hz_text.specs.declared.assigned.Assigned.{Assigned}
 use Rattle.hz_text.specs.declared.keyword.Keyword.{Keyword}
 use Rattle.hz_text.specs.declared.keyword.Keyword.TheVariants.{Start, Change}
 use Rattle.hz_text.specs.declared.fault.TextFault.{TextFault}
-use Rattle.hz_text.specs.Assignment.{Assignment, has_repeat, bit_of}
-use Rattle.hz_text.specs.Statement.{Statement, statement_of, statements_of}
-use Rattle.hz_text.specs.Lookup.{Looked, looked_of, looked_up, assigned_of}
-use Rattle.hz_text.specs.ScriptFault.{looked_statements, is_unknown, has_unknown, has_no_bit, is_start, is_node, assigns, IsFaultless}
-use Rattle.hz_text.specs.Pass.{nodes_of, has_node_twice, least_unassigned, least_missing, first_out_of_order, last_beyond, first_fault}
+use Rattle.hz_text.specs.Assignment.{has_repeat, bit_of}
+use Rattle.hz_text.specs.Statement.{statement_of}
+use Rattle.hz_text.specs.Lookup.{Looked, looked_up, assigned_of}
+use Rattle.hz_text.specs.ScriptFault.{looked_statements, has_unknown, has_no_bit, is_start, is_node, assigns, IsFaultless}
+use Rattle.hz_text.specs.Pass.{has_node_twice, least_unassigned, first_out_of_order, last_beyond, first_fault}
 use Rattle.hz_text.specs.ScriptValue.{ScriptOf, IsChange}
-use Rattle.hz_text.specs.ScriptText.{bit_at, assignment_to, IsScriptBy, IsScriptOf, IsScriptFor, IsValue}
+use Rattle.hz_text.specs.ScriptText.{bit_at, assignment_to, IsScriptOf, IsScriptFor, IsValue}
 use Rattle.hz_text.specs.Printed.{letter_of, statement_text, listed_from, script_text}
 use Rattle.hz_text.proofs.NodeLemmas.{marks_of, length-marks, get_or-marks}
 use Rattle.hz_text.proofs.BuildLemmas.{nodes_of-pairs, repeat_from_IsDistinct}
@@ -181,11 +181,11 @@ start-whole netlist script whole h =
     let all = map assignment_to (listed_from 0 script.start) in
     let inputs = netlist.inputs in
     position-nowhere not (marks_of all inputs) false (λ k l.
-      let low : k < inputs = omega (arith, l, length-marks all inputs) in
-      let long : inputs ≤ length script.start = omega (arith, h.nodes, whole.nodes) in
-      let listed : IsSome (get_or script.start k None) = rw (get_or-take inputs script.start k None low) at (h.inputs k None (omega (arith, low, length-take-le inputs script.start long))) in
-      let found = assigns-bit all k (rw (bit_at-listed 0 k k script.start (sym (zero-add k))) listed) in
-      rw (get_or-marks all inputs k false low, found) refl)
+    let low : k < inputs = omega (arith, l, length-marks all inputs) in
+    let long : inputs ≤ length script.start = omega (arith, h.nodes, whole.nodes) in
+    let listed : IsSome (get_or script.start k None) = rw (get_or-take inputs script.start k None low) at (h.inputs k None (omega (arith, low, length-take-le inputs script.start long))) in
+    let found = assigns-bit all k (rw (bit_at-listed 0 k k script.start (sym (zero-add k))) listed) in
+    rw (get_or-marks all inputs k false low, found) refl)
 
 length-sent : (changes : List (List (ℕ × Bool))) (line : ℕ) → length (changes_sent line changes) ≡ length changes
 length-sent [] line = refl
@@ -221,10 +221,10 @@ start_back netlist script h =
     let nodes = length netlist.names in
     same_lists _ _ (h.nodes ∙ sym (length-map (range_with_len 0 nodes) (bit_at all) ∙ length-range_with_len 0 nodes))
     (λ k d l.
-      let low : k < nodes = omega (arith, l, h.nodes) in
-      get_or_default script.start k d None l
-      ∙ sym (bit_at-listed 0 k k script.start (sym (zero-add k)))
-      ∙ sym (get_or-map-range_with_len (bit_at all) 0 nodes k k d low (zero-add k)))
+    let low : k < nodes = omega (arith, l, h.nodes) in
+    get_or_default script.start k d None l
+    ∙ sym (bit_at-listed 0 k k script.start (sym (zero-add k)))
+    ∙ sym (get_or-map-range_with_len (bit_at all) 0 nodes k k d low (zero-add k)))
 
 -- what was printed stands for the script
 pub printed-value : (netlist : Netlist) (script : ScriptOf) → IsCircuit netlist → IsScriptFor netlist script → IsValue netlist (script_text netlist script) script

@@ -1,19 +1,18 @@
 -- What holds of a text in which the passes find no fault.
-use Rattle.std.proofs.Common.{◌≡◌, ◌∙◌, ℕ, ◌+◌, ◌-◌, ◌<◌, ◌≤◌, Bool, true, false, not, ◌||◌, cond, nat_eq, nat_le, List, [], ◌∷◌, Option, Some, None, zero, suc, length, get_or, take, map, refl, ap, sym, subst, inl, inr, arith, zero-add}
-use Rattle.std.specs.List.{list_any, slice_get, range_with_len, All, AllZip}
+use Rattle.std.proofs.Common.{◌≡◌, ◌∙◌, ℕ, ◌<◌, ◌≤◌, Bool, true, false, ◌||◌, cond, nat_eq, nat_le, List, [], ◌∷◌, Option, Some, None, length, get_or, map, refl, ap, sym, subst, inl, inr, arith, zero-add}
+use Rattle.std.specs.List.{list_any, range_with_len, All}
 use Rattle.std.specs.Option.{option_map, IfSome, IsSome, IsSomeAnd, is_none}
 use Rattle.std.specs.Str.{bytes_eq}
 use Rattle.std.proofs.lemmas.List.Quantifiers.{position-Some}
-use Rattle.std.proofs.lemmas.List.Elements.{All-nil, All-cons, All-map, All-head, All-tail, All-get_or, All-from_get_or}
+use Rattle.std.proofs.lemmas.List.Elements.{All-nil, All-cons, All-map, All-head, All-tail}
 use Rattle.std.proofs.lemmas.List.{get_or-map, length-map, length-take-le, get_or-take}
 use Rattle.std.proofs.lemmas.List.FromFn.{length-range_with_len, get_or-map-range_with_len}
 use Rattle.std.proofs.lemmas.Bool.{cases_lt}
 use Rattle.std.specs.Prelude.{◌⊎◌, ◌==◌, if◌then◌else◌}
 use Rattle.std.proofs.lemmas.Bool.Decides.{nat_tests}
-use Rattle.std.proofs.lemmas.Option.{same_Some, none-some, slice_get-get_or}
+use Rattle.std.proofs.lemmas.Option.{none-some, slice_get-get_or}
 use Rattle.hz_core.specs.Netlist.{Netlist, IsCircuit, node_named}
-use Rattle.hz_line.specs.Line.{lines_of}
-use Rattle.hz_line.specs.Statement.{Numbered, first_line, numbered_statements, first_malformed}
+use Rattle.hz_line.specs.Statement.{Numbered, first_line}
 use Rattle.hz_text.specs.declared.assigned.Assigned.{Assigned}
 use Rattle.hz_text.specs.declared.entry.Entry.{Entry}
 use Rattle.hz_text.specs.declared.keyword.Keyword.{Keyword}
@@ -22,12 +21,12 @@ use Rattle.hz_text.specs.declared.fault.TextFault.{TextFault}
 use Rattle.hz_text.specs.declared.fault.TextFault.TheVariants.{Form, Unknown, Twice, Missing, Bit, Order, TooMany, Memory}
 use Rattle.hz_text.specs.Assignment.{Assignment, has_repeat}
 use Rattle.hz_text.specs.Statement.{Statement, statements_of}
-use Rattle.hz_text.specs.Lookup.{Looked, looked_of, looked_up, looked_by, assigned_of, held_by, entered}
+use Rattle.hz_text.specs.Lookup.{Looked, looked_up, assigned_of, held_by, entered}
 use Rattle.hz_text.specs.Reading.{IsRead, IsUnreadText}
-use Rattle.hz_text.specs.ScriptFault.{looked_statements, is_unknown, has_unknown, has_no_bit, is_start, is_start_word, is_node, assigns, IsFaultless, IsLeastFault, ComesFirst, number_of, place_of}
+use Rattle.hz_text.specs.ScriptFault.{looked_statements, is_unknown, has_unknown, has_no_bit, is_start, is_start_word, is_node, assigns, IsLeastFault, ComesFirst, number_of, place_of}
 use Rattle.hz_text.specs.Pass.{nodes_of, has_node_twice, AreBelow, least_unassigned, least_missing, first_out_of_order, last_beyond, first_of, first_fault, IsAnswer, IsPair, IsSound}
 use Rattle.hz_text.specs.ScriptValue.{ScriptOf, IsChange}
-use Rattle.hz_text.specs.ScriptText.{bit_at, bits_at, assignment_to, IsScriptBy, IsScriptOf, IsScriptFor}
+use Rattle.hz_text.specs.ScriptText.{bit_at, assignment_to, IsScriptOf, IsScriptFor}
 use Rattle.hz_text.specs.ScriptReading.{IsAccepted, IsRefusal}
 use Rattle.hz_text.proofs.FaultLaws.{known, or_parts, first_line-cons, unassigned-None, order-None, IsOrdered, looked_statements-read, first_fault-outcome, form-none, form-least, Outcome}
 use Rattle.hz_text.proofs.BuildLemmas.{nodes_of-pairs, IsDistinct-from_repeat}

@@ -1,5 +1,5 @@
 -- A script with one change more.
-use Rattle.std.proofs.Common.{◌≡◌, ℕ, ◌<◌, ◌++◌, ◌∷◌, [], List, Bool, length, arith}
+use Rattle.std.proofs.Common.{ℕ, ◌<◌, ◌++◌, ◌∷◌, [], List, Bool, length, arith}
 use Rattle.std.proofs.lemmas.List.Elements.{All-push}
 use Rattle.std.proofs.lemmas.List.{length_push}
 use Rattle.hz_text.specs.ScriptValue.{ScriptOf, IsScript, IsChange}

@@ -1,5 +1,5 @@
 -- The lines of a printed script are read as its statements.
-use Rattle.std.proofs.Common.{◌≡◌, ◌∙◌, ℕ, ◌+◌, ◌<◌, ◌≤◌, Bool, true, false, not, ◌&&◌, ◌||◌, ◌==◌, cond, nat_le, List, [], ◌∷◌, ◌++◌, Option, Some, None, zero, suc, length, get_or, map, codes, refl, ap, sym, subst, arith, append_assoc}
+use Rattle.std.proofs.Common.{◌≡◌, ◌∙◌, ℕ, ◌<◌, Bool, true, false, not, ◌&&◌, ◌||◌, ◌==◌, nat_le, List, [], ◌∷◌, ◌++◌, Some, suc, length, map, codes, refl, ap, arith, append_assoc}
 use Rattle.std.specs.List.{list_all, flat_map, slice_index_or, All}
 use Rattle.std.specs.Option.{option_map}
 use Rattle.std.proofs.lemmas.Bool.Decides.{nat_tests}
@@ -10,7 +10,7 @@ use Rattle.hz_line.specs.declared.bytes.Mark.TheVariants.{Equals}
 use Rattle.hz_line.specs.Byte.{class_of, is_letter}
 use Rattle.hz_line.specs.Line.{lines_of}
 use Rattle.hz_line.specs.Token.{TokenOf, WordOf, MarkOf, tokens_of, with_token, begins_in_word}
-use Rattle.hz_line.specs.Statement.{meaning_of, meaning_of_tokens, Means, Numbered, numbered_from, with_meaning, first_malformed, malformed_before}
+use Rattle.hz_line.specs.Statement.{meaning_of, Means, numbered_from, with_meaning, first_malformed, malformed_before}
 use Rattle.hz_line.proofs.WrittenLemmas.{tokens_of-equals, tokens_of-space, is_letter-separators, both, tokens_of-word_before, is_inline, lines_of-written}
 use Rattle.hz_text.specs.declared.keyword.Keyword.{Keyword}
 use Rattle.hz_text.specs.declared.keyword.Keyword.TheVariants.{Start, Change}

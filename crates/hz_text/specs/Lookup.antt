@@ -1,5 +1,5 @@
 -- Statements whose names are looked up in a circuit.
-use Rattle.std.specs.Prelude.{◌≡◌, ℕ, Bool, List, map, Option, Some, None}
+use Rattle.std.specs.Prelude.{◌≡◌, List, map, Option, None}
 use Rattle.std.specs.Option.{option_map}
 use Rattle.hz_core.specs.Netlist.{Netlist, node_named}
 use Rattle.hz_line.specs.Statement.{Numbered}

@@ -2,7 +2,7 @@
 use Rattle.std.specs.Prelude.{◌≡◌, ℕ, List, map, Option, Some, None}
 use Rattle.hz_core.specs.Netlist.{Netlist}
 use Rattle.hz_line.specs.Line.{lines_of}
-use Rattle.hz_line.specs.Statement.{Meaning, Nothing, Malformed, Means, meaning_of, numbered_statements, first_malformed}
+use Rattle.hz_line.specs.Statement.{Meaning, Nothing, Malformed, Means, numbered_statements, first_malformed}
 use Rattle.hz_text.specs.declared.statement.Held.{Held}
 use Rattle.hz_text.specs.declared.entry.Entry.{Entry}
 use Rattle.hz_text.specs.declared.assigned.Unread.{Unread}

@@ -1,6 +1,6 @@
 -- The faults of a script's text.
-use Rattle.std.specs.Prelude.{◌≡◌, ℕ, ◌<◌, ◌≤◌, Bool, true, false, not, ◌==◌, nat_eq, nat_le, List, [], ◌∷◌, map, filter, slice_get, Option, Some, None, is_none, ◌⊎◌}
-use Rattle.std.specs.List.{list_any, filter_map}
+use Rattle.std.specs.Prelude.{◌≡◌, ℕ, ◌<◌, ◌≤◌, Bool, true, false, not, nat_eq, nat_le, List, [], ◌∷◌, map, filter, slice_get, Option, Some, None, is_none, ◌⊎◌}
+use Rattle.std.specs.List.{list_any}
 use Rattle.std.specs.Option.{option_map}
 use Rattle.std.specs.Str.{bytes_eq}
 use Rattle.hz_core.specs.Netlist.{Netlist}

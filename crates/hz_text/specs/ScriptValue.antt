@@ -1,5 +1,5 @@
 -- Scripts as values: a start and changes.
-use Rattle.std.specs.Prelude.{ℕ, ◌<◌, ◌≤◌, Bool, true, List, length, map, All, Option, nat_eq}
+use Rattle.std.specs.Prelude.{ℕ, ◌<◌, ◌≤◌, Bool, List, length, map, All, Option, nat_eq}
 use Rattle.std.specs.List.{IsDistinct}
 
 -- A script. The start has one entry for each node: its bit, if it is listed. A change is the inputs that it assigns, in

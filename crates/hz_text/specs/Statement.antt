@@ -1,9 +1,9 @@
 -- The statements of scripts.
-use Rattle.std.specs.Prelude.{ℕ, Bool, true, false, List, [], ◌∷◌, codes, Option, Some, None, if◌then◌else◌}
+use Rattle.std.specs.Prelude.{ℕ, List, ◌∷◌, codes, Option, Some, None, if◌then◌else◌}
 use Rattle.std.specs.Option.{option_map}
 use Rattle.hz_line.specs.Keyword.{is_keyword}
 use Rattle.hz_line.specs.Statement.{Numbered, numbered_statements}
-use Rattle.hz_line.specs.Token.{TokenOf, WordOf, MarkOf}
+use Rattle.hz_line.specs.Token.{TokenOf, WordOf}
 use Rattle.hz_text.specs.declared.keyword.Keyword.{Keyword}
 use Rattle.hz_text.specs.declared.keyword.Keyword.TheVariants.{Start, Change}
 use Rattle.hz_text.specs.Assignment.{Assignment, assignments_of}

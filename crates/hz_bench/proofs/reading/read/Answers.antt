@@ -7,8 +7,8 @@ use Rattle.hz_bench.specs.Text.{Numbered}
 use Rattle.hz_bench.proofs.NetlistLemmas.{built-netlist_of, statement_list-numbered}
 use Rattle.hz_bench.proofs.reading.read.Goals as goal
 
-pub returns-in-Ok-clause-circuit : goal.returns-in-Ok-clause-circuit
-returns-in-Ok-clause-circuit c =
+pub returns-clause-circuit : goal.returns-clause-circuit
+returns-clause-circuit c =
     let entries = c.in_ok-entries.entries.items in
     let statements = sym (statement_list-numbered entries) ∙ ap (map (λ (numbered : Numbered). numbered.statement)) c.in_ok-entries.ensures.statements in
     c.in-Ok.ensures ∙ ap (λ (items : List Entry). built (statement_list items)) c.deref-2.ensures.value ∙ built-netlist_of (statement_list entries) ∙ ap netlist_of statements

@@ -1,14 +1,10 @@
-use Rattle.std.proofs.Common.{◌≡◌, ◌∙◌, ◌+◌, ◌-◌, ◌<◌, ◌++◌, ◌∷◌, [], ℕ, List, Bool, false, Option, Some, None, take, drop, get_or, set, length, map, refl, sym, ap, arith}
-use Rattle.std.specs.List.{All, filter_map}
-use Rattle.std.proofs.lemmas.List.{take_more, length-replicate}
-use Rattle.std.proofs.lemmas.List.Elements.{All-take, All-drop}
-use Rattle.hz_text.specs.declared.assigned.Assigned.{Assigned}
-use Rattle.hz_text.specs.declared.entry.Entry.{Entry}
-use Rattle.hz_text.specs.Lookup.{held_by, entered}
-use Rattle.hz_text.specs.Pass.{IsSound, pair_of}
-use Rattle.hz_text.specs.ScriptValue.{ScriptOf, IsChange}
-use Rattle.hz_text.specs.ScriptText.{bits_at, assignment_to, IsScriptBy}
-use Rattle.hz_text.proofs.BuildLemmas.{pairs_back, pairs-push, change_of, bits_at-none, bits_at-push, length-bits, new_at, repeat_from_IsDistinct, entry_sound, changes_step, changes_counted, whole_script}
+use Rattle.std.proofs.Common.{◌≡◌, ◌∙◌, length, map, ap, arith}
+use Rattle.std.specs.List.{filter_map}
+use Rattle.hz_text.specs.Lookup.{held_by}
+use Rattle.hz_text.specs.Pass.{pair_of}
+use Rattle.hz_text.specs.ScriptValue.{ScriptOf}
+use Rattle.hz_text.specs.ScriptText.{assignment_to}
+use Rattle.hz_text.proofs.BuildLemmas.{pairs_back, change_of, entry_sound, changes_step, changes_counted}
 use Rattle.hz_text.proofs.build.add_changes.Goals as goal
 
 pub add_change-requires-clause-change : goal.add_change-requires-clause-change

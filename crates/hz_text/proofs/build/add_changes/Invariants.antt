@@ -1,4 +1,4 @@
-use Rattle.std.proofs.Common.{◌≡◌, take, map, length}
+use Rattle.std.proofs.Common.{◌≡◌, take, map}
 use Rattle.hz_text.specs.Pass.{entered_all}
 use Rattle.hz_text.specs.ScriptText.{assignment_to}
 use Rattle.hz_text.proofs.build.add_changes.Given as goal

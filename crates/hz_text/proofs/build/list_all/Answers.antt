@@ -1,14 +1,7 @@
-use Rattle.std.proofs.Common.{◌≡◌, ◌∙◌, ◌+◌, ◌-◌, ◌<◌, ◌++◌, ◌∷◌, [], ℕ, List, Bool, false, Some, None, take, drop, get_or, set, length, map, refl, sym, ap, arith}
-use Rattle.std.specs.List.{All}
-use Rattle.std.proofs.lemmas.List.{take_more, length-replicate}
-use Rattle.std.proofs.lemmas.List.Elements.{All-take, All-drop}
-use Rattle.hz_text.specs.declared.assigned.Assigned.{Assigned}
-use Rattle.hz_text.specs.declared.entry.Entry.{Entry}
-use Rattle.hz_text.specs.Lookup.{held_by, entered}
-use Rattle.hz_text.specs.Pass.{IsSound, pair_of}
-use Rattle.hz_text.specs.ScriptValue.{ScriptOf, IsChange}
-use Rattle.hz_text.specs.ScriptText.{bits_at, assignment_to, IsScriptBy}
-use Rattle.hz_text.proofs.BuildLemmas.{pairs_back, pairs-push, change_of, bits_at-none, bits_at-push, length-bits, new_at, repeat_from_IsDistinct, entry_sound, changes_step, changes_counted, whole_script}
+use Rattle.std.proofs.Common.{◌∙◌, false, take, get_or, length, refl, ap, arith}
+use Rattle.std.proofs.lemmas.List.{take_more}
+use Rattle.hz_text.specs.ScriptValue.{ScriptOf}
+use Rattle.hz_text.proofs.BuildLemmas.{bits_at-none, bits_at-push, length-bits, new_at, repeat_from_IsDistinct}
 use Rattle.hz_text.proofs.build.list_all.Goals as goal
 
 pub loop-node-init : goal.loop-node-init

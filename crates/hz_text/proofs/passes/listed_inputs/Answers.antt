@@ -1,8 +1,6 @@
-use Rattle.std.proofs.Common.{◌≡◌, ◌∙◌, ◌+◌, ◌++◌, ◌∷◌, [], Bool, None, false, replicate, take, get_or, length, map, sym, ap, arith, rules}
-use Rattle.std.specs.List.{range_with_len}
+use Rattle.std.proofs.Common.{◌≡◌, ◌∙◌, ◌+◌, None, false, replicate, take, get_or, length, sym, ap, arith, rules}
 use Rattle.std.proofs.lemmas.List.{take_more}
 use Rattle.hz_text.specs.declared.assigned.Assigned.{Assigned}
-use Rattle.hz_text.specs.ScriptFault.{assigns}
 use Rattle.hz_text.proofs.NodeLemmas.{marks_of, marks_of-none, marks_of-push, length-marks, written_whole}
 use Rattle.hz_text.proofs.passes.listed_inputs.Goals as goal
 

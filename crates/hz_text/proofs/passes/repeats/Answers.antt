@@ -1,10 +1,10 @@
-use Rattle.std.proofs.Common.{◌≡◌, ◌≢◌, ◌<◌, ◌∙◌, ◌+◌, ◌++◌, ◌∷◌, [], ℕ, List, Bool, true, Some, None, nat_eq, take, drop, get_or, length, set, sym, ap, arith, take-append-drop}
+use Rattle.std.proofs.Common.{◌≡◌, ◌<◌, ◌∙◌, ◌+◌, ◌++◌, ◌∷◌, [], ℕ, List, true, Some, None, nat_eq, take, drop, get_or, length, sym, ap, arith, take-append-drop}
 use Rattle.std.specs.Option.{IfSome}
 use Rattle.std.proofs.lemmas.List.{take_more}
 use Rattle.hz_text.specs.declared.assigned.Assigned.{Assigned}
 use Rattle.hz_text.specs.Assignment.{has_repeat}
 use Rattle.hz_text.specs.Pass.{nodes_of, AreBelow}
-use Rattle.hz_text.proofs.NodeLemmas.{AreMarked, AreMarked-none, AreMarked-push, AreMarked-push_none, has_repeat-marked}
+use Rattle.hz_text.proofs.NodeLemmas.{AreMarked, AreMarked-push, AreMarked-push_none, has_repeat-marked}
 use Rattle.hz_text.proofs.passes.repeats.Goals as goal
 use Rattle.hz_text.proofs.passes.repeats.Goals.{in-Some+else-marks-node, in_default}
 

@@ -1,4 +1,4 @@
-use Rattle.std.proofs.Common.{length, arith, rules}
+use Rattle.std.proofs.Common.{length}
 use Rattle.hz_text.proofs.PieceLemmas.{slice_get-pieces, ends-within}
 use Rattle.hz_text.proofs.script.piece.Goals as goal
 

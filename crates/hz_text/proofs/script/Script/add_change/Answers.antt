@@ -1,7 +1,7 @@
-use Rattle.std.proofs.Common.{◌≡◌, ◌∙◌, ◌<◌, ◌≤◌, ◌++◌, ◌∷◌, [], refl, sym, ap, length, arith, length-append}
-use Rattle.hz_text.specs.Pieces.{pieces, AreEnds}
+use Rattle.std.proofs.Common.{◌≡◌, ◌∙◌, ◌<◌, ◌++◌, ◌∷◌, [], refl, ap, length, arith, length-append}
+use Rattle.hz_text.specs.Pieces.{pieces}
 use Rattle.hz_text.specs.Inside.{script_of}
-use Rattle.hz_text.specs.ScriptValue.{ScriptOf, IsScript, IsChange}
+use Rattle.hz_text.specs.ScriptValue.{IsChange}
 use Rattle.hz_text.proofs.PieceLemmas.{pieces-grown, AreEnds-push}
 use Rattle.hz_text.proofs.ScriptLemmas.{IsScript-add}
 use Rattle.hz_text.proofs.script.Script.add_change.Goals as goal

@@ -1,5 +1,4 @@
-use Rattle.std.proofs.Common.{◌<◌, length, arith}
-use Rattle.hz_text.specs.ScriptValue.{ScriptOf}
+use Rattle.std.proofs.Common.{arith}
 use Rattle.hz_text.proofs.PieceLemmas.{length-pieces}
 use Rattle.hz_text.proofs.script.Script.change.Goals as goal
 
