@@ -1,22 +1,29 @@
 -- What comes of each part of a job, put together.
-use Rattle.std.proofs.Common.{◌≡◌, ℕ, ◌<◌, ◌≤◌, ◌⊎◌, inl, inr, Bool, List, [], ◌∷◌, length, take, All, Option, Some, None, IsSome, IfSome, Ok, Err, refl, subst, sym, ◌∙◌, ap, slice_get}
+use Rattle.std.proofs.Common.{◌≡◌, ◌≢◌, ℕ, ◌<◌, ◌≤◌, ◌⊎◌, inl, inr, Bool, List, [], ◌∷◌, length, take, All, Option, Some, None, IsSome, IfSome, Ok, Err, refl, subst, sym, ◌∙◌, ap, slice_get, get_or, arith}
+use Rattle.std.proofs.lemmas.Bool.{false≢true}
 use Rattle.std.proofs.lemmas.List.{length-take-le, get_or-take}
 use Rattle.std.proofs.lemmas.List.Elements.{All-get_or}
 use Rattle.std.proofs.lemmas.Option.{slice_get-get_or}
 use Rattle.hz_outside.specs.Counts.{Rose}
 use Rattle.hz_outside.specs.declared.fault.Place.{Place}
+use Rattle.hz_outside.specs.declared.fault.Place.TheVariants.{First, Second}
 use Rattle.hz_outside.specs.declared.fault.LoadFault.{LoadFault}
 use Rattle.hz_outside.specs.declared.fault.LoadFault.TheVariants as load
 use Rattle.hz_core.specs.Netlist.{Netlist}
-use Rattle.hz_net.specs.Starts.{ListsInputs, IsAcceptedStart}
+use Rattle.hz_net.specs.Starts.{ListsInputs, IsAcceptedStart, IsLeastOpen, IsLeastUnstable}
+use Rattle.hz_pass.specs.Completed.{IsStartFault}
+use Rattle.hz_pass.specs.declared.completed_start.StartFault.{StartFault}
+use Rattle.hz_pass.specs.declared.completed_start.StartFault.TheVariants as start
+use Rattle.hz_bench.specs.declared.fault.BenchFault.{BenchFault}
+use Rattle.hz_bench.specs.declared.fault.BenchFault.TheVariants as bench
+use Rattle.hz_bench.specs.Answer.{answer_of, IsAnswerOf}
 use Rattle.hz_text.specs.declared.fault.TextFault.{TextFault}
-use Rattle.hz_text.specs.declared.fault.TextFault.TheVariants as fault
+use Rattle.hz_text.specs.declared.fault.TextFault.TheVariants as reading
 use Rattle.hz_text.specs.ScriptFault.{IsLeastFault}
 use Rattle.hz_text.specs.ScriptReading.{IsRefusal}
-use Rattle.hz_text.specs.ScriptValue.{ScriptOf}
 use Rattle.hz_top.specs.declared.status.Status.{Status}
 use Rattle.hz_top.specs.declared.status.Status.TheVariants as status
-use Rattle.hz_top.specs.Outcome.{LoadSays, most_bytes, Unread, Told}
+use Rattle.hz_top.specs.Outcome.{LoadSays, most_bytes, Unread, Told, told_by, SecondComes}
 use Rattle.hz_top.specs.Refusal.{unread_line, long_line}
 
 -- a load that failed has the line of a file that was not read
@@ -35,7 +42,7 @@ Unread-load told place name load.Memory failed long over own text says = elim sa
 
 -- an entry that lists its node has a bit
 pub listed-bit : (entry : Option Bool) → IsSome entry → (bit : Bool) × (entry ≡ Some bit)
-listed-bit None some = elim some [ ]
+listed-bit None some = absurd (false≢true some)
 listed-bit (Some bit) some = (bit, refl)
 
 -- a start whose first entries have bits lists each input
@@ -46,4 +53,51 @@ ListsInputs-front netlist listed within all input below =
     let some : IsSome (get_or (take netlist.inputs listed) input None) = All-get_or IsSome (take netlist.inputs listed) input None here all in
     let is : get_or (take netlist.inputs listed) input None ≡ get_or listed input None = get_or-take netlist.inputs listed input None below in
     let found = listed-bit (get_or listed input None) (subst IsSome is some) in
-    (found.0, slice_get-get_or listed input None arith ∙ ap Some found.1)
+    (found.0, slice_get-get_or listed input None (omega (arith, below, within)) ∙ ap Some found.1)
+
+-- a start that is open at a gate is refused with its line
+pub start-open : (netlist : Netlist) (listed named : List (Option Bool)) (fault : StartFault) (gate : ℕ) → listed ≡ named → fault ≡ start.Open gate → IsStartFault netlist listed fault → IsLeastOpen netlist named gate
+start-open netlist listed named fault gate same is says =
+    subst (λ (list : List (Option Bool)). IsLeastOpen netlist list gate) same (subst (IsStartFault netlist listed) is says)
+
+-- and one that is unstable at a gate with its own
+pub start-unstable : (netlist : Netlist) (listed named : List (Option Bool)) (fault : StartFault) (gate : ℕ) → listed ≡ named → fault ≡ start.Unstable gate → IsStartFault netlist listed fault → IsLeastUnstable netlist named gate
+start-unstable netlist listed named fault gate same is says =
+    subst (λ (list : List (Option Bool)). IsLeastUnstable netlist list gate) same (subst (IsStartFault netlist listed) is says)
+
+-- an accepted start, by other names
+pub start-accepted : (netlist : Netlist) (listed named : List (Option Bool)) (state slice : List Bool) → listed ≡ named → slice ≡ state → IsAcceptedStart netlist listed state → IsAcceptedStart netlist named slice
+start-accepted netlist listed named state slice same is accepted =
+    subst (λ (list : List (Option Bool)). IsAcceptedStart netlist list slice) same (subst (IsAcceptedStart netlist listed) (sym is) accepted)
+
+-- what the second file comes to, seen from before the load of the first: that load left the second place as it was
+pub SecondComes-before : {S : Type 0} (held : S → Option (List ℕ → List ℕ)) (faults longs : S → Place → ℕ) (was mid now : S) (netlist : Netlist) (name : List ℕ) → held mid ≡ held was → faults mid Second ≡ faults was Second → longs mid Second ≡ longs was Second → (own : Status) (text : List ℕ) → SecondComes (told_by held faults longs mid now) netlist name own text → SecondComes (told_by held faults longs was now) netlist name own text
+SecondComes-before held faults longs was mid now netlist name same few short own text (inl (inl (rose, says))) =
+    inl (inl (subst (λ (count : ℕ). Rose count (faults now Second)) few rose, says))
+SecondComes-before held faults longs was mid now netlist name same few short own text (inl (inr (rose, over, says))) =
+    inl (inr (subst (λ (count : ℕ). Rose count (longs now Second)) short rose, subst (λ (told : Option (List ℕ → List ℕ)). IfSome told (λ bytes_of. most_bytes < length (bytes_of name))) same over, says))
+SecondComes-before held faults longs was mid now netlist name same few short own text (inr (bytes, (is, most), says)) =
+    inr (bytes, (subst (λ (told : Option (List ℕ → List ℕ)). IfSome told (λ bytes_of. bytes ≡ bytes_of name)) same is, most), says)
+
+-- a refusal of a netlist that is not for want of memory is the answer to its text
+pub netlist-refused : (text : List ℕ) (fault : BenchFault) → IsAnswerOf text fault → fault ≢ bench.Memory → answer_of text ≡ Some fault
+netlist-refused text (bench.Form line) answer other = answer
+netlist-refused text (bench.Name line) answer other = answer
+netlist-refused text (bench.KindUnknown line) answer other = answer
+netlist-refused text (bench.Clocked line) answer other = answer
+netlist-refused text (bench.Twice line first) answer other = answer
+netlist-refused text (bench.Pins line count) answer other = answer
+netlist-refused text (bench.Undefined line) answer other = answer
+netlist-refused text (bench.TooMany variables) answer other = answer
+netlist-refused text bench.Memory answer other = absurd (other refl)
+
+-- a refusal of a script that is not for want of memory is the least fault of its text
+pub script-refused : (netlist : Netlist) (text : List ℕ) (fault : TextFault) → IsRefusal netlist text fault → fault ≢ reading.Memory → IsLeastFault netlist text fault
+script-refused netlist text (reading.Form line) least other = least
+script-refused netlist text (reading.Unknown line) least other = least
+script-refused netlist text (reading.Twice line) least other = least
+script-refused netlist text (reading.Missing node) least other = least
+script-refused netlist text (reading.Bit line) least other = least
+script-refused netlist text (reading.Order line) least other = least
+script-refused netlist text (reading.TooMany line) least other = least
+script-refused netlist text reading.Memory least other = absurd (other refl)

@@ -1,10 +1,14 @@
 -- What the passes answer is a finding.
-use Rattle.std.proofs.Common.{◌≡◌, ℕ, ◌+◌, ◌≤◌, Bool, List, length, sym, ap, ◌∙◌, subst}
+use Rattle.std.proofs.Common.{◌≡◌, ℕ, ◌+◌, ◌≤◌, Bool, List, length, sym, ap, ◌∙◌, subst, arith, take}
+use Rattle.std.proofs.lemmas.List.{length-take-le}
 use Rattle.hz_core.specs.declared.tri.Tri.{Tri}
 use Rattle.hz_core.specs.Ternary.{Refines, AllBelow}
 use Rattle.hz_net.specs.Network.{Driver}
 use Rattle.hz_net.specs.Passes.{excitations, algorithm_a, algorithm_b, AreRounds}
-use Rattle.hz_net.proofs.Sequences.{AllBelow-closed, closed-result}
+use Rattle.hz_core.specs.Netlist.{Netlist, IsCircuit, variable_count}
+use Rattle.hz_net.specs.Network.{network_of}
+use Rattle.hz_net.proofs.Places.{length-network_of}
+use Rattle.hz_net.proofs.Sequences.{AllBelow-closed, closed-result, length-algorithm_a, length-algorithm_b}
 use Rattle.hz_gmw.proofs.CoverA.{covers}
 use Rattle.hz_gmw.proofs.CoverB.{covers_outcomes}
 use Rattle.hz_top.specs.Finding.{IsFinding}
@@ -28,3 +32,21 @@ is-finding net input start a copy b rounds_a rounds_b long a_are a_is a_few same
       b_bound = b_few;
       b_covers = λ state outcome. subst (Refines state) (sym (from_a ∙ ap (λ (first : List Tri). algorithm_b net input first rounds_b) a_is)) (covers_outcomes net input start state rounds_a rounds_b long a_are outcome);
     }
+
+-- the results have a value for each variable
+pub long-a : (net : List Driver) (input start : List Bool) (a : List Tri) (rounds_a : ℕ) (b : List Tri) (rounds_b : ℕ) → length start ≡ length net → IsFinding net input start a rounds_a b rounds_b → length a ≡ length net
+long-a net input start a rounds_a b rounds_b long found = ap length found.a_result ∙ length-algorithm_a net input start long rounds_a
+
+pub long-b : (net : List Driver) (input start : List Bool) (a : List Tri) (rounds_a : ℕ) (b : List Tri) (rounds_b : ℕ) → length start ≡ length net → IsFinding net input start a rounds_a b rounds_b → length b ≡ length net
+long-b net input start a rounds_a b rounds_b long found =
+    ap length found.b_result ∙ length-algorithm_b net input a (long-a net input start a rounds_a b rounds_b long found) rounds_b
+
+-- a state begins with the inputs
+pub inputs-bound : (netlist : Netlist) (state : List Bool) → IsCircuit netlist → length state ≡ length (network_of netlist) → netlist.inputs ≤ length state
+inputs-bound netlist state is long =
+    omega (arith, length-network_of netlist is, is.nodes, long)
+
+-- a state begins with a bit for each input
+pub front-long : (netlist : Netlist) (state : List Bool) (inputs : ℕ) → IsCircuit netlist → length state ≡ length (network_of netlist) → inputs ≡ netlist.inputs → length (take inputs state) ≡ netlist.inputs
+front-long netlist state inputs is long are =
+    rw are (length-take-le netlist.inputs state (inputs-bound netlist state is long))

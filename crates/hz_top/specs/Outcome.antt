@@ -1,5 +1,5 @@
 -- What a job comes to, in the order of work: the status and the text that is written.
-use Rattle.std.specs.Prelude.{◌≡◌, ℕ, ◌<◌, ◌≤◌, ◌⊎◌, Bool, List, [], ◌∷◌, length, take, fold, slice_set, Option, Some, None, IfSome}
+use Rattle.std.specs.Prelude.{◌≡◌, ◌≢◌, ℕ, ◌<◌, ◌≤◌, ◌⊎◌, Bool, List, [], ◌∷◌, length, take, fold, slice_set, Option, Some, None, IfSome}
 use Rattle.hz_outside.specs.Counts.{Rose}
 use Rattle.hz_outside.specs.Written.{joined}
 use Rattle.hz_outside.specs.declared.fault.Place.{Place}
@@ -11,10 +11,12 @@ use Rattle.hz_core.specs.Netlist.{Netlist}
 use Rattle.hz_net.specs.Network.{network_of}
 use Rattle.hz_net.specs.Starts.{IsAcceptedStart, IsLeastOpen, IsLeastUnstable}
 use Rattle.hz_bench.specs.declared.fault.BenchFault.{BenchFault}
+use Rattle.hz_bench.specs.declared.fault.BenchFault.TheVariants as bench
 use Rattle.hz_bench.specs.Answer.{answer_of}
 use Rattle.hz_bench.specs.Netlist.{netlist_of}
 use Rattle.hz_bench.specs.Text.{statements_of}
 use Rattle.hz_text.specs.declared.fault.TextFault.{TextFault}
+use Rattle.hz_text.specs.declared.fault.TextFault.TheVariants as reading
 use Rattle.hz_text.specs.ScriptFault as script
 use Rattle.hz_text.specs.ScriptText.{IsValue}
 use Rattle.hz_text.specs.ScriptValue.{ScriptOf}
@@ -75,6 +77,14 @@ abbrev pub LoadSays : Place → LoadFault → Status → List ℕ → Type 0
 LoadSays place load.Failed own text = Says status.File (unread_line place) own text
 LoadSays place load.TooLong own text = Says status.TooLong (long_line place) own text
 LoadSays place load.Memory own text = ⊥
+
+-- what is written of a fault of a netlist's text: for want of memory nothing
+abbrev pub NetlistSays : BenchFault → Status → List ℕ → Type 0
+NetlistSays fault own text = (fault ≢ bench.Memory) × Says status.Netlist (netlist_line fault) own text
+
+-- what is written of a fault of a script's text: for want of memory nothing
+abbrev pub TextSays : Netlist → TextFault → Status → List ℕ → Type 0
+TextSays netlist fault own text = (fault ≢ reading.Memory) × Says status.Text (script_line netlist fault) own text
 
 -- the bytes are those of the file, where they are told, and not too many
 abbrev pub IsFile : Told → List ℕ → List ℕ → Type 0

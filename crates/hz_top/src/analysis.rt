@@ -1,9 +1,10 @@
 //! The job `analyse`: two files, a start, and what its changes may do.
 ghost use Rattle.std.specs.Prelude.{◌≡◌, ◌≤◌, length};
 ghost use Rattle.hz_outside.specs.declared.fault.Place.TheVariants.{First, Second};
+ghost use Rattle.hz_core.specs.Netlist.{IsCircuit};
 ghost use Rattle.hz_text.specs.ScriptText.{IsScriptFor};
 ghost use Rattle.hz_top.specs.Answer.{Answers};
-ghost use Rattle.hz_top.specs.Outcome.{most_bytes, told_by, LoadSays, FilesCome, SecondComes, SecondTextComes, ScriptComes};
+ghost use Rattle.hz_top.specs.Outcome.{most_bytes, told_by, LoadSays, NetlistSays, TextSays, FilesCome, SecondComes, SecondTextComes, ScriptComes};
 
 use crate::refusal::{
     put_long, put_netlist_fault, put_open, put_script_fault, put_sequence, put_unread, put_unstable,
@@ -39,8 +40,7 @@ pub(crate) fn analyse<F: Files, K: Sink>(
     };
     let circuit = match hz_bench::read(alloc, text.as_slice()) {
         Ok(circuit) => circuit,
-        Err(BenchFault::Memory) => return Status::Memory,
-        Err(fault) => return status_after(put_netlist_fault(out, fault), Status::Netlist),
+        Err(fault) => return refuse_netlist(out, fault),
     };
     let Ok(net) = Net::build(alloc, circuit) else {
         return Status::Memory;
@@ -56,6 +56,26 @@ fn refuse_load<K: Sink>(out: &mut K, place: Place, fault: LoadFault) -> Status
         LoadFault::Failed => status_after(put_unread(out, place), Status::File),
         LoadFault::TooLong => status_after(put_long(out, place), Status::TooLong),
         LoadFault::Memory => Status::Memory,
+    }
+}
+
+// Writes why a text is no netlist.
+fn refuse_netlist<K: Sink>(out: &mut K, fault: BenchFault) -> Status
+    ensures { Answers K.written K.faults (NetlistSays fault) out.old out.new result }
+{
+    match fault {
+        BenchFault::Memory => Status::Memory,
+        _ => status_after(put_netlist_fault(out, fault), Status::Netlist),
+    }
+}
+
+// Writes why a text is no script of a network's circuit.
+fn refuse_text<K: Sink>(out: &mut K, net: &Net, fault: TextFault) -> Status
+    ensures { Answers K.written K.faults (TextSays net.now fault) out.old out.new result }
+{
+    match fault {
+        TextFault::Memory => Status::Memory,
+        _ => status_after(put_script_fault(out, net, fault), Status::Text),
     }
 }
 
@@ -84,14 +104,14 @@ fn analyse_text<K: Sink>(alloc: Global, net: &Net, text: &[u8], out: &mut K) -> 
 {
     match read_script(alloc, net.circuit(), text) {
         Ok(script) => analyse_script(alloc, net, &script, out),
-        Err(TextFault::Memory) => Status::Memory,
-        Err(fault) => status_after(put_script_fault(out, net, fault), Status::Text),
+        Err(fault) => refuse_text(out, net, fault),
     }
 }
 
 // Analyses a script on a network.
 fn analyse_script<K: Sink>(alloc: Global, net: &Net, script: &Script, out: &mut K) -> Status
-    requires { IsScriptFor net.now script.now }
+    requires circuit { IsCircuit net.now }
+    requires script { IsScriptFor net.now script.now }
     ensures { Answers K.written K.faults (ScriptComes net.now script.now) out.old out.new result }
 {
     if script.changes() > 1 {

@@ -6,7 +6,7 @@ ghost use Rattle.hz_top.specs.Job.{job_of};
 ghost use Rattle.hz_top.specs.Outcome.{told_by, JobComes, MayLoad};
 
 use crate::analysis::analyse;
-use crate::job::{Job, read_job};
+use crate::job::read_job;
 use crate::refusal::put_words;
 use crate::status::{Status, status_after};
 use hz_outside::{Files, Sink};
@@ -28,7 +28,7 @@ pub fn run<F: Files, K: Sink>(
         out.old out.new result }
 {
     match read_job(words) {
-        Some(Job::Analyse { first, second }) => analyse(alloc, first, second, files, out),
+        Some(asked) => analyse(alloc, asked.first, asked.second, files, out),
         None => status_after(put_words(out), Status::Words),
     }
 }

@@ -1,18 +1,24 @@
-use Rattle.std.proofs.Common.{◌≡◌, ◌≤◌, length, take, sym, ◌∙◌, ap, arith}
-use Rattle.std.proofs.lemmas.List.{length-take-le}
+use Rattle.std.proofs.Common.{◌≡◌, length, take, sym, ◌∙◌, ap}
+use Rattle.hz_core.specs.Netlist.{Netlist}
 use Rattle.hz_net.specs.Network.{network_of}
-use Rattle.hz_net.proofs.Places.{length-network_of}
-use Rattle.hz_top.proofs.Findings.{long-a, long-b, inputs-bound}
+use Rattle.hz_top.proofs.Findings.{long-a, long-b, front-long}
 use Rattle.hz_top.proofs.reporting.report_change.Goals as goal
 
 pub slice_bounds-input_after-end : goal.slice_bounds-input_after-end
-slice_bounds-input_after-end g c = sym (length-take-le c.inputs-inputs.result c.args.start.now (inputs-bound c.args.net.now c.args.start.now c.inputs-inputs.result ? ?))
+slice_bounds-input_after-end g c =
+    let inputs : c.inputs-inputs.result ≡ c.args.net.now.inputs = c.inputs-inputs.ensures.inputs ∙ ap (λ (n : Netlist). n.inputs) c.circuit.ensures.same in
+    inputs ∙ sym (front-long c.args.net.now c.args.start.now c.inputs-inputs.result c.circuit.ensures.circuit c.requires.start inputs)
 
 pub input_after-requires : goal.input_after-requires
-input_after-requires g c = ?
+input_after-requires g c k d here =
+    let inputs : c.inputs-inputs.result ≡ c.args.net.now.inputs = c.inputs-inputs.ensures.inputs ∙ ap (λ (n : Netlist). n.inputs) c.circuit.ensures.same in
+    rw (front-long c.args.net.now c.args.start.now c.inputs-inputs.result c.circuit.ensures.circuit c.requires.start inputs) (c.requires.change k d here)
 
 pub find-requires-clause-input : goal.find-requires-clause-input
-find-requires-clause-input g c = ?
+find-requires-clause-input g c =
+    let inputs : c.inputs-inputs.result ≡ c.args.net.now.inputs = c.inputs-inputs.ensures.inputs ∙ ap (λ (n : Netlist). n.inputs) c.circuit.ensures.same in
+    ap length c.as_slice.ensures.value ∙ c.in-Ok.ensures.long
+    ∙ front-long c.args.net.now c.args.start.now c.inputs-inputs.result c.circuit.ensures.circuit c.requires.start inputs
 
 pub write_report-requires-clause-a : goal.write_report-requires-clause-a
 write_report-requires-clause-a g c = long-a _ _ _ _ _ _ _ c.requires.start c.in-Ok-find.ensures
