@@ -18,6 +18,8 @@ mod refusal;
 mod reporting;
 mod running;
 mod status;
+#[cfg(test)]
+mod tests;
 
 pub use analysis::MAX_BYTES;
 pub use running::run;

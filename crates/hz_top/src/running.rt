@@ -16,12 +16,7 @@ use std::alloc::Global;
 ///
 /// The words are those after the program's name. The files are loaded by their names, the first one at the first place
 /// and the second at the second, each at most once. The text goes into the sink, line by line; a refusal is one line.
-pub fn run<F: Files, K: Sink>(
-    alloc: Global,
-    words: &[String],
-    files: &mut F,
-    out: &mut K,
-) -> Status
+pub fn run<F: Files, K: Sink>(alloc: Global, words: &[String], files: &mut F, out: &mut K) -> Status
     requires { MayLoad (F.granted files.old) (job_of (map string_bytes words.now)) }
     ensures answer { Answers K.written K.faults
         (JobComes (told_by F.held F.faults F.longs files.old files.new) (job_of (map string_bytes words.now)))

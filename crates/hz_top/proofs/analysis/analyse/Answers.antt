@@ -17,8 +17,11 @@ pub returns-in-Err-read : goal.returns-in-Err-read
 returns-in-Err-read g c =
     let told = told_by g.F.Files.held g.F.Files.faults g.F.Files.longs c.args.files.now c.load.new.self in
     Answers-more g.K.Sink.written g.K.Sink.faults (NetlistSays c.in-Err-read.fault) (FilesCome told c.args.first.now c.args.second.now) c.args.out.now c.refuse_netlist.new.out c.refuse_netlist.result
-    (λ own text says. inr (c.as_slice.result.now, (rw c.as_slice.ensures.value c.in-Ok.ensures.bytes, rw c.as_slice.ensures.len c.in-Ok.ensures.short),
-    inl (c.in-Err-read.fault, netlist-refused c.as_slice.result.now c.in-Err-read.fault c.in-Err-read.ensures.fault says.0, says.1))) c.refuse_netlist.ensures
+    (λ own text says. inr (
+      c.as_slice.result.now,
+      (rw c.as_slice.ensures.value c.in-Ok.ensures.bytes, rw c.as_slice.ensures.len c.in-Ok.ensures.short),
+      inl (c.in-Err-read.fault, netlist-refused c.as_slice.result.now c.in-Err-read.fault c.in-Err-read.ensures.fault says.0, says.1),
+    )) c.refuse_netlist.ensures
 
 pub returns : goal.returns
 returns g c =
@@ -29,6 +32,12 @@ returns g c =
     let name = c.args.second.now in
     Answers-more g.K.Sink.written g.K.Sink.faults (SecondComes (told_by held faults longs c.load.new.self now) c.in-Ok-build.net name)
     (FilesCome (told_by held faults longs c.args.files.now now) c.args.first.now name) c.args.out.now c.analyse_second.new.out c.analyse_second.result
-    (λ own text says. inr (c.as_slice.result.now, (rw c.as_slice.ensures.value c.in-Ok.ensures.bytes, rw c.as_slice.ensures.len c.in-Ok.ensures.short),
-    inr (c.in-Ok-read.ensures.faultless, SecondComes-before held faults longs c.args.files.now c.load.new.self now _ name c.load.ensures.same_files c.load.ensures.other_faults c.load.ensures.other_longs own text
-    (subst (λ (netlist : Netlist). SecondComes (told_by held faults longs c.load.new.self now) netlist name own text) (c.in-Ok-build.ensures.ok ∙ c.in-Ok-read.ensures.circuit) says)))) c.analyse_second.ensures
+    (λ own text says. inr (
+      c.as_slice.result.now,
+      (rw c.as_slice.ensures.value c.in-Ok.ensures.bytes, rw c.as_slice.ensures.len c.in-Ok.ensures.short),
+      inr (
+        c.in-Ok-read.ensures.faultless,
+        SecondComes-before held faults longs c.args.files.now c.load.new.self now _ name c.load.ensures.same_files c.load.ensures.other_faults c.load.ensures.other_longs own text
+            (subst (λ (netlist : Netlist). SecondComes (told_by held faults longs c.load.new.self now) netlist name own text) (c.in-Ok-build.ensures.ok ∙ c.in-Ok-read.ensures.circuit) says),
+      ),
+    )) c.analyse_second.ensures

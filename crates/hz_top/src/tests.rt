@@ -1,0 +1,164 @@
+//! Whole calls over files and a sink in memory, with ample memory.
+
+use super::{Status, run};
+use hz_outside::{MemFiles, MemSink};
+use std::alloc::{AllocError, Global};
+use std::test::Fail;
+
+// The words after the program's name.
+fn words_of(alloc: Global, words: &[&str]) -> Result<Vec<String>, AllocError> {
+    let mut all = Vec::new(alloc);
+    for word in words {
+        all.push(String::from_str(alloc, word)?)?;
+    }
+    Ok(all)
+}
+
+// Runs a job over two texts. The load and the put of these numbers fail, and of number 0 none does.
+fn told(
+    alloc: Global,
+    job: &str,
+    netlist: &str,
+    script: &str,
+    load: u64,
+    put: u64,
+) -> Result<(Status, MemSink), Fail> {
+    let mut files = MemFiles::new(alloc);
+    files.add("n", netlist.as_bytes())?;
+    files.add("s", script.as_bytes())?;
+    files.fail(load)?;
+    let mut out = MemSink::new(alloc);
+    out.fail(put, 3)?;
+    let words = words_of(alloc, &[job, "n", "s"])?;
+    let status = run(alloc, words.as_slice(), &mut files, &mut out);
+    Ok((status, out))
+}
+
+// The NOR latch.
+const LATCH: &str = "INPUT(r)\nINPUT(s)\nOUTPUT(q)\nq = NOR(r, qb)\nqb = NOR(s, q)\n";
+
+// The smallest of the ISCAS-85 benchmark circuits.
+const C17: &str = "INPUT(1)\nINPUT(2)\nINPUT(3)\nINPUT(6)\nINPUT(7)\nOUTPUT(22)\nOUTPUT(23)\n\
+    10 = NAND(1, 3)\n11 = NAND(3, 6)\n16 = NAND(2, 11)\n\
+    19 = NAND(11, 7)\n22 = NAND(10, 16)\n23 = NAND(16, 19)\n";
+
+#[test]
+fn reports(rt: HostRuntime) -> Result<(), Fail> {
+    let rows = [
+        (
+            "INPUT(a)\nOUTPUT(a)\n",
+            "start a=0\nchange a=1\n",
+            "netlist inputs 1 gates 0 wires 0 variables 1\n\
+            start a=0\n\
+            change 1 a=1\n\
+            rounds A 2 B 2\n\
+            a start 0 A X B 1\n",
+        ),
+        (
+            LATCH,
+            "start r=1 s=1\nchange r=0 s=0\n",
+            "netlist inputs 2 gates 2 wires 4 variables 8\n\
+            start r=1 s=1 q=0 qb=0\n\
+            change 1 r=0 s=0\n\
+            rounds A 5 B 3\n\
+            r start 1 A X B 0\n\
+            s start 1 A X B 0\n\
+            q start 0 A X B X\n\
+            qb start 0 A X B X\n",
+        ),
+        (
+            C17,
+            "start 1=0 2=0 3=0 6=0 7=0\nchange 3=1 1=1\n",
+            "netlist inputs 5 gates 6 wires 12 variables 23\n\
+            start 1=0 2=0 3=0 6=0 7=0 10=1 11=1 16=1 19=1 22=0 23=0\n\
+            change 1 3=1 1=1\n\
+            rounds A 6 B 6\n\
+            1 start 0 A X B 1\n\
+            2 start 0 A 0 B 0\n\
+            3 start 0 A X B 1\n\
+            6 start 0 A 0 B 0\n\
+            7 start 0 A 0 B 0\n\
+            10 start 1 A X B 0\n\
+            11 start 1 A 1 B 1\n\
+            16 start 1 A 1 B 1\n\
+            19 start 1 A 1 B 1\n\
+            22 start 0 A X B 1\n\
+            23 start 0 A 0 B 0\n",
+        ),
+        (
+            LATCH,
+            "start r=0 s=0 q=1 qb=0\n",
+            "netlist inputs 2 gates 2 wires 4 variables 8\nstart r=0 s=0 q=1 qb=0\n",
+        ),
+    ];
+    for (netlist, script, text) in rows {
+        let (status, out) = told(rt.alloc(), "analyse", netlist, script, 0, 0)?;
+        assert_eq!(rt; status, Status::Done);
+        assert_eq!(rt; out.bytes(), text.as_bytes());
+    }
+    Ok(())
+}
+
+#[test]
+fn refusals(rt: HostRuntime) -> Result<(), Fail> {
+    let rows = [
+        (
+            "INPUT(a)\ng = NOT(a, a)\n",
+            "",
+            3,
+            "refused: netlist line 2: pins 2\n",
+        ),
+        (
+            "INPUT(a)\n",
+            "start a=2\n",
+            4,
+            "refused: script line 1: bit\n",
+        ),
+        (
+            "INPUT(a)\n",
+            "start a=0\nchange\nchange\n",
+            4,
+            "refused: script: not built\n",
+        ),
+        (
+            "INPUT(a)\ny = NOT(y)\n",
+            "start a=0\n",
+            5,
+            "refused: start: open y\n",
+        ),
+        (
+            "INPUT(a)\ny = NOT(y)\n",
+            "start a=0 y=0\n",
+            5,
+            "refused: start: unstable y\n",
+        ),
+    ];
+    for (netlist, script, code, text) in rows {
+        let (status, out) = told(rt.alloc(), "analyse", netlist, script, 0, 0)?;
+        assert_eq!(rt; status.code(), code);
+        assert_eq!(rt; out.bytes(), text.as_bytes());
+    }
+    Ok(())
+}
+
+#[test]
+fn failures(rt: HostRuntime) -> Result<(), Fail> {
+    let rows = [
+        (
+            "analyze",
+            0,
+            0,
+            2,
+            "refused: words; usage: hazard JOB FIRST [SECOND] [--cap N] [--show nodes|all]\n",
+        ),
+        ("analyse", 1, 0, 6, "refused: first file not read\n"),
+        ("analyse", 2, 0, 6, "refused: second file not read\n"),
+        ("analyse", 0, 1, 8, "net"),
+    ];
+    for (job, load, put, code, text) in rows {
+        let (status, out) = told(rt.alloc(), job, "INPUT(a)\n", "start a=0\n", load, put)?;
+        assert_eq!(rt; status.code(), code);
+        assert_eq!(rt; out.bytes(), text.as_bytes());
+    }
+    Ok(())
+}
