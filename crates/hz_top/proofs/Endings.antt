@@ -1,10 +1,8 @@
 -- How the end of a put becomes the answer of a call.
-use Rattle.std.proofs.Common.{◌≡◌, ℕ, ◌≤◌, ◌⊎◌, inl, inr, List, [], Option, Result, Ok, Err, refl, subst, sym, ◌∙◌, ap}
-use Rattle.hz_outside.specs.Counts.{Rose}
-use Rattle.hz_outside.specs.Written.{grown, GrewByFront}
+use Rattle.std.proofs.Common.{◌≡◌, ℕ, inl, inr, List, Option, Result, Ok, Err, refl, subst, sym, ap}
 use Rattle.hz_outside.specs.declared.fault.PutFault.{PutFault}
 use Rattle.hz_outside.specs.declared.fault.PutFault.TheVariants as fault
-use Rattle.hz_write.specs.Writes.{Wrote, Puts, Stops}
+use Rattle.hz_write.specs.Writes.{Wrote}
 use Rattle.hz_top.specs.declared.status.Status.{Status}
 use Rattle.hz_top.specs.declared.status.Status.TheVariants as status
 use Rattle.hz_top.specs.Answer.{Answers, WroteWhole, WroteFront}

@@ -5,7 +5,7 @@ use Rattle.hz_core.specs.declared.tri.Tri.{Tri}
 use Rattle.hz_core.specs.Ternary.{Refines, AllBelow}
 use Rattle.hz_net.specs.Network.{Driver}
 use Rattle.hz_net.specs.Passes.{excitations, algorithm_a, algorithm_b, AreRounds}
-use Rattle.hz_core.specs.Netlist.{Netlist, IsCircuit, variable_count}
+use Rattle.hz_core.specs.Netlist.{Netlist, IsCircuit}
 use Rattle.hz_net.specs.Network.{network_of}
 use Rattle.hz_net.proofs.Places.{length-network_of}
 use Rattle.hz_net.proofs.Sequences.{AllBelow-closed, closed-result, length-algorithm_a, length-algorithm_b}

@@ -1,3 +1,4 @@
 pub mod Findings
 pub mod Endings
 pub mod Comings
+pub mod Done

@@ -5,3 +5,4 @@ pub mod Answer
 pub mod Refusal
 pub mod Reports
 pub mod Outcome
+pub mod Faultless

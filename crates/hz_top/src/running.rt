@@ -1,8 +1,10 @@
 //! The top call.
-ghost use Rattle.std.specs.Prelude.{◌≡◌, map};
+ghost use Rattle.std.specs.Prelude.{◌≡◌, ◌⊎◌, ℕ, List, map, Some};
 ghost use Rattle.std.specs.String.{string_bytes};
 ghost use Rattle.hz_top.specs.Answer.{Answers, Says};
-ghost use Rattle.hz_top.specs.Job.{job_of};
+ghost use Rattle.hz_outside.specs.Counts.{Rose};
+ghost use Rattle.hz_top.specs.Faultless.{IsFaultlessJob};
+ghost use Rattle.hz_top.specs.Job.{job_of, Analyse};
 ghost use Rattle.hz_top.specs.Outcome.{told_by, JobComes, MayLoad};
 
 use crate::analysis::analyse;
@@ -21,6 +23,10 @@ pub fn run<F: Files, K: Sink>(alloc: Global, words: &[String], files: &mut F, ou
     ensures answer { Answers K.written K.faults
         (JobComes (told_by F.held F.faults F.longs files.old files.new) (job_of (map string_bytes words.now)))
         out.old out.new result }
+    ensures done { (first second : List ℕ) → job_of (map string_bytes words.now) ≡ Some (Analyse first second)
+        → IsFaultlessJob (told_by F.held F.faults F.longs files.old files.new) first second
+        → ¬ Rose (K.faults out.old) (K.faults out.new)
+        → (result ≡ Status.Done) ⊎ (result ≡ Status.Memory) }
 {
     match read_job(words) {
         Some(asked) => analyse(alloc, asked.first, asked.second, files, out),

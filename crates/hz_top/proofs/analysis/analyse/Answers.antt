@@ -1,7 +1,7 @@
-use Rattle.std.proofs.Common.{◌≡◌, inl, inr, refl, sym, ap, ◌∙◌, subst, Err, List, ℕ}
+use Rattle.std.proofs.Common.{inl, inr, ap, ◌∙◌, subst, Err}
 use Rattle.hz_core.specs.Netlist.{Netlist}
 use Rattle.hz_outside.specs.declared.fault.Place.TheVariants.{First}
-use Rattle.hz_top.specs.Outcome.{FilesCome, FirstTextComes, SecondComes, LoadSays, NetlistSays, told_by}
+use Rattle.hz_top.specs.Outcome.{FilesCome, SecondComes, LoadSays, NetlistSays, told_by}
 use Rattle.hz_top.proofs.Endings.{Answers-more}
 use Rattle.hz_top.proofs.Comings.{Unread-load, SecondComes-before, netlist-refused}
 use Rattle.hz_top.proofs.analysis.analyse.Goals as goal

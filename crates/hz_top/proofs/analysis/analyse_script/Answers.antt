@@ -1,5 +1,4 @@
-use Rattle.std.proofs.Common.{◌≡◌, ◌≤◌, ◌<◌, inl, inr, List, length, refl, sym, ap, ◌∙◌, arith}
-use Rattle.hz_core.specs.Netlist.{Netlist}
+use Rattle.std.proofs.Common.{◌≤◌, ◌<◌, inl, inr, length, refl, arith}
 use Rattle.hz_top.specs.declared.status.Status.TheVariants as status
 use Rattle.hz_top.specs.Outcome.{ScriptComes}
 use Rattle.hz_top.specs.Refusal.{sequence_line, open_line, unstable_line}

@@ -1,4 +1,4 @@
-use Rattle.std.proofs.Common.{◌≡◌, inl, inr, refl, sym, ap, ◌∙◌, subst, Err}
+use Rattle.std.proofs.Common.{inl, inr, ap, ◌∙◌, Err}
 use Rattle.hz_outside.specs.declared.fault.Place.TheVariants.{Second}
 use Rattle.hz_top.specs.Outcome.{SecondComes, SecondTextComes, LoadSays, told_by}
 use Rattle.hz_top.proofs.Endings.{Answers-more}

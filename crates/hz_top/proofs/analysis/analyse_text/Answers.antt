@@ -1,4 +1,4 @@
-use Rattle.std.proofs.Common.{◌≡◌, inl, inr, refl, sym, ap, ◌∙◌, subst}
+use Rattle.std.proofs.Common.{inl, inr}
 use Rattle.hz_top.specs.Outcome.{ScriptComes, SecondTextComes, TextSays}
 use Rattle.hz_top.proofs.Endings.{Answers-more}
 use Rattle.hz_top.proofs.Comings.{script-refused}

@@ -1,6 +1,5 @@
-use Rattle.std.proofs.Common.{◌≡◌, length, take, sym, ◌∙◌, ap}
+use Rattle.std.proofs.Common.{◌≡◌, length, sym, ◌∙◌, ap}
 use Rattle.hz_core.specs.Netlist.{Netlist}
-use Rattle.hz_net.specs.Network.{network_of}
 use Rattle.hz_top.proofs.Findings.{long-a, long-b, front-long}
 use Rattle.hz_top.proofs.reporting.report_change.Goals as goal
 
