@@ -154,6 +154,13 @@ fn failures(rt: HostRuntime) -> Result<(), Fail> {
         ("analyse", 1, 0, 6, "refused: first file not read\n"),
         ("analyse", 2, 0, 6, "refused: second file not read\n"),
         ("analyse", 0, 1, 8, "net"),
+        (
+            "analyse",
+            0,
+            2,
+            8,
+            "netlist inputs 1 gates 0 wires 0 variables 1\nsta",
+        ),
     ];
     for (job, load, put, code, text) in rows {
         let (status, out) = told(rt.alloc(), job, "INPUT(a)\n", "start a=0\n", load, put)?;
