@@ -42,6 +42,10 @@ const C17: &str = "INPUT(1)\nINPUT(2)\nINPUT(3)\nINPUT(6)\nINPUT(7)\nOUTPUT(22)\
     10 = NAND(1, 3)\n11 = NAND(3, 6)\n16 = NAND(2, 11)\n\
     19 = NAND(11, 7)\n22 = NAND(10, 16)\n23 = NAND(16, 19)\n";
 
+// A multiplexer, whose output has a static hazard where the selecting input changes.
+const MULTIPLEXER: &str = "INPUT(s)\nINPUT(x)\nINPUT(y)\nOUTPUT(z)\n\
+    n = NOT(s)\na = AND(s, x)\nb = AND(n, y)\nz = OR(a, b)\n";
+
 #[test]
 fn reports(rt: HostRuntime) -> Result<(), Fail> {
     let rows = [
@@ -84,6 +88,33 @@ fn reports(rt: HostRuntime) -> Result<(), Fail> {
             19 start 1 A 1 B 1\n\
             22 start 0 A X B 1\n\
             23 start 0 A 0 B 0\n",
+        ),
+        (
+            MULTIPLEXER,
+            "start s=1 x=1 y=1\nchange s=0\n",
+            "netlist inputs 3 gates 4 wires 7 variables 14\n\
+            start s=1 x=1 y=1 n=0 a=1 b=0 z=1\n\
+            change 1 s=0\n\
+            rounds A 7 B 8\n\
+            s start 1 A X B 0\n\
+            x start 1 A 1 B 1\n\
+            y start 1 A 1 B 1\n\
+            n start 0 A X B 1\n\
+            a start 1 A X B 0\n\
+            b start 0 A X B 1\n\
+            z start 1 A X B 1\n",
+        ),
+        (
+            LATCH,
+            "start r=0 s=0 q=1\nchange s=0\n",
+            "netlist inputs 2 gates 2 wires 4 variables 8\n\
+            start r=0 s=0 q=1 qb=0\n\
+            change 1 s=0\n\
+            rounds A 1 B 1\n\
+            r start 0 A 0 B 0\n\
+            s start 0 A 0 B 0\n\
+            q start 1 A 1 B 1\n\
+            qb start 0 A 0 B 0\n",
         ),
         (
             LATCH,
