@@ -1,6 +1,6 @@
 //! How a call of the program ends.
 ghost use Rattle.std.specs.Prelude.{◌≡◌};
-ghost use Rattle.hz_top.specs.Ending.{status_after};
+ghost use Rattle.hz_top.specs.Ending.{code_of, status_after};
 
 use hz_outside::PutFault;
 
@@ -31,7 +31,9 @@ pub enum Status {
 
 impl Status {
     /// The exit code.
-    pub fn code(self) -> u8 {
+    pub fn code(self) -> u8
+        ensures { result ≡ code_of self }
+    {
         self as u8
     }
 }
