@@ -1,0 +1,2 @@
+//! Runs that show both values of each variable that Algorithm A makes X.
+#![tactic(auto)]
