@@ -1,3 +1,6 @@
 pub mod Listed
+pub mod Parts
 pub mod Turns
 pub mod Turning
+pub mod Wired
+pub mod RankedTurns

@@ -14,6 +14,7 @@ use Rattle.hz_gmw.proofs.CoverB.{length-end_of}
 use Rattle.hz_reach.specs.Order.{key_at}
 use Rattle.hz_reach.specs.Spread.{IsWireInto, IsNode, after}
 use Rattle.hz_reach.proofs.Listed.{listed-cases, listed-left, listed-right, unlisted-append, unlisted-parts, repeats_none-append, at-end_of, listed-inside, AreApart}
+use Rattle.hz_reach.proofs.Parts.{driver-inside, same-part}
 use Rattle.hz_reach.proofs.Turns.{IsWired, IsTurnedBy, IsTurnedAfter, AreTurns}
 
 -- the variables that a run changes
@@ -93,27 +94,6 @@ node-changed net input start ranks Begun Done steps node so_far is_node ranked d
     by_driver (External place) e = so_far.inputs node place e ranked
     by_driver (Function kind first pins) e = so_far.gates node kind first pins e ranked done
     by_driver (Source source) e = absurd (is_node source e)
-
--- what is driven by a node or by wires is a variable
-pub driver-inside : (net : List Driver) (i source : ℕ) → driver_at net i ≡ Source source → i < length net
-driver-inside net i source drives = elim (cases_lt i (length net)) [
-  | inl inside ↦ inside
-  | inr past ↦ (let none : driver_at net i ≡ External 0 = get_or_past net i (External 0) past in cc)
-]
-
-part-long : (state : List Bool) (first count : ℕ) → ((k : ℕ) → k < count → first + k < length state) → length (take (first + count - first) (drop first state)) ≡ count
-part-long state first zero inside = omega (arith, length-take (first + 0 - first) (drop first state))
-part-long state first (suc k) inside =
-    omega (arith, inside k (omega arith), length-take (first + suc k - first) (drop first state), length-drop first state)
-
--- a part of a state, bit by bit
-pub same-part : (state bits : List Bool) (first count : ℕ) → length bits ≡ count → ((k : ℕ) → k < count → first + k < length state) → ((k : ℕ) → k < count → bit_at state (first + k) ≡ bit_at bits k) → slice_range state first (first + count) ≡ bits
-same-part state bits first count long inside each =
-    let part : length (take (first + count - first) (drop first state)) ≡ count = part-long state first count inside in
-    ext_get_or false (take (first + count - first) (drop first state)) bits (part ∙ sym long)
-    (λ k few.
-    let less : k < count = omega (arith, few, part) in
-    get_or-take (first + count - first) (drop first state) k false (omega arith) ∙ (get_or-drop first state k false ∙ each k less))
 
 -- what the turns of gates stand on
 module _ (net : List Driver) (input start : List Bool) (ranks : List ℕ) (wired : IsWired net) (turns : AreTurns net input start ranks) where

@@ -32,6 +32,7 @@ pub record AreTurns (net : List Driver) (input start : List Bool) (ranks : List 
   pub long : length start ≡ length net
   pub inside : (i : ℕ) → key_at ranks i ≢ 0 → i < length net
   pub inputs : (i place : ℕ) → driver_at net i ≡ External place → key_at ranks i ≢ 0 → bit_at start i ≢ bit_at input place
+  pub ranked : (i place : ℕ) → i < length net → driver_at net i ≡ External place → bit_at start i ≢ bit_at input place → key_at ranks i ≢ 0
   pub wires : (i source : ℕ) → driver_at net i ≡ Source source → key_at ranks i ≢ 0 → IsTurnedAfter start ranks i source
   pub gates :
       (i : ℕ) (kind : Kind) (first pins : ℕ) → driver_at net i ≡ Function kind first pins → key_at ranks i ≢ 0 →
