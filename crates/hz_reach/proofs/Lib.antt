@@ -4,3 +4,4 @@ pub mod Turns
 pub mod Turning
 pub mod Wired
 pub mod RankedTurns
+pub mod Ended

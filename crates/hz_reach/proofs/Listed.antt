@@ -3,9 +3,11 @@ use Rattle.std.proofs.Common.{◌≡◌, ◌≢◌, ℕ, zero, suc, ◌+◌, ◌
 use Rattle.std.specs.List.{concat, count_by, AllByRecursion, IsDistinct}
 use Rattle.std.proofs.lemmas.Bool.{cases_Bool, or_cases, or_parts, or_from, or_left, or_right, both_ways, eqb-true, eq-eqb}
 use Rattle.std.proofs.lemmas.List.Folds.{list_any-append, concat-append}
+use Rattle.std.proofs.lemmas.List.Sums.{sum_by-cons}
 use Rattle.std.proofs.lemmas.Map.Steps.{length-le_from_distinct_below}
 use Rattle.hz_net.specs.Network.{Driver, bit_at, IsUnstable}
 use Rattle.hz_gmw.specs.Runs.{is_listed, RepeatsNone, IsStep, flipped, IsRun, end_of}
+use Rattle.hz_reach.specs.Spread.{changes_in}
 use Rattle.hz_gmw.proofs.Flips.{length-flipped, at-flipped}
 use Rattle.hz_gmw.proofs.Paths.{IsRun-append, end_of-append}
 
@@ -89,4 +91,20 @@ listed-inside net input (flips ∷ steps) state i run there =
     elim (listed-cases flips (concat steps) i there) [
       | inl here ↦ run.0.inside i here
       | inr later ↦ listed-inside net input steps (flipped flips state) i run.1 later
+    ]
+
+-- how often a run changes a variable that no step lists, and one that one step lists
+pub changes-unlisted : (steps : List (List ℕ)) (i : ℕ) → is_listed (concat steps) i ≡ false → changes_in steps i ≡ 0
+changes-unlisted [] i out = refl
+changes-unlisted (flips ∷ steps) i out =
+    let parts = unlisted-parts flips (concat steps) i out in
+    sum_by-cons (λ (list : List ℕ). cond (is_listed list i) 1 0) flips steps ∙ rw parts.0 (omega (arith, changes-unlisted steps i parts.1))
+
+pub changes-listed : (steps : List (List ℕ)) (i : ℕ) → RepeatsNone (concat steps) → is_listed (concat steps) i ≡ true → changes_in steps i ≡ 1
+changes-listed [] i once there = absurd (both_ways false refl there)
+changes-listed (flips ∷ steps) i once there =
+    sum_by-cons (λ (list : List ℕ). cond (is_listed list i) 1 0) flips steps
+    ∙ elim (cases_Bool (is_listed flips i)) [
+      | inl here ↦ rw here (omega (arith, changes-unlisted steps i (repeats_none-apart flips (concat steps) once i here)))
+      | inr out ↦ rw out (omega (arith, changes-listed steps i (repeats_none-right flips (concat steps) once) (elim (listed-cases flips (concat steps) i there) [ inl here ↦ absurd (both_ways _ out here) | inr later ↦ later ])))
     ]

@@ -101,7 +101,7 @@ module _ (net : List Driver) (input start : List Bool) (ranks : List ℕ) (wired
   within i ranked = let inside : i < length net = turns.inside i ranked in omega (arith, turns.long)
 
   -- a wire that has a rank and has not changed is ready once its source has changed
-  wire-ready : (steps : List (List ℕ)) (wire source : ℕ) → IsOnce net input start steps → driver_at net wire ≡ Source source → key_at ranks wire ≢ 0 → is_listed (changed steps) wire ≡ false → is_listed (changed steps) source ≡ true → IsReady net input start steps wire
+  pub wire-ready : (steps : List (List ℕ)) (wire source : ℕ) → IsOnce net input start steps → driver_at net wire ≡ Source source → key_at ranks wire ≢ 0 → is_listed (changed steps) wire ≡ false → is_listed (changed steps) source ≡ true → IsReady net input start steps wire
   wire-ready steps wire source once drives ranked fresh there =
       let turn : IsTurnedAfter start ranks wire source = turns.wires wire source drives ranked in
       let now : bit_at (end_of start steps) wire ≡ bit_at start wire = bit-unchanged net input start steps wire once (within wire ranked) fresh in
