@@ -1,13 +1,11 @@
 -- The end of the spread run: the wires that are left, and how often each variable has changed.
-use Rattle.std.proofs.Common.{◌≡◌, ◌≢◌, ℕ, zero, suc, ◌+◌, ◌<◌, ◌≤◌, ◌⊎◌, Bool, true, false, not, cond, List, [], ◌∷◌, ◌++◌, length, refl, sym, ap, ◌∙◌, subst, arith, inl, inr}
-use Rattle.std.proofs.lemmas.Bool.{cases_Bool, both_ways, false_from_ne_true}
-use Rattle.hz_core.specs.declared.tri.Tri.{Tri}
-use Rattle.hz_core.specs.declared.kind.Kind.{Kind}
-use Rattle.hz_net.specs.Network.{Driver, External, Function, Source, driver_at, bit_at, value_at, IsStable}
+use Rattle.std.proofs.Common.{◌≡◌, ◌≢◌, ℕ, ◌<◌, Bool, true, false, List, ◌++◌, length, refl, sym, ap, ◌∙◌, subst, arith, inl, inr}
+use Rattle.std.proofs.lemmas.Bool.{cases_Bool, false_from_ne_true}
+use Rattle.hz_net.specs.Network.{Driver, External, Function, Source, driver_at, IsStable}
 use Rattle.hz_net.specs.Passes.{algorithm_a, AreRounds, AreRanks}
-use Rattle.hz_gmw.specs.Runs.{is_listed, RepeatsNone, end_of}
-use Rattle.hz_reach.specs.Order.{key_at, IsEarlier}
-use Rattle.hz_reach.specs.Spread.{IsWireInto, IsNode, after, changes_in, IsSpreadRun, IsSparingRun}
+use Rattle.hz_gmw.specs.Runs.{is_listed, RepeatsNone}
+use Rattle.hz_reach.specs.Order.{key_at}
+use Rattle.hz_reach.specs.Spread.{after, IsSpreadRun, IsSparingRun}
 use Rattle.hz_reach.proofs.Listed.{listed-cases, listed-left, listed-right, changes-unlisted, changes-listed}
 use Rattle.hz_reach.proofs.Turns.{IsWired, IsTurnedAfter, AreTurns}
 use Rattle.hz_reach.proofs.Turning.{changed, changed-after, IsOnce, IsReady, once-after, HasTurned, node-changed, wire-ready}
@@ -30,11 +28,11 @@ pub spread-rest :
 spread-rest net input start ranks Done steps flips wired turns so_far each distinct only rest =
     let ready : (i : ℕ) → is_listed flips i ≡ true → IsReady net input start steps i =
     λ i there. (
-        let is = only i there in
-        let turn : IsTurnedAfter start ranks i is.0 = turns.wires i is.0 is.1 is.2 in
-        wire-ready net input start ranks wired turns steps i is.0 so_far.once is.1 is.2 is.3
-        (node-changed net input start ranks Done Done steps is.0 so_far (wired.node i is.0 is.1) turn.some (each is.0 turn.some))
-        ) in
+    let is = only i there in
+    let turn : IsTurnedAfter start ranks i is.0 = turns.wires i is.0 is.1 is.2 in
+    wire-ready net input start ranks wired turns steps i is.0 so_far.once is.1 is.2 is.3
+    (node-changed net input start ranks Done Done steps is.0 so_far (wired.node i is.0 is.1) turn.some (each is.0 turn.some))
+    ) in
     let same : changed (after steps flips) ≡ changed steps ++ flips = changed-after steps flips in
     let before : (i : ℕ) → is_listed (changed steps) i ≡ true → is_listed (changed (after steps flips)) i ≡ true =
     λ i there. ap (λ (list : List ℕ). is_listed list i) same ∙ listed-left (changed steps) flips i there in

@@ -1,7 +1,9 @@
 pub mod Listed
+pub mod PickedLemmas
 pub mod Parts
 pub mod Turns
 pub mod Turning
 pub mod Wired
 pub mod RankedTurns
 pub mod Ended
+pub mod Exact

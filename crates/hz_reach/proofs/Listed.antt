@@ -1,15 +1,14 @@
 -- Lists of variables that name none twice, and the state after steps of which none changes a variable again.
-use Rattle.std.proofs.Common.{◌≡◌, ◌≢◌, ℕ, zero, suc, ◌+◌, ◌<◌, ◌≤◌, ◌⊎◌, Bool, true, false, not, cond, ◌||◌, List, [], ◌∷◌, ◌++◌, length, get_or, refl, sym, ap, ◌∙◌, subst, arith, inl, inr, eqb}
-use Rattle.std.specs.List.{concat, count_by, AllByRecursion, IsDistinct}
+use Rattle.std.proofs.Common.{◌≡◌, ℕ, ◌<◌, ◌≤◌, ◌⊎◌, Bool, true, false, not, cond, ◌||◌, List, [], ◌∷◌, ◌++◌, length, refl, sym, ap, ◌∙◌, subst, arith, inl, inr, eqb}
+use Rattle.std.specs.List.{concat, AllByRecursion, IsDistinct}
 use Rattle.std.proofs.lemmas.Bool.{cases_Bool, or_cases, or_parts, or_from, or_left, or_right, both_ways, eqb-true, eq-eqb}
-use Rattle.std.proofs.lemmas.List.Folds.{list_any-append, concat-append}
+use Rattle.std.proofs.lemmas.List.Folds.{list_any-append}
 use Rattle.std.proofs.lemmas.List.Sums.{sum_by-cons}
 use Rattle.std.proofs.lemmas.Map.Steps.{length-le_from_distinct_below}
-use Rattle.hz_net.specs.Network.{Driver, bit_at, IsUnstable}
-use Rattle.hz_gmw.specs.Runs.{is_listed, RepeatsNone, IsStep, flipped, IsRun, end_of}
+use Rattle.hz_net.specs.Network.{Driver, bit_at}
+use Rattle.hz_gmw.specs.Runs.{is_listed, RepeatsNone, flipped, IsRun, end_of}
 use Rattle.hz_reach.specs.Spread.{changes_in}
 use Rattle.hz_gmw.proofs.Flips.{length-flipped, at-flipped}
-use Rattle.hz_gmw.proofs.Paths.{IsRun-append, end_of-append}
 
 -- what is listed in two lists together
 pub listed-append : (xs ys : List ℕ) (i : ℕ) → is_listed (xs ++ ys) i ≡ (is_listed xs i || is_listed ys i)

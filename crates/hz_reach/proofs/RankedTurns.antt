@@ -1,13 +1,12 @@
 -- Where the start is stable under some input, the ranks of Algorithm A say what turns and when.
-use Rattle.std.proofs.Common.{◌≡◌, ◌≢◌, ℕ, zero, suc, ◌+◌, ◌-◌, ◌<◌, ◌≤◌, ◌⊎◌, Bool, true, false, not, List, [], ◌∷◌, length, map, get_or, refl, sym, ap, ◌∙◌, subst, arith, inl, inr, IsTrue}
+use Rattle.std.proofs.Common.{◌≡◌, ◌≢◌, ℕ, suc, ◌+◌, ◌<◌, ◌≤◌, Bool, true, false, not, List, length, refl, sym, ap, ◌∙◌, subst, arith, inl, inr, IsTrue}
 use Rattle.std.specs.Prelude.{slice_range}
 use Rattle.std.proofs.lemmas.Bool.{cases_lt}
 use Rattle.std.proofs.lemmas.List.{get_or_past}
 use Rattle.hz_core.specs.declared.tri.Tri.{Tri}
 use Rattle.hz_core.specs.declared.tri.Tri.TheVariants.{Zero, One, Unknown}
 use Rattle.hz_core.specs.declared.kind.Kind.{Kind}
-use Rattle.hz_core.specs.Ternary.{tri_of, admits, join_of, Refines, IsJoinOf}
-use Rattle.hz_core.specs.Gate.{gate_value}
+use Rattle.hz_core.specs.Ternary.{tri_of, admits, join_of, IsJoinOf}
 use Rattle.hz_core.specs.Extension.{extension, IsValueOver}
 use Rattle.hz_core.proofs.Refinements.{known-admits, length-Refines, get_or-Refines}
 use Rattle.hz_core.proofs.Extensions.{IsExtension-extension}
@@ -86,14 +85,16 @@ module _ (net : List Driver) (input old start : List Bool) (rounds : ℕ) (ranks
   -- what is X in a round has a rank, which is no later
   rank-early : (i round : ℕ) → round ≤ rounds → value_at (algorithm_a net input start round) i ≡ Unknown → (key_at ranks i ≢ 0) × (key_at ranks i ≤ round)
   rank-early i round early is =
-      let last : value_at (algorithm_a net input start rounds) i ≡ Unknown = unknown-later net input start long i round rounds early is in
-      (ranked-unknown i last, elim (cases_lt round (key_at ranks i)) [
-        | inl later ↦ absurd ((unknown-first i last).least round later is)
-        | inr no_later ↦ no_later
-      ])
+      let last : value_at (algorithm_a net input start rounds) i ≡ Unknown = unknown-later net input start long i round rounds early is in (
+        ranked-unknown i last,
+        elim (cases_lt round (key_at ranks i)) [
+          | inl later ↦ absurd ((unknown-first i last).least round later is)
+          | inr no_later ↦ no_later
+        ],
+      )
 
   -- a rank is among the rounds
-  rank-late : (i : ℕ) → key_at ranks i ≢ 0 → key_at ranks i ≤ rounds
+  pub rank-late : (i : ℕ) → key_at ranks i ≢ 0 → key_at ranks i ≤ rounds
   rank-late i some = elim (cases_lt rounds (key_at ranks i)) [
     | inl later ↦ absurd ((rank-value i some).1.least rounds later (rank-value i some).0)
     | inr no_later ↦ no_later
@@ -141,23 +142,25 @@ module _ (net : List Driver) (input old start : List Bool) (rounds : ℕ) (ranks
       let part = slice_range state first (first + pins) in
       let inside : (k : ℕ) → k < pins → first + k < length state =
       λ k few. (
-          let into : IsWireInto net i (first + k) = record { kind = kind; first = first; pins = pins; driven = drives; above = omega arith; below = omega (arith, few) } in
-          let from = wired.source i (first + k) into in
-          omega (arith, driver-inside net (first + k) from.0 from.1, length-algorithm_a net input start long before.0)
-          ) in
+      let into : IsWireInto net i (first + k) = record { kind = kind; first = first; pins = pins; driven = drives; above = omega arith; below = omega (arith, few) } in
+      let from = wired.source i (first + k) into in
+      omega (arith, driver-inside net (first + k) from.0 from.1, length-algorithm_a net input start long before.0)
+      ) in
       let admitted : IsTrue (admits (extension kind part) (not (bit_at start i))) =
       subst (λ (d : Driver). IsTrue (admits (driven3 input state d) (not (bit_at start i)))) drives before.2.drives in
       let value : IsValueOver kind part (not (bit_at start i)) =
-      in-set (IsValueOver kind part) (extension kind part) (not (bit_at start i)) (IsExtension-extension kind part) admitted in
-      (value.0, record {
-        long = length-Refines value.0 part value.1 ∙ length-part state first pins inside;
-        value = value.2;
-        free = λ pin few differ.
-            let here : IsTrue (admits (value_at state (first + pin)) (bit_at value.0 pin)) =
-            subst (λ (v : Tri). IsTrue (admits v (bit_at value.0 pin))) (at-part state first pins pin Zero few) (get_or-Refines value.0 part value.1 pin) in
-            let early = rank-early (first + pin) before.0 (omega (arith, next, rank-late i some)) (differs-unknown (first + pin) before.0 (bit_at value.0 pin) here differ) in
-            (early.0, omega (arith, next, early.1));
-      })
+      in-set (IsValueOver kind part) (extension kind part) (not (bit_at start i)) (IsExtension-extension kind part) admitted in (
+        value.0,
+        record {
+          long = length-Refines value.0 part value.1 ∙ length-part state first pins inside;
+          value = value.2;
+          free = λ pin few differ.
+              let here : IsTrue (admits (value_at state (first + pin)) (bit_at value.0 pin)) =
+              subst (λ (v : Tri). IsTrue (admits v (bit_at value.0 pin))) (at-part state first pins pin Zero few) (get_or-Refines value.0 part value.1 pin) in
+              let early = rank-early (first + pin) before.0 (omega (arith, next, rank-late i some)) (differs-unknown (first + pin) before.0 (bit_at value.0 pin) here differ) in
+              (early.0, omega (arith, next, early.1));
+        },
+      )
 
   pub ranked-turns : AreTurns net input start ranks
   ranked-turns = record {

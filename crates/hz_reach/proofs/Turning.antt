@@ -1,9 +1,8 @@
 -- The spread run while it is made: what holds after each of its steps, and that each of its steps keeps it.
-use Rattle.std.proofs.Common.{◌≡◌, ◌≢◌, ℕ, zero, suc, ◌+◌, ◌-◌, ◌<◌, ◌≤◌, ◌⊎◌, Bool, true, false, not, cond, List, [], ◌∷◌, ◌++◌, length, get_or, take, drop, refl, sym, ap, ◌∙◌, subst, arith, inl, inr, eqb, append-nil, IsTrue}
+use Rattle.std.proofs.Common.{◌≡◌, ◌≢◌, ℕ, ◌+◌, ◌<◌, ◌⊎◌, Bool, true, false, not, cond, List, [], ◌∷◌, ◌++◌, length, refl, sym, ap, ◌∙◌, subst, arith, inl, inr, append-nil}
 use Rattle.std.specs.Prelude.{slice_range}
 use Rattle.std.specs.List.{concat}
-use Rattle.std.proofs.lemmas.Bool.{cases_Bool, both_ways, cases_lt, eqb-true, eq-eqb, false_from_ne_true, true_from_ne_false, or_left, or_cases}
-use Rattle.std.proofs.lemmas.List.{get_or_past, ext_get_or, get_or-take, get_or-drop, length-take, length-drop}
+use Rattle.std.proofs.lemmas.Bool.{cases_Bool, both_ways, false_from_ne_true}
 use Rattle.std.proofs.lemmas.List.Folds.{concat-append}
 use Rattle.hz_core.specs.declared.kind.Kind.{Kind}
 use Rattle.hz_core.specs.Gate.{gate_value}
@@ -13,8 +12,9 @@ use Rattle.hz_gmw.proofs.Paths.{IsRun-append}
 use Rattle.hz_gmw.proofs.CoverB.{length-end_of}
 use Rattle.hz_reach.specs.Order.{key_at}
 use Rattle.hz_reach.specs.Spread.{IsWireInto, IsNode, after}
-use Rattle.hz_reach.proofs.Listed.{listed-cases, listed-left, listed-right, unlisted-append, unlisted-parts, repeats_none-append, at-end_of, listed-inside, AreApart}
+use Rattle.hz_reach.proofs.Listed.{listed-cases, listed-left, listed-right, unlisted-append, repeats_none-append, at-end_of, AreApart}
 use Rattle.hz_reach.proofs.Parts.{driver-inside, same-part}
+use Rattle.hz_reach.proofs.PickedLemmas.{only-one, is-one}
 use Rattle.hz_reach.proofs.Turns.{IsWired, IsTurnedBy, IsTurnedAfter, AreTurns}
 
 -- the variables that a run changes
@@ -74,13 +74,6 @@ pub record HasTurned (net : List Driver) (input start : List Bool) (ranks : List
   pub ranked : (i : ℕ) → is_listed (changed steps) i ≡ true → key_at ranks i ≢ 0
   pub done : (i : ℕ) (kind : Kind) (first pins : ℕ) → driver_at net i ≡ Function kind first pins → is_listed (changed steps) i ≡ true → Done i
   pub wires : (wire source : ℕ) → driver_at net wire ≡ Source source → is_listed (changed steps) wire ≡ true → (gate : ℕ) × IsWireInto net gate wire × Begun gate × (key_at ranks wire < key_at ranks gate)
-
--- a list of one
-only-one : (x i : ℕ) → i ≡ x → is_listed (x ∷ []) i ≡ true
-only-one x i same = or_left (eqb i x) false (eq-eqb i x same)
-
-is-one : (x i : ℕ) → is_listed (x ∷ []) i ≡ true → i ≡ x
-is-one x i there = elim (or_cases (eqb i x) false there) [ inl same ↦ eqb-true i x same | inr none ↦ cc ]
 
 -- the gates that have had their turn, and one more
 abbrev pub Also : (ℕ → Type 0) → ℕ → ℕ → Type 0

@@ -1,6 +1,6 @@
 -- What the ranks of Algorithm A say of a network and a start: which inputs turn, and that what a wire or a gate needs in
 -- order to turn has a lesser rank.
-use Rattle.std.proofs.Common.{◌≡◌, ◌≢◌, ℕ, zero, suc, ◌+◌, ◌<◌, ◌≤◌, Bool, true, false, not, List, length}
+use Rattle.std.proofs.Common.{◌≡◌, ◌≢◌, ℕ, ◌+◌, ◌<◌, Bool, not, List, length}
 use Rattle.hz_core.specs.declared.kind.Kind.{Kind}
 use Rattle.hz_core.specs.Gate.{gate_value}
 use Rattle.hz_net.specs.Network.{Driver, External, Function, Source, driver_at, bit_at}

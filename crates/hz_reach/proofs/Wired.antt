@@ -1,14 +1,14 @@
 -- The network of a circuit is wired.
-use Rattle.std.proofs.Common.{◌≡◌, ◌≢◌, ℕ, zero, suc, ◌+◌, ◌-◌, ◌<◌, ◌≤◌, ◌⊎◌, List, [], ◌∷◌, length, get_or, refl, sym, ap, ◌∙◌, subst, arith, inl, inr}
+use Rattle.std.proofs.Common.{◌≡◌, ◌≢◌, ℕ, ◌+◌, ◌-◌, ◌<◌, ◌≤◌, length, get_or, sym, ap, ◌∙◌, arith, inl, inr}
 use Rattle.std.proofs.lemmas.Bool.{cases_lt}
 use Rattle.std.proofs.lemmas.List.{get_or_past}
 use Rattle.hz_core.specs.declared.kind.Kind.{Kind}
 use Rattle.hz_core.specs.Netlist.{Netlist, IsCircuit, IsGateNumber, gate_at, variable_count}
-use Rattle.hz_net.specs.Network.{Wire, wires_of, Driver, External, Function, Source, network_of, driver_at}
+use Rattle.hz_net.specs.Network.{Wire, wires_of, External, Function, Source, network_of, driver_at}
 use Rattle.hz_net.specs.Variables.{first_wire}
-use Rattle.hz_net.proofs.Places.{no_wire, length-network_of, driver_at-input, driver_at-gate, driver_at-wire, driver_at-pin, wire_at-pin, first_wire-bound}
+use Rattle.hz_net.proofs.Places.{no_wire, length-network_of, driver_at-input, driver_at-gate, driver_at-wire, driver_at-pin, wire_at-pin}
 use Rattle.hz_net.proofs.Wires.{IsWireFrom-driver_at, IsWireFrom-node}
-use Rattle.hz_reach.specs.Spread.{IsWireInto, IsNode}
+use Rattle.hz_reach.specs.Spread.{IsWireInto}
 use Rattle.hz_reach.proofs.Turns.{IsWired}
 
 -- what drives a gate is its gate function, of the wires that its place gives it
@@ -67,9 +67,10 @@ module _ (netlist : Netlist) (circuit : IsCircuit netlist) where
       let pins : length (gate_at netlist gate).sources ≡ into.pins = is.pins_are in
       let above : into.first ≤ wire = into.above in
       let below : wire < into.first + into.pins = into.below in
-      let place : first_wire netlist gate + (wire - into.first) ≡ wire = omega arith in
-      (get_or (gate_at netlist gate).sources (wire - into.first) 0,
-      ap (driver_at (network_of netlist)) (sym place) ∙ driver_at-pin netlist gate (wire - into.first) circuit is.is_gate (omega arith))
+      let place : first_wire netlist gate + (wire - into.first) ≡ wire = omega arith in (
+        get_or (gate_at netlist gate).sources (wire - into.first) 0,
+        ap (driver_at (network_of netlist)) (sym place) ∙ driver_at-pin netlist gate (wire - into.first) circuit is.is_gate (omega arith),
+      )
 
   pub wired-network_of : IsWired (network_of netlist)
   wired-network_of = record {

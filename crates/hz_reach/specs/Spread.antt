@@ -1,9 +1,9 @@
 -- The spread run: a run from the start in which each variable that Algorithm A makes X changes once.
-use Rattle.std.specs.Prelude.{◌≡◌, ◌≢◌, ℕ, ◌+◌, ◌<◌, ◌≤◌, Bool, List, [], ◌∷◌, ◌++◌, length}
+use Rattle.std.specs.Prelude.{◌≡◌, ◌≢◌, ℕ, ◌+◌, ◌<◌, ◌≤◌, Bool, List, [], ◌∷◌, ◌++◌}
 use Rattle.std.specs.List.{count_by}
 use Rattle.hz_core.specs.declared.tri.Tri.{Tri}
 use Rattle.hz_core.specs.declared.kind.Kind.{Kind}
-use Rattle.hz_net.specs.Network.{Driver, External, Function, Source, driver_at, value_at}
+use Rattle.hz_net.specs.Network.{Driver, Function, Source, driver_at, value_at}
 use Rattle.hz_net.specs.Passes.{IsKnown, IsUnknown}
 use Rattle.hz_gmw.specs.Runs.{is_listed, IsRun}
 use Rattle.hz_reach.specs.Order.{IsEarlier}
