@@ -2,5 +2,6 @@ pub mod Ternary
 pub mod Gate
 pub mod Extension
 pub mod Kleene
+pub mod Pattern
 pub mod Netlist
 pub mod Inside
