@@ -225,3 +225,73 @@ candidate-extension kind now free want pins long known admitted =
       };
       value = taken.2;
     })
+
+-- a filter of a range keeps nothing below its start
+filter_later : (p : ℕ → Bool) (k n x : ℕ) (rest : List ℕ) → filter p (range_with_len k n) ≡ x ∷ rest → k ≤ x
+filter_later p k zero x rest e = cc
+filter_later p k (suc n) x rest e =
+    elim (cases_Bool (p k)) [
+        inl is_so ↦ let h = rw is_so at e in let same : k ≡ x = cc in omega arith
+        | inr is_not ↦ let h = filter_later p (k + 1) n x rest (rw is_not at e) in omega arith
+    ]
+
+-- two tests that keep the same numbers of a range agree on it
+filter_parts : (p q : ℕ → Bool) (k n : ℕ) → filter p (range_with_len k (suc n)) ≡ filter q (range_with_len k (suc n)) → (p k ≡ q k) × (filter p (range_with_len (k + 1) n) ≡ filter q (range_with_len (k + 1) n))
+filter_parts p q k n e =
+    elim (cases_Bool (p k)) [
+        inl p_so ↦ elim (cases_Bool (q k)) [
+            inl q_so ↦ let h = rw (p_so, q_so) at e in (p_so ∙ sym q_so, cc)
+            | inr q_not ↦ let above = filter_later q (k + 1) n k _ (sym (rw (p_so, q_not) at e)) in absurd (omega arith)
+        ]
+        | inr p_not ↦ elim (cases_Bool (q k)) [
+            inl q_so ↦ let above = filter_later p (k + 1) n k _ (rw (p_not, q_so) at e) in absurd (omega arith)
+            | inr q_not ↦ (p_not ∙ sym q_not, rw (p_not, q_not) at e)
+        ]
+    ]
+
+filter_same : (p q : ℕ → Bool) (k n i : ℕ) → filter p (range_with_len k n) ≡ filter q (range_with_len k n) → k ≤ i → i < k + n → p i ≡ q i
+filter_same p q k zero i e low high = absurd (omega arith)
+filter_same p q k (suc n) i e low high =
+    let parts = filter_parts p q k n e in
+    elim (cases_eq k i) [
+        inl same ↦ rw (← same) parts.0
+        | inr other ↦ filter_same p q (k + 1) n i parts.1 (omega arith) (omega arith)
+    ]
+
+-- of two bits that both differ from a third, or both do not, each is the other
+same_difference : (a b c : Bool) → differs a b ≡ differs a c → b ≡ c
+same_difference false false false e = refl
+same_difference false false true e = absurd (false≢true e)
+same_difference false true false e = absurd (true≢false e)
+same_difference false true true e = refl
+same_difference true false false e = refl
+same_difference true false true e = absurd (true≢false e)
+same_difference true true false e = absurd (false≢true e)
+same_difference true true true e = refl
+
+-- lists of numbers of which each comes no later than the other are the same
+same-ComesNoLater : (firsts seconds : List ℕ) → ComesNoLater firsts seconds → ComesNoLater seconds firsts → firsts ≡ seconds
+same-ComesNoLater [] [] p q = refl
+same-ComesNoLater [] (y ∷ ys) p q = absurd q
+same-ComesNoLater (x ∷ xs) [] p q = absurd p
+same-ComesNoLater (x ∷ xs) (y ∷ ys) p q =
+    elim p [
+        inl below ↦ elim q [ inl above ↦ absurd (omega arith) | inr rest ↦ let e = rest.0 in absurd (omega arith) ]
+        | inr here ↦ elim q [
+            inl above ↦ let e = here.0 in absurd (omega arith)
+            | inr rest ↦ let head = here.0 in let tail = same-ComesNoLater xs ys here.1 rest.1 in cc
+        ]
+    ]
+
+-- there is one canonical pattern at most
+pub same-IsPattern : (kind : Kind) (now free : List Bool) (want : Bool) (list other : List Bool) → IsPattern kind now free want list → IsPattern kind now free want other → list ≡ other
+same-IsPattern kind now free want list other p q =
+    let there = p.fewest other q.candidate in
+    let back = q.fewest list p.candidate in
+    let long : length (changed now other) ≡ length (changed now list) = omega arith in
+    let pins = same-ComesNoLater (changed now list) (changed now other) (p.least other q.candidate long) (q.least list p.candidate (sym long)) in
+    let list_long = p.candidate.agrees.same_length in
+    let other_long = q.candidate.agrees.same_length in
+    ext_get_or false list other (list_long ∙ sym other_long)
+    (λ i within. same_difference (get_or now i false) (get_or list i false) (get_or other i false)
+    (filter_same (λ pin. differs (get_or now pin false) (get_or list pin false)) (λ pin. differs (get_or now pin false) (get_or other pin false)) 0 (length now) i pins (omega arith) (omega arith)))

@@ -66,3 +66,6 @@ fn first(free: &[bool]) -> Option<usize>
 {
     free.iter().position(|free| *free)
 }
+
+#[cfg(test)]
+mod tests;
