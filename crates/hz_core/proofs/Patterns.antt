@@ -13,7 +13,8 @@ use Rattle.hz_core.specs.declared.tri.Tri.TheVariants.{Zero, One, Unknown}
 use Rattle.hz_core.specs.Ternary.{tri_of, admits, Refines, IsJoinOf}
 use Rattle.hz_core.specs.Gate.{takes, gate_value}
 use Rattle.hz_core.specs.Extension.{extension, IsValueOver}
-use Rattle.hz_core.specs.Pattern.{Agrees, IsCandidate, differs, changed, ComesNoLater, IsPattern, HasOneBit, IsTurnedByAny}
+use Rattle.hz_core.specs.Pattern.{Agrees, IsCandidate, differs, changed, ComesNoLater, IsPattern}
+use Rattle.hz_core.specs.Reached.{HasOneBit, IsTurnedByAny}
 use Rattle.hz_core.proofs.Extensions.{IsExtension-extension}
 use Rattle.hz_core.proofs.ListLemmas.{list_any-from_position_none}
 use Rattle.hz_core.proofs.Refinements.{length-Refines, get_or-Refines, known-admits}
@@ -29,26 +30,26 @@ filter_one : (p : ℕ → Bool) (k n pin : ℕ) → k ≤ pin → pin < k + n �
 filter_one p k zero pin low high passes others = absurd (omega arith)
 filter_one p k (suc n) pin low high passes others =
     elim (cases_eq k pin) [
-        inl e ↦
-            let here : p k ≡ true = rw e passes in
-            let rest = filter_none p (k + 1) n (λ q more high. others q (λ same. omega arith)) in
-            rw here (cc)
-        | inr ne ↦
-            let here : p k ≡ false = others k ne in
-            let more : k + 1 ≤ pin = omega arith in
-            rw here (filter_one p (k + 1) n pin more (omega arith) passes others)
+      | inl e ↦
+          let here : p k ≡ true = rw e passes in
+          let rest = filter_none p (k + 1) n (λ q more high. others q (λ same. omega arith)) in
+          rw here (cc)
+      | inr ne ↦
+          let here : p k ≡ false = others k ne in
+          let more : k + 1 ≤ pin = omega arith in
+          rw here (filter_one p (k + 1) n pin more (omega arith) passes others)
     ]
 
 filter_empty : (p : ℕ → Bool) (k n q : ℕ) → filter p (range_with_len k n) ≡ [] → k ≤ q → q < k + n → p q ≡ false
 filter_empty p k zero q empty low high = absurd (omega arith)
 filter_empty p k (suc n) q empty low high =
     elim (cases_Bool (p k)) [
-        inl is_so ↦ let h = rw is_so at empty in cc
-        | inr is_not ↦
-            elim (cases_eq k q) [
-                inl e ↦ rw (← e) is_not
-                | inr ne ↦ filter_empty p (k + 1) n q (rw is_not at empty) (omega arith) (omega arith)
-            ]
+      | inl is_so ↦ let h = rw is_so at empty in cc
+      | inr is_not ↦
+          elim (cases_eq k q) [
+            | inl e ↦ rw (← e) is_not
+            | inr ne ↦ filter_empty p (k + 1) n q (rw is_not at empty) (omega arith) (omega arith)
+          ]
     ]
 
 -- two bits that differ
@@ -108,7 +109,7 @@ IsPattern-now kind now free want value =
 pub IsPattern-lone : (kind : Kind) (now free : List Bool) (want bit : Bool) → HasOneBit kind want bit → (list : List Bool) → IsCandidate kind now free want list → IsPattern kind now free want (replicate (length now) bit)
 IsPattern-lone kind now free want bit alone list candidate =
     let only = λ (other : List Bool) (c : IsCandidate kind now free want other).
-      alone other c.value ∙ ap (λ n. replicate n bit) c.agrees.same_length in
+    alone other c.value ∙ ap (λ n. replicate n bit) c.agrees.same_length in
     record {
       candidate = subst (λ l. IsCandidate kind now free want l) (only list candidate) candidate;
       fewest = λ other c. rw (only other c) (omega arith);
@@ -123,11 +124,11 @@ nonempty (x ∷ list) h = omega arith
 changed_free : (now free list : List Bool) (pin q : ℕ) → Agrees now free list → pin < length now → ((k : ℕ) → k < pin → get_or free k false ≡ false) → differs (get_or now q false) (get_or list q false) ≡ true → pin ≤ q
 changed_free now free list pin q agrees within before differing =
     elim (cases_lt q pin) [
-        inl below ↦
-            let same : get_or list q false ≡ get_or now q false = agrees.kept q (omega arith) (before q below) in
-            let none : differs (get_or now q false) (get_or list q false) ≡ false = rw same (differs-same (get_or now q false)) in
-            cc
-        | inr above ↦ above
+      | inl below ↦
+          let same : get_or list q false ≡ get_or now q false = agrees.kept q (omega arith) (before q below) in
+          let none : differs (get_or now q false) (get_or list q false) ≡ false = rw same (differs-same (get_or now q false)) in
+          cc
+      | inr above ↦ above
     ]
 
 no_two : (b : Bool) → not b ≡ b → ⊥
@@ -151,7 +152,7 @@ IsPattern-first kind now free want pin taken long value turned is =
     let within : pin < length now = omega (arith, first.0) in
     let one : changed now (set now pin (not (get_or now pin false))) ≡ pin ∷ [] = changed-set now pin within in
     let other_value = λ (list : List Bool) (c : IsCandidate kind now free want list) (e : changed now list ≡ []).
-      no_two want (sym value ∙ ap (gate_value kind) (sym (same-changed now list c.agrees.same_length e)) ∙ c.value) in
+    no_two want (sym value ∙ ap (gate_value kind) (sym (same-changed now list c.agrees.same_length e)) ∙ c.value) in
     record {
       candidate = record {
         agrees = record {
@@ -162,21 +163,21 @@ IsPattern-first kind now free want pin taken long value turned is =
       };
       fewest = λ other c. rw one (nonempty (changed now other) (other_value other c));
       least = λ other c same.
-        rw one
-        (ComesNoLater-one (λ q. differs (get_or now q false) (get_or other q false)) pin (changed now other)
-        (λ q differing. changed_free now free other pin q c.agrees within first.2 differing)
-        (filter_passes (λ q. differs (get_or now q false) (get_or other q false)) (range_with_len 0 (length now)))
-        (same ∙ ap length one));
+          rw one
+          (ComesNoLater-one (λ q. differs (get_or now q false) (get_or other q false)) pin (changed now other)
+          (λ q differing. changed_free now free other pin q c.agrees within first.2 differing)
+          (filter_passes (λ q. differs (get_or now q false) (get_or other q false)) (range_with_len 0 (length now)))
+          (same ∙ ap length one));
     }
 
 none_free : (free : List Bool) → position (λ f. f) free ≡ None → (i : ℕ) → get_or free i false ≡ false
 none_free free none i =
     elim (cases_lt i (length free)) [
-        inl within ↦ elim (cases_Bool (get_or free i false)) [
-            inl is_so ↦ absurd (false≢true (sym (list_any-from_position_none (λ f. f) free none) ∙ list_any_at (λ f. f) free i false within is_so))
-            | inr is_not ↦ is_not
-        ]
-        | inr past ↦ get_or-eq_default free false past
+      | inl within ↦ elim (cases_Bool (get_or free i false)) [
+        | inl is_so ↦ absurd (false≢true (sym (list_any-from_position_none (λ f. f) free none) ∙ list_any_at (λ f. f) free i false within is_so))
+        | inr is_not ↦ is_not
+      ]
+      | inr past ↦ get_or-eq_default free false past
     ]
 
 -- without a free pin the present values are the only list that agrees
@@ -184,6 +185,14 @@ pub Agrees-none : (now free list : List Bool) → Agrees now free list → posit
 Agrees-none now free list agrees none long =
     ext_get_or false list now agrees.same_length
     (λ i within. agrees.kept i (omega (arith, agrees.same_length)) (none_free free none i))
+
+-- a pin that a pattern changes is free
+pub free-changed : (now free list : List Bool) (pin : ℕ) → Agrees now free list → pin < length now → (get_or list pin false ≡ get_or now pin false → ⊥) → get_or free pin false ≡ true
+free-changed now free list pin agrees within changes =
+    elim (cases_Bool (get_or free pin false)) [
+      | inl is_free ↦ is_free
+      | inr bound ↦ absurd (changes (agrees.kept pin within bound))
+    ]
 
 -- what the change of the first free pin leaves is the pattern
 pub IsPattern-changed : (kind : Kind) (now free list : List Bool) (want : Bool) (found : Option ℕ) → IsTrue (takes kind (length now)) → length free ≡ length now → (gate_value kind now ≡ want → ⊥) → IsTurnedByAny kind want → (other : List Bool) → IsCandidate kind now free want other → position (λ f. f) free ≡ found → MatchOption found (list ≡ now) (λ pin. list ≡ set now pin (not (get_or now pin false))) → IsPattern kind now free want list
@@ -215,38 +224,40 @@ admits-other Unknown true other = refl
 -- some list that agrees with the present values gives it
 pub candidate-extension : (kind : Kind) (now free : List Bool) (want : Bool) (pins : List Tri) → length pins ≡ length now → ((pin : ℕ) → pin < length now → get_or free pin false ≡ false → get_or pins pin Zero ≡ tri_of (get_or now pin false)) → IsTrue (admits (extension kind pins) want) → (list : List Bool) × IsCandidate kind now free want list
 candidate-extension kind now free want pins long known admitted =
-    let taken = taken_admits (IsValueOver kind pins) (extension kind pins) want (IsExtension-extension kind pins) admitted in
-    (taken.0, record {
-      agrees = record {
-        same_length = length-Refines taken.0 pins taken.1 ∙ long;
-        kept = λ pin within bound.
-          known-admits (get_or now pin false) (get_or taken.0 pin false)
-          (rw (known pin within bound) at (get_or-Refines taken.0 pins taken.1 pin));
-      };
-      value = taken.2;
-    })
+    let taken = taken_admits (IsValueOver kind pins) (extension kind pins) want (IsExtension-extension kind pins) admitted in (
+      taken.0,
+      record {
+        agrees = record {
+          same_length = length-Refines taken.0 pins taken.1 ∙ long;
+          kept = λ pin within bound.
+              known-admits (get_or now pin false) (get_or taken.0 pin false)
+              (rw (known pin within bound) at (get_or-Refines taken.0 pins taken.1 pin));
+        };
+        value = taken.2;
+      },
+    )
 
 -- a filter of a range keeps nothing below its start
 filter_later : (p : ℕ → Bool) (k n x : ℕ) (rest : List ℕ) → filter p (range_with_len k n) ≡ x ∷ rest → k ≤ x
 filter_later p k zero x rest e = cc
 filter_later p k (suc n) x rest e =
     elim (cases_Bool (p k)) [
-        inl is_so ↦ let h = rw is_so at e in let same : k ≡ x = cc in omega arith
-        | inr is_not ↦ let h = filter_later p (k + 1) n x rest (rw is_not at e) in omega arith
+      | inl is_so ↦ let h = rw is_so at e in let same : k ≡ x = cc in omega arith
+      | inr is_not ↦ let h = filter_later p (k + 1) n x rest (rw is_not at e) in omega arith
     ]
 
 -- two tests that keep the same numbers of a range agree on it
 filter_parts : (p q : ℕ → Bool) (k n : ℕ) → filter p (range_with_len k (suc n)) ≡ filter q (range_with_len k (suc n)) → (p k ≡ q k) × (filter p (range_with_len (k + 1) n) ≡ filter q (range_with_len (k + 1) n))
 filter_parts p q k n e =
     elim (cases_Bool (p k)) [
-        inl p_so ↦ elim (cases_Bool (q k)) [
-            inl q_so ↦ let h = rw (p_so, q_so) at e in (p_so ∙ sym q_so, cc)
-            | inr q_not ↦ let above = filter_later q (k + 1) n k _ (sym (rw (p_so, q_not) at e)) in absurd (omega arith)
-        ]
-        | inr p_not ↦ elim (cases_Bool (q k)) [
-            inl q_so ↦ let above = filter_later p (k + 1) n k _ (rw (p_not, q_so) at e) in absurd (omega arith)
-            | inr q_not ↦ (p_not ∙ sym q_not, rw (p_not, q_not) at e)
-        ]
+      | inl p_so ↦ elim (cases_Bool (q k)) [
+        | inl q_so ↦ let h = rw (p_so, q_so) at e in (p_so ∙ sym q_so, cc)
+        | inr q_not ↦ let above = filter_later q (k + 1) n k _ (sym (rw (p_so, q_not) at e)) in absurd (omega arith)
+      ]
+      | inr p_not ↦ elim (cases_Bool (q k)) [
+        | inl q_so ↦ let above = filter_later p (k + 1) n k _ (rw (p_not, q_so) at e) in absurd (omega arith)
+        | inr q_not ↦ (p_not ∙ sym q_not, rw (p_not, q_not) at e)
+      ]
     ]
 
 filter_same : (p q : ℕ → Bool) (k n i : ℕ) → filter p (range_with_len k n) ≡ filter q (range_with_len k n) → k ≤ i → i < k + n → p i ≡ q i
@@ -254,8 +265,8 @@ filter_same p q k zero i e low high = absurd (omega arith)
 filter_same p q k (suc n) i e low high =
     let parts = filter_parts p q k n e in
     elim (cases_eq k i) [
-        inl same ↦ rw (← same) parts.0
-        | inr other ↦ filter_same p q (k + 1) n i parts.1 (omega arith) (omega arith)
+      | inl same ↦ rw (← same) parts.0
+      | inr other ↦ filter_same p q (k + 1) n i parts.1 (omega arith) (omega arith)
     ]
 
 -- of two bits that both differ from a third, or both do not, each is the other
@@ -276,11 +287,11 @@ same-ComesNoLater [] (y ∷ ys) p q = absurd q
 same-ComesNoLater (x ∷ xs) [] p q = absurd p
 same-ComesNoLater (x ∷ xs) (y ∷ ys) p q =
     elim p [
-        inl below ↦ elim q [ inl above ↦ absurd (omega arith) | inr rest ↦ let e = rest.0 in absurd (omega arith) ]
-        | inr here ↦ elim q [
-            inl above ↦ let e = here.0 in absurd (omega arith)
-            | inr rest ↦ let head = here.0 in let tail = same-ComesNoLater xs ys here.1 rest.1 in cc
-        ]
+      | inl below ↦ elim q [ inl above ↦ absurd (omega arith) | inr rest ↦ let e = rest.0 in absurd (omega arith) ]
+      | inr here ↦ elim q [
+        | inl above ↦ let e = here.0 in absurd (omega arith)
+        | inr rest ↦ let head = here.0 in let tail = same-ComesNoLater xs ys here.1 rest.1 in cc
+      ]
     ]
 
 -- there is one canonical pattern at most

@@ -4,7 +4,7 @@ use Rattle.std.proofs.lemmas.Bool.{false≢true, true≢false, not-true, not-fal
 use Rattle.std.specs.Bool.{then_some}
 use Rattle.hz_core.specs.declared.kind.Kind.TheVariants.{And, Nand, Or, Nor, Xor, Xnor, Not, Buff}
 use Rattle.hz_core.specs.Gate.{every_pin, some_pin, odd_pins, only_pin}
-use Rattle.hz_core.specs.Pattern.{IsReached, HasOneBit, IsTurnedByAny}
+use Rattle.hz_core.specs.Reached.{IsReached}
 use Rattle.hz_core.proofs.Kleene.{odd_pins-true}
 
 not-not : (b : Bool) → not (not b) ≡ b

@@ -1,9 +1,9 @@
 -- The canonical pattern: how a gate gets a wanted value by its free pins, with the fewest of them changed.
-use Rattle.std.specs.Prelude.{◌≡◌, ℕ, ◌<◌, ◌≤◌, Bool, true, false, not, Option, Some, None, List, [], ◌∷◌, length, replicate, ◌⊎◌, IsTrue}
+use Rattle.std.specs.Prelude.{◌≡◌, ℕ, ◌<◌, ◌≤◌, Bool, false, not, List, [], ◌∷◌, length, ◌⊎◌}
 use Rattle.std.specs.Bool.{beq}
-use Rattle.std.specs.List.{filter, range_with_len, slice_index_or, slice_set}
+use Rattle.std.specs.List.{filter, range_with_len, slice_index_or}
 use Rattle.hz_core.specs.declared.kind.Kind.{Kind}
-use Rattle.hz_core.specs.Gate.{takes, gate_value}
+use Rattle.hz_core.specs.Gate.{gate_value}
 
 -- a list agrees with the present values of the pins at every pin that is not free
 pub record Agrees (now free list : List Bool) : Type 0 where
@@ -36,18 +36,3 @@ pub record IsPattern (kind : Kind) (now free : List Bool) (want : Bool) (list : 
   pub candidate : IsCandidate kind now free want list
   pub fewest : (other : List Bool) → IsCandidate kind now free want other → length (changed now list) ≤ length (changed now other)
   pub least : (other : List Bool) → IsCandidate kind now free want other → length (changed now other) ≡ length (changed now list) → ComesNoLater (changed now list) (changed now other)
-
--- every list on which the gate has this value has the bit at each pin
-abbrev pub HasOneBit : Kind → Bool → Bool → Type 0
-HasOneBit kind value bit = (list : List Bool) → gate_value kind list ≡ value → list ≡ replicate (length list) bit
-
--- where the gate has the other value, each pin alone gives it this one
-abbrev pub IsTurnedByAny : Kind → Bool → Type 0
-IsTurnedByAny kind value =
-    (list : List Bool) → IsTrue (takes kind (length list)) → gate_value kind list ≡ not value →
-    (pin : ℕ) → pin < length list → gate_value kind (slice_set list pin (not (slice_index_or list pin false))) ≡ value
-
--- how pins give the gate this value: all of them by one bit, or any one by a change
-abbrev pub IsReached : Kind → Bool → Option Bool → Type 0
-IsReached kind value (Some bit) = HasOneBit kind value bit
-IsReached kind value None = IsTurnedByAny kind value

@@ -2,7 +2,8 @@
 ghost use Rattle.std.specs.Prelude.{◌≡◌, Bool, false, not, List, IsTrue, MatchOption, length, slice_set, slice_index_or};
 ghost use Rattle.std.specs.List.{position};
 ghost use Rattle.hz_core.specs.Gate.{takes};
-ghost use Rattle.hz_core.specs.Pattern.{IsCandidate, IsPattern, IsReached};
+ghost use Rattle.hz_core.specs.Pattern.{IsCandidate, IsPattern};
+ghost use Rattle.hz_core.specs.Reached.{IsReached};
 
 use super::Kind;
 
@@ -10,6 +11,7 @@ impl Kind {
     /// Writes the canonical pattern into `to`: of the lists of bits that agree with `now` at every
     /// pin that is not free and give the gate the value `want`, the one with the fewest pins
     /// changed, and among these the one whose list of changed pins is least in lexicographic order.
+    /// Pins are counted from 0. What stood in `to` is not read.
     pub fn choose(self, now: &[bool], free: &[bool], want: bool, to: &mut [bool])
         requires takes { IsTrue (takes self (length now.now)) }
         requires free_length { length free.now ≡ length now.now }
@@ -49,12 +51,10 @@ impl Kind {
 // Changes the first pin that is free.
 fn change_first(free: &[bool], to: &mut [bool])
     requires { length free.now ≡ length to.old }
-    ensures {
-        MatchOption
+    ensures { MatchOption
         (position (λ free. free) free.now)
         (to.new ≡ to.old)
-        (λ pin. to.new ≡ slice_set to.old pin (not (slice_index_or to.old pin false)))
-    }
+        (λ pin. to.new ≡ slice_set to.old pin (not (slice_index_or to.old pin false))) }
 {
     if let Some(pin) = first(free) {
         to[pin] = !to[pin];
