@@ -5,7 +5,8 @@ use Rattle.hz_net.specs.Network.{Driver, External, Function, Source, driver_at, 
 use Rattle.hz_net.specs.Passes.{algorithm_a, AreRounds, AreRanks}
 use Rattle.hz_gmw.specs.Runs.{is_listed, RepeatsNone}
 use Rattle.hz_reach.specs.Order.{key_at}
-use Rattle.hz_reach.specs.Spread.{after, IsSpreadRun, IsSparingRun}
+use Rattle.hz_reach.specs.Spread.{IsSpreadRun, IsSparingRun}
+use Rattle.hz_reach.specs.Room.{after}
 use Rattle.hz_reach.proofs.Listed.{listed-cases, listed-left, listed-right, changes-unlisted, changes-listed}
 use Rattle.hz_reach.proofs.Turns.{IsWired, IsTurnedAfter, AreTurns}
 use Rattle.hz_reach.proofs.Turning.{changed, changed-after, IsOnce, IsReady, once-after, HasTurned, node-changed, wire-ready}

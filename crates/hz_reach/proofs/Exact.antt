@@ -15,8 +15,9 @@ use Rattle.hz_net.specs.Passes.{algorithm_a, AreRounds, IsRank, AreRanks}
 use Rattle.hz_gmw.specs.Runs.{is_listed, end_of, IsReachable, JoinsTo}
 use Rattle.hz_gmw.proofs.CoverA.{covers}
 use Rattle.hz_reach.specs.Order.{key_at}
-use Rattle.hz_reach.specs.Picked.{picked, differs}
-use Rattle.hz_reach.specs.Spread.{after}
+use Rattle.hz_core.specs.Pattern.{differs}
+use Rattle.hz_reach.specs.Picked.{picked}
+use Rattle.hz_reach.specs.Room.{after}
 use Rattle.hz_reach.proofs.PickedLemmas.{picked-is, is-picked, picked-once, differs-true, true-differs}
 use Rattle.hz_reach.proofs.Turns.{IsWired, AreTurns}
 use Rattle.hz_reach.proofs.Turning.{changed, bit-changed, HasTurned, Also, turned-inputs, turned-same, turned-gate}

@@ -2,7 +2,8 @@
 use Rattle.std.proofs.Common.{◌≡◌, ◌≢◌, ℕ, zero, suc, ◌+◌, ◌<◌, Bool, true, false, cond, [], ◌∷◌, refl, ap, ◌∙◌, subst, arith, inl, inr, eqb}
 use Rattle.std.proofs.lemmas.Bool.{cases_eq, both_ways, or_cases, eqb-true, eq-eqb, or_left, false_from_ne_true}
 use Rattle.hz_gmw.specs.Runs.{is_listed, RepeatsNone}
-use Rattle.hz_reach.specs.Picked.{picked, differs}
+use Rattle.hz_core.specs.Pattern.{differs}
+use Rattle.hz_reach.specs.Picked.{picked}
 use Rattle.hz_reach.proofs.Listed.{listed-cases, listed-left, listed-right, repeats_none-append}
 
 -- a list of one

@@ -11,7 +11,8 @@ use Rattle.hz_gmw.specs.Runs.{is_listed, RepeatsNone, IsStep, IsRun, end_of}
 use Rattle.hz_gmw.proofs.Paths.{IsRun-append}
 use Rattle.hz_gmw.proofs.CoverB.{length-end_of}
 use Rattle.hz_reach.specs.Order.{key_at}
-use Rattle.hz_reach.specs.Spread.{IsWireInto, IsNode, after}
+use Rattle.hz_reach.specs.Spread.{IsWireInto, IsNode}
+use Rattle.hz_reach.specs.Room.{after}
 use Rattle.hz_reach.proofs.Listed.{listed-cases, listed-left, listed-right, unlisted-append, repeats_none-append, at-end_of, AreApart}
 use Rattle.hz_reach.proofs.Parts.{driver-inside, same-part}
 use Rattle.hz_reach.proofs.PickedLemmas.{only-one, is-one}

@@ -6,10 +6,3 @@ abbrev pub picked : (ℕ → Bool) → ℕ → ℕ → List ℕ
 picked test first zero = []
 picked test first (suc count) =
     picked test first count ++ (if test (first + count) then (first + count) ∷ [] else [])
-
--- whether two bits differ
-abbrev pub differs : Bool → Bool → Bool
-differs false false = false
-differs false true = true
-differs true false = true
-differs true true = false

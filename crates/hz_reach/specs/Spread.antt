@@ -42,8 +42,3 @@ pub record IsSparingRun (net : List Driver) (input start : List Bool) (a : List 
   pub later :
       (wire source gate : ℕ) → driver_at net wire ≡ Source source → IsWireInto net gate wire →
       (IsEarlier ranks source gate → ⊥) → changes_in steps wire ≡ 0
-
--- the steps of a run after one more, which is not made where it would change nothing
-abbrev pub after : List (List ℕ) → List ℕ → List (List ℕ)
-after steps [] = steps
-after steps (i ∷ flips) = steps ++ (i ∷ flips) ∷ []

@@ -7,6 +7,10 @@ ghost use Rattle.hz_net.specs.Network.{network_of, value_at, IsStable};
 ghost use Rattle.hz_net.specs.Passes.{algorithm_a, AreRounds};
 ghost use Rattle.hz_gmw.specs.Runs.{IsReachable, JoinsTo};
 
+mod scratch;
+
+pub use scratch::Scratch;
+
 /// Algorithm A is exact: from a start that is stable under its own input, the value of its result at a variable is the
 /// join of the values that the variable has in the reachable states. So where the result is X, one reachable state has 0
 /// there and another has 1.
