@@ -7,3 +7,6 @@ pub mod Wired
 pub mod RankedTurns
 pub mod Ended
 pub mod Exact
+pub mod Places
+pub mod SortLemmas
+pub mod Marks
