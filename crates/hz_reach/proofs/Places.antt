@@ -67,5 +67,14 @@ flipped-more flips k state once inside few =
     flipped-push (take k flips) (get_or flips k 0) state (fresh-at flips k once few) (inside (get_or flips k 0) (listed-at flips k few))
     ∙ ap (λ (list : List ℕ). flipped list state) (sym (take_more flips k 0 few))
 
-pub flipped-none : (place : ℕ) (state : List Bool) → state ≡ flipped [] state
-flipped-none place state = ext_get_or false state (flipped [] state) (sym (length-flipped [] state)) (λ i inside. sym (at-flipped [] state i inside))
+pub flipped-none : (state : List Bool) → state ≡ flipped [] state
+flipped-none state = ext_get_or false state (flipped [] state) (sym (length-flipped [] state)) (λ i inside. sym (at-flipped [] state i inside))
+
+-- a list without elements
+pub no-element : (list : List ℕ) → length list ≡ 0 → list ≡ []
+no-element [] empty = refl
+no-element (x ∷ list) empty = absurd (omega (arith, empty))
+
+pub some-element : (list : List ℕ) → length list ≢ 0 → list ≢ []
+some-element [] some e = some refl
+some-element (x ∷ list) some e = cc
