@@ -48,17 +48,18 @@ flipped-push flips x state out inside =
       | inl there ↦ there ∙ sym (listed-left flips (x ∷ []) i there)
       | inr absent ↦ absent ∙ sym (unlisted-append flips (x ∷ []) i absent (false_from_ne_true _ (λ only. other (is-one x i only))))
     ]
+
     at_place : (i : ℕ) → i < length state → get_or (set (flipped flips state) x (not (bit_at (flipped flips state) x))) i false ≡ bit_at (flipped (flips ++ x ∷ []) state) i
     at_place i within = elim (cases_eq i x) [
       | inl same ↦ subst (λ (n : ℕ). get_or (set (flipped flips state) x (not (bit_at (flipped flips state) x))) n false ≡ bit_at (flipped (flips ++ x ∷ []) state) n) (sym same)
-      (get_or-set_same (flipped flips state) x (not (bit_at (flipped flips state) x)) false (omega (arith, inside, length-flipped flips state))
-      ∙ (ap not (at-flipped flips state x inside ∙ ap (λ (b : Bool). cond b (not (bit_at state x)) (bit_at state x)) out)
-      ∙ sym (at-flipped (flips ++ x ∷ []) state x inside ∙ ap (λ (b : Bool). cond b (not (bit_at state x)) (bit_at state x)) (listed-right flips (x ∷ []) x (only-one x x refl)))))
+          (get_or-set_same (flipped flips state) x (not (bit_at (flipped flips state) x)) false (omega (arith, inside, length-flipped flips state))
+          ∙ (ap not (at-flipped flips state x inside ∙ ap (λ (b : Bool). cond b (not (bit_at state x)) (bit_at state x)) out)
+          ∙ sym (at-flipped (flips ++ x ∷ []) state x inside ∙ ap (λ (b : Bool). cond b (not (bit_at state x)) (bit_at state x)) (listed-right flips (x ∷ []) x (only-one x x refl)))))
       | inr other ↦
-      get_or-set_other (flipped flips state) x i (not (bit_at (flipped flips state) x)) false other
-      ∙ (at-flipped flips state i within
-      ∙ (ap (λ (b : Bool). cond b (not (bit_at state i)) (bit_at state i)) (same_list i other)
-      ∙ sym (at-flipped (flips ++ x ∷ []) state i within)))
+          get_or-set_other (flipped flips state) x i (not (bit_at (flipped flips state) x)) false other
+          ∙ (at-flipped flips state i within
+          ∙ (ap (λ (b : Bool). cond b (not (bit_at state i)) (bit_at state i)) (same_list i other)
+          ∙ sym (at-flipped (flips ++ x ∷ []) state i within)))
     ]
 
 -- the variable at a place of a list is turned next

@@ -8,8 +8,10 @@ ghost use Rattle.hz_net.specs.Passes.{algorithm_a, AreRounds};
 ghost use Rattle.hz_gmw.specs.Runs.{IsReachable, JoinsTo};
 
 mod scratch;
+mod spreading;
 
 pub use scratch::Scratch;
+pub use spreading::spread_run;
 
 /// Algorithm A is exact: from a start that is stable under its own input, the value of its result at a variable is the
 /// join of the values that the variable has in the reachable states. So where the result is X, one reachable state has 0
