@@ -10,3 +10,6 @@ pub mod Exact
 pub mod Places
 pub mod SortLemmas
 pub mod Marks
+pub mod Order
+pub mod Rooms
+pub mod Underway

@@ -12,17 +12,17 @@ use Rattle.hz_reach.specs.Spread.{IsWireInto}
 use Rattle.hz_reach.proofs.Turns.{IsWired}
 
 -- what drives a gate is its gate function, of the wires that its place gives it
-record IsGateOf (netlist : Netlist) (gate : ℕ) (kind : Kind) (first pins : ℕ) : Type 0 where
-  is_gate : IsGateNumber netlist gate
-  same_kind : (gate_at netlist gate).kind ≡ kind
-  first_is : first_wire netlist gate ≡ first
-  pins_are : length (gate_at netlist gate).sources ≡ pins
+pub record IsGateOf (netlist : Netlist) (gate : ℕ) (kind : Kind) (first pins : ℕ) : Type 0 where
+  pub is_gate : IsGateNumber netlist gate
+  pub same_kind : (gate_at netlist gate).kind ≡ kind
+  pub first_is : first_wire netlist gate ≡ first
+  pub pins_are : length (gate_at netlist gate).sources ≡ pins
 
 same-function : (kind other : Kind) (first others pins more : ℕ) → Function kind first pins ≡ Function other others more → (kind ≡ other) × (first ≡ others) × (pins ≡ more)
 same-function kind other first others pins more e = (cc, cc, cc)
 
 module _ (netlist : Netlist) (circuit : IsCircuit netlist) where
-  is_gate_of : (gate : ℕ) (kind : Kind) (first pins : ℕ) → driver_at (network_of netlist) gate ≡ Function kind first pins → IsGateOf netlist gate kind first pins
+  pub is_gate_of : (gate : ℕ) (kind : Kind) (first pins : ℕ) → driver_at (network_of netlist) gate ≡ Function kind first pins → IsGateOf netlist gate kind first pins
   is_gate_of gate kind first pins drives =
       elim (cases_lt gate netlist.inputs) [
         | inl input ↦ (let e = driver_at-input netlist gate circuit input in cc)
