@@ -12,4 +12,6 @@ pub mod SortLemmas
 pub mod Marks
 pub mod Order
 pub mod Rooms
+pub mod Asked
 pub mod Underway
+pub mod SpreadSteps

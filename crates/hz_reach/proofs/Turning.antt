@@ -63,7 +63,7 @@ pub bit-unchanged : (net : List Driver) (input start : List Bool) (steps : List 
 bit-unchanged net input start steps i before inside out =
     at-end_of steps start i before.once inside ∙ ap (λ (b : Bool). cond b (not (bit_at start i)) (bit_at start i)) out
 
-not-itself : (bit : Bool) → not bit ≢ bit
+pub not-itself : (bit : Bool) → not bit ≢ bit
 not-itself false e = cc
 not-itself true e = cc
 

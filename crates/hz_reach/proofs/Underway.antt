@@ -26,11 +26,13 @@ use Rattle.hz_reach.proofs.Places.{listed-at}
 use Rattle.hz_reach.proofs.Turns.{IsWired, IsTurnedBy, AreTurns}
 use Rattle.hz_reach.proofs.Wired.{IsGateOf, is_gate_of, wired-network_of}
 use Rattle.hz_reach.proofs.Turning.{changed, IsOnce, HasTurned, Also, turned-inputs, turned-same, turned-wires, turned-gate}
+use Rattle.hz_reach.proofs.Asked.{IsAsked}
 use Rattle.hz_reach.proofs.Order.{Among, not-among, among-earlier, among-next, next-before, next-here}
 use Rattle.hz_reach.proofs.Rooms.{end_of-after, spends-more}
 
 -- What holds when the turn has come to a place of the order.
-pub record IsUnderway (netlist : Netlist) (input start : List Bool) (ranks : List ℕ) (place : ℕ) (scratch : Scratched) (first now : Recorded) : Type 0 where
+pub record IsUnderway (netlist : Netlist) (input start : List Bool) (a : List Tri) (ranks : List ℕ) (place : ℕ) (scratch : Scratched) (first now : Recorded) : Type 0 where
+  pub asked : IsAsked netlist input start a ranks first
   pub sorted : AreByKey ranks scratch.sorted
   pub marked : scratch.marked ≡ []
   pub state : scratch.state ≡ end_of start now.steps
@@ -136,19 +138,17 @@ module _ (netlist : Netlist) (circuit : IsCircuit netlist) (input start : List B
       }
 
   -- The turn of the gate at a place.
-  module _ (place : ℕ) (scratch : Scratched) (first now : Recorded) (underway : IsUnderway netlist input start ranks place scratch first now) (inside : place < length scratch.sorted) where
-    at_place : ℕ
-    at_place = get_or scratch.sorted place 0
-
+  module _ (a : List Tri) (place : ℕ) (scratch : Scratched) (first now : Recorded) (underway : IsUnderway netlist input start a ranks place scratch first now) (inside : place < length scratch.sorted) where
     pub place-ranked : key_at ranks (get_or scratch.sorted place 0) ≢ 0
     place-ranked = (underway.sorted.keyed (get_or scratch.sorted place 0)).0 (listed-at scratch.sorted place inside)
 
     -- a variable that is no gate has no turn
-    pub underway-next : (IsGateNumber netlist (get_or scratch.sorted place 0) → ⊥) → IsUnderway netlist input start ranks (place + 1) scratch first now
+    pub underway-next : (IsGateNumber netlist (get_or scratch.sorted place 0) → ⊥) → IsUnderway netlist input start a ranks (place + 1) scratch first now
     underway-next no_gate =
         let gate_there : (i : ℕ) (kind : Kind) (from pins : ℕ) → driver_at (network_of netlist) i ≡ Function kind from pins → i ≢ get_or scratch.sorted place 0 =
         λ i kind from pins e same. no_gate (subst (IsGateNumber netlist) same (is_gate_of netlist circuit i kind from pins e).is_gate) in
         record {
+          asked = underway.asked;
           sorted = underway.sorted;
           marked = underway.marked;
           state = underway.state;
@@ -163,9 +163,6 @@ module _ (netlist : Netlist) (circuit : IsCircuit netlist) (input start : List B
         }
 
     module _ (is_gate : IsGateNumber netlist (get_or scratch.sorted place 0)) (flips : List ℕ) (wires : AreTurnedWires netlist start ranks (get_or scratch.sorted place 0) flips) where
-      pattern : List Bool
-      pattern = wires.pattern
-
       turned_by : IsTurnedBy start ranks (get_or scratch.sorted place 0) (gate_at netlist (get_or scratch.sorted place 0)).kind (first_wire netlist (get_or scratch.sorted place 0)) (pins_of netlist (get_or scratch.sorted place 0)) wires.pattern
       turned_by = candidate-turns (get_or scratch.sorted place 0) wires.pattern is_gate wires.canonical.candidate
 
@@ -225,10 +222,11 @@ module _ (netlist : Netlist) (circuit : IsCircuit netlist) (input start : List B
           (scratch_then : Scratched) (then : Recorded) → scratch_then.sorted ≡ scratch.sorted → scratch_then.marked ≡ [] →
           scratch_then.state ≡ flipped (get_or scratch.sorted place 0 ∷ []) (flipped flips scratch.state) →
           then.steps ≡ after (after now.steps flips) (get_or scratch.sorted place 0 ∷ []) → Spends now then →
-          IsUnderway netlist input start ranks (place + 1) scratch_then first then
+          IsUnderway netlist input start a ranks (place + 1) scratch_then first then
       underway-turn scratch_then then sorted marked state steps spent =
           let gate = get_or scratch.sorted place 0 in
           record {
+            asked = underway.asked;
             sorted = subst (AreByKey ranks) (sym sorted) underway.sorted;
             marked = marked;
             state =
