@@ -1,5 +1,5 @@
 -- Marked variables: one more, which is greater than all that are marked.
-use Rattle.std.proofs.Common.{◌≡◌, ◌≢◌, ℕ, ◌+◌, ◌<◌, ◌≤◌, Bool, true, false, List, [], ◌∷◌, ◌++◌, length, cond, refl, sym, ap, ◌∙◌, arith, inl, inr, subst, length-append, append-nil, add-one}
+use Rattle.std.proofs.Common.{◌≡◌, ℕ, ◌+◌, ◌<◌, Bool, true, false, List, [], ◌∷◌, ◌++◌, length, cond, refl, sym, ap, ◌∙◌, arith, inl, inr, subst, length-append, append-nil, add-one}
 use Rattle.std.proofs.lemmas.Bool.{false_from_ne_true}
 use Rattle.hz_gmw.specs.Runs.{is_listed, RepeatsNone}
 use Rattle.hz_reach.specs.Picked.{picked}

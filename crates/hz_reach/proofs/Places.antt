@@ -1,11 +1,11 @@
 -- Variables in a list, by their places.
-use Rattle.std.proofs.Common.{◌≡◌, ◌≢◌, ℕ, zero, suc, ◌+◌, ◌<◌, ◌≤◌, ◌⊎◌, Bool, true, false, not, cond, List, [], ◌∷◌, ◌++◌, length, get_or, set, take, drop, refl, sym, ap, ◌∙◌, subst, arith, inl, inr, eqb, length-append}
-use Rattle.std.proofs.lemmas.Bool.{cases_Bool, cases_eq, both_ways, or_cases, or_left, or_right, eqb-true, eq-eqb, ne_eqb, false_from_ne_true}
+use Rattle.std.proofs.Common.{◌≡◌, ◌≢◌, ℕ, zero, suc, ◌+◌, ◌<◌, Bool, true, false, not, cond, List, [], ◌∷◌, ◌++◌, length, get_or, set, take, drop, refl, sym, ap, ◌∙◌, subst, arith, inl, inr, eqb}
+use Rattle.std.proofs.lemmas.Bool.{cases_Bool, cases_eq, both_ways, or_cases, or_left, or_right, eqb-true, eq-eqb, false_from_ne_true}
 use Rattle.std.proofs.lemmas.List.{take-append-drop, take_more, drop_more, ext_get_or, get_or-set_same, get_or-set_other, length-set}
 use Rattle.hz_net.specs.Network.{bit_at}
 use Rattle.hz_gmw.specs.Runs.{is_listed, RepeatsNone, flipped}
 use Rattle.hz_gmw.proofs.Flips.{length-flipped, at-flipped}
-use Rattle.hz_reach.proofs.Listed.{listed-append, listed-left, listed-right, unlisted-append, repeats_none-apart}
+use Rattle.hz_reach.proofs.Listed.{listed-left, listed-right, unlisted-append, repeats_none-apart}
 use Rattle.hz_reach.proofs.PickedLemmas.{only-one, is-one}
 
 -- what stands in a list is listed

@@ -1,9 +1,9 @@
 -- The room that a run takes which changes no variable twice: at most a flip and a step for each variable.
-use Rattle.std.proofs.Common.{◌≡◌, ◌≢◌, ℕ, zero, suc, ◌+◌, ◌<◌, ◌≤◌, Bool, List, [], ◌∷◌, ◌++◌, length, refl, sym, ap, ◌∙◌, subst, arith, length-append, sum_by}
+use Rattle.std.proofs.Common.{◌≡◌, ◌≢◌, ℕ, ◌≤◌, Bool, List, [], ◌∷◌, length, refl, ap, ◌∙◌, arith, length-append}
 use Rattle.std.specs.List.{concat}
 use Rattle.std.proofs.lemmas.List.Sums.{sum_by-cons}
 use Rattle.hz_net.specs.Network.{Driver}
-use Rattle.hz_gmw.specs.Runs.{is_listed, flipped, IsRun, end_of}
+use Rattle.hz_gmw.specs.Runs.{flipped, IsRun, end_of}
 use Rattle.hz_gmw.specs.Recorded.{Recorded, flip_count}
 use Rattle.hz_gmw.proofs.Paths.{end_of-append}
 use Rattle.hz_reach.specs.Room.{after, Spends}

@@ -1,31 +1,30 @@
 -- The steps of `spread_run`: that each has room, and what holds after it.
-use Rattle.std.proofs.Common.{◌≡◌, ◌≢◌, ℕ, zero, suc, ◌+◌, ◌-◌, ◌<◌, ◌≤◌, Bool, true, false, not, ◌&&◌, List, [], ◌∷◌, ◌++◌, length, get_or, take, refl, sym, ap, ◌∙◌, subst, arith}
-use Rattle.std.proofs.lemmas.Bool.{cases_Bool, both_ways, and_parts, and_from, not-true, not_from_false, false_from_ne_true}
+use Rattle.std.proofs.Common.{◌≡◌, ◌≢◌, ℕ, ◌+◌, ◌-◌, ◌<◌, ◌≤◌, Bool, true, false, not, ◌&&◌, List, [], ◌∷◌, length, get_or, refl, sym, ap, ◌∙◌, subst, arith}
+use Rattle.std.proofs.lemmas.Bool.{both_ways, and_parts, and_from, not-true, not_from_false, false_from_ne_true}
 use Rattle.hz_core.specs.declared.tri.Tri.{Tri}
 use Rattle.hz_core.specs.declared.tri.Tri.TheVariants.{Zero, One, Unknown}
-use Rattle.hz_core.specs.Netlist.{Netlist, IsCircuit, IsGateNumber}
+use Rattle.hz_core.specs.Netlist.{Netlist, IsGateNumber}
 use Rattle.hz_core.specs.Pattern.{differs}
-use Rattle.hz_net.specs.Network.{network_of, driver_at, Source, bit_at, value_at}
+use Rattle.hz_net.specs.Network.{network_of, bit_at, value_at}
 use Rattle.hz_net.proofs.Places.{length-network_of, driver_at-wire}
 use Rattle.hz_net.proofs.Wires.{IsWireFrom-driver_at}
-use Rattle.hz_gmw.specs.Runs.{is_listed, RepeatsNone, flipped, end_of}
+use Rattle.hz_gmw.specs.Runs.{is_listed, flipped, end_of}
 use Rattle.hz_gmw.specs.Recorded.{Recorded}
 use Rattle.hz_gmw.proofs.CoverB.{length-end_of}
 use Rattle.hz_reach.specs.Order.{key_at, AreByKey}
-use Rattle.hz_reach.specs.Picked.{picked}
 use Rattle.hz_reach.specs.Room.{after, Spends}
 use Rattle.hz_reach.specs.Scratched.{Scratched}
 use Rattle.hz_reach.specs.Spread.{IsSpreadRun, IsSparingRun}
 use Rattle.hz_reach.specs.Turn.{turned_inputs, AreTurnedWires, is_unknown, unchanged_wires}
-use Rattle.hz_reach.proofs.PickedLemmas.{picked-is, is-picked, picked-once, differs-true, true-differs}
+use Rattle.hz_reach.proofs.PickedLemmas.{picked-is, is-picked, picked-once}
 use Rattle.hz_reach.proofs.Turns.{AreTurns}
 use Rattle.hz_reach.proofs.Wired.{wired-network_of}
-use Rattle.hz_reach.proofs.Turning.{changed, IsOnce, bit-changed, bit-unchanged, HasTurned, Also, turned-same, not-itself}
+use Rattle.hz_reach.proofs.Turning.{IsOnce, bit-changed, bit-unchanged, HasTurned, turned-same, not-itself}
 use Rattle.hz_reach.proofs.Ended.{HasSpread, spread-rest}
-use Rattle.hz_reach.proofs.Asked.{IsAsked, asked-turns, asked-a, asked-ranks, asked-unknown, asked-ranked, asked-spread, asked-sparing}
+use Rattle.hz_reach.proofs.Asked.{IsAsked, asked-turns, asked-ranks, asked-unknown, asked-ranked, asked-spread, asked-sparing}
 use Rattle.hz_reach.proofs.Order.{Among, among-all}
 use Rattle.hz_reach.proofs.Rooms.{room-flips, room-steps, spends-none, end_of-after}
-use Rattle.hz_reach.proofs.Underway.{IsUnderway, inputs-turned, wires-turned, gate-turned, underway-turn, underway-next}
+use Rattle.hz_reach.proofs.Underway.{IsUnderway, inputs-turned, wires-turned, gate-turned}
 
 -- The first step.
 module _ (netlist : Netlist) (input start : List Bool) (a : List Tri) (ranks : List ℕ) (first : Recorded) (asked : IsAsked netlist input start a ranks first) where
@@ -145,9 +144,12 @@ module _ (netlist : Netlist) (input start : List Bool) (a : List Tri) (ranks : L
         let few : is.place < count = is.few in
         let parts = and_parts _ _ is.passes in
         let some = asked-ranked netlist input start a ranks first underway.asked i (known-test (value_at a i) parts.0) in
-        let same : bit_at start i ≡ bit_at scratch.state i = same-differs _ _ (not-true _ parts.1) in
-        (_, driver_at-wire netlist i underway.asked.circuit (omega arith) (omega (arith, here, few, variables)), some,
-        false_from_ne_true _ (λ listed. not-itself (bit_at start i) (sym (bit-changed (network_of netlist) input start now.steps i underway.turned.once (omega (arith, turns.inside i some, underway.asked.long)) listed) ∙ (sym (ap (λ (s : List Bool). bit_at s i) underway.state) ∙ sym same)))))
+        let same : bit_at start i ≡ bit_at scratch.state i = same-differs _ _ (not-true _ parts.1) in (
+          _,
+          driver_at-wire netlist i underway.asked.circuit (omega arith) (omega (arith, here, few, variables)),
+          some,
+          false_from_ne_true _ (λ listed. not-itself (bit_at start i) (sym (bit-changed (network_of netlist) input start now.steps i underway.turned.once (omega (arith, turns.inside i some, underway.asked.long)) listed) ∙ (sym (ap (λ (s : List Bool). bit_at s i) underway.state) ∙ sym same))),
+        ))
         (λ i source drives some out.
         let above : names ≤ i = (IsWireFrom-driver_at netlist i source underway.asked.circuit drives).above in
         let inside : i < length (network_of netlist) = turns.inside i some in

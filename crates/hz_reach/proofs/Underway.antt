@@ -1,31 +1,27 @@
 -- The loop over the gates: what holds at each place of the order, and that a gate's turn leads to the next place.
-use Rattle.std.proofs.Common.{◌≡◌, ◌≢◌, ℕ, zero, suc, ◌+◌, ◌-◌, ◌<◌, ◌≤◌, ◌⊎◌, Bool, true, false, not, ◌&&◌, List, [], ◌∷◌, ◌++◌, length, get_or, map, take, refl, sym, ap, ◌∙◌, subst, arith, inl, inr, eqb, ltb}
-use Rattle.std.proofs.lemmas.Bool.{cases_Bool, cases_lt, both_ways, and_parts, and_from, not-true, not_from_false, eqb-true, eqb-false, ne_eqb, ltb-true, lt-ltb}
-use Rattle.std.proofs.lemmas.List.{get_or-map, length-map}
+use Rattle.std.proofs.Common.{◌≡◌, ◌≢◌, ℕ, ◌+◌, ◌-◌, ◌<◌, ◌≤◌, Bool, true, false, not, ◌&&◌, List, [], ◌∷◌, length, get_or, refl, sym, ap, ◌∙◌, subst, arith, inl, inr, eqb, ltb}
+use Rattle.std.proofs.lemmas.Bool.{cases_Bool, cases_lt, both_ways, and_parts, and_from, not-true, not_from_false, eqb-false, ne_eqb, ltb-true, lt-ltb}
+use Rattle.std.proofs.lemmas.List.{get_or-map}
 use Rattle.hz_core.specs.declared.tri.Tri.{Tri}
-use Rattle.hz_core.specs.declared.tri.Tri.TheVariants.{Unknown}
 use Rattle.hz_core.specs.declared.kind.Kind.{Kind}
 use Rattle.hz_core.specs.Netlist.{Netlist, IsCircuit, IsGateNumber, gate_at}
-use Rattle.hz_core.specs.Pattern.{differs, IsCandidate, IsPattern}
-use Rattle.hz_net.specs.Network.{Driver, External, Function, Source, network_of, driver_at, bit_at, value_at}
+use Rattle.hz_core.specs.Pattern.{differs, IsCandidate}
+use Rattle.hz_net.specs.Network.{External, Function, network_of, driver_at, bit_at}
 use Rattle.hz_net.specs.Variables.{first_wire}
 use Rattle.hz_net.proofs.Places.{length-network_of, driver_at-input, driver_at-gate, driver_at-wire, first_wire-bound}
-use Rattle.hz_net.proofs.Wires.{IsWireFrom-driver_at}
 use Rattle.hz_gmw.specs.Runs.{is_listed, RepeatsNone, flipped, end_of}
 use Rattle.hz_gmw.specs.Recorded.{Recorded}
 use Rattle.hz_reach.specs.Order.{key_at, AreByKey}
 use Rattle.hz_reach.specs.Picked.{picked}
 use Rattle.hz_reach.specs.Room.{after, Spends}
 use Rattle.hz_reach.specs.Scratched.{Scratched}
-use Rattle.hz_reach.specs.Spread.{IsWireInto}
-use Rattle.hz_reach.specs.Turn.{turned_inputs, pins_of, at_wires, free_pins, changed_wires, AreTurnedWires}
-use Rattle.hz_reach.proofs.Listed.{listed-cases}
-use Rattle.hz_reach.proofs.PickedLemmas.{IsPicked, picked-is, is-picked, picked-once, differs-true, true-differs}
+use Rattle.hz_reach.specs.Turn.{turned_inputs, pins_of, at_wires, free_pins, AreTurnedWires}
+use Rattle.hz_reach.proofs.PickedLemmas.{picked-is, is-picked, picked-once, differs-true, true-differs}
 use Rattle.hz_reach.proofs.Parts.{length-part, at-part}
 use Rattle.hz_reach.proofs.Places.{listed-at}
 use Rattle.hz_reach.proofs.Turns.{IsWired, IsTurnedBy, AreTurns}
-use Rattle.hz_reach.proofs.Wired.{IsGateOf, is_gate_of, wired-network_of}
-use Rattle.hz_reach.proofs.Turning.{changed, IsOnce, HasTurned, Also, turned-inputs, turned-same, turned-wires, turned-gate}
+use Rattle.hz_reach.proofs.Wired.{is_gate_of, wired-network_of}
+use Rattle.hz_reach.proofs.Turning.{HasTurned, Also, turned-inputs, turned-same, turned-wires, turned-gate}
 use Rattle.hz_reach.proofs.Asked.{IsAsked}
 use Rattle.hz_reach.proofs.Order.{Among, not-among, among-earlier, among-next, next-before, next-here}
 use Rattle.hz_reach.proofs.Rooms.{end_of-after, spends-more}
@@ -103,20 +99,22 @@ module _ (netlist : Netlist) (circuit : IsCircuit netlist) (input start : List B
       let pins = pins_of netlist gate in
       let turn = turns.gates gate (gate_at netlist gate).kind first pins (driver_at-gate netlist gate circuit is_gate) some in
       let by = turn.1 in
-      let lengths = length-at_wires gate start is_gate turns.long in
-      (turn.0, record {
-        agrees = record {
-          same_length = by.long ∙ sym lengths;
-          kept = λ pin inside bound.
-              let few : pin < pins = omega (arith, inside, lengths) in
-              let here = at-part start first pins pin false few in
-              same-bit (bit_at turn.0 pin) (bit_at start (first + pin)) (λ differ.
-              let free = by.free pin few differ in
-              both_ways _ (sym (at-free_pins gate pin is_gate few) ∙ bound) (and_from (not (eqb (key_at ranks (first + pin)) 0)) (ltb (key_at ranks (first + pin)) (key_at ranks gate)) (not_from_false _ (ne_eqb (key_at ranks (first + pin)) 0 free.0)) (lt-ltb (key_at ranks (first + pin)) (key_at ranks gate) free.1)))
-              ∙ sym here;
-        };
-        value = by.value;
-      })
+      let lengths = length-at_wires gate start is_gate turns.long in (
+        turn.0,
+        record {
+          agrees = record {
+            same_length = by.long ∙ sym lengths;
+            kept = λ pin inside bound.
+                let few : pin < pins = omega (arith, inside, lengths) in
+                let here = at-part start first pins pin false few in
+                same-bit (bit_at turn.0 pin) (bit_at start (first + pin)) (λ differ.
+                let free = by.free pin few differ in
+                both_ways _ (sym (at-free_pins gate pin is_gate few) ∙ bound) (and_from (not (eqb (key_at ranks (first + pin)) 0)) (ltb (key_at ranks (first + pin)) (key_at ranks gate)) (not_from_false _ (ne_eqb (key_at ranks (first + pin)) 0 free.0)) (lt-ltb (key_at ranks (first + pin)) (key_at ranks gate) free.1)))
+                ∙ sym here;
+          };
+          value = by.value;
+        },
+      )
 
   -- and a candidate turns it
   candidate-turns : (gate : ℕ) (pattern : List Bool) → IsGateNumber netlist gate → IsCandidate (gate_at netlist gate).kind (at_wires netlist gate start) (free_pins (key_at ranks gate) (at_wires netlist gate ranks)) (not (bit_at start gate)) pattern → IsTurnedBy start ranks gate (gate_at netlist gate).kind (first_wire netlist gate) (pins_of netlist gate) pattern
@@ -153,12 +151,12 @@ module _ (netlist : Netlist) (circuit : IsCircuit netlist) (input start : List B
           marked = underway.marked;
           state = underway.state;
           turned = turned-same (network_of netlist) input start ranks wired turns (Among place scratch.sorted) (Among place scratch.sorted) (Among (place + 1) scratch.sorted) now.steps underway.turned
-          (λ i kind from pins e some among. next-before scratch.sorted place i inside among)
-          (λ i kind from pins e some among. next-before scratch.sorted place i inside among)
-          (λ i kind from pins e some among. elim (among-next scratch.sorted place i inside among) [
-            | inl before ↦ before
-            | inr here ↦ absurd (gate_there i kind from pins e here)
-          ]);
+              (λ i kind from pins e some among. next-before scratch.sorted place i inside among)
+              (λ i kind from pins e some among. next-before scratch.sorted place i inside among)
+              (λ i kind from pins e some among. elim (among-next scratch.sorted place i inside among) [
+                | inl before ↦ before
+                | inr here ↦ absurd (gate_there i kind from pins e here)
+              ]);
           spent = underway.spent;
         }
 

@@ -184,3 +184,6 @@ fn is_left(value: Tri, start: bool, now: bool) -> bool
         Tri::Unknown => start == now,
     }
 }
+
+#[cfg(test)]
+mod tests;

@@ -1,4 +1,4 @@
-use Rattle.std.proofs.Common.{◌≡◌, ◌∙◌, ◌<◌, ℕ, Bool, true, false, List, length, map, sym, arith, not, ◌&&◌, eqb, ltb}
+use Rattle.std.proofs.Common.{false, arith, not, ◌&&◌, eqb, ltb}
 use Rattle.std.proofs.lemmas.List.{ext_get_or, length-map}
 use Rattle.hz_reach.specs.Turn.{free_pins}
 use Rattle.hz_reach.proofs.spreading.list_free.Goals as goal

@@ -1,4 +1,4 @@
-use Rattle.std.proofs.Common.{◌≡◌, ◌<◌, ◌-◌, ◌+◌, ℕ, refl}
+use Rattle.std.proofs.Common.{◌-◌, ◌+◌, refl}
 use Rattle.hz_core.specs.Pattern.{differs}
 use Rattle.hz_net.specs.Network.{bit_at}
 use Rattle.hz_reach.proofs.Marks.{picked-below}

@@ -1,4 +1,4 @@
-use Rattle.std.proofs.Common.{◌≡◌, ◌<◌, ◌≤◌, ◌+◌, ℕ, List, length, ap, subst, sym, arith}
+use Rattle.std.proofs.Common.{ap, arith}
 use Rattle.hz_core.specs.Netlist.{Netlist}
 use Rattle.hz_core.specs.Pattern.{differs}
 use Rattle.hz_net.specs.Network.{bit_at}

@@ -1,4 +1,4 @@
-use Rattle.std.proofs.Common.{◌≡◌, ◌∙◌, ◌<◌, ◌≤◌, ◌-◌, ◌+◌, ℕ, Bool, true, false, List, [], ◌∷◌, ◌++◌, length, not, ◌&&◌, ap, sym, arith}
+use Rattle.std.proofs.Common.{◌≡◌, ◌∙◌, ◌≤◌, ◌-◌, ◌+◌, ℕ, Bool, List, [], ◌∷◌, ◌++◌, length, not, ◌&&◌, ap, sym, arith}
 use Rattle.hz_core.specs.Netlist.{Netlist}
 use Rattle.hz_core.specs.Pattern.{differs}
 use Rattle.hz_net.specs.Network.{bit_at, value_at}
@@ -28,17 +28,17 @@ loop-wire-preserved c =
     c.is_left.ensures ∙ ap (λ (s : List Bool). is_unknown (value_at c.args.a.now c.loop-wire.wire) && not (differs (bit_at c.args.start.now c.loop-wire.wire) (bit_at s c.loop-wire.wire))) states in
     elim c.if-is_left.branch [
       | then-is_left w ↦ (
-          ap (λ (s : Scratched). s.marked) w.scratch-is
-          ∙ (w.mark.ensures.marked
-          ∙ (ap (λ (list : List ℕ). list ++ c.loop-wire.wire ∷ []) c.loop-wire.invariant.0
-          ∙ (picked-more test names (c.loop-wire.wire - names) c.loop-wire.wire next (sym is ∙ w.if-is_left.true) ∙ ap (picked test names) count))),
-          ap (λ (s : Scratched). s.state) w.scratch-is ∙ (w.mark.ensures.state ∙ c.loop-wire.invariant.1),
-          ap (λ (s : Scratched). s.sorted) w.scratch-is ∙ (w.mark.ensures.sorted ∙ c.loop-wire.invariant.2),
-          )
+        ap (λ (s : Scratched). s.marked) w.scratch-is
+            ∙ (w.mark.ensures.marked
+            ∙ (ap (λ (list : List ℕ). list ++ c.loop-wire.wire ∷ []) c.loop-wire.invariant.0
+            ∙ (picked-more test names (c.loop-wire.wire - names) c.loop-wire.wire next (sym is ∙ w.if-is_left.true) ∙ ap (picked test names) count))),
+        ap (λ (s : Scratched). s.state) w.scratch-is ∙ (w.mark.ensures.state ∙ c.loop-wire.invariant.1),
+        ap (λ (s : Scratched). s.sorted) w.scratch-is ∙ (w.mark.ensures.sorted ∙ c.loop-wire.invariant.2),
+      )
       | else-is_left w ↦ (
-          ap (λ (s : Scratched). s.marked) w.scratch-is
-          ∙ (c.loop-wire.invariant.0 ∙ (picked-skip test names (c.loop-wire.wire - names) c.loop-wire.wire next (sym is ∙ w.if-is_left.false) ∙ ap (picked test names) count)),
-          ap (λ (s : Scratched). s.state) w.scratch-is ∙ c.loop-wire.invariant.1,
-          ap (λ (s : Scratched). s.sorted) w.scratch-is ∙ c.loop-wire.invariant.2,
-          )
+        ap (λ (s : Scratched). s.marked) w.scratch-is
+            ∙ (c.loop-wire.invariant.0 ∙ (picked-skip test names (c.loop-wire.wire - names) c.loop-wire.wire next (sym is ∙ w.if-is_left.false) ∙ ap (picked test names) count)),
+        ap (λ (s : Scratched). s.state) w.scratch-is ∙ c.loop-wire.invariant.1,
+        ap (λ (s : Scratched). s.sorted) w.scratch-is ∙ c.loop-wire.invariant.2,
+      )
     ]

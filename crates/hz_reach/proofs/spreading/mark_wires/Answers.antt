@@ -1,6 +1,5 @@
-use Rattle.std.proofs.Common.{◌≡◌, ◌<◌, ◌≤◌, ◌-◌, ◌+◌, ℕ, length, take, drop, arith}
+use Rattle.std.proofs.Common.{◌-◌, ◌+◌, drop, arith}
 use Rattle.std.proofs.lemmas.List.{length-take}
-use Rattle.hz_net.specs.Network.{network_of}
 use Rattle.hz_net.proofs.Places.{length-network_of}
 use Rattle.hz_reach.proofs.spreading.mark_wires.Goals as goal
 

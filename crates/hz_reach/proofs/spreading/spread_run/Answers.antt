@@ -1,11 +1,10 @@
 -- The first step turns the inputs; then each gate of the order has its turn; last come the wires that are left.
-use Rattle.std.proofs.Common.{◌≡◌, ◌≢◌, ◌∙◌, ◌+◌, ◌<◌, ◌≤◌, ℕ, Bool, true, false, List, [], ◌∷◌, ◌++◌, length, get_or, refl, sym, ap, subst, arith}
-use Rattle.std.proofs.lemmas.Bool.{MatchBool-at_true}
+use Rattle.std.proofs.Common.{◌≡◌, ◌∙◌, ◌+◌, ◌<◌, ◌≤◌, ℕ, Bool, List, [], ◌∷◌, ◌++◌, length, get_or, sym, ap, subst, arith}
 use Rattle.hz_core.specs.Netlist.{Netlist, IsGateNumber}
 use Rattle.hz_gmw.specs.Recorded.{Recorded}
 use Rattle.hz_gmw.specs.Runs.{flipped, end_of}
 use Rattle.hz_gmw.proofs.Flips.{length-flipped}
-use Rattle.hz_reach.specs.Room.{after, Spends}
+use Rattle.hz_reach.specs.Room.{after}
 use Rattle.hz_reach.specs.Scratched.{Scratched}
 use Rattle.hz_reach.specs.Turn.{turned_inputs, AreTurnedWires}
 use Rattle.hz_reach.proofs.Asked.{IsAsked, asked-turns, asked-a, asked-ranks}
@@ -45,10 +44,11 @@ loop-place-init c =
     c.step.ensures.state
     ∙ (ap (λ (list : List ℕ). flipped list c.mark_inputs.new.scratch.state) c.mark_inputs.ensures.marked
     ∙ ap (flipped flips) (c.mark_inputs.ensures.state ∙ (c.sort.ensures.state ∙ c.begin.ensures.state))) in
-    let sorted = c.step.ensures.sorted ∙ c.mark_inputs.ensures.sorted in
-    (underway-begin c.args.net.now c.args.input.now c.args.start.now c.args.a.now c.args.rank.now c.args.run.now asked c.step.new.self c.step.new.run (rw sorted c.sort.ensures.sorted) c.step.ensures.marked state
-    (c.step.ensures.steps ∙ ap (after c.args.run.now.steps) c.mark_inputs.ensures.marked) c.step.ensures.room,
-    ap (length {A = ℕ}) c.sorted-place-end.ensures)
+    let sorted = c.step.ensures.sorted ∙ c.mark_inputs.ensures.sorted in (
+      underway-begin c.args.net.now c.args.input.now c.args.start.now c.args.a.now c.args.rank.now c.args.run.now asked c.step.new.self c.step.new.run (rw sorted c.sort.ensures.sorted) c.step.ensures.marked state
+          (c.step.ensures.steps ∙ ap (after c.args.run.now.steps) c.mark_inputs.ensures.marked) c.step.ensures.room,
+      ap (length {A = ℕ}) c.sorted-place-end.ensures,
+    )
 
 pub mark_wires-requires-clause-rank : goal.mark_wires-requires-clause-rank
 mark_wires-requires-clause-rank c =
@@ -139,8 +139,8 @@ loop-place-preserved c =
     let here : var ≡ gate = ap (λ (list : List ℕ). get_or list place 0) c.sorted.ensures in
     let moved : (scratch : Scratched) (run : Recorded) → c.if-inputs-var.scratch ≡ scratch → c.if-inputs-var.run ≡ run → IsUnderway netlist c.args.input.now c.args.start.now c.args.a.now c.args.rank.now (place + 1) scratch c.args.run.now run → IsUnderway netlist c.args.input.now c.args.start.now c.args.a.now c.args.rank.now (place + 1) c.if-inputs-var.scratch c.args.run.now c.if-inputs-var.run =
     λ scratch run scratch_is run_is is.
-        subst (λ (s : Scratched). IsUnderway netlist c.args.input.now c.args.start.now c.args.a.now c.args.rank.now (place + 1) s c.args.run.now c.if-inputs-var.run) (sym scratch_is)
-        (subst (λ (r : Recorded). IsUnderway netlist c.args.input.now c.args.start.now c.args.a.now c.args.rank.now (place + 1) scratch c.args.run.now r) (sym run_is) is) in
+    subst (λ (s : Scratched). IsUnderway netlist c.args.input.now c.args.start.now c.args.a.now c.args.rank.now (place + 1) s c.args.run.now c.if-inputs-var.run) (sym scratch_is)
+    (subst (λ (r : Recorded). IsUnderway netlist c.args.input.now c.args.start.now c.args.a.now c.args.rank.now (place + 1) scratch c.args.run.now r) (sym run_is) is) in
     elim c.if-inputs-var.branch [
       | then-inputs-var+then-var-nodes w ↦ (
           let is_gate = gate-at c.circuit-circuit.result.now netlist c.inputs.result w.nodes.result var gate c.circuit-circuit.ensures.same c.inputs.ensures.inputs w.nodes.ensures.nodes here w.if-inputs-var.true w.if-var-nodes.true in
@@ -156,11 +156,12 @@ loop-place-preserved c =
           w.step-then-var-nodes-2.ensures.steps
           ∙ (ap (after w.step-then-var-nodes.new.run.steps) marked
           ∙ ap (λ (list : List (List ℕ)). after list (gate ∷ [])) w.step-then-var-nodes.ensures.steps) in
-          let spent = spends-more c.loop-place.run w.step-then-var-nodes.new.run w.step-then-var-nodes-2.new.run w.step-then-var-nodes.ensures.room w.step-then-var-nodes-2.ensures.room in
-          (moved w.step-then-var-nodes-2.new.self w.step-then-var-nodes-2.new.run w.scratch-is w.run-is
-          (underway-turn netlist circuit c.args.input.now c.args.start.now c.args.rank.now long turns c.args.a.now place c.loop-place.scratch c.args.run.now c.loop-place.run underway inside is_gate flips wires
-          w.step-then-var-nodes-2.new.self w.step-then-var-nodes-2.new.run sorted w.step-then-var-nodes-2.ensures.marked state steps spent),
-          c.loop-place.invariant.1 ∙ ap (length {A = ℕ}) (sym sorted ∙ sym (ap (λ (s : Scratched). s.sorted) w.scratch-is)))
+          let spent = spends-more c.loop-place.run w.step-then-var-nodes.new.run w.step-then-var-nodes-2.new.run w.step-then-var-nodes.ensures.room w.step-then-var-nodes-2.ensures.room in (
+            moved w.step-then-var-nodes-2.new.self w.step-then-var-nodes-2.new.run w.scratch-is w.run-is
+                (underway-turn netlist circuit c.args.input.now c.args.start.now c.args.rank.now long turns c.args.a.now place c.loop-place.scratch c.args.run.now c.loop-place.run underway inside is_gate flips wires
+                w.step-then-var-nodes-2.new.self w.step-then-var-nodes-2.new.run sorted w.step-then-var-nodes-2.ensures.marked state steps spent),
+            c.loop-place.invariant.1 ∙ ap (length {A = ℕ}) (sym sorted ∙ sym (ap (λ (s : Scratched). s.sorted) w.scratch-is)),
+          )
           )
       | else-inputs-var w ↦ (
           let inputs = ap (λ (n : Netlist). n.inputs) c.circuit-circuit.ensures.same in
@@ -169,10 +170,11 @@ loop-place-preserved c =
           λ is_gate. elim w.else-inputs-var.branch [
             | else-inputs-var-via-then-inputs-var+else-var-nodes v ↦ omega (arith, is_gate.1, nodes, v.nodes.ensures.nodes, v.if-var-nodes.false, here)
             | else-inputs-var-via-else-inputs-var v ↦ omega (arith, is_gate.0, inputs, c.inputs.ensures.inputs, v.if-inputs-var.false, here)
-          ] in
-          (moved c.loop-place.scratch c.loop-place.run w.scratch-is w.run-is
-          (underway-next netlist circuit c.args.input.now c.args.start.now c.args.rank.now long turns c.args.a.now place c.loop-place.scratch c.args.run.now c.loop-place.run underway inside no_gate),
-          c.loop-place.invariant.1 ∙ ap (length {A = ℕ}) (sym (ap (λ (s : Scratched). s.sorted) w.scratch-is)))
+          ] in (
+            moved c.loop-place.scratch c.loop-place.run w.scratch-is w.run-is
+                (underway-next netlist circuit c.args.input.now c.args.start.now c.args.rank.now long turns c.args.a.now place c.loop-place.scratch c.args.run.now c.loop-place.run underway inside no_gate),
+            c.loop-place.invariant.1 ∙ ap (length {A = ℕ}) (sym (ap (λ (s : Scratched). s.sorted) w.scratch-is)),
+          )
           )
     ]
 
