@@ -4,4 +4,5 @@ pub mod EntryLemmas
 pub mod NetlistLemmas
 pub mod ParseLemmas
 pub mod PrintedLemmas
+pub mod PrintedLines
 pub mod StatementLemmas
