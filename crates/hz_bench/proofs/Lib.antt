@@ -3,6 +3,8 @@ pub mod DefinitionLemmas
 pub mod EntryLemmas
 pub mod NetlistLemmas
 pub mod ParseLemmas
+pub mod PrintedCircuit
+pub mod PrintedFaults
 pub mod PrintedLemmas
 pub mod PrintedLines
 pub mod StatementLemmas
