@@ -1,7 +1,9 @@
 pub mod BuildLemmas
 pub mod DefinitionLemmas
 pub mod EntryLemmas
+pub mod FaultLaws
 pub mod NetlistLemmas
 pub mod ParseLemmas
 pub mod PrintedLemmas
+pub mod ReadLaws
 pub mod StatementLemmas
