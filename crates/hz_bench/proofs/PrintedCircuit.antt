@@ -14,25 +14,26 @@ use Rattle.hz_core.specs.declared.kind.Kind.{Kind}
 use Rattle.hz_core.specs.Netlist.{Netlist, Gate as GateOf, IsCircuit, IsGateAmong, IsWhole}
 use Rattle.hz_core.proofs.CircuitLemmas.{same_netlist}
 use Rattle.hz_line.specs.Line.{lines_of}
+use Rattle.hz_line.specs.Statement.{Meaning, Nothing, Malformed, Means, Numbered, with_meaning, numbered_from}
 use Rattle.hz_bench.specs.declared.forms.Form.TheVariants as form
 use Rattle.hz_bench.specs.Netlist.{input_names, gate_names, output_names, node_names, number_in, gates_of, add_once, each_once, netlist_of}
-use Rattle.hz_bench.specs.Statement.{Statement}
-use Rattle.hz_bench.specs.Text.{Meaning, Nothing, Malformed, Means, meaning_of, Numbered, with_meaning, numbered_from, statements_of}
+use Rattle.hz_bench.specs.Statement.{Statement, statement_of}
+use Rattle.hz_bench.specs.Text.{meaning_of, statements_of}
 use Rattle.hz_bench.specs.Printed.{name_at, printed}
 use Rattle.hz_bench.proofs.PrintedLines.{ports, gate_statements, statements_for, IsReadAs, printed-IsReadAs}
 
 -- the statements among what lines are
-abbrev pub meant : List Meaning → List Statement
+abbrev pub meant : List (Meaning Statement) → List Statement
 meant [] = []
 meant (Nothing ∷ rest) = meant rest
 meant (Malformed ∷ rest) = meant rest
 meant (Means statement ∷ rest) = statement ∷ meant rest
 
-meant_lines : (line : ℕ) (lines : List (List ℕ)) → map (λ numbered. numbered.statement) (numbered_from line lines) ≡ meant (map meaning_of lines)
+meant_lines : (line : ℕ) (lines : List (List ℕ)) → map (λ numbered. numbered.statement) (numbered_from statement_of line lines) ≡ meant (map meaning_of lines)
 meant_lines line [] = refl
-meant_lines line (first ∷ rest) = by_meaning (meaning_of first) (numbered_from (suc line) rest) (map meaning_of rest) (meant_lines (suc line) rest)
+meant_lines line (first ∷ rest) = by_meaning (meaning_of first) (numbered_from statement_of (suc line) rest) (map meaning_of rest) (meant_lines (suc line) rest)
   where
-    by_meaning : (meaning : Meaning) (later : List Numbered) (meanings : List Meaning) → map (λ numbered. numbered.statement) later ≡ meant meanings → map (λ numbered. numbered.statement) (with_meaning line meaning later) ≡ meant (meaning ∷ meanings)
+    by_meaning : (meaning : Meaning Statement) (later : List (Numbered Statement)) (meanings : List (Meaning Statement)) → map (λ numbered. numbered.statement) later ≡ meant meanings → map (λ numbered. numbered.statement) (with_meaning line meaning later) ≡ meant (meaning ∷ meanings)
     by_meaning Nothing later meanings h = h
     by_meaning Malformed later meanings h = h
     by_meaning (Means statement) later meanings h = ap (λ rest. statement ∷ rest) h

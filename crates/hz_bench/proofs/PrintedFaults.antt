@@ -10,28 +10,27 @@ use Rattle.std.proofs.lemmas.List.{length-map, get_or_default}
 use Rattle.std.proofs.lemmas.List.Elements.{All-nil, All-cons, All-append, All-map, All-take, All-head, All-tail, All-from_recursion, filter_map-append}
 use Rattle.std.proofs.lemmas.List.Sums.{sum_by-append, sum_by-cons}
 use Rattle.std.proofs.lemmas.Map.Keys.{apart_from_distinct}
-use Rattle.hz_core.specs.declared.circuit.TheConstants.{MAX_VARIABLES}
 use Rattle.hz_core.specs.Gate.{takes}
 use Rattle.hz_core.specs.Netlist.{Netlist, Gate as GateOf, IsName, IsCircuit, IsGateAmong, IsWhole, variable_count}
 use Rattle.hz_core.proofs.CircuitLemmas.{takes-from_bounds}
 use Rattle.hz_line.specs.Line.{lines_of}
-use Rattle.hz_bench.specs.declared.fault.BenchFault.{BenchFault}
+use Rattle.hz_line.specs.Statement.{Meaning, Nothing, Malformed, Means}
 use Rattle.hz_bench.specs.declared.fault.BenchFault.TheVariants.{Form, Name, KindUnknown, Clocked, Twice, Pins, Undefined, TooMany, Memory}
 use Rattle.hz_bench.specs.declared.forms.Form.TheVariants as form
 use Rattle.hz_bench.specs.Check.{has_unknown_kind, has_clocked_kind, has_wrong_pins}
-use Rattle.hz_bench.specs.Fault.{States, HasThat, Defines, Uses, IsSecond, Stands}
+use Rattle.hz_bench.specs.Fault.{States, HasThat, Defines, Uses, IsSecond, IsFaultless}
 use Rattle.hz_bench.specs.Statement.{Statement, Input, Output, Gate, defined_name, used_names, has_long_name, is_long, variables_in, port_of}
-use Rattle.hz_bench.specs.Text.{Meaning, Nothing, Malformed, Means, meaning_of, meaning_at, statements_of, variables_of}
+use Rattle.hz_bench.specs.Text.{meaning_of, meaning_at, variables_of}
 use Rattle.hz_bench.specs.Printed.{name_at, printed}
 use Rattle.hz_bench.proofs.PrintedLines.{ports, HasPin, gate_statement, gate_statements, statements_for, IsReadAs, printed-IsReadAs}
 use Rattle.hz_bench.proofs.PrintedCircuit.{IsReadAs-statements}
 
 -- what a line is, where the lines are these statements
-abbrev line_at : List Statement → ℕ → Meaning
+abbrev line_at : List Statement → ℕ → Meaning Statement
 line_at statements above = get_or (map Means statements ++ Nothing ∷ []) above Nothing
 
 meaning_read : (text : List ℕ) (statements : List Statement) (above : ℕ) → IsReadAs text statements → meaning_at text (suc above) ≡ line_at statements above
-meaning_read text statements above read = sym (lists.get_or-map meaning_of (lines_of text) above []) ∙ ap (λ (all : List Meaning). get_or all above Nothing) read
+meaning_read text statements above read = sym (lists.get_or-map meaning_of (lines_of text) above []) ∙ ap (λ (all : List (Meaning Statement)). get_or all above Nothing) read
 
 formed : (statements : List Statement) (above : ℕ) → line_at statements above ≡ Malformed → ⊥
 formed [] zero h = cc
@@ -146,7 +145,7 @@ undefined_none names text statements line name read sound defined (statement, st
     none (suc place.0) (get_or statements place.0 statement, meaning_read text statements place.0 read ∙ there statements place.0 statement place.1, place.2)
 
 -- statements without faults make a text without one
-faultless : (names : List (List ℕ)) (text : List ℕ) (statements : List Statement) → IsReadAs text statements → All (IsSound names) statements → defined_names statements ≡ names → IsDistinct bytes_eq names → variables_of statements ≤ MAX_VARIABLES → (fault : BenchFault) → ¬ Stands text fault
+faultless : (names : List (List ℕ)) (text : List ℕ) (statements : List Statement) → IsReadAs text statements → All (IsSound names) statements → defined_names statements ≡ names → IsDistinct bytes_eq names → variables_of statements ≤ 200000 → IsFaultless text
 faultless names text statements read sound defined distinct few (Form zero) h = cc
 faultless names text statements read sound defined distinct few (Form (suc above)) h = formed statements above (sym (meaning_read text statements above read) ∙ h)
 faultless names text statements read sound defined distinct few (Name line) h = passes_none names text statements has_long_name line read sound (λ statement is. is.short) h
@@ -261,6 +260,6 @@ nodes_count netlist circuit =
     omega (arith, first, second, inputs_count inputs, outputs_count outputs, gates_count names netlist.inputs netlist.gates, few, circuit.nodes)
 
 -- a printed text has no fault
-pub printed-faultless : (netlist : Netlist) → IsCircuit netlist → IsWhole netlist → (fault : BenchFault) → ¬ Stands (printed netlist) fault
+pub printed-faultless : (netlist : Netlist) → IsCircuit netlist → IsWhole netlist → IsFaultless (printed netlist)
 printed-faultless netlist circuit whole =
     faultless netlist.names (printed netlist) (statements_for netlist) (printed-IsReadAs netlist circuit whole) (statements_sound netlist circuit whole) (nodes_define netlist circuit) circuit.names_distinct (omega (arith, nodes_count netlist circuit, circuit.variables))

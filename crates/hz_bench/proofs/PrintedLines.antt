@@ -13,12 +13,13 @@ use Rattle.hz_line.specs.declared.bytes.Mark.TheVariants.{Open, Close, Comma, Eq
 use Rattle.hz_line.specs.Byte.{class_of, is_letter}
 use Rattle.hz_line.specs.Line.{lines_of}
 use Rattle.hz_line.specs.Token.{TokenOf, WordOf, MarkOf, tokens_of, with_token, begins_in_word}
+use Rattle.hz_line.specs.Statement.{Meaning, Nothing, Means, meaning_of_tokens}
 use Rattle.hz_line.proofs.WrittenLemmas.{tokens_of-open, tokens_of-close, tokens_of-comma, tokens_of-equals, tokens_of-space, is_letter-separators, both, tokens_of-word_before, is_inline, lines_of-written}
 use Rattle.hz_bench.specs.declared.forms.KindWord.TheVariants.{Known}
 use Rattle.hz_bench.specs.declared.forms.Form.{Form}
 use Rattle.hz_bench.specs.declared.forms.Form.TheVariants as form
-use Rattle.hz_bench.specs.Statement.{Statement, Gate, kind_word_of, port_form, port_of, names_of}
-use Rattle.hz_bench.specs.Text.{Meaning, Nothing, Means, meaning_of, meaning_of_tokens}
+use Rattle.hz_bench.specs.Statement.{Statement, Gate, kind_word_of, port_form, port_of, names_of, statement_of}
+use Rattle.hz_bench.specs.Text.{meaning_of}
 use Rattle.hz_bench.specs.Printed.{name_at, kind_name, port_line, port_lines, more_sources, source_list, gate_head, gate_line, gate_lines, printed}
 
 -- a word that stands within a line
@@ -105,7 +106,7 @@ unfolding class_of port_form
 output_word = record { written = record { some = omega arith; letters = refl; inline = refl }; makes = refl }
 
 -- what each line of a text is
-abbrev pub meanings_of : List ℕ → List Meaning
+abbrev pub meanings_of : List ℕ → List (Meaning Statement)
 meanings_of text = map meaning_of (lines_of text)
 
 one_line : (line rest : List ℕ) (statement : Statement) → list_all is_inline line ≡ true → meaning_of line ≡ Means statement → meanings_of ((line ++ 10 ∷ []) ++ rest) ≡ Means statement ∷ meanings_of rest
@@ -130,7 +131,7 @@ port_tokens word name first second =
     ∙ ap (with_token (WordOf word)) (tokens_of-open (name ++ 41 ∷ []) ∙ ap (with_token (MarkOf Open)) named)
 
 port_meaning : (word name : List ℕ) (made : Form) → IsPortWord word made → IsWritten name → meaning_of (port_body word name) ≡ Means (port_of name made)
-port_meaning word name made is written = ap meaning_of_tokens (port_tokens word name is.written written) ∙ rw is.makes refl
+port_meaning word name made is written = ap (meaning_of_tokens statement_of) (port_tokens word name is.written written) ∙ rw is.makes refl
 
 port_inline : (word name : List ℕ) → IsWritten word → IsWritten name → list_all is_inline (port_body word name) ≡ true
 port_inline word name first second =
@@ -248,8 +249,8 @@ gate_statement names name gate = Gate name (Known gate.kind) (map (name_at names
 gate_meaning : (names : List (List ℕ)) (name : List ℕ) (gate : GateOf) → All IsName names → IsWritten name → AreNodes names gate.sources → 1 ≤ length gate.sources → meaning_of (gate_body names name gate) ≡ Means (gate_statement names name gate)
 gate_meaning names name gate named written below some =
     let list = sources_tokens names gate.sources named below some in
-    ap meaning_of_tokens (head_tokens name (source_list names gate.sources ++ 41 ∷ []) gate.kind written)
-    ∙ ap (λ tokens. meaning_of_tokens (with_token (WordOf name) (with_token (MarkOf Equals) (with_token (WordOf (kind_name gate.kind)) (with_token (MarkOf Open) tokens))))) list.1
+    ap (meaning_of_tokens statement_of) (head_tokens name (source_list names gate.sources ++ 41 ∷ []) gate.kind written)
+    ∙ ap (λ tokens. meaning_of_tokens statement_of (with_token (WordOf name) (with_token (MarkOf Equals) (with_token (WordOf (kind_name gate.kind)) (with_token (MarkOf Open) tokens))))) list.1
     ∙ rw (list.2, kind_back gate.kind) refl
 
 gate_inline : (names : List (List ℕ)) (name : List ℕ) (gate : GateOf) → All IsName names → IsWritten name → AreNodes names gate.sources → list_all is_inline (gate_body names name gate) ≡ true

@@ -1,8 +1,7 @@
 // Printing a circuit.
 
 ghost use Rattle.std.specs.Prelude.{◌≡◌, ◌++◌, ◌<◌, All, IfOk, OnOk, codes, length, map, take};
-ghost use Rattle.hz_bench.specs.declared.fault.BenchFault.{BenchFault};
-ghost use Rattle.hz_bench.specs.Fault.{Stands};
+ghost use Rattle.hz_bench.specs.Fault.{IsFaultless};
 ghost use Rattle.hz_bench.specs.Netlist.{netlist_of};
 ghost use Rattle.hz_bench.specs.Text.{statements_of};
 ghost use Rattle.hz_core.specs.Netlist.{IsCircuit, IsGateNumber, IsWhole, gate_at};
@@ -18,7 +17,7 @@ use std::alloc::Global;
 pub fn print(alloc: Global, circuit: &Circuit) -> Result<Vec<u8>, Memory>
     requires { IsWhole circuit.now }
     ensures text { IfOk result (λ text. text.items ≡ printed circuit.now) }
-    ensures faultless { IfOk result (λ text. (fault : BenchFault) → ¬ Stands text.items fault) }
+    ensures faultless { IfOk result (λ text. IsFaultless text.items) }
     ensures circuit { IfOk result (λ text. netlist_of (statements_of text.items) ≡ circuit.now) }
 {
     let mut text = Vec::new(alloc);
