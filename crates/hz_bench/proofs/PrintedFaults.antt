@@ -15,10 +15,11 @@ use Rattle.hz_core.specs.Netlist.{Netlist, Gate as GateOf, IsName, IsCircuit, Is
 use Rattle.hz_core.proofs.CircuitLemmas.{takes-from_bounds}
 use Rattle.hz_line.specs.Line.{lines_of}
 use Rattle.hz_line.specs.Statement.{Meaning, Nothing, Malformed, Means}
+use Rattle.hz_bench.specs.declared.fault.BenchFault.{BenchFault}
 use Rattle.hz_bench.specs.declared.fault.BenchFault.TheVariants.{Form, Name, KindUnknown, Clocked, Twice, Pins, Undefined, TooMany, Memory}
 use Rattle.hz_bench.specs.declared.forms.Form.TheVariants as form
 use Rattle.hz_bench.specs.Check.{has_unknown_kind, has_clocked_kind, has_wrong_pins}
-use Rattle.hz_bench.specs.Fault.{States, HasThat, Defines, Uses, IsSecond, IsFaultless}
+use Rattle.hz_bench.specs.Fault.{States, HasThat, Defines, Uses, IsSecond, IsFaultless, IsAnswer}
 use Rattle.hz_bench.specs.Statement.{Statement, Input, Output, Gate, defined_name, used_names, has_long_name, is_long, variables_in, port_of}
 use Rattle.hz_bench.specs.Text.{meaning_of, meaning_at, variables_of}
 use Rattle.hz_bench.specs.Printed.{name_at, printed}
@@ -263,3 +264,15 @@ nodes_count netlist circuit =
 pub printed-faultless : (netlist : Netlist) → IsCircuit netlist → IsWhole netlist → IsFaultless (printed netlist)
 printed-faultless netlist circuit whole =
     faultless netlist.names (printed netlist) (statements_for netlist) (printed-IsReadAs netlist circuit whole) (statements_sound netlist circuit whole) (nodes_define netlist circuit) circuit.names_distinct (omega (arith, nodes_count netlist circuit, circuit.variables))
+
+-- so what is answered in place of its circuit is want of memory
+pub memory_alone : (text : List ℕ) (fault : BenchFault) → IsFaultless text → IsAnswer text fault → fault ≡ Memory
+memory_alone text (Form line) none h = absurd (none (Form line) h.stands)
+memory_alone text (Name line) none h = absurd (none (Name line) h.stands)
+memory_alone text (KindUnknown line) none h = absurd (none (KindUnknown line) h.stands)
+memory_alone text (Clocked line) none h = absurd (none (Clocked line) h.stands)
+memory_alone text (Twice line first) none h = absurd (none (Twice line first) h.stands)
+memory_alone text (Pins line count) none h = absurd (none (Pins line count) h.stands)
+memory_alone text (Undefined line) none h = absurd (none (Undefined line) h.stands)
+memory_alone text (TooMany variables) none h = absurd (none (TooMany variables) h.stands)
+memory_alone text Memory none h = refl

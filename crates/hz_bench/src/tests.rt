@@ -1,6 +1,6 @@
 // Netlists read as a whole: each public function with ample memory, and the refused texts.
 
-ghost use Rattle.std.specs.Prelude.{◌≡◌, IfOk};
+ghost use Rattle.std.specs.Prelude.{◌≡◌, IfErr, IfOk};
 ghost use Rattle.hz_core.specs.Netlist.{IsWhole};
 
 use crate::{BenchFault, print, read};
@@ -92,10 +92,12 @@ fn prints(rt: HostRuntime) -> Result<(), Fail> {
     Ok(())
 }
 
-// Prints a circuit and reads it again.
+// Prints a circuit and reads it again: this gives the circuit, where memory does and the text is not too long.
+#[tactic(auto, using(crate::proofs::PrintedFaults::memory_alone))]
 fn read_back(alloc: Global, circuit: &Circuit) -> Result<Circuit, BenchFault>
     requires { IsWhole circuit.now }
-    ensures { IfOk result (λ back. back ≡ circuit.now) }
+    ensures circuit { IfOk result (λ back. back ≡ circuit.now) }
+    ensures memory { IfErr result (λ fault. fault ≡ BenchFault.Memory) }
 {
     let Ok(text) = print(alloc, circuit) else {
         return Err(BenchFault::Memory);
