@@ -136,10 +136,10 @@ circuit_back netlist circuit =
     (ap length ins ∙ length-take-le netlist.inputs names few)
     (ap (λ all. gates_of all statements) nodes ∙ made)
     (
-      ap (λ all. each_once (map (number_in all) (output_names statements))) nodes
-      ∙ ap (λ all. each_once (map (number_in names) all)) outs
-      ∙ ap each_once (numbers_back names netlist.outputs circuit.names_distinct circuit.outputs)
-      ∙ once [] netlist.outputs circuit.outputs_distinct
+    ap (λ all. each_once (map (number_in all) (output_names statements))) nodes
+    ∙ ap (λ all. each_once (map (number_in names) all)) outs
+    ∙ ap each_once (numbers_back names netlist.outputs circuit.names_distinct circuit.outputs)
+    ∙ once [] netlist.outputs circuit.outputs_distinct
     )
 
 -- a printed text stands for its circuit

@@ -200,12 +200,11 @@ sources_tokens names [] named below some = absurd (omega arith)
 sources_tokens names (first ∷ rest) named below some =
     let P : ℕ → Type 0 = λ node. node < length names in
     let name = name_at names first in
-    let word = node_written names first named (All-head P first rest below) in
-    (
+    let word = node_written names first named (All-head P first rest below) in (
       WordOf name ∷ further (map (name_at names) rest),
       ap tokens_of (append_assoc name (more_sources names rest) (41 ∷ []))
-      ∙ tokens_of-word_before name (more_sources names rest ++ 41 ∷ []) word.some word.letters (further_begins names rest)
-      ∙ ap (with_token (WordOf name)) (further_tokens names rest named (All-tail P first rest below)),
+          ∙ tokens_of-word_before name (more_sources names rest ++ 41 ∷ []) word.some word.letters (further_begins names rest)
+          ∙ ap (with_token (WordOf name)) (further_tokens names rest named (All-tail P first rest below)),
       names_of-further name (map (name_at names) rest),
     )
 
@@ -306,7 +305,7 @@ printed-IsReadAs netlist circuit whole =
     ∙ ports_read (codes "INPUT") form.Input inputs (port_lines (codes "OUTPUT") outputs ++ gate_lines names netlist.inputs netlist.gates) input_word (All-take IsName netlist.inputs names circuit.names)
     ∙ ap (λ later. map Means (ports form.Input inputs) ++ later) (middle ∙ ap (λ later. map Means (ports form.Output outputs) ++ later) last)
     ∙ sym (
-      ap (λ all. all ++ Nothing ∷ []) (map-append Means (ports form.Input inputs) (ports form.Output outputs ++ gates) ∙ ap (λ all. map Means (ports form.Input inputs) ++ all) (map-append Means (ports form.Output outputs) gates))
-      ∙ append_assoc (map Means (ports form.Input inputs)) (map Means (ports form.Output outputs) ++ map Means gates) (Nothing ∷ [])
-      ∙ ap (λ all. map Means (ports form.Input inputs) ++ all) (append_assoc (map Means (ports form.Output outputs)) (map Means gates) (Nothing ∷ []))
+    ap (λ all. all ++ Nothing ∷ []) (map-append Means (ports form.Input inputs) (ports form.Output outputs ++ gates) ∙ ap (λ all. map Means (ports form.Input inputs) ++ all) (map-append Means (ports form.Output outputs) gates))
+    ∙ append_assoc (map Means (ports form.Input inputs)) (map Means (ports form.Output outputs) ++ map Means gates) (Nothing ∷ [])
+    ∙ ap (λ all. map Means (ports form.Input inputs) ++ all) (append_assoc (map Means (ports form.Output outputs)) (map Means gates) (Nothing ∷ []))
     )

@@ -117,8 +117,6 @@ fn reads_back(rt: HostRuntime) -> Result<(), Fail> {
     let back = read_back(rt.alloc(), &circuit)?;
     assert_eq!(rt; back.inputs(), 1);
     assert_eq!(rt; back.nodes(), 3);
-    assert_eq!(rt; back.name(1), b"INPUT".as_slice());
-    assert_eq!(rt; back.kind(1), Kind::Buff);
     assert_eq!(rt; back.kind(2), Kind::Nand);
     assert_eq!(rt; back.sources(2), [1, 0, 0].as_slice());
     assert_eq!(rt; back.outputs(), [2, 0].as_slice());
