@@ -229,3 +229,15 @@ def hand_rows():
     two_wires = Circuit(*SMALL["xor"])
     yield "reached of two wires", two_wires.reached(), REACHED
     yield "outcomes of two wires", two_wires.outcomes(), OUTCOMES
+
+
+def small_changes():
+    """The small circuits with their changes, and those of at most nine variables from each stable start to each input."""
+    for name, (inputs, gates, start, new) in SMALL.items():
+        circuit = Circuit(inputs, gates, start, new)
+        yield name, circuit
+        if len(circuit.start) <= 9 and name != "stays":
+            for nodes in circuit.stable_starts():
+                for bits in product("01", repeat=len(inputs)):
+                    new = "".join(bits)
+                    yield f"{name} from {nodes} to {new}", Circuit(inputs, gates, nodes, new)
