@@ -31,7 +31,14 @@ fn find(alloc: Global, net: &Net, start: &[bool], input: &[bool]) -> Result<Foun
     let mut ranks = vec![in alloc; 0u32; variables]?;
     let mut settled = vec![in alloc; 0u32; variables]?;
     let (rounds_a, rounds_b) = pass(
-        net, start, input, &mut a, &mut ranks, &mut b, &mut settled, &mut work,
+        net,
+        start,
+        input,
+        &mut a,
+        &mut ranks,
+        &mut b,
+        &mut settled,
+        &mut work,
     );
     Ok(Found {
         a,
@@ -131,7 +138,10 @@ fn passes_over_a_latch(rt: HostRuntime) -> Result<(), Fail> {
     let found = find(rt.alloc(), &net, &start, &[false; 2])?;
     assert_eq!(rt; (found.rounds_a, found.rounds_b), (5, 3));
     assert_eq!(rt; found.ranks.as_slice(), [1, 1, 3, 3, 2, 4, 2, 4].as_slice());
-    assert_eq!(rt; found.settled.as_slice(), [1, 1, 0, 0, 2, 0, 2, 0].as_slice());
+    assert_eq!(rt;
+        found.settled.as_slice(),
+        [1, 1, 0, 0, 2, 0, 2, 0].as_slice()
+    );
     assert_eq!(rt; found.a.as_slice(), [Unknown; 8].as_slice());
     let settled = [Zero, Zero, Unknown, Unknown, Zero, Unknown, Zero, Unknown];
     assert_eq!(rt; found.b.as_slice(), settled.as_slice());
