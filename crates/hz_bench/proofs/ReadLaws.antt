@@ -1,6 +1,7 @@
 -- What the reader answers, by the law of faults.
 use Rattle.std.proofs.Common.{◌≡◌, ◌∙◌, ℕ, ◌≤◌, List, Option, Some, None, map, refl, ap, sym, subst, inl, inr, arith, if◌then◌else◌, ◌==◌}
 use Rattle.std.specs.Prelude.{◌⊎◌}
+use Rattle.hz_core.specs.Netlist.{IsWhole}
 use Rattle.hz_line.specs.Line.{lines_of}
 use Rattle.hz_line.specs.Statement.{Numbered, first_malformed}
 use Rattle.hz_bench.specs.declared.entry.Entry.{Entry}
@@ -10,11 +11,14 @@ use Rattle.hz_bench.specs.Answer.{form_or, answer_of}
 use Rattle.hz_bench.specs.Check.{first_fault, pin_count}
 use Rattle.hz_bench.specs.Entry.{numbered_list, statement_list}
 use Rattle.hz_bench.specs.Fault.{States, Defines, IsSecond, Stands, number_of, line_of, ComesFirst, IsLeastFault, IsFaultless, IsAnswer}
+use Rattle.hz_bench.specs.Netlist.{netlist_of}
 use Rattle.hz_bench.specs.Pass.{IsParsed, IsParseFault, IsAccepted}
 use Rattle.hz_bench.specs.Statement.{Statement, statement_of, defined_name}
 use Rattle.hz_bench.specs.Text.{meaning_at, statement_meant, numbered_statements, statements_of, variables_of}
 use Rattle.hz_bench.specs.Twice.{IsFoundOrMemory, earlier_line}
+use Rattle.hz_bench.proofs.CheckedLemmas.{IsChecked, checked}
 use Rattle.hz_bench.proofs.FaultLaws.{Outcome, answer-outcome, second-first, line_found}
+use Rattle.hz_bench.proofs.MayLemmas.{may_build, whole}
 use Rattle.hz_bench.proofs.NetlistLemmas.{statement_list-numbered}
 
 answered : (text : List ℕ) (fault : BenchFault) → answer_of text ≡ Some fault → IsLeastFault text fault
@@ -50,10 +54,15 @@ check-answer text entries (TooMany variables) parsed h = answered text (TooMany 
 check-answer text entries Memory parsed h = tt
 
 pub accepted : (text : List ℕ) (entries : List Entry) → IsParsed text entries → first_fault (numbered_list entries) ≡ None → IsAccepted text entries
-accepted text entries parsed e = record {
-  statements = sym (statement_list-numbered entries) ∙ ap (map (λ (numbered : Numbered Statement). numbered.statement)) parsed.statements;
-  faultless = subst (Outcome text) (check-found text entries None parsed e) (answer-outcome text);
-}
+accepted text entries parsed e =
+    let statements = sym (statement_list-numbered entries) ∙ ap (map (λ (numbered : Numbered Statement). numbered.statement)) parsed.statements in
+    let fine = subst IsChecked (statement_list-numbered entries) (checked (numbered_list entries) e) in
+    record {
+      statements = statements;
+      faultless = subst (Outcome text) (check-found text entries None parsed e) (answer-outcome text);
+      may = may_build (statement_list entries) fine;
+      whole = subst (λ (list : List Statement). IsWhole (netlist_of list)) statements (whole (statement_list entries) fine);
+    }
 
 -- the one fault with this number on this line: what it carries besides is the text's
 abbrev fault_at : List ℕ → ℕ → ℕ → BenchFault
