@@ -6,6 +6,9 @@ pub mod FaultLaws
 pub mod MayLemmas
 pub mod NetlistLemmas
 pub mod ParseLemmas
+pub mod PrintedCircuit
+pub mod PrintedFaults
 pub mod PrintedLemmas
+pub mod PrintedLines
 pub mod ReadLaws
 pub mod StatementLemmas
