@@ -4,6 +4,7 @@ use Rattle.std.specs.Prelude.{find, nat_lt, sum_by}
 use Rattle.std.specs.List.{list_any, AllByRecursion}
 use Rattle.std.specs.Str.{bytes_eq}
 use Rattle.std.proofs.lemmas.Bool.Decides.{nat_tests}
+use Rattle.std.proofs.lemmas.List.{append-nil}
 use Rattle.std.proofs.lemmas.List.Folds.{list_any-append}
 use Rattle.std.proofs.lemmas.Slice.Eq.{bytes_eq-Decides}
 use Rattle.hz_line.specs.Statement.{Numbered}
@@ -105,10 +106,6 @@ defined_names-push (first ∷ seen) next = by_statement first.statement (defined
     by_statement (Output name) ih = ih
     by_statement (Gate name kind sources) ih = ap (λ rest. name ∷ rest) ih
 
-append-none : (names : List (List ℕ)) → names ++ [] ≡ names
-append-none [] = refl
-append-none (name ∷ names) = ap (λ rest. name ∷ rest) (append-none names)
-
 -- where no name is defined twice, the defined names are apart
 apart-from_twice : (seen rest : List (Numbered Statement)) → twice_after seen rest ≡ None → Apart (defined_names (plain seen)) (defined_names (plain rest))
 apart-from_twice seen [] e = tt
@@ -117,7 +114,7 @@ apart-from_twice seen (next ∷ rest) e =
   where
     by_statement : (statement : Statement) → earlier_line seen (defined_name statement) ≡ None → Apart (defined_names (plain seen) ++ defined_names (statement ∷ [])) (defined_names (plain rest)) → Apart (defined_names (plain seen)) (defined_names (statement ∷ plain rest))
     by_statement (Input name) none h = (definer-absent seen name none, h)
-    by_statement (Output name) none h = subst (λ names. Apart names (defined_names (plain rest))) (append-none (defined_names (plain seen))) h
+    by_statement (Output name) none h = subst (λ names. Apart names (defined_names (plain rest))) (append-nil (defined_names (plain seen))) h
     by_statement (Gate name kind sources) none h = (definer-absent seen name none, h)
 
     by_line : (earlier : Option ℕ) → earlier_line seen (defined_name next.statement) ≡ earlier → twice_or next.line earlier (twice_after (seen ++ next ∷ []) rest) ≡ None → (twice_after (seen ++ next ∷ []) rest ≡ None → Apart (defined_names (plain (seen ++ next ∷ []))) (defined_names (plain rest))) → Apart (defined_names (plain seen)) (defined_names (next.statement ∷ plain rest))
@@ -207,7 +204,7 @@ definer-node (first ∷ rest) name h = by_test (defines name first.statement) re
     by_test true t h ih = defined_node first.statement (plain rest) name t
     by_test false t h ih = present_node first.statement (plain rest) name (ih h)
 
-not-false : (b : Bool) → not b ≡ false → b ≡ true
+pub not-false : (b : Bool) → not b ≡ false → b ≡ true
 not-false true h = refl
 not-false false h = cc
 

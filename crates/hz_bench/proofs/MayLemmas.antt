@@ -22,7 +22,7 @@ use Rattle.hz_bench.specs.Check.{has_unknown_kind, has_clocked_kind, has_wrong_p
 use Rattle.hz_bench.specs.Netlist.{input_names, gate_names, node_names, number_in, kind_of_word, gates_of, netlist_of}
 use Rattle.hz_bench.specs.Statement.{Statement, Input, Output, Gate, has_long_name, is_long, used_names, variables_in}
 use Rattle.hz_bench.specs.Text.{variables_of}
-use Rattle.hz_bench.proofs.CheckedLemmas.{Apart, UsesKnown, IsChecked, either}
+use Rattle.hz_bench.proofs.CheckedLemmas.{Apart, UsesKnown, IsChecked, either, not-false}
 use Rattle.hz_bench.proofs.NetlistLemmas.{bare_gates, with_gates, pin_added, pins_added, nodes_of-is, connected-is}
 
 -- a name that is absent has no node, and one that is present has one
@@ -84,8 +84,7 @@ gates_may all (Input name ∷ rest) short apart room = (tt, gates_may all rest s
 gates_may all (Output name ∷ rest) short apart room = (tt, gates_may all rest short.1 apart room)
 gates_may all (Gate name kind sources ∷ rest) short apart room =
     let bare : netlist.Gate = record { kind = kind_of_word kind; sources = [] } in
-    let same : pins_of (all.gates ++ bare ∷ []) ≡ pins_of all.gates = pins_of-append all.gates (bare ∷ []) ∙ add-zero (pins_of all.gates) in
-    (
+    let same : pins_of (all.gates ++ bare ∷ []) ≡ pins_of all.gates = pins_of-append all.gates (bare ∷ []) ∙ add-zero (pins_of all.gates) in (
       record { short = (either (is_long name) _ short.0).0; fresh = absent-unnamed all.names name apart.0; room = omega (arith, room) },
       gates_may (netlist.with_gate all name (kind_of_word kind)) rest short.1 apart.1 (omega (arith, room, same, length-append all.names (name ∷ []))),
     )
@@ -105,10 +104,6 @@ IsCount-takes Nor pins h = let range = both (nat_le 1 pins) (nat_le pins 256) h 
 IsCount-takes Xor pins h = let range = both (nat_le 1 pins) (nat_le pins 256) h in record { some = grind (arith, nat_tests); most = grind (arith, nat_tests) }
 IsCount-takes Xnor pins h = let range = both (nat_le 1 pins) (nat_le pins 256) h in record { some = grind (arith, nat_tests); most = grind (arith, nat_tests) }
 
-not-false : (b : Bool) → not b ≡ false → b ≡ true
-not-false true h = refl
-not-false false h = cc
-
 -- the pins of a gate statement that passed the check
 gate_count : (name : List ℕ) (kind : KindWord) (sources : List (List ℕ)) → has_unknown_kind (Gate name kind sources) ≡ false → has_clocked_kind (Gate name kind sources) ≡ false → has_wrong_pins (Gate name kind sources) ≡ false → IsCount (kind_of_word kind) (length sources)
 gate_count name (Known kind) sources known unclocked pins = IsCount-takes kind (length sources) (not-false _ pins)
@@ -125,8 +120,7 @@ gate_may all number done more kind sources (name ∷ names) place inside known f
     let gate : netlist.Gate = record { kind = kind; sources = sources } in
     let here : length done ≡ number - all.inputs = omega (arith, place) in
     let found = get_or_at done gate more (record { kind = And; sources = [] }) (number - all.inputs) here in
-    let count : pins_of (done ++ gate ∷ more) ≡ pins_of done + (length sources + pins_of more) = pins_of-append done (gate ∷ more) ∙ ap (λ n. pins_of done + n) (pins_of-cons gate more) in
-    (
+    let count : pins_of (done ++ gate ∷ more) ≡ pins_of done + (length sources + pins_of more) = pins_of-append done (gate ∷ more) ∙ ap (λ n. pins_of done + n) (pins_of-cons gate more) in (
       record {
         gate_is = (omega (arith, place), inside);
         source_is = present-named all.names name known.0;
@@ -163,8 +157,7 @@ pins_may all number done (Gate name kind sources ∷ rest) place inside known un
     let moved : done ++ gate ∷ bare_gates rest ≡ (done ++ gate ∷ []) ++ bare_gates rest = sym (append_assoc done (gate ∷ []) (bare_gates rest)) in
     let next : suc number ≡ all.inputs + length (done ++ gate ∷ []) = omega (arith, place, length-append done (gate ∷ [])) in
     let more : pins_of (done ++ gate ∷ []) ≡ pins_of done + length sources = omega (arith, pins_of-append done (gate ∷ []), pins_of-cons gate [], length-map sources (number_in all.names)) in
-    let after = pins_added all number done (bare_gates rest) (kind_of_word kind) [] sources place ∙ ap (with_gates all) moved in
-    (
+    let after = pins_added all number done (bare_gates rest) (kind_of_word kind) [] sources place ∙ ap (with_gates all) moved in (
       (omega (arith, inside, room), gate_may all number done (bare_gates rest) (kind_of_word kind) [] sources place (omega (arith, inside)) defined.0 (omega (arith, most)) (omega (arith, room, bare.1))),
       subst (λ now. MaySteps MayPins after_pins (record { netlist = now; gate = suc number }) rest) (sym after)
           (pins_may all (suc number) (done ++ gate ∷ []) rest next (omega (arith, inside)) known.1 unclocked.1 pins.1 defined.1 (omega (arith, room, more))),

@@ -7,5 +7,5 @@ use Rattle.hz_bench.proofs.build.connect_gate.Given as goal
 abbrev pub invariant-loop-token : goal.invariant-loop-token
 invariant-loop-token l = record {
   so_far : l.circuit ≡ fold (after_pin l.gate) l.fn.circuit (words_of (map token_of (take l.token-index l.sources)));
-  may : MaySteps (MayPin l.gate) (after_pin l.gate) l.circuit (words_of (map token_of (drop l.token-index l.sources)))
+  may : MaySteps (MayPin l.gate) (after_pin l.gate) l.circuit (words_of (map token_of (drop l.token-index l.sources)));
 }
