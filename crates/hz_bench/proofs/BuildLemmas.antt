@@ -1,12 +1,8 @@
 -- When a node or a pin may be added.
-use Rattle.std.proofs.Common.{◌≡◌, ◌∙◌, ℕ, ◌+◌, ◌<◌, ◌≤◌, List, [], ◌∷◌, Bool, true, false, not, ◌++◌, ◌||◌, ◌&&◌, ◌==◌, cond, nat_le, Option, Some, None, is_some, length, map, take, drop, fold, get_or, refl, sym, ap, subst, arith}
-use Rattle.std.specs.Bool.{OnTrue}
+use Rattle.std.proofs.Common.{◌≡◌, ◌∙◌, ℕ, ◌+◌, ◌<◌, List, [], ◌∷◌, Bool, true, false, ◌++◌, ◌||◌, ◌&&◌, ◌==◌, cond, nat_le, Some, None, length, map, take, drop, fold, get_or, refl, sym, ap, subst, arith}
 use Rattle.std.specs.List.{list_all}
 use Rattle.std.proofs.lemmas.Bool.Decides.{nat_tests}
-use Rattle.hz_core.specs.declared.kind.Kind.{Kind}
-use Rattle.hz_core.specs.declared.kind.Kind.TheVariants.{And, Nand, Or, Nor, Xor, Xnor, Not, Buff}
-use Rattle.hz_core.specs.Gate.{takes}
-use Rattle.hz_core.specs.Netlist.{Netlist, IsName, is_name_byte, node_named, variable_count, most_pins}
+use Rattle.hz_core.specs.Netlist.{Netlist, IsName, is_name_byte, node_named, variable_count}
 use Rattle.hz_line.specs.declared.bytes.Class.{Class}
 use Rattle.hz_line.specs.declared.bytes.Class.TheVariants.{Blank, Hash, Sign, Letter, Forbidden}
 use Rattle.hz_line.specs.declared.bytes.Mark.TheVariants.{Open, Close, Comma, Equals}

@@ -1,6 +1,6 @@
 -- What holds of statements in which the check found no fault.
-use Rattle.std.proofs.Common.{◌≡◌, ◌∙◌, ℕ, ◌+◌, ◌<◌, ◌≤◌, ◌++◌, ◌||◌, Bool, true, false, not, cond, List, [], ◌∷◌, Option, Some, None, is_some, length, map, refl, ap, sym, subst, arith, append_assoc}
-use Rattle.std.specs.Prelude.{find, nat_lt, sum_by}
+use Rattle.std.proofs.Common.{◌≡◌, ◌∙◌, ℕ, ◌≤◌, ◌++◌, ◌||◌, Bool, true, false, not, cond, List, [], ◌∷◌, Option, Some, None, is_some, map, refl, ap, sym, subst, arith}
+use Rattle.std.specs.Prelude.{nat_lt}
 use Rattle.std.specs.List.{list_any, AllByRecursion}
 use Rattle.std.specs.Str.{bytes_eq}
 use Rattle.std.proofs.lemmas.Bool.Decides.{nat_tests}
@@ -11,12 +11,12 @@ use Rattle.hz_line.specs.Statement.{Numbered}
 use Rattle.hz_bench.specs.declared.fault.BenchFault.{BenchFault}
 use Rattle.hz_bench.specs.declared.fault.BenchFault.TheVariants as fault
 use Rattle.hz_bench.specs.Check.{has_unknown_kind, has_clocked_kind, has_wrong_pins, pin_count, uses_undefined, first_that, fault_or, first_or, too_many, first_fault}
-use Rattle.hz_bench.specs.Definition.{is_that, defines, definer}
+use Rattle.hz_bench.specs.Definition.{defines, definer}
 use Rattle.hz_bench.specs.Netlist.{input_names, gate_names, node_names}
 use Rattle.hz_bench.specs.Statement.{Statement, Input, Output, Gate, defined_name, used_names, has_long_name}
 use Rattle.hz_bench.specs.Text.{variables_of, variables_among}
 use Rattle.hz_bench.specs.Twice.{twice_or, earlier_line, twice_after, twice_fault}
-use Rattle.hz_bench.proofs.DefinitionLemmas.{or_line, definer-append, definer-cons}
+use Rattle.hz_bench.proofs.DefinitionLemmas.{definer-cons}
 use Rattle.hz_bench.proofs.ParseLemmas.{variables_of-statements}
 
 -- the statements without their lines

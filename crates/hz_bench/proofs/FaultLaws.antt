@@ -1,19 +1,17 @@
 -- The first answer of the passes over a text is its least fault.
-use Rattle.std.proofs.Common.{◌≡◌, ◌∙◌, ℕ, ◌<◌, ◌≤◌, ◌++◌, Bool, true, false, not, cond, zero, suc, List, [], ◌∷◌, Option, Some, None, is_some, length, get_or, refl, ap, sym, subst, inl, inr, arith, lit≤, append_assoc}
+use Rattle.std.proofs.Common.{◌≡◌, ◌∙◌, ℕ, ◌<◌, ◌≤◌, ◌++◌, Bool, true, false, not, cond, zero, suc, List, [], ◌∷◌, Option, Some, None, is_some, refl, ap, sym, subst, inl, inr, arith, lit≤, append_assoc}
 use Rattle.std.specs.Prelude.{◌⊎◌, nat_lt, find, Contains, option_map, MatchOption}
-use Rattle.std.specs.List.{list_any, Any}
-use Rattle.std.specs.Str.{bytes_eq}
+use Rattle.std.specs.List.{Any}
 use Rattle.std.proofs.lemmas.Bool.{cases_lt}
 use Rattle.std.proofs.lemmas.Bool.Decides.{nat_tests}
-use Rattle.std.proofs.lemmas.List.Elements.{Contains-get_or}
 use Rattle.std.proofs.lemmas.List.Folds.{Any-from_list_any, list_any_at}
 use Rattle.std.proofs.lemmas.Slice.Eq.{bytes_eq-Decides}
 use Rattle.hz_line.specs.Line.{lines_of}
-use Rattle.hz_line.specs.Statement.{Malformed, Means, Numbered, first_malformed}
+use Rattle.hz_line.specs.Statement.{Malformed, Numbered, first_malformed}
 use Rattle.hz_line.proofs.StatementLemmas.{Ascends, numbered_from-Ascends, meaning_at-first, meaning_at-none, find-Some, find-None, stated, stating, first_line-found, first_line-unfound, Ascends-front, Ascends-before}
 use Rattle.hz_bench.specs.declared.fault.BenchFault.{BenchFault}
 use Rattle.hz_bench.specs.declared.fault.BenchFault.TheVariants.{Form, Name, KindUnknown, Clocked, Twice, Pins, Undefined, TooMany, Memory}
-use Rattle.hz_bench.specs.Check.{has_unknown_kind, has_clocked_kind, has_wrong_pins, pin_count, uses_undefined, first_that, fault_or, first_or, too_many, first_fault}
+use Rattle.hz_bench.specs.Check.{has_unknown_kind, has_clocked_kind, has_wrong_pins, pin_count, uses_undefined, fault_or, first_or, too_many, first_fault}
 use Rattle.hz_bench.specs.Definition.{is_that, defines, definer}
 use Rattle.hz_bench.specs.Fault.{States, HasThat, Defines, Uses, IsSecond, Stands, number_of, line_of, ComesFirst, IsLeastFault, IsFaultless}
 use Rattle.hz_bench.specs.Statement.{Statement, statement_of, defined_name, used_names, has_long_name}

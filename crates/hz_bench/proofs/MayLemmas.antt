@@ -1,10 +1,10 @@
 -- The circuit of checked statements may be built, and each of its gates has a pin.
-use Rattle.std.proofs.Common.{◌≡◌, ◌∙◌, ℕ, ◌+◌, ◌-◌, ◌<◌, ◌≤◌, ◌++◌, ◌&&◌, not, Bool, true, false, suc, nat_le, List, [], ◌∷◌, Option, Some, None, length, map, fold, refl, ap, sym, subst, arith, append_assoc, add-zero, length-append, inl, inr}
+use Rattle.std.proofs.Common.{◌≡◌, ◌∙◌, ℕ, ◌+◌, ◌-◌, ◌<◌, ◌≤◌, ◌++◌, true, false, suc, nat_le, List, [], ◌∷◌, Option, Some, None, length, map, refl, ap, sym, subst, arith, append_assoc, add-zero, length-append}
 use Rattle.std.specs.Prelude.{IsSome, sum_by, All, position}
 use Rattle.std.specs.List.{list_any, AllByRecursion}
 use Rattle.std.specs.Str.{bytes_eq}
 use Rattle.std.proofs.lemmas.Bool.Decides.{nat_tests}
-use Rattle.std.proofs.lemmas.List.{get_or_at, append-nil, length-map}
+use Rattle.std.proofs.lemmas.List.{get_or_at, length-map}
 use Rattle.std.proofs.lemmas.List.Elements.{All-nil, All-cons}
 use Rattle.std.proofs.lemmas.List.Folds.{list_any_at}
 use Rattle.std.proofs.lemmas.List.Quantifiers.{position-Some}
@@ -17,10 +17,10 @@ use Rattle.hz_core.proofs.ListLemmas.{list_any-from_position_none}
 use Rattle.hz_line.proofs.WrittenLemmas.{both}
 use Rattle.hz_bench.specs.declared.forms.KindWord.{KindWord}
 use Rattle.hz_bench.specs.declared.forms.KindWord.TheVariants.{Known, Clocked, Unknown}
-use Rattle.hz_bench.specs.Built.{MaySteps, MayAdd, MayInput, MayGate, MayPin, MayPins, MayOutput, MayBuild, Connecting, after_input, after_gate, after_pin, after_pins, after_output, nodes_of, connected}
+use Rattle.hz_bench.specs.Built.{MaySteps, MayInput, MayGate, MayPin, MayPins, MayOutput, MayBuild, after_input, after_gate, after_pin, after_pins, after_output}
 use Rattle.hz_bench.specs.Check.{has_unknown_kind, has_clocked_kind, has_wrong_pins}
 use Rattle.hz_bench.specs.Netlist.{input_names, gate_names, node_names, number_in, kind_of_word, gates_of, netlist_of}
-use Rattle.hz_bench.specs.Statement.{Statement, Input, Output, Gate, has_long_name, is_long, used_names, variables_in}
+use Rattle.hz_bench.specs.Statement.{Statement, Input, Output, Gate, has_long_name, is_long, variables_in}
 use Rattle.hz_bench.specs.Text.{variables_of}
 use Rattle.hz_bench.proofs.CheckedLemmas.{Apart, UsesKnown, IsChecked, either, not-false}
 use Rattle.hz_bench.proofs.NetlistLemmas.{bare_gates, with_gates, pin_added, pins_added, nodes_of-is, connected-is}

@@ -1,18 +1,17 @@
 -- What the reader answers, by the law of faults.
-use Rattle.std.proofs.Common.{◌≡◌, ◌∙◌, ℕ, ◌≤◌, List, Option, Some, None, map, refl, ap, sym, subst, inl, inr, arith, if◌then◌else◌, ◌==◌}
+use Rattle.std.proofs.Common.{◌≡◌, ◌∙◌, ℕ, List, Option, Some, None, map, refl, ap, sym, subst, inl, inr, arith, if◌then◌else◌, ◌==◌}
 use Rattle.std.specs.Prelude.{◌⊎◌}
 use Rattle.hz_core.specs.Netlist.{IsWhole}
-use Rattle.hz_line.specs.Line.{lines_of}
-use Rattle.hz_line.specs.Statement.{Numbered, first_malformed}
+use Rattle.hz_line.specs.Statement.{Numbered}
 use Rattle.hz_bench.specs.declared.entry.Entry.{Entry}
 use Rattle.hz_bench.specs.declared.fault.BenchFault.{BenchFault}
 use Rattle.hz_bench.specs.declared.fault.BenchFault.TheVariants.{Form, Name, KindUnknown, Clocked, Twice, Pins, Undefined, TooMany, Memory}
 use Rattle.hz_bench.specs.Check.{first_fault, pin_count}
 use Rattle.hz_bench.specs.Entry.{numbered_list, statement_list}
-use Rattle.hz_bench.specs.Fault.{States, Defines, IsSecond, Stands, number_of, line_of, ComesFirst, IsLeastFault, IsFaultless, IsAnswer}
+use Rattle.hz_bench.specs.Fault.{Defines, Stands, number_of, line_of, ComesFirst, IsLeastFault, IsAnswer}
 use Rattle.hz_bench.specs.Netlist.{netlist_of}
 use Rattle.hz_bench.specs.Pass.{IsParsed, IsParseFault, IsAccepted}
-use Rattle.hz_bench.specs.Statement.{Statement, statement_of, defined_name}
+use Rattle.hz_bench.specs.Statement.{Statement, defined_name}
 use Rattle.hz_bench.specs.Text.{meaning_at, statement_meant, numbered_statements, statements_of, variables_of}
 use Rattle.hz_bench.specs.Twice.{IsFoundOrMemory, earlier_line}
 use Rattle.hz_bench.proofs.CheckedLemmas.{IsChecked, checked}

@@ -1,6 +1,4 @@
-use Rattle.std.proofs.Common.{sym}
-use Rattle.hz_bench.specs.Built.{after_input, MayInput, MaySteps}
-use Rattle.hz_bench.specs.Entry.{statement_list}
+use Rattle.hz_bench.specs.Built.{after_input, MayInput}
 use Rattle.hz_bench.proofs.BuildLemmas.{entries_may, entries_more}
 use Rattle.hz_bench.proofs.build.add_inputs.Goals as goal
 
