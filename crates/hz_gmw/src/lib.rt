@@ -8,6 +8,10 @@ ghost use Rattle.hz_net.specs.Passes.{algorithm_a, algorithm_b, AreRounds};
 ghost use Rattle.hz_gmw.specs.Runs.{IsReachable};
 ghost use Rattle.hz_gmw.specs.Cycles.{IsOutcome};
 
+mod run;
+
+pub use run::Run;
+
 /// Algorithm A covers: where its result is 0 or 1 at a variable, every reachable state has this value there.
 #[tactic(auto, using(crate::proofs::CoverA::covers))]
 pub fn a_covers()
