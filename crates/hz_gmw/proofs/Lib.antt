@@ -6,3 +6,4 @@ pub mod SetLemmas
 pub mod LeastLemmas
 pub mod Readers
 pub mod Rechecks
+pub mod PresentLemmas

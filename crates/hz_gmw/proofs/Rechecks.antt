@@ -34,7 +34,7 @@ or-same true u = refl
 or-same false true = refl
 or-same false false = refl
 
-beq-same : (a b : Bool) → beq a b ≡ true → a ≡ b
+pub beq-same : (a b : Bool) → beq a b ≡ true → a ≡ b
 beq-same true true e = refl
 beq-same true false e = absurd (false≢true e)
 beq-same false true e = absurd (false≢true e)
@@ -238,6 +238,17 @@ at-marked_with marks (x ∷ list) i inside =
           ap (λ (b : Bool). bit_at marks i || b) (sym (listed-other i x list differ))
     ])
 
+-- a state whose variables changed fits as before
+pub fits-flipped : (netlist : Netlist) (flips : List ℕ) (before middle : Present) → Fits netlist before → middle.input ≡ before.input → middle.state.items ≡ flipped flips before.state.items → middle.unstable ≡ before.unstable → middle.touched ≡ marked_with before.touched flips → Fits netlist middle
+fits-flipped netlist flips before middle fits input state unstable touched = record {
+  circuit = fits.circuit;
+  whole = fits.whole;
+  input = ap (λ (input : Vec Bool Global). length input.items) input ∙ fits.input;
+  state = ap (length {A = Bool}) state ∙ (length-flipped flips before.state.items ∙ fits.state);
+  unstable = ap (length {A = Bool}) unstable ∙ fits.unstable;
+  touched = ap (length {A = Bool}) touched ∙ (length-marked_with before.touched flips ∙ fits.touched);
+}
+
 -- Variables change at once, and all that surrounds them is checked: the marks are right again.
 pub advanced : (netlist : Netlist) (flips : List ℕ) (before middle after : Present) → IsExact netlist before → middle.input ≡ before.input → middle.state.items ≡ flipped flips before.state.items → middle.unstable ≡ before.unstable → middle.touched ≡ marked_with before.touched flips → after ≡ fold (λ now var. fold (rechecked (network_of netlist)) now (around netlist var)) middle flips → Advances netlist flips before after
 advanced netlist flips before middle after exact input state unstable touched checked =
@@ -245,14 +256,7 @@ advanced netlist flips before middle after exact input state unstable touched ch
     let fits = exact.fits in
     let touched_long : length middle.touched ≡ length net = ap (length {A = Bool}) touched ∙ (length-marked_with before.touched flips ∙ fits.touched) in
     let unstable_long : length middle.unstable ≡ length net = ap (length {A = Bool}) unstable ∙ fits.unstable in
-    let middle_fits : Fits netlist middle = record {
-      circuit = fits.circuit;
-      whole = fits.whole;
-      input = ap (λ (input : Vec Bool Global). length input.items) input ∙ fits.input;
-      state = ap (length {A = Bool}) state ∙ (length-flipped flips before.state.items ∙ fits.state);
-      unstable = unstable_long;
-      touched = touched_long;
-    } in
+    let middle_fits : Fits netlist middle = fits-flipped netlist flips before middle fits input state unstable touched in
     let follows : Follows net middle after (flat_map (around netlist) flips) =
     subst (λ (now : Present). Follows net middle now (flat_map (around netlist) flips)) (sym checked) (follows-around netlist middle flips (touched_long ∙ sym unstable_long)) in
     let after_input : after.input.items ≡ before.input.items = ap (λ (input : Vec Bool Global). input.items) (follows.input ∙ input) in
