@@ -7,3 +7,4 @@ pub mod LeastLemmas
 pub mod Readers
 pub mod Rechecks
 pub mod PresentLemmas
+pub mod ReplayLemmas

@@ -53,6 +53,10 @@ rechecked net present var =
 abbrev pub marked_with : List Bool → List ℕ → List Bool
 marked_with marks list = fold (λ marks var. slice_set marks var true) marks list
 
+-- a state in which listed variables have the values that they have in another
+abbrev pub taken_over : List Bool → List Bool → List ℕ → List Bool
+taken_over state marked list = fold (λ marked var. slice_set marked var (bit_at state var)) marked list
+
 -- a state and its marks after listed variables changed at once
 pub record Advances (netlist : Netlist) (flips : List ℕ) (before after : Present) : Type 0 where
   pub exact : IsExact netlist after
