@@ -1,4 +1,5 @@
 use Rattle.std.proofs.Common.{◌≡◌, ◌≢◌, ◌<◌, ◌≤◌, ◌∙◌, sym, ap, subst, ℕ, Bool, not, false, List, [], Option, Some, None, All, IsTrue, length, arith}
+use Rattle.std.proofs.lemmas.Bool.{false≢true, eq-eqb}
 use Rattle.std.proofs.lemmas.List.{length-replicate}
 use Rattle.hz_net.specs.Network.{network_of, bit_at}
 use Rattle.hz_gmw.specs.Runs.{is_listed}
@@ -52,5 +53,5 @@ returns-clause-answer c =
     subst (λ (now : Replayed). (i : ℕ) → i < length (network_of now.circuit) → bit_at marks i ≡ is_unstable (network_of now.circuit) now.input now.state i) c.self.view_is c.self.invariant.exact.unstable in
     let stable = least-listed (λ var. not (bit_at marks var)) flips in
     step-by (network_of now.circuit) now.input now.state marks flips c.requires right
-    (λ none. let e = c.is_empty.ensures in let f = c.if-is_empty.ensures in ?) once
+    (λ none. false≢true (c.if-is_empty.ensures ∙ eq-eqb (length flips) 0 (ap (length {A = ℕ}) none))) once
     (subst (IsLeastOf (λ i. IsTrue (is_listed flips i) × IsTrue (not (bit_at marks i)))) (sym c.in_default-least_outside.ensures) stable)
