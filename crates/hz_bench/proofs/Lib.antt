@@ -1,7 +1,12 @@
 pub mod BuildLemmas
 pub mod DefinitionLemmas
 pub mod EntryLemmas
+pub mod FaultLaws
 pub mod NetlistLemmas
 pub mod ParseLemmas
+pub mod PrintedCircuit
+pub mod PrintedFaults
 pub mod PrintedLemmas
+pub mod PrintedLines
+pub mod ReadLaws
 pub mod StatementLemmas

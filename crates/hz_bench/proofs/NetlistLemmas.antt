@@ -4,14 +4,15 @@ use Rattle.hz_core.specs.declared.kind.Kind.TheVariants.{And}
 use Rattle.std.proofs.lemmas.List.{set_at, get_or_at, append-nil}
 use Rattle.hz_core.specs.declared.kind.Kind.{Kind}
 use Rattle.hz_core.specs.Netlist as netlist
+use Rattle.hz_line.specs.Statement.{Numbered}
 use Rattle.hz_bench.specs.declared.entry.Entry.{Entry}
 use Rattle.hz_bench.specs.Built.{after_input, after_gate, after_pin, after_pins, after_output, nodes_of, connected, built}
 use Rattle.hz_bench.specs.Entry.{numbered_list, statement_list}
 use Rattle.hz_bench.specs.Netlist.{input_names, gate_names, output_names, node_names, number_in, kind_of_word, gates_of, add_once, netlist_of}
 use Rattle.hz_bench.specs.Statement.{Statement, Input, Output, Gate}
-use Rattle.hz_bench.specs.Text.{Numbered, statement_in}
+use Rattle.hz_bench.specs.Text.{statement_in}
 
-pub statement_list-numbered : (entries : List Entry) → map (λ (numbered : Numbered). numbered.statement) (numbered_list entries) ≡ statement_list entries
+pub statement_list-numbered : (entries : List Entry) → map (λ (numbered : Numbered Statement). numbered.statement) (numbered_list entries) ≡ statement_list entries
 statement_list-numbered [] = refl
 statement_list-numbered (entry ∷ rest) = ap (λ statements. statement_in entry.text.now ∷ statements) (statement_list-numbered rest)
 

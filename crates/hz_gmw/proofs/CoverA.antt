@@ -1,8 +1,8 @@
 -- Algorithm A covers: every reachable state refines its result.
-use Rattle.std.proofs.Common.{◌≡◌, ◌≢◌, ℕ, zero, suc, ◌+◌, ◌-◌, ◌<◌, ◌≤◌, Bool, true, false, not, cond, List, [], ◌∷◌, length, map, refl, sym, ap, ◌∙◌, subst, arith, IsTrue}
+use Rattle.std.proofs.Common.{◌≡◌, ◌≢◌, ℕ, ◌<◌, Bool, true, false, not, cond, List, [], ◌∷◌, length, refl, sym, ◌∙◌, subst, IsTrue}
 use Rattle.hz_core.specs.declared.tri.Tri.{Tri}
 use Rattle.hz_core.specs.Ternary.{admits, is_below, Refines}
-use Rattle.hz_net.specs.Network.{Driver, bit_at, value_at, driver_at, driven, driven3, excitation, IsUnstable}
+use Rattle.hz_net.specs.Network.{Driver, bit_at, value_at, driver_at, driven3, excitation}
 use Rattle.hz_net.specs.Passes.{excitations, algorithm_a, AreRounds}
 use Rattle.hz_core.proofs.Refinements.{admits-is_below, length-Refines, get_or-Refines, Refines-get_or, get_or-AllBelow}
 use Rattle.hz_net.proofs.Excitations.{admits-driven, at-excitations}

@@ -1,18 +1,18 @@
 -- Algorithm B covers: every outcome state refines each state of its sequence.
-use Rattle.std.proofs.Common.{◌≡◌, ◌≢◌, ℕ, zero, suc, ◌+◌, ◌<◌, Bool, true, false, not, cond, List, [], ◌∷◌, ◌++◌, length, map, refl, sym, ap, ◌∙◌, subst, arith, IsTrue, inl, inr, ◌⊎◌}
+use Rattle.std.proofs.Common.{◌≡◌, ◌≢◌, ℕ, zero, suc, ◌<◌, Bool, true, false, not, cond, List, [], ◌∷◌, ◌++◌, length, refl, sym, ap, ◌∙◌, subst, IsTrue, inl, inr}
 use Rattle.std.specs.List.{AllByRecursion}
 use Rattle.hz_core.specs.declared.tri.Tri.{Tri}
 use Rattle.hz_core.specs.declared.tri.Tri.TheVariants.{Zero, One, Unknown}
 use Rattle.hz_core.specs.Ternary.{tri_of, admits, Refines}
-use Rattle.hz_net.specs.Network.{Driver, bit_at, value_at, driver_at, driven3, excitation, IsUnstable}
+use Rattle.hz_net.specs.Network.{Driver, bit_at, driver_at, driven3, excitation, IsUnstable}
 use Rattle.hz_net.specs.Passes.{excitations, algorithm_a, algorithm_b, AreRounds}
 use Rattle.hz_core.proofs.Refinements.{known-admits, Refines-get_or}
 use Rattle.hz_net.proofs.Excitations.{admits-driven, length-excitations, at-excitations}
 use Rattle.hz_gmw.specs.Runs.{is_listed, IsStep, flipped, IsRun, end_of, IsReachable}
-use Rattle.hz_gmw.specs.Cycles.{states_of, WaitsAt, IsTransient, IsNontransient, IsOutcome}
+use Rattle.hz_gmw.specs.Cycles.{states_of, IsNontransient, IsOutcome}
 use Rattle.hz_gmw.proofs.Flips.{length-flipped, at-flipped}
 use Rattle.hz_gmw.proofs.CoverA.{covers}
-use Rattle.hz_gmw.proofs.Paths.{end_of-append, IsRun-front, IsRun-rest, IsReachable-onward, IsCut, cut-member, value-somewhere, HasThroughout}
+use Rattle.hz_gmw.proofs.Paths.{end_of-append, IsRun-front, IsRun-rest, IsReachable-onward, IsCut, cut-member, value-somewhere}
 
 pub length-end_of : (state : List Bool) (steps : List (List ℕ)) → length (end_of state steps) ≡ length state
 length-end_of state [] = refl

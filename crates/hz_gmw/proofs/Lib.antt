@@ -8,3 +8,5 @@ pub mod Readers
 pub mod Rechecks
 pub mod PresentLemmas
 pub mod ReplayLemmas
+pub mod PartLemmas
+pub mod RunLemmas

@@ -14,10 +14,12 @@ mod replay;
 mod replay_fault;
 #[cfg(test)]
 mod replay_tests;
+mod run;
 mod variable_set;
 
 pub use replay::Replay;
 pub use replay_fault::{CycleFault, StepFault};
+pub use run::Run;
 
 /// Algorithm A covers: where its result is 0 or 1 at a variable, every reachable state has this value there.
 #[tactic(auto, using(crate::proofs::CoverA::covers))]

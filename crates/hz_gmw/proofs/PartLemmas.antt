@@ -1,0 +1,78 @@
+-- A list that is cut into parts: one part more, and the part with a number.
+use Rattle.std.proofs.Common.{◌≡◌, ◌∙◌, sym, ap, refl, zero, suc, ℕ, ◌+◌, ◌-◌, ◌<◌, ◌≤◌, List, [], ◌∷◌, ◌++◌, length, get_or, take, drop, arith}
+use Rattle.std.specs.List.{slice_range}
+use Rattle.std.specs.Prelude.{sum_by}
+use Rattle.std.proofs.lemmas.List.{take-append-le, drop-append-le, drop_at, take_all, length-drop, length-take}
+use Rattle.std.proofs.lemmas.List.Sums.{sum_by-cons}
+use Rattle.hz_gmw.specs.Parts.{parts_from, EndsAt, start_of}
+
+-- where the parts end at a place, they begin no later
+pub EndsAt-within : (start : ℕ) (ends : List ℕ) (last : ℕ) → EndsAt start ends last → start ≤ last
+EndsAt-within start [] last cut = omega (arith, cut)
+EndsAt-within start (end ∷ ends) last cut = omega (arith, cut.0, EndsAt-within end ends last cut.1)
+
+pub EndsAt-push : (start : ℕ) (ends : List ℕ) (last more : ℕ) → EndsAt start ends last → last ≤ more → EndsAt start (ends ++ more ∷ []) more
+EndsAt-push start [] last more cut longer = (omega (arith, cut, longer), refl)
+EndsAt-push start (end ∷ ends) last more cut longer = (cut.0, EndsAt-push end ends last more cut.1 longer)
+
+-- a part of a list is the same in a longer list
+slice_range-longer :
+    (list more : List ℕ) (from to : ℕ) → from ≤ to → to ≤ length list → slice_range (list ++ more) from to ≡ slice_range list from to
+slice_range-longer list more from to ordered within =
+    ap (take (to - from)) (drop-append-le from list more (omega arith)) ∙
+    take-append-le (to - from) (drop from list) more (omega (arith, length-drop from list))
+
+-- what stands after a list
+slice_range-after : (list more : List ℕ) (start : ℕ) → start ≡ length list → slice_range (list ++ more) start (length list + length more) ≡ more
+slice_range-after list more start here =
+    ap (take (length list + length more - start)) (drop_at list more start (sym here)) ∙
+    take_all (length list + length more - start) more (omega (arith, here))
+
+-- one part more
+pub parts_from-push :
+    (start : ℕ) (ends list more : List ℕ) → EndsAt start ends (length list) →
+    parts_from start (ends ++ (length list + length more) ∷ []) (list ++ more) ≡ parts_from start ends list ++ more ∷ []
+parts_from-push start [] list more cut = ap (λ part. part ∷ []) (slice_range-after list more start cut)
+parts_from-push start (end ∷ ends) list more cut =
+    ap (λ part. part ∷ parts_from end (ends ++ (length list + length more) ∷ []) (list ++ more))
+    (slice_range-longer list more start end cut.0 (EndsAt-within end ends (length list) cut.1)) ∙
+    ap (λ parts. slice_range list start end ∷ parts) (parts_from-push end ends list more cut.1)
+
+-- there are as many parts as ends
+pub length-parts_from : (start : ℕ) (ends list : List ℕ) → length (parts_from start ends list) ≡ length ends
+length-parts_from start [] list = refl
+length-parts_from start (end ∷ ends) list = ap suc (length-parts_from end ends list)
+
+-- the parts have together what the list has from the start on
+pub sum_by-parts_from :
+    (start : ℕ) (ends list : List ℕ) → EndsAt start ends (length list) → start + sum_by length (parts_from start ends list) ≡ length list
+sum_by-parts_from start [] list cut = omega (arith, cut)
+sum_by-parts_from start (end ∷ ends) list cut =
+    let within = EndsAt-within end ends (length list) cut.1 in
+    omega (
+      arith,
+      sum_by-cons length (slice_range list start end) (parts_from end ends list),
+      sum_by-parts_from end ends list cut.1,
+      length-take (end - start) (drop start list),
+      length-drop start list,
+      within,
+      cut.0,
+    )
+
+-- a part of a list, by its number, its begin and its end
+pub record IsPart (list : List ℕ) (parts : List (List ℕ)) (number begin end : ℕ) : Type 0 where
+  pub ordered : begin ≤ end
+  pub inside : end ≤ length list
+  pub same : slice_range list begin end ≡ get_or parts number []
+
+pub is_part :
+    (start : ℕ) (ends list : List ℕ) (number : ℕ) → EndsAt start ends (length list) → number < length ends →
+    IsPart list (parts_from start ends list) number (start_of start ends number) (get_or ends number 0)
+is_part start [] list number cut within = absurd (omega (arith, within))
+is_part start (end ∷ ends) list zero cut within = record { ordered = cut.0; inside = EndsAt-within end ends (length list) cut.1; same = refl }
+is_part start (end ∷ ends) list (suc zero) cut within =
+    let next = is_part end ends list zero cut.1 (omega (arith, within)) in
+    record { ordered = next.ordered; inside = next.inside; same = next.same }
+is_part start (end ∷ ends) list (suc (suc number)) cut within =
+    let next = is_part end ends list (suc number) cut.1 (omega (arith, within)) in
+    record { ordered = next.ordered; inside = next.inside; same = next.same }

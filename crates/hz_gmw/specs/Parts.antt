@@ -1,0 +1,18 @@
+-- A list that is cut into parts, by the places where they end.
+use Rattle.std.specs.Prelude.{◌≡◌, ℕ, zero, suc, ◌≤◌, List, [], ◌∷◌, slice_index}
+use Rattle.std.specs.List.{slice_range}
+
+-- the parts, each from where the one before it ends
+abbrev pub parts_from : ℕ → List ℕ → List ℕ → List (List ℕ)
+parts_from start [] list = []
+parts_from start (end ∷ ends) list = slice_range list start end ∷ parts_from end ends list
+
+-- from a start on no part ends before it begins, and the last one ends at a given place
+abbrev pub EndsAt : ℕ → List ℕ → ℕ → Type 0
+EndsAt start [] last = start ≡ last
+EndsAt start (end ∷ ends) last = (start ≤ end) × EndsAt end ends last
+
+-- where the part with a number begins, when the first one begins at a start
+abbrev pub start_of : ℕ → List ℕ → ℕ → ℕ
+start_of start ends zero = start
+start_of start ends (suc number) = slice_index ends number

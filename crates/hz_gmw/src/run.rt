@@ -1,0 +1,179 @@
+//! A run as it is written down: its steps, each the variables that change in it.
+ghost use Rattle.std.specs.Prelude.{◌≡◌, ◌+◌, ◌<◌, ◌≤◌, [], ◌∷◌, ◌++◌, length, slice_index_or, IfOk, OnOk, OnErr};
+ghost use Rattle.std.specs.List.{slice_range};
+ghost use Rattle.std.specs.Vec.{vec_len, vec_capacity};
+ghost use Rattle.hz_gmw.specs.Recorded.{flip_count, no_steps};
+ghost use Rattle.hz_gmw.specs.Parts.{start_of};
+
+use hz_core::Memory;
+use std::alloc::Global;
+use std::marker::Model;
+
+/// A run by its steps, without the state in which it begins. Each step is the list of the variables that change in it at
+/// once, in the general multiple-winner model of Brzozowski and Seger.
+///
+/// Room for steps can be made before they are known, so that a search which is under way never meets want of memory.
+#[derive(Debug, Drop)]
+pub struct Run {
+    // The variables of all steps, one step after the other, and where each step ends.
+    flips: Vec<u32>,
+    ends: Vec<usize>,
+    // The room that was made and not yet used. The vectors may have more.
+    spare_flips: usize,
+    spare_steps: usize,
+}
+
+impl Model for Run {
+    ghost use Rattle.hz_gmw.specs.Recorded.{Recorded};
+
+    ghost Value = { Recorded };
+
+    ghost use Rattle.hz_gmw.specs.Inside.{recorded_of, HoldsRun};
+
+    ghost view = { recorded_of };
+
+    ghost invariant = { HoldsRun };
+}
+
+impl Run {
+    /// A run with no step. It allocates nothing.
+    pub fn new(alloc: Global) -> Run
+        ensures { result ≡ no_steps }
+    {
+        Run {
+            flips: Vec::new(alloc),
+            ends: Vec::new(alloc),
+            spare_flips: 0,
+            spare_steps: 0,
+        }
+    }
+
+    /// A run with no step, and with room for steps with so many flips in all.
+    pub fn with_room(alloc: Global, flips: usize, steps: usize) -> Result<Run, Memory>
+        ensures steps { IfOk result (λ run. run.steps ≡ []) }
+        ensures room_for_flips { IfOk result (λ run. flips ≤ run.spare_flips) }
+        ensures room_for_steps { IfOk result (λ run. steps ≤ run.spare_steps) }
+    {
+        let mut run = Run::new(alloc);
+        run.reserve(flips, steps)?;
+        Ok(run)
+    }
+
+    /// Makes room for more steps with so many flips in all.
+    pub fn reserve(&mut self, flips: usize, steps: usize) -> Result<(), Memory>
+        ensures steps { self.new.steps ≡ self.old.steps }
+        ensures room_for_flips { OnOk result (flips ≤ self.new.spare_flips) }
+        ensures room_for_steps { OnOk result (steps ≤ self.new.spare_steps) }
+        ensures kept_flips { self.old.spare_flips ≤ self.new.spare_flips }
+        ensures kept_steps { self.old.spare_steps ≤ self.new.spare_steps }
+        ensures err { OnErr result (self.new ≡ self.old) }
+    {
+        let Ok(()) = self.flips.reserve(flips) else {
+            return Err(Memory);
+        };
+        let Ok(()) = self.ends.reserve(steps) else {
+            return Err(Memory);
+        };
+        self.spare_flips = self.spare_flips.max(flips);
+        self.spare_steps = self.spare_steps.max(steps);
+        Ok(())
+    }
+
+    /// Adds a step. It takes one step and its flips from the room, and no more.
+    pub fn push_step(&mut self, flips: &[u32])
+        requires room_for_flips { length flips.now ≤ self.old.spare_flips }
+        requires room_for_steps { 1 ≤ self.old.spare_steps }
+        ensures steps { self.new.steps ≡ self.old.steps ++ flips.now ∷ [] }
+        ensures spare_flips { self.new.spare_flips + length flips.now ≡ self.old.spare_flips }
+        ensures spare_steps { self.new.spare_steps + 1 ≡ self.old.spare_steps }
+    {
+        append(&mut self.flips, flips);
+        self.ends.push_reserved(self.flips.len());
+        self.spare_flips -= flips.len();
+        self.spare_steps -= 1;
+    }
+
+    /// Empties the run. What its steps and flips took is room again.
+    pub fn clear(&mut self)
+        ensures steps { self.new.steps ≡ [] }
+        ensures spare_flips { self.new.spare_flips ≡ self.old.spare_flips + flip_count self.old.steps }
+        ensures spare_steps { self.new.spare_steps ≡ self.old.spare_steps + length self.old.steps }
+    {
+        self.spare_flips += self.flips.len();
+        self.spare_steps += self.ends.len();
+        self.flips.clear();
+        self.ends.clear();
+    }
+
+    /// The number of steps.
+    pub fn steps(&self) -> usize
+        ensures { result ≡ length self.now.steps }
+    {
+        self.ends.len()
+    }
+
+    /// The number of flips in all steps.
+    pub fn flips(&self) -> usize
+        ensures { result ≡ flip_count self.now.steps }
+    {
+        self.flips.len()
+    }
+
+    /// The variables that change in a step, in the order in which they were given. Steps are counted from 0.
+    pub fn step(&self, number: usize) -> &[u32]
+        requires { number < length self.now.steps }
+        ensures { result.now ≡ slice_index_or self.now.steps number [] }
+    {
+        let start = start_at(self.ends.as_slice(), number);
+        part(self.flips.as_slice(), start, self.ends[number])
+    }
+}
+
+// Appends where there is room.
+fn append(list: &mut Vec<u32>, more: &[u32])
+    requires { vec_len list.old + length more.now ≤ vec_capacity list.old }
+    ensures items { list.new.items ≡ list.old.items ++ more.now }
+    ensures len { vec_len list.new ≡ vec_len list.old + length more.now }
+    ensures capacity { vec_capacity list.old ≤ vec_capacity list.new }
+{
+    list.extend_from_slice(more).unwrap();
+}
+
+// Where a step begins: where the one before it ends.
+fn start_at(ends: &[usize], number: usize) -> usize
+    requires { number < length ends.now }
+    ensures { result ≡ start_of 0 ends.now number }
+{
+    if number == 0 { 0 } else { ends[number - 1] }
+}
+
+// The part of a list from a start up to an end.
+fn part(list: &[u32], start: usize, end: usize) -> &[u32]
+    requires ordered { start ≤ end }
+    requires inside { end ≤ length list.now }
+    ensures { result.now ≡ slice_range list.now start end }
+{
+    &list[start..end]
+}
+
+#[cfg(test)]
+mod tests {
+    use super::*;
+    use std::test::Fail;
+
+    #[test]
+    fn cleared_run_takes_as_many_steps_again(rt: HostRuntime) -> Result<(), Fail> {
+        let mut run = Run::with_room(rt.alloc(), 3, 2)?;
+        run.push_step(&[7]);
+        run.push_step(&[5, 0]);
+        assert_eq!(rt; run.steps(), 2);
+        assert_eq!(rt; run.flips(), 3);
+        assert_eq!(rt; run.step(0), [7].as_slice());
+        assert_eq!(rt; run.step(1), [5, 0].as_slice());
+        run.clear();
+        assert_eq!(rt; run.steps(), 0);
+        run.push_step(&[1, 2, 3]);
+        assert_eq!(rt; run.step(0), [1, 2, 3].as_slice());
+        Ok(())
+    }
+}
