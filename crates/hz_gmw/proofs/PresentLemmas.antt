@@ -145,8 +145,7 @@ advances-untouched netlist flips before after fits advances i still = elim (case
       let parts = or_parts (bit_at before.touched i || is_listed flips i) (not (beq (bit_at before.unstable i) (bit_at after.unstable i))) (sym (advances.touched i inside) ∙ still) in
       let both = or_parts (bit_at before.touched i) (is_listed flips i) parts.0 in
       let state_long = fits.state in
-      let within : i < length before.state.items = omega (arith, inside, state_long) in
-      (
+      let within : i < length before.state.items = omega (arith, inside, state_long) in (
         both.0,
         ap (λ (state : List Bool). bit_at state i) advances.state ∙ (at-flipped flips before.state.items i within ∙ ap (λ (b : Bool). cond b (not (bit_at before.state.items i)) (bit_at before.state.items i)) both.1),
       )
@@ -154,8 +153,7 @@ advances-untouched netlist flips before after fits advances i still = elim (case
   | inr past ↦ (
       let touched_long = fits.touched in
       let before_long = fits.state in
-      let after_long = advances.exact.fits.state in
-      (
+      let after_long = advances.exact.fits.state in (
         get_or_past before.touched i false (omega (arith, past, touched_long)),
         get_or_past after.state.items i false (omega (arith, past, after_long)) ∙ sym (get_or_past before.state.items i false (omega (arith, past, before_long))),
       )

@@ -110,8 +110,7 @@ entry-of : (netlist : Netlist) (var : ℕ) → IsCircuit netlist → IsWhole net
 entry-of netlist var circuit whole inside =
     let other = InputEntry 0 in
     let entry = get_or (entries_of netlist) var other in
-    let within : var < length (entries_of netlist) = omega (arith, inside, length-entries_of netlist circuit) in
-    (
+    let within : var < length (entries_of netlist) = omega (arith, inside, length-entries_of netlist circuit) in (
       entry,
       IsEntryAt-entries_of netlist var other circuit whole inside,
       variables_of-entry netlist var entry circuit inside (get_or_default (entries_of netlist) var other entry within),

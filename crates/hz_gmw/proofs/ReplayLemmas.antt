@@ -14,7 +14,6 @@ use Rattle.hz_gmw.specs.Instability.{is_unstable, unstable_variables}
 use Rattle.hz_gmw.specs.Least.{IsLeast, IsLeastOf, least_from, least_again}
 use Rattle.hz_gmw.specs.Replayed.{Replayed, Waits, StandsFor, replayed_at, still_watched, stepped_by}
 use Rattle.hz_gmw.specs.ReplayFaults.{times, IsStepFault, IsCycleFault}
-
 use Rattle.hz_gmw.specs.declared.replay_fault.StepFault.{StepFault}
 use Rattle.hz_gmw.specs.declared.replay_fault.StepFault.TheVariants.{Empty, Repeated, Stable}
 use Rattle.hz_gmw.specs.declared.replay_fault.CycleFault.{CycleFault}
@@ -110,14 +109,12 @@ stands-step now flips steps long stands step =
             let still : is_listed flips i ≡ false = not-true (is_listed flips i) parts.1 in
             let waits = (stands.watched i inside).0 parts.0 in
             let bit = waits.0 in
-            let last = waits-end net input marked steps i bit waits.1 in
-            (
+            let last = waits-end net input marked steps i bit waits.1 in (
               bit,
-              waits-push net input marked steps flips i bit waits.1
-                  (
-                    ap (λ (s : List Bool). bit_at s i) here ∙ (kept i inside ∙ (ap (λ (b : Bool). cond b (not (bit_at now.state i)) (bit_at now.state i)) still ∙ (ap (λ (s : List Bool). bit_at s i) (sym stands.ends) ∙ last.0))),
-                    subst (λ (s : List Bool). IsUnstable net input s i) (sym here) (unstable-true net input next i both.1),
-                  ),
+              waits-push net input marked steps flips i bit waits.1 (
+                ap (λ (s : List Bool). bit_at s i) here ∙ (kept i inside ∙ (ap (λ (b : Bool). cond b (not (bit_at now.state i)) (bit_at now.state i)) still ∙ (ap (λ (s : List Bool). bit_at s i) (sym stands.ends) ∙ last.0))),
+                subst (λ (s : List Bool). IsUnstable net input s i) (sym here) (unstable-true net input next i both.1),
+              ),
             ),
         λ waits.
             let bit = waits.0 in
@@ -132,7 +129,7 @@ stands-step now flips steps long stands step =
             not-same bit (ap not (sym was) ∙ (sym turned ∙ is))) in
             let unstable : is_unstable net input next i ≡ true = true-unstable net input next i (subst (λ (s : List Bool). IsUnstable net input s i) ends after.1) in
             watched i inside ∙ and_from (bit_at now.watched i && not (is_listed flips i)) (is_unstable net input next i)
-                (and_from (bit_at now.watched i) (not (is_listed flips i)) ((stands.watched i inside).1 (bit, front)) (not_from_false (is_listed flips i) still)) unstable,
+            (and_from (bit_at now.watched i) (not (is_listed flips i)) ((stands.watched i inside).1 (bit, front)) (not_from_false (is_listed flips i) still)) unstable,
       );
     }
 
@@ -362,8 +359,7 @@ stable-fault net input state marks flips var all right once found =
     λ i there missing.
     let inside : i < length net = All-listed (λ (var : ℕ). var < length net) flips i all there in
     beq-same (bit_at state i) (excitation net input state i) (not-false (beq (bit_at state i) (excitation net input state i)) (sym (right i inside) ∙ missing))
-    in
-    (
+    in (
       RepeatsNone-times flips once,
       record {
         here = (found.here.0, stable var found.here.0 (not-true (bit_at marks var) found.here.1));

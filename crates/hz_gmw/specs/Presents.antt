@@ -44,10 +44,10 @@ abbrev pub rechecked : List Driver → Present → ℕ → Present
 rechecked net present var =
     let now = is_unstable net present.input.items present.state.items var in
     if beq now (bit_at present.unstable var) then present else
-      record present {
-        unstable = slice_set present.unstable var now;
-        touched = slice_set present.touched var true;
-      }
+    record present {
+      unstable = slice_set present.unstable var now;
+      touched = slice_set present.touched var true;
+    }
 
 -- marks with those of a list set
 abbrev pub marked_with : List Bool → List ℕ → List Bool
