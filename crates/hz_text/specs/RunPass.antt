@@ -1,7 +1,7 @@
 -- What the passes over a run text's statements answer.
-use Rattle.std.specs.Prelude.{ℕ, Bool, nat_eq, nat_le, List, length, Option, Some, None, if◌then◌else◌}
+use Rattle.std.specs.Prelude.{◌≡◌, ℕ, Bool, nat_eq, nat_le, List, length, Option, Some, None, if◌then◌else◌}
 use Rattle.std.specs.Option.{option_map}
-use Rattle.hz_core.specs.Netlist.{Netlist}
+use Rattle.hz_core.specs.Netlist.{Netlist, IsCircuit}
 use Rattle.hz_line.specs.Statement.{Numbered, first_line}
 use Rattle.hz_text.specs.declared.assigned.Assigned.{Assigned}
 use Rattle.hz_text.specs.declared.fault.TextFault.{TextFault}
@@ -9,8 +9,8 @@ use Rattle.hz_text.specs.declared.fault.TextFault.TheVariants.{Unknown, Twice, M
 use Rattle.hz_text.specs.declared.run_entry.RunEntry.{RunEntry}
 use Rattle.hz_text.specs.Assignment.{has_repeat}
 use Rattle.hz_text.specs.Pass.{nodes_of, least_unassigned, first_of, AreBelow}
-use Rattle.hz_text.specs.RunLookup.{LookedRun, run_held_by}
-use Rattle.hz_text.specs.RunFault.{assignments_in, names_unknown, lacks_bit, first_start, first_input, run_out_of_order, beyond_from}
+use Rattle.hz_text.specs.RunLookup.{LookedRun, run_held_by, run_entered_all}
+use Rattle.hz_text.specs.RunFault.{looked_run_statements, IsRunFaultless, assignments_in, names_unknown, lacks_bit, first_start, first_input, run_out_of_order, beyond_from}
 
 -- the statement assigns a node twice
 abbrev pub names_node_twice : LookedRun → Bool
@@ -45,3 +45,10 @@ first_run_fault netlist statements =
     (first_of (option_map Bit (first_line lacks_bit statements))
     (first_of (option_map Order (run_out_of_order statements))
     (option_map TooMany (beyond_from 0 0 statements))))))
+
+-- the statements of a text in which no fault stands
+pub record IsAcceptedRun (netlist : Netlist) (text : List ℕ) (entries : List RunEntry) : Type 0 where
+  pub circuit : IsCircuit netlist
+  pub statements : run_entered_all entries ≡ looked_run_statements netlist text
+  pub clear : first_run_fault netlist (run_entered_all entries) ≡ None
+  pub faultless : IsRunFaultless netlist text
