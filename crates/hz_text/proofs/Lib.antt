@@ -12,3 +12,6 @@ pub mod LeastFault
 pub mod RunFaultLaws
 pub mod RunBuildLaws
 pub mod RunUsableLaws
+pub mod WirePlaces
+pub mod RunWordLaws
+pub mod RunPrintLaws
