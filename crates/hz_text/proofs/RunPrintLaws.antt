@@ -1,32 +1,30 @@
 -- A printed run text has no fault, and stands for the run text.
-use Rattle.std.proofs.Common.{◌≡◌, ◌∙◌, ℕ, ◌+◌, ◌-◌, ◌<◌, ◌≤◌, Bool, true, false, not, ◌||◌, cond, nat_eq, nat_lt, List, [], ◌∷◌, ◌++◌, Option, Some, None, zero, suc, length, get_or, map, codes, refl, ap, sym, subst, arith, append_assoc, zero-add, length-append}
-use Rattle.std.specs.List.{list_any, list_all, flat_map, range_with_len, sum_by, All}
+use Rattle.std.proofs.Common.{◌≡◌, ◌∙◌, ℕ, ◌+◌, ◌<◌, ◌≤◌, Bool, false, not, cond, nat_eq, nat_lt, List, [], ◌∷◌, ◌++◌, Option, Some, None, zero, suc, length, get_or, map, codes, refl, ap, sym, subst, arith, append_assoc, zero-add, length-append}
+use Rattle.std.specs.List.{list_any, flat_map, range_with_len, sum_by, All}
 use Rattle.std.specs.Option.{option_map_or, is_none, IsSome}
 use Rattle.std.proofs.lemmas.Bool.Decides.{nat_tests}
 use Rattle.std.proofs.lemmas.List.{append-nil, same_lists, length-map, get_or-map}
 use Rattle.std.proofs.lemmas.List.Elements.{All-nil, All-cons, All-head, All-tail, All-append}
 use Rattle.std.proofs.lemmas.List.FromFn.{length-range_with_len, get_or-map-range_with_len}
 use Rattle.std.proofs.lemmas.List.Sums.{sum_by-cons, sum_by-append}
-use Rattle.hz_core.specs.Netlist.{Netlist, IsCircuit, IsWhole, variable_count}
-use Rattle.hz_net.specs.Network.{network_of}
+use Rattle.hz_core.specs.Netlist.{Netlist, IsCircuit, IsWhole}
 use Rattle.hz_net.proofs.Places.{length-network_of}
 use Rattle.hz_line.specs.Line.{lines_of}
-use Rattle.hz_line.specs.Statement.{Numbered, numbered_from, numbered_statements, first_malformed, first_line, with_meaning, malformed_before}
+use Rattle.hz_line.specs.Statement.{Numbered, numbered_from, first_malformed, first_line, with_meaning, malformed_before}
 use Rattle.hz_line.proofs.WrittenLemmas.{lines_of-written}
-use Rattle.hz_text.specs.declared.assigned.Assigned.{Assigned}
 use Rattle.hz_text.specs.declared.keyword.Keyword.TheVariants as keyword
 use Rattle.hz_text.specs.declared.run_order.Place.{Place}
 use Rattle.hz_text.specs.declared.run_order.Place.TheVariants as place
 use Rattle.hz_text.specs.Assignment.{has_repeat}
 use Rattle.hz_text.specs.Pass.{nodes_of, least_unassigned}
-use Rattle.hz_text.specs.Printed.{assignment_text, statement_text, listed_from}
+use Rattle.hz_text.specs.Printed.{assignment_text, statement_text}
 use Rattle.hz_text.specs.ScriptText.{bit_at, assignment_to}
 use Rattle.hz_text.specs.RunStatement.{Header, Start, Input, Run, Step, Cycle, End}
 use Rattle.hz_text.specs.RunLookup.{LookedRun, run_looked_by}
-use Rattle.hz_text.specs.RunFault.{looked_run_statements, names_unknown, lacks_bit, steps_in, variables_in, place_after, runs_out_of_order, run_out_of_order, beyond_from, IsRunFaultless, first_start, first_input}
+use Rattle.hz_text.specs.RunFault.{looked_run_statements, names_unknown, lacks_bit, place_after, runs_out_of_order, run_out_of_order, beyond_from, IsRunFaultless}
 use Rattle.hz_text.specs.RunPass.{names_node_twice, least_missing_node, first_run_fault}
 use Rattle.hz_text.specs.RunValue.{RunOf, RunTextOf, cycle_steps, all_steps}
-use Rattle.hz_text.specs.RunText.{step_of, cycle_statements, run_statements, unnumbered, IsRunTextBy, IsRunValue, IsRunTextFor}
+use Rattle.hz_text.specs.RunText.{step_of, cycle_statements, run_statements, unnumbered, IsRunValue, IsRunTextFor}
 use Rattle.hz_text.specs.RunPrinted.{variable_word, step_line, cycle_lines, run_lines, numbered_bits, run_head, run_text}
 use Rattle.hz_text.proofs.NodeLemmas.{marks_of, length-marks, get_or-marks}
 use Rattle.hz_text.proofs.BuildLemmas.{nodes_of-pairs}
@@ -291,12 +289,25 @@ counted_sent value =
     let start : LookedRun = Start (map assignment_to (numbered_bits value.nodes)) in
     let input : LookedRun = Input (map assignment_to (numbered_bits value.input)) in
     let runs = flat_map run_statements value.runs in
-    let counts = counted_runs value.runs in
-    (
-      omega (arith, sum_by-cons steps_of Header (start ∷ input ∷ runs ++ End ∷ []), sum_by-cons steps_of start (input ∷ runs ++ End ∷ []), sum_by-cons steps_of input (runs ++ End ∷ []),
-      sum_by-append steps_of runs (End ∷ []), sum_by-cons steps_of End [], counts.0),
-      omega (arith, sum_by-cons names_in Header (start ∷ input ∷ runs ++ End ∷ []), sum_by-cons names_in start (input ∷ runs ++ End ∷ []), sum_by-cons names_in input (runs ++ End ∷ []),
-      sum_by-append names_in runs (End ∷ []), sum_by-cons names_in End [], counts.1),
+    let counts = counted_runs value.runs in (
+      omega (
+        arith,
+        sum_by-cons steps_of Header (start ∷ input ∷ runs ++ End ∷ []),
+        sum_by-cons steps_of start (input ∷ runs ++ End ∷ []),
+        sum_by-cons steps_of input (runs ++ End ∷ []),
+        sum_by-append steps_of runs (End ∷ []),
+        sum_by-cons steps_of End [],
+        counts.0,
+      ),
+      omega (
+        arith,
+        sum_by-cons names_in Header (start ∷ input ∷ runs ++ End ∷ []),
+        sum_by-cons names_in start (input ∷ runs ++ End ∷ []),
+        sum_by-cons names_in input (runs ++ End ∷ []),
+        sum_by-append names_in runs (End ∷ []),
+        sum_by-cons names_in End [],
+        counts.1,
+      ),
     )
 
 -- each of so many bits is listed

@@ -1,32 +1,29 @@
 -- The lines of a printed run text are read as its statements.
-use Rattle.std.proofs.Common.{◌≡◌, ◌∙◌, ℕ, ◌+◌, ◌-◌, ◌*◌, ◌/◌, ◌%◌, ◌^◌, ◌<◌, ◌≤◌, Bool, true, false, not, ◌&&◌, ◌||◌, ◌==◌, nat_le, List, [], ◌∷◌, ◌++◌, Option, Some, None, zero, suc, length, get_or, map, codes, decimal, refl, ap, sym, subst, arith, append_assoc}
+use Rattle.std.proofs.Common.{◌≡◌, ◌∙◌, ℕ, ◌+◌, ◌-◌, ◌/◌, ◌%◌, ◌^◌, ◌<◌, ◌≤◌, Bool, true, false, ◌&&◌, ◌==◌, nat_le, List, [], ◌∷◌, ◌++◌, Some, length, get_or, map, codes, decimal, refl, ap, arith, append_assoc}
 use Rattle.std.specs.List.{list_all, flat_map, slice_index_or, All}
-use Rattle.std.specs.Option.{option_map}
 use Rattle.std.proofs.lemmas.Bool.Decides.{nat_tests}
 use Rattle.std.proofs.lemmas.Fmt.{decimal_by_steps, decimal_nonempty, first_decimal}
 use Rattle.std.proofs.lemmas.List.Folds.{list_all-append}
 use Rattle.std.proofs.lemmas.List.Elements.{All-head, All-tail}
 use Rattle.hz_core.specs.declared.kind.Kind.{Kind}
 use Rattle.hz_core.specs.declared.kind.Kind.TheVariants.{And, Nand, Or, Nor, Xor, Xnor, Not, Buff}
-use Rattle.hz_core.specs.Netlist.{Netlist, IsName, IsCircuit, IsWhole, is_name_byte, node_named, gate_at, variable_count, most_pins}
-use Rattle.hz_net.specs.Variables.{variables_of, first_wire}
+use Rattle.hz_core.specs.Netlist.{Netlist, IsName, IsCircuit, IsWhole, is_name_byte, gate_at, variable_count, most_pins}
+use Rattle.hz_net.specs.Variables.{variables_of}
 use Rattle.hz_net.specs.declared.variable.VarKind.{VarKind}
 use Rattle.hz_net.specs.declared.variable.VarKind.TheVariants as kind
 use Rattle.hz_line.specs.declared.bytes.Mark.TheVariants.{Open, Close}
 use Rattle.hz_line.specs.Byte.{class_of, is_letter}
-use Rattle.hz_line.specs.Line.{lines_of}
 use Rattle.hz_line.specs.Token.{TokenOf, WordOf, MarkOf, tokens_of, with_token, begins_in_word}
-use Rattle.hz_line.specs.Statement.{Numbered, meaning_of, Means, numbered_from, with_meaning, first_malformed, malformed_before}
-use Rattle.hz_line.proofs.WrittenLemmas.{tokens_of-open, tokens_of-close, tokens_of-space, is_letter-separators, tokens_of-word_before, is_inline, lines_of-written}
-use Rattle.hz_text.specs.Printed.{assignment_text, statement_text}
+use Rattle.hz_line.specs.Statement.{meaning_of, Means}
+use Rattle.hz_line.proofs.WrittenLemmas.{tokens_of-open, tokens_of-close, tokens_of-space, is_letter-separators, tokens_of-word_before, is_inline}
+use Rattle.hz_text.specs.Printed.{assignment_text}
 use Rattle.hz_text.specs.ScriptText.{assignment_to}
-use Rattle.hz_text.specs.Lookup.{assigned_of}
 use Rattle.hz_text.specs.RunStatement.{Variable, Node, Pin, is_digit, is_decimal, number_by, with_first, variables_of as grammar_of, Header, Start, Input, Run, Step, Cycle, End, run_keyword_of}
 use Rattle.hz_text.specs.RunLookup.{LookedRun, wire_into, variable_named, run_looked_by}
 use Rattle.hz_text.specs.RunText.{step_of}
 use Rattle.hz_text.specs.RunPrinted.{kind_text, variable_word}
 use Rattle.hz_text.proofs.VariableLemmas.{number_by-push}
-use Rattle.hz_text.proofs.WordLaws.{AreNodes, name_bytes, pair_tokens, pairs_read, pairs_inline, no_word, name_at, spelled, assignments_read}
+use Rattle.hz_text.proofs.WordLaws.{AreNodes, name_bytes, pairs_read, pairs_inline, no_word, name_at, assignments_read}
 use Rattle.hz_text.proofs.PrintLaws.{node_at, assigned_back}
 use Rattle.hz_text.proofs.WirePlaces.{IsWireAt, KindFacts, kind_at}
 
@@ -42,8 +39,7 @@ one_digit n l =
 
 more_digits : (n : ℕ) (digits : List ℕ) → 10 ≤ n → IsWrittenAs (n / 10) digits → IsWrittenAs n (digits ++ ((48 + n % 10) ∷ []))
 more_digits n digits l is =
-    let last = one_digit (n % 10) (omega arith) in
-    (
+    let last = one_digit (n % 10) (omega arith) in (
       number_by-push digits (48 + n % 10) ∙ omega (arith, is.0),
       rw (list_all-append is_digit digits ((48 + n % 10) ∷ []), is.1, last.1) refl,
     )

@@ -1,10 +1,10 @@
 -- Which pin of which gate a wire goes into.
-use Rattle.std.proofs.Common.{◌≡◌, ◌∙◌, ℕ, ◌+◌, ◌-◌, ◌<◌, ◌≤◌, List, [], ◌∷◌, Some, suc, zero, length, get_or, take, refl, ap, sym, subst, inl, inr, arith}
+use Rattle.std.proofs.Common.{◌≡◌, ◌∙◌, ℕ, ◌+◌, ◌-◌, ◌<◌, ◌≤◌, List, [], ◌∷◌, Some, suc, length, get_or, take, ap, sym, subst, inl, inr, arith}
 use Rattle.std.specs.List.{sum_by, slice_get}
 use Rattle.std.proofs.lemmas.Bool.{cases_lt}
 use Rattle.std.proofs.lemmas.List.{get_or_default}
 use Rattle.std.proofs.lemmas.List.Sums.{sum_by-cons}
-use Rattle.std.proofs.lemmas.Option.{get_or_from_slice_get, same_Some, slice_get-get_or}
+use Rattle.std.proofs.lemmas.Option.{get_or_from_slice_get}
 use Rattle.hz_core.specs.declared.kind.Kind.TheVariants.{And}
 use Rattle.hz_core.specs.Netlist.{Gate, Netlist, IsCircuit, IsWhole, IsGateNumber, gate_at, variable_count}
 use Rattle.hz_net.specs.Network.{wires_of}
@@ -14,7 +14,7 @@ use Rattle.hz_net.specs.declared.entry.Entry.{Entry}
 use Rattle.hz_net.specs.declared.entry.Entry.TheVariants as entry
 use Rattle.hz_net.specs.declared.variable.VarKind.{VarKind}
 use Rattle.hz_net.specs.declared.variable.VarKind.TheVariants as kind
-use Rattle.hz_net.proofs.Places.{no_wire, length-wires_of, length-entries_of, variables_of-entry, IsEntryAt-entries_of, wire_at-pin}
+use Rattle.hz_net.proofs.Places.{no_wire, length-entries_of, variables_of-entry, IsEntryAt-entries_of, wire_at-pin}
 
 abbrev pins : Gate → ℕ
 pins gate = length gate.sources

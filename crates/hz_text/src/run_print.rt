@@ -72,12 +72,7 @@ fn number_bits(bits: &[bool], count: u32, pairs: &mut Vec<(u32, bool)>) -> Resul
 
 // Adds the lines of a run.
 #[tactic(auto, unfolding(crate::specs::RunPrinted::run_lines))]
-fn push_run(
-    written: &mut Vec<u8>,
-    net: &Net,
-    lead: &Run,
-    cycle: Option<&Run>,
-) -> Result<(), Memory>
+fn push_run(written: &mut Vec<u8>, net: &Net, lead: &Run, cycle: Option<&Run>) -> Result<(), Memory>
     requires lead { All (λ flips. All (λ var. var < length (network_of net.now)) flips) lead.now.steps }
     requires cycle { All (λ flips. All (λ var. var < length (network_of net.now)) flips) (cycle_steps (option_map (λ run. run.now.steps) cycle)) }
     ensures { OnOk result (written.new.items ≡ written.old.items ++ run_lines net.now (record { lead = lead.now.steps; cycle = option_map (λ run. run.now.steps) cycle.entry })) }
