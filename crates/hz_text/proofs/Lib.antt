@@ -7,3 +7,11 @@ pub mod ReadLaws
 pub mod PrintLemmas
 pub mod WordLaws
 pub mod PrintLaws
+pub mod VariableLemmas
+pub mod LeastFault
+pub mod RunFaultLaws
+pub mod RunBuildLaws
+pub mod RunUsableLaws
+pub mod WirePlaces
+pub mod RunWordLaws
+pub mod RunPrintLaws

@@ -41,7 +41,7 @@ bytes_eq-flip a b h = by_test (bytes_eq b a) refl
     by_test true e = let wrong : true ≡ false = sym ((bytes_eq-Decides a b).1 (sym ((bytes_eq-Decides b a).0 e))) ∙ h in cc
 
 -- a node is found by its name
-node_at : (netlist : Netlist) (node : ℕ) → IsCircuit netlist → node < length netlist.names → node_named netlist (slice_index_or netlist.names node []) ≡ Some node
+pub node_at : (netlist : Netlist) (node : ℕ) → IsCircuit netlist → node < length netlist.names → node_named netlist (slice_index_or netlist.names node []) ≡ Some node
 node_at netlist node whole l =
     let name = slice_index_or netlist.names node [] in
     let at = position_or_len_is (bytes_eq name) netlist.names node [] (omega arith) (λ k h. bytes_eq-flip (get_or netlist.names k []) name (apart_from_distinct bytes_eq netlist.names k node [] whole.names_distinct h l)) (λ h. (bytes_eq-Decides name name).1 refl) in
@@ -52,7 +52,7 @@ bit_back : (bit : Bool) → bit_of (letter_of bit ∷ []) ≡ Some bit
 bit_back true = refl
 bit_back false = refl
 
-assigned_back : (netlist : Netlist) (pairs : List (ℕ × Bool)) → IsCircuit netlist → AreNodes netlist pairs → map (assigned_of netlist) (map (spelled netlist) pairs) ≡ map assignment_to pairs
+pub assigned_back : (netlist : Netlist) (pairs : List (ℕ × Bool)) → IsCircuit netlist → AreNodes netlist pairs → map (assigned_of netlist) (map (spelled netlist) pairs) ≡ map assignment_to pairs
 assigned_back netlist [] whole h = refl
 assigned_back netlist (pair ∷ pairs) whole h =
     let P : ℕ × Bool → Type 0 = λ pair. pair.0 < length netlist.names in
@@ -121,15 +121,15 @@ changes-none inputs test fails (change ∷ changes) line h =
     ∙ ap (λ b. cond b (Some line) (first_line test (changes_sent (suc line) changes))) (fails change (All-head P change changes h))
     ∙ changes-none inputs test fails changes (suc line) (All-tail P change changes h)
 
-start-known : (inputs : ℕ) (pairs : List (ℕ × Bool)) → has_unknown inputs (sent Start pairs) ≡ false
+pub start-known : (inputs : ℕ) (pairs : List (ℕ × Bool)) → has_unknown inputs (sent Start pairs) ≡ false
 start-known inputs [] = refl
 start-known inputs (pair ∷ pairs) = start-known inputs pairs
 
-all-bits : (keyword : Keyword) (pairs : List (ℕ × Bool)) → has_no_bit (sent keyword pairs) ≡ false
+pub all-bits : (keyword : Keyword) (pairs : List (ℕ × Bool)) → has_no_bit (sent keyword pairs) ≡ false
 all-bits keyword [] = refl
 all-bits keyword (pair ∷ pairs) = all-bits keyword pairs
 
-inputs-known : (inputs : ℕ) (pairs : List (ℕ × Bool)) → All (λ pair. pair.0 < inputs) pairs → has_unknown inputs (sent Change pairs) ≡ false
+pub inputs-known : (inputs : ℕ) (pairs : List (ℕ × Bool)) → All (λ pair. pair.0 < inputs) pairs → has_unknown inputs (sent Change pairs) ≡ false
 inputs-known inputs [] h = refl
 inputs-known inputs (pair ∷ pairs) h =
     let P : ℕ × Bool → Type 0 = λ pair. pair.0 < inputs in
@@ -145,7 +145,7 @@ listed-above node from [] h = refl
 listed-above node from (None ∷ later) h = listed-above node (suc from) later (omega arith)
 listed-above node from (Some bit ∷ later) h = let other : nat_eq node from ≡ false = grind (arith, nat_tests, h) in rw other (listed-above node (suc from) later (omega arith))
 
-listed-fresh : (from : ℕ) (start : List (Option Bool)) → has_repeat nat_eq (map (λ pair. pair.0) (listed_from from start)) ≡ false
+pub listed-fresh : (from : ℕ) (start : List (Option Bool)) → has_repeat nat_eq (map (λ pair. pair.0) (listed_from from start)) ≡ false
 listed-fresh from [] = refl
 listed-fresh from (None ∷ later) = listed-fresh (suc from) later
 listed-fresh from (Some bit ∷ later) = rw (listed-above from (suc from) later (omega arith)) (listed-fresh (suc from) later)
@@ -155,14 +155,14 @@ below-none node from [] h = refl
 below-none node from (None ∷ later) h = below-none node (suc from) later (omega arith)
 below-none node from (Some bit ∷ later) h = let other : nat_eq node from ≡ false = grind (arith, nat_tests, h) in rw other (below-none node (suc from) later (omega arith))
 
-bit_at-listed : (from place node : ℕ) (start : List (Option Bool)) → node ≡ from + place → bit_at (map assignment_to (listed_from from start)) node ≡ get_or start place None
+pub bit_at-listed : (from place node : ℕ) (start : List (Option Bool)) → node ≡ from + place → bit_at (map assignment_to (listed_from from start)) node ≡ get_or start place None
 bit_at-listed from place node [] e = refl
 bit_at-listed from zero node (None ∷ later) e = below-none node (suc from) later (omega (arith, e))
 bit_at-listed from zero node (Some bit ∷ later) e = let same : nat_eq node from ≡ true = grind (arith, nat_tests, e) in rw same refl
 bit_at-listed from (suc place) node (None ∷ later) e = bit_at-listed (suc from) place node later (omega (arith, e))
 bit_at-listed from (suc place) node (Some bit ∷ later) e = let other : nat_eq node from ≡ false = grind (arith, nat_tests, e) in rw other (bit_at-listed (suc from) place node later (omega (arith, e)))
 
-assigns-bit : (all : List Assigned) (node : ℕ) → IsSome (bit_at all node) → assigns all node ≡ true
+pub assigns-bit : (all : List Assigned) (node : ℕ) → IsSome (bit_at all node) → assigns all node ≡ true
 assigns-bit [] node h = cc
 assigns-bit (first ∷ later) node h = by_test (is_node node first.node) refl (assigns-bit later node)
   where
@@ -170,7 +170,7 @@ assigns-bit (first ∷ later) node h = by_test (is_node node first.node) refl (a
     by_test true t ih = refl
     by_test false t ih = ih (rw t at h)
 
-position-nowhere : {X : Type 0} (test : X → Bool) (xs : List X) (d : X) → ((k : ℕ) → k < length xs → test (get_or xs k d) ≡ false) → position test xs ≡ None
+pub position-nowhere : {X : Type 0} (test : X → Bool) (xs : List X) (d : X) → ((k : ℕ) → k < length xs → test (get_or xs k d) ≡ false) → position test xs ≡ None
 position-nowhere test xs d h =
     let at = position_or_len_is test xs (length xs) d (omega arith) h (λ l. absurd (omega arith)) in
     let past : ltb (length xs) (length xs) ≡ false = grind (arith, nat_tests) in

@@ -51,7 +51,7 @@ fn list_pairs(
 
 // Adds a statement on a line of its own.
 #[tactic(auto, unfolding(crate::specs::Printed::statement_text))]
-fn push_statement(
+pub(crate) fn push_statement(
     text: &mut Vec<u8>,
     circuit: &Circuit,
     keyword: &[u8],
@@ -103,7 +103,7 @@ fn letter(bit: bool) -> u8
 }
 
 // Adds bytes.
-fn push_bytes(text: &mut Vec<u8>, bytes: &[u8]) -> Result<(), Memory>
+pub(crate) fn push_bytes(text: &mut Vec<u8>, bytes: &[u8]) -> Result<(), Memory>
     ensures { OnOk result (text.new.items ≡ text.old.items ++ bytes.now) }
 {
     let Ok(_) = text.extend_from_slice(bytes) else {
