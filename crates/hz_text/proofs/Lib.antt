@@ -12,3 +12,4 @@ pub mod LeastFault
 pub mod RunFaultLaws
 pub mod RunBuildLaws
 pub mod RunUsableLaws
+pub mod VariableWords

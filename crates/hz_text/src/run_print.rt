@@ -9,7 +9,7 @@ ghost use Rattle.hz_text.specs.Printed.{statement_text, assignment_text};
 ghost use Rattle.hz_text.specs.RunFault.{IsRunFaultless};
 ghost use Rattle.hz_text.specs.RunPrinted.{spaced_word, variable_word, step_text, cycle_text, run_text, all_listed, run_text_printed};
 ghost use Rattle.hz_text.specs.RunText.{IsRunTextFor, IsRunValue};
-ghost use Rattle.hz_text.specs.RunValue.{all_steps};
+ghost use Rattle.hz_text.specs.RunValue.{all_steps, cycle_steps};
 
 use crate::print::{push_assignment, push_bytes};
 use crate::run_text::RunText;
@@ -23,6 +23,7 @@ use std::alloc::Global;
 /// then each run, and the end. Keywords are in small letters, words are separated by one space, and each line ends with a
 /// line feed. The wire into the second pin of a gate `g` is written `g(2)`. Where the text has at most 16,777,216 bytes,
 /// [`crate::read_run`] gives the run text back.
+#[tactic(auto, unfolding(crate::specs::RunPrinted::run_text_printed))]
 pub fn print_run(alloc: Global, net: &Net, text: &RunText) -> Result<Vec<u8>, Memory>
     requires { IsRunTextFor net.now text.now }
     ensures text { IfOk result (λ printed. printed.items ≡ run_text_printed net.now text.now) }
@@ -39,6 +40,7 @@ pub fn print_run(alloc: Global, net: &Net, text: &RunText) -> Result<Vec<u8>, Me
 }
 
 // Adds a line that lists the first nodes, with their bits.
+#[tactic(auto, unfolding(crate::specs::Printed::statement_text))]
 fn push_bits(
     text: &mut Vec<u8>,
     circuit: &Circuit,
@@ -78,13 +80,16 @@ fn push_runs(text: &mut Vec<u8>, net: &Net, value: &RunText) -> Result<(), Memor
 }
 
 // Adds the lines of a run, given its lead and its cycle.
+#[tactic(auto, unfolding(crate::specs::RunPrinted::run_text))]
 fn push_run(
     text: &mut Vec<u8>,
     net: &Net,
     lead: &Run,
     cycle: Option<&Run>,
 ) -> Result<(), Memory>
-    ensures { OnOk result (text.new.items ≡ text.old.items ++ run_text net.now (record { lead = lead.now.steps; cycle = option_map (λ run. run.now.steps) cycle })) }
+    requires lead { All (λ flips. All (λ var. var < length (network_of net.now)) flips) lead.now.steps }
+    requires cycle { All (λ flips. All (λ var. var < length (network_of net.now)) flips) (cycle_steps (option_map (λ run. run.now.steps) cycle)) }
+    ensures { OnOk result (text.new.items ≡ text.old.items ++ run_text net.now (record { lead = lead.now.steps; cycle = option_map (λ run. run.now.steps) cycle.entry })) }
 {
     push_bytes(text, b"run\n")?;
     push_steps(text, net, lead)?;
@@ -93,7 +98,8 @@ fn push_run(
 
 // Adds the lines of a cycle, if there is one.
 fn push_cycle(text: &mut Vec<u8>, net: &Net, cycle: Option<&Run>) -> Result<(), Memory>
-    ensures { OnOk result (text.new.items ≡ text.old.items ++ cycle_text net.now (option_map (λ run. run.now.steps) cycle)) }
+    requires { All (λ flips. All (λ var. var < length (network_of net.now)) flips) (cycle_steps (option_map (λ run. run.now.steps) cycle)) }
+    ensures { OnOk result (text.new.items ≡ text.old.items ++ cycle_text net.now (option_map (λ run. run.now.steps) cycle.entry)) }
 {
     let Some(steps) = cycle else {
         return Ok(());
@@ -104,7 +110,7 @@ fn push_cycle(text: &mut Vec<u8>, net: &Net, cycle: Option<&Run>) -> Result<(), 
 
 // Adds a line for each step.
 fn push_steps(text: &mut Vec<u8>, net: &Net, run: &Run) -> Result<(), Memory>
-    requires { All (All (λ var. var < length (network_of net.now))) run.now.steps }
+    requires { All (λ flips. All (λ var. var < length (network_of net.now)) flips) run.now.steps }
     ensures { OnOk result (text.new.items ≡ text.old.items ++ flat_map (step_text net.now) run.now.steps) }
 {
     for number in 0..run.steps() {
@@ -114,6 +120,7 @@ fn push_steps(text: &mut Vec<u8>, net: &Net, run: &Run) -> Result<(), Memory>
 }
 
 // Adds the line of a step.
+#[tactic(auto, unfolding(crate::specs::RunPrinted::step_text))]
 fn push_step(text: &mut Vec<u8>, net: &Net, flips: &[u32]) -> Result<(), Memory>
     requires { All (λ var. var < length (network_of net.now)) flips.now }
     ensures { OnOk result (text.new.items ≡ text.old.items ++ step_text net.now flips.now) }
@@ -129,10 +136,18 @@ fn push_variables(text: &mut Vec<u8>, net: &Net, flips: &[u32]) -> Result<(), Me
     ensures { OnOk result (text.new.items ≡ text.old.items ++ flat_map (spaced_word net.now) flips.now) }
 {
     for var in flips {
-        push_bytes(text, b" ")?;
-        push_variable(text, net, *var)?;
+        push_spaced(text, net, *var)?;
     }
     Ok(())
+}
+
+// Adds a space, and the word of a variable.
+fn push_spaced(text: &mut Vec<u8>, net: &Net, var: u32) -> Result<(), Memory>
+    requires { var < length (network_of net.now) }
+    ensures { OnOk result (text.new.items ≡ text.old.items ++ spaced_word net.now var) }
+{
+    push_bytes(text, b" ")?;
+    push_variable(text, net, var)
 }
 
 // Adds the word of a variable.
@@ -151,7 +166,7 @@ fn push_variable(text: &mut Vec<u8>, net: &Net, var: u32) -> Result<(), Memory>
 fn push_wire(text: &mut Vec<u8>, circuit: &Circuit, gate: u32, pin: u32) -> Result<(), Memory>
     requires gate { gate < length circuit.now.names }
     requires pin { pin < 256 }
-    ensures { OnOk result (text.new.items ≡ text.old.items ++ slice_index_or circuit.now.names gate [] ++ 40 ∷ decimal (pin + 1) ++ 41 ∷ []) }
+    ensures { OnOk result (text.new.items ≡ text.old.items ++ (slice_index_or circuit.now.names gate [] ++ 40 ∷ decimal (pin + 1) ++ 41 ∷ [])) }
 {
     let mut digits = Buffer::new();
     push_bytes(text, circuit.name(gate))?;
