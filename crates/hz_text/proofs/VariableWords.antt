@@ -75,9 +75,11 @@ wire_is_pin netlist var circuit above below =
     let within : at.pin < length (gate_at netlist node).sources = subst (λ (n : ℕ). at.pin < pins_of (get_or netlist.gates n no_gate)) (sym back) at.within in
     let first : first_wire netlist node ≡ length netlist.names + sum_by pins_of (take at.gate netlist.gates) = ap (λ (n : ℕ). length netlist.names + sum_by pins_of (take n netlist.gates)) back in
     let place : first_wire netlist node + at.pin ≡ var = omega (arith, first, at.is, above) in
-    let wire = ap (λ (n : ℕ). get_or (wires_of netlist) (n - length netlist.names) no_wire) (sym place) ∙ wire_at-pin netlist node at.pin circuit is_gate within in
+    let made : Wire = record { gate = node; pin = at.pin; source = get_or (gate_at netlist node).sources at.pin 0 } in
+    let there : wire_at netlist (first_wire netlist node + at.pin) ≡ made = wire_at-pin netlist node at.pin circuit is_gate within in
+    let moved : wire_at netlist var ≡ wire_at netlist (first_wire netlist node + at.pin) = ap (wire_at netlist) (sym place) in
     let P : Wire → Type 0 = λ wire. IsPinOf netlist var wire.gate wire.pin in
-    subst P (sym wire) (record { is_gate = is_gate; within = within; place = place })
+    subst P (sym (moved ∙ there)) (record { is_gate = is_gate; within = within; place = place })
 
 -- no gate has more than 256 pins
 pub pin-bound : (netlist : Netlist) (var gate pin : ℕ) → IsCircuit netlist → IsPinOf netlist var gate pin → pin < 256

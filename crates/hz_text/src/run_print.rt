@@ -23,7 +23,6 @@ use std::alloc::Global;
 /// then each run, and the end. Keywords are in small letters, words are separated by one space, and each line ends with a
 /// line feed. The wire into the second pin of a gate `g` is written `g(2)`. Where the text has at most 16,777,216 bytes,
 /// [`crate::read_run`] gives the run text back.
-#[tactic(auto, unfolding(crate::specs::RunPrinted::run_text_printed))]
 pub fn print_run(alloc: Global, net: &Net, text: &RunText) -> Result<Vec<u8>, Memory>
     requires { IsRunTextFor net.now text.now }
     ensures text { IfOk result (λ printed. printed.items ≡ run_text_printed net.now text.now) }
@@ -31,12 +30,23 @@ pub fn print_run(alloc: Global, net: &Net, text: &RunText) -> Result<Vec<u8>, Me
     ensures value { IfOk result (λ printed. IsRunValue net.now printed.items text.now) }
 {
     let mut printed = Vec::new(alloc);
-    push_bytes(&mut printed, b"runs 1\n")?;
-    push_bits(&mut printed, net.circuit(), b"start", text.nodes())?;
-    push_bits(&mut printed, net.circuit(), b"input", text.input())?;
-    push_runs(&mut printed, net, text)?;
-    push_bytes(&mut printed, b"end\n")?;
+    push_text(&mut printed, net, text)?;
     Ok(printed)
+}
+
+// Adds the lines of a run text.
+#[tactic(auto, unfolding(crate::specs::RunPrinted::run_text_printed))]
+fn push_text(text: &mut Vec<u8>, net: &Net, value: &RunText) -> Result<(), Memory>
+    requires { IsRunTextFor net.now value.now }
+    ensures circuit { IsCircuit net.now }
+    ensures text { OnOk result (text.new.items ≡ text.old.items ++ run_text_printed net.now value.now) }
+{
+    let circuit = net.circuit();
+    push_bytes(text, b"runs 1\n")?;
+    push_bits(text, circuit, b"start", value.nodes())?;
+    push_bits(text, circuit, b"input", value.input())?;
+    push_runs(text, net, value)?;
+    push_bytes(text, b"end\n")
 }
 
 // Adds a line that lists the first nodes, with their bits.
