@@ -65,21 +65,26 @@ pub record IsPinOf (netlist : Netlist) (var gate pin : ℕ) : Type 0 where
   pub within : pin < length (gate_at netlist gate).sources
   pub place : first_wire netlist gate + pin ≡ var
 
+-- a wire names the pin that it goes into
+named_pin : (netlist : Netlist) (var gate pin : ℕ) → IsCircuit netlist → IsPinOf netlist var gate pin → IsPinOf netlist var (wire_at netlist var).gate (wire_at netlist var).pin
+named_pin netlist var gate pin circuit is =
+    let wire : Wire = record { gate = gate; pin = pin; source = get_or (gate_at netlist gate).sources pin 0 } in
+    let same : wire_at netlist var ≡ wire = ap (wire_at netlist) (sym is.place) ∙ wire_at-pin netlist gate pin circuit is.is_gate is.within in
+    let P : Wire → Type 0 = λ wire. IsPinOf netlist var wire.gate wire.pin in
+    subst P (sym same) is
+
 -- a wire goes into the pin that it names
 pub wire_is_pin : (netlist : Netlist) (var : ℕ) → IsCircuit netlist → length netlist.names ≤ var → var < variable_count netlist → IsPinOf netlist var (wire_at netlist var).gate (wire_at netlist var).pin
 wire_is_pin netlist var circuit above below =
     let at = placed netlist.gates (var - length netlist.names) (omega (arith, below, above)) in
     let node = netlist.inputs + at.gate in
     let back : node - netlist.inputs ≡ at.gate = omega arith in
-    let is_gate : IsGateNumber netlist node = (omega arith, omega (arith, at.there, circuit.nodes)) in
-    let within : at.pin < length (gate_at netlist node).sources = subst (λ (n : ℕ). at.pin < pins_of (get_or netlist.gates n no_gate)) (sym back) at.within in
     let first : first_wire netlist node ≡ length netlist.names + sum_by pins_of (take at.gate netlist.gates) = ap (λ (n : ℕ). length netlist.names + sum_by pins_of (take n netlist.gates)) back in
-    let place : first_wire netlist node + at.pin ≡ var = omega (arith, first, at.is, above) in
-    let made : Wire = record { gate = node; pin = at.pin; source = get_or (gate_at netlist node).sources at.pin 0 } in
-    let there : wire_at netlist (first_wire netlist node + at.pin) ≡ made = wire_at-pin netlist node at.pin circuit is_gate within in
-    let moved : wire_at netlist var ≡ wire_at netlist (first_wire netlist node + at.pin) = ap (wire_at netlist) (sym place) in
-    let P : Wire → Type 0 = λ wire. IsPinOf netlist var wire.gate wire.pin in
-    subst P (sym (moved ∙ there)) (record { is_gate = is_gate; within = within; place = place })
+    named_pin netlist var node at.pin circuit (record {
+      is_gate = (omega arith, omega (arith, at.there, circuit.nodes));
+      within = subst (λ (n : ℕ). at.pin < pins_of (get_or netlist.gates n no_gate)) (sym back) at.within;
+      place = omega (arith, first, at.is, above);
+    })
 
 -- no gate has more than 256 pins
 pub pin-bound : (netlist : Netlist) (var gate pin : ℕ) → IsCircuit netlist → IsPinOf netlist var gate pin → pin < 256
