@@ -91,12 +91,7 @@ fn push_runs(text: &mut Vec<u8>, net: &Net, value: &RunText) -> Result<(), Memor
 
 // Adds the lines of a run, given its lead and its cycle.
 #[tactic(auto, unfolding(crate::specs::RunPrinted::run_text))]
-fn push_run(
-    text: &mut Vec<u8>,
-    net: &Net,
-    lead: &Run,
-    cycle: Option<&Run>,
-) -> Result<(), Memory>
+fn push_run(text: &mut Vec<u8>, net: &Net, lead: &Run, cycle: Option<&Run>) -> Result<(), Memory>
     requires lead { All (λ flips. All (λ var. var < length (network_of net.now)) flips) lead.now.steps }
     requires cycle { All (λ flips. All (λ var. var < length (network_of net.now)) flips) (cycle_steps (option_map (λ run. run.now.steps) cycle)) }
     ensures { OnOk result (text.new.items ≡ text.old.items ++ run_text net.now (record { lead = lead.now.steps; cycle = option_map (λ run. run.now.steps) cycle.entry })) }

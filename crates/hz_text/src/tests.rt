@@ -96,7 +96,8 @@ fn reads_runs(rt: HostRuntime) -> Result<(), Fail> {
     let circuit = inverter(rt.alloc())?;
     assert!(rt; circuit.whole());
     let net = Net::build(rt.alloc(), circuit)?;
-    let text = b"RUNS 1\nstart g=1 a=0 # x\ninput a = 1\nrun\nstep a\nstep g ( 1 )\nrun\nstep\ncycle\nend";
+    let text =
+        b"RUNS 1\nstart g=1 a=0 # x\ninput a = 1\nrun\nstep a\nstep g ( 1 )\nrun\nstep\ncycle\nend";
     let runs = read_run(rt.alloc(), &net, text)?;
     assert_eq!(rt; runs.nodes(), [false, true].as_slice());
     assert_eq!(rt; runs.input(), [true].as_slice());
@@ -107,7 +108,11 @@ fn reads_runs(rt: HostRuntime) -> Result<(), Fail> {
     assert!(rt; runs.cycle(0).is_none());
     assert!(rt; matches!(runs.cycle(1), Some(cycle) if cycle.steps() == 0));
     let printed = print_run(rt.alloc(), &net, &runs)?;
-    let lines = b"runs 1\nstart a=0 g=1\ninput a=1\nrun\nstep a\nstep g(1)\nrun\nstep\ncycle\nend\n";
+    let lines =
+        b"runs 1\nstart a=0 g=1\ninput a=1\nrun\nstep a\nstep g(1)\nrun\nstep\ncycle\nend\n";
     assert_eq!(rt; printed.as_slice(), lines.as_slice());
+    assert!(rt; printed.len() <= MAX_TEXT);
+    let again = read_run(rt.alloc(), &net, printed.as_slice())?;
+    assert_eq!(rt; again.runs(), 2);
     Ok(())
 }
