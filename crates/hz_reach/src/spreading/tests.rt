@@ -1,5 +1,5 @@
-ghost use Rattle.std.specs.Prelude.{◌≡◌, length};
-ghost use Rattle.hz_net.specs.Network.{network_of};
+ghost use Rattle.std.specs.Prelude.{◌≡◌, ◌≤◌, [], length, take};
+ghost use Rattle.hz_net.specs.Network.{network_of, IsStable};
 
 use super::*;
 use hz_core::{Circuit, Memory};
@@ -46,19 +46,47 @@ fn spread_from(
     let mut scratch = Scratch::new(alloc, net)?;
     let mut run = Run::with_room(alloc, variables, variables)?;
     if net.settled(&start[..net.circuit().inputs() as usize], start) {
-        let _rounds = spread(net, input, start, &mut a, &mut rank, &mut work);
-        spread_run(
+        pass(
             net,
             start,
             input,
-            &a,
-            &rank,
             keep_unused,
+            &mut a,
+            &mut rank,
+            &mut work,
             &mut scratch,
             &mut run,
         );
     }
     Ok(run)
+}
+
+// Makes the spread run by what Algorithm A gives.
+fn pass(
+    net: &Net,
+    start: &[bool],
+    input: &[bool],
+    keep_unused: bool,
+    a: &mut [Tri],
+    rank: &mut [u32],
+    work: &mut [Tri],
+    scratch: &mut Scratch,
+    run: &mut Run,
+)
+    requires start { length start.now ≡ length (network_of net.now) }
+    requires stable { IsStable (network_of net.now) (take net.now.inputs start.now) start.now }
+    requires input { length input.now ≡ net.now.inputs }
+    requires a { length a.old ≡ length (network_of net.now) }
+    requires rank { length rank.old ≡ length (network_of net.now) }
+    requires work { length work.old ≡ length (network_of net.now) }
+    requires scratch { length scratch.old.state ≡ length (network_of net.now) }
+    requires none_marked { scratch.old.marked ≡ [] }
+    requires empty { run.old.steps ≡ [] }
+    requires room_for_flips { length (network_of net.now) ≤ run.old.spare_flips }
+    requires room_for_steps { length (network_of net.now) ≤ run.old.spare_steps }
+{
+    let _rounds = spread(net, input, start, a, rank, work);
+    spread_run(net, start, input, a, rank, keep_unused, scratch, run);
 }
 
 #[test]
