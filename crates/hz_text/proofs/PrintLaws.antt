@@ -155,14 +155,14 @@ below-none node from [] h = refl
 below-none node from (None ∷ later) h = below-none node (suc from) later (omega arith)
 below-none node from (Some bit ∷ later) h = let other : nat_eq node from ≡ false = grind (arith, nat_tests, h) in rw other (below-none node (suc from) later (omega arith))
 
-pub bit_at-listed : (from place node : ℕ) (start : List (Option Bool)) → node ≡ from + place → bit_at (map assignment_to (listed_from from start)) node ≡ get_or start place None
+bit_at-listed : (from place node : ℕ) (start : List (Option Bool)) → node ≡ from + place → bit_at (map assignment_to (listed_from from start)) node ≡ get_or start place None
 bit_at-listed from place node [] e = refl
 bit_at-listed from zero node (None ∷ later) e = below-none node (suc from) later (omega (arith, e))
 bit_at-listed from zero node (Some bit ∷ later) e = let same : nat_eq node from ≡ true = grind (arith, nat_tests, e) in rw same refl
 bit_at-listed from (suc place) node (None ∷ later) e = bit_at-listed (suc from) place node later (omega (arith, e))
 bit_at-listed from (suc place) node (Some bit ∷ later) e = let other : nat_eq node from ≡ false = grind (arith, nat_tests, e) in rw other (bit_at-listed (suc from) place node later (omega (arith, e)))
 
-pub assigns-bit : (all : List Assigned) (node : ℕ) → IsSome (bit_at all node) → assigns all node ≡ true
+assigns-bit : (all : List Assigned) (node : ℕ) → IsSome (bit_at all node) → assigns all node ≡ true
 assigns-bit [] node h = cc
 assigns-bit (first ∷ later) node h = by_test (is_node node first.node) refl (assigns-bit later node)
   where
@@ -170,22 +170,27 @@ assigns-bit (first ∷ later) node h = by_test (is_node node first.node) refl (a
     by_test true t ih = refl
     by_test false t ih = ih (rw t at h)
 
-pub position-nowhere : {X : Type 0} (test : X → Bool) (xs : List X) (d : X) → ((k : ℕ) → k < length xs → test (get_or xs k d) ≡ false) → position test xs ≡ None
+position-nowhere : {X : Type 0} (test : X → Bool) (xs : List X) (d : X) → ((k : ℕ) → k < length xs → test (get_or xs k d) ≡ false) → position test xs ≡ None
 position-nowhere test xs d h =
     let at = position_or_len_is test xs (length xs) d (omega arith) h (λ l. absurd (omega arith)) in
     let past : ltb (length xs) (length xs) ≡ false = grind (arith, nat_tests) in
     rw (at, past) refl
 
-start-whole : (netlist : Netlist) (script : ScriptOf) → IsCircuit netlist → IsScriptFor netlist script → least_unassigned netlist.inputs (map assignment_to (listed_from 0 script.start)) ≡ None
-start-whole netlist script whole h =
-    let all = map assignment_to (listed_from 0 script.start) in
-    let inputs = netlist.inputs in
+-- a start that lists each of the first nodes leaves none of them out
+pub listed-whole : (start : List (Option Bool)) (inputs : ℕ) → ((k : ℕ) → k < inputs → IsSome (get_or start k None)) → least_unassigned inputs (map assignment_to (listed_from 0 start)) ≡ None
+listed-whole start inputs listed =
+    let all = map assignment_to (listed_from 0 start) in
     position-nowhere not (marks_of all inputs) false (λ k l.
     let low : k < inputs = omega (arith, l, length-marks all inputs) in
-    let long : inputs ≤ length script.start = omega (arith, h.nodes, whole.nodes) in
-    let listed : IsSome (get_or script.start k None) = rw (get_or-take inputs script.start k None low) at (h.inputs k None (omega (arith, low, length-take-le inputs script.start long))) in
-    let found = assigns-bit all k (rw (bit_at-listed 0 k k script.start (sym (zero-add k))) listed) in
+    let found = assigns-bit all k (rw (bit_at-listed 0 k k start (sym (zero-add k))) (listed k low)) in
     rw (get_or-marks all inputs k false low, found) refl)
+
+start-whole : (netlist : Netlist) (script : ScriptOf) → IsCircuit netlist → IsScriptFor netlist script → least_unassigned netlist.inputs (map assignment_to (listed_from 0 script.start)) ≡ None
+start-whole netlist script whole h =
+    let inputs = netlist.inputs in
+    listed-whole script.start inputs (λ k low.
+    let long : inputs ≤ length script.start = omega (arith, h.nodes, whole.nodes) in
+    rw (get_or-take inputs script.start k None low) at (h.inputs k None (omega (arith, low, length-take-le inputs script.start long))))
 
 length-sent : (changes : List (List (ℕ × Bool))) (line : ℕ) → length (changes_sent line changes) ≡ length changes
 length-sent [] line = refl
@@ -215,19 +220,19 @@ printed-faultless netlist script whole h =
     let P : Option TextFault → Type 0 = Outcome netlist text in
     subst P none (first_fault-outcome netlist text (meaning_at-none statement_of text (script_formed netlist script whole h)))
 
-start_back : (netlist : Netlist) (script : ScriptOf) → IsScriptFor netlist script → script.start ≡ map (bit_at (map assignment_to (listed_from 0 script.start))) (range_with_len 0 (length netlist.names))
-start_back netlist script h =
-    let all = map assignment_to (listed_from 0 script.start) in
-    let nodes = length netlist.names in
-    same_lists _ _ (h.nodes ∙ sym (length-map (range_with_len 0 nodes) (bit_at all) ∙ length-range_with_len 0 nodes))
+-- what a start lists is read back
+pub listed-back : (start : List (Option Bool)) (nodes : ℕ) → length start ≡ nodes → start ≡ map (bit_at (map assignment_to (listed_from 0 start))) (range_with_len 0 nodes)
+listed-back start nodes long =
+    let all = map assignment_to (listed_from 0 start) in
+    same_lists _ _ (long ∙ sym (length-map (range_with_len 0 nodes) (bit_at all) ∙ length-range_with_len 0 nodes))
     (λ k d l.
-    let low : k < nodes = omega (arith, l, h.nodes) in
-    get_or_default script.start k d None l
-    ∙ sym (bit_at-listed 0 k k script.start (sym (zero-add k)))
+    let low : k < nodes = omega (arith, l, long) in
+    get_or_default start k d None l
+    ∙ sym (bit_at-listed 0 k k start (sym (zero-add k)))
     ∙ sym (get_or-map-range_with_len (bit_at all) 0 nodes k k d low (zero-add k)))
 
 -- what was printed stands for the script
 pub printed-value : (netlist : Netlist) (script : ScriptOf) → IsCircuit netlist → IsScriptFor netlist script → IsValue netlist (script_text netlist script) script
 printed-value netlist script whole h =
     let P : List (Numbered Looked) → Type 0 = λ statements. IsScriptOf (length netlist.names) statements script in
-    subst P (sym (script_read netlist script whole h)) (record { start = start_back netlist script h; changes = changes_back script.changes 2 })
+    subst P (sym (script_read netlist script whole h)) (record { start = listed-back script.start (length netlist.names) h.nodes; changes = changes_back script.changes 2 })

@@ -125,14 +125,22 @@ passes-outcome netlist text below =
 pub read_runs-looked : (netlist : Netlist) (text : List ℕ) (entries : List RunEntry) → IsReadRun netlist text entries → run_entered_all entries ≡ looked_run_statements netlist text
 read_runs-looked netlist text entries h = sym h.statements ∙ looked_runs-read netlist text
 
+-- where no line is malformed
+formed-outcome : (netlist : Netlist) (text : List ℕ) → first_malformed (run_looked_by netlist) 1 (lines_of text) ≡ None → Outcome (StandsInRuns netlist text) (first_run_fault netlist (looked_run_statements netlist text))
+formed-outcome netlist text formed =
+    outcome-step (StandsInRuns netlist text) Form 1 None _ (λ place. (refl, refl, refl)) (none_below-one netlist text) (answers_malformed netlist text None formed) (λ e below. passes-outcome netlist text below)
+
+-- and no pass has an answer
+pub clear-faultless : (netlist : Netlist) (text : List ℕ) → first_malformed (run_looked_by netlist) 1 (lines_of text) ≡ None → first_run_fault netlist (looked_run_statements netlist text) ≡ None → IsRunFaultless netlist text
+clear-faultless netlist text formed clear =
+    let P : Option TextFault → Type 0 = Outcome (StandsInRuns netlist text) in
+    subst P clear (formed-outcome netlist text formed)
+
 -- after the reader: no line is malformed
 pub read_runs-outcome : (netlist : Netlist) (text : List ℕ) (entries : List RunEntry) → IsReadRun netlist text entries → Outcome (StandsInRuns netlist text) (first_run_fault netlist (run_entered_all entries))
 read_runs-outcome netlist text entries h =
-    let stands = StandsInRuns netlist text in
-    let P : List (Numbered LookedRun) → Type 0 = λ statements. Outcome stands (first_run_fault netlist statements) in
-    let none = answers_malformed netlist text None h.formed in
-    let whole = outcome-step stands Form 1 None _ (λ place. (refl, refl, refl)) (none_below-one netlist text) none (λ e below. passes-outcome netlist text below) in
-    subst P (sym (read_runs-looked netlist text entries h)) whole
+    let P : List (Numbered LookedRun) → Type 0 = λ statements. Outcome (StandsInRuns netlist text) (first_run_fault netlist statements) in
+    subst P (sym (read_runs-looked netlist text entries h)) (formed-outcome netlist text h.formed)
 
 least_run : (netlist : Netlist) (text : List ℕ) (fault : TextFault) → IsLeast (StandsInRuns netlist text) fault → IsLeastRunFault netlist text fault
 least_run netlist text fault h = record { stands = h.stands_here; first = h.first }
@@ -207,12 +215,3 @@ read_runs-below netlist text entries h =
     let P : Numbered LookedRun → Type 0 = λ numbered. AreBelow (length netlist.names) (assignments_in numbered.statement) in
     let Q : List (Numbered LookedRun) → Type 0 = All P in
     All-unmap P run_entered entries (subst Q (sym (read_runs-looked netlist text entries h)) (All-map P (run_looked_up netlist) (run_statements_of text) (λ k d l. assigns-below netlist _)))
-
--- where no line is malformed and no pass has an answer over the text's own statements, the text has no fault
-pub clean_text :
-    (netlist : Netlist) (text : List ℕ) → first_malformed (run_looked_by netlist) 1 (lines_of text) ≡ None → first_run_fault netlist (looked_run_statements netlist text) ≡ None → IsRunFaultless netlist text
-clean_text netlist text formed clear =
-    let stands = StandsInRuns netlist text in
-    let P : Option TextFault → Type 0 = Outcome stands in
-    let whole = outcome-step stands Form 1 None _ (λ place. (refl, refl, refl)) (none_below-one netlist text) (answers_malformed netlist text None formed) (λ e below. passes-outcome netlist text below) in
-    subst P clear whole

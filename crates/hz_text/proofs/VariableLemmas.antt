@@ -40,7 +40,7 @@ pub node_named-below : (netlist : Netlist) (name : List ℕ) (answer : Option �
 node_named-below netlist name None e = tt
 node_named-below netlist name (Some node) e = (position-Some (bytes_eq name) netlist.names node [] e).0
 
-few_pins : (kind : Kind) → most_pins kind ≤ 256
+pub few_pins : (kind : Kind) → most_pins kind ≤ 256
 few_pins And = omega arith
 few_pins Nand = omega arith
 few_pins Or = omega arith

@@ -26,7 +26,7 @@ far : (byte at : ℕ) → nat_le 33 byte ≡ true → nat_le at 32 ≡ true → 
 far byte at h l = grind (arith, nat_tests, h, l)
 
 -- a byte of a name is a letter, and ends no line
-name_byte : (byte : ℕ) → is_name_byte byte ≡ true → (is_letter byte ≡ true) × (is_inline byte ≡ true)
+pub name_byte : (byte : ℕ) → is_name_byte byte ≡ true → (is_letter byte ≡ true) × (is_inline byte ≡ true)
 unfolding class_of
 name_byte byte h =
     let parts = both (nat_le 33 byte && nat_le byte 126) _ h in

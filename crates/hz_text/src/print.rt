@@ -51,7 +51,7 @@ fn list_pairs(
 
 // Adds a statement on a line of its own.
 #[tactic(auto, unfolding(crate::specs::Printed::statement_text))]
-pub(crate) fn push_statement(
+fn push_statement(
     text: &mut Vec<u8>,
     circuit: &Circuit,
     keyword: &[u8],
@@ -81,7 +81,7 @@ fn push_assignments(
 }
 
 // Adds an assignment after a space.
-fn push_assignment(
+pub(crate) fn push_assignment(
     text: &mut Vec<u8>,
     circuit: &Circuit,
     node: u32,

@@ -111,5 +111,8 @@ fn reads_runs(rt: HostRuntime) -> Result<(), Fail> {
     let lines =
         b"runs 1\nstart a=0 g=1\ninput a=1\nrun\nstep a\nstep g(1)\nrun\nstep\ncycle\nend\n";
     assert_eq!(rt; printed.as_slice(), lines.as_slice());
+    assert!(rt; printed.len() <= MAX_TEXT);
+    let again = read_run(rt.alloc(), &net, printed.as_slice())?;
+    assert_eq!(rt; again.runs(), 2);
     Ok(())
 }
