@@ -4,3 +4,9 @@ pub mod Paths
 pub mod CoverB
 pub mod PartLemmas
 pub mod RunLemmas
+pub mod SetLemmas
+pub mod LeastLemmas
+pub mod Readers
+pub mod Rechecks
+pub mod PresentLemmas
+pub mod ReplayLemmas
