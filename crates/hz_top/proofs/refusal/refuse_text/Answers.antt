@@ -3,7 +3,7 @@ use Rattle.hz_top.specs.declared.status.Status.TheVariants as status
 use Rattle.hz_top.specs.Outcome.{TextSays}
 use Rattle.hz_top.specs.Refusal.{script_line}
 use Rattle.hz_top.proofs.Endings.{Answers-put}
-use Rattle.hz_top.proofs.analysis.refuse_text.Goals as goal
+use Rattle.hz_top.proofs.refusal.refuse_text.Goals as goal
 
 pub returns-in_default : goal.returns-in_default
 returns-in_default g c =
