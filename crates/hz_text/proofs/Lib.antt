@@ -7,3 +7,4 @@ pub mod ReadLaws
 pub mod PrintLemmas
 pub mod WordLaws
 pub mod PrintLaws
+pub mod VariableLemmas

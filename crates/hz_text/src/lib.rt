@@ -10,8 +10,12 @@ mod keyword;
 mod passes;
 mod print;
 mod read;
+mod run_entry;
+mod run_keyword;
+mod run_statement;
 mod script;
 mod statement;
+mod variables;
 
 pub use entry::MAX_TEXT;
 pub use fault::TextFault;

@@ -1,0 +1,102 @@
+-- Statements of run texts whose names are looked up in a network.
+use Rattle.std.specs.Prelude.{◌≡◌, ℕ, ◌+◌, ◌-◌, ◌≤◌, ◌&&◌, nat_le, List, [], ◌∷◌, length, map, drop, IsTrue, Option, Some, None, if◌then◌else◌}
+use Rattle.std.specs.List.{list_all}
+use Rattle.std.specs.Option.{option_map}
+use Rattle.hz_core.specs.Netlist.{Netlist, node_named, gate_at}
+use Rattle.hz_net.specs.Variables.{first_wire}
+use Rattle.hz_line.specs.Statement.{Numbered, Meaning, Nothing, Malformed, Means}
+use Rattle.hz_line.specs.declared.tokens.Token.{Token}
+use Rattle.hz_line.specs.Token.{TokenOf, WordOf, token_of}
+use Rattle.hz_text.specs.declared.assigned.Assigned.{Assigned}
+use Rattle.hz_text.specs.declared.assigned.Unread.{Unread}
+use Rattle.hz_text.specs.declared.run_keyword.RunKeyword.{RunKeyword}
+use Rattle.hz_text.specs.declared.run_statement.RunHeld.{RunHeld}
+use Rattle.hz_text.specs.declared.run_statement.RunHeld.TheVariants as held
+use Rattle.hz_text.specs.declared.variables.PinAfter.{PinAfter}
+use Rattle.hz_text.specs.declared.variables.PinAfter.TheVariants as pin
+use Rattle.hz_text.specs.declared.variables.First.{First}
+use Rattle.hz_text.specs.declared.variables.First.TheVariants as first
+use Rattle.hz_text.specs.declared.run_entry.RunEntry.{RunEntry}
+use Rattle.hz_text.specs.Lookup.{assigned_of}
+use Rattle.hz_text.specs.RunStatement.{Variable, Node, Pin, StatementOf, Header, Start, Input, Run, Step, Cycle, End, RunStatement, run_statement_of, run_statement_with, variables_of, number_by, is_digit, with_first}
+
+-- the wire into the pin with this number of the node, if the node is a gate with such a pin; pins are counted from 1
+abbrev pub wire_into : Netlist → Option ℕ → ℕ → Option ℕ
+wire_into netlist None pin = None
+wire_into netlist (Some node) pin =
+    if nat_le netlist.inputs node && (nat_le 1 pin && nat_le pin (length (gate_at netlist node).sources))
+    then Some (first_wire netlist node + (pin - 1)) else None
+
+-- the variable of the network that is written so, if there is one
+abbrev pub variable_named : Netlist → Variable → Option ℕ
+variable_named netlist (Node name) = node_named netlist name
+variable_named netlist (Pin name number) = wire_into netlist (node_named netlist name) (number_by number)
+
+-- a statement by its nodes and bits, and its variables
+abbrev pub LookedRun : Type 0
+LookedRun = StatementOf Assigned (Option ℕ)
+
+-- a statement, looked up
+abbrev pub run_looked_of : Netlist → RunStatement → LookedRun
+run_looked_of netlist Header = Header
+run_looked_of netlist (Start assignments) = Start (map (assigned_of netlist) assignments)
+run_looked_of netlist (Input assignments) = Input (map (assigned_of netlist) assignments)
+run_looked_of netlist Run = Run
+run_looked_of netlist (Step variables) = Step (map (variable_named netlist) variables)
+run_looked_of netlist Cycle = Cycle
+run_looked_of netlist End = End
+
+-- the same with its line
+abbrev pub run_looked_up : Netlist → Numbered RunStatement → Numbered LookedRun
+run_looked_up netlist numbered = record { line = numbered.line; statement = run_looked_of netlist numbered.statement }
+
+-- the statement of a token list, looked up, if it is one
+abbrev pub run_looked_by : Netlist → List TokenOf → Option LookedRun
+run_looked_by netlist tokens = option_map (run_looked_of netlist) (run_statement_of tokens)
+
+-- the statement of a keyword and the tokens after it, looked up
+abbrev pub run_looked_with : Netlist → Option RunKeyword → List TokenOf → Option LookedRun
+run_looked_with netlist keyword rest = option_map (run_looked_of netlist) (run_statement_with keyword rest)
+
+-- the variables that tokens are, looked up
+abbrev pub variables_by : Netlist → List TokenOf → Option (List (Option ℕ))
+variables_by netlist tokens = option_map (map (variable_named netlist)) (variables_of tokens)
+
+-- what a statement that was read holds
+abbrev pub run_held_by : RunHeld → LookedRun
+run_held_by held.Header = Header
+run_held_by (held.Start assigned) = Start assigned.items
+run_held_by (held.Input assigned) = Input assigned.items
+run_held_by held.Run = Run
+run_held_by (held.Step variables) = Step variables.items
+run_held_by held.Cycle = Cycle
+run_held_by held.End = End
+
+-- the same with its line
+abbrev pub run_entered : RunEntry → Numbered LookedRun
+run_entered entry = record { line = entry.line; statement = run_held_by entry.held }
+
+-- the statements of entries
+abbrev pub run_entered_all : List RunEntry → List (Numbered LookedRun)
+run_entered_all entries = map run_entered entries
+
+-- what stands after a name: no pin, what is none, or a pin
+abbrev pub IsPinAfter : List Token → PinAfter → Type 0
+IsPinAfter tokens pin.Absent =
+    (name : List ℕ) → variables_of (WordOf name ∷ map token_of tokens) ≡ with_first (Node name) (variables_of (map token_of tokens))
+IsPinAfter tokens pin.Malformed = (name : List ℕ) → variables_of (WordOf name ∷ map token_of tokens) ≡ None
+IsPinAfter tokens (pin.Pin number) =
+    ((name : List ℕ) → variables_of (WordOf name ∷ map token_of tokens) ≡ with_first (Pin name number.now) (variables_of (map token_of (drop 3 tokens))))
+    × IsTrue (list_all is_digit number.now) × (3 ≤ length tokens)
+
+-- what comes first in tokens: what is no variable, or a variable, looked up, of so many tokens
+abbrev pub IsFirstVariable : Netlist → List Token → First → Type 0
+IsFirstVariable netlist tokens first.Malformed = variables_by netlist (map token_of tokens) ≡ None
+IsFirstVariable netlist tokens (first.Variable variable taken) =
+    (variables_by netlist (map token_of tokens) ≡ with_first variable (variables_by netlist (map token_of (drop taken tokens))))
+    × (1 ≤ taken) × (taken ≤ length tokens)
+
+-- what a line is, by what was read of it
+abbrev pub run_meaning_read : Option RunHeld → Meaning LookedRun
+run_meaning_read None = Nothing
+run_meaning_read (Some held) = Means (run_held_by held)

@@ -1,0 +1,98 @@
+-- The statements of run texts.
+use Rattle.std.specs.Prelude.{ℕ, ◌-◌, ◌+◌, ◌*◌, Bool, true, false, not, ◌&&◌, ◌||◌, ◌==◌, nat_le, List, [], ◌∷◌, codes, fold, length, Option, Some, None, if◌then◌else◌}
+use Rattle.std.specs.List.{list_all}
+use Rattle.std.specs.Option.{option_map}
+use Rattle.std.specs.Str.{bytes_eq}
+use Rattle.hz_line.specs.declared.bytes.Mark.TheVariants.{Open, Close}
+use Rattle.hz_line.specs.Keyword.{is_keyword}
+use Rattle.hz_line.specs.Statement.{Numbered, numbered_statements}
+use Rattle.hz_line.specs.Token.{TokenOf, WordOf, MarkOf}
+use Rattle.hz_text.specs.declared.run_keyword.RunKeyword.{RunKeyword}
+use Rattle.hz_text.specs.declared.run_keyword.RunKeyword.TheVariants as keyword
+use Rattle.hz_text.specs.Assignment.{Assignment, assignments_of}
+
+-- a variable as it is written: a node by its name, or a wire by the name of its gate and the number of its pin
+pub data Variable : Type 0 where
+  Node : (name : List ℕ) → Variable
+  Pin : (name number : List ℕ) → Variable
+
+abbrev pub is_digit : ℕ → Bool
+is_digit byte = nat_le 48 byte && nat_le byte 57
+
+-- a decimal number without leading zero: digits, the first of which is 0 only where it stands alone
+abbrev pub is_decimal : List ℕ → Bool
+is_decimal [] = false
+is_decimal (first ∷ later) = list_all is_digit (first ∷ later) && (not (first == 48) || length later == 0)
+
+-- the number that digits stand for
+abbrev pub number_by : List ℕ → ℕ
+number_by digits = fold (λ number digit. 10 * number + (digit - 48)) 0 digits
+
+-- an element before others, if they are there
+abbrev pub with_first : {A : Type 0} → A → Option (List A) → Option (List A)
+with_first first None = None
+with_first first (Some later) = Some (first ∷ later)
+
+-- the variables that tokens are: a name, or the four tokens name, '(', number, ')'
+abbrev pub variables_of : List TokenOf → Option (List Variable)
+variables_of [] = Some []
+variables_of (WordOf name ∷ MarkOf Open ∷ WordOf number ∷ MarkOf Close ∷ rest) =
+    if is_decimal number then with_first (Pin name number) (variables_of rest) else None
+variables_of (WordOf name ∷ rest) = with_first (Node name) (variables_of rest)
+variables_of _ = None
+
+-- A statement over what assignments and variables are: the header, the start, the input, the begin of a run, a step, the
+-- begin of its cycle, the end.
+pub data StatementOf (A V : Type 0) : Type 0 where
+  Header : StatementOf A V
+  Start : (assignments : List A) → StatementOf A V
+  Input : (assignments : List A) → StatementOf A V
+  Run : StatementOf A V
+  Step : (variables : List V) → StatementOf A V
+  Cycle : StatementOf A V
+  End : StatementOf A V
+
+-- a statement as it is written
+abbrev pub RunStatement : Type 0
+RunStatement = StatementOf Assignment Variable
+
+-- the keyword that a word is, in any letter case
+unfoldable pub run_keyword_of : List ℕ → Option RunKeyword
+run_keyword_of word =
+    if is_keyword word (codes "runs") then Some keyword.Runs
+    else (if is_keyword word (codes "start") then Some keyword.Start
+    else (if is_keyword word (codes "input") then Some keyword.Input
+    else (if is_keyword word (codes "run") then Some keyword.Run
+    else (if is_keyword word (codes "step") then Some keyword.Step
+    else (if is_keyword word (codes "cycle") then Some keyword.Cycle
+    else (if is_keyword word (codes "end") then Some keyword.End else None))))))
+
+-- the tokens are the version of a run text
+abbrev pub is_version : List TokenOf → Bool
+is_version (WordOf version ∷ []) = bytes_eq version (codes "1")
+is_version _ = false
+
+-- the statement, where no token is left
+abbrev pub alone : RunStatement → List TokenOf → Option RunStatement
+alone statement [] = Some statement
+alone statement (token ∷ tokens) = None
+
+-- the statement of a keyword and the tokens after it
+abbrev pub run_statement_with : Option RunKeyword → List TokenOf → Option RunStatement
+run_statement_with None rest = None
+run_statement_with (Some keyword.Runs) rest = if is_version rest then Some Header else None
+run_statement_with (Some keyword.Start) rest = option_map Start (assignments_of rest)
+run_statement_with (Some keyword.Input) rest = option_map Input (assignments_of rest)
+run_statement_with (Some keyword.Run) rest = alone Run rest
+run_statement_with (Some keyword.Step) rest = option_map Step (variables_of rest)
+run_statement_with (Some keyword.Cycle) rest = alone Cycle rest
+run_statement_with (Some keyword.End) rest = alone End rest
+
+-- the one statement of a token list, if it is one
+abbrev pub run_statement_of : List TokenOf → Option RunStatement
+run_statement_of (WordOf word ∷ rest) = run_statement_with (run_keyword_of word) rest
+run_statement_of _ = None
+
+-- the statements of a run text, with their lines
+abbrev pub run_statements_of : List ℕ → List (Numbered RunStatement)
+run_statements_of text = numbered_statements run_statement_of text

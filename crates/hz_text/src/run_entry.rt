@@ -1,0 +1,52 @@
+// The statements of a run text, with their lines.
+
+ghost use Rattle.std.specs.Prelude.{◌≤◌, length, MatchResult};
+ghost use Rattle.hz_text.specs.RunReading.{IsReadRun, IsUnreadRun};
+
+use crate::assigned::Unread;
+use crate::entry::MAX_TEXT;
+use crate::fault::TextFault;
+use crate::run_statement::{RunHeld, read_run_line};
+use hz_line::cut_line;
+use hz_net::Net;
+use std::alloc::Global;
+
+/// A statement with its line.
+#[derive(Debug, Drop)]
+pub(crate) struct RunEntry {
+    pub(crate) line: u32,
+    pub(crate) held: RunHeld,
+}
+
+// The statements of a run text, looked up in a network.
+pub(crate) fn read_run_entries(
+    alloc: Global,
+    net: &Net,
+    text: &[u8],
+) -> Result<Vec<RunEntry>, TextFault>
+    requires { length text.now ≤ MAX_TEXT }
+    ensures { MatchResult result
+        (λ entries. IsReadRun net.now text.now entries.items)
+        (λ fault. IsUnreadRun net.now text.now fault) }
+{
+    let mut entries = Vec::new(alloc);
+    let mut tokens = Vec::new(alloc);
+    let mut rest = Some(text);
+    let mut line = 0;
+    while let Some(left) = rest {
+        let cut = cut_line(left);
+        line += 1;
+        match read_run_line(alloc, net, cut.line, &mut tokens) {
+            Ok(None) => {}
+            Ok(Some(held)) => {
+                let Ok(_) = entries.push(RunEntry { line, held }) else {
+                    return Err(TextFault::Memory);
+                };
+            }
+            Err(Unread::Form) => return Err(TextFault::Form { line }),
+            Err(Unread::Memory) => return Err(TextFault::Memory),
+        }
+        rest = cut.rest;
+    }
+    Ok(entries)
+}

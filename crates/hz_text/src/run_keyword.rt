@@ -1,0 +1,13 @@
+// The keywords of run texts.
+
+/// What a statement of a run text begins with.
+#[derive(Clone, Copy, Debug)]
+pub enum RunKeyword {
+    Runs,
+    Start,
+    Input,
+    Run,
+    Step,
+    Cycle,
+    End,
+}
