@@ -3,6 +3,8 @@ pub mod Job
 pub mod Finding
 pub mod Answer
 pub mod Refusal
+pub mod Replaying
+pub mod Verdict
 pub mod Reports
 pub mod Outcome
 pub mod Faultless

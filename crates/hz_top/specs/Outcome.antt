@@ -15,16 +15,16 @@ use Rattle.hz_bench.specs.Text.{statements_of}
 use Rattle.hz_text.specs.declared.fault.TextFault.{TextFault}
 use Rattle.hz_text.specs.declared.fault.TextFault.TheVariants as reading
 use Rattle.hz_text.specs.ScriptFault as script
-use Rattle.hz_text.specs.ScriptText as script_text
+use Rattle.hz_text.specs.ScriptText.{IsValue}
 use Rattle.hz_text.specs.ScriptValue.{ScriptOf}
-use Rattle.hz_text.specs.RunFault as runs
-use Rattle.hz_text.specs.RunText as runs_text
+use Rattle.hz_text.specs.RunFault.{IsLeastRunFault, IsRunFaultless}
+use Rattle.hz_text.specs.RunText.{IsRunValue}
 use Rattle.hz_text.specs.RunValue.{RunTextOf}
 use Rattle.hz_top.specs.declared.status.Status.{Status}
 use Rattle.hz_top.specs.declared.status.Status.TheVariants as status
 use Rattle.hz_top.specs.Answer.{Says}
 use Rattle.hz_top.specs.Reports.{Reports}
-use Rattle.hz_top.specs.Replaying.{ReplayComes}
+use Rattle.hz_top.specs.Verdict.{ReplayComes}
 use Rattle.hz_top.specs.Job.{JobOf, Analyse, Replay}
 use Rattle.hz_top.specs.declared.order.SecondText.{SecondText}
 use Rattle.hz_top.specs.declared.order.SecondText.TheVariants.{Script, Runs}
@@ -52,13 +52,13 @@ ScriptComes netlist script own text =
 abbrev pub ScriptTextComes : Netlist → List ℕ → Status → List ℕ → Type 0
 ScriptTextComes netlist bytes own text =
     ((fault : TextFault) × script.IsLeastFault netlist bytes fault × Says status.Text (text_line (codes "script") netlist fault) own text)
-    ⊎ ((value : ScriptOf) × script.IsFaultless netlist bytes × script_text.IsValue netlist bytes value × ScriptComes netlist value own text)
+    ⊎ ((value : ScriptOf) × script.IsFaultless netlist bytes × IsValue netlist bytes value × ScriptComes netlist value own text)
 
 -- what a run text comes to, on a circuit
 abbrev pub RunTextComes : Netlist → List ℕ → Status → List ℕ → Type 0
 RunTextComes netlist bytes own text =
-    ((fault : TextFault) × runs.IsLeastFault netlist bytes fault × Says status.Text (text_line (codes "runs") netlist fault) own text)
-    ⊎ ((value : RunTextOf) × runs.IsFaultless netlist bytes × runs_text.IsValue netlist bytes value × ReplayComes netlist value own text)
+    ((fault : TextFault) × IsLeastRunFault netlist bytes fault × Says status.Text (text_line (codes "runs") netlist fault) own text)
+    ⊎ ((value : RunTextOf) × IsRunFaultless netlist bytes × IsRunValue netlist bytes value × ReplayComes netlist value own text)
 
 -- what the second text comes to, by what it is
 abbrev pub SecondTextComes : SecondText → Netlist → List ℕ → Status → List ℕ → Type 0
