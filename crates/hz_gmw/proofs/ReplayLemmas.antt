@@ -372,3 +372,27 @@ stable-fault net input state marks flips var all right once found =
             found.least j (h.0, not_from_false (bit_at marks j) (right j inside ∙ ap not (ap (beq (bit_at state j)) (sym h.1) ∙ beq-refl (bit_at state j))));
       },
     )
+
+-- a replayer with these parts is at a marked state
+pub replayed-is : (circuit : Netlist) (input input' state state' marked watched : List Bool) → input' ≡ input → state' ≡ state → marked ≡ state → watched ≡ unstable_variables (network_of circuit) input state → (let now : Replayed = record { circuit = circuit; input = input'; state = state'; marked = marked; stepped = false; watched = watched } in now) ≡ replayed_at circuit input state
+replayed-is circuit input input' state state' marked watched input_is state_is marked_is watched_is =
+    let parts : List Bool → List Bool → List Bool → List Bool → Replayed =
+    λ i s m w. record { circuit = circuit; input = i; state = s; marked = m; stepped = false; watched = w } in
+    ap (λ (i : List Bool). parts i state' marked watched) input_is ∙
+    (ap (λ (s : List Bool). parts input s marked watched) state_is ∙
+    (ap (λ (m : List Bool). parts input state m watched) marked_is ∙
+    ap (λ (w : List Bool). parts input state state w) watched_is))
+
+-- a replayer with these parts is a step further
+pub stepped-is : (now : Replayed) (flips : List ℕ) (input state watched : List Bool) → input ≡ now.input → state ≡ flipped flips now.state → watched ≡ still_watched now flips → (let next : Replayed = record { circuit = now.circuit; input = input; state = state; marked = now.marked; stepped = true; watched = watched } in next) ≡ stepped_by now flips
+stepped-is now flips input state watched input_is state_is watched_is =
+    let parts : List Bool → List Bool → List Bool → Replayed =
+    λ i s w. record { circuit = now.circuit; input = i; state = s; marked = now.marked; stepped = true; watched = w } in
+    ap (λ (i : List Bool). parts i state watched) input_is ∙
+    (ap (λ (s : List Bool). parts now.input s watched) state_is ∙
+    ap (λ (w : List Bool). parts now.input (flipped flips now.state) w) watched_is)
+
+-- a fresh set marks nothing
+pub none-marked : (marks : List Bool) (count : ℕ) → marks ≡ replicate count false → (i : ℕ) → i < length marks → bit_at marks i ≡ false
+none-marked marks count is i inside =
+    ap (λ (m : List Bool). bit_at m i) is ∙ get_or-replicate count i false false (omega (arith, inside, ap (length {A = Bool}) is, length-replicate count false))

@@ -12,6 +12,8 @@ mod least;
 mod present;
 mod replay;
 mod replay_fault;
+#[cfg(test)]
+mod replay_tests;
 mod run;
 mod variable_set;
 
