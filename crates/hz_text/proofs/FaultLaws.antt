@@ -156,15 +156,15 @@ pub record IsLeastUnassigned (inputs : ℕ) (all : List Assigned) (node : ℕ) :
   pub unassigned : assigns all node ≡ false
   pub least : (other : ℕ) → other < inputs → assigns all other ≡ false → node ≤ other
 
-not-true : (b : Bool) → not b ≡ true → b ≡ false
+pub not-true : (b : Bool) → not b ≡ true → b ≡ false
 not-true true h = cc
 not-true false h = refl
 
-not-false : (b : Bool) → not b ≡ false → b ≡ true
+pub not-false : (b : Bool) → not b ≡ false → b ≡ true
 not-false true h = refl
 not-false false h = cc
 
-unassigned-Some : (inputs : ℕ) (all : List Assigned) (node : ℕ) → least_unassigned inputs all ≡ Some node → IsLeastUnassigned inputs all node
+pub unassigned-Some : (inputs : ℕ) (all : List Assigned) (node : ℕ) → least_unassigned inputs all ≡ Some node → IsLeastUnassigned inputs all node
 unassigned-Some inputs all node e =
     let found = position-Some not (marks_of all inputs) node false e in
     let below : node < inputs = omega (arith, found.0, length-marks all inputs) in
@@ -198,7 +198,7 @@ pub unassigned-None : (inputs : ℕ) (all : List Assigned) → least_unassigned 
 unassigned-None inputs all e node l =
     sym (get_or-marks all inputs node false l) ∙ not-false _ (position-None not (marks_of all inputs) node false e (omega (arith, l, length-marks all inputs)))
 
-true-false : true ≡ false → ⊥
+pub true-false : true ≡ false → ⊥
 true-false e = cc
 
 missing-Some : (inputs : ℕ) (statements : List (Numbered Looked)) (node : ℕ) → least_missing inputs statements ≡ Some node → IsMissing inputs statements node × ((other : ℕ) → IsMissing inputs statements other → node ≤ other)
@@ -288,7 +288,7 @@ outcome-beyond netlist text (Some line) no0 no1 no2 no3 no4 no5 e =
     record { stands = e; first = toomany-first netlist text line no0 no1 no2 no3 no4 no5 (λ other p. omega (arith, same_Some line other (sym e ∙ p))) }
 
 -- names of nodes are equal where the nodes are
-name-eq : (netlist : Netlist) (a b : List ℕ) (i j : ℕ) → node_named netlist a ≡ Some i → node_named netlist b ≡ Some j → nat_eq i j ≡ bytes_eq a b
+pub name-eq : (netlist : Netlist) (a b : List ℕ) (i j : ℕ) → node_named netlist a ≡ Some i → node_named netlist b ≡ Some j → nat_eq i j ≡ bytes_eq a b
 name-eq netlist a b i j ea eb =
     let at = λ (name : List ℕ) (k : ℕ) (e : node_named netlist name ≡ Some k). (bytes_eq-Decides name (get_or netlist.names k [])).0 (position-Some (bytes_eq name) netlist.names k [] e).1 in
     by_test (bytes_eq a b) refl (at a i ea) (at b j eb)
@@ -322,7 +322,7 @@ or_parts false b h = (refl, h)
 abbrev pub AllKnown : Netlist → Keyword → List Assignment → Type 0
 AllKnown netlist keyword assignments = list_any (λ assigned. is_unknown netlist.inputs keyword assigned.node) (map (assigned_of netlist) assignments) ≡ false
 
-any-names : (netlist : Netlist) (keyword : Keyword) (name : List ℕ) (node : ℕ) (assignments : List Assignment) → node_named netlist name ≡ Some node → AllKnown netlist keyword assignments → list_any (nat_eq node) (nodes_of (map (assigned_of netlist) assignments)) ≡ list_any (bytes_eq name) (map (λ assignment. assignment.name) assignments)
+pub any-names : (netlist : Netlist) (keyword : Keyword) (name : List ℕ) (node : ℕ) (assignments : List Assignment) → node_named netlist name ≡ Some node → AllKnown netlist keyword assignments → list_any (nat_eq node) (nodes_of (map (assigned_of netlist) assignments)) ≡ list_any (bytes_eq name) (map (λ assignment. assignment.name) assignments)
 any-names netlist keyword name node [] e h = refl
 any-names netlist keyword name node (first ∷ later) e h =
     let parts = or_parts (is_unknown netlist.inputs keyword (node_named netlist first.name)) _ h in
@@ -331,7 +331,7 @@ any-names netlist keyword name node (first ∷ later) e h =
     step : (k : ℕ) × (node_named netlist first.name ≡ Some k) → list_any (nat_eq node) (nodes_of (map (assigned_of netlist) later)) ≡ list_any (bytes_eq name) (map (λ assignment. assignment.name) later) → list_any (nat_eq node) (nodes_of (map (assigned_of netlist) (first ∷ later))) ≡ list_any (bytes_eq name) (map (λ assignment. assignment.name) (first ∷ later))
     step (k, is) ih = rw is (ap (λ b. b || list_any (nat_eq node) (nodes_of (map (assigned_of netlist) later))) (name-eq netlist name first.name node k e is) ∙ ap (λ b. bytes_eq name first.name || b) ih)
 
-twice-names : (netlist : Netlist) (keyword : Keyword) (assignments : List Assignment) → AllKnown netlist keyword assignments → has_repeat nat_eq (nodes_of (map (assigned_of netlist) assignments)) ≡ has_repeat bytes_eq (map (λ assignment. assignment.name) assignments)
+pub twice-names : (netlist : Netlist) (keyword : Keyword) (assignments : List Assignment) → AllKnown netlist keyword assignments → has_repeat nat_eq (nodes_of (map (assigned_of netlist) assignments)) ≡ has_repeat bytes_eq (map (λ assignment. assignment.name) assignments)
 twice-names netlist keyword [] h = refl
 twice-names netlist keyword (first ∷ later) h =
     let parts = or_parts (is_unknown netlist.inputs keyword (node_named netlist first.name)) _ h in

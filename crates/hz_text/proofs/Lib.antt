@@ -8,3 +8,5 @@ pub mod PrintLemmas
 pub mod WordLaws
 pub mod PrintLaws
 pub mod VariableLemmas
+pub mod LeastFault
+pub mod RunFaultLaws

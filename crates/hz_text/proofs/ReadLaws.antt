@@ -57,7 +57,7 @@ clear-from inputs statements h =
     let e = none_parts Order (first_out_of_order statements) _ d.1 in
     record { unknown = a.0; twice = b.0; missing = c.0; bit = d.0; order = e.0; few = none_last TooMany (last_beyond statements) e.1 }
 
-All-from_first_line : {S : Type 0} (test : S → Bool) (statements : List (Numbered S)) → first_line test statements ≡ None → All (λ numbered. test numbered.statement ≡ false) statements
+pub All-from_first_line : {S : Type 0} (test : S → Bool) (statements : List (Numbered S)) → first_line test statements ≡ None → All (λ numbered. test numbered.statement ≡ false) statements
 All-from_first_line test [] e = All-nil _
 All-from_first_line test (first ∷ later) e = by_test (test first.statement) refl (sym (first_line-cons test first later) ∙ e) (All-from_first_line test later)
   where
@@ -79,7 +79,7 @@ pair_of_known inputs nodes keyword assigned u b l = by_node (known inputs keywor
         let below : k < nodes = subst Q is l in
         record { node = subst P (sym is) below; bit = has_bit assigned.bit b }
 
-pairs-sound : (inputs nodes : ℕ) (keyword : Keyword) (all : List Assigned) → list_any (λ assigned. is_unknown inputs keyword assigned.node) all ≡ false → list_any (λ assigned. is_none assigned.bit) all ≡ false → AreBelow nodes all → All (IsPair nodes) all
+pub pairs-sound : (inputs nodes : ℕ) (keyword : Keyword) (all : List Assigned) → list_any (λ assigned. is_unknown inputs keyword assigned.node) all ≡ false → list_any (λ assigned. is_none assigned.bit) all ≡ false → AreBelow nodes all → All (IsPair nodes) all
 pairs-sound inputs nodes keyword [] u b l = All-nil (IsPair nodes)
 pairs-sound inputs nodes keyword (first ∷ later) u b l =
     let us = or_parts _ _ u in
@@ -91,10 +91,10 @@ position-below : (netlist : Netlist) (name : List ℕ) (answer : Option ℕ) →
 position-below netlist name None e = tt
 position-below netlist name (Some node) e = (position-Some (bytes_eq name) netlist.names node [] e).0
 
-looked-below : (netlist : Netlist) (assignments : List Assignment) → AreBelow (length netlist.names) (map (assigned_of netlist) assignments)
+pub looked-below : (netlist : Netlist) (assignments : List Assignment) → AreBelow (length netlist.names) (map (assigned_of netlist) assignments)
 looked-below netlist assignments = All-map (λ (assigned : Assigned). IfSome assigned.node (λ node. node < length netlist.names)) (assigned_of netlist) assignments (λ k d l. position-below netlist _ _ refl)
 
-All-unmap : {A B : Type 0} (P : B → Type 0) (f : A → B) (xs : List A) → All P (map f xs) → All (λ x. P (f x)) xs
+pub All-unmap : {A B : Type 0} (P : B → Type 0) (f : A → B) (xs : List A) → All P (map f xs) → All (λ x. P (f x)) xs
 All-unmap P f xs h = λ k d l. subst P (get_or-map f xs k d (f d) l) (h k (f d) (omega (arith, l, length-map xs f)))
 
 entries-below : (netlist : Netlist) (statements : List (Numbered Statement)) (entries : List Entry) → map entered entries ≡ map (looked_up netlist) statements → All (λ entry. AreBelow (length netlist.names) entry.held.assigned.items) entries
@@ -164,11 +164,11 @@ short statements e = by_place (cases_lt 10001 (length statements))
     by_place (inl more) = let wrong = ap (option_map (λ (numbered : Numbered Looked). numbered.line)) (slice_get-get_or statements 10001 nothing more) in absurd (none-some _ (sym e ∙ wrong))
     by_place (inr few) = few
 
-is_none-Some : (bit : Option Bool) → is_none bit ≡ false → IsSome bit
+pub is_none-Some : (bit : Option Bool) → is_none bit ≡ false → IsSome bit
 is_none-Some None h = cc
 is_none-Some (Some bit) h = refl
 
-bit-some : (all : List Assigned) (node : ℕ) → assigns all node ≡ true → list_any (λ assigned. is_none assigned.bit) all ≡ false → IsSome (bit_at all node)
+pub bit-some : (all : List Assigned) (node : ℕ) → assigns all node ≡ true → list_any (λ assigned. is_none assigned.bit) all ≡ false → IsSome (bit_at all node)
 bit-some [] node a b = cc
 bit-some (first ∷ later) node a b = by_test (is_node node first.node) refl a (or_parts _ _ b) (bit-some later node)
   where
@@ -244,7 +244,7 @@ accepted netlist text entries whole h e =
     }
 
 -- the fault with this number and place
-abbrev fault_of : ℕ → ℕ → TextFault
+abbrev pub fault_of : ℕ → ℕ → TextFault
 fault_of number place =
     if number == 1 then Form place
     else (if number == 2 then Unknown place
@@ -254,7 +254,7 @@ fault_of number place =
     else (if number == 6 then Order place
     else (if number == 7 then TooMany place else Memory))))))
 
-fault_of-back : (fault : TextFault) → fault_of (number_of fault) (place_of fault) ≡ fault
+pub fault_of-back : (fault : TextFault) → fault_of (number_of fault) (place_of fault) ≡ fault
 fault_of-back (Form line) = refl
 fault_of-back (Unknown line) = refl
 fault_of-back (Twice line) = refl
@@ -264,7 +264,7 @@ fault_of-back (Order line) = refl
 fault_of-back (TooMany line) = refl
 fault_of-back Memory = refl
 
-both-first : (fault other : TextFault) → ComesFirst fault other → ComesFirst other fault → (number_of fault ≡ number_of other) × (place_of fault ≡ place_of other)
+pub both-first : (fault other : TextFault) → ComesFirst fault other → ComesFirst other fault → (number_of fault ≡ number_of other) × (place_of fault ≡ place_of other)
 both-first fault other (inl a) (inl b) = absurd (omega (arith, a, b))
 both-first fault other (inl a) (inr b) = absurd (omega (arith, a, b.0))
 both-first fault other (inr a) (inl b) = absurd (omega (arith, a.0, b))

@@ -11,8 +11,14 @@ mod passes;
 mod print;
 mod read;
 mod run_entry;
+mod run_build;
+mod run_check;
 mod run_keyword;
+mod run_order;
+mod run_passes;
+mod run_read;
 mod run_statement;
+mod run_text;
 mod script;
 mod statement;
 mod variables;
@@ -21,6 +27,8 @@ pub use entry::MAX_TEXT;
 pub use fault::TextFault;
 pub use print::print_script;
 pub use read::read_script;
+pub use run_read::read_run;
+pub use run_text::RunText;
 pub use script::{MAX_CHANGES, Script};
 
 #[cfg(test)]

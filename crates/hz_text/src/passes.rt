@@ -36,7 +36,7 @@ fn has_unknown(held: &Held, inputs: u32) -> bool
     any_unknown(held.assigned.as_slice(), keyword, inputs)
 }
 
-fn any_unknown(all: &[Assigned], keyword: Keyword, inputs: u32) -> bool
+pub(crate) fn any_unknown(all: &[Assigned], keyword: Keyword, inputs: u32) -> bool
     ensures { result ≡ list_any (λ assigned. is_unknown inputs keyword assigned.node) all.now }
 {
     all.iter()
@@ -67,7 +67,7 @@ pub(crate) fn first_without_bit(entries: &[Entry]) -> Option<u32>
     None
 }
 
-fn any_without_bit(all: &[Assigned]) -> bool
+pub(crate) fn any_without_bit(all: &[Assigned]) -> bool
     ensures { result ≡ list_any (λ assigned. is_none assigned.bit) all.now }
 {
     all.iter().any(|assigned| assigned.bit.is_none())
@@ -125,7 +125,7 @@ pub(crate) fn least_missing(
 }
 
 // The least input that is not assigned.
-fn least_unassigned(alloc: Global, all: &[Assigned], inputs: u32) -> Result<Option<u32>, Memory>
+pub(crate) fn least_unassigned(alloc: Global, all: &[Assigned], inputs: u32) -> Result<Option<u32>, Memory>
     ensures { IfOk result (λ missing. missing ≡ least_unassigned inputs all.now) }
 {
     let listed = listed_inputs(alloc, all, inputs)?;
@@ -192,7 +192,7 @@ pub(crate) fn first_twice(
 }
 
 // Whether a node is assigned twice. Each node that is assigned gets this mark, which is above all earlier ones.
-fn repeats(all: &[Assigned], marks: &mut [usize], mark: usize) -> bool
+pub(crate) fn repeats(all: &[Assigned], marks: &mut [usize], mark: usize) -> bool
     requires nodes { AreBelow (length marks.old) all.now }
     requires above { EachIndex marks.old (λ node. slice_index marks.old node < mark) }
     ensures repeats { result ≡ has_repeat nat_eq (nodes_of all.now) }

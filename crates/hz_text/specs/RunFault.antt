@@ -1,0 +1,214 @@
+-- The faults of a run text.
+use Rattle.std.specs.Prelude.{◌≡◌, ℕ, ◌+◌, ◌<◌, Bool, true, false, ◌||◌, nat_lt, List, [], ◌∷◌, length, map, Option, Some, None, is_none, ◌⊎◌, if◌then◌else◌}
+use Rattle.std.specs.List.{list_any}
+use Rattle.std.specs.Option.{option_map_or}
+use Rattle.std.specs.Str.{bytes_eq}
+use Rattle.hz_core.specs.Netlist.{Netlist}
+use Rattle.hz_line.specs.Statement.{Numbered, PassesOn, Malformed, meaning_at}
+use Rattle.hz_text.specs.declared.assigned.Assigned.{Assigned}
+use Rattle.hz_text.specs.declared.keyword.Keyword.TheVariants as keyword
+use Rattle.hz_text.specs.declared.fault.TextFault.{TextFault}
+use Rattle.hz_text.specs.declared.fault.TextFault.TheVariants as fault
+use Rattle.hz_text.specs.declared.run_order.Place.{Place}
+use Rattle.hz_text.specs.declared.run_order.Place.TheVariants as place
+use Rattle.hz_text.specs.Assignment.{has_repeat}
+use Rattle.hz_text.specs.RunStatement.{StatementOf, Header, Start, Input, Run, Step, Cycle, End, RunStatement, run_statement_of, run_statements_of}
+use Rattle.hz_text.specs.RunLookup.{LookedRun, run_looked_up}
+use Rattle.hz_text.specs.ScriptFault.{is_unknown, assigns, ComesFirst}
+
+-- the statements of a run text, looked up in a network
+abbrev pub looked_run_statements : Netlist → List ℕ → List (Numbered LookedRun)
+looked_run_statements netlist text = map (run_looked_up netlist) (run_statements_of text)
+
+-- what a statement assigns
+abbrev pub assignments_in : {A V : Type 0} → StatementOf A V → List A
+assignments_in Header = []
+assignments_in (Start assignments) = assignments
+assignments_in (Input assignments) = assignments
+assignments_in Run = []
+assignments_in (Step variables) = []
+assignments_in Cycle = []
+assignments_in End = []
+
+-- the variables that a statement names
+abbrev pub variables_in : {A V : Type 0} → StatementOf A V → List V
+variables_in Header = []
+variables_in (Start assignments) = []
+variables_in (Input assignments) = []
+variables_in Run = []
+variables_in (Step variables) = variables
+variables_in Cycle = []
+variables_in End = []
+
+-- the statement names what is not there: in the start no node, in the input no input, in a step no variable
+abbrev pub names_unknown : ℕ → LookedRun → Bool
+names_unknown inputs Header = false
+names_unknown inputs (Start assigned) = list_any (λ one. is_unknown inputs keyword.Start one.node) assigned
+names_unknown inputs (Input assigned) = list_any (λ one. is_unknown inputs keyword.Change one.node) assigned
+names_unknown inputs Run = false
+names_unknown inputs (Step variables) = list_any is_none variables
+names_unknown inputs Cycle = false
+names_unknown inputs End = false
+
+-- the statement assigns a name twice
+abbrev pub names_twice : RunStatement → Bool
+names_twice statement = has_repeat bytes_eq (map (λ assignment. assignment.name) (assignments_in statement))
+
+-- the statement assigns a word that is no bit
+abbrev pub lacks_bit : LookedRun → Bool
+lacks_bit statement = list_any (λ one. is_none one.bit) (assignments_in statement)
+
+abbrev pub is_header : {A V : Type 0} → StatementOf A V → Bool
+is_header Header = true
+is_header (Start assignments) = false
+is_header (Input assignments) = false
+is_header Run = false
+is_header (Step variables) = false
+is_header Cycle = false
+is_header End = false
+
+abbrev pub is_start_line : {A V : Type 0} → StatementOf A V → Bool
+is_start_line Header = false
+is_start_line (Start assignments) = true
+is_start_line (Input assignments) = false
+is_start_line Run = false
+is_start_line (Step variables) = false
+is_start_line Cycle = false
+is_start_line End = false
+
+abbrev pub is_input_line : {A V : Type 0} → StatementOf A V → Bool
+is_input_line Header = false
+is_input_line (Start assignments) = false
+is_input_line (Input assignments) = true
+is_input_line Run = false
+is_input_line (Step variables) = false
+is_input_line Cycle = false
+is_input_line End = false
+
+abbrev pub is_end : {A V : Type 0} → StatementOf A V → Bool
+is_end Header = false
+is_end (Start assignments) = false
+is_end (Input assignments) = false
+is_end Run = false
+is_end (Step variables) = false
+is_end Cycle = false
+is_end End = true
+
+-- what the first start assigns, if there is one
+abbrev pub first_start : List (Numbered LookedRun) → Option (List Assigned)
+first_start [] = None
+first_start (first ∷ later) = if is_start_line first.statement then Some (assignments_in first.statement) else first_start later
+
+-- what the first input line assigns, if there is one
+abbrev pub first_input : List (Numbered LookedRun) → Option (List Assigned)
+first_input [] = None
+first_input (first ∷ later) = if is_input_line first.statement then Some (assignments_in first.statement) else first_input later
+
+-- the assignments are there, and leave this one of so many nodes out
+abbrev pub LeavesOut : Option (List Assigned) → ℕ → ℕ → Type 0
+LeavesOut None nodes node = ⊥
+LeavesOut (Some assigned) nodes node = (node < nodes) × (assigns assigned node ≡ false)
+
+-- the first start leaves this node out, or the first input line leaves this input out
+abbrev pub IsLeftOut : Netlist → List (Numbered LookedRun) → ℕ → Type 0
+IsLeftOut netlist statements node =
+    LeavesOut (first_start statements) (length netlist.names) node ⊎ LeavesOut (first_input statements) netlist.inputs node
+
+-- a step stays where it is, and stands in a run
+abbrev pub place_after_step : Place → Option Place
+place_after_step place.Between = None
+place_after_step place.Lead = Some place.Lead
+place_after_step place.Cycle = Some place.Cycle
+
+-- a cycle stands after a run's lead, at most once
+abbrev pub place_after_cycle : Place → Option Place
+place_after_cycle place.Between = None
+place_after_cycle place.Lead = Some place.Cycle
+place_after_cycle place.Cycle = None
+
+-- where one is among the runs after a statement, if it may stand there
+abbrev pub place_after : {A V : Type 0} → Place → StatementOf A V → Option Place
+place_after here Header = None
+place_after here (Start assignments) = None
+place_after here (Input assignments) = None
+place_after here Run = Some place.Lead
+place_after here (Step variables) = place_after_step here
+place_after here Cycle = place_after_cycle here
+place_after here End = None
+
+-- the line that breaks the order: here nothing may stand
+abbrev pub end_out_of_order : List (Numbered LookedRun) → Option ℕ
+end_out_of_order [] = None
+end_out_of_order (first ∷ later) = Some first.line
+
+-- the line that breaks the order first, in runs and the end after them; 0 where the end is missing
+abbrev pub runs_out_of_order : Place → List (Numbered LookedRun) → Option ℕ
+runs_out_of_order here [] = Some 0
+runs_out_of_order here (first ∷ later) =
+    if is_end first.statement then end_out_of_order later
+    else option_map_or (λ next. runs_out_of_order next later) (place_after here first.statement) (Some first.line)
+
+-- the line that breaks the order first, where a statement that passes the test stands before others; 0 where it is missing
+abbrev pub out_of_order_with : (LookedRun → Bool) → (List (Numbered LookedRun) → Option ℕ) → List (Numbered LookedRun) → Option ℕ
+out_of_order_with test after [] = Some 0
+out_of_order_with test after (first ∷ later) = if test first.statement then after later else Some first.line
+
+-- the order from the input line on, from the start on, and of a whole text: header, start, input, runs, end
+abbrev pub input_out_of_order : List (Numbered LookedRun) → Option ℕ
+input_out_of_order statements = out_of_order_with is_input_line (runs_out_of_order place.Between) statements
+
+abbrev pub start_out_of_order : List (Numbered LookedRun) → Option ℕ
+start_out_of_order statements = out_of_order_with is_start_line input_out_of_order statements
+
+abbrev pub run_out_of_order : List (Numbered LookedRun) → Option ℕ
+run_out_of_order statements = out_of_order_with is_header start_out_of_order statements
+
+-- how many steps a statement is
+abbrev pub steps_in : {A V : Type 0} → StatementOf A V → ℕ
+steps_in Header = 0
+steps_in (Start assignments) = 0
+steps_in (Input assignments) = 0
+steps_in Run = 0
+steps_in (Step variables) = 1
+steps_in Cycle = 0
+steps_in End = 0
+
+-- the first line up to which there are more than 2,000,000 steps, or more than 2,000,000 variables in steps, where there
+-- were so many before
+abbrev pub beyond_from : ℕ → ℕ → List (Numbered LookedRun) → Option ℕ
+beyond_from steps variables [] = None
+beyond_from steps variables (first ∷ later) =
+    if nat_lt 2000000 (steps + steps_in first.statement) || nat_lt 2000000 (variables + length (variables_in first.statement))
+    then Some first.line
+    else beyond_from (steps + steps_in first.statement) (variables + length (variables_in first.statement)) later
+
+-- the fault stands in the text
+abbrev pub StandsInRuns : Netlist → List ℕ → TextFault → Type 0
+StandsInRuns netlist text (fault.Form line) = meaning_at run_statement_of text line ≡ Malformed
+StandsInRuns netlist text (fault.Unknown line) = PassesOn (names_unknown netlist.inputs) (looked_run_statements netlist text) line
+StandsInRuns netlist text (fault.Twice line) = PassesOn names_twice (run_statements_of text) line
+StandsInRuns netlist text (fault.Missing node) = IsLeftOut netlist (looked_run_statements netlist text) node
+StandsInRuns netlist text (fault.Bit line) = PassesOn lacks_bit (looked_run_statements netlist text) line
+StandsInRuns netlist text (fault.Order line) = run_out_of_order (looked_run_statements netlist text) ≡ Some line
+StandsInRuns netlist text (fault.TooMany line) = beyond_from 0 0 (looked_run_statements netlist text) ≡ Some line
+StandsInRuns netlist text fault.Memory = ⊥
+
+-- the fault stands in the text and comes before each other that does
+pub record IsLeastRunFault (netlist : Netlist) (text : List ℕ) (fault : TextFault) : Type 0 where
+  pub stands : StandsInRuns netlist text fault
+  pub first : (other : TextFault) → StandsInRuns netlist text other → ComesFirst fault other
+
+-- no fault stands in the text
+abbrev pub IsRunFaultless : Netlist → List ℕ → Type 0
+IsRunFaultless netlist text = (fault : TextFault) → ¬ StandsInRuns netlist text fault
+
+-- the fault is the least that stands in the text; memory may always run out
+abbrev pub IsRunRefusal : Netlist → List ℕ → TextFault → Type 0
+IsRunRefusal netlist text (fault.Form line) = IsLeastRunFault netlist text (fault.Form line)
+IsRunRefusal netlist text (fault.Unknown line) = IsLeastRunFault netlist text (fault.Unknown line)
+IsRunRefusal netlist text (fault.Twice line) = IsLeastRunFault netlist text (fault.Twice line)
+IsRunRefusal netlist text (fault.Missing node) = IsLeastRunFault netlist text (fault.Missing node)
+IsRunRefusal netlist text (fault.Bit line) = IsLeastRunFault netlist text (fault.Bit line)
+IsRunRefusal netlist text (fault.Order line) = IsLeastRunFault netlist text (fault.Order line)
+IsRunRefusal netlist text (fault.TooMany line) = IsLeastRunFault netlist text (fault.TooMany line)
+IsRunRefusal netlist text fault.Memory = Unit {0}

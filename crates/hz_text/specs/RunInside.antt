@@ -1,0 +1,8 @@
+-- What the fields of a run text stand for.
+use Rattle.std.specs.Option.{option_map}
+use Rattle.hz_text.specs.RunValue.{RunOf}
+use Rattle.hz_text.specs.declared.run_text.ToldRun.TheInside.{Inside}
+
+-- the steps of the fields' runs
+abbrev pub told_of : Inside → RunOf
+told_of inside = record { lead = inside.lead.steps; cycle = option_map (λ run. run.steps) inside.cycle }

@@ -1,0 +1,54 @@
+-- What the passes over a run text's statements answer.
+use Rattle.std.specs.Prelude.{◌≡◌, ℕ, Bool, nat_eq, nat_le, List, length, Option, Some, None, if◌then◌else◌}
+use Rattle.std.specs.Option.{option_map}
+use Rattle.hz_core.specs.Netlist.{Netlist, IsCircuit}
+use Rattle.hz_line.specs.Statement.{Numbered, first_line}
+use Rattle.hz_text.specs.declared.assigned.Assigned.{Assigned}
+use Rattle.hz_text.specs.declared.fault.TextFault.{TextFault}
+use Rattle.hz_text.specs.declared.fault.TextFault.TheVariants.{Unknown, Twice, Missing, Bit, Order, TooMany}
+use Rattle.hz_text.specs.declared.run_entry.RunEntry.{RunEntry}
+use Rattle.hz_text.specs.Assignment.{has_repeat}
+use Rattle.hz_text.specs.Pass.{nodes_of, least_unassigned, first_of, AreBelow}
+use Rattle.hz_text.specs.RunLookup.{LookedRun, run_held_by, run_entered_all}
+use Rattle.hz_text.specs.RunFault.{looked_run_statements, IsRunFaultless, assignments_in, names_unknown, lacks_bit, first_start, first_input, run_out_of_order, beyond_from}
+
+-- the statement assigns a node twice
+abbrev pub names_node_twice : LookedRun → Bool
+names_node_twice statement = has_repeat nat_eq (nodes_of (assignments_in statement))
+
+-- the nodes that an entry assigns are below a bound
+abbrev pub AssignsBelow : ℕ → RunEntry → Type 0
+AssignsBelow nodes entry = AreBelow nodes (assignments_in (run_held_by entry.held))
+
+-- the least of so many nodes that the assignments leave out, if they are there
+abbrev pub least_left_out : Option (List Assigned) → ℕ → Option ℕ
+least_left_out None nodes = None
+least_left_out (Some assigned) nodes = least_unassigned nodes assigned
+
+-- the lesser of two numbers that may be there
+abbrev pub lesser : Option ℕ → Option ℕ → Option ℕ
+lesser None second = second
+lesser (Some first) None = Some first
+lesser (Some first) (Some second) = if nat_le first second then Some first else Some second
+
+-- the least node that the first start leaves out or input that the first input line leaves out
+abbrev pub least_missing_node : Netlist → List (Numbered LookedRun) → Option ℕ
+least_missing_node netlist statements =
+    lesser (least_left_out (first_start statements) (length netlist.names)) (least_left_out (first_input statements) netlist.inputs)
+
+-- what the passes answer, one after the other
+abbrev pub first_run_fault : Netlist → List (Numbered LookedRun) → Option TextFault
+first_run_fault netlist statements =
+    first_of (option_map Unknown (first_line (names_unknown netlist.inputs) statements))
+    (first_of (option_map Twice (first_line names_node_twice statements))
+    (first_of (option_map Missing (least_missing_node netlist statements))
+    (first_of (option_map Bit (first_line lacks_bit statements))
+    (first_of (option_map Order (run_out_of_order statements))
+    (option_map TooMany (beyond_from 0 0 statements))))))
+
+-- the statements of a text in which no fault stands
+pub record IsAcceptedRun (netlist : Netlist) (text : List ℕ) (entries : List RunEntry) : Type 0 where
+  pub circuit : IsCircuit netlist
+  pub statements : run_entered_all entries ≡ looked_run_statements netlist text
+  pub clear : first_run_fault netlist (run_entered_all entries) ≡ None
+  pub faultless : IsRunFaultless netlist text

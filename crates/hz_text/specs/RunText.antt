@@ -1,0 +1,51 @@
+-- The run text that a text without a fault stands for.
+use Rattle.std.specs.Prelude.{◌≡◌, ℕ, ◌<◌, ◌≤◌, List, [], ◌∷◌, ◌++◌, length, map, All, Option, Some, None}
+use Rattle.std.specs.List.{flat_map, range_with_len}
+use Rattle.hz_core.specs.Netlist.{Netlist}
+use Rattle.hz_net.specs.Network.{network_of}
+use Rattle.hz_gmw.specs.Recorded.{flip_count}
+use Rattle.hz_line.specs.Statement.{Numbered}
+use Rattle.hz_text.specs.declared.assigned.Assigned.{Assigned}
+use Rattle.hz_text.specs.RunStatement.{Header, Start, Input, Run, Step, Cycle, End}
+use Rattle.hz_text.specs.RunLookup.{LookedRun}
+use Rattle.hz_text.specs.RunFault.{looked_run_statements}
+use Rattle.hz_text.specs.RunValue.{RunOf, RunTextOf, all_steps}
+use Rattle.hz_text.specs.ScriptText.{bit_at}
+
+-- the statement of a step
+abbrev pub step_of : List ℕ → LookedRun
+step_of flips = Step (map Some flips)
+
+-- the statements of a cycle, if there is one
+abbrev pub cycle_statements : Option (List (List ℕ)) → List LookedRun
+cycle_statements None = []
+cycle_statements (Some steps) = Cycle ∷ map step_of steps
+
+-- the statements of a run
+abbrev pub run_statements : RunOf → List LookedRun
+run_statements run = Run ∷ map step_of run.lead ++ cycle_statements run.cycle
+
+-- statements without their lines
+abbrev pub unnumbered : List (Numbered LookedRun) → List LookedRun
+unnumbered statements = map (λ numbered. numbered.statement) statements
+
+-- The value of statements: the header, a start that gives each node its bit, an input line that gives each input its bit,
+-- the statements of the runs, one run after the other, and the end.
+pub record IsRunTextBy (netlist : Netlist) (statements : List LookedRun) (value : RunTextOf) : Type 0 where
+  pub start : List Assigned
+  pub input : List Assigned
+  pub are : statements ≡ Header ∷ Start start ∷ Input input ∷ flat_map run_statements value.runs ++ End ∷ []
+  pub nodes_are : map Some value.nodes ≡ map (bit_at start) (range_with_len 0 (length netlist.names))
+  pub input_is : map Some value.input ≡ map (bit_at input) (range_with_len 0 netlist.inputs)
+
+-- the run text is what the text stands for
+abbrev pub IsRunValue : Netlist → List ℕ → RunTextOf → Type 0
+IsRunValue netlist text value = IsRunTextBy netlist (unnumbered (looked_run_statements netlist text)) value
+
+-- a run text of a network: a bit for each node and for each input, steps of variables, and the limits kept
+pub record IsRunTextFor (netlist : Netlist) (value : RunTextOf) : Type 0 where
+  pub nodes : length value.nodes ≡ length netlist.names
+  pub inputs : length value.input ≡ netlist.inputs
+  pub variables : All (λ flips. All (λ var. var < length (network_of netlist)) flips) (all_steps value.runs)
+  pub few_steps : length (all_steps value.runs) ≤ 2000000
+  pub few_variables : flip_count (all_steps value.runs) ≤ 2000000
