@@ -4,6 +4,7 @@ pub mod Finding
 pub mod Answer
 pub mod Refusal
 pub mod Replaying
+pub mod Made
 pub mod Verdict
 pub mod Reports
 pub mod Outcome

@@ -1,5 +1,5 @@
 -- What the runs of a run text come to, by the step relation and the definitions of cycles.
-use Rattle.std.specs.Prelude.{◌≡◌, ℕ, ◌+◌, ◌⊎◌, Bool, List, [], ◌∷◌, ◌++◌, length, All, Option, Some, None, IfSome, is_some, sum_by, count_by}
+use Rattle.std.specs.Prelude.{◌≡◌, ℕ, ◌+◌, ◌⊎◌, Bool, List, [], ◌∷◌, ◌++◌, length, All, Option, Some, None, IfSome, is_some, count_by}
 use Rattle.hz_core.specs.Netlist.{Netlist}
 use Rattle.hz_net.specs.Network.{Driver, network_of}
 use Rattle.hz_net.specs.Variables.{expanded}
@@ -8,23 +8,23 @@ use Rattle.hz_gmw.specs.Cycles.{IsNontransient}
 use Rattle.hz_gmw.specs.ReplayFaults.{IsStepFault, IsCycleFault}
 use Rattle.hz_gmw.specs.declared.replay_fault.StepFault.{StepFault}
 use Rattle.hz_gmw.specs.declared.replay_fault.CycleFault.{CycleFault}
-use Rattle.hz_text.specs.RunValue.{RunOf, RunTextOf}
+use Rattle.hz_text.specs.RunValue.{RunOf, RunTextOf, cycle_steps, all_steps}
 use Rattle.hz_top.specs.declared.replaying.Refused.{Refused}
 use Rattle.hz_top.specs.declared.replaying.Refused.TheVariants.{Step, Cycle}
 
--- the steps of a cycle, where there is one
-abbrev pub cycle_steps : Option (List (List ℕ)) → List (List ℕ)
-cycle_steps None = []
-cycle_steps (Some steps) = steps
+-- a run without a step
+abbrev pub no_run : RunOf
+no_run = record { lead = []; cycle = None }
 
 -- all steps of a run, those of its cycle behind those of its lead
 abbrev pub steps_of : RunOf → List (List ℕ)
 steps_of run = run.lead ++ cycle_steps run.cycle
 
--- how many steps and how many cycles runs have
+-- how many steps all runs have
 abbrev pub step_count : List RunOf → ℕ
-step_count runs = sum_by (λ run. length (steps_of run)) runs
+step_count runs = length (all_steps runs)
 
+-- how many runs have a cycle
 abbrev pub cycle_count : List RunOf → ℕ
 cycle_count runs = count_by (λ run. is_some run.cycle) runs
 
