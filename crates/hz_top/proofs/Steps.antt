@@ -4,7 +4,7 @@ use Rattle.std.proofs.lemmas.List.{take_more, take-append-drop, append-nil, appe
 use Rattle.hz_net.specs.Network.{Driver, network_of}
 use Rattle.hz_gmw.specs.Runs.{IsStep, IsRun, flipped, end_of}
 use Rattle.hz_gmw.specs.Cycles.{IsNontransient}
-use Rattle.hz_gmw.specs.Replayed.{Replayed, StandsFor, stepped_by}
+use Rattle.hz_gmw.specs.Replayed.{Replayed, StandsFor, replayed_at, stepped_by}
 use Rattle.hz_gmw.specs.ReplayFaults.{IsStepFault, IsCycleFault}
 use Rattle.hz_gmw.specs.declared.replay_fault.StepFault.{StepFault}
 use Rattle.hz_gmw.specs.declared.replay_fault.CycleFault.{CycleFault}
@@ -96,3 +96,18 @@ run-refused net input start lead steps (Cycle fault) run (onward, refused) = rec
   all_steps = IsRun-append net input start lead steps run onward;
   refused = refused;
 }
+
+-- a cycle from a state that was marked
+pub cycle-accepted : (was start now : Replayed) (steps : List (List ℕ)) → start ≡ replayed_at was.circuit was.input was.state → MadeSteps start now steps → IsNontransient (network_of now.circuit) now.input now.marked steps → IsNontransient (network_of was.circuit) was.input was.state steps
+cycle-accepted was start now steps at made lasts =
+    let circuit : now.circuit ≡ was.circuit = made.circuit ∙ ap (λ (r : Replayed). r.circuit) at in
+    let input : now.input ≡ was.input = made.input ∙ ap (λ (r : Replayed). r.input) at in
+    let marked : now.marked ≡ was.state = made.marked ∙ ap (λ (r : Replayed). r.marked) at in
+    rw (circuit, input, marked) at lasts
+
+pub cycle-refused : (was start now : Replayed) (steps : List (List ℕ)) (fault : CycleFault) → start ≡ replayed_at was.circuit was.input was.state → MadeSteps start now steps → IsCycleFault (network_of now.circuit) now.input now.marked steps fault → IsRun (network_of was.circuit) was.input was.state steps × IsCycleFault (network_of was.circuit) was.input was.state steps fault
+cycle-refused was start now steps fault at made refused =
+    let circuit : now.circuit ≡ was.circuit = made.circuit ∙ ap (λ (r : Replayed). r.circuit) at in
+    let input : now.input ≡ was.input = made.input ∙ ap (λ (r : Replayed). r.input) at in
+    let marked : now.marked ≡ was.state = made.marked ∙ ap (λ (r : Replayed). r.marked) at in
+    (subst (λ (r : Replayed). IsRun (network_of r.circuit) r.input r.state steps) at made.run, rw (circuit, input, marked) at refused)

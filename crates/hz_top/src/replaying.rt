@@ -115,8 +115,8 @@ fn replay_run(replay: &mut Replay, lead: &Run, cycle: Option<&Run>) -> Result<()
     requires few { length (steps_of (run_of lead.now.steps (option_map (λ run. run.now.steps) cycle))) ≤ 2000000 }
     ensures circuit { replay.new.circuit ≡ replay.old.circuit }
     ensures outcome { MatchResult result
-        (λ _. IsAcceptedRun (network_of replay.old.circuit) replay.old.input replay.old.state (run_of lead.now.steps (option_map (λ run. run.now.steps) cycle)))
-        (λ why. IsRefusedRun (network_of replay.old.circuit) replay.old.input replay.old.state (run_of lead.now.steps (option_map (λ run. run.now.steps) cycle)) why) }
+        (λ _. IsAcceptedRun (network_of replay.old.circuit) replay.old.input replay.old.state (run_of lead.now.steps (option_map (λ run. run.now.steps) cycle.entry)))
+        (λ why. IsRefusedRun (network_of replay.old.circuit) replay.old.input replay.old.state (run_of lead.now.steps (option_map (λ run. run.now.steps) cycle.entry)) why) }
 {
     match make_steps(replay, lead) {
         Ok(()) => {}
