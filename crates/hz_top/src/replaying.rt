@@ -79,7 +79,8 @@ fn replay<K: Sink>(alloc: Global, net: &Net, text: &RunText, out: &mut K) -> Sta
 // The state in which each node has its bit and each wire its source's.
 fn expand_start(alloc: Global, net: &Net, nodes: &[bool]) -> Result<Vec<bool>, AllocError>
     requires { length nodes.now ≡ length net.now.names }
-    ensures { IfOk result (λ start. start.items ≡ expanded net.now nodes.now) }
+    ensures start { IfOk result (λ start. start.items ≡ expanded net.now nodes.now) }
+    ensures long { IfOk result (λ start. length start.items ≡ length (network_of net.now)) }
 {
     let mut start = vec![in alloc; false; net.len() as usize]?;
     net.expand(nodes, start.as_mut_slice());
