@@ -19,3 +19,21 @@ returns-in-None g c =
     c.put_words.result c.status_after.result tt
     (subst (λ (job : Option JobOf). JobComes told job status.Words words_line) c.in-None.ensures ((λ place. (refl, refl)), (refl, refl))) c.put_words.ensures c.status_after.ensures in
     record { answer = answer; done = ends-or-memory g.K.Sink.written g.K.Sink.faults told asked c.args.out.now c.put_words.new.out c.status_after.result answer }
+
+pub returns-in-Some-Analyse : goal.returns-in-Some-Analyse
+returns-in-Some-Analyse g c =
+    let told = told_by g.F.Files.held g.F.Files.faults g.F.Files.longs c.args.files.now c.work.new.files in
+    let asked = job_of (map string_bytes c.args.words.now) in
+    let answer : Answers g.K.Sink.written g.K.Sink.faults (JobComes told asked) c.args.out.now c.work.new.out c.work.result =
+    Answers-more g.K.Sink.written g.K.Sink.faults (FilesCome told Script c.in-Some-Analyse.first.now c.in-Some-Analyse.second.now) (JobComes told asked) c.args.out.now c.work.new.out c.work.result
+    (λ own text says. subst (λ (job : Option JobOf). JobComes told job own text) (rw c.in-Some-Analyse.field-0-is at c.in-Some-Analyse.ensures) says) c.work.ensures in
+    record { answer = answer; done = ends-or-memory g.K.Sink.written g.K.Sink.faults told asked c.args.out.now c.work.new.out c.work.result answer }
+
+pub returns-in-Some-Replay : goal.returns-in-Some-Replay
+returns-in-Some-Replay g c =
+    let told = told_by g.F.Files.held g.F.Files.faults g.F.Files.longs c.args.files.now c.work-in-Some-Replay.new.files in
+    let asked = job_of (map string_bytes c.args.words.now) in
+    let answer : Answers g.K.Sink.written g.K.Sink.faults (JobComes told asked) c.args.out.now c.work-in-Some-Replay.new.out c.work-in-Some-Replay.result =
+    Answers-more g.K.Sink.written g.K.Sink.faults (FilesCome told Runs c.in-Some-Replay.first.now c.in-Some-Replay.second.now) (JobComes told asked) c.args.out.now c.work-in-Some-Replay.new.out c.work-in-Some-Replay.result
+    (λ own text says. subst (λ (job : Option JobOf). JobComes told job own text) (rw c.in-Some-Replay.field-0-is at c.in-Some-Replay.ensures) says) c.work-in-Some-Replay.ensures in
+    record { answer = answer; done = ends-or-memory g.K.Sink.written g.K.Sink.faults told asked c.args.out.now c.work-in-Some-Replay.new.out c.work-in-Some-Replay.result answer }
