@@ -1,20 +1,17 @@
 -- The first answer of the passes over a text is its least fault.
-use Rattle.std.proofs.Common.{◌≡◌, ◌∙◌, ℕ, ◌<◌, ◌≤◌, ◌++◌, Bool, true, false, not, cond, zero, suc, List, [], ◌∷◌, Option, Some, None, is_some, length, get_or, refl, ap, sym, subst, inl, inr, arith, lit≤, append_assoc}
+use Rattle.std.proofs.Common.{◌≡◌, ◌∙◌, ℕ, ◌<◌, ◌≤◌, ◌++◌, Bool, true, false, not, cond, zero, suc, List, [], ◌∷◌, Option, Some, None, is_some, refl, ap, sym, subst, inl, inr, arith, lit≤, append_assoc}
 use Rattle.std.specs.Prelude.{◌⊎◌, nat_lt, find, Contains, option_map, MatchOption}
-use Rattle.std.specs.List.{list_any, Any}
-use Rattle.std.specs.Str.{bytes_eq}
+use Rattle.std.specs.List.{Any}
 use Rattle.std.proofs.lemmas.Bool.{cases_lt}
 use Rattle.std.proofs.lemmas.Bool.Decides.{nat_tests}
-use Rattle.std.proofs.lemmas.List.Elements.{Contains-get_or}
 use Rattle.std.proofs.lemmas.List.Folds.{Any-from_list_any, list_any_at}
 use Rattle.std.proofs.lemmas.Slice.Eq.{bytes_eq-Decides}
 use Rattle.hz_line.specs.Line.{lines_of}
-use Rattle.hz_line.specs.Statement.{Malformed, Means, Numbered, first_malformed}
+use Rattle.hz_line.specs.Statement.{Malformed, Numbered, first_malformed}
 use Rattle.hz_line.proofs.StatementLemmas.{Ascends, numbered_from-Ascends, meaning_at-first, meaning_at-none, find-Some, find-None, stated, stating, first_line-found, first_line-unfound, Ascends-front, Ascends-before}
 use Rattle.hz_bench.specs.declared.fault.BenchFault.{BenchFault}
 use Rattle.hz_bench.specs.declared.fault.BenchFault.TheVariants.{Form, Name, KindUnknown, Clocked, Twice, Pins, Undefined, TooMany, Memory}
-use Rattle.hz_bench.specs.Answer.{form_or, answer_of}
-use Rattle.hz_bench.specs.Check.{has_unknown_kind, has_clocked_kind, has_wrong_pins, pin_count, uses_undefined, first_that, fault_or, first_or, too_many, first_fault}
+use Rattle.hz_bench.specs.Check.{has_unknown_kind, has_clocked_kind, has_wrong_pins, pin_count, uses_undefined, fault_or, first_or, too_many, first_fault}
 use Rattle.hz_bench.specs.Definition.{is_that, defines, definer}
 use Rattle.hz_bench.specs.Fault.{States, HasThat, Defines, Uses, IsSecond, Stands, number_of, line_of, ComesFirst, IsLeastFault, IsFaultless}
 use Rattle.hz_bench.specs.Statement.{Statement, statement_of, defined_name, used_names, has_long_name}
@@ -124,12 +121,14 @@ outcome-found text number test fault (Some found) rest low is at stands has e ne
         let no_less = least (record { line = line; statement = statement }) (stating statement_of text line statement states) passes in
         omega (arith, at found, no_less)
 
--- a malformed line comes before all
-outcome-form : (text : List ℕ) (answer : Option ℕ) (rest : Option BenchFault) → first_malformed statement_of 1 (lines_of text) ≡ answer → (NoneBelow text 2 → Outcome text rest) → Outcome text (form_or answer rest)
-outcome-form text None rest e next = next (none_below-next text 1 (none_below-one text) (meaning_at-none statement_of text e))
-outcome-form text (Some line) rest e next =
+-- the first malformed line comes before all
+pub form-least : (text : List ℕ) (line : ℕ) → first_malformed statement_of 1 (lines_of text) ≡ Some line → IsLeastFault text (Form line)
+form-least text line e =
     let first = meaning_at-first statement_of text line e in
     IsLeastFault-from text 1 (Form line) refl first.0 (none_below-one text) first.1
+
+pub form-none : (text : List ℕ) → first_malformed statement_of 1 (lines_of text) ≡ None → NoneBelow text 2
+form-none text e = none_below-next text 1 (none_below-one text) (meaning_at-none statement_of text e)
 
 -- the count of variables comes last
 outcome-many : (text : List ℕ) (variables : ℕ) → variables_of (statements_of text) ≡ variables → NoneBelow text 8 → Outcome text (too_many variables)
@@ -293,7 +292,7 @@ twice-found text rest =
     ∙ first_or-map (second_fault (numbered_statements text)) (find (is_second (numbered_statements text)) (numbered_statements text)) rest
 
 -- what the passes answer over the statements of a text without a malformed line
-first_fault-outcome : (text : List ℕ) → NoneBelow text 2 → Outcome text (first_fault (numbered_statements text))
+pub first_fault-outcome : (text : List ℕ) → NoneBelow text 2 → Outcome text (first_fault (numbered_statements text))
 first_fault-outcome text low2 =
     let all = numbered_statements text in
     outcome-found text 2 (λ numbered. has_long_name numbered.statement) (λ found. Name found.line) _ _ low2 (λ found. refl) (λ found. refl) (λ found states p. (found.statement, states, p)) (λ line p. p) refl
@@ -303,7 +302,3 @@ first_fault-outcome text low2 =
     (λ none low6. outcome-found text 6 (λ numbered. has_wrong_pins numbered.statement) (λ found. Pins found.line (pin_count found.statement)) _ _ low6 (λ found. refl) (λ found. refl) (λ found states p. (found.statement, states, p, refl)) (λ line p. p) refl
     (λ none low7. outcome-found text 7 (λ numbered. uses_undefined all numbered.statement) (λ found. Undefined found.line) _ _ low7 (λ found. refl) (λ found. refl) (undefined-stands text) (undefined-has text) refl
     (λ none low8. outcome-many text (variables_among all) (variables_of-statements all) low8)))))))
-
--- the answer to a text is its least fault, or that it has none
-pub answer-outcome : (text : List ℕ) → Outcome text (answer_of text)
-answer-outcome text = outcome-form text (first_malformed statement_of 1 (lines_of text)) (first_fault (numbered_statements text)) refl (first_fault-outcome text)

@@ -1,5 +1,5 @@
 -- A printed text stands for its circuit.
-use Rattle.std.proofs.Common.{◌≡◌, ◌∙◌, ℕ, ◌+◌, ◌<◌, ◌≤◌, suc, Bool, true, false, ltb, List, [], ◌∷◌, ◌++◌, length, map, take, drop, fold, get_or, refl, ap, sym, arith, append_assoc, append-nil, drop-cons, take-append-drop, length-take-le, drop_of_length-le}
+use Rattle.std.proofs.Common.{◌≡◌, ◌∙◌, ℕ, ◌+◌, ◌<◌, ◌≤◌, suc, false, List, [], ◌∷◌, ◌++◌, length, map, take, drop, fold, get_or, refl, ap, sym, arith, append_assoc, append-nil, drop-cons, take-append-drop, length-take-le, drop_of_length-le}
 use Rattle.std.specs.List.{All, IsDistinct, list_any}
 use Rattle.std.specs.Prelude.{nat_eq}
 use Rattle.std.specs.Str.{bytes_eq}
@@ -10,7 +10,6 @@ use Rattle.std.proofs.lemmas.List.Folds.{list_any_none}
 use Rattle.std.proofs.lemmas.List.Elements.{All-head, All-tail}
 use Rattle.std.proofs.lemmas.List.Sums.{position_or_len_is}
 use Rattle.std.proofs.lemmas.Map.Keys.{apart_from_distinct}
-use Rattle.hz_core.specs.declared.kind.Kind.{Kind}
 use Rattle.hz_core.specs.Netlist.{Netlist, Gate as GateOf, IsCircuit, IsGateAmong, IsWhole}
 use Rattle.hz_core.proofs.CircuitLemmas.{same_netlist}
 use Rattle.hz_line.specs.Line.{lines_of}

@@ -1,28 +1,27 @@
 -- What the reader answers, by the law of faults.
-use Rattle.std.proofs.Common.{◌≡◌, ◌∙◌, ℕ, ◌≤◌, List, Option, Some, None, map, refl, ap, sym, subst, inl, inr, arith, if◌then◌else◌, ◌==◌}
+use Rattle.std.proofs.Common.{◌≡◌, ◌∙◌, ℕ, List, Option, Some, None, map, refl, ap, sym, subst, inl, inr, arith, if◌then◌else◌, ◌==◌}
 use Rattle.std.specs.Prelude.{◌⊎◌}
-use Rattle.hz_line.specs.Line.{lines_of}
-use Rattle.hz_line.specs.Statement.{Numbered, first_malformed}
+use Rattle.hz_core.specs.Netlist.{IsWhole}
+use Rattle.hz_line.specs.Statement.{Numbered}
 use Rattle.hz_bench.specs.declared.entry.Entry.{Entry}
 use Rattle.hz_bench.specs.declared.fault.BenchFault.{BenchFault}
 use Rattle.hz_bench.specs.declared.fault.BenchFault.TheVariants.{Form, Name, KindUnknown, Clocked, Twice, Pins, Undefined, TooMany, Memory}
-use Rattle.hz_bench.specs.Answer.{form_or, answer_of}
 use Rattle.hz_bench.specs.Check.{first_fault, pin_count}
 use Rattle.hz_bench.specs.Entry.{numbered_list, statement_list}
-use Rattle.hz_bench.specs.Fault.{States, Defines, IsSecond, Stands, number_of, line_of, ComesFirst, IsLeastFault, IsFaultless, IsAnswer}
+use Rattle.hz_bench.specs.Fault.{Defines, Stands, number_of, line_of, ComesFirst, IsLeastFault, IsAnswer}
+use Rattle.hz_bench.specs.Netlist.{netlist_of}
 use Rattle.hz_bench.specs.Pass.{IsParsed, IsParseFault, IsAccepted}
-use Rattle.hz_bench.specs.Statement.{Statement, statement_of, defined_name}
+use Rattle.hz_bench.specs.Statement.{Statement, defined_name}
 use Rattle.hz_bench.specs.Text.{meaning_at, statement_meant, numbered_statements, statements_of, variables_of}
 use Rattle.hz_bench.specs.Twice.{IsFoundOrMemory, earlier_line}
-use Rattle.hz_bench.proofs.FaultLaws.{Outcome, answer-outcome, second-first, line_found}
+use Rattle.hz_bench.proofs.CheckedLemmas.{IsChecked, checked}
+use Rattle.hz_bench.proofs.FaultLaws.{Outcome, form-least, form-none, first_fault-outcome, second-first, line_found}
+use Rattle.hz_bench.proofs.MayLemmas.{may_build, whole}
 use Rattle.hz_bench.proofs.NetlistLemmas.{statement_list-numbered}
-
-answered : (text : List ℕ) (fault : BenchFault) → answer_of text ≡ Some fault → IsLeastFault text fault
-answered text fault e = subst (Outcome text) e (answer-outcome text)
 
 -- why a text was not parsed
 pub parse-answer : (text : List ℕ) (fault : BenchFault) → IsParseFault text fault → IsAnswer text fault
-parse-answer text (Form line) h = answered text (Form line) (ap (λ answer. form_or answer (first_fault (numbered_statements text))) h)
+parse-answer text (Form line) h = form-least text line h
 parse-answer text (Name line) h = absurd h
 parse-answer text (KindUnknown line) h = absurd h
 parse-answer text (Clocked line) h = absurd h
@@ -32,28 +31,32 @@ parse-answer text (Undefined line) h = absurd h
 parse-answer text (TooMany variables) h = absurd h
 parse-answer text Memory h = tt
 
--- what the check answers is the answer to the text
-check-found : (text : List ℕ) (entries : List Entry) (answer : Option BenchFault) → IsParsed text entries → first_fault (numbered_list entries) ≡ answer → answer_of text ≡ answer
-check-found text entries answer parsed e =
-    ap (λ malformed. form_or malformed (first_fault (numbered_statements text))) parsed.formed
-    ∙ ap first_fault (sym parsed.statements) ∙ e
+-- what the check answers of the statements of a text is said of the text
+check-outcome : (text : List ℕ) (entries : List Entry) (answer : Option BenchFault) → IsParsed text entries → first_fault (numbered_list entries) ≡ answer → Outcome text answer
+check-outcome text entries answer parsed e =
+    subst (Outcome text) (ap first_fault (sym parsed.statements) ∙ e) (first_fault-outcome text (form-none text parsed.formed))
 
 pub check-answer : (text : List ℕ) (entries : List Entry) (fault : BenchFault) → IsParsed text entries → IsFoundOrMemory (first_fault (numbered_list entries)) fault → IsAnswer text fault
-check-answer text entries (Form line) parsed h = answered text (Form line) (check-found text entries _ parsed h)
-check-answer text entries (Name line) parsed h = answered text (Name line) (check-found text entries _ parsed h)
-check-answer text entries (KindUnknown line) parsed h = answered text (KindUnknown line) (check-found text entries _ parsed h)
-check-answer text entries (Clocked line) parsed h = answered text (Clocked line) (check-found text entries _ parsed h)
-check-answer text entries (Twice line first) parsed h = answered text (Twice line first) (check-found text entries _ parsed h)
-check-answer text entries (Pins line count) parsed h = answered text (Pins line count) (check-found text entries _ parsed h)
-check-answer text entries (Undefined line) parsed h = answered text (Undefined line) (check-found text entries _ parsed h)
-check-answer text entries (TooMany variables) parsed h = answered text (TooMany variables) (check-found text entries _ parsed h)
+check-answer text entries (Form line) parsed h = check-outcome text entries (Some (Form line)) parsed h
+check-answer text entries (Name line) parsed h = check-outcome text entries (Some (Name line)) parsed h
+check-answer text entries (KindUnknown line) parsed h = check-outcome text entries (Some (KindUnknown line)) parsed h
+check-answer text entries (Clocked line) parsed h = check-outcome text entries (Some (Clocked line)) parsed h
+check-answer text entries (Twice line first) parsed h = check-outcome text entries (Some (Twice line first)) parsed h
+check-answer text entries (Pins line count) parsed h = check-outcome text entries (Some (Pins line count)) parsed h
+check-answer text entries (Undefined line) parsed h = check-outcome text entries (Some (Undefined line)) parsed h
+check-answer text entries (TooMany variables) parsed h = check-outcome text entries (Some (TooMany variables)) parsed h
 check-answer text entries Memory parsed h = tt
 
 pub accepted : (text : List ℕ) (entries : List Entry) → IsParsed text entries → first_fault (numbered_list entries) ≡ None → IsAccepted text entries
-accepted text entries parsed e = record {
-  statements = sym (statement_list-numbered entries) ∙ ap (map (λ (numbered : Numbered Statement). numbered.statement)) parsed.statements;
-  faultless = subst (Outcome text) (check-found text entries None parsed e) (answer-outcome text);
-}
+accepted text entries parsed e =
+    let statements = sym (statement_list-numbered entries) ∙ ap (map (λ (numbered : Numbered Statement). numbered.statement)) parsed.statements in
+    let fine = subst IsChecked (statement_list-numbered entries) (checked (numbered_list entries) e) in
+    record {
+      statements = statements;
+      faultless = check-outcome text entries None parsed e;
+      may = may_build (statement_list entries) fine;
+      whole = subst (λ (list : List Statement). IsWhole (netlist_of list)) statements (whole (statement_list entries) fine);
+    }
 
 -- the one fault with this number on this line: what it carries besides is the text's
 abbrev fault_at : List ℕ → ℕ → ℕ → BenchFault

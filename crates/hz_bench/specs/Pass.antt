@@ -2,11 +2,14 @@
 use Rattle.std.specs.Prelude.{◌≡◌, ℕ, ◌+◌, ◌≤◌, List, length, Option, Some, None}
 use Rattle.hz_line.specs.Line.{lines_of}
 use Rattle.hz_line.specs.Statement.{Nothing, Malformed, first_malformed}
+use Rattle.hz_core.specs.Netlist.{IsWhole}
 use Rattle.hz_bench.specs.declared.entry.Entry.{Entry}
 use Rattle.hz_bench.specs.declared.fault.BenchFault.{BenchFault}
 use Rattle.hz_bench.specs.declared.fault.BenchFault.TheVariants.{Form, Name, KindUnknown, Clocked, Twice, Pins, Undefined, TooMany, Memory}
+use Rattle.hz_bench.specs.Built.{MayBuild}
 use Rattle.hz_bench.specs.Entry.{numbered_list, statement_list}
 use Rattle.hz_bench.specs.Fault.{IsFaultless}
+use Rattle.hz_bench.specs.Netlist.{netlist_of}
 use Rattle.hz_bench.specs.Statement.{statement_of}
 use Rattle.hz_bench.specs.Text.{meaning_of, numbered_statements, statements_of, variables_of}
 
@@ -45,7 +48,9 @@ IsParseFault text (Undefined at) = ⊥
 IsParseFault text (TooMany variables) = ⊥
 IsParseFault text Memory = Unit {0}
 
--- the entries are the statements of a text in which no fault stands
+-- the entries are the statements of a text in which no fault stands; their circuit may be built, and is whole
 pub record IsAccepted (text : List ℕ) (entries : List Entry) : Type 0 where
   pub statements : statement_list entries ≡ statements_of text
   pub faultless : IsFaultless text
+  pub may : MayBuild (statement_list entries)
+  pub whole : IsWhole (netlist_of (statements_of text))

@@ -39,10 +39,6 @@ pub fn read(alloc: Global, text: &[u8]) -> Result<Circuit, BenchFault>
     let Ok(circuit) = build(alloc, &entries) else {
         return Err(BenchFault::Memory);
     };
-    // each gate of checked statements has its pins, which is not proved yet
-    if !circuit.whole() {
-        return Err(BenchFault::Memory);
-    }
     Ok(circuit)
 }
 

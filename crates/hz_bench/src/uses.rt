@@ -14,7 +14,7 @@ use crate::definitions::{Definitions, is_defined};
 use crate::entry::Entry;
 use crate::forms::Form;
 use hz_core::Memory;
-use hz_line::{Token, read_tokens};
+use hz_line::{LineFault, Token, read_tokens};
 use std::alloc::Global;
 
 /// The first statement that uses a name which no statement defines.
@@ -76,8 +76,10 @@ pub(crate) fn read_sources<'t, 'a>(
 ) -> Result<&'t [Token<'a>], Memory>
     ensures { IfOk result (λ sources. words_of (map token_of sources.now) ≡ sources_of (statement_in entry.now.text.now)) }
 {
-    let Ok(()) = read_tokens(entry.text, tokens) else {
-        return Err(Memory);
-    };
+    match read_tokens(entry.text, tokens) {
+        Ok(()) => {}
+        Err(LineFault::Forbidden) => unreachable!(),
+        Err(LineFault::Memory) => return Err(Memory),
+    }
     Ok(&tokens[4..])
 }

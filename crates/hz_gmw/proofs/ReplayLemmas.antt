@@ -1,20 +1,17 @@
 -- What a replayer stands for: after a mark, after a step, and what that tells of the cycle since the mark.
-use Rattle.std.proofs.Common.{◌≡◌, ◌≢◌, ◌↔◌, ℕ, zero, suc, ◌+◌, ◌<◌, ◌≤◌, ◌⊎◌, Bool, true, false, not, cond, ◌||◌, ◌&&◌, List, [], ◌∷◌, ◌++◌, length, get_or, set, map, replicate, All, Option, Some, None, IsTrue, refl, sym, ap, ◌∙◌, subst, arith, inl, inr}
-use Rattle.std.specs.Prelude.{Contains, fold, MatchOption, count_by}
+use Rattle.std.proofs.Common.{◌≡◌, ◌≢◌, ◌↔◌, ℕ, zero, suc, ◌<◌, ◌≤◌, Bool, true, false, not, cond, ◌||◌, ◌&&◌, List, [], ◌∷◌, ◌++◌, length, set, replicate, All, None, IsTrue, refl, sym, ap, ◌∙◌, subst, arith, inl, inr}
 use Rattle.std.specs.Bool.{beq}
-use Rattle.std.specs.List.{AllByRecursion, range_with_len}
 use Rattle.std.proofs.lemmas.Bool.{cases_lt, cases_eq, cases_Bool, false≢true, and_parts, and_from, not-true, not-false, not_from_false, false_from_ne_true, true_from_ne_false}
-use Rattle.std.proofs.lemmas.List.{ext_get_or, length-set, length-map, length-replicate, get_or-set_same, get_or-set_other, get_or_past, get_or-replicate}
-use Rattle.std.proofs.lemmas.List.FromFn.{length-map-range_with_len, get_or-map-range_with_len, fill_by_all}
-use Rattle.hz_net.specs.Network.{Driver, network_of, bit_at, excitation, IsUnstable, IsStable}
+use Rattle.std.proofs.lemmas.List.{ext_get_or, length-set, length-replicate, get_or-set_same, get_or-set_other, get_or_past, get_or-replicate}
+use Rattle.std.proofs.lemmas.List.FromFn.{get_or-map-range_with_len, fill_by_all}
+use Rattle.hz_net.specs.Network.{Driver, network_of, bit_at, excitation, IsUnstable}
 use Rattle.hz_core.specs.Netlist.{Netlist}
-use Rattle.hz_gmw.specs.Runs.{is_listed, RepeatsNone, IsStep, flipped, IsRun, end_of}
-use Rattle.hz_gmw.specs.Cycles.{states_of, IsCycle, WaitsAt, IsTransient, IsNontransient}
+use Rattle.hz_gmw.specs.Runs.{is_listed, IsStep, flipped, end_of}
+use Rattle.hz_gmw.specs.Cycles.{WaitsAt, IsNontransient}
 use Rattle.hz_gmw.specs.Instability.{is_unstable, unstable_variables}
-use Rattle.hz_gmw.specs.Least.{IsLeast, IsLeastOf, least_from, least_again}
-use Rattle.hz_gmw.specs.Replayed.{Replayed, Waits, StandsFor, replayed_at, still_watched, stepped_by}
+use Rattle.hz_gmw.specs.Least.{IsLeast, IsLeastOf, least_from}
+use Rattle.hz_gmw.specs.Replayed.{Replayed, StandsFor, replayed_at, still_watched, stepped_by}
 use Rattle.hz_gmw.specs.ReplayFaults.{times, IsStepFault, IsCycleFault}
-
 use Rattle.hz_gmw.specs.declared.replay_fault.StepFault.{StepFault}
 use Rattle.hz_gmw.specs.declared.replay_fault.StepFault.TheVariants.{Empty, Repeated, Stable}
 use Rattle.hz_gmw.specs.declared.replay_fault.CycleFault.{CycleFault}
@@ -22,10 +19,10 @@ use Rattle.hz_gmw.specs.declared.replay_fault.CycleFault.TheVariants.{Differs, N
 use Rattle.hz_gmw.specs.VariableSets.{AreMembers}
 use Rattle.hz_gmw.specs.Presents.{taken_over}
 use Rattle.hz_gmw.specs.InsideReplay.{without}
-use Rattle.hz_gmw.proofs.Flips.{length-flipped, at-flipped}
+use Rattle.hz_gmw.proofs.Flips.{at-flipped}
 use Rattle.hz_gmw.proofs.Paths.{end_of-append, IsRun-append}
 use Rattle.hz_gmw.proofs.CoverB.{length-end_of}
-use Rattle.hz_gmw.proofs.LeastLemmas.{listed-head, listed-other, listed-Contains, All-listed, IsLeastOf-same, least-listed, least-repeated, RepeatsNone-times, times-RepeatsNone}
+use Rattle.hz_gmw.proofs.LeastLemmas.{listed-other, listed-Contains, All-listed, IsLeastOf-same, least-listed, RepeatsNone-times, times-RepeatsNone}
 use Rattle.hz_gmw.proofs.Rechecks.{beq-same, beq-refl}
 
 -- the test says whether a variable is unstable
@@ -110,14 +107,12 @@ stands-step now flips steps long stands step =
             let still : is_listed flips i ≡ false = not-true (is_listed flips i) parts.1 in
             let waits = (stands.watched i inside).0 parts.0 in
             let bit = waits.0 in
-            let last = waits-end net input marked steps i bit waits.1 in
-            (
+            let last = waits-end net input marked steps i bit waits.1 in (
               bit,
-              waits-push net input marked steps flips i bit waits.1
-                  (
-                    ap (λ (s : List Bool). bit_at s i) here ∙ (kept i inside ∙ (ap (λ (b : Bool). cond b (not (bit_at now.state i)) (bit_at now.state i)) still ∙ (ap (λ (s : List Bool). bit_at s i) (sym stands.ends) ∙ last.0))),
-                    subst (λ (s : List Bool). IsUnstable net input s i) (sym here) (unstable-true net input next i both.1),
-                  ),
+              waits-push net input marked steps flips i bit waits.1 (
+                ap (λ (s : List Bool). bit_at s i) here ∙ (kept i inside ∙ (ap (λ (b : Bool). cond b (not (bit_at now.state i)) (bit_at now.state i)) still ∙ (ap (λ (s : List Bool). bit_at s i) (sym stands.ends) ∙ last.0))),
+                subst (λ (s : List Bool). IsUnstable net input s i) (sym here) (unstable-true net input next i both.1),
+              ),
             ),
         λ waits.
             let bit = waits.0 in
@@ -132,7 +127,7 @@ stands-step now flips steps long stands step =
             not-same bit (ap not (sym was) ∙ (sym turned ∙ is))) in
             let unstable : is_unstable net input next i ≡ true = true-unstable net input next i (subst (λ (s : List Bool). IsUnstable net input s i) ends after.1) in
             watched i inside ∙ and_from (bit_at now.watched i && not (is_listed flips i)) (is_unstable net input next i)
-                (and_from (bit_at now.watched i) (not (is_listed flips i)) ((stands.watched i inside).1 (bit, front)) (not_from_false (is_listed flips i) still)) unstable,
+            (and_from (bit_at now.watched i) (not (is_listed flips i)) ((stands.watched i inside).1 (bit, front)) (not_from_false (is_listed flips i) still)) unstable,
       );
     }
 
@@ -362,8 +357,7 @@ stable-fault net input state marks flips var all right once found =
     λ i there missing.
     let inside : i < length net = All-listed (λ (var : ℕ). var < length net) flips i all there in
     beq-same (bit_at state i) (excitation net input state i) (not-false (beq (bit_at state i) (excitation net input state i)) (sym (right i inside) ∙ missing))
-    in
-    (
+    in (
       RepeatsNone-times flips once,
       record {
         here = (found.here.0, stable var found.here.0 (not-true (bit_at marks var) found.here.1));

@@ -1,5 +1,5 @@
 -- The present state of a network as a replayer keeps it: what is known of it while it changes.
-use Rattle.std.specs.Prelude.{◌≡◌, ℕ, ◌<◌, Bool, true, false, not, ◌||◌, List, [], ◌∷◌, length, Option, Some, None, fold, flat_map, slice_get, slice_set, if◌then◌else◌}
+use Rattle.std.specs.Prelude.{◌≡◌, ℕ, ◌<◌, Bool, true, false, not, ◌||◌, List, [], ◌∷◌, length, Option, Some, None, fold, slice_get, slice_set, if◌then◌else◌}
 use Rattle.std.specs.Bool.{beq}
 use Rattle.hz_core.specs.Netlist.{Netlist, IsCircuit, IsWhole}
 use Rattle.hz_net.specs.Network.{Driver, network_of, bit_at}
@@ -44,10 +44,10 @@ abbrev pub rechecked : List Driver → Present → ℕ → Present
 rechecked net present var =
     let now = is_unstable net present.input.items present.state.items var in
     if beq now (bit_at present.unstable var) then present else
-      record present {
-        unstable = slice_set present.unstable var now;
-        touched = slice_set present.touched var true;
-      }
+    record present {
+      unstable = slice_set present.unstable var now;
+      touched = slice_set present.touched var true;
+    }
 
 -- marks with those of a list set
 abbrev pub marked_with : List Bool → List ℕ → List Bool

@@ -31,7 +31,7 @@ impl Present {
         self.recheck_flipped(net, flips);
     }
 
-    // Turns the state into a given one, and marks it no less exactly.
+    // Turns the state into a given one. Only variables that differ are changed, and only what surrounds them is checked.
     pub(crate) fn turn_to(&mut self, net: &Net, state: &[bool])
         requires exact { IsExact net.now self.old }
         requires state { length state.now ≡ length (network_of net.now) }
@@ -47,7 +47,7 @@ impl Present {
         }
     }
 
-    // Turns the external input into a given one.
+    // Turns the external input into a given one. Only inputs that differ are changed and checked.
     pub(crate) fn turn_input(&mut self, net: &Net, input: &[bool])
         requires exact { IsExact net.now self.old }
         requires input { length input.now ≡ net.now.inputs }

@@ -18,11 +18,12 @@ use hz_net::Net;
 use std::alloc::Global;
 use std::marker::Model;
 
-/// Replays runs of the multiple-winner relation on a network, step by step, and says of the states since a mark whether
-/// they are a nontransient cycle.
+/// Replays runs of the general multiple-winner relation (Brzozowski and Seger) on a network, step by step, and says of the
+/// states since a mark whether they are a nontransient cycle.
 ///
-/// It keeps the unstable variables while steps are made: a step costs the variables that it changes and those that read
-/// them, a mark or the end of a cycle what changed since the mark and what is unstable. Only `new` takes memory.
+/// Numbers of variables are those of the network. The unstable variables are kept while steps are made: a step costs the
+/// variables that it changes and those that read them, a mark or the end of a cycle what changed since the mark and what
+/// is unstable; none of them costs the whole network. Only `new` takes memory.
 #[derive(Debug, Drop)]
 pub struct Replay<'n> {
     net: &'n Net,

@@ -1,5 +1,5 @@
 -- The statements of a text ascend by their lines, and the first that passes a test is the least.
-use Rattle.std.proofs.Common.{◌≡◌, ◌∙◌, ℕ, ◌+◌, ◌≤◌, Bool, true, false, List, [], ◌∷◌, Option, Some, None, zero, suc, inl, inr, refl, ap, sym, map, length, cond, arith}
+use Rattle.std.proofs.Common.{◌≡◌, ◌∙◌, ℕ, ◌+◌, ◌≤◌, Bool, true, false, List, [], ◌∷◌, Option, Some, None, zero, suc, inl, inr, refl, ap, sym, map, cond, arith}
 use Rattle.std.specs.Prelude.{◌<◌, ◌⊎◌, ◌++◌}
 use Rattle.std.specs.List.{slice_index_or, find, Contains}
 use Rattle.std.specs.Option.{option_map}

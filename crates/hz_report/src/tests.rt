@@ -6,7 +6,7 @@ use super::{Found, write_change, write_head};
 use hz_core::Tri::{One, Unknown, Zero};
 use hz_core::{Circuit, Kind, Memory};
 use hz_net::Net;
-use hz_outside::PlainSink;
+use hz_outside::{MemSink, PlainSink, PutFault};
 use std::alloc::{AllocError, Global};
 use std::test::Fail;
 
@@ -53,6 +53,12 @@ fn a_circuit_without_nodes(rt: HostRuntime) -> Result<(), Fail> {
     );
     let text = b"netlist inputs 0 gates 0 wires 0 variables 0\nstart\nchange 1\nrounds A 1 B 1\n";
     assert_eq!(rt; whole.bytes(), text.as_slice());
+
+    let mut failing = MemSink::new(rt.alloc());
+    failing.fail(2, 3)?;
+    let answer = write_change(&mut failing, &net, 1, &[], &start, &found);
+    assert_eq!(rt; answer, Err(PutFault::Failed));
+    assert_eq!(rt; failing.bytes(), b"change 1\nrou".as_slice());
     Ok(())
 }
 

@@ -1,7 +1,7 @@
-use Rattle.std.proofs.Common.{◌∙◌, List, ap, inl, inr, Err}
+use Rattle.std.proofs.Common.{◌∙◌, List, ap, inl, inr, subst, sym, Err}
 use Rattle.std.proofs.lemmas.Result.{err_from_is_err_and}
 use Rattle.hz_bench.specs.declared.entry.Entry.{Entry}
-use Rattle.hz_bench.specs.Built.{built}
+use Rattle.hz_bench.specs.Built.{built, MayBuild}
 use Rattle.hz_bench.specs.Entry.{statement_list}
 use Rattle.hz_bench.specs.Netlist.{netlist_of}
 use Rattle.hz_bench.proofs.NetlistLemmas.{built-netlist_of}
@@ -16,7 +16,16 @@ returns-in_err-entries-clause-exact c =
       | inr memory ↦ inr (ap Err memory)
     ])
 
+pub build-requires : goal.build-requires
+build-requires c = subst (λ (entries : List Entry). MayBuild (statement_list entries)) (sym c.deref.ensures.value) c.in_ok-entries.ensures.may
+
 pub returns-clause-circuit : goal.returns-clause-circuit
 returns-clause-circuit c =
     let entries = c.in_ok-entries.entries.items in
     c.in-Ok.ensures ∙ ap (λ (items : List Entry). built (statement_list items)) c.deref.ensures.value ∙ built-netlist_of (statement_list entries) ∙ ap netlist_of c.in_ok-entries.ensures.statements
+
+pub returns-clause-whole : goal.returns-clause-whole
+returns-clause-whole c =
+    let entries = c.in_ok-entries.entries.items in
+    let is = c.in-Ok.ensures ∙ ap (λ (items : List Entry). built (statement_list items)) c.deref.ensures.value ∙ built-netlist_of (statement_list entries) ∙ ap netlist_of c.in_ok-entries.ensures.statements in
+    rw is c.in_ok-entries.ensures.whole

@@ -1,4 +1,4 @@
-use Rattle.std.proofs.Common.{◌≡◌, ◌∙◌, sym, ap, ℕ, Bool, false, List, [], Option, None, length, set, replicate, arith}
+use Rattle.std.proofs.Common.{◌≡◌, ◌∙◌, ap, ℕ, false, [], None, length, set, replicate, arith}
 use Rattle.std.proofs.lemmas.List.{length-set, nil_from_length}
 use Rattle.hz_gmw.proofs.SetLemmas.{AreSet-pop, marks-cleared}
 use Rattle.hz_gmw.proofs.variable_set.VariableSet.clear.Goals as goal
@@ -7,8 +7,7 @@ pub loop-var-preserved : goal.loop-var-preserved
 loop-var-preserved c =
     let fields = c.loop-var.self-inside in
     let holds = c.loop-var.invariant.0 in
-    let same : length (set fields.places.items c.in-Some.var None) ≡ length fields.places.items = length-set fields.places.items c.in-Some.var None in
-    (
+    let same : length (set fields.places.items c.in-Some.var None) ≡ length fields.places.items = length-set fields.places.items c.in-Some.var None in (
       record {
         set = AreSet-pop fields.places.items fields.members.items c.pop.new.self.items c.in-Some.var holds.set c.in-Some.ensures.items;
         room = omega (arith, same, c.in-Some.ensures.capacity, holds.room);
