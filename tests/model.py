@@ -23,6 +23,7 @@ SMALL = {
     "inverter": ("e", [("y", "NAND", "ey")], "01", "1"),
     "xor": ("x", [("y", "XOR", "xx")], "00", "1"),
     "hazard": ("x", [("n", "NOT", "x"), ("y", "AND", "xn")], "010", "1"),
+    "waiting": ("e", [("y", "NAND", "ey"), ("d", "BUFF", "e")], "010", "1"),
     "holding": ("a", [("y", "OR", "ay")], "00", "1"),
     "pulse": ("x", [("p", "AND", "xn"), ("n", "NOT", "x"), ("y", "OR", "py")], "0010", "1"),
     "multiplexer": ("sxy", [("n", "NOT", "s"), ("a", "AND", "sx"), ("b", "AND", "ny"), ("z", "OR", "ab")], "1110101", "011"),
@@ -270,15 +271,19 @@ class Circuit:
         if chance.random() < 0.3:
             return lead, None
         cycle, begun = [], state
-        for _ in range(chance.choice((0, 2, 4, 8, 20))):
-            state = self.wander(chance, state, cycle)
+        lazy = chance.choice([None] + self.unstable(state))
+        for _ in range(chance.choice((0, 4, 40))):
+            state = self.wander(chance, state, cycle, lazy)
             if state == begun and chance.random() < 0.7:
                 break
         return lead, cycle
 
-    def wander(self, chance, state, steps):
-        """Adds a step to some, and answers the state after it. One in sixty is no step."""
-        unstable = [var for var, (bit, wanted) in enumerate(zip(state, self.excitations(state))) if bit != wanted]
+    def unstable(self, state):
+        return [var for var, (bit, wanted) in enumerate(zip(state, self.excitations(state))) if bit != wanted]
+
+    def wander(self, chance, state, steps, lazy=None):
+        """Adds a step to some, in which a lazy variable stays, and answers the state after it. One in sixty is no step."""
+        unstable = [var for var in self.unstable(state) if var != lazy]
         if chance.random() < 1 / 60:
             steps.append([chance.randrange(len(state)) for _ in range(chance.randint(0, 4))])
             return state

@@ -4,5 +4,6 @@ pub mod Comings
 pub mod Steps
 pub mod RunSteps
 pub mod Refusals
+pub mod Decided
 pub mod Lines
 pub mod Done
