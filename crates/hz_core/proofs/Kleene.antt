@@ -82,7 +82,7 @@ flipped (suc zero) n sum = let e : n ≡ 0 = omega arith in rw e refl
 flipped (suc (suc m)) n sum = absurd (omega arith)
 
 -- one more pin that is 1 changes the parity
-odd_pins-true : (bits : List Bool) → odd_pins (true ∷ bits) ≡ not (odd_pins bits)
+pub odd_pins-true : (bits : List Bool) → odd_pins (true ∷ bits) ≡ not (odd_pins bits)
 odd_pins-true bits =
     let e = sum_by-cons (λ pin. cond pin 1 0) true bits in
     flipped (count_by (λ pin. pin) (true ∷ bits) % 2) (count_by (λ pin. pin) bits % 2) (omega (arith, e))

@@ -6,6 +6,8 @@ ghost use Rattle.hz_core.specs.Kleene.{and_of, or_of, xor_of};
 
 use crate::tri::Tri;
 
+mod pattern;
+
 /// The most pins of a gate.
 pub const MAX_PINS: usize = 256;
 

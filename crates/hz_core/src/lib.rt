@@ -8,6 +8,6 @@ mod memory;
 mod tri;
 
 pub use circuit::{Circuit, MAX_VARIABLES};
-pub use kind::Kind;
+pub use kind::{Kind, MAX_PINS};
 pub use memory::Memory;
 pub use tri::Tri;

@@ -1,0 +1,297 @@
+-- Algorithm A is exact: from a start that is stable under some input there is a spread run, and so each X of the result
+-- has both values in states that are reached.
+use Rattle.std.proofs.Common.{◌≡◌, ◌≢◌, ℕ, zero, suc, ◌+◌, ◌-◌, ◌<◌, ◌≤◌, ◌⊎◌, Bool, true, false, not, cond, ◌&&◌, List, [], ◌∷◌, length, map, refl, sym, ap, ◌∙◌, subst, arith, inl, inr, eqb, IsTrue}
+use Rattle.std.specs.List.{range_with_len}
+use Rattle.std.proofs.lemmas.Bool.{cases_Bool, cases_eq, cases_lt, both_ways, and_parts, and_from, not-true, not_from_false, eqb-false, ne_eqb}
+use Rattle.std.proofs.lemmas.List.FromFn.{length-map-range_with_len, get_or-map-range_with_len}
+use Rattle.hz_core.specs.declared.tri.Tri.{Tri}
+use Rattle.hz_core.specs.declared.tri.Tri.TheVariants.{Zero, One, Unknown}
+use Rattle.hz_core.specs.declared.kind.Kind.{Kind}
+use Rattle.hz_core.specs.Ternary.{admits, IsJoinOf}
+use Rattle.hz_core.specs.Netlist.{Netlist, IsCircuit}
+use Rattle.hz_core.proofs.Refinements.{get_or-Refines}
+use Rattle.hz_net.specs.Network.{Driver, External, Function, Source, driver_at, network_of, bit_at, value_at, IsStable}
+use Rattle.hz_net.specs.Passes.{algorithm_a, AreRounds, IsRank, AreRanks}
+use Rattle.hz_gmw.specs.Runs.{is_listed, end_of, IsReachable, JoinsTo}
+use Rattle.hz_gmw.proofs.CoverA.{covers}
+use Rattle.hz_reach.specs.Order.{key_at}
+use Rattle.hz_core.specs.Pattern.{differs}
+use Rattle.hz_reach.specs.Picked.{picked}
+use Rattle.hz_reach.specs.Room.{after}
+use Rattle.hz_reach.proofs.PickedLemmas.{picked-is, is-picked, picked-once, differs-true, true-differs}
+use Rattle.hz_reach.proofs.Turns.{IsWired, AreTurns}
+use Rattle.hz_reach.proofs.Turning.{changed, bit-changed, HasTurned, Also, turned-inputs, turned-same, turned-gate}
+use Rattle.hz_reach.proofs.RankedTurns.{rank-late, ranked-unknown, ranked-turns}
+use Rattle.hz_reach.proofs.Wired.{wired-network_of}
+use Rattle.hz_reach.proofs.Ended.{HasSpread, spread-rest}
+
+-- Ranks of a sequence
+
+-- the first number, up to a limit, that passes a test
+first_passing : (ℕ → Bool) → ℕ → ℕ
+first_passing test zero = 0
+first_passing test (suc limit) = cond (test 0) 0 (suc (first_passing (λ n. test (suc n)) limit))
+
+first_passing-there : (test : ℕ → Bool) (limit : ℕ) → test limit ≡ true → test (first_passing test limit) ≡ true
+unfolding first_passing
+first_passing-there test zero there = there
+first_passing-there test (suc limit) there =
+    elim (cases_Bool (test 0)) [
+      | inl now ↦ rw now now
+      | inr later ↦ rw later (first_passing-there (λ n. test (suc n)) limit there)
+    ]
+
+first_passing-least : (test : ℕ → Bool) (limit n : ℕ) → n < first_passing test limit → test n ≡ false
+unfolding first_passing
+first_passing-least test zero n less = absurd (omega (arith, less))
+first_passing-least test (suc limit) zero less =
+    elim (cases_Bool (test 0)) [
+      | inl now ↦ (let none : 0 < 0 = rw now at less in absurd (omega (arith, none)))
+      | inr later ↦ later
+    ]
+first_passing-least test (suc limit) (suc n) less =
+    elim (cases_Bool (test 0)) [
+      | inl now ↦ (let none : suc n < 0 = rw now at less in absurd (omega (arith, none)))
+      | inr later ↦ (
+          let more : suc n < suc (first_passing (λ m. test (suc m)) limit) = rw later at less in
+          first_passing-least (λ m. test (suc m)) limit n (omega (arith, more))
+          )
+    ]
+
+is_unknown : Tri → Bool
+is_unknown Zero = false
+is_unknown One = false
+is_unknown Unknown = true
+
+is-unknown : (value : Tri) → is_unknown value ≡ true → value ≡ Unknown
+unfolding is_unknown
+is-unknown Zero e = cc
+is-unknown One e = cc
+is-unknown Unknown e = refl
+
+unknown-is : (value : Tri) → value ≡ Unknown → is_unknown value ≡ true
+unfolding is_unknown
+unknown-is Zero e = cc
+unknown-is One e = cc
+unknown-is Unknown e = refl
+
+rank_of : (ℕ → List Tri) → ℕ → ℕ → ℕ
+rank_of sequence rounds i =
+    cond (is_unknown (value_at (sequence rounds) i)) (first_passing (λ round. is_unknown (value_at (sequence round) i)) rounds) 0
+
+rank_of-is : (sequence : ℕ → List Tri) (rounds i : ℕ) (value : Tri) → value_at (sequence rounds) i ≡ value → IsRank sequence i value (rank_of sequence rounds i)
+unfolding rank_of is_unknown
+rank_of-is sequence rounds i Zero e = rw e refl
+rank_of-is sequence rounds i One e = rw e refl
+rank_of-is sequence rounds i Unknown e = record {
+  there = is-unknown _ (rw e (first_passing-there (λ round. is_unknown (value_at (sequence round) i)) rounds (unknown-is _ e)));
+  least = λ round less is. both_ways _ (first_passing-least (λ round. is_unknown (value_at (sequence round) i)) rounds round (rw e at less)) (unknown-is _ is);
+}
+
+ranks_of : (ℕ → List Tri) → ℕ → List ℕ
+ranks_of sequence rounds = map (rank_of sequence rounds) (range_with_len 0 (length (sequence rounds)))
+
+-- every sequence has ranks
+ranks-exist : (sequence : ℕ → List Tri) (rounds : ℕ) → AreRanks sequence (sequence rounds) (ranks_of sequence rounds)
+unfolding ranks_of
+ranks-exist sequence rounds = record {
+  long = length-map-range_with_len (rank_of sequence rounds) 0 (length (sequence rounds));
+  each = λ i inside. subst (IsRank sequence i (value_at (sequence rounds) i)) (sym (get_or-map-range_with_len (rank_of sequence rounds) 0 (length (sequence rounds)) i i 0 inside (omega arith))) (rank_of-is sequence rounds i (value_at (sequence rounds) i) refl);
+}
+
+-- The run
+
+is_input : Driver → Bool
+is_input (External place) = true
+is_input (Function kind first pins) = false
+is_input (Source source) = false
+
+input-is : (driver : Driver) → is_input driver ≡ true → (place : ℕ) × (driver ≡ External place)
+unfolding is_input
+input-is (External place) e = (place, refl)
+input-is (Function kind first pins) e = cc
+input-is (Source source) e = cc
+
+is_wire : Driver → Bool
+is_wire (External place) = false
+is_wire (Function kind first pins) = false
+is_wire (Source source) = true
+
+wire-is : (driver : Driver) → is_wire driver ≡ true → (source : ℕ) × (driver ≡ Source source)
+unfolding is_wire
+wire-is (External place) e = cc
+wire-is (Function kind first pins) e = cc
+wire-is (Source source) e = (source, refl)
+
+-- the variables before a place in the order by rank and then by number
+abbrev IsBefore : List ℕ → ℕ → ℕ → ℕ → Type 0
+IsBefore ranks rank number i = (key_at ranks i < rank) ⊎ ((key_at ranks i ≡ rank) × (i < number))
+
+module _ (net : List Driver) (input start : List Bool) (ranks : List ℕ) (wired : IsWired net) (turns : AreTurns net input start ranks) where
+  -- the run when the turn has come to a place in the order
+  Until : ℕ → ℕ → Type 0
+  Until rank number = (steps : List (List ℕ)) × HasTurned net input start ranks (IsBefore ranks rank number) (IsBefore ranks rank number) steps
+
+  input_turns : ℕ → Bool
+  input_turns i = is_input (driver_at net i) && not (eqb (key_at ranks i) 0)
+
+  until-inputs : Until 0 0
+  unfolding Until input_turns is_input
+  until-inputs =
+      let flips = picked input_turns 0 (length net) in (
+        after [] flips,
+        turned-same net input start ranks wired turns (λ i. ⊥) (λ i. ⊥) (IsBefore ranks 0 0) (after [] flips)
+            (turned-inputs net input start ranks wired turns flips (picked-once input_turns 0 (length net))
+            (λ i there.
+            let passes = and_parts _ _ (picked-is input_turns 0 (length net) i there).passes in
+            let is = input-is (driver_at net i) passes.0 in
+            (is.0, is.1, eqb-false (key_at ranks i) 0 (not-true _ passes.1)))
+            (λ i place e some.
+            let inside : i < length net = turns.inside i some in
+            let zero_more : 0 + i ≡ i = omega arith in
+            subst (λ (n : ℕ). is_listed flips n ≡ true) zero_more
+            (is-picked input_turns 0 (length net) i inside (subst (λ (n : ℕ). input_turns n ≡ true) (sym zero_more)
+            (and_from (is_input (driver_at net i)) (not (eqb (key_at ranks i) 0)) (ap is_input e) (not_from_false _ (ne_eqb (key_at ranks i) 0 some)))))))
+            (λ i kind first pins e some none. absurd none)
+            (λ i kind first pins e some none. absurd none)
+            (λ i kind first pins e some before. elim before [ inl less ↦ absurd (omega (arith, less)) | inr same ↦ absurd (omega (arith, same.1)) ]),
+      )
+
+  -- a gate's turn
+  until-turn : (gate : ℕ) (kind : Kind) (first pins : ℕ) → driver_at net gate ≡ Function kind first pins → key_at ranks gate ≢ 0 → Until (key_at ranks gate) gate → Until (key_at ranks gate) (suc gate)
+  unfolding Until
+  until-turn gate kind first pins drives some (steps, so_far) =
+      let turn = turns.gates gate kind first pins drives some in
+      let test : ℕ → Bool = λ i. differs (bit_at turn.0 (i - first)) (bit_at start i) in
+      let flips = picked test first pins in
+      let rank = key_at ranks gate in
+      let Done : ℕ → Type 0 = IsBefore ranks rank gate in
+      let after_turn = turned-gate net input start ranks wired turns Done steps so_far gate kind first pins drives some
+      (λ before. elim before [ inl less ↦ omega (arith, less) | inr same ↦ omega (arith, same.1) ])
+      (λ i ranked less. inl less)
+      turn.0 turn.1 flips (picked-once test first pins)
+      (λ i there.
+      let is = picked-is test first pins i there in
+      let here : i ≡ first + is.place = is.is in
+      let place : i - first ≡ is.place = omega arith in
+      let differ : bit_at turn.0 (i - first) ≢ bit_at start i = differs-true (bit_at turn.0 (i - first)) (bit_at start i) is.passes in
+      (is.place, is.few, here, subst (λ (n : ℕ). bit_at turn.0 is.place ≢ bit_at start n) here (subst (λ (n : ℕ). bit_at turn.0 n ≢ bit_at start i) place differ)))
+      (λ pin few differ.
+      let place : first + pin - first ≡ pin = omega arith in
+      is-picked test first pins pin few (subst (λ (n : ℕ). differs (bit_at turn.0 n) (bit_at start (first + pin)) ≡ true) (sym place) (true-differs (bit_at turn.0 pin) (bit_at start (first + pin)) differ))) in (
+        after (after steps flips) (gate ∷ []),
+        turned-same net input start ranks wired turns (Also Done gate) (Also Done gate) (IsBefore ranks rank (suc gate)) (after (after steps flips) (gate ∷ [])) after_turn
+            (λ i kind first pins e ranked done. further i done)
+            (λ i kind first pins e ranked done. further i done)
+            (λ i kind first pins e ranked before. elim before [
+              | inl less ↦ inl (inl less)
+              | inr same ↦ elim (cases_eq i gate) [
+                | inl this ↦ inr this
+                | inr other ↦ inl (inr (same.0, omega (arith, same.1)))
+              ]
+            ]),
+      )
+    where
+      further : (i : ℕ) → Also (IsBefore ranks (key_at ranks gate) gate) gate i → IsBefore ranks (key_at ranks gate) (suc gate) i
+      further i (inl (inl less)) = inl less
+      further i (inl (inr same)) = inr (same.0, omega (arith, same.1))
+      further i (inr this) = inr (ap (key_at ranks) this, omega (arith, this))
+
+  -- the turn comes to the next number
+  until-next : (rank number : ℕ) → Until rank number → Until rank (suc number)
+  unfolding Until
+  until-next rank number before =
+      elim (cases_eq (key_at ranks number) rank) [
+        | inl this ↦ elim (cases_eq rank 0) [
+          | inl none ↦ skip (λ i kind first pins e some same. (omega (arith, none, same)))
+          | inr some ↦ by_driver this some (driver_at net number) refl
+        ]
+        | inr other ↦ skip (λ i kind first pins e some same here. other (subst (λ (n : ℕ). key_at ranks n ≡ rank) here same))
+      ]
+    where
+      skip : ((i : ℕ) (kind : Kind) (first pins : ℕ) → driver_at net i ≡ Function kind first pins → key_at ranks i ≢ 0 → key_at ranks i ≡ rank → i ≢ number) → Until rank (suc number)
+      skip other = (
+        before.0,
+        turned-same net input start ranks wired turns (IsBefore ranks rank number) (IsBefore ranks rank number) (IsBefore ranks rank (suc number)) before.0 before.1
+            (λ i kind first pins e some there. elim there [ inl less ↦ inl less | inr same ↦ inr (same.0, omega (arith, same.1)) ])
+            (λ i kind first pins e some there. elim there [ inl less ↦ inl less | inr same ↦ inr (same.0, omega (arith, same.1)) ])
+            (λ i kind first pins e some there. elim there [ inl less ↦ inl less | inr same ↦ inr (same.0, (let away : i ≢ number = other i kind first pins e some same.0 in omega (arith, same.1))) ]),
+      )
+
+      by_driver : key_at ranks number ≡ rank → rank ≢ 0 → (driver : Driver) → driver_at net number ≡ driver → Until rank (suc number)
+      by_driver this some (External place) e = skip (λ i kind first pins f ranked same here. let g : driver_at net number ≡ Function kind first pins = subst (λ (n : ℕ). driver_at net n ≡ Function kind first pins) here f in cc)
+      by_driver this some (Source source) e = skip (λ i kind first pins f ranked same here. let g : driver_at net number ≡ Function kind first pins = subst (λ (n : ℕ). driver_at net n ≡ Function kind first pins) here f in cc)
+      by_driver this some (Function kind first pins) e =
+          subst (λ (r : ℕ). Until r (suc number)) this (until-turn number kind first pins e (λ none. some (sym this ∙ none)) (subst (λ (r : ℕ). Until r number) (sym this) before))
+
+  until-number : (rank number : ℕ) → Until rank 0 → Until rank number
+  until-number rank zero before = before
+  until-number rank (suc number) before = until-next rank number (until-number rank number before)
+
+  until-rank : (rank : ℕ) → Until rank 0
+  unfolding Until
+  until-rank zero = until-inputs
+  until-rank (suc rank) =
+      let whole = until-number rank (length net) (until-rank rank) in (
+        whole.0,
+        turned-same net input start ranks wired turns (IsBefore ranks rank (length net)) (IsBefore ranks rank (length net)) (IsBefore ranks (suc rank) 0) whole.0 whole.1
+            (λ i kind first pins e some there. elim there [ inl less ↦ inl (omega (arith, less)) | inr same ↦ inl (omega (arith, same.0)) ])
+            (λ i kind first pins e some there. elim there [ inl less ↦ inl (omega (arith, less)) | inr same ↦ inl (omega (arith, same.0)) ])
+            (λ i kind first pins e some there.
+            let inside : i < length net = turns.inside i some in
+            elim there [
+              | inl less ↦ elim (cases_lt (key_at ranks i) rank) [ inl lower ↦ inl lower | inr above ↦ inr (omega (arith, less), inside) ]
+              | inr same ↦ absurd (omega (arith, same.1))
+            ]),
+      )
+
+  -- a run that changes each variable with a rank, where no rank is above a limit
+  pub spread-exists : (limit : ℕ) → ((i : ℕ) → key_at ranks i ≢ 0 → key_at ranks i ≤ limit) → (steps : List (List ℕ)) × HasSpread net input start ranks steps
+  unfolding Until is_wire
+  spread-exists limit bound =
+      let until = until-rank (suc limit) in
+      let test : ℕ → Bool = λ i. is_wire (driver_at net i) && (not (eqb (key_at ranks i) 0) && not (is_listed (changed until.0) i)) in
+      let flips = picked test 0 (length net) in (
+        after until.0 flips,
+        spread-rest net input start ranks (IsBefore ranks (suc limit) 0) until.0 flips wired turns until.1
+            (λ i some. inl (omega (arith, bound i some)))
+            (picked-once test 0 (length net))
+            (λ i there.
+            let passes = and_parts _ _ (picked-is test 0 (length net) i there).passes in
+            let more = and_parts _ _ passes.1 in
+            let is = wire-is (driver_at net i) passes.0 in
+            (is.0, is.1, eqb-false (key_at ranks i) 0 (not-true _ more.0), not-true _ more.1))
+            (λ i source e some out.
+            let inside : i < length net = turns.inside i some in
+            let zero_more : 0 + i ≡ i = omega arith in
+            subst (λ (n : ℕ). is_listed flips n ≡ true) zero_more
+            (is-picked test 0 (length net) i inside (subst (λ (n : ℕ). test n ≡ true) (sym zero_more)
+            (and_from (is_wire (driver_at net i)) (not (eqb (key_at ranks i) 0) && not (is_listed (changed until.0) i)) (ap is_wire e)
+            (and_from (not (eqb (key_at ranks i) 0)) (not (is_listed (changed until.0) i)) (not_from_false _ (ne_eqb (key_at ranks i) 0 some)) (not_from_false _ out)))))),
+      )
+
+-- A set of bits that has a bit, and its complement where a value is X, and that the value admits
+joins-by : (set : Bool → Type 0) (value : Tri) (bit : Bool) → set bit → ((other : Bool) → set other → IsTrue (admits value other)) → (value ≡ Unknown → set (not bit)) → IsJoinOf set value
+joins-by set Zero false here admitted turned = (here, λ there. let no_bit = admitted true there in cc)
+joins-by set Zero true here admitted turned = let no_bit = admitted true here in cc
+joins-by set One false here admitted turned = let no_bit = admitted false here in cc
+joins-by set One true here admitted turned = (here, λ there. let no_bit = admitted false there in cc)
+joins-by set Unknown false here admitted turned = (here, turned refl)
+joins-by set Unknown true here admitted turned = (turned refl, here)
+
+-- Algorithm A is exact
+pub exact : (netlist : Netlist) (input old start : List Bool) (rounds i : ℕ) → IsCircuit netlist → length start ≡ length (network_of netlist) → IsStable (network_of netlist) old start → AreRounds (algorithm_a (network_of netlist) input start) rounds → JoinsTo (IsReachable (network_of netlist) input start) i (value_at (algorithm_a (network_of netlist) input start rounds) i)
+exact netlist input old start rounds i circuit long stable are =
+    let net = network_of netlist in
+    let ranks = ranks_of (algorithm_a net input start) rounds in
+    let ranked : AreRanks (algorithm_a net input start) (algorithm_a net input start rounds) ranks = ranks-exist (algorithm_a net input start) rounds in
+    let wired : IsWired net = wired-network_of netlist circuit in
+    let turns : AreTurns net input start ranks = ranked-turns net input old start rounds ranks wired long stable are ranked in
+    let spread = spread-exists net input start ranks wired turns rounds (rank-late net input old start rounds ranks wired long stable are ranked) in
+    joins-by (λ bit. (state : List Bool) × IsReachable net input start state × (bit_at state i ≡ bit)) (value_at (algorithm_a net input start rounds) i) (bit_at start i)
+    (start, ([], tt, refl), refl)
+    (λ other there. subst (λ (b : Bool). IsTrue (admits (value_at (algorithm_a net input start rounds) i) b)) there.2 (get_or-Refines there.0 (algorithm_a net input start rounds) (covers net input start there.0 rounds long are there.1) i))
+    (λ unknown.
+    let some = ranked-unknown net input old start rounds ranks wired long stable are ranked i unknown in
+    let inside : i < length net = turns.inside i some in
+    (end_of start spread.0, (spread.0, spread.1.once.run, refl), bit-changed net input start spread.0 i spread.1.once (omega (arith, long)) (spread.1.all i some)))

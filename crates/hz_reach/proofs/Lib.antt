@@ -1,0 +1,17 @@
+pub mod Listed
+pub mod PickedLemmas
+pub mod Parts
+pub mod Turns
+pub mod Turning
+pub mod Wired
+pub mod RankedTurns
+pub mod Ended
+pub mod Exact
+pub mod Places
+pub mod SortLemmas
+pub mod Marks
+pub mod Order
+pub mod Rooms
+pub mod Asked
+pub mod Underway
+pub mod SpreadSteps

@@ -1,0 +1,22 @@
+use Rattle.std.proofs.Common.{ap, arith}
+use Rattle.hz_core.specs.Netlist.{Netlist}
+use Rattle.hz_core.specs.Pattern.{differs}
+use Rattle.hz_net.specs.Network.{bit_at}
+use Rattle.hz_net.proofs.Places.{length-network_of}
+use Rattle.hz_reach.proofs.Marks.{picked-below}
+use Rattle.hz_reach.proofs.spreading.mark_inputs.Goals as goal
+
+pub bounds-start-var : goal.bounds-start-var
+bounds-start-var c =
+    let inputs = ap (λ (netlist : Netlist). netlist.inputs) c.circuit.ensures.same in
+    omega (arith, c.loop-var-test.true, inputs, c.inputs-var-end.ensures.inputs, c.requires.circuit.nodes, c.requires.start, length-network_of c.args.net.now c.requires.circuit)
+
+pub mark-requires-clause-inside : goal.mark-requires-clause-inside
+mark-requires-clause-inside c =
+    let inputs = ap (λ (netlist : Netlist). netlist.inputs) c.circuit.ensures.same in
+    rw c.loop-var.invariant.1
+    (omega (arith, c.loop-var-test.true, inputs, c.inputs-var-end.ensures.inputs, c.requires.circuit.nodes, c.requires.scratch, length-network_of c.args.net.now c.requires.circuit))
+
+pub mark-requires-clause-ascending : goal.mark-requires-clause-ascending
+mark-requires-clause-ascending c =
+    rw c.loop-var.invariant.0 (λ i. picked-below (λ n. differs (bit_at c.args.start.now n) (bit_at c.args.input.now n)) 0 c.loop-var.var c.loop-var.var i (omega arith))

@@ -1,0 +1,44 @@
+use Rattle.std.proofs.Common.{◌≡◌, ◌∙◌, ◌≤◌, ◌-◌, ◌+◌, ℕ, Bool, List, [], ◌∷◌, ◌++◌, length, not, ◌&&◌, ap, sym, arith}
+use Rattle.hz_core.specs.Netlist.{Netlist}
+use Rattle.hz_core.specs.Pattern.{differs}
+use Rattle.hz_net.specs.Network.{bit_at, value_at}
+use Rattle.hz_reach.specs.Picked.{picked}
+use Rattle.hz_reach.specs.Scratched.{Scratched}
+use Rattle.hz_reach.specs.Turn.{is_unknown}
+use Rattle.hz_reach.proofs.Marks.{picked-below, picked-more, picked-skip}
+use Rattle.hz_reach.proofs.spreading.mark_unchanged.Goals as goal
+use Rattle.hz_reach.proofs.spreading.mark_unchanged.Goals.{then-is_left, else-is_left}
+
+pub mark-requires-clause-ascending : goal.mark-requires-clause-ascending
+mark-requires-clause-ascending c =
+    let nodes = ap (λ (netlist : Netlist). length netlist.names) c.circuit.ensures.same in
+    rw c.loop-wire.invariant.0 (λ i. picked-below (λ n. is_unknown (value_at c.args.a.now n) && not (differs (bit_at c.args.start.now n) (bit_at c.args.scratch.now.state n))) (length c.args.net.now.names) (c.loop-wire.wire - length c.args.net.now.names) c.loop-wire.wire i
+    (omega (arith, nodes, c.nodes-wire.ensures.nodes, c.loop-wire.auto.wire)))
+
+pub loop-wire-preserved : goal.loop-wire-preserved
+loop-wire-preserved c =
+    let test : ℕ → Bool = λ n. is_unknown (value_at c.args.a.now n) && not (differs (bit_at c.args.start.now n) (bit_at c.args.scratch.now.state n)) in
+    let names = length c.args.net.now.names in
+    let nodes = ap (λ (netlist : Netlist). length netlist.names) c.circuit.ensures.same in
+    let above : names ≤ c.loop-wire.wire = omega (arith, nodes, c.nodes-wire.ensures.nodes, c.loop-wire.auto.wire) in
+    let next : c.loop-wire.wire ≡ names + (c.loop-wire.wire - names) = omega (arith, above) in
+    let count : c.loop-wire.wire - names + 1 ≡ c.loop-wire.wire + 1 - names = omega (arith, above) in
+    let states = c.state.ensures ∙ c.loop-wire.invariant.1 in
+    let is : c.is_left.result ≡ test c.loop-wire.wire =
+    c.is_left.ensures ∙ ap (λ (s : List Bool). is_unknown (value_at c.args.a.now c.loop-wire.wire) && not (differs (bit_at c.args.start.now c.loop-wire.wire) (bit_at s c.loop-wire.wire))) states in
+    elim c.if-is_left.branch [
+      | then-is_left w ↦ (
+        ap (λ (s : Scratched). s.marked) w.scratch-is
+            ∙ (w.mark.ensures.marked
+            ∙ (ap (λ (list : List ℕ). list ++ c.loop-wire.wire ∷ []) c.loop-wire.invariant.0
+            ∙ (picked-more test names (c.loop-wire.wire - names) c.loop-wire.wire next (sym is ∙ w.if-is_left.true) ∙ ap (picked test names) count))),
+        ap (λ (s : Scratched). s.state) w.scratch-is ∙ (w.mark.ensures.state ∙ c.loop-wire.invariant.1),
+        ap (λ (s : Scratched). s.sorted) w.scratch-is ∙ (w.mark.ensures.sorted ∙ c.loop-wire.invariant.2),
+      )
+      | else-is_left w ↦ (
+        ap (λ (s : Scratched). s.marked) w.scratch-is
+            ∙ (c.loop-wire.invariant.0 ∙ (picked-skip test names (c.loop-wire.wire - names) c.loop-wire.wire next (sym is ∙ w.if-is_left.false) ∙ ap (picked test names) count)),
+        ap (λ (s : Scratched). s.state) w.scratch-is ∙ c.loop-wire.invariant.1,
+        ap (λ (s : Scratched). s.sorted) w.scratch-is ∙ c.loop-wire.invariant.2,
+      )
+    ]

@@ -1,0 +1,8 @@
+use Rattle.std.proofs.Common.{◌≡◌, length}
+use Rattle.hz_reach.proofs.Underway.{IsUnderway}
+use Rattle.hz_reach.proofs.spreading.spread_run.Given as goal
+
+-- the gates so far have had their turns
+abbrev pub invariant-loop-place : goal.invariant-loop-place
+invariant-loop-place l =
+    IsUnderway l.net l.input l.start l.a l.rank l.place l.scratch l.fn.run l.run × (l.place-end ≡ length l.scratch.sorted)

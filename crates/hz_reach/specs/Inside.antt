@@ -1,0 +1,23 @@
+-- What a scratch's fields stand for.
+use Rattle.std.specs.Prelude.{ℕ, ◌<◌, ◌≤◌, ◌^◌, IsTrue, length}
+use Rattle.std.specs.Vec.{vec_capacity}
+use Rattle.hz_gmw.specs.Runs.{is_listed, RepeatsNone}
+use Rattle.hz_reach.specs.Scratched.{Scratched}
+use Rattle.hz_reach.specs.declared.scratch.Scratch.TheInside.{Inside}
+
+abbrev pub scratched_of : Inside → Scratched
+scratched_of fields =
+    record {
+      state = fields.state.items;
+      sorted = fields.sorted.items;
+      marked = fields.marked.items;
+    }
+
+-- there is room for every variable, and the marked ones are variables, none of them twice
+pub record HoldsScratch (fields : Inside) : Type 0 where
+  pub few : length fields.state.items < 2 ^ 32
+  pub keyed_fit : length fields.state.items ≤ vec_capacity fields.keyed
+  pub sorted_fit : length fields.state.items ≤ vec_capacity fields.sorted
+  pub marked_fit : length fields.state.items ≤ vec_capacity fields.marked
+  pub once : RepeatsNone fields.marked.items
+  pub inside : (i : ℕ) → IsTrue (is_listed fields.marked.items i) → i < length fields.state.items

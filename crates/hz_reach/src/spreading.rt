@@ -1,0 +1,189 @@
+//! The spread run.
+ghost use Rattle.std.specs.Prelude.{◌≡◌, ℕ, ◌+◌, ◌<◌, ◌≤◌, Bool, true, false, not, ◌&&◌, List, [], length, take, IsTrue, MatchBool};
+ghost use Rattle.hz_core.specs.Gate.{takes};
+ghost use Rattle.hz_core.specs.Netlist.{IsCircuit, IsWhole, IsGateNumber, gate_at};
+ghost use Rattle.hz_core.specs.Pattern.{differs, IsCandidate, IsPattern};
+ghost use Rattle.hz_net.specs.Network.{network_of, bit_at, value_at, IsStable};
+ghost use Rattle.hz_net.specs.Passes.{algorithm_a, AreRounds, AreRanks};
+ghost use Rattle.hz_net.specs.Variables.{first_wire};
+ghost use Rattle.hz_gmw.specs.Runs.{end_of};
+ghost use Rattle.hz_reach.specs.Order.{key_at};
+ghost use Rattle.hz_reach.specs.Room.{Spends};
+ghost use Rattle.hz_reach.specs.Spread.{IsSpreadRun, IsSparingRun};
+ghost use Rattle.hz_reach.specs.Turn.{turned_inputs, at_wires, free_pins, changed_wires, AreTurnedWires, is_unknown, unchanged_wires};
+
+use crate::Scratch;
+use hz_core::{Kind, MAX_PINS, Tri};
+use hz_gmw::Run;
+use hz_net::Net;
+
+/// The spread run: a run from a start that is stable under its own inputs, in which each variable that Algorithm A makes
+/// X changes once, and no other variable changes. So both values of each X are reached.
+///
+/// First all inputs change that differ from the new input. Then the gates have their turns, by rank and then by number:
+/// the wires that a gate needs change, and then the gate alone. Of its wires those are free that become X before it, and
+/// the canonical pattern says which of them change. Last come the wires that have not changed; `keep_unused` leaves them
+/// out. A step that would be empty is not made.
+///
+/// `a` and `rank` are what Algorithm A gives for this start and input. The last state stands in `scratch` afterwards. It
+/// takes no memory and cannot fail.
+pub fn spread_run(
+    net: &Net,
+    start: &[bool],
+    input: &[bool],
+    a: &[Tri],
+    rank: &[u32],
+    keep_unused: bool,
+    scratch: &mut Scratch,
+    run: &mut Run,
+)
+    requires start { length start.now ≡ length (network_of net.now) }
+    requires stable { IsStable (network_of net.now) (take net.now.inputs start.now) start.now }
+    requires input { length input.now ≡ net.now.inputs }
+    requires a { (rounds : ℕ) × AreRounds (algorithm_a (network_of net.now) input.now start.now) rounds
+        × (a.now ≡ algorithm_a (network_of net.now) input.now start.now rounds) }
+    requires rank { AreRanks (algorithm_a (network_of net.now) input.now start.now) a.now rank.now }
+    requires scratch { length scratch.old.state ≡ length (network_of net.now) }
+    requires none_marked { scratch.old.marked ≡ [] }
+    requires empty { run.old.steps ≡ [] }
+    requires room_for_flips { length (network_of net.now) ≤ run.old.spare_flips }
+    requires room_for_steps { length (network_of net.now) ≤ run.old.spare_steps }
+    ensures run { MatchBool keep_unused
+        (IsSparingRun (network_of net.now) input.now start.now a.now rank.now run.new.steps)
+        (IsSpreadRun (network_of net.now) input.now start.now a.now run.new.steps) }
+    ensures state { scratch.new.state ≡ end_of start.now run.new.steps }
+    ensures marked { scratch.new.marked ≡ [] }
+    ensures room { Spends run.old run.new }
+{
+    let circuit = net.circuit();
+    scratch.begin(start);
+    scratch.sort(rank);
+    mark_inputs(net, start, input, scratch);
+    scratch.step(run);
+    for place in 0..scratch.sorted().len() {
+        let var = scratch.sorted()[place];
+        if circuit.inputs() <= var && var < circuit.nodes() {
+            mark_wires(net, start, rank, var, scratch);
+            scratch.step(run);
+            scratch.mark(var);
+            scratch.step(run);
+        }
+    }
+    if !keep_unused {
+        mark_unchanged(net, start, a, scratch);
+        scratch.step(run);
+    }
+}
+
+// Marks the inputs that differ from the new input.
+fn mark_inputs(net: &Net, start: &[bool], input: &[bool], scratch: &mut Scratch)
+    requires circuit { IsCircuit net.now }
+    requires start { length start.now ≡ length (network_of net.now) }
+    requires input { length input.now ≡ net.now.inputs }
+    requires scratch { length scratch.old.state ≡ length (network_of net.now) }
+    requires none_marked { scratch.old.marked ≡ [] }
+    ensures marked { scratch.new.marked ≡ turned_inputs net.now start.now input.now }
+    ensures state { scratch.new.state ≡ scratch.old.state }
+    ensures sorted { scratch.new.sorted ≡ scratch.old.sorted }
+{
+    for var in 0..net.circuit().inputs() {
+        if start[var as usize] != input[var as usize] {
+            scratch.mark(var);
+        }
+    }
+}
+
+// Marks the wires that change when a gate's turn comes.
+fn mark_wires(net: &Net, start: &[bool], rank: &[u32], gate: u32, scratch: &mut Scratch)
+    requires circuit { IsCircuit net.now }
+    requires whole { IsWhole net.now }
+    requires start { length start.now ≡ length (network_of net.now) }
+    requires rank { length rank.now ≡ length (network_of net.now) }
+    requires gate { IsGateNumber net.now gate }
+    requires possible { (list : List Bool) × IsCandidate (gate_at net.now gate).kind (at_wires net.now gate start.now)
+        (free_pins (key_at rank.now gate) (at_wires net.now gate rank.now)) (not (bit_at start.now gate)) list }
+    requires scratch { length scratch.old.state ≡ length (network_of net.now) }
+    requires none_marked { scratch.old.marked ≡ [] }
+    ensures marked { AreTurnedWires net.now start.now rank.now gate scratch.new.marked }
+    ensures state { scratch.new.state ≡ scratch.old.state }
+    ensures sorted { scratch.new.sorted ≡ scratch.old.sorted }
+{
+    let kind = net.circuit().kind(gate);
+    let (first, pins) = net.wires_in(gate);
+    let wires = first as usize..(first + pins) as usize;
+    let now = &start[wires];
+    let mut free = [false; MAX_PINS];
+    let mut pattern = [false; MAX_PINS];
+    list_free(
+        rank[gate as usize],
+        &rank[first as usize..(first + pins) as usize],
+        &mut free[..pins as usize],
+    );
+    kind.choose(
+        now,
+        &free[..pins as usize],
+        !start[gate as usize],
+        &mut pattern[..pins as usize],
+    );
+    mark_changed(first, now, &pattern[..pins as usize], scratch);
+}
+
+// Which pins are free, by the ranks of their wires and the gate's own rank.
+fn list_free(own: u32, ranks: &[u32], free: &mut [bool])
+    requires { length free.old ≡ length ranks.now }
+    ensures { free.new ≡ free_pins own ranks.now }
+{
+    for (pin, rank) in ranks.iter().enumerate() {
+        free[pin] = *rank != 0 && *rank < own;
+    }
+}
+
+// Marks the wires whose bit differs from the pattern's.
+fn mark_changed(first: u32, now: &[bool], pattern: &[bool], scratch: &mut Scratch)
+    requires pattern { length pattern.now ≡ length now.now }
+    requires inside { first + length now.now ≤ length scratch.old.state }
+    requires small { first + length now.now ≤ 200000 }
+    requires none_marked { scratch.old.marked ≡ [] }
+    ensures marked { scratch.new.marked ≡ changed_wires first now.now pattern.now }
+    ensures state { scratch.new.state ≡ scratch.old.state }
+    ensures sorted { scratch.new.sorted ≡ scratch.old.sorted }
+{
+    for pin in 0..now.len() {
+        if now[pin] != pattern[pin] {
+            scratch.mark(first + pin as u32);
+        }
+    }
+}
+
+// Marks the wires that are X in the result of Algorithm A and have not changed.
+fn mark_unchanged(net: &Net, start: &[bool], a: &[Tri], scratch: &mut Scratch)
+    requires circuit { IsCircuit net.now }
+    requires start { length start.now ≡ length (network_of net.now) }
+    requires a { length a.now ≡ length (network_of net.now) }
+    requires scratch { length scratch.old.state ≡ length (network_of net.now) }
+    requires none_marked { scratch.old.marked ≡ [] }
+    ensures marked { scratch.new.marked ≡ unchanged_wires net.now a.now start.now scratch.old.state }
+    ensures state { scratch.new.state ≡ scratch.old.state }
+    ensures sorted { scratch.new.sorted ≡ scratch.old.sorted }
+{
+    for wire in net.circuit().nodes()..net.len() {
+        let place = wire as usize;
+        let now = scratch.state()[place];
+        if is_left(a[place], start[place], now) {
+            scratch.mark(wire);
+        }
+    }
+}
+
+// A variable is X in the result of Algorithm A and has not changed.
+fn is_left(value: Tri, start: bool, now: bool) -> bool
+    ensures { result ≡ (is_unknown value && not (differs start now)) }
+{
+    match value {
+        Tri::Zero | Tri::One => false,
+        Tri::Unknown => start == now,
+    }
+}
+
+#[cfg(test)]
+mod tests;
