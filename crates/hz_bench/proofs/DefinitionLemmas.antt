@@ -5,41 +5,54 @@ use Rattle.std.proofs.lemmas.Slice.Eq.{bytes_eq-Decides}
 use Rattle.std.specs.Borrow.{Bor}
 use Rattle.std.specs.HashMap.{HashMap}
 use Rattle.std.specs.Str.{bytes_eq}
+use Rattle.hz_line.specs.Statement.{Numbered}
 use Rattle.hz_bench.specs.declared.entry.Entry.{Entry}
 use Rattle.hz_bench.specs.declared.fault.BenchFault.{BenchFault}
 use Rattle.hz_bench.specs.declared.fault.BenchFault.TheVariants.{Form, Name, KindUnknown, Clocked, Twice, Pins, Undefined, TooMany, Memory}
-use Rattle.hz_bench.specs.Definition.{is_that, definer, line_for_defined, IsPut, IsTableOf}
+use Rattle.hz_bench.specs.Definition.{is_that, defines, definer, line_for_defined, IsPut, IsTableOf}
 use Rattle.hz_bench.specs.Statement.{Statement, Input, Output, Gate, defined_name, name_of, form_of, form_defines}
-use Rattle.hz_bench.specs.Text.{Numbered, statement_in}
+use Rattle.hz_bench.specs.Text.{statement_in}
 use Rattle.hz_bench.specs.Twice.{twice_or, earlier_line, twice_after, twice_fault, IsFoundOrMemory}
 
-abbrev or_line : Option ℕ → Option ℕ → Option ℕ
+abbrev pub or_line : Option ℕ → Option ℕ → Option ℕ
 or_line None later = later
 or_line (Some line) later = Some line
 
-definer-append : (seen : List Numbered) (next : Numbered) (name : List ℕ) → definer (seen ++ next ∷ []) name ≡ or_line (definer seen name) (cond (is_that name (defined_name next.statement)) (Some next.line) None)
-definer-append [] next name = refl
-definer-append (first ∷ rest) next name = or_line-cond (is_that name (defined_name first.statement)) first.line (definer (rest ++ next ∷ []) name) (definer rest name) _ (definer-append rest next name)
+pub definer-cons : (first : Numbered Statement) (rest : List (Numbered Statement)) (name : List ℕ) → definer (first ∷ rest) name ≡ cond (defines name first.statement) (Some first.line) (definer rest name)
+definer-cons first rest name = by_test (defines name first.statement) refl
   where
-    or_line-cond : (test : Bool) (line : ℕ) (all some later : Option ℕ) → all ≡ or_line some later → cond test (Some line) all ≡ or_line (cond test (Some line) some) later
-    or_line-cond true line all some later h = refl
-    or_line-cond false line all some later h = h
+    by_test : (b : Bool) → defines name first.statement ≡ b → definer (first ∷ rest) name ≡ cond b (Some first.line) (definer rest name)
+    by_test true t = rw t refl
+    by_test false t = rw t refl
+
+pub definer-append : (front back : List (Numbered Statement)) (name : List ℕ) → definer (front ++ back) name ≡ or_line (definer front name) (definer back name)
+definer-append [] back name = refl
+definer-append (first ∷ rest) back name =
+    definer-cons first (rest ++ back) name ∙ ap (cond (defines name first.statement) (Some first.line)) (definer-append rest back name)
+    ∙ or_line-cond (defines name first.statement) first.line (definer rest name) (definer back name) ∙ sym (ap (λ line. or_line line (definer back name)) (definer-cons first rest name))
+  where
+    or_line-cond : (test : Bool) (line : ℕ) (some later : Option ℕ) → cond test (Some line) (or_line some later) ≡ or_line (cond test (Some line) some) later
+    or_line-cond true line some later = refl
+    or_line-cond false line some later = refl
+
+definer-push : (seen : List (Numbered Statement)) (next : Numbered Statement) (name : List ℕ) → definer (seen ++ next ∷ []) name ≡ or_line (definer seen name) (cond (is_that name (defined_name next.statement)) (Some next.line) None)
+definer-push seen next name = definer-append seen (next ∷ []) name ∙ ap (or_line (definer seen name)) (definer-cons next [] name)
 
 or_line-none : (line : Option ℕ) → or_line line None ≡ line
 or_line-none None = refl
 or_line-none (Some line) = refl
 
-put_one : (defined name : List ℕ) (line : ℕ) (seen : List Numbered) (test : Bool) → bytes_eq defined name ≡ test → definer seen defined ≡ None → cond test (Some line) (definer seen name) ≡ or_line (definer seen name) (cond test (Some line) None)
+put_one : (defined name : List ℕ) (line : ℕ) (seen : List (Numbered Statement)) (test : Bool) → bytes_eq defined name ≡ test → definer seen defined ≡ None → cond test (Some line) (definer seen name) ≡ or_line (definer seen name) (cond test (Some line) None)
 put_one defined name line seen true same none = let e = (bytes_eq-Decides defined name).0 same in rw (ap (definer seen) (sym e) ∙ none) refl
 put_one defined name line seen false same none = sym (or_line-none (definer seen name))
 
-put : {S : Type 0} (old new : HashMap (Bor (List ℕ)) ℕ S) (seen : List Numbered) (next : Numbered) (defined : Option (List ℕ)) → defined_name next.statement ≡ defined → IsPut old new next.line defined → IsTableOf seen old → IsTableOf (seen ++ next ∷ []) new
-put old new seen next None e added table = λ name. added name ∙ table name ∙ sym (definer-append seen next name ∙ ap (λ d. or_line (definer seen name) (cond (is_that name d) (Some next.line) None)) e ∙ or_line-none (definer seen name))
+put : {S : Type 0} (old new : HashMap (Bor (List ℕ)) ℕ S) (seen : List (Numbered Statement)) (next : Numbered Statement) (defined : Option (List ℕ)) → defined_name next.statement ≡ defined → IsPut old new next.line defined → IsTableOf seen old → IsTableOf (seen ++ next ∷ []) new
+put old new seen next None e added table = λ name. added name ∙ table name ∙ sym (definer-push seen next name ∙ ap (λ d. or_line (definer seen name) (cond (is_that name d) (Some next.line) None)) e ∙ or_line-none (definer seen name))
 put old new seen next (Some defined) e added table = λ name.
     added.1 name ∙ ap (cond (bytes_eq defined name) (Some next.line)) (table name) ∙ put_one defined name next.line seen (bytes_eq defined name) refl (sym (table defined) ∙ added.0)
-    ∙ sym (definer-append seen next name ∙ ap (λ d. or_line (definer seen name) (cond (is_that name d) (Some next.line) None)) e)
+    ∙ sym (definer-push seen next name ∙ ap (λ d. or_line (definer seen name) (cond (is_that name d) (Some next.line) None)) e)
 
-earlier_line-table : {S : Type 0} (lines : HashMap (Bor (List ℕ)) ℕ S) (seen : List Numbered) (defined : Option (List ℕ)) → IsTableOf seen lines → line_for_defined lines defined ≡ earlier_line seen defined
+earlier_line-table : {S : Type 0} (lines : HashMap (Bor (List ℕ)) ℕ S) (seen : List (Numbered Statement)) (defined : Option (List ℕ)) → IsTableOf seen lines → line_for_defined lines defined ≡ earlier_line seen defined
 earlier_line-table lines seen None table = refl
 earlier_line-table lines seen (Some defined) table = table defined
 
@@ -48,18 +61,18 @@ nothing_earlier old new line None added = refl
 nothing_earlier old new line (Some defined) added = added.0
 
 -- the statements so far are in the table, and the first of a name among the rest is the first of all
-pub record IsDefining {S : Type 0} (statements : List Numbered) (index : ℕ) (lines : HashMap (Bor (List ℕ)) ℕ S) : Type 0 where
+pub record IsDefining {S : Type 0} (statements : List (Numbered Statement)) (index : ℕ) (lines : HashMap (Bor (List ℕ)) ℕ S) : Type 0 where
   pub table : IsTableOf (take index statements) lines
   pub rest : twice_after (take index statements) (drop index statements) ≡ twice_fault statements
 
-twice_after-drop : (statements : List Numbered) (index : ℕ) (next : Numbered) → index < length statements → next ≡ get_or statements index next
+twice_after-drop : (statements : List (Numbered Statement)) (index : ℕ) (next : Numbered Statement) → index < length statements → next ≡ get_or statements index next
     → twice_after (take index statements) (drop index statements) ≡ twice_or next.line (earlier_line (take index statements) (defined_name next.statement)) (twice_after (take index statements ++ next ∷ []) (drop (index + 1) statements))
 twice_after-drop statements index next inside is = at_drop_more (twice_after (take index statements)) statements index next inside ∙ rw (sym is) refl
 
-pub IsDefining-step : {S : Type 0} (old new : HashMap (Bor (List ℕ)) ℕ S) (statements : List Numbered) (index : ℕ) (next : Numbered) → index < length statements → next ≡ get_or statements index next
+pub IsDefining-step : {S : Type 0} (old new : HashMap (Bor (List ℕ)) ℕ S) (statements : List (Numbered Statement)) (index : ℕ) (next : Numbered Statement) → index < length statements → next ≡ get_or statements index next
     → IsPut old new next.line (defined_name next.statement) → IsDefining statements index old → IsDefining statements (index + 1) new
 IsDefining-step old new statements index next inside is added was =
-    let more : take (index + 1) statements ≡ take index statements ++ next ∷ [] = take_more statements index next inside ∙ ap (λ (last : Numbered). take index statements ++ last ∷ []) (sym is) in
+    let more : take (index + 1) statements ≡ take index statements ++ next ∷ [] = take_more statements index next inside ∙ ap (λ (last : Numbered Statement). take index statements ++ last ∷ []) (sym is) in
     let none = sym (earlier_line-table old (take index statements) (defined_name next.statement) was.table) ∙ nothing_earlier old new next.line (defined_name next.statement) added in
     record {
       table = rw more (put old new (take index statements) next (defined_name next.statement) refl added was.table);
@@ -78,7 +91,7 @@ IsFoundOrMemory-later line None later (Pins at count) h = cc
 IsFoundOrMemory-later line None later (Undefined at) h = cc
 IsFoundOrMemory-later line None later (TooMany variables) h = cc
 
-pub IsDefining-fault : {S : Type 0} (old : HashMap (Bor (List ℕ)) ℕ S) (statements : List Numbered) (index : ℕ) (next : Numbered) (fault : BenchFault) → index < length statements → next ≡ get_or statements index next
+pub IsDefining-fault : {S : Type 0} (old : HashMap (Bor (List ℕ)) ℕ S) (statements : List (Numbered Statement)) (index : ℕ) (next : Numbered Statement) (fault : BenchFault) → index < length statements → next ≡ get_or statements index next
     → IsFoundOrMemory (twice_or next.line (line_for_defined old (defined_name next.statement)) None) fault → IsDefining statements index old → IsFoundOrMemory (twice_fault statements) fault
 IsDefining-fault old statements index next fault inside is found was =
     let e = earlier_line-table old (take index statements) (defined_name next.statement) was.table in

@@ -1,11 +1,12 @@
 -- Entries as statements with their lines.
 use Rattle.std.proofs.Common.{◌≡◌, ◌∙◌, ℕ, ◌+◌, ◌<◌, ◌≤◌, List, length, take, get_or, sym, ap, arith}
 use Rattle.std.proofs.lemmas.List.{get_or-map, length-map}
+use Rattle.hz_line.specs.Statement.{Numbered}
 use Rattle.hz_bench.specs.declared.entry.Entry.{Entry}
 use Rattle.std.proofs.lemmas.List.Sums.{sum_by_more, sum_by_more_le}
 use Rattle.hz_bench.specs.Entry.{numbered_of, numbered_list}
-use Rattle.hz_bench.specs.Statement.{variables_in}
-use Rattle.hz_bench.specs.Text.{Numbered, statement_in, variables_among}
+use Rattle.hz_bench.specs.Statement.{Statement, variables_in}
+use Rattle.hz_bench.specs.Text.{statement_in, variables_among}
 
 pub numbered_inside : (entries : List Entry) (index : ℕ) → index < length entries → index < length (numbered_list entries)
 numbered_inside entries index inside = let same : length (numbered_list entries) ≡ length entries = length-map entries numbered_of in omega arith
@@ -21,9 +22,9 @@ pub record CountsMore (entries : List Entry) (index : ℕ) (entry : Entry) : Typ
 pub counts_more : (entries : List Entry) (index : ℕ) (entry : Entry) → index < length entries → entry ≡ get_or entries index entry → CountsMore entries index entry
 counts_more entries index entry inside is =
     let inside' = numbered_inside entries index inside in
-    let same = ap (λ (numbered : Numbered). variables_in numbered.statement) (numbered_at entries index entry inside is) in
-    let whole = sum_by_more_le (λ (numbered : Numbered). variables_in numbered.statement) (numbered_list entries) index (numbered_of entry) inside' in
+    let same = ap (λ (numbered : Numbered Statement). variables_in numbered.statement) (numbered_at entries index entry inside is) in
+    let whole = sum_by_more_le (λ (numbered : Numbered Statement). variables_in numbered.statement) (numbered_list entries) index (numbered_of entry) inside' in
     record {
-      next = sum_by_more (λ (numbered : Numbered). variables_in numbered.statement) (numbered_list entries) index (numbered_of entry) inside' ∙ ap (λ (n : ℕ). variables_among (take index (numbered_list entries)) + n) (sym same);
+      next = sum_by_more (λ (numbered : Numbered Statement). variables_in numbered.statement) (numbered_list entries) index (numbered_of entry) inside' ∙ ap (λ (n : ℕ). variables_among (take index (numbered_list entries)) + n) (sym same);
       fits = omega arith;
     }

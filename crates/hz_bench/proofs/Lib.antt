@@ -1,7 +1,14 @@
 pub mod BuildLemmas
+pub mod CheckedLemmas
 pub mod DefinitionLemmas
 pub mod EntryLemmas
+pub mod FaultLaws
+pub mod MayLemmas
 pub mod NetlistLemmas
 pub mod ParseLemmas
+pub mod PrintedCircuit
+pub mod PrintedFaults
 pub mod PrintedLemmas
+pub mod PrintedLines
+pub mod ReadLaws
 pub mod StatementLemmas

@@ -4,14 +4,15 @@ use Rattle.hz_core.specs.declared.kind.Kind.TheVariants.{And}
 use Rattle.std.proofs.lemmas.List.{set_at, get_or_at, append-nil}
 use Rattle.hz_core.specs.declared.kind.Kind.{Kind}
 use Rattle.hz_core.specs.Netlist as netlist
+use Rattle.hz_line.specs.Statement.{Numbered}
 use Rattle.hz_bench.specs.declared.entry.Entry.{Entry}
 use Rattle.hz_bench.specs.Built.{after_input, after_gate, after_pin, after_pins, after_output, nodes_of, connected, built}
 use Rattle.hz_bench.specs.Entry.{numbered_list, statement_list}
 use Rattle.hz_bench.specs.Netlist.{input_names, gate_names, output_names, node_names, number_in, kind_of_word, gates_of, add_once, netlist_of}
 use Rattle.hz_bench.specs.Statement.{Statement, Input, Output, Gate}
-use Rattle.hz_bench.specs.Text.{Numbered, statement_in}
+use Rattle.hz_bench.specs.Text.{statement_in}
 
-pub statement_list-numbered : (entries : List Entry) → map (λ (numbered : Numbered). numbered.statement) (numbered_list entries) ≡ statement_list entries
+pub statement_list-numbered : (entries : List Entry) → map (λ (numbered : Numbered Statement). numbered.statement) (numbered_list entries) ≡ statement_list entries
 statement_list-numbered [] = refl
 statement_list-numbered (entry ∷ rest) = ap (λ statements. statement_in entry.text.now ∷ statements) (statement_list-numbered rest)
 
@@ -26,7 +27,7 @@ inputs_added all (Output name ∷ rest) = inputs_added all rest
 inputs_added all (Gate name kind sources ∷ rest) = inputs_added all rest
 
 -- the gates without pins
-bare_gates : List Statement → List netlist.Gate
+unfoldable pub bare_gates : List Statement → List netlist.Gate
 bare_gates [] = []
 bare_gates (Input name ∷ rest) = bare_gates rest
 bare_gates (Output name ∷ rest) = bare_gates rest
@@ -40,10 +41,10 @@ gates_added all (Output name ∷ rest) = gates_added all rest
 gates_added all (Gate name kind sources ∷ rest) = gates_added (netlist.with_gate all name (kind_of_word kind)) rest ∙ rw (append_assoc, append_assoc) refl
 
 -- the circuit with these gates
-abbrev with_gates : netlist.Netlist → List netlist.Gate → netlist.Netlist
+abbrev pub with_gates : netlist.Netlist → List netlist.Gate → netlist.Netlist
 with_gates all gates = record all { gates = gates }
 
-pin_added : (all : netlist.Netlist) (number : ℕ) (done more : List netlist.Gate) (kind : Kind) (sources : List ℕ) (source : List ℕ) → number ≡ all.inputs + length done
+pub pin_added : (all : netlist.Netlist) (number : ℕ) (done more : List netlist.Gate) (kind : Kind) (sources : List ℕ) (source : List ℕ) → number ≡ all.inputs + length done
     → after_pin number (with_gates all (done ++ record { kind = kind; sources = sources } ∷ more)) source ≡ with_gates all (done ++ record { kind = kind; sources = sources ++ number_in all.names source ∷ [] } ∷ more)
 pin_added all number done more kind sources source place =
     let was : netlist.Gate = record { kind = kind; sources = sources } in
@@ -53,7 +54,7 @@ pin_added all number done more kind sources source place =
     ap (λ gate. with_gates all (set (done ++ was ∷ more) (number - all.inputs) (netlist.with_source gate (number_in all.names source)))) found
     ∙ ap (with_gates all) (set_at done was more will (number - all.inputs) here)
 
-pins_added : (all : netlist.Netlist) (number : ℕ) (done more : List netlist.Gate) (kind : Kind) (sources : List ℕ) (names : List (List ℕ)) → number ≡ all.inputs + length done
+pub pins_added : (all : netlist.Netlist) (number : ℕ) (done more : List netlist.Gate) (kind : Kind) (sources : List ℕ) (names : List (List ℕ)) → number ≡ all.inputs + length done
     → fold (after_pin number) (with_gates all (done ++ record { kind = kind; sources = sources } ∷ more)) names ≡ with_gates all (done ++ record { kind = kind; sources = sources ++ map (number_in all.names) names } ∷ more)
 pins_added all number done more kind sources [] place = rw append-nil refl
 pins_added all number done more kind sources (name ∷ names) place =
@@ -82,11 +83,21 @@ outputs_added all (Input name ∷ rest) = outputs_added all rest
 outputs_added all (Output name ∷ rest) = outputs_added (netlist.with_output all (number_in all.names name)) rest
 outputs_added all (Gate name kind sources ∷ rest) = outputs_added all rest
 
-pub built-netlist_of : (statements : List Statement) → built statements ≡ netlist_of statements
-unfolding bare_gates
-built-netlist_of statements =
+-- the inputs, and then the gates without pins
+pub nodes_of-is : (statements : List Statement) → (fold after_input netlist.empty_netlist statements ≡ record { names = input_names statements; inputs = length (input_names statements); gates = []; outputs = [] })
+    × (nodes_of statements ≡ record { names = node_names statements; inputs = length (input_names statements); gates = bare_gates statements; outputs = [] })
+nodes_of-is statements =
+    let added : netlist.Netlist = record { names = input_names statements; inputs = length (input_names statements); gates = []; outputs = [] } in
+    let inputs : fold after_input netlist.empty_netlist statements ≡ added = inputs_added netlist.empty_netlist statements ∙ rw (zero-add (length (input_names statements))) refl in
+    (inputs, ap (λ all. fold after_gate all statements) inputs ∙ gates_added added statements)
+
+-- and the gates with their pins
+pub connected-is : (statements : List Statement) → connected (nodes_of statements) statements ≡ record { names = node_names statements; inputs = length (input_names statements); gates = gates_of (node_names statements) statements; outputs = [] }
+connected-is statements =
     let base : netlist.Netlist = record { names = node_names statements; inputs = length (input_names statements); gates = bare_gates statements; outputs = [] } in
-    let inputs : fold after_input netlist.empty_netlist statements ≡ record { names = input_names statements; inputs = length (input_names statements); gates = []; outputs = [] } = inputs_added netlist.empty_netlist statements ∙ rw (zero-add (length (input_names statements))) refl in
-    let nodes : nodes_of statements ≡ base = ap (λ all. fold after_gate all statements) inputs ∙ gates_added (record { names = input_names statements; inputs = length (input_names statements); gates = []; outputs = [] }) statements in
-    let pins : connected base statements ≡ with_gates base (gates_of (node_names statements) statements) = gates_connected base (length (input_names statements)) [] statements (sym (add-zero (length (input_names statements)))) in
-    ap (λ all. fold after_output (connected all statements) statements) nodes ∙ ap (λ all. fold after_output all statements) pins ∙ outputs_added (with_gates base (gates_of (node_names statements) statements)) statements
+    ap (λ all. connected all statements) (nodes_of-is statements).1 ∙ gates_connected base (length (input_names statements)) [] statements (sym (add-zero (length (input_names statements))))
+
+pub built-netlist_of : (statements : List Statement) → built statements ≡ netlist_of statements
+built-netlist_of statements =
+    ap (λ all. fold after_output all statements) (connected-is statements)
+    ∙ outputs_added (record { names = node_names statements; inputs = length (input_names statements); gates = gates_of (node_names statements) statements; outputs = [] }) statements

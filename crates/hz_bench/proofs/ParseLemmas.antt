@@ -6,6 +6,7 @@ use Rattle.hz_line.specs.declared.tokens.Token.{Token}
 use Rattle.std.proofs.lemmas.List.Sums.{sum_by-append, sum_by-cons}
 use Rattle.hz_line.specs.declared.bytes.Mark.TheVariants.{Open, Close, Comma, Equals}
 use Rattle.hz_line.specs.Line.{lines_of, lines_of_rest, rest_length}
+use Rattle.hz_line.specs.Statement.{Nothing, Means, Numbered, with_meaning, meaning_by, meaning_of_tokens, numbered_from, malformed_before, first_malformed}
 use Rattle.hz_line.specs.Token.{TokenOf, WordOf, MarkOf, tokens_of, token_of}
 use Rattle.hz_line.proofs.TokenLemmas.{tokens_of-length}
 use Rattle.hz_bench.specs.declared.entry.Entry.{Entry}
@@ -13,15 +14,15 @@ use Rattle.hz_bench.specs.declared.forms.Form.{Form}
 use Rattle.hz_bench.specs.declared.forms.Form.TheVariants as form
 use Rattle.hz_bench.specs.declared.forms.KindWord.{KindWord}
 use Rattle.hz_bench.specs.Entry.{numbered_of, numbered_list}
-use Rattle.hz_bench.specs.Pass.{malformed_or, first_malformed, IsLineRead, IsParsed}
+use Rattle.hz_bench.specs.Pass.{IsLineRead, IsParsed}
 use Rattle.hz_bench.specs.Statement.{Statement, Input, Output, Gate, statement_of, names_of, port_form, port_of, kind_word_of, variables_in, words_of, sources_of}
-use Rattle.hz_bench.specs.Text.{Nothing, Means, Numbered, with_meaning, meaning_by, meaning_of, meaning_of_tokens, statement_in, numbered_from, numbered_statements, variables_of, variables_among}
+use Rattle.hz_bench.specs.Text.{meaning_of, statement_in, numbered_statements, variables_of, variables_among}
 use Rattle.hz_bench.proofs.StatementLemmas.{IsNameList-from_some, sources_of-port_of}
 
 -- what was read so far, before the rest of the text
 pub record IsParsing (text : List ℕ) (entries : List Entry) (line : ℕ) (left : Option (Bor (List ℕ))) : Type 0 where
-  pub done : numbered_list entries ++ numbered_from (suc line) (lines_of_rest left) ≡ numbered_statements text
-  pub formed : first_malformed (suc line) (lines_of_rest left) ≡ first_malformed 1 (lines_of text)
+  pub done : numbered_list entries ++ numbered_from statement_of (suc line) (lines_of_rest left) ≡ numbered_statements text
+  pub formed : first_malformed statement_of (suc line) (lines_of_rest left) ≡ first_malformed statement_of 1 (lines_of text)
   pub lines : line + rest_length left ≤ length text + 1
   pub variables : variables_among (numbered_list entries) + rest_length left ≤ length text + 1
 
@@ -83,7 +84,7 @@ found_weight : (tokens : List TokenOf) (found : Option Statement) (statement : S
 found_weight tokens None statement same h = cc
 found_weight tokens (Some found) statement same h = statement_weight tokens statement (cc (same, h))
 
-meaning_weight : (tokens : Option (List TokenOf)) (statement : Statement) (n : ℕ) → IfSome tokens (λ all. length all ≤ n) → meaning_of_tokens tokens ≡ Means statement → variables_in statement ≤ n
+meaning_weight : (tokens : Option (List TokenOf)) (statement : Statement) (n : ℕ) → IfSome tokens (λ all. length all ≤ n) → meaning_of_tokens statement_of tokens ≡ Means statement → variables_in statement ≤ n
 meaning_weight None statement n short h = cc
 meaning_weight (Some []) statement n short h = cc
 meaning_weight (Some (token ∷ tokens)) statement n short h =
@@ -97,8 +98,8 @@ pub IsParsing-nothing : (text : List ℕ) (entries : List Entry) (line : ℕ) (f
     → IsParsing text entries line (Some whole) → lines_of whole.now ≡ first ∷ lines_of_rest left → length first + rest_length left ≤ length whole.now → meaning_of first ≡ Nothing → IsParsing text entries (line + 1) left
 IsParsing-nothing text entries line first left whole was cut shorter meaning =
     record {
-      done = rw (add-one) (sym (ap (λ lines. numbered_list entries ++ numbered_from (suc line) lines) cut ∙ ap (λ means. numbered_list entries ++ with_meaning (suc line) means (numbered_from (suc (suc line)) (lines_of_rest left))) meaning) ∙ was.done);
-      formed = rw (add-one) (sym (ap (first_malformed (suc line)) cut ∙ ap (λ means. malformed_or (suc line) means (first_malformed (suc (suc line)) (lines_of_rest left))) meaning) ∙ was.formed);
+      done = rw (add-one) (sym (ap (λ lines. numbered_list entries ++ numbered_from statement_of (suc line) lines) cut ∙ ap (λ means. numbered_list entries ++ with_meaning (suc line) means (numbered_from statement_of (suc (suc line)) (lines_of_rest left))) meaning) ∙ was.done);
+      formed = rw (add-one) (sym (ap (first_malformed statement_of (suc line)) cut ∙ ap (λ means. malformed_before (suc line) means (first_malformed statement_of (suc (suc line)) (lines_of_rest left))) meaning) ∙ was.formed);
       lines = let l = was.lines in omega arith;
       variables = let v = was.variables in omega arith;
     }
@@ -109,15 +110,15 @@ meaning_read line first entry read = subst (λ (text : List ℕ). meaning_of tex
 numbered_read : (line : ℕ) (first : List ℕ) (entry : Entry) → IsLineRead (line + 1) first (Some entry) → numbered_of entry ≡ record { line = suc line; statement = statement_in first }
 numbered_read line first entry read = rw (read.0, read.1, add-one) refl
 
-variables-push : (statements : List Numbered) (last : Numbered) → variables_among (statements ++ last ∷ []) ≡ variables_among statements + variables_in last.statement
+variables-push : (statements : List (Numbered Statement)) (last : Numbered Statement) → variables_among (statements ++ last ∷ []) ≡ variables_among statements + variables_in last.statement
 variables-push statements last =
     let e : variables_among (statements ++ last ∷ []) ≡ variables_among statements + variables_among (last ∷ []) = sum_by-append _ statements (last ∷ []) in
     omega arith
 
-pub variables_of-statements : (statements : List Numbered) → variables_of (map (λ numbered. numbered.statement) statements) ≡ variables_among statements
+pub variables_of-statements : (statements : List (Numbered Statement)) → variables_of (map (λ numbered. numbered.statement) statements) ≡ variables_among statements
 variables_of-statements [] = refl
 variables_of-statements (first ∷ rest) =
-    sum_by-cons variables_in first.statement (map (λ (numbered : Numbered). numbered.statement) rest) ∙ ap (λ n. variables_in first.statement + n) (variables_of-statements rest) ∙ sym (sum_by-cons (λ (numbered : Numbered). variables_in numbered.statement) first rest)
+    sum_by-cons variables_in first.statement (map (λ (numbered : Numbered Statement). numbered.statement) rest) ∙ ap (λ n. variables_in first.statement + n) (variables_of-statements rest) ∙ sym (sum_by-cons (λ (numbered : Numbered Statement). variables_in numbered.statement) first rest)
 
 -- the whole text was read
 pub IsParsed-end : (text : List ℕ) (entries : List Entry) (line : ℕ) → IsParsing text entries line None → IsParsed text entries
@@ -136,10 +137,10 @@ IsParsing-statement text entries entry line first left whole was cut shorter rea
     let meaning = meaning_read line first entry read in
     let same = numbered_read line first entry read in
     let weight = line_weight first (statement_in first) meaning in
-    let more : variables_among (numbered_list (entries ++ entry ∷ [])) ≡ variables_among (numbered_list entries) + variables_in (statement_in first) = ap variables_among (map_push numbered_of entries entry ∙ ap (λ (last : Numbered). numbered_list entries ++ last ∷ []) same) ∙ variables-push (numbered_list entries) (record { line = suc line; statement = statement_in first }) in
+    let more : variables_among (numbered_list (entries ++ entry ∷ [])) ≡ variables_among (numbered_list entries) + variables_in (statement_in first) = ap variables_among (map_push numbered_of entries entry ∙ ap (λ (last : Numbered Statement). numbered_list entries ++ last ∷ []) same) ∙ variables-push (numbered_list entries) (record { line = suc line; statement = statement_in first }) in
     record {
-      done = rw (map_push, same, append_assoc, add-one) (sym (ap (λ lines. numbered_list entries ++ numbered_from (suc line) lines) cut ∙ ap (λ means. numbered_list entries ++ with_meaning (suc line) means (numbered_from (suc (suc line)) (lines_of_rest left))) meaning) ∙ was.done);
-      formed = rw (add-one) (sym (ap (first_malformed (suc line)) cut ∙ ap (λ means. malformed_or (suc line) means (first_malformed (suc (suc line)) (lines_of_rest left))) meaning) ∙ was.formed);
+      done = rw (map_push, same, append_assoc, add-one) (sym (ap (λ lines. numbered_list entries ++ numbered_from statement_of (suc line) lines) cut ∙ ap (λ means. numbered_list entries ++ with_meaning (suc line) means (numbered_from statement_of (suc (suc line)) (lines_of_rest left))) meaning) ∙ was.done);
+      formed = rw (add-one) (sym (ap (first_malformed statement_of (suc line)) cut ∙ ap (λ means. malformed_before (suc line) means (first_malformed statement_of (suc (suc line)) (lines_of_rest left))) meaning) ∙ was.formed);
       lines = let l = was.lines in omega arith;
       variables = let v = was.variables in omega arith;
     }
@@ -196,7 +197,7 @@ sources_found : (tokens : List TokenOf) (found : Option Statement) (statement : 
 sources_found tokens None statement same h = cc
 sources_found tokens (Some found) statement same h = sources_in tokens statement (cc (same, h))
 
-sources_meant : (tokens : Option (List TokenOf)) (read : List TokenOf) (statement : Statement) → tokens ≡ Some read → meaning_of_tokens tokens ≡ Means statement → HasSources read statement
+sources_meant : (tokens : Option (List TokenOf)) (read : List TokenOf) (statement : Statement) → tokens ≡ Some read → meaning_of_tokens statement_of tokens ≡ Means statement → HasSources read statement
 sources_meant None read statement e h = cc
 sources_meant (Some []) read statement e h = cc
 sources_meant (Some (token ∷ tokens)) read statement e h = let same : token ∷ tokens ≡ read = cc in subst (λ (all : List TokenOf). HasSources all statement) same (sources_found (token ∷ tokens) (statement_of (token ∷ tokens)) statement refl h)

@@ -4,14 +4,15 @@ use Rattle.std.proofs.lemmas.List.{length-map}
 use Rattle.std.proofs.lemmas.Bool.Decides.{nat_tests}
 use Rattle.hz_line.specs.declared.bytes.Mark.TheVariants.{Open, Close, Comma, Equals}
 use Rattle.hz_line.specs.Keyword.{is_keyword}
+use Rattle.hz_line.specs.Statement.{Means, meaning_of_tokens}
 use Rattle.hz_line.specs.Token.{TokenOf, WordOf, MarkOf, tokens_of, token_of, AreWords}
 use Rattle.hz_line.proofs.TokenLemmas.{tokens_of-AreWords}
 use Rattle.hz_bench.specs.declared.forms.Form.{Form}
 use Rattle.hz_bench.specs.declared.forms.Form.TheVariants as form
 use Rattle.hz_bench.specs.declared.statement.Head.{Head}
 use Rattle.hz_bench.specs.Head.{head_tokens}
-use Rattle.hz_bench.specs.Statement.{Statement, Gate, names_of, words_of, port_form, port_of, form_of, name_of, sources_of, kind_word_of, has_long_name, is_long}
-use Rattle.hz_bench.specs.Text.{Means, meaning_of, meaning_of_tokens, statement_in, statement_meant}
+use Rattle.hz_bench.specs.Statement.{Statement, Gate, statement_of, names_of, words_of, port_form, port_of, form_of, name_of, sources_of, kind_word_of, has_long_name, is_long}
+use Rattle.hz_bench.specs.Text.{meaning_of, statement_in, statement_meant}
 
 -- a line means its statement
 pub record IsMeant (text : List ℕ) (statement : Statement) : Type 0 where
@@ -66,7 +67,7 @@ no_more (x ∷ xs) h = absurd (grind (arith, nat_tests))
 pub port_meant : (text : List ℕ) (head : Head) (made : Form) → tokens_of text ≡ Some (head_tokens head) → head.mark ≡ Open → head.next ≡ Close → (length head.rest.now == 0) ≡ true → port_form head.first.now ≡ Some made → IsMeant text (port_of head.second.now made)
 port_meant text head made tokens opened closed none port =
     let rest = no_more head.rest.now none in
-    IsMeant-from_meaning text _ (ap meaning_of_tokens tokens ∙ rw (opened, closed, rest, port) refl)
+    IsMeant-from_meaning text _ (ap (meaning_of_tokens statement_of) tokens ∙ rw (opened, closed, rest, port) refl)
 
 -- a list of names in words
 pub record IsNameList (tokens : List TokenOf) : Type 0 where
@@ -97,7 +98,7 @@ IsNameList-from_some (WordOf name ∷ MarkOf Comma ∷ rest) h =
 pub gate_meant : (text : List ℕ) (head : Head) → tokens_of text ≡ Some (head_tokens head) → head.mark ≡ Equals → head.next ≡ Open → is_some (names_of (map token_of head.rest.now)) ≡ true → IsMeant text (Gate head.first.now (kind_word_of head.second.now) (words_of (map token_of head.rest.now)))
 gate_meant text head tokens equals opened names =
     let list = IsNameList-from_some (map token_of head.rest.now) names in
-    IsMeant-from_meaning text _ (ap meaning_of_tokens tokens ∙ rw (equals, opened, list.words) refl)
+    IsMeant-from_meaning text _ (ap (meaning_of_tokens statement_of) tokens ∙ rw (equals, opened, list.words) refl)
 
 -- half of a list of names is its names
 pub half-words : (head : Head) → is_some (names_of (map token_of head.rest.now)) ≡ true → length head.rest.now / 2 ≡ length (words_of (map token_of head.rest.now))

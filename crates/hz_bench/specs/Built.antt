@@ -1,9 +1,9 @@
 -- A circuit that is built statement by statement: inputs, gates, pins, outputs.
-use Rattle.std.specs.Prelude.{◌≡◌, ℕ, suc, ◌<◌, List, length, fold, None}
+use Rattle.std.specs.Prelude.{◌≡◌, ℕ, suc, ◌<◌, false, List, [], ◌∷◌, length, fold, None, IsSome}
 use Rattle.hz_core.specs.declared.circuit.TheConstants.{MAX_VARIABLES}
-use Rattle.hz_core.specs.Netlist.{Netlist, IsName, empty_netlist, with_input, with_gate, with_pin, with_output, node_named, variable_count, IsGateNumber, gate_at, most_pins}
+use Rattle.hz_core.specs.Netlist.{Netlist, empty_netlist, with_input, with_gate, with_pin, with_output, node_named, variable_count, IsGateNumber, gate_at, most_pins}
 use Rattle.hz_bench.specs.Netlist.{kind_of_word, number_in}
-use Rattle.hz_bench.specs.Statement.{Statement, Input, Output, Gate}
+use Rattle.hz_bench.specs.Statement.{Statement, Input, Output, Gate, is_long}
 
 -- the input of a statement, if it is one
 abbrev pub after_input : Netlist → Statement → Netlist
@@ -50,14 +50,52 @@ connected netlist statements = (fold after_pins (record { netlist = netlist; gat
 abbrev pub built : List Statement → Netlist
 built statements = fold after_output (connected (nodes_of statements) statements) statements
 
+-- each step may be taken, from where the earlier ones lead
+abbrev pub MaySteps : {A B : Type 0} → (A → B → Type 0) → (A → B → A) → A → List B → Type 0
+MaySteps May step now [] = Unit {0}
+MaySteps May step now (first ∷ rest) = May now first × MaySteps May step (step now first) rest
+
 -- a node with this name may be added
 pub record MayAdd (netlist : Netlist) (name : List ℕ) : Type 0 where
-  pub name_is : IsName name
+  pub short : is_long name ≡ false
   pub fresh : node_named netlist name ≡ None
   pub room : variable_count netlist < MAX_VARIABLES
 
--- the gate is one, and may have a pin more
-pub record HasPinLeft (netlist : Netlist) (gate : ℕ) : Type 0 where
+-- the input of a statement may be added, if it is one: inputs come before gates
+abbrev pub MayInput : Netlist → Statement → Type 0
+MayInput netlist (Input name) = MayAdd netlist name × (netlist.gates ≡ [])
+MayInput netlist (Output name) = Unit {0}
+MayInput netlist (Gate name kind sources) = Unit {0}
+
+-- the gate of a statement may be added, if it is one
+abbrev pub MayGate : Netlist → Statement → Type 0
+MayGate netlist (Input name) = Unit {0}
+MayGate netlist (Output name) = Unit {0}
+MayGate netlist (Gate name kind sources) = MayAdd netlist name
+
+-- the gate may have a pin more, which reads the node with a name
+pub record MayPin (gate : ℕ) (netlist : Netlist) (source : List ℕ) : Type 0 where
   pub gate_is : IsGateNumber netlist gate
+  pub source_is : IsSome (node_named netlist source)
   pub pins : length (gate_at netlist gate).sources < most_pins (gate_at netlist gate).kind
   pub room : variable_count netlist < MAX_VARIABLES
+
+-- the pins of a statement may be added, if it is a gate
+abbrev pub MayPins : Connecting → Statement → Type 0
+MayPins now (Input name) = Unit {0}
+MayPins now (Output name) = Unit {0}
+MayPins now (Gate name kind sources) =
+    (now.gate < MAX_VARIABLES) × MaySteps (MayPin now.gate) (after_pin now.gate) now.netlist sources
+
+-- the output of a statement may be added, if it is one
+abbrev pub MayOutput : Netlist → Statement → Type 0
+MayOutput netlist (Input name) = Unit {0}
+MayOutput netlist (Output name) = IsSome (node_named netlist name)
+MayOutput netlist (Gate name kind sources) = Unit {0}
+
+-- the circuit of statements may be built, step by step
+pub record MayBuild (statements : List Statement) : Type 0 where
+  pub inputs : MaySteps MayInput after_input empty_netlist statements
+  pub gates : MaySteps MayGate after_gate (fold after_input empty_netlist statements) statements
+  pub pins : MaySteps MayPins after_pins (record { netlist = nodes_of statements; gate = (nodes_of statements).inputs }) statements
+  pub outputs : MaySteps MayOutput after_output (connected (nodes_of statements) statements) statements

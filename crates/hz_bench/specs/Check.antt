@@ -1,11 +1,12 @@
 -- The checks of single statements.
-use Rattle.std.specs.Prelude.{ℕ, Bool, not, nat_lt, List, [], ◌∷◌, length, Option, Some, None, is_some, if◌then◌else◌}
+use Rattle.std.specs.Prelude.{ℕ, Bool, not, nat_lt, List, length, find, Option, Some, None, is_some, if◌then◌else◌}
 use Rattle.std.specs.List.{list_any}
+use Rattle.hz_line.specs.Statement.{Numbered}
 use Rattle.hz_bench.specs.declared.checks.Check.{Check}
 use Rattle.hz_bench.specs.declared.checks.Check.TheVariants.{LongName, UnknownKind, ClockedKind, WrongPins}
 use Rattle.hz_bench.specs.Definition.{definer}
 use Rattle.hz_bench.specs.Statement.{Statement, form_of, sources_of, used_names, has_long_name, is_unknown, is_clocked, refuses_pins}
-use Rattle.hz_bench.specs.Text.{Numbered, variables_among}
+use Rattle.hz_bench.specs.Text.{variables_among}
 use Rattle.hz_bench.specs.Twice.{twice_fault}
 use Rattle.hz_core.specs.declared.circuit.TheConstants.{MAX_VARIABLES}
 use Rattle.hz_bench.specs.declared.fault.BenchFault.{BenchFault}
@@ -35,16 +36,15 @@ fails ClockedKind statement = has_clocked_kind statement
 fails WrongPins statement = has_wrong_pins statement
 
 -- the statement uses a name that none of these defines
-abbrev pub uses_undefined : List Numbered → Statement → Bool
+abbrev pub uses_undefined : List (Numbered Statement) → Statement → Bool
 uses_undefined statements statement = list_any (λ name. not (is_some (definer statements name))) (used_names statement)
 
 -- the first statement that passes a test
-abbrev pub first_that : (Statement → Bool) → List Numbered → Option Numbered
-first_that test [] = None
-first_that test (first ∷ rest) = if test first.statement then Some first else first_that test rest
+abbrev pub first_that : (Statement → Bool) → List (Numbered Statement) → Option (Numbered Statement)
+first_that test statements = find (λ numbered. test numbered.statement) statements
 
 -- the fault of a statement that was found, before others
-abbrev pub fault_or : (Numbered → BenchFault) → Option Numbered → Option BenchFault → Option BenchFault
+abbrev pub fault_or : (Numbered Statement → BenchFault) → Option (Numbered Statement) → Option BenchFault → Option BenchFault
 fault_or fault None later = later
 fault_or fault (Some found) later = Some (fault found)
 
@@ -58,7 +58,7 @@ abbrev pub too_many : ℕ → Option BenchFault
 too_many variables = if nat_lt MAX_VARIABLES variables then Some (fault.TooMany variables) else None
 
 -- the fault of statements, none of which is malformed: the least number and, of this number, the first line
-abbrev pub first_fault : List Numbered → Option BenchFault
+abbrev pub first_fault : List (Numbered Statement) → Option BenchFault
 first_fault statements =
     fault_or (λ found. fault.Name found.line) (first_that has_long_name statements)
     (fault_or (λ found. fault.KindUnknown found.line) (first_that has_unknown_kind statements)

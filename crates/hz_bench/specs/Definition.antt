@@ -1,27 +1,30 @@
 -- Which line defines a name.
-use Rattle.std.specs.Prelude.{◌≡◌, ℕ, Bool, false, List, [], ◌∷◌, Option, Some, None, if◌then◌else◌}
+use Rattle.std.specs.Prelude.{◌≡◌, ℕ, Bool, false, List, Option, Some, None, if◌then◌else◌}
 use Rattle.std.specs.Str.{bytes_eq}
 use Rattle.std.specs.Borrow.{Bor}
 use Rattle.std.specs.HashMap.{HashMap, get_by}
-use Rattle.hz_bench.specs.Statement.{defined_name}
-use Rattle.hz_bench.specs.Text.{Numbered}
+use Rattle.hz_line.specs.Statement.{Numbered, first_line}
+use Rattle.hz_bench.specs.Statement.{Statement, defined_name}
 
 -- the name is the one that is defined, if one is
 abbrev pub is_that : List ℕ → Option (List ℕ) → Bool
 is_that name None = false
 is_that name (Some defined) = bytes_eq defined name
 
+-- the statement defines the name
+abbrev pub defines : List ℕ → Statement → Bool
+defines name statement = is_that name (defined_name statement)
+
 -- the line of the first statement that defines the name
-abbrev pub definer : List Numbered → List ℕ → Option ℕ
-definer [] name = None
-definer (first ∷ rest) name = if is_that name (defined_name first.statement) then Some first.line else definer rest name
+abbrev pub definer : List (Numbered Statement) → List ℕ → Option ℕ
+definer statements name = first_line (defines name) statements
 
 -- the line that a table has for a name
 abbrev pub line_for : {S : Type 0} → HashMap (Bor (List ℕ)) ℕ S → List ℕ → Option ℕ
 line_for table name = get_by (λ key. bytes_eq name key.now) table
 
 -- the table has the line of each name that the statements define
-abbrev pub IsTableOf : {S : Type 0} → List Numbered → HashMap (Bor (List ℕ)) ℕ S → Type 0
+abbrev pub IsTableOf : {S : Type 0} → List (Numbered Statement) → HashMap (Bor (List ℕ)) ℕ S → Type 0
 IsTableOf statements table = (name : List ℕ) → line_for table name ≡ definer statements name
 
 -- the line of the defined name is put into a table that has none for it; without a defined name the table stays

@@ -1,11 +1,11 @@
 -- Exactly when each fault stands in a text, and which of several is the answer.
 use Rattle.std.specs.Prelude.{◌≡◌, ℕ, ◌<◌, ◌≤◌, ◌⊎◌, Bool, true, List, Some, Contains}
-use Rattle.hz_core.specs.declared.circuit.TheConstants.{MAX_VARIABLES}
+use Rattle.hz_line.specs.Statement.{Malformed, Means}
 use Rattle.hz_bench.specs.declared.fault.BenchFault.{BenchFault}
 use Rattle.hz_bench.specs.declared.fault.BenchFault.TheVariants.{Form, Name, KindUnknown, Clocked, Twice, Pins, Undefined, TooMany, Memory}
 use Rattle.hz_bench.specs.Check.{has_unknown_kind, has_clocked_kind, has_wrong_pins, pin_count}
 use Rattle.hz_bench.specs.Statement.{Statement, defined_name, used_names, has_long_name}
-use Rattle.hz_bench.specs.Text.{Malformed, Means, meaning_at, statements_of, variables_of}
+use Rattle.hz_bench.specs.Text.{meaning_at, statements_of, variables_of}
 
 -- the line has a statement
 abbrev pub States : List ℕ → ℕ → Statement → Type 0
@@ -39,7 +39,7 @@ Stands text (Clocked line) = HasThat has_clocked_kind text line
 Stands text (Twice line first) = (name : List ℕ) × IsSecond text line first name
 Stands text (Pins line count) = (statement : Statement) × States text line statement × (has_wrong_pins statement ≡ true) × (pin_count statement ≡ count)
 Stands text (Undefined line) = (name : List ℕ) × Uses text line name × ((other : ℕ) → ¬ Defines text other name)
-Stands text (TooMany variables) = (MAX_VARIABLES < variables) × (variables_of (statements_of text) ≡ variables)
+Stands text (TooMany variables) = (200000 < variables) × (variables_of (statements_of text) ≡ variables)
 Stands text Memory = ⊥
 
 -- the number of a fault
@@ -74,6 +74,10 @@ ComesFirst fault other = (number_of fault < number_of other) ⊎ ((number_of fau
 pub record IsLeastFault (text : List ℕ) (fault : BenchFault) : Type 0 where
   pub stands : Stands text fault
   pub least : (other : BenchFault) → Stands text other → ComesFirst fault other
+
+-- no fault stands in the text
+abbrev pub IsFaultless : List ℕ → Type 0
+IsFaultless text = (fault : BenchFault) → ¬ Stands text fault
 
 -- what is answered in place of a circuit: the least fault, or that memory ran out
 abbrev pub IsAnswer : List ℕ → BenchFault → Type 0

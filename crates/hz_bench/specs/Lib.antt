@@ -9,5 +9,4 @@ pub mod Check
 pub mod Fault
 pub mod Netlist
 pub mod Built
-pub mod Answer
 pub mod Printed

@@ -1,22 +1,17 @@
 -- What the passes over a text find.
-use Rattle.std.specs.Prelude.{◌≡◌, ℕ, suc, ◌+◌, ◌≤◌, List, [], ◌∷◌, length, Option, Some, None}
+use Rattle.std.specs.Prelude.{◌≡◌, ℕ, ◌+◌, ◌≤◌, List, length, Option, Some, None}
 use Rattle.hz_line.specs.Line.{lines_of}
+use Rattle.hz_line.specs.Statement.{Nothing, Malformed, first_malformed}
+use Rattle.hz_core.specs.Netlist.{IsWhole}
 use Rattle.hz_bench.specs.declared.entry.Entry.{Entry}
 use Rattle.hz_bench.specs.declared.fault.BenchFault.{BenchFault}
 use Rattle.hz_bench.specs.declared.fault.BenchFault.TheVariants.{Form, Name, KindUnknown, Clocked, Twice, Pins, Undefined, TooMany, Memory}
-use Rattle.hz_bench.specs.Entry.{numbered_list}
-use Rattle.hz_bench.specs.Text.{Meaning, Nothing, Malformed, Means, meaning_of, numbered_statements, statements_of, variables_of}
-
--- this line, if it is malformed, before one of later lines
-abbrev pub malformed_or : ℕ → Meaning → Option ℕ → Option ℕ
-malformed_or line Nothing later = later
-malformed_or line Malformed later = Some line
-malformed_or line (Means statement) later = later
-
--- the first malformed line, where the first line has this number
-abbrev pub first_malformed : ℕ → List (List ℕ) → Option ℕ
-first_malformed line [] = None
-first_malformed line (first ∷ rest) = malformed_or line (meaning_of first) (first_malformed (suc line) rest)
+use Rattle.hz_bench.specs.Built.{MayBuild}
+use Rattle.hz_bench.specs.Entry.{numbered_list, statement_list}
+use Rattle.hz_bench.specs.Fault.{IsFaultless}
+use Rattle.hz_bench.specs.Netlist.{netlist_of}
+use Rattle.hz_bench.specs.Statement.{statement_of}
+use Rattle.hz_bench.specs.Text.{meaning_of, numbered_statements, statements_of, variables_of}
 
 -- what is read of a line: nothing, or its statement
 abbrev pub IsLineRead : ℕ → List ℕ → Option Entry → Type 0
@@ -38,12 +33,12 @@ IsLineFault line text Memory = Unit {0}
 -- the entries are the statements of a text without a malformed line
 pub record IsParsed (text : List ℕ) (entries : List Entry) : Type 0 where
   pub statements : numbered_list entries ≡ numbered_statements text
-  pub formed : first_malformed 1 (lines_of text) ≡ None
+  pub formed : first_malformed statement_of 1 (lines_of text) ≡ None
   pub fits : variables_of (statements_of text) ≤ length text + 1
 
 -- the fault of the first malformed line
 abbrev pub IsParseFault : List ℕ → BenchFault → Type 0
-IsParseFault text (Form at) = first_malformed 1 (lines_of text) ≡ Some at
+IsParseFault text (Form at) = first_malformed statement_of 1 (lines_of text) ≡ Some at
 IsParseFault text (Name at) = ⊥
 IsParseFault text (KindUnknown at) = ⊥
 IsParseFault text (Clocked at) = ⊥
@@ -52,3 +47,10 @@ IsParseFault text (Pins at count) = ⊥
 IsParseFault text (Undefined at) = ⊥
 IsParseFault text (TooMany variables) = ⊥
 IsParseFault text Memory = Unit {0}
+
+-- the entries are the statements of a text in which no fault stands; their circuit may be built, and is whole
+pub record IsAccepted (text : List ℕ) (entries : List Entry) : Type 0 where
+  pub statements : statement_list entries ≡ statements_of text
+  pub faultless : IsFaultless text
+  pub may : MayBuild (statement_list entries)
+  pub whole : IsWhole (netlist_of (statements_of text))

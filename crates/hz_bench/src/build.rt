@@ -1,9 +1,8 @@
 // The circuit of the statements.
 
 ghost use Rattle.std.specs.Prelude.{◌≡◌, [], ◌∷◌, IfOk, OnOk, length, map, fold, take};
-ghost use Rattle.std.specs.Bool.{OnTrue};
 ghost use Rattle.hz_line.specs.Token.{token_of};
-ghost use Rattle.hz_bench.specs.Built.{after_input, after_gate, after_pin, after_pins, after_output, built, connected, HasPinLeft, MayAdd};
+ghost use Rattle.hz_bench.specs.Built.{after_input, after_gate, after_pin, after_pins, after_output, built, connected, MayBuild, MayGate, MayInput, MayOutput, MayPin, MayPins, MaySteps};
 ghost use Rattle.hz_bench.specs.Entry.{statement_list};
 ghost use Rattle.hz_bench.specs.Statement.{words_of};
 ghost use Rattle.hz_bench.specs.Text.{statement_in};
@@ -12,12 +11,13 @@ ghost use Rattle.hz_bench.specs.Netlist.{kind_of_word};
 use crate::entry::Entry;
 use crate::forms::{Form, KindWord};
 use crate::uses::read_sources;
-use hz_core::{Circuit, Kind, MAX_VARIABLES, Memory};
+use hz_core::{Circuit, Kind, Memory};
 use hz_line::Token;
 use std::alloc::Global;
 
 /// The circuit of the statements.
 pub(crate) fn build(alloc: Global, entries: &[Entry]) -> Result<Circuit, Memory>
+    requires { MayBuild (statement_list entries.now) }
     ensures { IfOk result (λ circuit. circuit ≡ built (statement_list entries.now)) }
 {
     let mut circuit = Circuit::new(alloc);
@@ -30,6 +30,7 @@ pub(crate) fn build(alloc: Global, entries: &[Entry]) -> Result<Circuit, Memory>
 
 // Adds the inputs.
 fn add_inputs(circuit: &mut Circuit, entries: &[Entry]) -> Result<(), Memory>
+    requires { MaySteps MayInput after_input circuit.old (statement_list entries.now) }
     ensures { OnOk result (circuit.new ≡ fold after_input circuit.old (statement_list entries.now)) }
 {
     for entry in entries {
@@ -43,13 +44,11 @@ fn add_inputs(circuit: &mut Circuit, entries: &[Entry]) -> Result<(), Memory>
 
 // Adds the input of a statement, if it is one.
 fn add_input(circuit: &mut Circuit, entry: &Entry) -> Result<(), Memory>
+    requires { MayInput circuit.old (statement_in entry.now.text.now) }
     ensures { OnOk result (circuit.new ≡ after_input circuit.old (statement_in entry.now.text.now)) }
 {
     match entry.form {
         Form::Input => {
-            if !may_add(circuit, entry) || circuit.nodes() != circuit.inputs() {
-                return Err(Memory);
-            }
             circuit.add_input(entry.name)?;
             Ok(())
         }
@@ -57,18 +56,9 @@ fn add_input(circuit: &mut Circuit, entry: &Entry) -> Result<(), Memory>
     }
 }
 
-// Whether a node with the name of a statement may be added.
-fn may_add(circuit: &Circuit, entry: &Entry) -> bool
-    ensures { OnTrue result (MayAdd circuit.now entry.now.name.now) }
-{
-    if entry.long || circuit.variables() >= MAX_VARIABLES {
-        return false;
-    }
-    circuit.find(entry.name).is_none()
-}
-
 // Adds the gates, without pins.
 fn add_gates(circuit: &mut Circuit, entries: &[Entry]) -> Result<(), Memory>
+    requires { MaySteps MayGate after_gate circuit.old (statement_list entries.now) }
     ensures { OnOk result (circuit.new ≡ fold after_gate circuit.old (statement_list entries.now)) }
 {
     for entry in entries {
@@ -82,13 +72,11 @@ fn add_gates(circuit: &mut Circuit, entries: &[Entry]) -> Result<(), Memory>
 
 // Adds the gate of a statement, if it is one.
 fn add_gate(circuit: &mut Circuit, entry: &Entry) -> Result<(), Memory>
+    requires { MayGate circuit.old (statement_in entry.now.text.now) }
     ensures { OnOk result (circuit.new ≡ after_gate circuit.old (statement_in entry.now.text.now)) }
 {
     match entry.form {
         Form::Gate(word) => {
-            if !may_add(circuit, entry) {
-                return Err(Memory);
-            }
             circuit.add_gate(entry.name, kind_of(word))?;
             Ok(())
         }
@@ -108,15 +96,13 @@ fn kind_of(word: KindWord) -> Kind
 
 // Connects the pins of the gates.
 fn connect_gates(alloc: Global, circuit: &mut Circuit, entries: &[Entry]) -> Result<(), Memory>
+    requires { MaySteps MayPins after_pins (record { netlist = circuit.old; gate = circuit.old.inputs }) (statement_list entries.now) }
     ensures { OnOk result (circuit.new ≡ connected circuit.old (statement_list entries.now)) }
 {
     let mut tokens = Vec::new(alloc);
     let mut gate = circuit.inputs();
     for entry in entries {
         if let Form::Gate(_) = entry.form {
-            if gate >= circuit.nodes() {
-                return Err(Memory);
-            }
             let Ok(sources) = read_sources(entry, &mut tokens) else {
                 return Err(Memory);
             };
@@ -131,6 +117,7 @@ fn connect_gates(alloc: Global, circuit: &mut Circuit, entries: &[Entry]) -> Res
 
 // Connects the pins of a gate to the nodes with these names.
 fn connect_gate(circuit: &mut Circuit, gate: u32, sources: &[Token]) -> Result<(), Memory>
+    requires { MaySteps (MayPin gate) (after_pin gate) circuit.old (words_of (map token_of sources.now)) }
     ensures { OnOk result (circuit.new ≡ fold (after_pin gate) circuit.old (words_of (map token_of sources.now))) }
 {
     for token in sources {
@@ -144,6 +131,7 @@ fn connect_gate(circuit: &mut Circuit, gate: u32, sources: &[Token]) -> Result<(
 
 // Connects a pin, if the token is a name.
 fn connect_token(circuit: &mut Circuit, gate: u32, token: &Token) -> Result<(), Memory>
+    requires { MaySteps (MayPin gate) (after_pin gate) circuit.old (words_of (token_of token.now ∷ [])) }
     ensures { OnOk result (circuit.new ≡ fold (after_pin gate) circuit.old (words_of (token_of token.now ∷ []))) }
 {
     match token {
@@ -154,30 +142,16 @@ fn connect_token(circuit: &mut Circuit, gate: u32, token: &Token) -> Result<(), 
 
 // Connects a pin to the node with a name.
 fn connect_pin(circuit: &mut Circuit, gate: u32, source: &[u8]) -> Result<(), Memory>
+    requires { MayPin gate circuit.old source.now }
     ensures { OnOk result (circuit.new ≡ after_pin gate circuit.old source.now) }
 {
-    let Some(node) = circuit.find(source) else {
-        return Err(Memory);
-    };
-    if !has_pin_left(circuit, gate) {
-        return Err(Memory);
-    }
+    let node = circuit.find(source).unwrap();
     circuit.connect(gate, node)
-}
-
-// Whether the gate may have a pin more.
-fn has_pin_left(circuit: &Circuit, gate: u32) -> bool
-    ensures { OnTrue result (HasPinLeft circuit.now gate) }
-{
-    if gate < circuit.inputs() || gate >= circuit.nodes() || circuit.variables() >= MAX_VARIABLES {
-        return false;
-    }
-    let pins = circuit.sources(gate).len();
-    pins < 256 && circuit.kind(gate).takes(pins + 1)
 }
 
 // Adds the outputs.
 fn add_outputs(circuit: &mut Circuit, entries: &[Entry]) -> Result<(), Memory>
+    requires { MaySteps MayOutput after_output circuit.old (statement_list entries.now) }
     ensures { OnOk result (circuit.new ≡ fold after_output circuit.old (statement_list entries.now)) }
 {
     for entry in entries {
@@ -191,13 +165,12 @@ fn add_outputs(circuit: &mut Circuit, entries: &[Entry]) -> Result<(), Memory>
 
 // Makes the node that a statement names an output, if the statement is one.
 fn add_output(circuit: &mut Circuit, entry: &Entry) -> Result<(), Memory>
+    requires { MayOutput circuit.old (statement_in entry.now.text.now) }
     ensures { OnOk result (circuit.new ≡ after_output circuit.old (statement_in entry.now.text.now)) }
 {
     match entry.form {
         Form::Output => {
-            let Some(node) = circuit.find(entry.name) else {
-                return Err(Memory);
-            };
+            let node = circuit.find(entry.name).unwrap();
             circuit.add_output(node)
         }
         Form::Input | Form::Gate(_) => Ok(()),

@@ -1,9 +1,10 @@
 // A statement of the text, as the passes over the statements read it.
 
 ghost use Rattle.std.specs.Prelude.{◌≡◌, ◌<◌, ◌^◌, length};
+ghost use Rattle.hz_line.specs.Statement.{Means};
 ghost use Rattle.hz_line.specs.Token.{IsWord};
 ghost use Rattle.hz_bench.specs.Statement.{name_of, form_of, sources_of, has_long_name};
-ghost use Rattle.hz_bench.specs.Text.{Means, meaning_of, statement_in};
+ghost use Rattle.hz_bench.specs.Text.{meaning_of, statement_in};
 
 use crate::forms::Form;
 

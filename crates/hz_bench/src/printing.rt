@@ -1,6 +1,9 @@
 // Printing a circuit.
 
 ghost use Rattle.std.specs.Prelude.{◌≡◌, ◌++◌, ◌<◌, All, IfOk, OnOk, codes, length, map, take};
+ghost use Rattle.hz_bench.specs.Fault.{IsFaultless};
+ghost use Rattle.hz_bench.specs.Netlist.{netlist_of};
+ghost use Rattle.hz_bench.specs.Text.{statements_of};
 ghost use Rattle.hz_core.specs.Netlist.{IsCircuit, IsGateNumber, IsWhole, gate_at};
 ghost use Rattle.hz_bench.specs.Printed.{gate_head, gate_line, gate_lines, kind_name, more_sources, name_at, port_line, port_lines, printed, source_list};
 
@@ -8,11 +11,14 @@ use hz_core::{Circuit, Kind, Memory};
 use std::alloc::Global;
 
 /// Prints a circuit in the .bench format: first the inputs, then the outputs, then the gates, a line each, each in order,
-/// kinds in capitals and the buffer as `BUFF`, each line ended by a line feed.
+/// kinds in capitals and the buffer as `BUFF`, each line ended by a line feed. Where the text has at most 16,777,216 bytes,
+/// [`crate::read`] gives the circuit back.
 #[tactic(auto, unfolding(crate::specs::Printed::printed))]
 pub fn print(alloc: Global, circuit: &Circuit) -> Result<Vec<u8>, Memory>
     requires { IsWhole circuit.now }
-    ensures { IfOk result (λ text. text.items ≡ printed circuit.now) }
+    ensures text { IfOk result (λ text. text.items ≡ printed circuit.now) }
+    ensures faultless { IfOk result (λ text. IsFaultless text.items) }
+    ensures circuit { IfOk result (λ text. netlist_of (statements_of text.items) ≡ circuit.now) }
 {
     let mut text = Vec::new(alloc);
     print_inputs(&mut text, circuit)?;
@@ -23,7 +29,8 @@ pub fn print(alloc: Global, circuit: &Circuit) -> Result<Vec<u8>, Memory>
 
 // Prints the inputs.
 fn print_inputs(text: &mut Vec<u8>, circuit: &Circuit) -> Result<(), Memory>
-    ensures { OnOk result (text.new.items ≡ text.old.items ++ port_lines (codes "INPUT") (take circuit.now.inputs circuit.now.names)) }
+    ensures circuit { IsCircuit circuit.now }
+    ensures text { OnOk result (text.new.items ≡ text.old.items ++ port_lines (codes "INPUT") (take circuit.now.inputs circuit.now.names)) }
 {
     for node in 0..circuit.inputs() {
         match print_port(text, b"INPUT", circuit, node) {

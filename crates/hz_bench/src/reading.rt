@@ -1,11 +1,12 @@
 // Reading a netlist.
 
-ghost use Rattle.std.specs.Prelude.{◌≡◌, ◌<◌, ◌≤◌, ◌^◌, IfOk, IfErr, MatchResult, None, length};
+ghost use Rattle.std.specs.Prelude.{◌≡◌, ◌<◌, ◌≤◌, ◌^◌, ◌⊎◌, IfOk, IfErr, OnOk, IsErrOf, MatchResult, None, length};
 ghost use Rattle.hz_core.specs.Netlist.{IsWhole};
-ghost use Rattle.hz_bench.specs.Answer.{answer_of, IsAnswerOf};
 ghost use Rattle.hz_bench.specs.Check.{first_fault};
 ghost use Rattle.hz_bench.specs.Entry.{numbered_list};
+ghost use Rattle.hz_bench.specs.Fault.{IsAnswer, IsFaultless, IsLeastFault};
 ghost use Rattle.hz_bench.specs.Netlist.{netlist_of};
+ghost use Rattle.hz_bench.specs.Pass.{IsAccepted};
 ghost use Rattle.hz_bench.specs.Text.{statements_of, variables_among};
 ghost use Rattle.hz_bench.specs.Twice.{IsFoundOrMemory};
 
@@ -27,21 +28,30 @@ use std::alloc::Global;
 /// the outputs each in the order of the text. It takes time linear in the text.
 pub fn read(alloc: Global, text: &[u8]) -> Result<Circuit, BenchFault>
     requires { length text.now ≤ 16777216 }
-    ensures faultless { IfOk result (λ _. answer_of text.now ≡ None) }
     ensures circuit { IfOk result (λ circuit. circuit ≡ netlist_of (statements_of text.now)) }
     ensures whole { IfOk result (λ circuit. IsWhole circuit) }
-    ensures fault { IfErr result (λ fault. IsAnswerOf text.now fault) }
+    ensures faultless { OnOk result (IsFaultless text.now) }
+    ensures fault { IfErr result (IsAnswer text.now) }
+    ensures exact { (fault : BenchFault) → IsLeastFault text.now fault
+        → IsErrOf result fault ⊎ IsErrOf result BenchFault.Memory }
 {
-    let entries = parse(alloc, text)?;
-    check(alloc, &entries)?;
+    let entries = read_accepted(alloc, text)?;
     let Ok(circuit) = build(alloc, &entries) else {
         return Err(BenchFault::Memory);
     };
-    // each gate of checked statements has its pins, which is not proved yet
-    if !circuit.whole() {
-        return Err(BenchFault::Memory);
-    }
     Ok(circuit)
+}
+
+// The statements of a text in which no fault stands.
+fn read_accepted<'a>(alloc: Global, text: &'a [u8]) -> Result<Vec<Entry<'a>>, BenchFault>
+    requires { length text.now ≤ 16777216 }
+    ensures { MatchResult result
+        (λ entries. IsAccepted text.now entries.items)
+        (λ fault. IsAnswer text.now fault) }
+{
+    let entries = parse(alloc, text)?;
+    check(alloc, &entries)?;
+    Ok(entries)
 }
 
 // Checks the statements, in the order of the faults.

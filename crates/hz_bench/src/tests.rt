@@ -1,7 +1,10 @@
 // Netlists read as a whole: each public function with ample memory, and the refused texts.
 
+ghost use Rattle.std.specs.Prelude.{◌≡◌, IfErr, IfOk};
+ghost use Rattle.hz_core.specs.Netlist.{IsWhole};
+
 use crate::{BenchFault, print, read};
-use hz_core::Kind;
+use hz_core::{Circuit, Kind};
 use std::alloc::Global;
 use std::test::Fail;
 
@@ -86,5 +89,36 @@ fn prints(rt: HostRuntime) -> Result<(), Fail> {
         assert_eq!(rt; printed.as_slice(), text.as_slice());
     }
     assert!(rt; circuit.whole());
+    Ok(())
+}
+
+// Prints a circuit and reads it again: this gives the circuit, where memory does and the text is not too long.
+#[tactic(auto, using(crate::proofs::PrintedFaults::memory_alone))]
+fn read_back(alloc: Global, circuit: &Circuit) -> Result<Circuit, BenchFault>
+    requires { IsWhole circuit.now }
+    ensures circuit { IfOk result (λ back. back ≡ circuit.now) }
+    ensures memory { IfErr result (λ fault. fault ≡ BenchFault.Memory) }
+{
+    let Ok(text) = print(alloc, circuit) else {
+        return Err(BenchFault::Memory);
+    };
+    if text.len() > 16_777_216 {
+        return Err(BenchFault::Memory);
+    }
+    read(alloc, text.as_slice())
+}
+
+#[test]
+fn reads_back(rt: HostRuntime) -> Result<(), Fail> {
+    let circuit = read(
+        rt.alloc(),
+        b"input(OUTPUT)\nINPUT = buf(AND)\nAND = nand(INPUT, OUTPUT, OUTPUT)\noutput(AND)\noutput(OUTPUT)\n",
+    )?;
+    let back = read_back(rt.alloc(), &circuit)?;
+    assert_eq!(rt; back.inputs(), 1);
+    assert_eq!(rt; back.nodes(), 3);
+    assert_eq!(rt; back.kind(2), Kind::Nand);
+    assert_eq!(rt; back.sources(2), [1, 0, 0].as_slice());
+    assert_eq!(rt; back.outputs(), [2, 0].as_slice());
     Ok(())
 }

@@ -2,18 +2,19 @@
 
 ghost use Rattle.std.specs.Prelude.{◌≡◌, ℕ, List, IfOk, MatchResult, map, not, is_some, option_map};
 ghost use Rattle.std.specs.List.{list_any};
+ghost use Rattle.hz_line.specs.Statement.{Numbered};
 ghost use Rattle.hz_line.specs.Token.{token_of};
 ghost use Rattle.hz_bench.specs.Check.{first_that, uses_undefined};
 ghost use Rattle.hz_bench.specs.Definition.{line_for, IsTableOf};
 ghost use Rattle.hz_bench.specs.Entry.{numbered_of, numbered_list};
-ghost use Rattle.hz_bench.specs.Statement.{sources_of, words_of};
-ghost use Rattle.hz_bench.specs.Text.{Numbered, statement_in};
+ghost use Rattle.hz_bench.specs.Statement.{Statement, sources_of, words_of};
+ghost use Rattle.hz_bench.specs.Text.{statement_in};
 
 use crate::definitions::{Definitions, is_defined};
 use crate::entry::Entry;
 use crate::forms::Form;
 use hz_core::Memory;
-use hz_line::{Token, read_tokens};
+use hz_line::{LineFault, Token, read_tokens};
 use std::alloc::Global;
 
 /// The first statement that uses a name which no statement defines.
@@ -42,7 +43,7 @@ fn has_undefined_use<'a>(
     lines: &Definitions,
     tokens: &mut Vec<Token<'a>>,
 ) -> Result<bool, Memory>
-    ensures { IfOk result (λ found. (statements : List Numbered) → IsTableOf statements lines.now → found ≡ uses_undefined statements (statement_in entry.now.text.now)) }
+    ensures { IfOk result (λ found. (statements : List (Numbered Statement)) → IsTableOf statements lines.now → found ≡ uses_undefined statements (statement_in entry.now.text.now)) }
 {
     match entry.form {
         Form::Input => Ok(false),
@@ -75,8 +76,10 @@ pub(crate) fn read_sources<'t, 'a>(
 ) -> Result<&'t [Token<'a>], Memory>
     ensures { IfOk result (λ sources. words_of (map token_of sources.now) ≡ sources_of (statement_in entry.now.text.now)) }
 {
-    let Ok(()) = read_tokens(entry.text, tokens) else {
-        return Err(Memory);
-    };
+    match read_tokens(entry.text, tokens) {
+        Ok(()) => {}
+        Err(LineFault::Forbidden) => unreachable!(),
+        Err(LineFault::Memory) => return Err(Memory),
+    }
     Ok(&tokens[4..])
 }

@@ -2,5 +2,11 @@ pub mod Flips
 pub mod CoverA
 pub mod Paths
 pub mod CoverB
+pub mod SetLemmas
+pub mod LeastLemmas
+pub mod Readers
+pub mod Rechecks
+pub mod PresentLemmas
+pub mod ReplayLemmas
 pub mod PartLemmas
 pub mod RunLemmas

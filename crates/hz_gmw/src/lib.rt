@@ -8,8 +8,17 @@ ghost use Rattle.hz_net.specs.Passes.{algorithm_a, algorithm_b, AreRounds};
 ghost use Rattle.hz_gmw.specs.Runs.{IsReachable};
 ghost use Rattle.hz_gmw.specs.Cycles.{IsOutcome};
 
+mod least;
+mod present;
+mod replay;
+mod replay_fault;
+#[cfg(test)]
+mod replay_tests;
 mod run;
+mod variable_set;
 
+pub use replay::Replay;
+pub use replay_fault::{CycleFault, StepFault};
 pub use run::Run;
 
 /// Algorithm A covers: where its result is 0 or 1 at a variable, every reachable state has this value there.

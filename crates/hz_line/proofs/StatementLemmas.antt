@@ -1,10 +1,12 @@
 -- The statements of a text ascend by their lines, and the first that passes a test is the least.
-use Rattle.std.proofs.Common.{◌≡◌, ◌∙◌, ℕ, ◌+◌, ◌≤◌, Bool, true, false, List, [], ◌∷◌, Option, Some, None, zero, suc, inl, inr, refl, ap, sym, map, arith}
-use Rattle.std.specs.List.{slice_index_or}
+use Rattle.std.proofs.Common.{◌≡◌, ◌∙◌, ℕ, ◌+◌, ◌≤◌, Bool, true, false, List, [], ◌∷◌, Option, Some, None, zero, suc, inl, inr, refl, ap, sym, map, cond, arith}
+use Rattle.std.specs.Prelude.{◌<◌, ◌⊎◌, ◌++◌}
+use Rattle.std.specs.List.{slice_index_or, find, Contains}
 use Rattle.std.specs.Option.{option_map}
+use Rattle.std.proofs.lemmas.List.Elements.{Contains-append_right}
 use Rattle.hz_line.specs.Line.{lines_of}
 use Rattle.hz_line.specs.Token.{TokenOf, tokens_of}
-use Rattle.hz_line.specs.Statement.{Meaning, Nothing, Malformed, Means, meaning_by, meaning_of_tokens, meaning_of, meaning_at, Numbered, with_meaning, numbered_from, PassesOn, first_line, malformed_before, first_malformed}
+use Rattle.hz_line.specs.Statement.{Meaning, Nothing, Malformed, Means, meaning_by, meaning_of_tokens, meaning_of, meaning_at, Numbered, with_meaning, numbered_from, numbered_statements, PassesOn, first_line, malformed_before, first_malformed}
 
 -- the lines of statements ascend from a line on
 abbrev pub Ascends : {S : Type 0} → ℕ → List (Numbered S) → Type 0
@@ -168,3 +170,141 @@ first_malformed-map h grammar line (first ∷ rest) =
     ap (λ later. malformed_before line (meaning_of (mapped h grammar) first) later) (first_malformed-map h grammar (suc line) rest)
     ∙ ap (λ meaning. malformed_before line meaning (first_malformed grammar (suc line) rest)) (meaning_of_tokens-map h grammar (tokens_of first))
     ∙ malformed_before-map h line (meaning_of grammar first) (first_malformed grammar (suc line) rest)
+
+-- an element of a list is its first or one of the rest
+cons_cases : {X : Type 0} (first : X) (rest : List X) (x : X) → Contains (first ∷ rest) x → (first ≡ x) ⊎ Contains rest x
+cons_cases first rest x (zero, l, is) = inl is
+cons_cases first rest x (suc k, l, is) = inr (k, omega (arith, l), is)
+
+Contains-first : {X : Type 0} (first : X) (rest : List X) → Contains (first ∷ rest) first
+Contains-first first rest = (0, omega arith, refl)
+
+Contains-rest : {X : Type 0} (first : X) (rest : List X) (x : X) → Contains rest x → Contains (first ∷ rest) x
+Contains-rest first rest x (k, l, is) = (suc k, omega (arith, l), is)
+
+pub Contains-above : {S : Type 0} (statements : List (Numbered S)) (low : ℕ) (one : Numbered S) → Ascends low statements → Contains statements one → low ≤ one.line
+Contains-above [] low one h (k, l, is) = absurd (omega (arith, l))
+Contains-above (first ∷ later) low one h c =
+    elim (cons_cases first later one c) [
+      | inl same ↦ omega (arith, h.0, ap (λ (numbered : Numbered _). numbered.line) same)
+      | inr rest ↦ omega (arith, h.0, Contains-above later (suc first.line) one h.1 rest)
+    ]
+
+-- the statement passes, and no earlier one does
+pub record IsFound {S : Type 0} (test : Numbered S → Bool) (statements : List (Numbered S)) (found : Numbered S) : Type 0 where
+  pub among : Contains statements found
+  pub passes : test found ≡ true
+  pub least : (other : Numbered S) → Contains statements other → test other ≡ true → found.line ≤ other.line
+
+find-at : {S : Type 0} (test : Numbered S → Bool) (first : Numbered S) (later : List (Numbered S)) (low : ℕ) (found : Numbered S) (b : Bool) → test first ≡ b → Ascends low (first ∷ later) → cond b (Some first) (find test later) ≡ Some found → (find test later ≡ Some found → IsFound test later found) → IsFound test (first ∷ later) found
+find-at test first later low found true t h e ih =
+    let same : first ≡ found = cc in
+    record {
+      among = rw (← same) (Contains-first first later);
+      passes = rw (← same) t;
+      least = λ other c p.
+          elim (cons_cases first later other c) [
+            | inl here ↦ omega (arith, ap (λ (numbered : Numbered _). numbered.line) (sym same ∙ here))
+            | inr rest ↦ omega (arith, ap (λ (numbered : Numbered _). numbered.line) same, Contains-above later (suc first.line) other h.1 rest)
+          ];
+    }
+find-at test first later low found false t h e ih =
+    let is = ih e in
+    record {
+      among = Contains-rest first later found is.among;
+      passes = is.passes;
+      least = λ other c p.
+          elim (cons_cases first later other c) [
+            | inl here ↦ absurd (true-false (sym p ∙ ap test (sym here) ∙ t))
+            | inr rest ↦ is.least other rest p
+          ];
+    }
+
+pub find-Some : {S : Type 0} (test : Numbered S → Bool) (statements : List (Numbered S)) (low : ℕ) (found : Numbered S) → Ascends low statements → find test statements ≡ Some found → IsFound test statements found
+find-Some test [] low found h e = cc
+find-Some test (first ∷ later) low found h e = find-at test first later low found (test first) refl h e (find-Some test later (suc first.line) found h.1)
+
+find-none_at : {S : Type 0} (test : Numbered S → Bool) (first : Numbered S) (later : List (Numbered S)) (other : Numbered S) (b : Bool) → test first ≡ b → cond b (Some first) (find test later) ≡ None → (find test later ≡ None → Contains later other → test other ≡ true → ⊥) → Contains (first ∷ later) other → test other ≡ true → ⊥
+find-none_at test first later other true t e ih c p = cc
+find-none_at test first later other false t e ih c p =
+    elim (cons_cases first later other c) [
+      | inl here ↦ true-false (sym p ∙ ap test (sym here) ∙ t)
+      | inr rest ↦ ih e rest p
+    ]
+
+pub find-None : {S : Type 0} (test : Numbered S → Bool) (statements : List (Numbered S)) → find test statements ≡ None → (other : Numbered S) → Contains statements other → test other ≡ true → ⊥
+find-None test [] e other (k, l, is) p = omega (arith, l)
+find-None test (first ∷ later) e other c p = find-none_at test first later other (test first) refl e (λ f. find-None test later f other) c p
+
+-- what a statement among those of some lines tells of its line
+numbered-at : {S : Type 0} (grammar : List TokenOf → Option S) (line : ℕ) (lines : List (List ℕ)) (one : Numbered S) → Contains (numbered_from grammar line lines) one → (above : ℕ) × (one.line ≡ line + above) × (meaning_of grammar (slice_index_or lines above []) ≡ Means one.statement)
+numbered-at grammar line [] one (k, l, is) = absurd (omega (arith, l))
+numbered-at {S} grammar line (first ∷ rest) one c = by_meaning (meaning_of grammar first) refl c (numbered-at grammar (suc line) rest one)
+  where
+    later : (above : ℕ) × (one.line ≡ suc line + above) × (meaning_of grammar (slice_index_or rest above []) ≡ Means one.statement) → (above : ℕ) × (one.line ≡ line + above) × (meaning_of grammar (slice_index_or (first ∷ rest) above []) ≡ Means one.statement)
+    later (above, at, is) = (suc above, omega (arith, at), is)
+
+    by_meaning : (meaning : Meaning S) → meaning_of grammar first ≡ meaning → Contains (with_meaning line meaning (numbered_from grammar (suc line) rest)) one → (Contains (numbered_from grammar (suc line) rest) one → (above : ℕ) × (one.line ≡ suc line + above) × (meaning_of grammar (slice_index_or rest above []) ≡ Means one.statement)) → (above : ℕ) × (one.line ≡ line + above) × (meaning_of grammar (slice_index_or (first ∷ rest) above []) ≡ Means one.statement)
+    by_meaning Nothing m c ih = later (ih c)
+    by_meaning Malformed m c ih = later (ih c)
+    by_meaning (Means statement) m c ih =
+        elim (cons_cases (record { line = line; statement = statement }) (numbered_from grammar (suc line) rest) one c) [
+          | inl same ↦ (0, omega (arith, ap (λ (numbered : Numbered S). numbered.line) same), m ∙ ap (λ (numbered : Numbered S). Means numbered.statement) same)
+          | inr more ↦ later (ih more)
+        ]
+
+-- and the other way round
+at-numbered : {S : Type 0} (grammar : List TokenOf → Option S) (line number : ℕ) (lines : List (List ℕ)) (above : ℕ) (statement : S) → number ≡ line + above → meaning_of grammar (slice_index_or lines above []) ≡ Means statement → Contains (numbered_from grammar line lines) (record { line = number; statement = statement })
+at-numbered grammar line number [] above statement at is = cc
+at-numbered {S} grammar line number (first ∷ rest) zero statement at is =
+    let same : number ≡ line = omega (arith, at) in
+    rw (same, is) (Contains-first {X = Numbered S} (record { line = line; statement = statement }) (numbered_from grammar (suc line) rest))
+at-numbered {S} grammar line number (first ∷ rest) (suc above) statement at is =
+    by_meaning (meaning_of grammar first) (at-numbered grammar (suc line) number rest above statement (omega (arith, at)) is)
+  where
+    by_meaning : (meaning : Meaning S) → Contains (numbered_from grammar (suc line) rest) (record { line = number; statement = statement }) → Contains (with_meaning line meaning (numbered_from grammar (suc line) rest)) (record { line = number; statement = statement })
+    by_meaning Nothing c = c
+    by_meaning Malformed c = c
+    by_meaning (Means other) c = Contains-rest (record { line = line; statement = other }) (numbered_from grammar (suc line) rest) _ c
+
+-- a statement of a text stands on its line
+pub stated : {S : Type 0} (grammar : List TokenOf → Option S) (text : List ℕ) (one : Numbered S) → Contains (numbered_statements grammar text) one → meaning_at grammar text one.line ≡ Means one.statement
+stated {S} grammar text one c = by_line (numbered-at grammar 1 (lines_of text) one c)
+  where
+    by_line : (above : ℕ) × (one.line ≡ 1 + above) × (meaning_of grammar (slice_index_or (lines_of text) above []) ≡ Means one.statement) → meaning_at grammar text one.line ≡ Means one.statement
+    by_line (above, at, is) =
+        let same : one.line ≡ suc above = omega (arith, at) in
+        rw same is
+
+-- and a line's statement is one of the text's
+pub stating : {S : Type 0} (grammar : List TokenOf → Option S) (text : List ℕ) (line : ℕ) (statement : S) → meaning_at grammar text line ≡ Means statement → Contains (numbered_statements grammar text) (record { line = line; statement = statement })
+stating grammar text zero statement is = cc
+stating grammar text (suc above) statement is = at-numbered grammar 1 (suc above) (lines_of text) above statement (omega arith) is
+
+-- the first line that passes is that of what is found
+pub first_line-found : {S : Type 0} (test : S → Bool) (statements : List (Numbered S)) (line : ℕ) → first_line test statements ≡ Some line → (found : Numbered S) × (find (λ numbered. test numbered.statement) statements ≡ Some found) × (found.line ≡ line)
+first_line-found {S} test statements line e = by_found (find (λ (numbered : Numbered S). test numbered.statement) statements) refl e
+  where
+    by_found : (found : Option (Numbered S)) → find (λ numbered. test numbered.statement) statements ≡ found → option_map (λ numbered. numbered.line) found ≡ Some line → (found : Numbered S) × (find (λ numbered. test numbered.statement) statements ≡ Some found) × (found.line ≡ line)
+    by_found None f e = cc
+    by_found (Some found) f e = (found, f, cc)
+
+pub first_line-unfound : {S : Type 0} (test : S → Bool) (statements : List (Numbered S)) → first_line test statements ≡ None → find (λ numbered. test numbered.statement) statements ≡ None
+first_line-unfound {S} test statements e = by_found (find (λ (numbered : Numbered S). test numbered.statement) statements) refl e
+  where
+    by_found : (found : Option (Numbered S)) → find (λ numbered. test numbered.statement) statements ≡ found → option_map (λ numbered. numbered.line) found ≡ None → find (λ numbered. test numbered.statement) statements ≡ None
+    by_found None f e = f
+    by_found (Some found) f e = cc
+
+pub Ascends-front : {S : Type 0} (low : ℕ) (front back : List (Numbered S)) → Ascends low (front ++ back) → Ascends low front
+Ascends-front low [] back h = tt
+Ascends-front low (first ∷ front) back h = (h.0, Ascends-front (suc first.line) front back h.1)
+
+-- what comes before a statement has a lesser line
+pub Ascends-before : {S : Type 0} (low : ℕ) (front back : List (Numbered S)) (next one : Numbered S) → Ascends low (front ++ next ∷ back) → Contains front one → one.line < next.line
+Ascends-before low [] back next one h (k, l, is) = absurd (omega (arith, l))
+Ascends-before low (first ∷ front) back next one h c =
+    elim (cons_cases first front one c) [
+      | inl same ↦ omega (arith, ap (λ (numbered : Numbered _). numbered.line) same, Contains-above (front ++ next ∷ back) (suc first.line) next h.1 (Contains-append_right front (next ∷ back) next (Contains-first next back)))
+      | inr rest ↦ Ascends-before (suc first.line) front back next one h.1 rest
+    ]

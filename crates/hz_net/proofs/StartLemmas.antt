@@ -1,10 +1,10 @@
 -- An accepted start, an open gate and an unstable gate exclude each other.
-use Rattle.std.proofs.Common.{◌≡◌, ℕ, suc, zero, ◌+◌, ◌<◌, ◌≤◌, min, Bool, false, Option, List, [], ◌∷◌, ◌++◌, length, map, take, get_or, refl, sym, ap, ◌∙◌, subst, arith}
-use Rattle.std.proofs.lemmas.List.{ext_get_or, length-take, get_or-take}
+use Rattle.std.proofs.Common.{◌≡◌, ℕ, suc, ◌<◌, min, Bool, false, Option, List, [], ◌∷◌, length, take, refl, sym, ap, ◌∙◌, subst, arith}
+use Rattle.std.proofs.lemmas.List.{length-take, get_or-take}
 use Rattle.hz_core.specs.Netlist.{Netlist, IsCircuit}
-use Rattle.hz_net.specs.Network.{network_of, bit_at, excitation, IsUnstable}
+use Rattle.hz_net.specs.Network.{network_of, bit_at, IsUnstable}
 use Rattle.hz_net.specs.Variables.{expanded}
-use Rattle.hz_net.specs.Starts.{IsForced, IsCompletedStart, IsAcceptedStart, IsLeastOpen, IsLeastUnstable}
+use Rattle.hz_net.specs.Starts.{IsCompletedStart, IsAcceptedStart, IsLeastOpen, IsLeastUnstable}
 use Rattle.hz_net.proofs.Places.{length-network_of}
 use Rattle.hz_net.proofs.Derivations.{forced_once}
 

@@ -1,11 +1,11 @@
 -- A value that is carried along a fan-out: what is known after some wires, and that a wire more keeps it.
-use Rattle.std.proofs.Common.{◌≡◌, ◌≢◌, ℕ, zero, suc, ◌+◌, ◌<◌, ◌≤◌, Bool, Option, List, [], ◌∷◌, ◌++◌, length, drop, get_or, set, refl, sym, ap, ◌∙◌, subst, arith, length-append}
+use Rattle.std.proofs.Common.{◌≡◌, ◌≢◌, ℕ, zero, suc, ◌+◌, ◌<◌, ◌≤◌, Bool, Option, List, [], ◌∷◌, length, drop, get_or, set, refl, sym, ap, ◌∙◌, subst, arith, length-append}
 use Rattle.std.specs.Prelude.{Contains}
 use Rattle.std.proofs.lemmas.List.{get_or-set_other, length-set, drop_more, drop_all}
 use Rattle.std.proofs.lemmas.List.Elements.{Contains-get_or}
 use Rattle.hz_core.specs.declared.tri.Tri.{Tri}
 use Rattle.hz_core.specs.declared.tri.Tri.TheVariants.{Zero, One, Unknown}
-use Rattle.hz_core.specs.Netlist.{Netlist, IsCircuit, IsGateNumber, variable_count}
+use Rattle.hz_core.specs.Netlist.{Netlist, IsCircuit, variable_count}
 use Rattle.hz_net.specs.Network.{network_of, Source, driver_at, value_at}
 use Rattle.hz_net.specs.Variables.{fan_out_of, GoesInto}
 use Rattle.hz_net.proofs.Places.{length-network_of}

@@ -1,7 +1,7 @@
 -- The loop that forces values: that each of its steps keeps what is known, and what is known at its end.
-use Rattle.std.proofs.Common.{◌≡◌, ◌≢◌, ℕ, zero, suc, ◌+◌, ◌-◌, ◌<◌, ◌≤◌, ◌⊎◌, Bool, true, false, Option, Some, None, List, [], ◌∷◌, ◌++◌, length, map, take, drop, get_or, set, slice_get, All, IsTrue, refl, sym, ap, ◌∙◌, subst, arith, length-append, inl, inr}
+use Rattle.std.proofs.Common.{◌≡◌, ◌≢◌, ℕ, zero, suc, ◌+◌, ◌-◌, ◌<◌, ◌≤◌, ◌⊎◌, Bool, true, false, Option, Some, None, List, [], ◌∷◌, ◌++◌, length, map, take, drop, get_or, set, slice_get, refl, sym, ap, ◌∙◌, subst, arith, length-append, inl, inr}
 use Rattle.std.specs.Prelude.{Contains, slice_range}
-use Rattle.std.proofs.lemmas.Bool.{cases_eq, cases_lt}
+use Rattle.std.proofs.lemmas.Bool.{cases_eq}
 use Rattle.std.proofs.lemmas.Option.{slice_get_within, slice_get-get_or, slice_get_past}
 use Rattle.std.proofs.lemmas.List.{get_or-set_same, get_or-set_other, length-set, length-map, get_or-map, get_or-take, get_or-drop, length-take, length-drop, get_or_append_left}
 use Rattle.std.proofs.lemmas.List.Elements.{All-push, All-contains, Contains-append_left, Contains-push, Contains-push_cases}
@@ -13,10 +13,10 @@ use Rattle.hz_core.specs.Extension.{extension}
 use Rattle.hz_core.specs.Netlist.{Netlist, IsCircuit, IsWhole, IsGateNumber, gate_at, variable_count}
 use Rattle.hz_net.specs.Network.{network_of, Source, driver_at, value_at}
 use Rattle.hz_net.specs.Variables.{first_wire, fan_out_of, GoesInto}
-use Rattle.hz_net.specs.Starts.{IsForced, IsOpen}
+use Rattle.hz_net.specs.Starts.{IsForced}
 use Rattle.hz_net.proofs.Places.{length-network_of, driver_at-pin, first_wire-bound}
 use Rattle.hz_net.proofs.Derivations.{AreForced, IsClosed, forced_once, forced-listed, forced-extension, closed-forced}
-use Rattle.hz_net.proofs.Wires.{IsWireFrom, IsWireFrom-driver_at, IsWireFrom-node, Contains-fan_out_of, driver_at-IsWireFrom, IsWireFrom-fan_out_of}
+use Rattle.hz_net.proofs.Wires.{IsWireFrom, IsWireFrom-driver_at, IsWireFrom-node, Contains-fan_out_of}
 use Rattle.hz_pass.specs.Forcing.{listed_value, IsListed, pin_values, gate_extension, SetsGate, ForcedSoFar, AreForcedValues}
 use Rattle.hz_pass.proofs.Places.{same-values}
 use Rattle.hz_pass.proofs.AllOpen.{extension-unknown}

@@ -14,6 +14,8 @@ mod algorithm_b;
 mod completed_start;
 mod forcing;
 mod rounds;
+#[cfg(test)]
+mod tests;
 
 pub use algorithm_a::spread;
 pub use algorithm_b::settle;

@@ -1,12 +1,12 @@
-//! The whole text of a circuit without nodes; texts of others are tested where whole jobs are.
+//! The whole text of a circuit without nodes and of an inverter; texts of others are tested where whole jobs are.
 ghost use Rattle.std.specs.Prelude.{◌≡◌, length, vec_len, IfOk};
 ghost use Rattle.hz_net.specs.Network.{network_of};
 
 use super::{Found, write_change, write_head};
-use hz_core::Circuit;
-use hz_core::Tri::Zero;
+use hz_core::Tri::{One, Unknown, Zero};
+use hz_core::{Circuit, Kind, Memory};
 use hz_net::Net;
-use hz_outside::PlainSink;
+use hz_outside::{MemSink, PlainSink, PutFault};
 use std::alloc::{AllocError, Global};
 use std::test::Fail;
 
@@ -52,6 +52,46 @@ fn a_circuit_without_nodes(rt: HostRuntime) -> Result<(), Fail> {
         Ok(())
     );
     let text = b"netlist inputs 0 gates 0 wires 0 variables 0\nstart\nchange 1\nrounds A 1 B 1\n";
+    assert_eq!(rt; whole.bytes(), text.as_slice());
+
+    let mut failing = MemSink::new(rt.alloc());
+    failing.fail(2, 3)?;
+    let answer = write_change(&mut failing, &net, 1, &[], &start, &found);
+    assert_eq!(rt; answer, Err(PutFault::Failed));
+    assert_eq!(rt; failing.bytes(), b"change 1\nrou".as_slice());
+    Ok(())
+}
+
+// An input and the gate that inverts it.
+fn inverter(alloc: Global) -> Result<Circuit, Memory> {
+    let mut circuit = Circuit::new(alloc);
+    let input = circuit.add_input(b"a")?;
+    let gate = circuit.add_gate(b"y", Kind::Not)?;
+    circuit.connect(gate, input)?;
+    Ok(circuit)
+}
+
+#[test]
+fn an_inverter(rt: HostRuntime) -> Result<(), Fail> {
+    let net = network(rt.alloc(), inverter(rt.alloc())?, 2)?;
+    let start = values(rt.alloc(), &net, &[false, true], false)?;
+    let a = values(rt.alloc(), &net, &[Unknown, Unknown], Unknown)?;
+    let b = values(rt.alloc(), &net, &[One, Zero], One)?;
+    let found = Found {
+        a: &a,
+        rounds_a: 4,
+        b: &b,
+        rounds_b: 4,
+    };
+
+    let mut whole = PlainSink::new(rt.alloc());
+    assert_eq!(rt; write_head(&mut whole, &net, &start), Ok(()));
+    assert_eq!(rt;
+        write_change(&mut whole, &net, 1, &[(0, true)], &start, &found),
+        Ok(())
+    );
+    let text = b"netlist inputs 1 gates 1 wires 1 variables 3\nstart a=0 y=1\n\
+        change 1 a=1\nrounds A 4 B 4\na start 0 A X B 1\ny start 1 A X B 0\n";
     assert_eq!(rt; whole.bytes(), text.as_slice());
     Ok(())
 }

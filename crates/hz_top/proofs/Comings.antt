@@ -16,7 +16,7 @@ use Rattle.hz_pass.specs.declared.completed_start.StartFault.{StartFault}
 use Rattle.hz_pass.specs.declared.completed_start.StartFault.TheVariants as start
 use Rattle.hz_bench.specs.declared.fault.BenchFault.{BenchFault}
 use Rattle.hz_bench.specs.declared.fault.BenchFault.TheVariants as bench
-use Rattle.hz_bench.specs.Answer.{answer_of, IsAnswerOf}
+use Rattle.hz_bench.specs.Fault as netlist_fault
 use Rattle.hz_text.specs.declared.fault.TextFault.{TextFault}
 use Rattle.hz_text.specs.declared.fault.TextFault.TheVariants as reading
 use Rattle.hz_text.specs.ScriptFault.{IsLeastFault}
@@ -79,17 +79,17 @@ SecondComes-before held faults longs was mid now netlist name same few short own
 SecondComes-before held faults longs was mid now netlist name same few short own text (inr (bytes, (is, most), says)) =
     inr (bytes, (subst (λ (told : Option (List ℕ → List ℕ)). IfSome told (λ bytes_of. bytes ≡ bytes_of name)) same is, most), says)
 
--- a refusal of a netlist that is not for want of memory is the answer to its text
-pub netlist-refused : (text : List ℕ) (fault : BenchFault) → IsAnswerOf text fault → fault ≢ bench.Memory → answer_of text ≡ Some fault
-netlist-refused text (bench.Form line) answer other = answer
-netlist-refused text (bench.Name line) answer other = answer
-netlist-refused text (bench.KindUnknown line) answer other = answer
-netlist-refused text (bench.Clocked line) answer other = answer
-netlist-refused text (bench.Twice line first) answer other = answer
-netlist-refused text (bench.Pins line count) answer other = answer
-netlist-refused text (bench.Undefined line) answer other = answer
-netlist-refused text (bench.TooMany variables) answer other = answer
-netlist-refused text bench.Memory answer other = absurd (other refl)
+-- a refusal of a netlist that is not for want of memory is the least fault of its text
+pub netlist-refused : (text : List ℕ) (fault : BenchFault) → netlist_fault.IsAnswer text fault → fault ≢ bench.Memory → netlist_fault.IsLeastFault text fault
+netlist-refused text (bench.Form line) least other = least
+netlist-refused text (bench.Name line) least other = least
+netlist-refused text (bench.KindUnknown line) least other = least
+netlist-refused text (bench.Clocked line) least other = least
+netlist-refused text (bench.Twice line first) least other = least
+netlist-refused text (bench.Pins line count) least other = least
+netlist-refused text (bench.Undefined line) least other = least
+netlist-refused text (bench.TooMany variables) least other = least
+netlist-refused text bench.Memory least other = absurd (other refl)
 
 -- a refusal of a script that is not for want of memory is the least fault of its text
 pub script-refused : (netlist : Netlist) (text : List ℕ) (fault : TextFault) → IsRefusal netlist text fault → fault ≢ reading.Memory → IsLeastFault netlist text fault

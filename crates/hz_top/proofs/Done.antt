@@ -3,7 +3,7 @@ use Rattle.std.proofs.Common.{◌≡◌, ℕ, ◌⊎◌, inl, inr, List, Option,
 use Rattle.hz_outside.specs.Counts.{Rose}
 use Rattle.hz_outside.specs.declared.fault.Place.TheVariants.{First, Second}
 use Rattle.hz_core.specs.Netlist.{Netlist}
-use Rattle.hz_bench.specs.Answer.{answer_of}
+use Rattle.hz_bench.specs.Fault.{IsLeastFault}
 use Rattle.hz_bench.specs.Netlist.{netlist_of}
 use Rattle.hz_bench.specs.Text.{statements_of}
 use Rattle.hz_text.specs.ScriptText.{IsValue}
@@ -45,8 +45,9 @@ second-done told first second good own said (inr (bytes, (is, short), comes)) =
 files-done : (told : Told) (first second : List ℕ) (good : IsFaultlessJob told first second) (own : Status) (said : List ℕ) → FilesCome told first second own said → own ≡ status.Done
 files-done told first second good own said (inl (inl (rose, says))) = absurd (good.none_failed First rose)
 files-done told first second good own said (inl (inr (rose, over, says))) = absurd (good.none_long First rose)
-files-done told first second good own said (inr (bytes, (is, short), inl (fault, some, says))) =
-    let clash : Some fault ≡ None = sym some ∙ ap answer_of (told-bytes told first second good first bytes is) ∙ good.netlist in cc
+files-done told first second good own said (inr (bytes, (is, short), inl (fault, least, says))) =
+    let here = subst (λ (text : List ℕ). IsLeastFault text fault) (told-bytes told first second good first bytes is) least in
+    absurd (good.netlist fault here.stands)
 files-done told first second good own said (inr (bytes, (is, short), inr (none, comes))) =
     second-done told first second good own said
     (subst (λ (text : List ℕ). SecondComes told (netlist_of (statements_of text)) second own said) (told-bytes told first second good first bytes is) comes)

@@ -4,7 +4,7 @@ use Rattle.hz_outside.specs.Counts.{Rose}
 use Rattle.hz_outside.specs.declared.fault.Place.{Place}
 use Rattle.hz_core.specs.Netlist.{Netlist}
 use Rattle.hz_net.specs.Starts.{IsLeastOpen, IsLeastUnstable}
-use Rattle.hz_bench.specs.Answer.{answer_of}
+use Rattle.hz_bench.specs.Fault.{IsFaultless}
 use Rattle.hz_bench.specs.Netlist.{netlist_of}
 use Rattle.hz_bench.specs.Text.{statements_of}
 use Rattle.hz_text.specs.ScriptFault as script
@@ -26,5 +26,5 @@ pub record IsFaultlessJob (told : Told) (first second : List ℕ) : Type 0 where
   pub is_told : told.held ≡ Some bytes_of
   pub none_failed : (place : Place) → ¬ Rose (told.faults place) (told.faults_after place)
   pub none_long : (place : Place) → ¬ Rose (told.longs place) (told.longs_after place)
-  pub netlist : answer_of (bytes_of first) ≡ None
+  pub netlist : IsFaultless (bytes_of first)
   pub script : IsFaultlessScript (netlist_of (statements_of (bytes_of first))) (bytes_of second)

@@ -9,7 +9,7 @@ use Rattle.hz_core.specs.Netlist.{Netlist}
 use Rattle.hz_net.specs.Starts.{IsAcceptedStart, IsLeastOpen, IsLeastUnstable}
 use Rattle.hz_bench.specs.declared.fault.BenchFault.{BenchFault}
 use Rattle.hz_bench.specs.declared.fault.BenchFault.TheVariants as bench
-use Rattle.hz_bench.specs.Answer.{answer_of}
+use Rattle.hz_bench.specs.Fault.{IsLeastFault, IsFaultless}
 use Rattle.hz_bench.specs.Netlist.{netlist_of}
 use Rattle.hz_bench.specs.Text.{statements_of}
 use Rattle.hz_text.specs.declared.fault.TextFault.{TextFault}
@@ -96,8 +96,8 @@ SecondComes told netlist name own text =
 -- what the first text comes to, and then the second file
 abbrev pub FirstTextComes : Told → List ℕ → List ℕ → Status → List ℕ → Type 0
 FirstTextComes told bytes second own text =
-    ((fault : BenchFault) × (answer_of bytes ≡ Some fault) × Says status.Netlist (netlist_line fault) own text)
-    ⊎ ((answer_of bytes ≡ None) × SecondComes told (netlist_of (statements_of bytes)) second own text)
+    ((fault : BenchFault) × IsLeastFault bytes fault × Says status.Netlist (netlist_line fault) own text)
+    ⊎ (IsFaultless bytes × SecondComes told (netlist_of (statements_of bytes)) second own text)
 
 -- what the two files come to
 abbrev pub FilesCome : Told → List ℕ → List ℕ → Status → List ℕ → Type 0

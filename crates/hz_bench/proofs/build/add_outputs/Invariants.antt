@@ -1,7 +1,10 @@
-use Rattle.std.proofs.Common.{◌≡◌, take, fold}
-use Rattle.hz_bench.specs.Built.{after_output}
+use Rattle.std.proofs.Common.{◌≡◌, take, drop, fold}
+use Rattle.hz_bench.specs.Built.{after_output, MayOutput, MaySteps}
 use Rattle.hz_bench.specs.Entry.{statement_list}
 use Rattle.hz_bench.proofs.build.add_outputs.Given as goal
 
 abbrev pub invariant-loop-entry : goal.invariant-loop-entry
-invariant-loop-entry l = l.circuit ≡ fold after_output l.fn.circuit (statement_list (take l.entry-index l.entries))
+invariant-loop-entry l = record {
+  so_far : l.circuit ≡ fold after_output l.fn.circuit (statement_list (take l.entry-index l.entries));
+  may : MaySteps MayOutput after_output l.circuit (statement_list (drop l.entry-index l.entries));
+}

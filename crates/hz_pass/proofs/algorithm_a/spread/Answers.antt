@@ -1,5 +1,4 @@
-use Rattle.std.proofs.Common.{◌≡◌, ◌+◌, ◌-◌, ◌<◌, ◌≤◌, length, arith, ap, ◌∙◌}
-use Rattle.hz_core.specs.declared.tri.Tri.{Tri}
+use Rattle.std.proofs.Common.{arith, ◌∙◌}
 use Rattle.hz_net.specs.Network.{network_of}
 use Rattle.hz_pass.proofs.SpreadLoop.{spread-bound, spread-on, spread-done}
 use Rattle.hz_pass.proofs.algorithm_a.spread.Goals as goal

@@ -1,4 +1,4 @@
-use Rattle.std.proofs.Common.{◌≡◌, ◌+◌, ◌-◌, ◌<◌, ◌≤◌, length, arith, ap, ◌∙◌}
+use Rattle.std.proofs.Common.{arith, ◌∙◌}
 use Rattle.hz_net.specs.Network.{network_of}
 use Rattle.hz_pass.proofs.SettleLoop.{settle-bound, settle-on, settle-done}
 use Rattle.hz_pass.proofs.algorithm_b.settle.Goals as goal

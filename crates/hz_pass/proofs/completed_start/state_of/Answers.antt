@@ -1,4 +1,4 @@
-use Rattle.std.proofs.Common.{◌≡◌, ◌≤◌, length, ap, arith}
+use Rattle.std.proofs.Common.{length, ap, arith}
 use Rattle.std.proofs.lemmas.List.{length-take}
 use Rattle.hz_core.specs.Netlist.{Netlist}
 use Rattle.hz_net.proofs.Places.{length-network_of}

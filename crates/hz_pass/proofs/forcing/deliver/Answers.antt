@@ -1,4 +1,4 @@
-use Rattle.std.proofs.Common.{◌≡◌, ◌<◌, length, get_or, ap, ◌∙◌, arith, List, ℕ}
+use Rattle.std.proofs.Common.{◌<◌, length, get_or, ap, arith, List, ℕ}
 use Rattle.hz_net.specs.Variables.{fan_out_of}
 use Rattle.hz_net.proofs.Places.{length-network_of}
 use Rattle.hz_pass.proofs.Delivery.{wire-place, delivered-step}

@@ -1,4 +1,4 @@
-use Rattle.std.proofs.Common.{◌≡◌, ◌<◌, Some, ap, ◌∙◌, arith}
+use Rattle.std.proofs.Common.{◌<◌, Some, ap, ◌∙◌, arith}
 use Rattle.hz_core.specs.Netlist.{variable_count}
 use Rattle.hz_net.proofs.Places.{length-network_of}
 use Rattle.hz_net.proofs.Wires.{variables_of-wire, GoesInto-variables_of}

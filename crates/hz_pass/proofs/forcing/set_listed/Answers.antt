@@ -1,4 +1,4 @@
-use Rattle.std.proofs.Common.{◌≡◌, ◌+◌, ◌∙◌, sym, ap, refl, subst, arith, ℕ, List, Some, Vec, Global, set}
+use Rattle.std.proofs.Common.{◌+◌, ◌∙◌, sym, ap, refl, subst, arith, ℕ, List, Some, Vec, Global, set}
 use Rattle.std.proofs.lemmas.Option.{slice_get-get_or}
 use Rattle.hz_core.specs.declared.tri.Tri.{Tri}
 use Rattle.hz_core.specs.Ternary.{tri_of}

@@ -1,4 +1,4 @@
-use Rattle.std.proofs.Common.{◌<◌, ◌≡◌, length, set, arith, ◌∙◌}
+use Rattle.std.proofs.Common.{arith, ◌∙◌}
 use Rattle.std.proofs.lemmas.List.{length-set}
 use Rattle.hz_net.specs.Network.{network_of, driver_at, driven3}
 use Rattle.hz_pass.proofs.Places.{below-set, are-excitations}

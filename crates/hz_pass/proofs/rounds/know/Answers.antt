@@ -1,4 +1,4 @@
-use Rattle.std.proofs.Common.{◌<◌, length, arith}
+use Rattle.std.proofs.Common.{arith}
 use Rattle.hz_pass.proofs.Places.{are-known}
 use Rattle.hz_pass.proofs.rounds.know.Goals as goal
 

@@ -1,0 +1,255 @@
+-- What holds of statements in which the check found no fault.
+use Rattle.std.proofs.Common.{◌≡◌, ◌∙◌, ℕ, ◌≤◌, ◌++◌, ◌||◌, Bool, true, false, not, cond, List, [], ◌∷◌, Option, Some, None, is_some, map, refl, ap, sym, subst, arith}
+use Rattle.std.specs.Prelude.{nat_lt}
+use Rattle.std.specs.List.{list_any, AllByRecursion}
+use Rattle.std.specs.Str.{bytes_eq}
+use Rattle.std.proofs.lemmas.Bool.Decides.{nat_tests}
+use Rattle.std.proofs.lemmas.List.{append-nil}
+use Rattle.std.proofs.lemmas.List.Folds.{list_any-append}
+use Rattle.std.proofs.lemmas.Slice.Eq.{bytes_eq-Decides}
+use Rattle.hz_line.specs.Statement.{Numbered}
+use Rattle.hz_bench.specs.declared.fault.BenchFault.{BenchFault}
+use Rattle.hz_bench.specs.declared.fault.BenchFault.TheVariants as fault
+use Rattle.hz_bench.specs.Check.{has_unknown_kind, has_clocked_kind, has_wrong_pins, pin_count, uses_undefined, first_that, fault_or, first_or, too_many, first_fault}
+use Rattle.hz_bench.specs.Definition.{defines, definer}
+use Rattle.hz_bench.specs.Netlist.{input_names, gate_names, node_names}
+use Rattle.hz_bench.specs.Statement.{Statement, Input, Output, Gate, defined_name, used_names, has_long_name}
+use Rattle.hz_bench.specs.Text.{variables_of, variables_among}
+use Rattle.hz_bench.specs.Twice.{twice_or, earlier_line, twice_after, twice_fault}
+use Rattle.hz_bench.proofs.DefinitionLemmas.{definer-cons}
+use Rattle.hz_bench.proofs.ParseLemmas.{variables_of-statements}
+
+-- the statements without their lines
+abbrev pub plain : List (Numbered Statement) → List Statement
+plain statements = map (λ numbered. numbered.statement) statements
+
+-- the names are new where they come: none is among these or among those before it
+abbrev pub Apart : List (List ℕ) → List (List ℕ) → Type 0
+Apart names [] = Unit {0}
+Apart names (name ∷ rest) = (list_any (bytes_eq name) names ≡ false) × Apart (names ++ name ∷ []) rest
+
+-- the names that statements use are among these
+abbrev pub UsesKnown : List (List ℕ) → Statement → Type 0
+UsesKnown names statement = AllByRecursion (λ name. list_any (bytes_eq name) names ≡ true) (used_names statement)
+
+-- what the check has shown of statements
+pub record IsChecked (statements : List Statement) : Type 0 where
+  pub short : AllByRecursion (λ statement. has_long_name statement ≡ false) statements
+  pub known : AllByRecursion (λ statement. has_unknown_kind statement ≡ false) statements
+  pub unclocked : AllByRecursion (λ statement. has_clocked_kind statement ≡ false) statements
+  pub inputs_apart : Apart [] (input_names statements)
+  pub gates_apart : Apart (input_names statements) (gate_names statements)
+  pub pins : AllByRecursion (λ statement. has_wrong_pins statement ≡ false) statements
+  pub defined : AllByRecursion (UsesKnown (node_names statements)) statements
+  pub few : variables_of statements ≤ 200000
+
+-- no statement passes a test that finds none
+each_fails : (test : Statement → Bool) (statements : List (Numbered Statement)) → first_that test statements ≡ None → AllByRecursion (λ statement. test statement ≡ false) (plain statements)
+each_fails test [] e = tt
+each_fails test (first ∷ rest) e = by_test (test first.statement) refl e (each_fails test rest)
+  where
+    by_test : (b : Bool) → test first.statement ≡ b → cond b (Some first) (first_that test rest) ≡ None → (first_that test rest ≡ None → AllByRecursion (λ statement. test statement ≡ false) (plain rest)) → (test first.statement ≡ false) × AllByRecursion (λ statement. test statement ≡ false) (plain rest)
+    by_test true t e ih = cc
+    by_test false t e ih = (t, ih e)
+
+pub either : (a b : Bool) → (a || b) ≡ false → (a ≡ false) × (b ≡ false)
+either true b h = cc
+either false b h = (refl, h)
+
+neither : (a b : Bool) → a ≡ false → b ≡ false → (a || b) ≡ false
+neither true b ha hb = cc
+neither false b ha hb = hb
+
+first_of_two : (a b : Bool) → a ≡ true → (a || b) ≡ true
+first_of_two true b h = refl
+first_of_two false b h = cc
+
+second_of_two : (a b : Bool) → b ≡ true → (a || b) ≡ true
+second_of_two true b h = refl
+second_of_two false b h = h
+
+same_name : (a b : List ℕ) → bytes_eq a b ≡ bytes_eq b a
+same_name a b = by_test (bytes_eq a b) (bytes_eq b a) refl refl
+  where
+    by_test : (r s : Bool) → bytes_eq a b ≡ r → bytes_eq b a ≡ s → r ≡ s
+    by_test true true p q = refl
+    by_test false false p q = refl
+    by_test true false p q = sym ((bytes_eq-Decides b a).1 (sym ((bytes_eq-Decides a b).0 p))) ∙ q
+    by_test false true p q = sym p ∙ (bytes_eq-Decides a b).1 (sym ((bytes_eq-Decides b a).0 q))
+
+-- the names that statements define, in order
+abbrev defined_names : List Statement → List (List ℕ)
+defined_names [] = []
+defined_names (Input name ∷ rest) = name ∷ defined_names rest
+defined_names (Output name ∷ rest) = defined_names rest
+defined_names (Gate name kind sources ∷ rest) = name ∷ defined_names rest
+
+definer-absent : (statements : List (Numbered Statement)) (name : List ℕ) → definer statements name ≡ None → list_any (bytes_eq name) (defined_names (plain statements)) ≡ false
+definer-absent [] name e = refl
+definer-absent (first ∷ rest) name e = by_statement first.statement (sym (definer-cons first rest name) ∙ e) (definer-absent rest name)
+  where
+    by_test : (b : Bool) (other : List ℕ) → bytes_eq other name ≡ b → cond b (Some first.line) (definer rest name) ≡ None → (definer rest name ≡ None → list_any (bytes_eq name) (defined_names (plain rest)) ≡ false) → (bytes_eq name other || list_any (bytes_eq name) (defined_names (plain rest))) ≡ false
+    by_test true other t e ih = cc
+    by_test false other t e ih = neither (bytes_eq name other) _ (same_name name other ∙ t) (ih e)
+
+    by_statement : (statement : Statement) → cond (defines name statement) (Some first.line) (definer rest name) ≡ None → (definer rest name ≡ None → list_any (bytes_eq name) (defined_names (plain rest)) ≡ false) → list_any (bytes_eq name) (defined_names (statement ∷ plain rest)) ≡ false
+    by_statement (Input other) e ih = by_test (bytes_eq other name) other refl e ih
+    by_statement (Output other) e ih = ih e
+    by_statement (Gate other kind sources) e ih = by_test (bytes_eq other name) other refl e ih
+
+defined_names-push : (seen : List (Numbered Statement)) (next : Numbered Statement) → defined_names (plain (seen ++ next ∷ [])) ≡ defined_names (plain seen) ++ defined_names (next.statement ∷ [])
+defined_names-push [] next = refl
+defined_names-push (first ∷ seen) next = by_statement first.statement (defined_names-push seen next)
+  where
+    by_statement : (statement : Statement) → defined_names (plain (seen ++ next ∷ [])) ≡ defined_names (plain seen) ++ defined_names (next.statement ∷ []) → defined_names (statement ∷ plain (seen ++ next ∷ [])) ≡ defined_names (statement ∷ plain seen) ++ defined_names (next.statement ∷ [])
+    by_statement (Input name) ih = ap (λ rest. name ∷ rest) ih
+    by_statement (Output name) ih = ih
+    by_statement (Gate name kind sources) ih = ap (λ rest. name ∷ rest) ih
+
+-- where no name is defined twice, the defined names are apart
+apart-from_twice : (seen rest : List (Numbered Statement)) → twice_after seen rest ≡ None → Apart (defined_names (plain seen)) (defined_names (plain rest))
+apart-from_twice seen [] e = tt
+apart-from_twice seen (next ∷ rest) e =
+    by_line (earlier_line seen (defined_name next.statement)) refl e (apart-from_twice (seen ++ next ∷ []) rest)
+  where
+    by_statement : (statement : Statement) → earlier_line seen (defined_name statement) ≡ None → Apart (defined_names (plain seen) ++ defined_names (statement ∷ [])) (defined_names (plain rest)) → Apart (defined_names (plain seen)) (defined_names (statement ∷ plain rest))
+    by_statement (Input name) none h = (definer-absent seen name none, h)
+    by_statement (Output name) none h = subst (λ names. Apart names (defined_names (plain rest))) (append-nil (defined_names (plain seen))) h
+    by_statement (Gate name kind sources) none h = (definer-absent seen name none, h)
+
+    by_line : (earlier : Option ℕ) → earlier_line seen (defined_name next.statement) ≡ earlier → twice_or next.line earlier (twice_after (seen ++ next ∷ []) rest) ≡ None → (twice_after (seen ++ next ∷ []) rest ≡ None → Apart (defined_names (plain (seen ++ next ∷ []))) (defined_names (plain rest))) → Apart (defined_names (plain seen)) (defined_names (next.statement ∷ plain rest))
+    by_line (Some line) is e ih = cc
+    by_line None is e ih = by_statement next.statement is (subst (λ names. Apart names (defined_names (plain rest))) (defined_names-push seen next) (ih e))
+
+-- one name more is absent
+absent-more : (names : List (List ℕ)) (last name : List ℕ) → list_any (bytes_eq name) names ≡ false → bytes_eq name last ≡ false → list_any (bytes_eq name) (names ++ last ∷ []) ≡ false
+absent-more names last name h e = list_any-append (bytes_eq name) names (last ∷ []) ∙ neither _ _ h (neither (bytes_eq name last) false e refl)
+
+absent-parts : (names : List (List ℕ)) (last name : List ℕ) → list_any (bytes_eq name) (names ++ last ∷ []) ≡ false → (list_any (bytes_eq name) names ≡ false) × (bytes_eq name last ≡ false)
+absent-parts names last name h =
+    let parts = either (list_any (bytes_eq name) names) (list_any (bytes_eq name) (last ∷ [])) (sym (list_any-append (bytes_eq name) names (last ∷ [])) ∙ h) in
+    (parts.0, (either (bytes_eq name last) false parts.1).0)
+
+present-more : (names : List (List ℕ)) (last name : List ℕ) → list_any (bytes_eq name) names ≡ true → list_any (bytes_eq name) (names ++ last ∷ []) ≡ true
+present-more names last name h = list_any-append (bytes_eq name) names (last ∷ []) ∙ first_of_two _ _ h
+
+present-last : (names : List (List ℕ)) (name : List ℕ) → list_any (bytes_eq name) (names ++ name ∷ []) ≡ true
+present-last names name = list_any-append (bytes_eq name) names (name ∷ []) ∙ second_of_two (list_any (bytes_eq name) names) _ (first_of_two (bytes_eq name name) false ((bytes_eq-Decides name name).1 refl))
+
+-- a name that is present is not that of one that is absent
+other_name : (names : List (List ℕ)) (name other : List ℕ) → list_any (bytes_eq name) names ≡ true → list_any (bytes_eq other) names ≡ false → bytes_eq name other ≡ false
+other_name names name other here away = by_test (bytes_eq name other) refl
+  where
+    by_test : (b : Bool) → bytes_eq name other ≡ b → b ≡ false
+    by_test false t = refl
+    by_test true t =
+        let same : name ≡ other = (bytes_eq-Decides name other).0 t in
+        sym here ∙ ap (λ one. list_any (bytes_eq one) names) same ∙ away
+
+-- the inputs among the defined names are apart
+inputs_apart : (inputs defined : List (List ℕ)) (statements : List Statement) → ((name : List ℕ) → list_any (bytes_eq name) defined ≡ false → list_any (bytes_eq name) inputs ≡ false) → Apart defined (defined_names statements) → Apart inputs (input_names statements)
+inputs_apart inputs defined [] within h = tt
+inputs_apart inputs defined (Input other ∷ rest) within h = (
+  within other h.0,
+  inputs_apart (inputs ++ other ∷ []) (defined ++ other ∷ []) rest (λ name away. (let parts = absent-parts defined other name away in absent-more inputs other name (within name parts.0) parts.1)) h.1,
+)
+inputs_apart inputs defined (Output other ∷ rest) within h = inputs_apart inputs defined rest within h
+inputs_apart inputs defined (Gate other kind sources ∷ rest) within h =
+    inputs_apart inputs (defined ++ other ∷ []) rest (λ name away. within name (absent-parts defined other name away).0) h.1
+
+-- a name that was defined is no later input's
+no_later_input : (defined : List (List ℕ)) (name : List ℕ) (statements : List Statement) → list_any (bytes_eq name) defined ≡ true → Apart defined (defined_names statements) → list_any (bytes_eq name) (input_names statements) ≡ false
+no_later_input defined name [] here h = refl
+no_later_input defined name (Input other ∷ rest) here h =
+    neither (bytes_eq name other) _ (other_name defined name other here h.0) (no_later_input (defined ++ other ∷ []) name rest (present-more defined other name here) h.1)
+no_later_input defined name (Output other ∷ rest) here h = no_later_input defined name rest here h
+no_later_input defined name (Gate other kind sources ∷ rest) here h = no_later_input (defined ++ other ∷ []) name rest (present-more defined other name here) h.1
+
+-- the gates are apart from all inputs and from the gates before them
+gates_apart : (nodes defined : List (List ℕ)) (statements : List Statement) → ((name : List ℕ) → list_any (bytes_eq name) defined ≡ false → list_any (bytes_eq name) (input_names statements) ≡ false → list_any (bytes_eq name) nodes ≡ false) → Apart defined (defined_names statements) → Apart nodes (gate_names statements)
+gates_apart nodes defined [] within h = tt
+gates_apart nodes defined (Input other ∷ rest) within h =
+    gates_apart nodes (defined ++ other ∷ []) rest (λ name away none. (let parts = absent-parts defined other name away in within name parts.0 (neither (bytes_eq name other) _ parts.1 none))) h.1
+gates_apart nodes defined (Output other ∷ rest) within h = gates_apart nodes defined rest within h
+gates_apart nodes defined (Gate other kind sources ∷ rest) within h = (
+  within other h.0 (no_later_input (defined ++ other ∷ []) other rest (present-last defined other) h.1),
+  gates_apart (nodes ++ other ∷ []) (defined ++ other ∷ []) rest (λ name away none. (let parts = absent-parts defined other name away in absent-more nodes other name (within name parts.0 none) parts.1)) h.1,
+)
+
+-- a name that some statement defines is a node's
+present_node : (statement : Statement) (rest : List Statement) (name : List ℕ) → list_any (bytes_eq name) (node_names rest) ≡ true → list_any (bytes_eq name) (node_names (statement ∷ rest)) ≡ true
+present_node (Input other) rest name h = second_of_two (bytes_eq name other) _ h
+present_node (Output other) rest name h = h
+present_node (Gate other kind sources) rest name h =
+    list_any-append (bytes_eq name) (input_names rest) (other ∷ gate_names rest)
+    ∙ by_part (list_any (bytes_eq name) (input_names rest)) (bytes_eq name other) (list_any (bytes_eq name) (gate_names rest)) (sym (list_any-append (bytes_eq name) (input_names rest) (gate_names rest)) ∙ h)
+  where
+    by_part : (a b c : Bool) → (a || c) ≡ true → (a || (b || c)) ≡ true
+    by_part true b c h = refl
+    by_part false true c h = refl
+    by_part false false c h = h
+
+defined_node : (statement : Statement) (rest : List Statement) (name : List ℕ) → defines name statement ≡ true → list_any (bytes_eq name) (node_names (statement ∷ rest)) ≡ true
+defined_node (Input other) rest name h = first_of_two (bytes_eq name other) _ (same_name name other ∙ h)
+defined_node (Output other) rest name h = cc
+defined_node (Gate other kind sources) rest name h =
+    list_any-append (bytes_eq name) (input_names rest) (other ∷ gate_names rest)
+    ∙ second_of_two (list_any (bytes_eq name) (input_names rest)) _ (first_of_two (bytes_eq name other) _ (same_name name other ∙ h))
+
+definer-node : (statements : List (Numbered Statement)) (name : List ℕ) → is_some (definer statements name) ≡ true → list_any (bytes_eq name) (node_names (plain statements)) ≡ true
+definer-node [] name h = cc
+definer-node (first ∷ rest) name h = by_test (defines name first.statement) refl (ap is_some (sym (definer-cons first rest name)) ∙ h) (definer-node rest name)
+  where
+    by_test : (b : Bool) → defines name first.statement ≡ b → is_some (cond b (Some first.line) (definer rest name)) ≡ true → (is_some (definer rest name) ≡ true → list_any (bytes_eq name) (node_names (plain rest)) ≡ true) → list_any (bytes_eq name) (node_names (first.statement ∷ plain rest)) ≡ true
+    by_test true t h ih = defined_node first.statement (plain rest) name t
+    by_test false t h ih = present_node first.statement (plain rest) name (ih h)
+
+pub not-false : (b : Bool) → not b ≡ false → b ≡ true
+not-false true h = refl
+not-false false h = cc
+
+uses_known : (statements : List (Numbered Statement)) (names : List (List ℕ)) → list_any (λ name. not (is_some (definer statements name))) names ≡ false → AllByRecursion (λ name. list_any (bytes_eq name) (node_names (plain statements)) ≡ true) names
+uses_known statements [] h = tt
+uses_known statements (name ∷ names) h =
+    let parts = either (not (is_some (definer statements name))) _ h in
+    (definer-node statements name (not-false _ parts.0), uses_known statements names parts.1)
+
+each_known : (statements : List (Numbered Statement)) (some : List Statement) → AllByRecursion (λ statement. uses_undefined statements statement ≡ false) some → AllByRecursion (UsesKnown (node_names (plain statements))) some
+each_known statements [] h = tt
+each_known statements (first ∷ rest) h = (uses_known statements (used_names first) h.0, each_known statements rest h.1)
+
+fault_or-none : (kind : Numbered Statement → BenchFault) (answer : Option (Numbered Statement)) (rest : Option BenchFault) → fault_or kind answer rest ≡ None → (answer ≡ None) × (rest ≡ None)
+fault_or-none kind None rest h = (refl, h)
+fault_or-none kind (Some found) rest h = cc
+
+first_or-none : (answer rest : Option BenchFault) → first_or answer rest ≡ None → (answer ≡ None) × (rest ≡ None)
+first_or-none None rest h = (refl, h)
+first_or-none (Some found) rest h = cc
+
+few_enough : (variables : ℕ) → too_many variables ≡ None → variables ≤ 200000
+few_enough variables h = by_test (nat_lt 200000 variables) refl h
+  where
+    by_test : (b : Bool) → nat_lt 200000 variables ≡ b → cond b (Some (fault.TooMany variables)) None ≡ None → variables ≤ 200000
+    by_test true t h = cc
+    by_test false t h = grind (arith, nat_tests, t)
+
+-- what no fault tells
+pub checked : (statements : List (Numbered Statement)) → first_fault statements ≡ None → IsChecked (plain statements)
+checked statements h =
+    let a = fault_or-none (λ found. fault.Name found.line) (first_that has_long_name statements) _ h in
+    let b = fault_or-none (λ found. fault.KindUnknown found.line) (first_that has_unknown_kind statements) _ a.1 in
+    let c = fault_or-none (λ found. fault.Clocked found.line) (first_that has_clocked_kind statements) _ b.1 in
+    let d = first_or-none (twice_fault statements) _ c.1 in
+    let e = fault_or-none (λ found. fault.Pins found.line (pin_count found.statement)) (first_that has_wrong_pins statements) _ d.1 in
+    let f = fault_or-none (λ found. fault.Undefined found.line) (first_that (uses_undefined statements) statements) _ e.1 in
+    let apart = apart-from_twice [] statements d.0 in
+    record {
+      short = each_fails has_long_name statements a.0;
+      known = each_fails has_unknown_kind statements b.0;
+      unclocked = each_fails has_clocked_kind statements c.0;
+      inputs_apart = inputs_apart [] [] (plain statements) (λ name away. away) apart;
+      gates_apart = gates_apart (input_names (plain statements)) [] (plain statements) (λ name away none. none) apart;
+      pins = each_fails has_wrong_pins statements e.0;
+      defined = each_known statements (plain statements) (each_fails (uses_undefined statements) statements f.0);
+      few = (let few = few_enough (variables_among statements) f.1 in let same = variables_of-statements statements in omega (arith, few, same));
+    }

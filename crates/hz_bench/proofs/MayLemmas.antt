@@ -1,0 +1,202 @@
+-- The circuit of checked statements may be built, and each of its gates has a pin.
+use Rattle.std.proofs.Common.{◌≡◌, ◌∙◌, ℕ, ◌+◌, ◌-◌, ◌<◌, ◌≤◌, ◌++◌, true, false, suc, nat_le, List, [], ◌∷◌, Option, Some, None, length, map, refl, ap, sym, subst, arith, append_assoc, add-zero, length-append}
+use Rattle.std.specs.Prelude.{IsSome, sum_by, All, position}
+use Rattle.std.specs.List.{list_any, AllByRecursion}
+use Rattle.std.specs.Str.{bytes_eq}
+use Rattle.std.proofs.lemmas.Bool.Decides.{nat_tests}
+use Rattle.std.proofs.lemmas.List.{get_or_at, length-map}
+use Rattle.std.proofs.lemmas.List.Elements.{All-nil, All-cons}
+use Rattle.std.proofs.lemmas.List.Folds.{list_any_at}
+use Rattle.std.proofs.lemmas.List.Quantifiers.{position-Some}
+use Rattle.std.proofs.lemmas.List.Sums.{sum_by-append, sum_by-cons}
+use Rattle.hz_core.specs.declared.kind.Kind.{Kind}
+use Rattle.hz_core.specs.declared.kind.Kind.TheVariants.{And, Nand, Or, Nor, Xor, Xnor, Not, Buff}
+use Rattle.hz_core.specs.Gate.{takes}
+use Rattle.hz_core.specs.Netlist as netlist
+use Rattle.hz_core.proofs.ListLemmas.{list_any-from_position_none}
+use Rattle.hz_line.proofs.WrittenLemmas.{both}
+use Rattle.hz_bench.specs.declared.forms.KindWord.{KindWord}
+use Rattle.hz_bench.specs.declared.forms.KindWord.TheVariants.{Known, Clocked, Unknown}
+use Rattle.hz_bench.specs.Built.{MaySteps, MayInput, MayGate, MayPin, MayPins, MayOutput, MayBuild, after_input, after_gate, after_pin, after_pins, after_output}
+use Rattle.hz_bench.specs.Check.{has_unknown_kind, has_clocked_kind, has_wrong_pins}
+use Rattle.hz_bench.specs.Netlist.{input_names, gate_names, node_names, number_in, kind_of_word, gates_of, netlist_of}
+use Rattle.hz_bench.specs.Statement.{Statement, Input, Output, Gate, has_long_name, is_long, variables_in}
+use Rattle.hz_bench.specs.Text.{variables_of}
+use Rattle.hz_bench.proofs.CheckedLemmas.{Apart, UsesKnown, IsChecked, either, not-false}
+use Rattle.hz_bench.proofs.NetlistLemmas.{bare_gates, with_gates, pin_added, pins_added, nodes_of-is, connected-is}
+
+-- a name that is absent has no node, and one that is present has one
+absent-unnamed : (names : List (List ℕ)) (name : List ℕ) → list_any (bytes_eq name) names ≡ false → position (bytes_eq name) names ≡ None
+absent-unnamed names name h = by_place (position (bytes_eq name) names) refl
+  where
+    by_place : (place : Option ℕ) → position (bytes_eq name) names ≡ place → place ≡ None
+    by_place None e = refl
+    by_place (Some node) e =
+        let found = position-Some (bytes_eq name) names node [] e in
+        let wrong = sym (list_any_at (bytes_eq name) names node [] found.0 found.1) ∙ h in cc
+
+present-named : (names : List (List ℕ)) (name : List ℕ) → list_any (bytes_eq name) names ≡ true → IsSome (position (bytes_eq name) names)
+present-named names name h = by_place (position (bytes_eq name) names) refl
+  where
+    by_place : (place : Option ℕ) → position (bytes_eq name) names ≡ place → IsSome place
+    by_place None e = let wrong = sym h ∙ list_any-from_position_none (bytes_eq name) names e in cc
+    by_place (Some node) e = refl
+
+-- how many pins statements bring
+pins_in : List Statement → ℕ
+pins_in [] = 0
+pins_in (Input name ∷ rest) = pins_in rest
+pins_in (Output name ∷ rest) = pins_in rest
+pins_in (Gate name kind sources ∷ rest) = length sources + pins_in rest
+
+counts : (statements : List Statement) → variables_of statements ≡ length (input_names statements) + length (gate_names statements) + pins_in statements
+unfolding pins_in
+counts [] = refl
+counts (Input name ∷ rest) = let h = counts rest in omega (arith, h, sum_by-cons variables_in (Input name) rest)
+counts (Output name ∷ rest) = let h = counts rest in omega (arith, h, sum_by-cons variables_in (Output name) rest)
+counts (Gate name kind sources ∷ rest) = let h = counts rest in omega (arith, h, sum_by-cons variables_in (Gate name kind sources) rest)
+
+abbrev pins_of : List netlist.Gate → ℕ
+pins_of gates = sum_by (λ gate. length gate.sources) gates
+
+pins_of-append : (front back : List netlist.Gate) → pins_of (front ++ back) ≡ pins_of front + pins_of back
+pins_of-append front back = sum_by-append _ front back
+
+pins_of-cons : (gate : netlist.Gate) (rest : List netlist.Gate) → pins_of (gate ∷ rest) ≡ length gate.sources + pins_of rest
+pins_of-cons gate rest = sum_by-cons (λ (gate : netlist.Gate). length gate.sources) gate rest
+
+-- the inputs may be added
+inputs_may : (all : netlist.Netlist) (statements : List Statement) → all.gates ≡ [] → AllByRecursion (λ statement. has_long_name statement ≡ false) statements → Apart all.names (input_names statements)
+    → length all.names + pins_of all.gates + length (input_names statements) ≤ 200000 → MaySteps MayInput after_input all statements
+inputs_may all [] none short apart room = tt
+inputs_may all (Input name ∷ rest) none short apart room = (
+  (record { short = (either (is_long name) _ short.0).0; fresh = absent-unnamed all.names name apart.0; room = omega (arith, room) }, none),
+  inputs_may (netlist.with_input all name) rest none short.1 apart.1 (omega (arith, room, length-append all.names (name ∷ []))),
+)
+inputs_may all (Output name ∷ rest) none short apart room = (tt, inputs_may all rest none short.1 apart room)
+inputs_may all (Gate name kind sources ∷ rest) none short apart room = (tt, inputs_may all rest none short.1 apart room)
+
+-- the gates may be added
+gates_may : (all : netlist.Netlist) (statements : List Statement) → AllByRecursion (λ statement. has_long_name statement ≡ false) statements → Apart all.names (gate_names statements)
+    → length all.names + pins_of all.gates + length (gate_names statements) ≤ 200000 → MaySteps MayGate after_gate all statements
+gates_may all [] short apart room = tt
+gates_may all (Input name ∷ rest) short apart room = (tt, gates_may all rest short.1 apart room)
+gates_may all (Output name ∷ rest) short apart room = (tt, gates_may all rest short.1 apart room)
+gates_may all (Gate name kind sources ∷ rest) short apart room =
+    let bare : netlist.Gate = record { kind = kind_of_word kind; sources = [] } in
+    let same : pins_of (all.gates ++ bare ∷ []) ≡ pins_of all.gates = pins_of-append all.gates (bare ∷ []) ∙ add-zero (pins_of all.gates) in (
+      record { short = (either (is_long name) _ short.0).0; fresh = absent-unnamed all.names name apart.0; room = omega (arith, room) },
+      gates_may (netlist.with_gate all name (kind_of_word kind)) rest short.1 apart.1 (omega (arith, room, same, length-append all.names (name ∷ []))),
+    )
+
+-- a kind takes at least one pin, and no more than its most
+record IsCount (kind : Kind) (pins : ℕ) : Type 0 where
+  some : 1 ≤ pins
+  most : pins ≤ netlist.most_pins kind
+
+IsCount-takes : (kind : Kind) (pins : ℕ) → takes kind pins ≡ true → IsCount kind pins
+IsCount-takes Not pins h = record { some = grind (arith, nat_tests); most = grind (arith, nat_tests) }
+IsCount-takes Buff pins h = record { some = grind (arith, nat_tests); most = grind (arith, nat_tests) }
+IsCount-takes And pins h = let range = both (nat_le 1 pins) (nat_le pins 256) h in record { some = grind (arith, nat_tests); most = grind (arith, nat_tests) }
+IsCount-takes Nand pins h = let range = both (nat_le 1 pins) (nat_le pins 256) h in record { some = grind (arith, nat_tests); most = grind (arith, nat_tests) }
+IsCount-takes Or pins h = let range = both (nat_le 1 pins) (nat_le pins 256) h in record { some = grind (arith, nat_tests); most = grind (arith, nat_tests) }
+IsCount-takes Nor pins h = let range = both (nat_le 1 pins) (nat_le pins 256) h in record { some = grind (arith, nat_tests); most = grind (arith, nat_tests) }
+IsCount-takes Xor pins h = let range = both (nat_le 1 pins) (nat_le pins 256) h in record { some = grind (arith, nat_tests); most = grind (arith, nat_tests) }
+IsCount-takes Xnor pins h = let range = both (nat_le 1 pins) (nat_le pins 256) h in record { some = grind (arith, nat_tests); most = grind (arith, nat_tests) }
+
+-- the pins of a gate statement that passed the check
+gate_count : (name : List ℕ) (kind : KindWord) (sources : List (List ℕ)) → has_unknown_kind (Gate name kind sources) ≡ false → has_clocked_kind (Gate name kind sources) ≡ false → has_wrong_pins (Gate name kind sources) ≡ false → IsCount (kind_of_word kind) (length sources)
+gate_count name (Known kind) sources known unclocked pins = IsCount-takes kind (length sources) (not-false _ pins)
+gate_count name Clocked sources known unclocked pins = cc
+gate_count name Unknown sources known unclocked pins = cc
+
+-- the pins of one gate may be added
+gate_may : (all : netlist.Netlist) (number : ℕ) (done more : List netlist.Gate) (kind : Kind) (sources : List ℕ) (names : List (List ℕ)) → number ≡ all.inputs + length done → number < length all.names
+    → AllByRecursion (λ name. list_any (bytes_eq name) all.names ≡ true) names → length sources + length names ≤ netlist.most_pins kind
+    → length all.names + pins_of done + length sources + length names + pins_of more ≤ 200000
+    → MaySteps (MayPin number) (after_pin number) (with_gates all (done ++ record { kind = kind; sources = sources } ∷ more)) names
+gate_may all number done more kind sources [] place inside known few room = tt
+gate_may all number done more kind sources (name ∷ names) place inside known few room =
+    let gate : netlist.Gate = record { kind = kind; sources = sources } in
+    let here : length done ≡ number - all.inputs = omega (arith, place) in
+    let found = get_or_at done gate more (record { kind = And; sources = [] }) (number - all.inputs) here in
+    let count : pins_of (done ++ gate ∷ more) ≡ pins_of done + (length sources + pins_of more) = pins_of-append done (gate ∷ more) ∙ ap (λ n. pins_of done + n) (pins_of-cons gate more) in (
+      record {
+        gate_is = (omega (arith, place), inside);
+        source_is = present-named all.names name known.0;
+        pins = subst (λ (one : netlist.Gate). length one.sources < netlist.most_pins one.kind) (sym found) (omega (arith, few));
+        room = omega (arith, count, room);
+      },
+      subst (λ now. MaySteps (MayPin number) (after_pin number) now names) (sym (pin_added all number done more kind sources name place))
+          (gate_may all number done more kind (sources ++ number_in all.names name ∷ []) names place inside known.1 (omega (arith, few, length-append sources (number_in all.names name ∷ []))) (omega (arith, room, length-append sources (number_in all.names name ∷ [])))),
+    )
+
+bare_count : (statements : List Statement) → (length (bare_gates statements) ≡ length (gate_names statements)) × (pins_of (bare_gates statements) ≡ 0)
+unfolding bare_gates
+bare_count [] = (refl, refl)
+bare_count (Input name ∷ rest) = bare_count rest
+bare_count (Output name ∷ rest) = bare_count rest
+bare_count (Gate name kind sources ∷ rest) =
+    let h = bare_count rest in
+    (ap suc h.0, omega (arith, h.1, pins_of-cons (record { kind = kind_of_word kind; sources = [] }) (bare_gates rest)))
+
+-- the pins of all gates may be added
+pins_may : (all : netlist.Netlist) (number : ℕ) (done : List netlist.Gate) (statements : List Statement) → number ≡ all.inputs + length done → number + length (gate_names statements) ≤ length all.names
+    → AllByRecursion (λ statement. has_unknown_kind statement ≡ false) statements → AllByRecursion (λ statement. has_clocked_kind statement ≡ false) statements → AllByRecursion (λ statement. has_wrong_pins statement ≡ false) statements
+    → AllByRecursion (UsesKnown all.names) statements → length all.names + pins_of done + pins_in statements ≤ 200000
+    → MaySteps MayPins after_pins (record { netlist = with_gates all (done ++ bare_gates statements); gate = number }) statements
+unfolding bare_gates pins_in
+pins_may all number done [] place inside known unclocked pins defined room = tt
+pins_may all number done (Input name ∷ rest) place inside known unclocked pins defined room = (tt, pins_may all number done rest place inside known.1 unclocked.1 pins.1 defined.1 room)
+pins_may all number done (Output name ∷ rest) place inside known unclocked pins defined room = (tt, pins_may all number done rest place inside known.1 unclocked.1 pins.1 defined.1 room)
+pins_may all number done (Gate name kind sources ∷ rest) place inside known unclocked pins defined room =
+    let bare = bare_count rest in
+    let count = gate_count name kind sources known.0 unclocked.0 pins.0 in
+    let most = count.most in
+    let gate : netlist.Gate = record { kind = kind_of_word kind; sources = map (number_in all.names) sources } in
+    let moved : done ++ gate ∷ bare_gates rest ≡ (done ++ gate ∷ []) ++ bare_gates rest = sym (append_assoc done (gate ∷ []) (bare_gates rest)) in
+    let next : suc number ≡ all.inputs + length (done ++ gate ∷ []) = omega (arith, place, length-append done (gate ∷ [])) in
+    let more : pins_of (done ++ gate ∷ []) ≡ pins_of done + length sources = omega (arith, pins_of-append done (gate ∷ []), pins_of-cons gate [], length-map sources (number_in all.names)) in
+    let after = pins_added all number done (bare_gates rest) (kind_of_word kind) [] sources place ∙ ap (with_gates all) moved in (
+      (omega (arith, inside, room), gate_may all number done (bare_gates rest) (kind_of_word kind) [] sources place (omega (arith, inside)) defined.0 (omega (arith, most)) (omega (arith, room, bare.1))),
+      subst (λ now. MaySteps MayPins after_pins (record { netlist = now; gate = suc number }) rest) (sym after)
+          (pins_may all (suc number) (done ++ gate ∷ []) rest next (omega (arith, inside)) known.1 unclocked.1 pins.1 defined.1 (omega (arith, room, more))),
+    )
+
+-- the outputs may be added
+outputs_may : (all : netlist.Netlist) (statements : List Statement) → AllByRecursion (UsesKnown all.names) statements → MaySteps MayOutput after_output all statements
+outputs_may all [] defined = tt
+outputs_may all (Input name ∷ rest) defined = (tt, outputs_may all rest defined.1)
+outputs_may all (Output name ∷ rest) defined = (present-named all.names name defined.0.0, outputs_may (netlist.with_output all (number_in all.names name)) rest defined.1)
+outputs_may all (Gate name kind sources ∷ rest) defined = (tt, outputs_may all rest defined.1)
+
+-- checked statements may be built
+pub may_build : (statements : List Statement) → IsChecked statements → MayBuild statements
+may_build statements h =
+    let total = counts statements in
+    let few = h.few in
+    let bare = bare_count statements in
+    let nodes = nodes_of-is statements in
+    let base : netlist.Netlist = record { names = node_names statements; inputs = length (input_names statements); gates = bare_gates statements; outputs = [] } in
+    let long : length (node_names statements) ≡ length (input_names statements) + length (gate_names statements) = length-append (input_names statements) (gate_names statements) in
+    record {
+      inputs = inputs_may netlist.empty_netlist statements refl h.short h.inputs_apart (omega (arith, total, few));
+      gates = subst (λ now. MaySteps MayGate after_gate now statements) (sym nodes.0) (gates_may (record { names = input_names statements; inputs = length (input_names statements); gates = []; outputs = [] }) statements h.short h.gates_apart (omega (arith, total, few)));
+      pins = subst (λ (now : netlist.Netlist). MaySteps MayPins after_pins (record { netlist = now; gate = now.inputs }) statements) (sym nodes.1)
+          (pins_may base (length (input_names statements)) [] statements (sym (add-zero (length (input_names statements)))) (omega (arith, long)) h.known h.unclocked h.pins h.defined (omega (arith, total, few, long)));
+      outputs = subst (λ now. MaySteps MayOutput after_output now statements) (sym (connected-is statements)) (outputs_may (with_gates base (gates_of (node_names statements) statements)) statements h.defined);
+    }
+
+-- each of their gates has a pin
+gates_whole : (names : List (List ℕ)) (statements : List Statement) → AllByRecursion (λ statement. has_unknown_kind statement ≡ false) statements → AllByRecursion (λ statement. has_clocked_kind statement ≡ false) statements → AllByRecursion (λ statement. has_wrong_pins statement ≡ false) statements → All (λ gate. 1 ≤ length gate.sources) (gates_of names statements)
+gates_whole names [] known unclocked pins = All-nil _
+gates_whole names (Input name ∷ rest) known unclocked pins = gates_whole names rest known.1 unclocked.1 pins.1
+gates_whole names (Output name ∷ rest) known unclocked pins = gates_whole names rest known.1 unclocked.1 pins.1
+gates_whole names (Gate name kind sources ∷ rest) known unclocked pins =
+    let count = gate_count name kind sources known.0 unclocked.0 pins.0 in
+    let some = count.some in
+    All-cons (λ (gate : netlist.Gate). 1 ≤ length gate.sources) (record { kind = kind_of_word kind; sources = map (number_in names) sources }) (gates_of names rest)
+    (omega (arith, some, length-map sources (number_in names))) (gates_whole names rest known.1 unclocked.1 pins.1)
+
+pub whole : (statements : List Statement) → IsChecked statements → netlist.IsWhole (netlist_of statements)
+whole statements h = gates_whole (node_names statements) statements h.known h.unclocked h.pins

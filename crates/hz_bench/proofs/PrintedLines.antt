@@ -1,0 +1,311 @@
+-- What the lines of a printed text are.
+use Rattle.std.proofs.Common.{◌≡◌, ◌∙◌, ℕ, ◌+◌, ◌<◌, ◌≤◌, suc, Bool, true, false, not, ◌&&◌, ◌||◌, ◌==◌, nat_le, List, [], ◌∷◌, ◌++◌, Some, length, map, take, codes, refl, ap, sym, arith, append_assoc}
+use Rattle.std.specs.List.{list_all, All}
+use Rattle.std.specs.Option.{option_map}
+use Rattle.std.proofs.lemmas.Bool.Decides.{nat_tests}
+use Rattle.std.proofs.lemmas.List.{map-append}
+use Rattle.std.proofs.lemmas.List.Folds.{list_all-append}
+use Rattle.std.proofs.lemmas.List.Elements.{All-head, All-tail, All-take, All-map}
+use Rattle.hz_core.specs.declared.kind.Kind.{Kind}
+use Rattle.hz_core.specs.declared.kind.Kind.TheVariants.{And, Nand, Or, Nor, Xor, Xnor, Not, Buff}
+use Rattle.hz_core.specs.Netlist.{Netlist, Gate as GateOf, IsName, IsCircuit, IsGateAmong, IsWhole, is_name_byte}
+use Rattle.hz_line.specs.declared.bytes.Mark.TheVariants.{Open, Close, Comma, Equals}
+use Rattle.hz_line.specs.Byte.{class_of, is_letter}
+use Rattle.hz_line.specs.Line.{lines_of}
+use Rattle.hz_line.specs.Token.{TokenOf, WordOf, MarkOf, tokens_of, with_token, begins_in_word}
+use Rattle.hz_line.specs.Statement.{Meaning, Nothing, Means, meaning_of_tokens}
+use Rattle.hz_line.proofs.WrittenLemmas.{tokens_of-open, tokens_of-close, tokens_of-comma, tokens_of-equals, tokens_of-space, is_letter-separators, both, tokens_of-word_before, is_inline, lines_of-written}
+use Rattle.hz_bench.specs.declared.forms.KindWord.TheVariants.{Known}
+use Rattle.hz_bench.specs.declared.forms.Form.{Form}
+use Rattle.hz_bench.specs.declared.forms.Form.TheVariants as form
+use Rattle.hz_bench.specs.Statement.{Statement, Gate, kind_word_of, port_form, port_of, names_of, statement_of}
+use Rattle.hz_bench.specs.Text.{meaning_of}
+use Rattle.hz_bench.specs.Printed.{name_at, kind_name, port_line, port_lines, more_sources, source_list, gate_head, gate_line, gate_lines, printed}
+
+-- a word that stands within a line
+pub record IsWritten (word : List ℕ) : Type 0 where
+  pub some : 0 < length word
+  pub letters : list_all is_letter word ≡ true
+  pub inline : list_all is_inline word ≡ true
+
+off : (a : Bool) → not a ≡ true → a ≡ false
+off true h = cc
+off false h = refl
+
+neither : (a b : Bool) → not (a || b) ≡ true → (not a ≡ true) × (b ≡ false)
+neither true b h = cc
+neither false true h = cc
+neither false false h = (refl, refl)
+
+far : (byte at : ℕ) → nat_le 33 byte ≡ true → nat_le at 32 ≡ true → (byte == at) ≡ false
+far byte at h l = grind (arith, nat_tests, h, l)
+
+-- a byte of a name is a letter, and ends no line
+name_byte : (byte : ℕ) → is_name_byte byte ≡ true → (is_letter byte ≡ true) × (is_inline byte ≡ true)
+unfolding class_of
+name_byte byte h =
+    let parts = both (nat_le 33 byte && nat_le byte 126) _ h in
+    let range = both (nat_le 33 byte) (nat_le byte 126) parts.0 in
+    let hash = neither (byte == 40 || byte == 41 || byte == 44 || byte == 61) (byte == 35) parts.1 in
+    let equals = neither (byte == 40 || byte == 41 || byte == 44) (byte == 61) hash.0 in
+    let comma = neither (byte == 40 || byte == 41) (byte == 44) equals.0 in
+    let closing = neither (byte == 40) (byte == 41) comma.0 in
+    let opening = off (byte == 40) closing.0 in
+    let space = far byte 32 range.0 refl in
+    let tab = far byte 9 range.0 refl in
+    let feed = far byte 10 range.0 refl in
+    let back = far byte 13 range.0 refl in
+    (rw (space, tab, hash.1, opening, closing.1, comma.1, equals.1, range.0, range.1) refl, rw (feed, back) refl)
+
+name_bytes : (name : List ℕ) → list_all is_name_byte name ≡ true → (list_all is_letter name ≡ true) × (list_all is_inline name ≡ true)
+name_bytes [] h = (refl, refl)
+name_bytes (byte ∷ name) h =
+    let parts = both (is_name_byte byte) _ h in
+    let this = name_byte byte parts.0 in
+    let rest = name_bytes name parts.1 in
+    (rw (this.0, rest.0) refl, rw (this.1, rest.1) refl)
+
+IsWritten-name : (name : List ℕ) → IsName name → IsWritten name
+IsWritten-name name is =
+    let bytes = name_bytes name is.bytes in
+    record { some = omega (arith, is.some); letters = bytes.0; inline = bytes.1 }
+
+IsWritten-kind : (kind : Kind) → IsWritten (kind_name kind)
+unfolding class_of
+IsWritten-kind And = record { some = omega arith; letters = refl; inline = refl }
+IsWritten-kind Nand = record { some = omega arith; letters = refl; inline = refl }
+IsWritten-kind Or = record { some = omega arith; letters = refl; inline = refl }
+IsWritten-kind Nor = record { some = omega arith; letters = refl; inline = refl }
+IsWritten-kind Xor = record { some = omega arith; letters = refl; inline = refl }
+IsWritten-kind Xnor = record { some = omega arith; letters = refl; inline = refl }
+IsWritten-kind Not = record { some = omega arith; letters = refl; inline = refl }
+IsWritten-kind Buff = record { some = omega arith; letters = refl; inline = refl }
+
+kind_back : (kind : Kind) → kind_word_of (kind_name kind) ≡ Known kind
+unfolding kind_word_of
+kind_back And = refl
+kind_back Nand = refl
+kind_back Or = refl
+kind_back Nor = refl
+kind_back Xor = refl
+kind_back Xnor = refl
+kind_back Not = refl
+kind_back Buff = refl
+
+-- a word that makes an input or an output of a name
+record IsPortWord (word : List ℕ) (made : Form) : Type 0 where
+  written : IsWritten word
+  makes : port_form word ≡ Some made
+
+input_word : IsPortWord (codes "INPUT") form.Input
+unfolding class_of port_form
+input_word = record { written = record { some = omega arith; letters = refl; inline = refl }; makes = refl }
+
+output_word : IsPortWord (codes "OUTPUT") form.Output
+unfolding class_of port_form
+output_word = record { written = record { some = omega arith; letters = refl; inline = refl }; makes = refl }
+
+-- what each line of a text is
+abbrev pub meanings_of : List ℕ → List (Meaning Statement)
+meanings_of text = map meaning_of (lines_of text)
+
+one_line : (line rest : List ℕ) (statement : Statement) → list_all is_inline line ≡ true → meaning_of line ≡ Means statement → meanings_of ((line ++ 10 ∷ []) ++ rest) ≡ Means statement ∷ meanings_of rest
+one_line line rest statement inline means =
+    ap meanings_of (append_assoc line (10 ∷ []) rest)
+    ∙ ap (map meaning_of) (lines_of-written line rest inline)
+    ∙ ap (λ first. first ∷ meanings_of rest) means
+
+-- the line of an input or an output, before its line feed
+abbrev port_body : List ℕ → List ℕ → List ℕ
+port_body word name = word ++ (40 ∷ (name ++ 41 ∷ []))
+
+port_split : (word name : List ℕ) → port_line word name ≡ port_body word name ++ 10 ∷ []
+unfolding port_line
+port_split word name =
+    sym (append_assoc word (40 ∷ (name ++ 41 ∷ [])) (10 ∷ []) ∙ ap (λ back. word ++ 40 ∷ back) (append_assoc name (41 ∷ []) (10 ∷ [])))
+
+port_tokens : (word name : List ℕ) → IsWritten word → IsWritten name → tokens_of (port_body word name) ≡ Some (WordOf word ∷ MarkOf Open ∷ WordOf name ∷ MarkOf Close ∷ [])
+port_tokens word name first second =
+    let named = tokens_of-word_before name (41 ∷ []) second.some second.letters is_letter-separators.2 ∙ ap (with_token (WordOf name)) (tokens_of-close []) in
+    tokens_of-word_before word (40 ∷ (name ++ 41 ∷ [])) first.some first.letters is_letter-separators.1
+    ∙ ap (with_token (WordOf word)) (tokens_of-open (name ++ 41 ∷ []) ∙ ap (with_token (MarkOf Open)) named)
+
+port_meaning : (word name : List ℕ) (made : Form) → IsPortWord word made → IsWritten name → meaning_of (port_body word name) ≡ Means (port_of name made)
+port_meaning word name made is written = ap (meaning_of_tokens statement_of) (port_tokens word name is.written written) ∙ rw is.makes refl
+
+port_inline : (word name : List ℕ) → IsWritten word → IsWritten name → list_all is_inline (port_body word name) ≡ true
+port_inline word name first second =
+    let back : list_all is_inline (name ++ 41 ∷ []) ≡ true = rw (list_all-append is_inline name (41 ∷ []), second.inline) refl in
+    rw (list_all-append is_inline word (40 ∷ (name ++ 41 ∷ [])), first.inline, back) refl
+
+port_read : (word name rest : List ℕ) (made : Form) → IsPortWord word made → IsWritten name → meanings_of (port_line word name ++ rest) ≡ Means (port_of name made) ∷ meanings_of rest
+port_read word name rest made is written =
+    ap (λ line. meanings_of (line ++ rest)) (port_split word name)
+    ∙ one_line (port_body word name) rest (port_of name made) (port_inline word name is.written written) (port_meaning word name made is written)
+
+-- names as inputs, or as outputs
+abbrev pub ports : Form → List (List ℕ) → List Statement
+ports made names = map (λ name. port_of name made) names
+
+ports_read : (word : List ℕ) (made : Form) (names : List (List ℕ)) (rest : List ℕ) → IsPortWord word made → All IsName names → meanings_of (port_lines word names ++ rest) ≡ map Means (ports made names) ++ meanings_of rest
+ports_read word made [] rest is named = refl
+ports_read word made (name ∷ names) rest is named =
+    ap meanings_of (append_assoc (port_line word name) (port_lines word names) rest)
+    ∙ port_read word name (port_lines word names ++ rest) made is (IsWritten-name name (All-head IsName name names named))
+    ∙ ap (λ later. Means (port_of name made) ∷ later) (ports_read word made names rest is (All-tail IsName name names named))
+
+-- the tokens of further names, up to the closing parenthesis
+abbrev further : List (List ℕ) → List TokenOf
+further [] = MarkOf Close ∷ []
+further (name ∷ names) = MarkOf Comma ∷ WordOf name ∷ further names
+
+names_of-further : (name : List ℕ) (names : List (List ℕ)) → names_of (WordOf name ∷ further names) ≡ Some (name ∷ names)
+names_of-further name [] = refl
+names_of-further name (next ∷ names) = ap (option_map (λ (rest : List (List ℕ)). name ∷ rest)) (names_of-further next names)
+
+-- each of these numbers is a node with a name
+abbrev AreNodes : List (List ℕ) → List ℕ → Type 0
+AreNodes names nodes = All (λ node. node < length names) nodes
+
+node_written : (names : List (List ℕ)) (node : ℕ) → All IsName names → node < length names → IsWritten (name_at names node)
+node_written names node named below = IsWritten-name (name_at names node) (named node [] below)
+
+further_begins : (names : List (List ℕ)) (sources : List ℕ) → begins_in_word (more_sources names sources ++ 41 ∷ []) ≡ false
+further_begins names [] = is_letter-separators.2
+further_begins names (source ∷ sources) = is_letter-separators.3
+
+further_tokens : (names : List (List ℕ)) (sources : List ℕ) → All IsName names → AreNodes names sources → tokens_of (more_sources names sources ++ 41 ∷ []) ≡ Some (further (map (name_at names) sources))
+further_tokens names [] named below = tokens_of-close []
+further_tokens names (source ∷ sources) named below =
+    let P : ℕ → Type 0 = λ node. node < length names in
+    let name = name_at names source in
+    let rest = more_sources names sources in
+    let word = node_written names source named (All-head P source sources below) in
+    let ih = further_tokens names sources named (All-tail P source sources below) in
+    tokens_of-comma (32 ∷ (name ++ rest) ++ 41 ∷ [])
+    ∙ ap (with_token (MarkOf Comma)) (tokens_of-space ((name ++ rest) ++ 41 ∷ []) ∙ ap tokens_of (append_assoc name rest (41 ∷ []))
+    ∙ tokens_of-word_before name (rest ++ 41 ∷ []) word.some word.letters (further_begins names sources) ∙ ap (with_token (WordOf name)) ih)
+
+further_inline : (names : List (List ℕ)) (sources : List ℕ) → All IsName names → AreNodes names sources → list_all is_inline (more_sources names sources) ≡ true
+further_inline names [] named below = refl
+further_inline names (source ∷ sources) named below =
+    let P : ℕ → Type 0 = λ node. node < length names in
+    let word = node_written names source named (All-head P source sources below) in
+    let ih = further_inline names sources named (All-tail P source sources below) in
+    rw (list_all-append is_inline (name_at names source) (more_sources names sources), word.inline, ih) refl
+
+-- the tokens of a list of sources, up to the closing parenthesis, are the names
+sources_tokens : (names : List (List ℕ)) (sources : List ℕ) → All IsName names → AreNodes names sources → 1 ≤ length sources → (tokens : List TokenOf) × (tokens_of (source_list names sources ++ 41 ∷ []) ≡ Some tokens) × (names_of tokens ≡ Some (map (name_at names) sources))
+sources_tokens names [] named below some = absurd (omega arith)
+sources_tokens names (first ∷ rest) named below some =
+    let P : ℕ → Type 0 = λ node. node < length names in
+    let name = name_at names first in
+    let word = node_written names first named (All-head P first rest below) in (
+      WordOf name ∷ further (map (name_at names) rest),
+      ap tokens_of (append_assoc name (more_sources names rest) (41 ∷ []))
+          ∙ tokens_of-word_before name (more_sources names rest ++ 41 ∷ []) word.some word.letters (further_begins names rest)
+          ∙ ap (with_token (WordOf name)) (further_tokens names rest named (All-tail P first rest below)),
+      names_of-further name (map (name_at names) rest),
+    )
+
+sources_inline : (names : List (List ℕ)) (sources : List ℕ) → All IsName names → AreNodes names sources → list_all is_inline (source_list names sources) ≡ true
+sources_inline names [] named below = refl
+sources_inline names (first ∷ rest) named below =
+    let P : ℕ → Type 0 = λ node. node < length names in
+    let word = node_written names first named (All-head P first rest below) in
+    rw (list_all-append is_inline (name_at names first) (more_sources names rest), word.inline, further_inline names rest named (All-tail P first rest below)) refl
+
+head_tokens : (name rest : List ℕ) (kind : Kind) → IsWritten name → tokens_of (gate_head name kind ++ rest) ≡ with_token (WordOf name) (with_token (MarkOf Equals) (with_token (WordOf (kind_name kind)) (with_token (MarkOf Open) (tokens_of rest))))
+unfolding gate_head
+head_tokens name rest kind written =
+    let word = kind_name kind in
+    let spelled = IsWritten-kind kind in
+    let kind_first = ap tokens_of (append_assoc word (40 ∷ []) rest) ∙ tokens_of-word_before word (40 ∷ rest) spelled.some spelled.letters is_letter-separators.1 ∙ ap (with_token (WordOf word)) (tokens_of-open rest) in
+    let equals_first = tokens_of-space (61 ∷ 32 ∷ (word ++ 40 ∷ []) ++ rest) ∙ tokens_of-equals (32 ∷ (word ++ 40 ∷ []) ++ rest) ∙ ap (with_token (MarkOf Equals)) (tokens_of-space ((word ++ 40 ∷ []) ++ rest) ∙ kind_first) in
+    ap tokens_of (append_assoc name (32 ∷ 61 ∷ 32 ∷ word ++ 40 ∷ []) rest)
+    ∙ tokens_of-word_before name (32 ∷ 61 ∷ 32 ∷ (word ++ 40 ∷ []) ++ rest) written.some written.letters is_letter-separators.0
+    ∙ ap (with_token (WordOf name)) equals_first
+
+head_inline : (name : List ℕ) (kind : Kind) → IsWritten name → list_all is_inline (gate_head name kind) ≡ true
+unfolding gate_head
+head_inline name kind written =
+    let back : list_all is_inline (kind_name kind ++ 40 ∷ []) ≡ true = rw (list_all-append is_inline (kind_name kind) (40 ∷ []), (IsWritten-kind kind).inline) refl in
+    rw (list_all-append is_inline name (32 ∷ 61 ∷ 32 ∷ kind_name kind ++ 40 ∷ []), written.inline, back) refl
+
+-- the line of a gate, before its line feed
+abbrev gate_body : List (List ℕ) → List ℕ → GateOf → List ℕ
+gate_body names name gate = gate_head name gate.kind ++ (source_list names gate.sources ++ 41 ∷ [])
+
+gate_split : (names : List (List ℕ)) (name : List ℕ) (gate : GateOf) → gate_line names name gate ≡ gate_body names name gate ++ 10 ∷ []
+unfolding gate_line
+gate_split names name gate =
+    sym (append_assoc (gate_head name gate.kind) (source_list names gate.sources ++ 41 ∷ []) (10 ∷ []) ∙ ap (λ back. gate_head name gate.kind ++ back) (append_assoc (source_list names gate.sources) (41 ∷ []) (10 ∷ [])))
+
+-- a gate as a statement
+abbrev pub gate_statement : List (List ℕ) → List ℕ → GateOf → Statement
+gate_statement names name gate = Gate name (Known gate.kind) (map (name_at names) gate.sources)
+
+gate_meaning : (names : List (List ℕ)) (name : List ℕ) (gate : GateOf) → All IsName names → IsWritten name → AreNodes names gate.sources → 1 ≤ length gate.sources → meaning_of (gate_body names name gate) ≡ Means (gate_statement names name gate)
+gate_meaning names name gate named written below some =
+    let list = sources_tokens names gate.sources named below some in
+    ap (meaning_of_tokens statement_of) (head_tokens name (source_list names gate.sources ++ 41 ∷ []) gate.kind written)
+    ∙ ap (λ tokens. meaning_of_tokens statement_of (with_token (WordOf name) (with_token (MarkOf Equals) (with_token (WordOf (kind_name gate.kind)) (with_token (MarkOf Open) tokens))))) list.1
+    ∙ rw (list.2, kind_back gate.kind) refl
+
+gate_inline : (names : List (List ℕ)) (name : List ℕ) (gate : GateOf) → All IsName names → IsWritten name → AreNodes names gate.sources → list_all is_inline (gate_body names name gate) ≡ true
+gate_inline names name gate named written below =
+    let back : list_all is_inline (source_list names gate.sources ++ 41 ∷ []) ≡ true = rw (list_all-append is_inline (source_list names gate.sources) (41 ∷ []), sources_inline names gate.sources named below) refl in
+    rw (list_all-append is_inline (gate_head name gate.kind) (source_list names gate.sources ++ 41 ∷ []), head_inline name gate.kind written, back) refl
+
+gate_read : (names : List (List ℕ)) (name rest : List ℕ) (gate : GateOf) → All IsName names → IsWritten name → AreNodes names gate.sources → 1 ≤ length gate.sources → meanings_of (gate_line names name gate ++ rest) ≡ Means (gate_statement names name gate) ∷ meanings_of rest
+gate_read names name rest gate named written below some =
+    ap (λ line. meanings_of (line ++ rest)) (gate_split names name gate)
+    ∙ one_line (gate_body names name gate) rest (gate_statement names name gate) (gate_inline names name gate named written below) (gate_meaning names name gate named written below some)
+
+-- gates as statements, the first of which is this node
+abbrev pub gate_statements : List (List ℕ) → ℕ → List GateOf → List Statement
+gate_statements names node [] = []
+gate_statements names node (gate ∷ rest) = gate_statement names (name_at names node) gate ∷ gate_statements names (suc node) rest
+
+-- the gate has a pin
+abbrev pub HasPin : GateOf → Type 0
+HasPin gate = 1 ≤ length gate.sources
+
+gates_read : (names : List (List ℕ)) (node : ℕ) (gates : List GateOf) → All IsName names → node + length gates ≤ length names → All (IsGateAmong (length names)) gates → All HasPin gates → meanings_of (gate_lines names node gates) ≡ map Means (gate_statements names node gates) ++ Nothing ∷ []
+gates_read names node [] named room among pins = refl
+gates_read names node (gate ∷ rest) named room among pins =
+    let written = node_written names node named (omega (arith, room)) in
+    let sound = All-head (IsGateAmong (length names)) gate rest among in
+    gate_read names (name_at names node) (gate_lines names (suc node) rest) gate named written sound.sources (All-head HasPin gate rest pins)
+    ∙ ap (λ later. Means (gate_statement names (name_at names node) gate) ∷ later)
+    (gates_read names (suc node) rest named (omega (arith, room)) (All-tail (IsGateAmong (length names)) gate rest among) (All-tail HasPin gate rest pins))
+
+-- a circuit as statements: its inputs, its outputs and its gates
+abbrev pub statements_for : Netlist → List Statement
+statements_for netlist =
+    ports form.Input (take netlist.inputs netlist.names)
+    ++ (ports form.Output (map (name_at netlist.names) netlist.outputs)
+    ++ gate_statements netlist.names netlist.inputs netlist.gates)
+
+-- each line of the text is one of these statements, in order, and the last line is empty
+abbrev pub IsReadAs : List ℕ → List Statement → Type 0
+IsReadAs text statements = meanings_of text ≡ map Means statements ++ Nothing ∷ []
+
+pub printed-IsReadAs : (netlist : Netlist) → IsCircuit netlist → IsWhole netlist → IsReadAs (printed netlist) (statements_for netlist)
+unfolding printed
+printed-IsReadAs netlist circuit whole =
+    let names = netlist.names in
+    let inputs = take netlist.inputs names in
+    let outputs = map (name_at names) netlist.outputs in
+    let gates = gate_statements names netlist.inputs netlist.gates in
+    let last = gates_read names netlist.inputs netlist.gates circuit.names (omega (arith, circuit.nodes)) circuit.gates whole in
+    let outputs_named = All-map IsName (name_at names) netlist.outputs (λ k d below. circuit.names _ [] (circuit.outputs k d below)) in
+    let middle = ports_read (codes "OUTPUT") form.Output outputs (gate_lines names netlist.inputs netlist.gates) output_word outputs_named in
+    ap meanings_of (append_assoc (port_lines (codes "INPUT") inputs) (port_lines (codes "OUTPUT") outputs) (gate_lines names netlist.inputs netlist.gates))
+    ∙ ports_read (codes "INPUT") form.Input inputs (port_lines (codes "OUTPUT") outputs ++ gate_lines names netlist.inputs netlist.gates) input_word (All-take IsName netlist.inputs names circuit.names)
+    ∙ ap (λ later. map Means (ports form.Input inputs) ++ later) (middle ∙ ap (λ later. map Means (ports form.Output outputs) ++ later) last)
+    ∙ sym (
+    ap (λ all. all ++ Nothing ∷ []) (map-append Means (ports form.Input inputs) (ports form.Output outputs ++ gates) ∙ ap (λ all. map Means (ports form.Input inputs) ++ all) (map-append Means (ports form.Output outputs) gates))
+    ∙ append_assoc (map Means (ports form.Input inputs)) (map Means (ports form.Output outputs) ++ map Means gates) (Nothing ∷ [])
+    ∙ ap (λ all. map Means (ports form.Input inputs) ++ all) (append_assoc (map Means (ports form.Output outputs)) (map Means gates) (Nothing ∷ []))
+    )

@@ -1,0 +1,111 @@
+-- What the reader answers, by the law of faults.
+use Rattle.std.proofs.Common.{◌≡◌, ◌∙◌, ℕ, List, Option, Some, None, map, refl, ap, sym, subst, inl, inr, arith, if◌then◌else◌, ◌==◌}
+use Rattle.std.specs.Prelude.{◌⊎◌}
+use Rattle.hz_core.specs.Netlist.{IsWhole}
+use Rattle.hz_line.specs.Statement.{Numbered}
+use Rattle.hz_bench.specs.declared.entry.Entry.{Entry}
+use Rattle.hz_bench.specs.declared.fault.BenchFault.{BenchFault}
+use Rattle.hz_bench.specs.declared.fault.BenchFault.TheVariants.{Form, Name, KindUnknown, Clocked, Twice, Pins, Undefined, TooMany, Memory}
+use Rattle.hz_bench.specs.Check.{first_fault, pin_count}
+use Rattle.hz_bench.specs.Entry.{numbered_list, statement_list}
+use Rattle.hz_bench.specs.Fault.{Defines, Stands, number_of, line_of, ComesFirst, IsLeastFault, IsAnswer}
+use Rattle.hz_bench.specs.Netlist.{netlist_of}
+use Rattle.hz_bench.specs.Pass.{IsParsed, IsParseFault, IsAccepted}
+use Rattle.hz_bench.specs.Statement.{Statement, defined_name}
+use Rattle.hz_bench.specs.Text.{meaning_at, statement_meant, numbered_statements, statements_of, variables_of}
+use Rattle.hz_bench.specs.Twice.{IsFoundOrMemory, earlier_line}
+use Rattle.hz_bench.proofs.CheckedLemmas.{IsChecked, checked}
+use Rattle.hz_bench.proofs.FaultLaws.{Outcome, form-least, form-none, first_fault-outcome, second-first, line_found}
+use Rattle.hz_bench.proofs.MayLemmas.{may_build, whole}
+use Rattle.hz_bench.proofs.NetlistLemmas.{statement_list-numbered}
+
+-- why a text was not parsed
+pub parse-answer : (text : List ℕ) (fault : BenchFault) → IsParseFault text fault → IsAnswer text fault
+parse-answer text (Form line) h = form-least text line h
+parse-answer text (Name line) h = absurd h
+parse-answer text (KindUnknown line) h = absurd h
+parse-answer text (Clocked line) h = absurd h
+parse-answer text (Twice line first) h = absurd h
+parse-answer text (Pins line count) h = absurd h
+parse-answer text (Undefined line) h = absurd h
+parse-answer text (TooMany variables) h = absurd h
+parse-answer text Memory h = tt
+
+-- what the check answers of the statements of a text is said of the text
+check-outcome : (text : List ℕ) (entries : List Entry) (answer : Option BenchFault) → IsParsed text entries → first_fault (numbered_list entries) ≡ answer → Outcome text answer
+check-outcome text entries answer parsed e =
+    subst (Outcome text) (ap first_fault (sym parsed.statements) ∙ e) (first_fault-outcome text (form-none text parsed.formed))
+
+pub check-answer : (text : List ℕ) (entries : List Entry) (fault : BenchFault) → IsParsed text entries → IsFoundOrMemory (first_fault (numbered_list entries)) fault → IsAnswer text fault
+check-answer text entries (Form line) parsed h = check-outcome text entries (Some (Form line)) parsed h
+check-answer text entries (Name line) parsed h = check-outcome text entries (Some (Name line)) parsed h
+check-answer text entries (KindUnknown line) parsed h = check-outcome text entries (Some (KindUnknown line)) parsed h
+check-answer text entries (Clocked line) parsed h = check-outcome text entries (Some (Clocked line)) parsed h
+check-answer text entries (Twice line first) parsed h = check-outcome text entries (Some (Twice line first)) parsed h
+check-answer text entries (Pins line count) parsed h = check-outcome text entries (Some (Pins line count)) parsed h
+check-answer text entries (Undefined line) parsed h = check-outcome text entries (Some (Undefined line)) parsed h
+check-answer text entries (TooMany variables) parsed h = check-outcome text entries (Some (TooMany variables)) parsed h
+check-answer text entries Memory parsed h = tt
+
+pub accepted : (text : List ℕ) (entries : List Entry) → IsParsed text entries → first_fault (numbered_list entries) ≡ None → IsAccepted text entries
+accepted text entries parsed e =
+    let statements = sym (statement_list-numbered entries) ∙ ap (map (λ (numbered : Numbered Statement). numbered.statement)) parsed.statements in
+    let fine = subst IsChecked (statement_list-numbered entries) (checked (numbered_list entries) e) in
+    record {
+      statements = statements;
+      faultless = check-outcome text entries None parsed e;
+      may = may_build (statement_list entries) fine;
+      whole = subst (λ (list : List Statement). IsWhole (netlist_of list)) statements (whole (statement_list entries) fine);
+    }
+
+-- the one fault with this number on this line: what it carries besides is the text's
+abbrev fault_at : List ℕ → ℕ → ℕ → BenchFault
+fault_at text number line =
+    let statement = statement_meant (meaning_at text line) in
+    if number == 1 then Form line
+    else (if number == 2 then Name line
+    else (if number == 3 then KindUnknown line
+    else (if number == 4 then Clocked line
+    else (if number == 5 then Twice line (line_found (earlier_line (numbered_statements text) (defined_name statement)))
+    else (if number == 6 then Pins line (pin_count statement)
+    else (if number == 7 then Undefined line
+    else (if number == 8 then TooMany (variables_of (statements_of text)) else Memory)))))))
+
+fault_at-back : (text : List ℕ) (fault : BenchFault) → Stands text fault → fault_at text (number_of fault) (line_of fault) ≡ fault
+fault_at-back text (Form line) p = refl
+fault_at-back text (Name line) p = refl
+fault_at-back text (KindUnknown line) p = refl
+fault_at-back text (Clocked line) p = refl
+fault_at-back text (Twice line first) (name, second) = by_statement second.here
+  where
+    by_statement : Defines text line name → fault_at text 5 line ≡ Twice line first
+    by_statement (statement, states, is) =
+        let named : defined_name (statement_meant (meaning_at text line)) ≡ Some name = ap (λ meaning. defined_name (statement_meant meaning)) states ∙ is in
+        ap (λ line_of_first. Twice line (line_found line_of_first)) (ap (earlier_line (numbered_statements text)) named ∙ second-first text line first name second)
+fault_at-back text (Pins line count) (statement, states, wrong, is) = ap (Pins line) (ap (λ meaning. pin_count (statement_meant meaning)) states ∙ is)
+fault_at-back text (Undefined line) p = refl
+fault_at-back text (TooMany variables) p = ap TooMany p.1
+fault_at-back text Memory p = absurd p
+
+both-first : (fault other : BenchFault) → ComesFirst fault other → ComesFirst other fault → (number_of fault ≡ number_of other) × (line_of fault ≡ line_of other)
+both-first fault other (inl a) (inl b) = absurd (omega (arith, a, b))
+both-first fault other (inl a) (inr b) = absurd (omega (arith, a, b.0))
+both-first fault other (inr a) (inl b) = absurd (omega (arith, a.0, b))
+both-first fault other (inr a) (inr b) = (a.0, omega (arith, a.1, b.1))
+
+-- the least fault is one
+pub least-unique : (text : List ℕ) (fault other : BenchFault) → IsLeastFault text fault → IsLeastFault text other → fault ≡ other
+least-unique text fault other a b =
+    let same = both-first fault other (a.least other b.stands) (b.least fault a.stands) in
+    sym (fault_at-back text fault a.stands) ∙ ap (λ number. fault_at text number (line_of fault)) same.0 ∙ ap (fault_at text (number_of other)) same.1 ∙ fault_at-back text other b.stands
+
+pub answer-exact : (text : List ℕ) (fault other : BenchFault) → IsAnswer text fault → IsLeastFault text other → (fault ≡ other) ⊎ (fault ≡ Memory)
+answer-exact text (Form line) other h l = inl (least-unique text (Form line) other h l)
+answer-exact text (Name line) other h l = inl (least-unique text (Name line) other h l)
+answer-exact text (KindUnknown line) other h l = inl (least-unique text (KindUnknown line) other h l)
+answer-exact text (Clocked line) other h l = inl (least-unique text (Clocked line) other h l)
+answer-exact text (Twice line first) other h l = inl (least-unique text (Twice line first) other h l)
+answer-exact text (Pins line count) other h l = inl (least-unique text (Pins line count) other h l)
+answer-exact text (Undefined line) other h l = inl (least-unique text (Undefined line) other h l)
+answer-exact text (TooMany variables) other h l = inl (least-unique text (TooMany variables) other h l)
+answer-exact text Memory other h l = inr refl

@@ -1,0 +1,14 @@
+use Rattle.hz_bench.specs.Built.{after_output, MayOutput}
+use Rattle.hz_bench.proofs.BuildLemmas.{entries_may, entries_more}
+use Rattle.hz_bench.proofs.build.add_outputs.Goals as goal
+
+pub add_output-requires : goal.add_output-requires
+add_output-requires c = (entries_may MayOutput after_output c.loop-entry.circuit c.args.entries.now c.loop-entry.entry-index c.entry-item.result c.loop-entry-test.true c.entry-item.is c.loop-entry.invariant.may).0
+
+pub loop-entry-preserved : goal.loop-entry-preserved
+loop-entry-preserved c =
+    let next = entries_may MayOutput after_output c.loop-entry.circuit c.args.entries.now c.loop-entry.entry-index c.entry-item.result c.loop-entry-test.true c.entry-item.is c.loop-entry.invariant.may in
+    record {
+      so_far = entries_more after_output c.args.circuit.now c.loop-entry.circuit c.add_output.new.circuit c.args.entries.now c.loop-entry.entry-index c.entry-item.result c.loop-entry-test.true c.entry-item.is c.loop-entry.invariant.so_far c.in-Ok.ensures;
+      may = rw c.in-Ok.ensures next.1;
+    }

@@ -1,0 +1,394 @@
+-- What a replayer stands for: after a mark, after a step, and what that tells of the cycle since the mark.
+use Rattle.std.proofs.Common.{◌≡◌, ◌≢◌, ◌↔◌, ℕ, zero, suc, ◌+◌, ◌<◌, ◌≤◌, ◌⊎◌, Bool, true, false, not, cond, ◌||◌, ◌&&◌, List, [], ◌∷◌, ◌++◌, length, get_or, set, map, replicate, All, Option, Some, None, IsTrue, refl, sym, ap, ◌∙◌, subst, arith, inl, inr}
+use Rattle.std.specs.Prelude.{Contains, fold, MatchOption, count_by}
+use Rattle.std.specs.Bool.{beq}
+use Rattle.std.specs.List.{AllByRecursion, range_with_len}
+use Rattle.std.proofs.lemmas.Bool.{cases_lt, cases_eq, cases_Bool, false≢true, and_parts, and_from, not-true, not-false, not_from_false, false_from_ne_true, true_from_ne_false}
+use Rattle.std.proofs.lemmas.List.{ext_get_or, length-set, length-map, length-replicate, get_or-set_same, get_or-set_other, get_or_past, get_or-replicate}
+use Rattle.std.proofs.lemmas.List.FromFn.{length-map-range_with_len, get_or-map-range_with_len, fill_by_all}
+use Rattle.hz_net.specs.Network.{Driver, network_of, bit_at, excitation, IsUnstable, IsStable}
+use Rattle.hz_core.specs.Netlist.{Netlist}
+use Rattle.hz_gmw.specs.Runs.{is_listed, RepeatsNone, IsStep, flipped, IsRun, end_of}
+use Rattle.hz_gmw.specs.Cycles.{states_of, IsCycle, WaitsAt, IsTransient, IsNontransient}
+use Rattle.hz_gmw.specs.Instability.{is_unstable, unstable_variables}
+use Rattle.hz_gmw.specs.Least.{IsLeast, IsLeastOf, least_from, least_again}
+use Rattle.hz_gmw.specs.Replayed.{Replayed, Waits, StandsFor, replayed_at, still_watched, stepped_by}
+use Rattle.hz_gmw.specs.ReplayFaults.{times, IsStepFault, IsCycleFault}
+use Rattle.hz_gmw.specs.declared.replay_fault.StepFault.{StepFault}
+use Rattle.hz_gmw.specs.declared.replay_fault.StepFault.TheVariants.{Empty, Repeated, Stable}
+use Rattle.hz_gmw.specs.declared.replay_fault.CycleFault.{CycleFault}
+use Rattle.hz_gmw.specs.declared.replay_fault.CycleFault.TheVariants.{Differs, NotStable, Transient}
+use Rattle.hz_gmw.specs.VariableSets.{AreMembers}
+use Rattle.hz_gmw.specs.Presents.{taken_over}
+use Rattle.hz_gmw.specs.InsideReplay.{without}
+use Rattle.hz_gmw.proofs.Flips.{length-flipped, at-flipped}
+use Rattle.hz_gmw.proofs.Paths.{end_of-append, IsRun-append}
+use Rattle.hz_gmw.proofs.CoverB.{length-end_of}
+use Rattle.hz_gmw.proofs.LeastLemmas.{listed-head, listed-other, listed-Contains, All-listed, IsLeastOf-same, least-listed, least-repeated, RepeatsNone-times, times-RepeatsNone}
+use Rattle.hz_gmw.proofs.Rechecks.{beq-same, beq-refl}
+
+-- the test says whether a variable is unstable
+pub unstable-true : (net : List Driver) (input state : List Bool) (i : ℕ) → is_unstable net input state i ≡ true → IsUnstable net input state i
+unstable-true net input state i is same =
+    false≢true (sym (not-true (beq (bit_at state i) (excitation net input state i)) is) ∙ (ap (beq (bit_at state i)) (sym same) ∙ beq-refl (bit_at state i)))
+
+pub true-unstable : (net : List Driver) (input state : List Bool) (i : ℕ) → IsUnstable net input state i → is_unstable net input state i ≡ true
+true-unstable net input state i unstable =
+    not_from_false (beq (bit_at state i) (excitation net input state i)) (false_from_ne_true (beq (bit_at state i) (excitation net input state i)) (λ e. unstable (beq-same (bit_at state i) (excitation net input state i) e)))
+
+-- a bit that is not different is the same
+same-bit : (a b : Bool) → (a ≢ b → ⊥) → a ≡ b
+same-bit a b not-different = beq-same a b (true_from_ne_false (beq a b) (λ e. not-different (λ same. false≢true (sym e ∙ (ap (beq a) (sym same) ∙ beq-refl a)))))
+
+pub at-unstable_variables : (net : List Driver) (input state : List Bool) (i : ℕ) → i < length net → bit_at (unstable_variables net input state) i ≡ is_unstable net input state i
+at-unstable_variables net input state i inside = get_or-map-range_with_len (is_unstable net input state) 0 (length net) i i false inside (omega arith)
+
+-- right marks are the marks of the unstable variables
+pub unstable-list : (net : List Driver) (input state marks : List Bool) → length marks ≡ length net → ((i : ℕ) → i < length net → bit_at marks i ≡ is_unstable net input state i) → marks ≡ unstable_variables net input state
+unstable-list net input state marks long right = fill_by_all (is_unstable net input state) marks (length net) false long right
+
+-- a replayer whose state is marked stands for the run of this state alone
+pub stands-at : (circuit : Netlist) (input state : List Bool) → StandsFor (replayed_at circuit input state) []
+stands-at circuit input state =
+    let net = network_of circuit in
+    record {
+      run = tt;
+      ends = refl;
+      stepped = (λ e. absurd (false≢true e), λ other. absurd (other refl));
+      watched = λ i inside. (
+        λ is. (bit_at state i, ((refl, unstable-true net input state i (sym (at-unstable_variables net input state i inside) ∙ is)), tt)),
+        λ waits. at-unstable_variables net input state i inside ∙ true-unstable net input state i waits.1.0.1,
+      );
+    }
+
+-- what waits along a run waits in its last state
+waits-end : (net : List Driver) (input state : List Bool) (steps : List (List ℕ)) (i : ℕ) (bit : Bool) → WaitsAt net input state steps i bit → (bit_at (end_of state steps) i ≡ bit) × IsUnstable net input (end_of state steps) i
+waits-end net input state [] i bit waits = waits.0
+waits-end net input state (flips ∷ steps) i bit waits = waits-end net input (flipped flips state) steps i bit waits.1
+
+-- and along its front
+waits-front : (net : List Driver) (input state : List Bool) (steps more : List (List ℕ)) (i : ℕ) (bit : Bool) → WaitsAt net input state (steps ++ more) i bit → WaitsAt net input state steps i bit
+waits-front net input state [] [] i bit waits = waits
+waits-front net input state [] (flips ∷ more) i bit waits = (waits.0, tt)
+waits-front net input state (flips ∷ steps) more i bit waits = (waits.0, waits-front net input (flipped flips state) steps more i bit waits.1)
+
+-- and along a step more where it waits after it
+waits-push : (net : List Driver) (input state : List Bool) (steps : List (List ℕ)) (flips : List ℕ) (i : ℕ) (bit : Bool) → WaitsAt net input state steps i bit → (bit_at (flipped flips (end_of state steps)) i ≡ bit) × IsUnstable net input (flipped flips (end_of state steps)) i → WaitsAt net input state (steps ++ flips ∷ []) i bit
+waits-push net input state [] flips i bit waits last = (waits.0, (last, tt))
+waits-push net input state (first ∷ steps) flips i bit waits last = (waits.0, waits-push net input (flipped first state) steps flips i bit waits.1 last)
+
+some-steps : (steps : List (List ℕ)) (flips : List ℕ) → (steps ++ flips ∷ []) ≢ []
+some-steps [] flips e = cc
+some-steps (first ∷ steps) flips e = cc
+
+not-same : (bit : Bool) → not bit ≡ bit → ⊥
+not-same true e = false≢true e
+not-same false e = false≢true (sym e)
+
+-- a replayer stands for a run with a step more after this step
+pub stands-step : (now : Replayed) (flips : List ℕ) (steps : List (List ℕ)) → length now.state ≡ length (network_of now.circuit) → StandsFor now steps → IsStep (network_of now.circuit) now.input now.state flips → StandsFor (stepped_by now flips) (steps ++ flips ∷ [])
+stands-step now flips steps long stands step =
+    let net = network_of now.circuit in
+    let input = now.input in
+    let marked = now.marked in
+    let end = end_of marked steps in
+    let next = flipped flips now.state in
+    let here : flipped flips end ≡ next = ap (flipped flips) stands.ends in
+    let kept : (i : ℕ) → i < length net → bit_at next i ≡ cond (is_listed flips i) (not (bit_at now.state i)) (bit_at now.state i) =
+    λ i inside. at-flipped flips now.state i (omega (arith, inside, long)) in
+    let watched : (i : ℕ) → i < length net → bit_at (still_watched now flips) i ≡ (bit_at now.watched i && not (is_listed flips i)) && is_unstable net input next i =
+    λ i inside. get_or-map-range_with_len (λ (j : ℕ). (bit_at now.watched j && not (is_listed flips j)) && is_unstable net input next j) 0 (length net) i i false inside (omega arith) in
+    record {
+      run = IsRun-append net input marked steps (flips ∷ []) stands.run (subst (λ (s : List Bool). IsStep net input s flips) (sym stands.ends) step, tt);
+      ends = end_of-append marked steps (flips ∷ []) ∙ here;
+      stepped = (λ e. some-steps steps flips, λ other. refl);
+      watched = λ i inside. (
+        λ is.
+            let both = and_parts (bit_at now.watched i && not (is_listed flips i)) (is_unstable net input next i) (sym (watched i inside) ∙ is) in
+            let parts = and_parts (bit_at now.watched i) (not (is_listed flips i)) both.0 in
+            let still : is_listed flips i ≡ false = not-true (is_listed flips i) parts.1 in
+            let waits = (stands.watched i inside).0 parts.0 in
+            let bit = waits.0 in
+            let last = waits-end net input marked steps i bit waits.1 in (
+              bit,
+              waits-push net input marked steps flips i bit waits.1 (
+                ap (λ (s : List Bool). bit_at s i) here ∙ (kept i inside ∙ (ap (λ (b : Bool). cond b (not (bit_at now.state i)) (bit_at now.state i)) still ∙ (ap (λ (s : List Bool). bit_at s i) (sym stands.ends) ∙ last.0))),
+                subst (λ (s : List Bool). IsUnstable net input s i) (sym here) (unstable-true net input next i both.1),
+              ),
+            ),
+        λ waits.
+            let bit = waits.0 in
+            let front : WaitsAt net input marked steps i bit = waits-front net input marked steps (flips ∷ []) i bit waits.1 in
+            let before = waits-end net input marked steps i bit front in
+            let after = waits-end net input marked (steps ++ flips ∷ []) i bit waits.1 in
+            let ends : end_of marked (steps ++ flips ∷ []) ≡ next = end_of-append marked steps (flips ∷ []) ∙ here in
+            let is : bit_at next i ≡ bit = ap (λ (s : List Bool). bit_at s i) (sym ends) ∙ after.0 in
+            let was : bit_at now.state i ≡ bit = ap (λ (s : List Bool). bit_at s i) (sym stands.ends) ∙ before.0 in
+            let still : is_listed flips i ≡ false = false_from_ne_true (is_listed flips i) (λ there.
+            let turned : bit_at next i ≡ not (bit_at now.state i) = kept i inside ∙ ap (λ (b : Bool). cond b (not (bit_at now.state i)) (bit_at now.state i)) there in
+            not-same bit (ap not (sym was) ∙ (sym turned ∙ is))) in
+            let unstable : is_unstable net input next i ≡ true = true-unstable net input next i (subst (λ (s : List Bool). IsUnstable net input s i) ends after.1) in
+            watched i inside ∙ and_from (bit_at now.watched i && not (is_listed flips i)) (is_unstable net input next i)
+            (and_from (bit_at now.watched i) (not (is_listed flips i)) ((stands.watched i inside).1 (bit, front)) (not_from_false (is_listed flips i) still)) unstable,
+      );
+    }
+
+-- a list with a fault is no step
+pub step-or-fault : (net : List Driver) (input state : List Bool) (flips : List ℕ) (fault : StepFault) → IsStepFault net input state flips fault → IsStep net input state flips → ⊥
+step-or-fault net input state flips Empty is step = step.some is
+step-or-fault net input state flips (Repeated var) is step = times-RepeatsNone flips step.once var is.here
+step-or-fault net input state flips (Stable var) is step = step.unstable var is.1.here.0 is.1.here.1
+
+-- a run with a fault is no nontransient cycle
+pub cycle-or-fault : (net : List Driver) (input state : List Bool) (steps : List (List ℕ)) (fault : CycleFault) → IsCycleFault net input state steps fault → IsNontransient net input state steps → ⊥
+cycle-or-fault net input state steps (Differs var) is cycle = is.here (ap (λ (s : List Bool). bit_at s var) cycle.cycle.closed)
+cycle-or-fault net input state steps (NotStable var) is cycle = is.1.here.1 (cycle.cycle.alone is.0 var is.1.here.0)
+cycle-or-fault net input state steps (Transient var) is cycle = cycle.lasts (var, is.2.here.0, is.2.here.1.0, is.2.here.1.1)
+
+-- a variable that moved
+pub differs-fault : (now : Replayed) (steps : List (List ℕ)) (var : ℕ) → StandsFor now steps → IsLeast (λ i. bit_at now.state i ≢ bit_at now.marked i) var → IsCycleFault (network_of now.circuit) now.input now.marked steps (Differs var)
+differs-fault now steps var stands moved = subst (λ (s : List Bool). IsLeast (λ i. bit_at s i ≢ bit_at now.marked i) var) (sym stands.ends) moved
+
+-- where none moved, the run is closed
+pub closed-by : (now : Replayed) (steps : List (List ℕ)) → StandsFor now steps → ((i : ℕ) → bit_at now.state i ≢ bit_at now.marked i → ⊥) → now.state ≡ now.marked
+closed-by now steps stands still =
+    let long : length now.state ≡ length now.marked = ap (length {A = Bool}) (sym stands.ends) ∙ length-end_of now.marked steps in
+    ext_get_or false now.state now.marked long (λ i inside. same-bit (bit_at now.state i) (bit_at now.marked i) (still i))
+
+no-steps : (stepped : Bool) (steps : List (List ℕ)) → IsTrue stepped ↔ (steps ≢ []) → stepped ≡ false → steps ≡ []
+no-steps stepped [] iff e = refl
+no-steps stepped (flips ∷ steps) iff e = absurd (false≢true (sym e ∙ iff.1 (λ h. cc)))
+
+-- no step was made, and a variable is unstable
+pub not-stable-fault : (now : Replayed) (steps : List (List ℕ)) (var : ℕ) → StandsFor now steps → now.state ≡ now.marked → now.stepped ≡ false → IsLeast (λ i. (i < length (network_of now.circuit)) × IsUnstable (network_of now.circuit) now.input now.state i) var → IsCycleFault (network_of now.circuit) now.input now.marked steps (NotStable var)
+not-stable-fault now steps var stands closed resting unstable = (
+  no-steps now.stepped steps stands.stepped resting,
+  subst (λ (s : List Bool). IsLeast (λ i. (i < length (network_of now.circuit)) × IsUnstable (network_of now.circuit) now.input s i) var) closed unstable,
+)
+
+-- no step was made, and no variable is unstable
+pub stable-cycle : (now : Replayed) (steps : List (List ℕ)) → StandsFor now steps → now.state ≡ now.marked → now.stepped ≡ false → ((i : ℕ) → (i < length (network_of now.circuit)) × IsUnstable (network_of now.circuit) now.input now.state i → ⊥) → IsNontransient (network_of now.circuit) now.input now.marked steps
+stable-cycle now steps stands closed resting stable =
+    let net = network_of now.circuit in
+    let none : steps ≡ [] = no-steps now.stepped steps stands.stepped resting in
+    let here : (i : ℕ) → i < length net → IsUnstable net now.input now.marked i → ⊥ =
+    λ i inside unstable. stable i (inside, subst (λ (s : List Bool). IsUnstable net now.input s i) (sym closed) unstable) in
+    record {
+      cycle = record {
+        run = stands.run;
+        closed = stands.ends ∙ closed;
+        alone = λ e i inside. same-bit (bit_at now.marked i) (excitation net now.input now.marked i) (here i inside);
+      };
+      lasts = λ waits.
+          let alone : WaitsAt net now.input now.marked [] waits.0 waits.2 = subst (λ (s : List (List ℕ)). WaitsAt net now.input now.marked s waits.0 waits.2) none waits.3 in
+          here waits.0 waits.1 alone.0.1;
+    }
+
+-- a step was made, and a variable waits all along
+pub transient-fault : (now : Replayed) (steps : List (List ℕ)) (var : ℕ) → StandsFor now steps → now.state ≡ now.marked → now.stepped ≡ true → IsLeast (λ i. (i < length (network_of now.circuit)) × IsTrue (bit_at now.watched i)) var → IsCycleFault (network_of now.circuit) now.input now.marked steps (Transient var)
+transient-fault now steps var stands closed moving watched = (
+  stands.ends ∙ closed,
+  stands.stepped.0 moving,
+  record {
+    here = (watched.here.0, (stands.watched var watched.here.0).0 watched.here.1);
+    least = λ j waits. watched.least j (waits.0, (stands.watched j waits.0).1 waits.1);
+  },
+)
+
+-- a step was made, and no variable waits all along
+pub moving-cycle : (now : Replayed) (steps : List (List ℕ)) → StandsFor now steps → now.state ≡ now.marked → now.stepped ≡ true → ((i : ℕ) → (i < length (network_of now.circuit)) × IsTrue (bit_at now.watched i) → ⊥) → IsNontransient (network_of now.circuit) now.input now.marked steps
+moving-cycle now steps stands closed moving unwatched = record {
+  cycle = record {
+    run = stands.run;
+    closed = stands.ends ∙ closed;
+    alone = λ e. absurd (stands.stepped.0 moving e);
+  };
+  lasts = λ waits. unwatched waits.0 (waits.1, (stands.watched waits.0 waits.1).1 (waits.2, waits.3));
+}
+
+pub at-without : (marks others : List Bool) (i : ℕ) → length marks ≡ length others → bit_at (without marks others) i ≡ bit_at marks i && not (bit_at others i)
+at-without [] others i same = refl
+at-without (mark ∷ marks) [] i same = cc
+at-without (mark ∷ marks) (other ∷ others) zero same = refl
+at-without (mark ∷ marks) (other ∷ others) (suc i) same = at-without marks others i (omega (arith, same))
+
+pub length-without : (marks others : List Bool) → length (without marks others) ≡ length marks
+length-without [] others = refl
+length-without (mark ∷ marks) [] = refl
+length-without (mark ∷ marks) (other ∷ others) = ap suc (length-without marks others)
+
+and-true : (a : Bool) → a && true ≡ a
+and-true true = refl
+and-true false = refl
+
+-- no mark is taken away
+pub without-none : (marks : List Bool) (count : ℕ) → count ≡ length marks → without marks (replicate count false) ≡ marks
+without-none marks count same =
+    let long : length marks ≡ length (replicate count false) = sym same ∙ sym (length-replicate count false) in
+    ext_get_or false (without marks (replicate count false)) marks (length-without marks (replicate count false)) (λ i inside.
+    let within : i < count = omega (arith, inside, same, length-without marks (replicate count false)) in
+    at-without marks (replicate count false) i long ∙ (ap (λ (b : Bool). bit_at marks i && not b) (get_or-replicate count i false false within) ∙ and-true (bit_at marks i)))
+
+watch-bits : (u0 u1 t0 l : Bool) → (u1 && not ((t0 || l) || not (beq u0 u1))) ≡ ((u0 && not t0) && not l) && u1
+watch-bits true true true true = refl
+watch-bits true true true false = refl
+watch-bits true true false true = refl
+watch-bits true true false false = refl
+watch-bits true false true true = refl
+watch-bits true false true false = refl
+watch-bits true false false true = refl
+watch-bits true false false false = refl
+watch-bits false true true true = refl
+watch-bits false true true false = refl
+watch-bits false true false true = refl
+watch-bits false true false false = refl
+watch-bits false false true true = refl
+watch-bits false false true false = refl
+watch-bits false false false true = refl
+watch-bits false false false false = refl
+
+-- the watched variables after a step
+pub watched-step : (now : Replayed) (flips : List ℕ) (u0 t0 u1 t1 : List Bool) → now.watched ≡ without u0 t0 → length u0 ≡ length (network_of now.circuit) → length t0 ≡ length (network_of now.circuit) → length u1 ≡ length (network_of now.circuit) → length t1 ≡ length (network_of now.circuit) → ((i : ℕ) → i < length (network_of now.circuit) → bit_at u1 i ≡ is_unstable (network_of now.circuit) now.input (flipped flips now.state) i) → ((i : ℕ) → i < length (network_of now.circuit) → bit_at t1 i ≡ ((bit_at t0 i || is_listed flips i) || not (beq (bit_at u0 i) (bit_at u1 i)))) → without u1 t1 ≡ still_watched now flips
+watched-step now flips u0 t0 u1 t1 watched u0_long t0_long u1_long t1_long right touched =
+    let net = network_of now.circuit in
+    let test : ℕ → Bool = λ i. (bit_at now.watched i && not (is_listed flips i)) && is_unstable net now.input (flipped flips now.state) i in
+    fill_by_all test (without u1 t1) (length net) false (length-without u1 t1 ∙ u1_long) (λ i inside.
+    at-without u1 t1 i (u1_long ∙ sym t1_long) ∙
+    (ap (λ (t : Bool). bit_at u1 i && not t) (touched i inside) ∙
+    (watch-bits (bit_at u0 i) (bit_at u1 i) (bit_at t0 i) (is_listed flips i) ∙
+    (ap (λ (w : Bool). (w && not (is_listed flips i)) && bit_at u1 i) (sym (ap (λ (ws : List Bool). bit_at ws i) watched ∙ at-without u0 t0 i (u0_long ∙ sym t0_long))) ∙
+    ap (λ (u : Bool). (bit_at now.watched i && not (is_listed flips i)) && u) (right i inside)))))
+
+pub length-taken_over : (state marked : List Bool) (list : List ℕ) → length (taken_over state marked list) ≡ length marked
+length-taken_over state marked [] = refl
+length-taken_over state marked (x ∷ list) = length-taken_over state (set marked x (bit_at state x)) list ∙ length-set marked x (bit_at state x)
+
+-- what is the same stays the same
+taken-same : (state marked : List Bool) (list : List ℕ) (i : ℕ) → i < length marked → bit_at marked i ≡ bit_at state i → bit_at (taken_over state marked list) i ≡ bit_at state i
+taken-same state marked [] i inside same = same
+taken-same state marked (x ∷ list) i inside same =
+    taken-same state (set marked x (bit_at state x)) list i (omega (arith, inside, length-set marked x (bit_at state x))) (elim (cases_eq i x) [
+      | inl here ↦ (
+          let within : x < length marked = omega (arith, inside, here) in
+          ap (bit_at (set marked x (bit_at state x))) here ∙ (get_or-set_same marked x (bit_at state x) false within ∙ ap (bit_at state) (sym here))
+          )
+      | inr other ↦ get_or-set_other marked x i (bit_at state x) false other ∙ same
+    ])
+
+-- and what is listed becomes so
+taken-listed : (state marked : List Bool) (list : List ℕ) (i : ℕ) → i < length marked → is_listed list i ≡ true → bit_at (taken_over state marked list) i ≡ bit_at state i
+taken-listed state marked [] i inside there = absurd (false≢true there)
+taken-listed state marked (x ∷ list) i inside there = elim (cases_eq i x) [
+  | inl here ↦ (
+      let within : x < length marked = omega (arith, inside, here) in
+      taken-same state (set marked x (bit_at state x)) list i (omega (arith, inside, length-set marked x (bit_at state x)))
+      (ap (bit_at (set marked x (bit_at state x))) here ∙ (get_or-set_same marked x (bit_at state x) false within ∙ ap (bit_at state) (sym here)))
+      )
+  | inr other ↦ taken-listed state (set marked x (bit_at state x)) list i (omega (arith, inside, length-set marked x (bit_at state x))) (sym (listed-other i x list other) ∙ there)
+]
+
+-- all that was touched is taken over: the marked state is the present one
+pub taken-all : (state marked touched : List Bool) (list : List ℕ) → length marked ≡ length state → AreMembers touched list → ((i : ℕ) → bit_at touched i ≡ false → bit_at marked i ≡ bit_at state i) → taken_over state marked list ≡ state
+taken-all state marked touched list long members same =
+    ext_get_or false (taken_over state marked list) state (length-taken_over state marked list ∙ long) (λ i inside.
+    let within : i < length marked = omega (arith, inside, length-taken_over state marked list) in
+    elim (cases_Bool (bit_at touched i)) [
+      | inl there ↦ taken-listed state marked list i within (listed-Contains list i (members.every i there))
+      | inr missing ↦ taken-same state marked list i within (same i missing)
+    ])
+
+-- the least touched variable that differs is the least that differs
+pub least-moved : (state marked touched : List Bool) (list : List ℕ) → AreMembers touched list → ((i : ℕ) → bit_at touched i ≡ false → bit_at marked i ≡ bit_at state i) → IsLeastOf (λ i. bit_at state i ≢ bit_at marked i) (least_from None (λ var. not (beq (bit_at state var) (bit_at marked var))) list)
+least-moved state marked touched list members same =
+    let test : ℕ → Bool = λ var. not (beq (bit_at state var) (bit_at marked var)) in
+    IsLeastOf-same (λ i. IsTrue (is_listed list i) × IsTrue (test i)) (λ i. bit_at state i ≢ bit_at marked i) (least_from None test list)
+    (λ i h e. false≢true (sym (not-true (beq (bit_at state i) (bit_at marked i)) h.1) ∙ (ap (beq (bit_at state i)) (sym e) ∙ beq-refl (bit_at state i))))
+    (λ i differ. (
+      listed-Contains list i (members.every i (true_from_ne_false (bit_at touched i) (λ missing. differ (sym (same i missing))))),
+      not_from_false (beq (bit_at state i) (bit_at marked i)) (false_from_ne_true (beq (bit_at state i) (bit_at marked i)) (λ e. differ (beq-same (bit_at state i) (bit_at marked i) e))),
+    ))
+    (least-listed test list)
+
+-- a mark past the end is none
+marked-inside : (marks : List Bool) (i : ℕ) → bit_at marks i ≡ true → i < length marks
+marked-inside marks i marked = elim (cases_lt i (length marks)) [
+  | inl inside ↦ inside
+  | inr past ↦ absurd (false≢true (sym (get_or_past marks i false past) ∙ marked))
+]
+
+-- the least marked variable is the least that is unstable
+pub least-unstable : (net : List Driver) (input state marks : List Bool) (list : List ℕ) → AreMembers marks list → length marks ≡ length net → ((i : ℕ) → i < length net → bit_at marks i ≡ is_unstable net input state i) → IsLeastOf (λ i. (i < length net) × IsUnstable net input state i) (least_from None (λ _. true) list)
+least-unstable net input state marks list members long right =
+    IsLeastOf-same (λ i. IsTrue (is_listed list i) × IsTrue true) (λ i. (i < length net) × IsUnstable net input state i) (least_from None (λ _. true) list)
+    (λ i h.
+    let marked : bit_at marks i ≡ true = All-listed (λ (var : ℕ). bit_at marks var ≡ true) list i members.marked h.0 in
+    let below = marked-inside marks i marked in
+    let inside : i < length net = omega (arith, below, long) in
+    (inside, unstable-true net input state i (sym (right i inside) ∙ marked)))
+    (λ i h. (listed-Contains list i (members.every i (right i h.0 ∙ true-unstable net input state i h.1)), refl))
+    (least-listed (λ _. true) list)
+
+-- the least marked variable that is not touched is the least that is watched
+pub least-watched : (count : ℕ) (marks touched : List Bool) (list : List ℕ) → AreMembers marks list → length marks ≡ count → length touched ≡ count → IsLeastOf (λ i. (i < count) × IsTrue (bit_at (without marks touched) i)) (least_from None (λ var. not (bit_at touched var)) list)
+least-watched count marks touched list members long touched_long =
+    IsLeastOf-same (λ i. IsTrue (is_listed list i) × IsTrue (not (bit_at touched i))) (λ i. (i < count) × IsTrue (bit_at (without marks touched) i)) (least_from None (λ var. not (bit_at touched var)) list)
+    (λ i h.
+    let marked : bit_at marks i ≡ true = All-listed (λ (var : ℕ). bit_at marks var ≡ true) list i members.marked h.0 in
+    let below = marked-inside marks i marked in
+    (omega (arith, below, long), at-without marks touched i (long ∙ sym touched_long) ∙ and_from (bit_at marks i) (not (bit_at touched i)) marked h.1))
+    (λ i h.
+    let parts = and_parts (bit_at marks i) (not (bit_at touched i)) (sym (at-without marks touched i (long ∙ sym touched_long)) ∙ h.1) in
+    (listed-Contains list i (members.every i parts.0), parts.1))
+    (least-listed (λ var. not (bit_at touched var)) list)
+
+-- a list without a fault is a step
+pub step-by : (net : List Driver) (input state marks : List Bool) (flips : List ℕ) → All (λ var. var < length net) flips → ((i : ℕ) → i < length net → bit_at marks i ≡ is_unstable net input state i) → flips ≢ [] → ((i : ℕ) → 2 ≤ times flips i → ⊥) → ((i : ℕ) → IsTrue (is_listed flips i) × IsTrue (not (bit_at marks i)) → ⊥) → IsStep net input state flips
+step-by net input state marks flips all right some once marked = record {
+  some = some;
+  once = RepeatsNone-times flips once;
+  inside = λ i there. All-listed (λ (var : ℕ). var < length net) flips i all there;
+  unstable = λ i there.
+      let inside : i < length net = All-listed (λ (var : ℕ). var < length net) flips i all there in
+      unstable-true net input state i (sym (right i inside) ∙ true_from_ne_false (bit_at marks i) (λ stable. marked i (there, not_from_false (bit_at marks i) stable)));
+}
+
+-- the least listed variable that is not marked is the least that is stable
+pub stable-fault : (net : List Driver) (input state marks : List Bool) (flips : List ℕ) (var : ℕ) → All (λ var. var < length net) flips → ((i : ℕ) → i < length net → bit_at marks i ≡ is_unstable net input state i) → ((i : ℕ) → 2 ≤ times flips i → ⊥) → IsLeast (λ i. IsTrue (is_listed flips i) × IsTrue (not (bit_at marks i))) var → IsStepFault net input state flips (Stable var)
+stable-fault net input state marks flips var all right once found =
+    let stable : (i : ℕ) → IsTrue (is_listed flips i) → bit_at marks i ≡ false → bit_at state i ≡ excitation net input state i =
+    λ i there missing.
+    let inside : i < length net = All-listed (λ (var : ℕ). var < length net) flips i all there in
+    beq-same (bit_at state i) (excitation net input state i) (not-false (beq (bit_at state i) (excitation net input state i)) (sym (right i inside) ∙ missing))
+    in (
+      RepeatsNone-times flips once,
+      record {
+        here = (found.here.0, stable var found.here.0 (not-true (bit_at marks var) found.here.1));
+        least = λ j h.
+            let inside : j < length net = All-listed (λ (var : ℕ). var < length net) flips j all h.0 in
+            found.least j (h.0, not_from_false (bit_at marks j) (right j inside ∙ ap not (ap (beq (bit_at state j)) (sym h.1) ∙ beq-refl (bit_at state j))));
+      },
+    )
+
+-- a replayer with these parts is at a marked state
+pub replayed-is : (circuit : Netlist) (input input' state state' marked watched : List Bool) → input' ≡ input → state' ≡ state → marked ≡ state → watched ≡ unstable_variables (network_of circuit) input state → (let now : Replayed = record { circuit = circuit; input = input'; state = state'; marked = marked; stepped = false; watched = watched } in now) ≡ replayed_at circuit input state
+replayed-is circuit input input' state state' marked watched input_is state_is marked_is watched_is =
+    let parts : List Bool → List Bool → List Bool → List Bool → Replayed =
+    λ i s m w. record { circuit = circuit; input = i; state = s; marked = m; stepped = false; watched = w } in
+    ap (λ (i : List Bool). parts i state' marked watched) input_is ∙
+    (ap (λ (s : List Bool). parts input s marked watched) state_is ∙
+    (ap (λ (m : List Bool). parts input state m watched) marked_is ∙
+    ap (λ (w : List Bool). parts input state state w) watched_is))
+
+-- a replayer with these parts is a step further
+pub stepped-is : (now : Replayed) (flips : List ℕ) (input state watched : List Bool) → input ≡ now.input → state ≡ flipped flips now.state → watched ≡ still_watched now flips → (let next : Replayed = record { circuit = now.circuit; input = input; state = state; marked = now.marked; stepped = true; watched = watched } in next) ≡ stepped_by now flips
+stepped-is now flips input state watched input_is state_is watched_is =
+    let parts : List Bool → List Bool → List Bool → Replayed =
+    λ i s w. record { circuit = now.circuit; input = i; state = s; marked = now.marked; stepped = true; watched = w } in
+    ap (λ (i : List Bool). parts i state watched) input_is ∙
+    (ap (λ (s : List Bool). parts now.input s watched) state_is ∙
+    ap (λ (w : List Bool). parts now.input (flipped flips now.state) w) watched_is)
+
+-- a fresh set marks nothing
+pub none-marked : (marks : List Bool) (count : ℕ) → marks ≡ replicate count false → (i : ℕ) → i < length marks → bit_at marks i ≡ false
+none-marked marks count is i inside =
+    ap (λ (m : List Bool). bit_at m i) is ∙ get_or-replicate count i false false (omega (arith, inside, ap (length {A = Bool}) is, length-replicate count false))

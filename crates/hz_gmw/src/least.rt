@@ -1,0 +1,75 @@
+// The least of listed variables with some property.
+ghost use Rattle.std.specs.Prelude.{◌≡◌, ◌<◌, ℕ, Option, All, None, Bool, true, false, not, length, replicate};
+ghost use Rattle.std.specs.Bool.{beq};
+ghost use Rattle.hz_net.specs.Network.{bit_at};
+ghost use Rattle.hz_gmw.specs.Least.{lesser_of, least_from, least_again};
+
+use crate::variable_set::VariableSet;
+
+// The lesser of a variable and one that was found before.
+fn lesser(found: Option<u32>, var: u32) -> Option<u32>
+    ensures { result ≡ lesser_of found var }
+{
+    match found {
+        Some(least) => Some(least.min(var)),
+        None => Some(var),
+    }
+}
+
+// The least listed variable.
+pub(crate) fn least_listed(list: &[u32]) -> Option<u32>
+    ensures { result ≡ least_from None (λ _. true) list.now }
+{
+    let mut found = None;
+    for var in list {
+        found = lesser(found, *var);
+    }
+    found
+}
+
+// The least listed variable that is not in a set.
+pub(crate) fn least_outside(list: &[u32], set: &VariableSet) -> Option<u32>
+    requires { All (λ var. var < length set.now) list.now }
+    ensures { result ≡ least_from None (λ var. not (bit_at set.now var)) list.now }
+{
+    let mut found = None;
+    for var in list {
+        if !set.contains(*var) {
+            found = lesser(found, *var);
+        }
+    }
+    found
+}
+
+// The least listed variable at which two states differ.
+pub(crate) fn least_differing(list: &[u32], left: &[bool], right: &[bool]) -> Option<u32>
+    requires left { All (λ var. var < length left.now) list.now }
+    requires long { length left.now ≡ length right.now }
+    ensures { result ≡ least_from None (λ var. not (beq (bit_at left.now var) (bit_at right.now var))) list.now }
+{
+    let mut found = None;
+    for var in list {
+        if left[*var as usize] != right[*var as usize] {
+            found = lesser(found, *var);
+        }
+    }
+    found
+}
+
+// The least variable that is listed twice. The set is room for it, and is empty before and after.
+pub(crate) fn least_repeated(list: &[u32], named: &mut VariableSet) -> Option<u32>
+    requires inside { All (λ var. var < length named.old) list.now }
+    requires none { named.old ≡ replicate (length named.old) false }
+    ensures least { result ≡ least_again None named.old list.now }
+    ensures none { named.new ≡ replicate (length named.old) false }
+{
+    let mut found = None;
+    for var in list {
+        if named.contains(*var) {
+            found = lesser(found, *var);
+        }
+        named.insert(*var);
+    }
+    named.clear();
+    found
+}

@@ -1,0 +1,238 @@
+//! The replayer of runs.
+ghost use Rattle.std.specs.Prelude.{◌≡◌, ◌<◌, ◌↔◌, ◌≢◌, ℕ, List, [], ◌∷◌, ◌++◌, false, length, replicate, All, MatchOption, IfOk, IfErr, OnOk, IsTrue, is_ok, if◌then◌else◌};
+ghost use Rattle.hz_net.specs.Network.{network_of, bit_at, IsUnstable};
+ghost use Rattle.hz_gmw.specs.Runs.{IsStep};
+ghost use Rattle.hz_gmw.specs.Cycles.{IsNontransient};
+ghost use Rattle.hz_gmw.specs.Instability.{unstable_count};
+ghost use Rattle.hz_gmw.specs.Least.{IsLeastOf};
+ghost use Rattle.hz_gmw.specs.Replayed.{StandsFor, replayed_at, stepped_by};
+ghost use Rattle.hz_gmw.specs.ReplayFaults.{IsStepFault, IsCycleFault};
+ghost use Rattle.hz_gmw.specs.Presents.{taken_over};
+
+use crate::least::{least_differing, least_listed, least_outside, least_repeated};
+use crate::present::Present;
+use crate::variable_set::VariableSet;
+use crate::{CycleFault, StepFault};
+use hz_core::Memory;
+use hz_net::Net;
+use std::alloc::Global;
+use std::marker::Model;
+
+/// Replays runs of the general multiple-winner relation (Brzozowski and Seger) on a network, step by step, and says of the
+/// states since a mark whether they are a nontransient cycle.
+///
+/// Numbers of variables are those of the network. The unstable variables are kept while steps are made: a step costs the
+/// variables that it changes and those that read them, a mark or the end of a cycle what changed since the mark and what
+/// is unstable; none of them costs the whole network. Only `new` takes memory.
+#[derive(Debug, Drop)]
+pub struct Replay<'n> {
+    net: &'n Net,
+    present: Present,
+    marked: Vec<bool>,
+    stepped: bool,
+    named: VariableSet,
+}
+
+impl<'n> Model for Replay<'n> {
+    ghost use Rattle.hz_gmw.specs.Replayed.{Replayed};
+
+    ghost Value = { Replayed };
+
+    ghost use Rattle.hz_gmw.specs.InsideReplay.{replayed_of, HoldsReplay};
+
+    ghost view = { replayed_of };
+
+    ghost invariant = { HoldsReplay };
+}
+
+impl<'n> Replay<'n> {
+    /// The present state, in which every input and every variable is 0, is marked.
+    pub fn new(alloc: Global, net: &'n Net) -> Result<Replay<'n>, Memory>
+        ensures at { IfOk result (λ replay. replay ≡ replayed_at net.now (replicate net.now.inputs false) (replicate (length (network_of net.now)) false)) }
+        ensures stands { IfOk result (λ replay. StandsFor replay []) }
+    {
+        let inputs = net.circuit().inputs() as usize;
+        let variables = net.len();
+        let Ok(input) = vec![in alloc; false; inputs] else {
+            return Err(Memory);
+        };
+        let Ok(state) = vec![in alloc; false; variables as usize] else {
+            return Err(Memory);
+        };
+        let Ok(marked) = vec![in alloc; false; variables as usize] else {
+            return Err(Memory);
+        };
+        let unstable = VariableSet::new(alloc, variables)?;
+        let touched = VariableSet::new(alloc, variables)?;
+        let named = VariableSet::new(alloc, variables)?;
+        let mut present = Present {
+            input,
+            state,
+            unstable,
+            touched,
+        };
+        present.recheck_all(net);
+        present.touched.clear();
+        Ok(Replay {
+            net,
+            present,
+            marked,
+            stepped: false,
+            named,
+        })
+    }
+
+    /// Sets the external input and the state, one bit for each input and each variable, and marks the state, with no step
+    /// since. Only what differs from what the replayer held is checked anew.
+    pub fn begin(&mut self, input: &[bool], state: &[bool])
+        requires input { length input.now ≡ self.old.circuit.inputs }
+        requires state { length state.now ≡ length (network_of self.old.circuit) }
+        ensures at { self.new ≡ replayed_at self.old.circuit input.now state.now }
+        ensures stands { StandsFor self.new [] }
+    {
+        self.present.turn_input(self.net, input);
+        self.present.turn_to(self.net, state);
+        self.mark();
+    }
+
+    /// Marks the present state, with no step since.
+    pub fn mark(&mut self)
+        ensures at { self.new ≡ replayed_at self.old.circuit self.old.input self.old.state }
+        ensures stands { StandsFor self.new [] }
+    {
+        take_over(
+            self.present.touched.members(),
+            self.present.state.as_slice(),
+            self.marked.as_mut_slice(),
+        );
+        self.present.touched.clear();
+        self.stepped = false;
+    }
+
+    /// Makes a step of the multiple-winner relation: changes the listed variables at once. It is refused exactly where they
+    /// are no step from the present state, by the first fault that stands; the replayer is then as before.
+    pub fn step(&mut self, flips: &[u32]) -> Result<(), StepFault>
+        requires { All (λ var. var < length (network_of self.old.circuit)) flips.now }
+        ensures exact { IsTrue (is_ok result) ↔ IsStep (network_of self.old.circuit) self.old.input self.old.state flips.now }
+        ensures fault { IfErr result (IsStepFault (network_of self.old.circuit) self.old.input self.old.state flips.now) }
+        ensures after { self.new ≡ (if is_ok result then stepped_by self.old flips.now else self.old) }
+        ensures stands { OnOk result ((steps : List (List ℕ)) → StandsFor self.old steps → StandsFor self.new (steps ++ flips.now ∷ [])) }
+    {
+        if let Some(fault) = self.step_fault(flips) {
+            return Err(fault);
+        }
+        self.present.advance(self.net, flips);
+        self.stepped = true;
+        Ok(())
+    }
+
+    /// Says whether the states since the mark are a nontransient cycle: a run with a step that ends where it began, around
+    /// which no variable waits, or one stable state alone. It is refused exactly where they are not, by the first fault
+    /// that stands. The replayer is as before.
+    pub fn close(&mut self) -> Result<(), CycleFault>
+        ensures exact { (steps : List (List ℕ)) → StandsFor self.old steps → IsTrue (is_ok result) ↔ IsNontransient (network_of self.old.circuit) self.old.input self.old.marked steps }
+        ensures fault { (steps : List (List ℕ)) → StandsFor self.old steps → IfErr result (IsCycleFault (network_of self.old.circuit) self.old.input self.old.marked steps) }
+        ensures same { self.new ≡ self.old }
+    {
+        match self.cycle_fault() {
+            Some(fault) => Err(fault),
+            None => Ok(()),
+        }
+    }
+
+    /// The present value of a variable.
+    pub fn value(&self, var: u32) -> bool
+        requires { var < length (network_of self.now.circuit) }
+        ensures { result ≡ bit_at self.now.state var }
+    {
+        self.present.state[var as usize]
+    }
+
+    /// Whether a variable is unstable in the present state.
+    pub fn unstable(&self, var: u32) -> bool
+        requires { var < length (network_of self.now.circuit) }
+        ensures { IsTrue result ↔ IsUnstable (network_of self.now.circuit) self.now.input self.now.state var }
+    {
+        self.present.unstable.contains(var)
+    }
+
+    /// How many variables are unstable in the present state.
+    pub fn unstable_count(&self) -> u32
+        ensures { result ≡ unstable_count (network_of self.now.circuit) self.now.input self.now.state }
+    {
+        self.present.unstable.len()
+    }
+
+    // Why the listed variables are no step, if they are none.
+    fn step_fault(&mut self, flips: &[u32]) -> Option<StepFault>
+        requires { All (λ var. var < length (network_of self.old.circuit)) flips.now }
+        ensures answer { MatchOption result (IsStep (network_of self.old.circuit) self.old.input self.old.state flips.now) (IsStepFault (network_of self.old.circuit) self.old.input self.old.state flips.now) }
+        ensures same { self.new ≡ self.old }
+    {
+        if flips.is_empty() {
+            return Some(StepFault::Empty);
+        }
+        if let Some(var) = least_repeated(flips, &mut self.named) {
+            return Some(StepFault::Repeated { var });
+        }
+        if let Some(var) = least_outside(flips, &self.present.unstable) {
+            return Some(StepFault::Stable { var });
+        }
+        None
+    }
+
+    // Why the states since the mark are no nontransient cycle, if they are none.
+    fn cycle_fault(&self) -> Option<CycleFault>
+        ensures { (steps : List (List ℕ)) → StandsFor self.now steps → MatchOption result (IsNontransient (network_of self.now.circuit) self.now.input self.now.marked steps) (IsCycleFault (network_of self.now.circuit) self.now.input self.now.marked steps) }
+    {
+        if let Some(var) = self.least_moved() {
+            return Some(CycleFault::Differs { var });
+        }
+        if self.stepped {
+            let Some(var) = self.least_watched() else {
+                return None;
+            };
+            return Some(CycleFault::Transient { var });
+        }
+        let Some(var) = self.least_unstable() else {
+            return None;
+        };
+        Some(CycleFault::NotStable { var })
+    }
+
+    // The least variable that has not the value that it had at the mark. What was not touched has it.
+    fn least_moved(&self) -> Option<u32>
+        ensures { IsLeastOf (λ i. bit_at self.now.state i ≢ bit_at self.now.marked i) result }
+    {
+        least_differing(
+            self.present.touched.members(),
+            self.present.state.as_slice(),
+            self.marked.as_slice(),
+        )
+    }
+
+    // The least unstable variable.
+    fn least_unstable(&self) -> Option<u32>
+        ensures { IsLeastOf (λ i. (i < length (network_of self.now.circuit)) × IsUnstable (network_of self.now.circuit) self.now.input self.now.state i) result }
+    {
+        least_listed(self.present.unstable.members())
+    }
+
+    // The least watched variable: one that is unstable, and was not touched since the mark.
+    fn least_watched(&self) -> Option<u32>
+        ensures { IsLeastOf (λ i. (i < length (network_of self.now.circuit)) × IsTrue (bit_at self.now.watched i)) result }
+    {
+        least_outside(self.present.unstable.members(), &self.present.touched)
+    }
+}
+
+// Gives listed variables of the marked state the values that they have in the present one.
+fn take_over(list: &[u32], state: &[bool], marked: &mut [bool])
+    requires inside { All (λ var. var < length state.now) list.now }
+    requires long { length marked.old ≡ length state.now }
+    ensures { marked.new ≡ taken_over state.now marked.old list.now }
+{
+    for var in list {
+        marked[*var as usize] = state[*var as usize];
+    }
+}

@@ -1,0 +1,243 @@
+"""The definitions of the model as plain programs, straight from their words, and rows that were worked by hand.
+
+Nothing here is quick. The ternary extension goes through all lists of bits that refine the pins, an algorithm is the
+list of its whole states, and reached states are walked through one by one. A state is a text of a letter for each
+variable: 0, 1, and X in a ternary state.
+"""
+from itertools import product
+
+GATES = {
+    "AND": lambda bits: "0" not in bits,
+    "NAND": lambda bits: "0" in bits,
+    "OR": lambda bits: "1" in bits,
+    "NOR": lambda bits: "1" not in bits,
+    "XOR": lambda bits: bits.count("1") % 2 == 1,
+    "XNOR": lambda bits: bits.count("1") % 2 == 0,
+    "NOT": lambda bits: bits == "0",
+    "BUFF": lambda bits: bits == "1",
+}
+# Small circuits: inputs, gates, the nodes of a stable start, and the new input.
+SMALL = {
+    "latch": ("rs", [("q", "NOR", "rb"), ("b", "NOR", "sq")], "1100", "00"),
+    "stays": ("rs", [("q", "NOR", "rb"), ("b", "NOR", "sq")], "0110", "00"),
+    "inverter": ("e", [("y", "NAND", "ey")], "01", "1"),
+    "xor": ("x", [("y", "XOR", "xx")], "00", "1"),
+    "hazard": ("x", [("n", "NOT", "x"), ("y", "AND", "xn")], "010", "1"),
+    "holding": ("a", [("y", "OR", "ay")], "00", "1"),
+    "pulse": ("x", [("p", "AND", "xn"), ("n", "NOT", "x"), ("y", "OR", "py")], "0010", "1"),
+    "multiplexer": ("sxy", [("n", "NOT", "s"), ("a", "AND", "sx"), ("b", "AND", "ny"), ("z", "OR", "ab")], "1110101", "011"),
+    "c17": (
+        "abcfg",
+        [("p", "NAND", "ac"), ("q", "NAND", "cf"), ("r", "NAND", "bq"), ("s", "NAND", "qg"), ("t", "NAND", "pr"), ("u", "NAND", "rs")],
+        "00000111100",
+        "10100",
+    ),
+    "c17 one": (
+        "abcfg",
+        [("p", "NAND", "ac"), ("q", "NAND", "cf"), ("r", "NAND", "bq"), ("s", "NAND", "qg"), ("t", "NAND", "pr"), ("u", "NAND", "rs")],
+        "00000111100",
+        "10000",
+    ),
+}
+# By hand: the rounds, results and ranks of Algorithm A, then those of B with its settling rounds. Nodes, then wires.
+PASSES = {
+    "xor": ((4, "XX XX", "13 22"), (4, "10 11", "13 22")),
+    "holding": ((5, "XX XX", "13 24"), (5, "11 11", "13 24")),
+    "inverter": ((5, "XX XX", "13 24"), (3, "1X 1X", "10 20")),
+    "latch": ((5, "XXXX XXXX", "1133 2424"), (3, "00XX 0X0X", "1100 2020")),
+    "stays": ((3, "0X10 00X1", "0100 0020"), (3, "0010 0001", "0100 0020")),
+    "pulse": ((7, "XXXX XXXXX", "1335 24246"), (7, "100X 1010X", "1530 24260")),
+    "multiplexer": ((7, "X11XXXX XX1X1XX", "1003355 2204046"), (8, "0111011 0011101", "1003357 2204046")),
+    "c17": (
+        (6, "X0X00X111X0 XXX00110X111", "10100300050 222000004000"),
+        (6, "10100011110 111001100111", "10100300050 222000004000"),
+    ),
+    "c17 one": (
+        (3, "X0000111100 X00001101111", "10000000000 200000000000"),
+        (3, "10000111100 100001101111", "10000000000 200000000000"),
+    ),
+}
+# By hand: the states that runs reach in the network of two wires of one source, and those that may persist.
+REACHED = {"0000", "1000", "1010", "1001", "1011", "1110", "1101", "1111"}
+OUTCOMES = {"1011"}
+# By hand: ternary extensions.
+EXTENSIONS = [("AND", "0X1", "0"), ("AND", "1X1", "X"), ("OR", "0X1", "1"), ("XOR", "XX", "X"), ("XOR", "101", "0"), ("NOR", "X1", "0"), ("NOT", "X", "X")]
+
+
+def join(bits):
+    """The join of a set of bits that is not empty."""
+    return "X" if len(bits) == 2 else next(iter(bits))
+
+
+def join_of(value, other):
+    """The value where two ternary values agree, else X."""
+    return value if value == other else "X"
+
+
+def extension(kind, pins):
+    """The join of the gate function over all lists of bits that refine the pins."""
+    refining = product(*("01" if pin == "X" else pin for pin in pins))
+    return join({str(int(GATES[kind]("".join(bits)))) for bits in refining})
+
+
+class Circuit:
+    """A circuit with one letter for a name; its variables are the inputs, the gates, and the wires into the gates."""
+
+    def __init__(self, inputs, gates, start, new):
+        self.inputs, self.gates, self.new = inputs, gates, new
+        self.names = inputs + "".join(name for name, _, _ in gates)
+        self.wires = "".join(sources for _, _, sources in gates)
+        self.start = self.expanded(start)
+
+    def expanded(self, nodes):
+        """The state in which each node has a given bit and each wire its source's."""
+        return nodes + "".join(nodes[self.names.index(source)] for source in self.wires)
+
+    def netlist(self):
+        lines = [f"INPUT({name})" for name in self.inputs]
+        lines += [f"{name} = {kind}({', '.join(sources)})" for name, kind, sources in self.gates]
+        return "\n".join(lines) + "\n"
+
+    def script(self, listed=None):
+        """A script that lists some nodes, all of them if none are named, and then gives the new input."""
+        listed = dict(zip(self.names, self.start)) if listed is None else listed
+        assigned = lambda pairs: "".join(f" {name}={bit}" for name, bit in pairs)
+        return "start" + assigned(listed.items()) + "\nchange" + assigned(zip(self.inputs, self.new)) + "\n"
+
+    def excitations(self, state, new=None):
+        """What drives each variable asks for: a place of the external input, the gate's own wires, the wire's source."""
+        asked, at = list(self.new if new is None else new), len(self.names)
+        for _, kind, sources in self.gates:
+            asked.append(extension(kind, state[at:at + len(sources)]))
+            at += len(sources)
+        return "".join(asked) + "".join(state[self.names.index(source)] for source in self.wires)
+
+    def is_stable(self, state, new=None):
+        return self.excitations(state, new) == state
+
+    def stable_starts(self):
+        """Each state that is stable under its own inputs, by its nodes."""
+        for bits in product("01", repeat=len(self.names)):
+            nodes = "".join(bits)
+            if self.is_stable(self.expanded(nodes), nodes[:len(self.inputs)]):
+                yield nodes
+
+    def algorithm_a(self):
+        """The states from the start on, up to the first that equals the one before."""
+        return until_equal(self.start, lambda state: "".join(map(join_of, state, self.excitations(state))))
+
+    def algorithm_b(self):
+        return until_equal(self.algorithm_a()[-1], self.excitations)
+
+    def passes(self):
+        """Rounds, result and ranks of Algorithm A; rounds, result and settling rounds of B."""
+        a, b = self.algorithm_a(), self.algorithm_b()
+        ranks = [first(a, i, lambda value: value == "X") if value == "X" else 0 for i, value in enumerate(a[-1])]
+        settled = [first(b, i, lambda value: value != "X") if b[0][i] == "X" != value else 0 for i, value in enumerate(b[-1])]
+        return (len(a) - 1, a[-1], ranks), (len(b) - 1, b[-1], settled)
+
+    def steps(self, state):
+        """The states after one step: any variables that are unstable may change at once, and at least one does."""
+        asked = self.excitations(state)
+        choices = product(*(bit if bit == other else bit + other for bit, other in zip(state, asked)))
+        return {"".join(choice) for choice in choices} - {state}
+
+    def reached(self, states=None):
+        """The states that runs from some states reach, from the start if none are named."""
+        waiting = [self.start] if states is None else list(states)
+        seen = set(waiting)
+        while waiting:
+            fresh = self.steps(waiting.pop()) - seen
+            seen |= fresh
+            waiting += fresh
+        return seen
+
+    def outcomes(self):
+        """The states that runs reach from a nontransient cycle.
+
+        The states that reach each other are one cycle. If a part of it is a nontransient cycle, the whole is."""
+        onward = {state: self.reached([state]) for state in self.reached()}
+        lasting = set()
+        for state, later in onward.items():
+            cycle = {other for other in later if state in onward[other]}
+            if (len(cycle) > 1 or self.is_stable(state)) and not self.waits(cycle):
+                lasting |= later
+        return lasting
+
+    def waits(self, cycle):
+        """Whether some variable has one value in all states of a cycle and is unstable in all of them."""
+        asked = [(state, self.excitations(state)) for state in cycle]
+        return any(
+            len({state[i] for state in cycle}) == 1 and all(state[i] != wanted[i] for state, wanted in asked)
+            for i in range(len(self.start))
+        )
+
+    def letters(self, states):
+        """The join over a set of states, for each node."""
+        return "".join(join({state[i] for state in states}) for i in range(len(self.names)))
+
+    def forced(self, listed):
+        """The bit of each node that listed values force, each from those that are there already."""
+        pairs, before = dict(listed), None
+        while pairs != before:
+            before = dict(pairs)
+            for name, kind, sources in self.gates:
+                bits = extension(kind, "".join(before.get(source, "X") for source in sources))
+                if name not in listed and bits != "X":
+                    pairs[name] = bits
+        return pairs
+
+    def start_line(self, listed):
+        """The line of the report that a listing leads to."""
+        pairs = self.forced(listed)
+        for name, _, _ in self.gates:
+            if name not in pairs:
+                return f"refused: start: open {name}"
+        state = self.expanded("".join(pairs[name] for name in self.names))
+        asked = self.excitations(state, state[:len(self.inputs)])
+        for name, bit, wanted in zip(self.names, state, asked):
+            if bit != wanted:
+                return f"refused: start: unstable {name}"
+        return "start" + "".join(f" {name}={pairs[name]}" for name in self.names)
+
+    def listings(self):
+        """Each way to list all inputs and some gates."""
+        for bits in product("01", repeat=len(self.inputs)):
+            for held in product(("", "0", "1"), repeat=len(self.gates)):
+                yield {name: bit for name, bit in zip(self.names, bits + held) if bit}
+
+
+def until_equal(state, after):
+    states = [state]
+    while len(states) < 2 or states[-1] != states[-2]:
+        states.append(after(states[-1]))
+    return states
+
+
+def first(states, i, has):
+    """The first round in which variable i has a value with a property."""
+    return next(number for number, state in enumerate(states) if has(state[i]))
+
+
+def hand_rows():
+    """The plain programs against the rows: name, what was found, what was wanted."""
+    for kind, pins, value in EXTENSIONS:
+        yield f"extension of {kind} on {pins}", extension(kind, pins), value
+    for name, (a, b) in PASSES.items():
+        wanted = tuple((rounds, result.replace(" ", ""), [int(digit) for digit in noted.replace(" ", "")]) for rounds, result, noted in (a, b))
+        yield f"passes of {name}", Circuit(*SMALL[name]).passes(), wanted
+    two_wires = Circuit(*SMALL["xor"])
+    yield "reached of two wires", two_wires.reached(), REACHED
+    yield "outcomes of two wires", two_wires.outcomes(), OUTCOMES
+
+
+def small_changes():
+    """The small circuits with their changes, and those of at most nine variables from each stable start to each input."""
+    for name, (inputs, gates, start, new) in SMALL.items():
+        circuit = Circuit(inputs, gates, start, new)
+        yield name, circuit
+        if len(circuit.start) <= 9 and name != "stays":
+            for nodes in circuit.stable_starts():
+                for bits in product("01", repeat=len(inputs)):
+                    new = "".join(bits)
+                    yield f"{name} from {nodes} to {new}", Circuit(inputs, gates, nodes, new)
