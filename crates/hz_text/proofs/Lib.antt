@@ -10,3 +10,5 @@ pub mod PrintLaws
 pub mod VariableLemmas
 pub mod LeastFault
 pub mod RunFaultLaws
+pub mod RunBuildLaws
+pub mod RunUsableLaws

@@ -40,11 +40,11 @@ pub record IsClear (inputs : ℕ) (statements : List (Numbered Looked)) : Type 0
   pub order : first_out_of_order statements ≡ None
   pub few : last_beyond statements ≡ None
 
-none_parts : (kind : ℕ → TextFault) (answer : Option ℕ) (rest : Option TextFault) → first_of (option_map kind answer) rest ≡ None → (answer ≡ None) × (rest ≡ None)
+pub none_parts : (kind : ℕ → TextFault) (answer : Option ℕ) (rest : Option TextFault) → first_of (option_map kind answer) rest ≡ None → (answer ≡ None) × (rest ≡ None)
 none_parts kind None rest h = (refl, h)
 none_parts kind (Some place) rest h = cc
 
-none_last : (kind : ℕ → TextFault) (answer : Option ℕ) → option_map kind answer ≡ None → answer ≡ None
+pub none_last : (kind : ℕ → TextFault) (answer : Option ℕ) → option_map kind answer ≡ None → answer ≡ None
 none_last kind None h = refl
 none_last kind (Some place) h = cc
 

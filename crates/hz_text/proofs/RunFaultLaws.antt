@@ -111,14 +111,14 @@ passes-outcome netlist text below =
     let looked = looked_run_statements netlist text in
     let up = looked_runs-Ascends netlist text in
     let last : NoneBelow stands 7 → Outcome stands (option_map TooMany (beyond_from 0 0 looked)) = λ below7.
-        subst (Outcome stands) (first_of-None (option_map TooMany (beyond_from 0 0 looked)))
-        (outcome-step stands TooMany 7 (beyond_from 0 0 looked) None (λ place. (refl, refl, refl)) below7 (answers_itself (beyond_from 0 0 looked))
-        (λ e below8. none_at-eight netlist text below8)) in
+    subst (Outcome stands) (first_of-None (option_map TooMany (beyond_from 0 0 looked)))
+    (outcome-step stands TooMany 7 (beyond_from 0 0 looked) None (λ place. (refl, refl, refl)) below7 (answers_itself (beyond_from 0 0 looked))
+    (λ e below8. none_at-eight netlist text below8)) in
     let order = λ (below6 : NoneBelow stands 6). outcome-step stands Order 6 (run_out_of_order looked) _ (λ place. (refl, refl, refl)) below6 (answers_itself (run_out_of_order looked)) (λ e. last) in
     let bit = λ (below5 : NoneBelow stands 5). outcome-step stands Bit 5 (first_line lacks_bit looked) _ (λ place. (refl, refl, refl)) below5 (answers_first lacks_bit looked (first_line lacks_bit looked) up refl) (λ e. order) in
     let missing = λ (below4 : NoneBelow stands 4). outcome-step stands Missing 4 (least_missing_node netlist looked) _ (λ place. (refl, refl, refl)) below4
-        (answers_either (LeavesOut (first_start looked) (length netlist.names)) (LeavesOut (first_input looked) netlist.inputs) _ _
-        (answers_left_out (first_start looked) (length netlist.names)) (answers_left_out (first_input looked) netlist.inputs)) (λ e. bit) in
+    (answers_either (LeavesOut (first_start looked) (length netlist.names)) (LeavesOut (first_input looked) netlist.inputs) _ _
+    (answers_left_out (first_start looked) (length netlist.names)) (answers_left_out (first_input looked) netlist.inputs)) (λ e. bit) in
     outcome-step stands Unknown 2 (first_line (names_unknown netlist.inputs) looked) _ (λ place. (refl, refl, refl)) below
     (answers_first (names_unknown netlist.inputs) looked (first_line (names_unknown netlist.inputs) looked) up refl)
     (λ known below3.

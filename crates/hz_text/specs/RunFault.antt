@@ -127,7 +127,7 @@ place_after_cycle place.Lead = Some place.Cycle
 place_after_cycle place.Cycle = None
 
 -- where one is among the runs after a statement, if it may stand there
-abbrev pub place_after : {A V : Type 0} → Place → StatementOf A V → Option Place
+abbrev pub place_after : Place → LookedRun → Option Place
 place_after here Header = None
 place_after here (Start assignments) = None
 place_after here (Input assignments) = None

@@ -1,5 +1,5 @@
 -- What the passes over a run text's statements answer.
-use Rattle.std.specs.Prelude.{◌≡◌, ℕ, Bool, nat_eq, nat_le, List, length, Option, Some, None, if◌then◌else◌}
+use Rattle.std.specs.Prelude.{◌≡◌, ℕ, Bool, nat_eq, nat_le, List, length, All, Option, Some, None, if◌then◌else◌}
 use Rattle.std.specs.Option.{option_map}
 use Rattle.hz_core.specs.Netlist.{Netlist, IsCircuit}
 use Rattle.hz_line.specs.Statement.{Numbered, first_line}
@@ -49,6 +49,7 @@ first_run_fault netlist statements =
 -- the statements of a text in which no fault stands
 pub record IsAcceptedRun (netlist : Netlist) (text : List ℕ) (entries : List RunEntry) : Type 0 where
   pub circuit : IsCircuit netlist
+  pub below : All (AssignsBelow (length netlist.names)) entries
   pub statements : run_entered_all entries ≡ looked_run_statements netlist text
   pub clear : first_run_fault netlist (run_entered_all entries) ≡ None
   pub faultless : IsRunFaultless netlist text

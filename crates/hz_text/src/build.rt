@@ -32,7 +32,7 @@ pub(crate) fn build(alloc: Global, nodes: u32, entries: &[Entry]) -> Result<Scri
 }
 
 // Lists nodes with their bits.
-fn list_all(script: &mut Script, pairs: &[(u32, bool)])
+pub(crate) fn list_all(script: &mut Script, pairs: &[(u32, bool)])
     requires none { script.old.start ≡ replicate (length script.old.start) None }
     requires change { IsChange (length script.old.start) pairs.now }
     ensures start { script.new.start ≡ bits_at pairs.now (length script.old.start) }
@@ -64,7 +64,7 @@ fn add_changes(
 }
 
 // The nodes and bits of assignments, in place of those that the vector had.
-fn read_pairs(all: &[Assigned], pairs: &mut Vec<(u32, bool)>) -> Result<(), Memory>
+pub(crate) fn read_pairs(all: &[Assigned], pairs: &mut Vec<(u32, bool)>) -> Result<(), Memory>
     ensures { OnOk result (pairs.new.items ≡ filter_map pair_of all.now) }
 {
     pairs.clear();

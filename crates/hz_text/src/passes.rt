@@ -125,7 +125,11 @@ pub(crate) fn least_missing(
 }
 
 // The least input that is not assigned.
-pub(crate) fn least_unassigned(alloc: Global, all: &[Assigned], inputs: u32) -> Result<Option<u32>, Memory>
+pub(crate) fn least_unassigned(
+    alloc: Global,
+    all: &[Assigned],
+    inputs: u32,
+) -> Result<Option<u32>, Memory>
     ensures { IfOk result (λ missing. missing ≡ least_unassigned inputs all.now) }
 {
     let listed = listed_inputs(alloc, all, inputs)?;

@@ -1,12 +1,24 @@
 // The run text of statements without a fault.
 
-ghost use Rattle.std.specs.Prelude.{◌≡◌, None, IfOk};
-ghost use Rattle.hz_text.specs.RunLookup.{run_entered_all};
-ghost use Rattle.hz_text.specs.RunPass.{first_run_fault};
-ghost use Rattle.hz_text.specs.RunText.{IsRunTextBy, unnumbered};
+ghost use Rattle.std.specs.Prelude.{◌≡◌, ◌≤◌, ◌++◌, ◌∷◌, [], length, map, All, Some, None, IsSome, false, is_none, IfOk, OnOk};
+ghost use Rattle.std.specs.List.{flat_map, list_any, range_with_len};
+ghost use Rattle.hz_text.specs.declared.run_order.Place.TheVariants.{Between};
+ghost use Rattle.hz_text.specs.RunStatement.{Run, Step, Cycle, End};
+ghost use Rattle.hz_text.specs.RunLookup.{run_held_by, run_entered_all};
+ghost use Rattle.hz_text.specs.RunFault.{variables_in, place_after, runs_out_of_order};
+ghost use Rattle.hz_text.specs.RunPass.{AssignsBelow, first_run_fault};
+ghost use Rattle.hz_text.specs.RunText.{IsRunTextBy, step_of, run_statements, unnumbered};
+ghost use Rattle.hz_text.specs.RunBuilt.{IsWholeStart, last_place, IsRunAdded};
+ghost use Rattle.hz_text.specs.ScriptText.{bit_at};
 
+use crate::assigned::Assigned;
+use crate::build::{list_all, read_pairs};
 use crate::run_entry::RunEntry;
-use crate::run_text::RunText;
+use crate::run_order::is_end;
+use crate::run_passes::assignments_in;
+use crate::run_statement::RunHeld;
+use crate::run_text::{RunText, ToldRun};
+use crate::script::Script;
 use hz_core::{Circuit, Memory};
 use std::alloc::Global;
 
@@ -16,8 +28,154 @@ pub(crate) fn build_runs(
     circuit: &Circuit,
     entries: &[RunEntry],
 ) -> Result<RunText, Memory>
-    requires { first_run_fault circuit.now (run_entered_all entries.now) ≡ None }
+    requires some { 3 ≤ length entries.now }
+    requires below { All (AssignsBelow (length circuit.now.names)) entries.now }
+    requires clear { first_run_fault circuit.now (run_entered_all entries.now) ≡ None }
     ensures { IfOk result (IsRunTextBy circuit.now (unnumbered (run_entered_all entries.now))) }
 {
-    Err(Memory)
+    let [_, start, input, later @ ..] = entries else {
+        unreachable!();
+    };
+    let nodes = read_bits(alloc, assignments_in(&start.held), circuit.nodes())?;
+    let input = read_bits(alloc, assignments_in(&input.held), circuit.inputs())?;
+    let runs = read_runs(alloc, later)?;
+    Ok(RunText::of(nodes, input, runs))
+}
+
+// The bits that assignments give to so many nodes.
+fn read_bits(alloc: Global, all: &[Assigned], nodes: u32) -> Result<Vec<bool>, Memory>
+    requires { IsWholeStart nodes all.now }
+    ensures { IfOk result (λ bits. map Some bits.items ≡ map (bit_at all.now) (range_with_len 0 nodes)) }
+{
+    let mut listed = Script::new(alloc, nodes)?;
+    let mut pairs = Vec::new(alloc);
+    read_pairs(all, &mut pairs)?;
+    list_all(&mut listed, pairs.as_slice());
+    known_bits(alloc, listed.start())
+}
+
+// Bits that are all there.
+fn known_bits(alloc: Global, listed: &[Option<bool>]) -> Result<Vec<bool>, Memory>
+    requires { All IsSome listed.now }
+    ensures { IfOk result (λ bits. map Some bits.items ≡ listed.now) }
+{
+    let mut bits = Vec::new(alloc);
+    for bit in listed {
+        push_bit(&mut bits, *bit)?;
+    }
+    Ok(bits)
+}
+
+fn push_bit(bits: &mut Vec<bool>, listed: Option<bool>) -> Result<(), Memory>
+    requires { IsSome listed }
+    ensures { OnOk result (map Some bits.new.items ≡ map Some bits.old.items ++ listed ∷ []) }
+{
+    let Some(bit) = listed else {
+        unreachable!();
+    };
+    let Ok(_) = bits.push(bit) else {
+        return Err(Memory);
+    };
+    Ok(())
+}
+
+// The runs that statements before the end are.
+fn read_runs(alloc: Global, entries: &[RunEntry]) -> Result<Vec<ToldRun>, Memory>
+    requires ordered { runs_out_of_order Between (run_entered_all entries.now) ≡ None }
+    requires known { All (λ entry. list_any is_none (variables_in (run_held_by entry.held)) ≡ false) entries.now }
+    ensures { IfOk result (λ runs. unnumbered (run_entered_all entries.now) ≡ flat_map run_statements runs.items ++ End ∷ []) }
+{
+    let mut runs = Vec::new(alloc);
+    let mut flips = Vec::new(alloc);
+    for entry in entries {
+        if is_end(&entry.held) {
+            return Ok(runs);
+        }
+        add_statement(alloc, &mut runs, &entry.held, &mut flips)?;
+    }
+    Ok(runs)
+}
+
+// Adds a statement to the runs before it.
+fn add_statement(
+    alloc: Global,
+    runs: &mut Vec<ToldRun>,
+    held: &RunHeld,
+    flips: &mut Vec<u32>,
+) -> Result<(), Memory>
+    requires follows { IsSome (place_after (last_place runs.old.items) (run_held_by held.now)) }
+    requires known { list_any is_none (variables_in (run_held_by held.now)) ≡ false }
+    ensures { OnOk result (IsRunAdded runs.old.items (run_held_by held.now) runs.new.items) }
+{
+    match held {
+        RunHeld::Header => unreachable!(),
+        RunHeld::Start(_) => unreachable!(),
+        RunHeld::Input(_) => unreachable!(),
+        RunHeld::Run => begin_run(alloc, runs),
+        RunHeld::Step(variables) => add_step(runs, variables.as_slice(), flips),
+        RunHeld::Cycle => begin_cycle(alloc, runs),
+        RunHeld::End => unreachable!(),
+    }
+}
+
+// Begins a run.
+fn begin_run(alloc: Global, runs: &mut Vec<ToldRun>) -> Result<(), Memory>
+    ensures { OnOk result (IsRunAdded runs.old.items Run runs.new.items) }
+{
+    let Ok(_) = runs.push(ToldRun::new(alloc)) else {
+        return Err(Memory);
+    };
+    Ok(())
+}
+
+// Adds a step to the last run.
+fn add_step(
+    runs: &mut Vec<ToldRun>,
+    variables: &[Option<u32>],
+    flips: &mut Vec<u32>,
+) -> Result<(), Memory>
+    requires follows { IsSome (place_after (last_place runs.old.items) (Step variables.now)) }
+    requires known { list_any is_none variables.now ≡ false }
+    ensures { OnOk result (IsRunAdded runs.old.items (Step variables.now) runs.new.items) }
+{
+    read_flips(variables, flips)?;
+    let last = runs.len() - 1;
+    let run = &mut runs[last];
+    run.push_step(flips.as_slice())
+}
+
+// Begins the cycle of the last run.
+fn begin_cycle(alloc: Global, runs: &mut Vec<ToldRun>) -> Result<(), Memory>
+    requires follows { IsSome (place_after (last_place runs.old.items) Cycle) }
+    ensures { OnOk result (IsRunAdded runs.old.items Cycle runs.new.items) }
+{
+    let last = runs.len() - 1;
+    let run = &mut runs[last];
+    run.begin_cycle(alloc);
+    Ok(())
+}
+
+// Variables that are all there, in place of those that the vector had.
+fn read_flips(variables: &[Option<u32>], flips: &mut Vec<u32>) -> Result<(), Memory>
+    requires { list_any is_none variables.now ≡ false }
+    ensures { OnOk result (map Some flips.new.items ≡ variables.now) }
+{
+    flips.clear();
+    for variable in variables {
+        push_flip(flips, *variable)?;
+    }
+    Ok(())
+}
+
+fn push_flip(flips: &mut Vec<u32>, variable: Option<u32>) -> Result<(), Memory>
+    requires { IsSome variable }
+    ensures { OnOk result (map Some flips.new.items ≡ map Some flips.old.items ++ variable ∷ []) }
+{
+    let Some(variable) = variable else {
+        unreachable!();
+    };
+    let Ok(_) = flips.push(variable) else {
+        return Err(Memory);
+    };
+    Ok(())
 }

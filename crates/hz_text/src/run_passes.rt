@@ -67,11 +67,7 @@ pub(crate) fn first_node_twice(
         return Err(Memory);
     };
     for (index, entry) in entries.iter().enumerate() {
-        if repeats(
-            assignments_in(&entry.held),
-            marks.as_mut_slice(),
-            index + 1,
-        ) {
+        if repeats(assignments_in(&entry.held), marks.as_mut_slice(), index + 1) {
             return Ok(Some(entry.line));
         }
     }

@@ -25,6 +25,7 @@ returns c =
     let answer = rw (c.circuit.ensures.same, c.as_slice.ensures.value) at c.in_ok-check_runs.ensures in
     record {
       circuit = c.circuit.ensures.circuit;
+      below = read_runs-below c.args.net.now c.args.text.now c.in_ok-entries.entries.items c.in_ok-entries.ensures;
       statements = read_runs-looked c.args.net.now c.args.text.now c.in_ok-entries.entries.items c.in_ok-entries.ensures;
       clear = answer;
       faultless = run_faultless c.args.net.now c.args.text.now c.in_ok-entries.entries.items c.in_ok-entries.ensures answer;

@@ -1,4 +1,9 @@
-use Rattle.std.proofs.Common.{ap, inl, inr, Err}
+use Rattle.std.proofs.Common.{List, ap, subst, inl, inr, Err}
+use Rattle.hz_line.specs.Statement.{Numbered}
+use Rattle.hz_text.specs.RunLookup.{LookedRun, run_entered_all}
+use Rattle.hz_text.specs.RunText.{IsRunTextBy, unnumbered}
+use Rattle.hz_text.proofs.RunBuildLaws.{clear_run, long_enough}
+use Rattle.hz_text.proofs.RunUsableLaws.{usable_run}
 use Rattle.std.proofs.lemmas.Result.{err_from_is_err_and}
 use Rattle.hz_text.proofs.RunFaultLaws.{run_refusal-exact}
 use Rattle.hz_text.proofs.run_read.read_run.Goals as goal
@@ -10,3 +15,20 @@ returns-in_err-entries-clause-exact c =
       | inl same ↦ inl (ap Err same)
       | inr memory ↦ inr (ap Err memory)
     ])
+
+pub build_runs-requires-clause-some : goal.build_runs-requires-clause-some
+build_runs-requires-clause-some c =
+    let is = c.in_ok-entries.ensures in
+    rw c.as_slice.ensures.value (long_enough c.in_ok-entries.entries.items (clear_run c.args.net.now (run_entered_all c.in_ok-entries.entries.items) is.clear).order)
+
+pub returns-clause-value : goal.returns-clause-value
+returns-clause-value c =
+    let is = c.in_ok-entries.ensures in
+    let built = rw (c.circuit.ensures.same, c.as_slice.ensures.value) at c.in-Ok.ensures in
+    let P : List (Numbered LookedRun) → Type 0 = λ statements. IsRunTextBy c.args.net.now (unnumbered statements) c.in-Ok.runs in
+    subst P is.statements built
+
+pub returns-clause-usable : goal.returns-clause-usable
+returns-clause-usable c =
+    let built = rw (c.circuit.ensures.same, c.as_slice.ensures.value) at c.in-Ok.ensures in
+    usable_run c.args.net.now c.args.text.now c.in_ok-entries.entries.items c.in-Ok.runs c.in_ok-entries.ensures built

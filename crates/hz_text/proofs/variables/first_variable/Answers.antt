@@ -16,10 +16,9 @@ returns-in-Pin c =
     let whole : take (length tokens - 1) after ≡ after = take_all (length tokens - 1) after (omega (arith, length-drop 1 tokens)) in
     let P : List Token → Type 0 = λ rest. IsPinAfter rest (Pin c.in-Pin.number) in
     let pin = subst P whole c.in-Pin.ensures in
-    let read = pin_first c.args.net.now tokens c.in-Word.name.now c.in-Pin.number.now _ c.requires (ap token_of c.in-Word.is) pin.0 in
-    (
+    let read = pin_first c.args.net.now tokens c.in-Word.name.now c.in-Pin.number.now _ c.requires (ap token_of c.in-Word.is) pin.0 in (
       read ∙ ap (λ variable. with_first variable (variables_by c.args.net.now (map token_of (drop 4 tokens))))
-      (sym (c.wire_into.ensures ∙ ap (λ node. wire_into c.args.net.now node (number_by c.in-Pin.number.now)) (c.find-node.ensures.found ∙ ap (λ netlist. node_named netlist c.in-Word.name.now) c.circuit.ensures.same))),
+          (sym (c.wire_into.ensures ∙ ap (λ node. wire_into c.args.net.now node (number_by c.in-Pin.number.now)) (c.find-node.ensures.found ∙ ap (λ netlist. node_named netlist c.in-Word.name.now) c.circuit.ensures.same))),
       omega arith,
       omega (arith, pin.2, length-drop 1 tokens),
     )

@@ -1,0 +1,408 @@
+-- Runs that are built statement by statement, and the front of a run text in order.
+use Rattle.std.proofs.Common.{◌≡◌, ◌∙◌, ℕ, ◌+◌, ◌-◌, ◌<◌, ◌≤◌, Bool, true, false, ◌||◌, cond, nat_eq, nat_le, List, [], ◌∷◌, ◌++◌, Option, Some, None, zero, suc, length, get_or, set, take, drop, map, refl, ap, sym, subst, inl, inr, arith, append_assoc, zero-add}
+use Rattle.std.specs.List.{list_any, flat_map, filter_map, range_with_len, All}
+use Rattle.std.specs.Option.{IsSome, IfSome, is_none, option_map_or}
+use Rattle.std.proofs.lemmas.Bool.Decides.{nat_tests}
+use Rattle.std.proofs.lemmas.List.{append-nil, map_push, length-map, length-drop, take_all, drop_more, get_or-map, map-append, get_or_default}
+use Rattle.std.proofs.lemmas.List.Elements.{All-nil, All-cons, All-head, All-tail, All-drop}
+use Rattle.std.proofs.lemmas.List.FromFn.{length-range_with_len, get_or-map-range_with_len}
+use Rattle.std.proofs.lemmas.Grind.{flat_map-append}
+use Rattle.hz_core.specs.Netlist.{Netlist}
+use Rattle.hz_line.specs.Statement.{Numbered, first_line}
+use Rattle.hz_text.specs.declared.assigned.Assigned.{Assigned}
+use Rattle.hz_text.specs.declared.keyword.Keyword.TheVariants as keyword
+use Rattle.hz_text.specs.declared.run_entry.RunEntry.{RunEntry}
+use Rattle.hz_text.specs.declared.run_order.Place.{Place}
+use Rattle.hz_text.specs.declared.run_order.Place.TheVariants as place
+use Rattle.hz_text.specs.ScriptFault.{is_unknown, assigns}
+use Rattle.hz_text.specs.Pass.{IsPair, AreBelow, nodes_of, least_unassigned, pair_of}
+use Rattle.hz_text.specs.ScriptText.{bit_at, bits_at, assignment_to}
+use Rattle.hz_text.specs.RunStatement.{Header, Start, Input, Run, Step, Cycle, End}
+use Rattle.hz_text.specs.RunLookup.{LookedRun, run_entered, run_entered_all, run_held_by}
+use Rattle.hz_text.specs.RunValue.{RunOf, with_step_in, with_step}
+use Rattle.hz_text.specs.RunFault.{assignments_in, variables_in, names_unknown, lacks_bit, is_header, is_start_line, is_input_line, is_end, place_after, end_out_of_order, runs_out_of_order, out_of_order_with, start_out_of_order, input_out_of_order, run_out_of_order, first_start, first_input}
+use Rattle.hz_text.specs.RunPass.{AssignsBelow, names_node_twice, least_left_out}
+use Rattle.hz_text.specs.RunText.{step_of, run_statements, unnumbered}
+use Rattle.hz_text.specs.RunBuilt.{IsWholeStart, place_in, last_place, IsRunAdded}
+use Rattle.hz_text.proofs.FaultLaws.{unassigned-None, true-false}
+use Rattle.hz_text.proofs.BuildLemmas.{pairs_back}
+use Rattle.hz_text.specs.declared.fault.TextFault.TheVariants as fault
+use Rattle.hz_text.specs.RunFault.{beyond_from}
+use Rattle.hz_text.specs.RunPass.{lesser, least_missing_node, first_run_fault}
+use Rattle.hz_text.proofs.ReadLaws.{bit-some, pairs-sound, none_parts, none_last, All-unmap, All-from_first_line}
+
+-- one run more, after the last
+last_place-push : (old : List RunOf) (run : RunOf) → last_place (old ++ run ∷ []) ≡ place_in run.cycle
+last_place-push [] run = refl
+last_place-push (first ∷ []) run = refl
+last_place-push (first ∷ next ∷ later) run = last_place-push (next ∷ later) run
+
+pub begun : (old : List RunOf) → IsRunAdded old Run (old ++ record { lead = []; cycle = None } ∷ [])
+begun old =
+    let run : RunOf = record { lead = []; cycle = None } in
+    record {
+      statements = flat_map-append run_statements old (run ∷ []);
+      place = ap Some (sym (last_place-push old run));
+    }
+
+-- the last of some runs is changed
+last_place-cons : (first : RunOf) (rest : List RunOf) → 0 < length rest → last_place (first ∷ rest) ≡ last_place rest
+last_place-cons first [] some = absurd (omega (arith, some))
+last_place-cons first (next ∷ later) some = refl
+
+length-set : (runs : List RunOf) (n : ℕ) (run : RunOf) → length (set runs n run) ≡ length runs
+length-set [] n run = refl
+length-set (first ∷ later) zero run = refl
+length-set (first ∷ later) (suc n) run = ap suc (length-set later n run)
+
+last_place-set : (runs : List RunOf) (n : ℕ) (run : RunOf) → length runs ≡ suc n → last_place (set runs n run) ≡ place_in run.cycle
+last_place-set [] n run long = absurd (omega (arith, long))
+last_place-set (first ∷ []) zero run long = refl
+last_place-set (first ∷ []) (suc n) run long = absurd (omega (arith, long))
+last_place-set (first ∷ next ∷ later) zero run long = absurd (omega (arith, long))
+last_place-set (first ∷ next ∷ later) (suc n) run long =
+    last_place-cons first (set (next ∷ later) n run) (omega (arith, length-set (next ∷ later) n run)) ∙ last_place-set (next ∷ later) n run (omega (arith, long))
+
+last_place-at : (runs : List RunOf) (n : ℕ) (d : RunOf) → length runs ≡ suc n → last_place runs ≡ place_in (get_or runs n d).cycle
+last_place-at [] n d long = absurd (omega (arith, long))
+last_place-at (first ∷ []) zero d long = refl
+last_place-at (first ∷ []) (suc n) d long = absurd (omega (arith, long))
+last_place-at (first ∷ next ∷ later) zero d long = absurd (omega (arith, long))
+last_place-at (first ∷ next ∷ later) (suc n) d long = last_place-at (next ∷ later) n d (omega (arith, long))
+
+last-changed :
+    (runs : List RunOf) (n : ℕ) (d run : RunOf) (statement : LookedRun) → length runs ≡ suc n →
+    run_statements run ≡ run_statements (get_or runs n d) ++ statement ∷ [] →
+    flat_map run_statements (set runs n run) ≡ flat_map run_statements runs ++ statement ∷ []
+last-changed [] n d run statement long e = absurd (omega (arith, long))
+last-changed (first ∷ []) zero d run statement long e =
+    append-nil (run_statements run) ∙ e ∙ ap (λ front. front ++ statement ∷ []) (sym (append-nil (run_statements first)))
+last-changed (first ∷ []) (suc n) d run statement long e = absurd (omega (arith, long))
+last-changed (first ∷ next ∷ later) zero d run statement long e = absurd (omega (arith, long))
+last-changed (first ∷ next ∷ later) (suc n) d run statement long e =
+    ap (λ rest. run_statements first ++ rest) (last-changed (next ∷ later) n d run statement (omega (arith, long)) e)
+    ∙ sym (append_assoc (run_statements first) (flat_map run_statements (next ∷ later)) (statement ∷ []))
+
+-- one step more
+stepped : (lead : List (List ℕ)) (cycle : Option (List (List ℕ))) (flips : List ℕ) → run_statements (with_step_in lead cycle flips) ≡ run_statements (record { lead = lead; cycle = cycle }) ++ step_of flips ∷ []
+stepped lead None flips =
+    ap (λ rest. Run ∷ rest)
+    (append-nil (map step_of (lead ++ flips ∷ [])) ∙ map_push step_of lead flips ∙ ap (λ front. front ++ step_of flips ∷ []) (sym (append-nil (map step_of lead))))
+stepped lead (Some cycle) flips =
+    ap (λ rest. Run ∷ rest)
+    (ap (λ rest. map step_of lead ++ Cycle ∷ rest) (map_push step_of cycle flips) ∙ sym (append_assoc (map step_of lead) (Cycle ∷ map step_of cycle) (step_of flips ∷ [])))
+
+stepped-place : (lead : List (List ℕ)) (cycle : Option (List (List ℕ))) (flips : List ℕ) (variables : List (Option ℕ)) → place_after (place_in cycle) (Step variables) ≡ Some (place_in (with_step_in lead cycle flips).cycle)
+stepped-place lead None flips variables = refl
+stepped-place lead (Some cycle) flips variables = refl
+
+pub added_step :
+    (old : List RunOf) (n : ℕ) (d : RunOf) (flips : List ℕ) (variables : List (Option ℕ)) → length old ≡ suc n → map Some flips ≡ variables →
+    IsRunAdded old (Step variables) (set old n (with_step (get_or old n d) flips))
+added_step old n d flips variables long e =
+    let run = get_or old n d in
+    record {
+      statements = last-changed old n d (with_step run flips) (Step variables) long (stepped run.lead run.cycle flips ∙ ap (λ list. run_statements run ++ Step list ∷ []) e);
+      place =
+          ap (λ here. place_after here (Step variables)) (last_place-at old n d long) ∙ stepped-place run.lead run.cycle flips variables
+          ∙ ap Some (sym (last_place-set old n (with_step run flips) long));
+    }
+
+-- the cycle begins
+cycle_begun : (lead : List (List ℕ)) (cycle : Option (List (List ℕ))) → IsSome (place_after (place_in cycle) Cycle) → run_statements (record { lead = lead; cycle = Some [] }) ≡ run_statements (record { lead = lead; cycle = cycle }) ++ Cycle ∷ []
+cycle_begun lead None follows = ap (λ front. Run ∷ front ++ Cycle ∷ []) (sym (append-nil (map step_of lead)))
+cycle_begun lead (Some cycle) follows = cc
+
+cycle_place : (cycle : Option (List (List ℕ))) → IsSome (place_after (place_in cycle) Cycle) → place_after (place_in cycle) Cycle ≡ Some place.Cycle
+cycle_place None follows = refl
+cycle_place (Some cycle) follows = cc
+
+pub added_cycle :
+    (old : List RunOf) (n : ℕ) (d : RunOf) → length old ≡ suc n → IsSome (place_after (last_place old) Cycle) →
+    IsRunAdded old Cycle (set old n (record { lead = (get_or old n d).lead; cycle = Some [] }))
+added_cycle old n d long follows =
+    let run = get_or old n d in
+    let P : Place → Type 0 = λ here. IsSome (place_after here Cycle) in
+    let here = subst P (last_place-at old n d long) follows in
+    record {
+      statements = last-changed old n d (record { lead = run.lead; cycle = Some [] }) Cycle long (cycle_begun run.lead run.cycle here);
+      place =
+          ap (λ here. place_after here Cycle) (last_place-at old n d long) ∙ cycle_place run.cycle here
+          ∙ ap Some (sym (last_place-set old n (record { lead = run.lead; cycle = Some [] }) long));
+    }
+
+-- a step and a cycle stand in a run
+pub some_run : (old : List RunOf) (statement : LookedRun) → place_after place.Between statement ≡ None → IsSome (place_after (last_place old) statement) → 0 < length old
+some_run [] statement none follows = absurd (no_place (place_after place.Between statement) none follows)
+  where
+    no_place : (next : Option Place) → next ≡ None → IsSome next → ⊥
+    no_place None e h = cc
+    no_place (Some next) e h = cc
+some_run (first ∷ later) statement none follows = omega arith
+
+-- what follows a statement in order
+pub record IsNextInOrder (here : Place) (statement : LookedRun) (later : List (Numbered LookedRun)) : Type 0 where
+  pub next : Place
+  pub place : place_after here statement ≡ Some next
+  pub ordered : runs_out_of_order next later ≡ None
+
+pub next_in_order : (here : Place) (first : Numbered LookedRun) (later : List (Numbered LookedRun)) → is_end first.statement ≡ false → runs_out_of_order here (first ∷ later) ≡ None → IsNextInOrder here first.statement later
+next_in_order here first later on e = by_place (place_after here first.statement) refl (rw on at e)
+  where
+    by_place : (next : Option Place) → place_after here first.statement ≡ next → option_map_or (λ next. runs_out_of_order next later) next (Some first.line) ≡ None → IsNextInOrder here first.statement later
+    by_place None p w = cc
+    by_place (Some next) p w = record { next = next; place = p; ordered = w }
+
+is_End : (statement : LookedRun) → is_end statement ≡ true → statement ≡ End
+is_End Header e = cc
+is_End (Start assignments) e = cc
+is_End (Input assignments) e = cc
+is_End Run e = cc
+is_End (Step variables) e = cc
+is_End Cycle e = cc
+is_End End e = refl
+
+none_after : (later : List (Numbered LookedRun)) → end_out_of_order later ≡ None → later ≡ []
+none_after [] e = refl
+none_after (first ∷ later) e = cc
+
+-- at the end nothing is left
+pub ended : (here : Place) (first : Numbered LookedRun) (later : List (Numbered LookedRun)) → is_end first.statement ≡ true → runs_out_of_order here (first ∷ later) ≡ None → unnumbered (first ∷ later) ≡ End ∷ []
+ended here first later at e =
+    let none : later ≡ [] = none_after later (rw at at e) in
+    ap (λ statement. statement ∷ unnumbered later) (is_End first.statement at) ∙ ap (λ rest. End ∷ unnumbered rest) none
+
+-- the entry at a place, before those after it
+pub entries-at : (entries : List RunEntry) (i : ℕ) (entry : RunEntry) → i < length entries → entry ≡ get_or entries i entry → run_entered_all (drop i entries) ≡ run_entered entry ∷ run_entered_all (drop (i + 1) entries)
+entries-at entries i entry within is =
+    ap run_entered_all (drop_more entries i entry within) ∙ ap (λ one. run_entered one ∷ run_entered_all (drop (i + 1) entries)) (sym is)
+
+-- the bits of a whole start
+pub bits_are :
+    (all : List Assigned) (nodes listed : ℕ) (start : List (Option Bool)) (pairs : List (ℕ × Bool)) → IsWholeStart nodes all → start ≡ bits_at pairs listed → listed ≡ nodes →
+    pairs ≡ filter_map pair_of all → start ≡ map (bit_at all) (range_with_len 0 nodes)
+bits_are all nodes listed start pairs whole is long read =
+    is ∙ ap (bits_at pairs) long ∙ ap (λ those. map (bit_at those) (range_with_len 0 nodes)) (ap (map assignment_to) read ∙ pairs_back nodes all whole.pairs)
+
+pub bits_known : (all : List Assigned) (nodes : ℕ) → IsWholeStart nodes all → All IsSome (map (bit_at all) (range_with_len 0 nodes))
+bits_known all nodes whole = λ k d l.
+    let low : k < nodes = omega (arith, l, length-map (range_with_len 0 nodes) (bit_at all), length-range_with_len 0 nodes) in
+    rw (get_or-map-range_with_len (bit_at all) 0 nodes k k d low (zero-add k)) (bit-some all k (unassigned-None nodes all whole.whole k low) whole.bits)
+
+first_passes : (test : LookedRun → Bool) (after : List (Numbered LookedRun) → Option ℕ) (first : Numbered LookedRun) (later : List (Numbered LookedRun)) → out_of_order_with test after (first ∷ later) ≡ None → (test first.statement ≡ true) × (after later ≡ None)
+first_passes test after first later e = by_test (test first.statement) refl e
+  where
+    by_test : (b : Bool) → test first.statement ≡ b → cond b (after later) (Some first.line) ≡ None → (test first.statement ≡ true) × (after later ≡ None)
+    by_test true t w = (t, w)
+    by_test false t w = cc
+
+is_Header : (statement : LookedRun) → is_header statement ≡ true → statement ≡ Header
+is_Header Header e = refl
+is_Header (Start assignments) e = cc
+is_Header (Input assignments) e = cc
+is_Header Run e = cc
+is_Header (Step variables) e = cc
+is_Header Cycle e = cc
+is_Header End e = cc
+
+is_Start : (statement : LookedRun) → is_start_line statement ≡ true → statement ≡ Start (assignments_in statement)
+is_Start Header e = cc
+is_Start (Start assignments) e = refl
+is_Start (Input assignments) e = cc
+is_Start Run e = cc
+is_Start (Step variables) e = cc
+is_Start Cycle e = cc
+is_Start End e = cc
+
+is_Input : (statement : LookedRun) → is_input_line statement ≡ true → statement ≡ Input (assignments_in statement)
+is_Input Header e = cc
+is_Input (Start assignments) e = cc
+is_Input (Input assignments) e = refl
+is_Input Run e = cc
+is_Input (Step variables) e = cc
+is_Input Cycle e = cc
+is_Input End e = cc
+
+-- the first three statements of a run text in order, and the runs after them
+pub record IsFramed (header start input : Numbered LookedRun) (later : List (Numbered LookedRun)) : Type 0 where
+  pub front : unnumbered (header ∷ start ∷ input ∷ later) ≡ Header ∷ Start (assignments_in start.statement) ∷ Input (assignments_in input.statement) ∷ unnumbered later
+  pub is_start : start.statement ≡ Start (assignments_in start.statement)
+  pub is_input : input.statement ≡ Input (assignments_in input.statement)
+  pub first_start : first_start (header ∷ start ∷ input ∷ later) ≡ Some (assignments_in start.statement)
+  pub first_input : first_input (header ∷ start ∷ input ∷ later) ≡ Some (assignments_in input.statement)
+  pub runs : runs_out_of_order place.Between later ≡ None
+
+framed : (header start input : Numbered LookedRun) (later : List (Numbered LookedRun)) → run_out_of_order (header ∷ start ∷ input ∷ later) ≡ None → IsFramed header start input later
+framed header start input later e =
+    let a = first_passes is_header start_out_of_order header (start ∷ input ∷ later) e in
+    let b = first_passes is_start_line input_out_of_order start (input ∷ later) a.1 in
+    let c = first_passes is_input_line (runs_out_of_order place.Between) input later b.1 in
+    let h = is_Header header.statement a.0 in
+    let s = is_Start start.statement b.0 in
+    let i = is_Input input.statement c.0 in
+    let no_start : is_start_line header.statement ≡ false = ap is_start_line h in
+    let no_input : is_input_line header.statement ≡ false = ap is_input_line h in
+    let no_input2 : is_input_line start.statement ≡ false = ap is_input_line s in
+    record {
+      front =
+          ap (λ one. one ∷ start.statement ∷ input.statement ∷ unnumbered later) h
+          ∙ ap (λ one. Header ∷ one ∷ input.statement ∷ unnumbered later) s
+          ∙ ap (λ one. Header ∷ Start (assignments_in start.statement) ∷ one ∷ unnumbered later) i;
+      is_start = s;
+      is_input = i;
+      first_start = rw (no_start, b.0) refl;
+      first_input = rw (no_input, no_input2, c.0) refl;
+      runs = c.1;
+    }
+
+inputs-below : (inputs : ℕ) (all : List Assigned) → list_any (λ one. is_unknown inputs keyword.Change one.node) all ≡ false → AreBelow inputs all
+inputs-below inputs [] e = All-nil _
+inputs-below inputs (first ∷ later) e =
+    let parts = either_false (is_unknown inputs keyword.Change first.node) _ e in
+    All-cons (λ (one : Assigned). IfSome one.node (λ node. node < inputs)) first later (at first.node parts.0) (inputs-below inputs later parts.1)
+  where
+    either_false : (a b : Bool) → (a || b) ≡ false → (a ≡ false) × (b ≡ false)
+    either_false true b h = cc
+    either_false false b h = (refl, h)
+
+    at : (node : Option ℕ) → is_unknown inputs keyword.Change node ≡ false → IfSome node (λ node. node < inputs)
+    at None h = tt
+    at (Some node) h = grind (arith, nat_tests, h)
+
+-- the start and the input line of a text without a fault
+pub whole_start :
+    (inputs nodes : ℕ) (all : List Assigned) (statement : LookedRun) → statement ≡ Start all → names_unknown inputs statement ≡ false → lacks_bit statement ≡ false →
+    names_node_twice statement ≡ false → AreBelow nodes all → least_unassigned nodes all ≡ None → IsWholeStart nodes all
+whole_start inputs nodes all statement is unknown bits twice below whole =
+    let bits' : list_any (λ (one : Assigned). is_none one.bit) all ≡ false = sym (ap lacks_bit is) ∙ bits in
+    record {
+      pairs = pairs-sound inputs nodes keyword.Start all (sym (ap (names_unknown inputs) is) ∙ unknown) bits' below;
+      bits = bits';
+      fresh = sym (ap names_node_twice is) ∙ twice;
+      whole = whole;
+    }
+
+pub whole_input :
+    (inputs : ℕ) (all : List Assigned) (statement : LookedRun) → statement ≡ Input all → names_unknown inputs statement ≡ false → lacks_bit statement ≡ false →
+    names_node_twice statement ≡ false → least_unassigned inputs all ≡ None → IsWholeStart inputs all
+whole_input inputs all statement is unknown bits twice whole =
+    let bits' : list_any (λ (one : Assigned). is_none one.bit) all ≡ false = sym (ap lacks_bit is) ∙ bits in
+    let unknown' = sym (ap (names_unknown inputs) is) ∙ unknown in
+    record {
+      pairs = pairs-sound inputs inputs keyword.Change all unknown' bits' (inputs-below inputs all unknown');
+      bits = bits';
+      fresh = sym (ap names_node_twice is) ∙ twice;
+      whole = whole;
+    }
+
+-- the variables of a statement that names nothing unknown are there
+pub known_variables : (inputs : ℕ) (statement : LookedRun) → names_unknown inputs statement ≡ false → list_any is_none (variables_in statement) ≡ false
+known_variables inputs Header e = refl
+known_variables inputs (Start assignments) e = refl
+known_variables inputs (Input assignments) e = refl
+known_variables inputs Run e = refl
+known_variables inputs (Step variables) e = e
+known_variables inputs Cycle e = refl
+known_variables inputs End e = refl
+
+-- no pass has an answer
+pub record IsClearRun (netlist : Netlist) (statements : List (Numbered LookedRun)) : Type 0 where
+  pub unknown : first_line (names_unknown netlist.inputs) statements ≡ None
+  pub twice : first_line names_node_twice statements ≡ None
+  pub start : least_left_out (first_start statements) (length netlist.names) ≡ None
+  pub input : least_left_out (first_input statements) netlist.inputs ≡ None
+  pub bit : first_line lacks_bit statements ≡ None
+  pub order : run_out_of_order statements ≡ None
+  pub few : beyond_from 0 0 statements ≡ None
+
+neither : (first second : Option ℕ) → lesser first second ≡ None → (first ≡ None) × (second ≡ None)
+neither None second e = (refl, e)
+neither (Some first) None e = cc
+neither (Some first) (Some second) e = by_test (nat_le first second) e
+  where
+    by_test : (b : Bool) → cond b (Some first) (Some second) ≡ None → (Some first ≡ None) × (Some second ≡ None)
+    by_test true w = cc
+    by_test false w = cc
+
+pub clear_run : (netlist : Netlist) (statements : List (Numbered LookedRun)) → first_run_fault netlist statements ≡ None → IsClearRun netlist statements
+clear_run netlist statements h =
+    let a = none_parts fault.Unknown (first_line (names_unknown netlist.inputs) statements) _ h in
+    let b = none_parts fault.Twice (first_line names_node_twice statements) _ a.1 in
+    let c = none_parts fault.Missing (least_missing_node netlist statements) _ b.1 in
+    let d = none_parts fault.Bit (first_line lacks_bit statements) _ c.1 in
+    let e = none_parts fault.Order (run_out_of_order statements) _ d.1 in
+    let m = neither (least_left_out (first_start statements) (length netlist.names)) (least_left_out (first_input statements) netlist.inputs) c.0 in
+    record { unknown = a.0; twice = b.0; start = m.0; input = m.1; bit = d.0; order = e.0; few = none_last fault.TooMany (beyond_from 0 0 statements) e.1 }
+
+-- statements without a fault, ready to be built
+pub record IsReady (netlist : Netlist) (entries : List RunEntry) (start input : List Assigned) : Type 0 where
+  pub some : 3 ≤ length entries
+  pub start_is : IsWholeStart (length netlist.names) start
+  pub input_is : IsWholeStart netlist.inputs input
+  pub ordered : runs_out_of_order place.Between (run_entered_all (drop 3 entries)) ≡ None
+  pub known : All (λ entry. list_any is_none (variables_in (run_held_by entry.held)) ≡ false) (drop 3 entries)
+  pub front : unnumbered (run_entered_all entries) ≡ Header ∷ Start start ∷ Input input ∷ unnumbered (run_entered_all (drop 3 entries))
+
+-- what an entry assigns
+abbrev pub assigned_at : RunEntry → List Assigned
+assigned_at entry = assignments_in (run_held_by entry.held)
+
+ready_at : (netlist : Netlist) (entries : List RunEntry) → All (AssignsBelow (length netlist.names)) entries → IsClearRun netlist (run_entered_all entries) → (start input d : RunEntry) → start ≡ get_or entries 1 d → input ≡ get_or entries 2 d → IsReady netlist entries (assigned_at start) (assigned_at input)
+ready_at netlist [] below clear start input d s i = let wrong : Some 0 ≡ None = clear.order in cc
+ready_at netlist (header ∷ []) below clear start input d s i =
+    let a = first_passes is_header start_out_of_order (run_entered header) [] clear.order in
+    let wrong : Some 0 ≡ None = a.1 in cc
+ready_at netlist (header ∷ one ∷ []) below clear start input d s i =
+    let a = first_passes is_header start_out_of_order (run_entered header) (run_entered one ∷ []) clear.order in
+    let b = first_passes is_start_line input_out_of_order (run_entered one) [] a.1 in
+    let wrong : Some 0 ≡ None = b.1 in cc
+ready_at netlist (header ∷ one ∷ two ∷ later) below clear start input d s i =
+    let entries = header ∷ one ∷ two ∷ later in
+    let inputs = netlist.inputs in
+    let frame = framed (run_entered header) (run_entered one) (run_entered two) (run_entered_all later) clear.order in
+    let U : Numbered LookedRun → Type 0 = λ numbered. names_unknown inputs numbered.statement ≡ false in
+    let B : Numbered LookedRun → Type 0 = λ numbered. lacks_bit numbered.statement ≡ false in
+    let T : Numbered LookedRun → Type 0 = λ numbered. names_node_twice numbered.statement ≡ false in
+    let unknown = All-unmap U run_entered entries (All-from_first_line (names_unknown inputs) (run_entered_all entries) clear.unknown) in
+    let bits = All-unmap B run_entered entries (All-from_first_line lacks_bit (run_entered_all entries) clear.bit) in
+    let twice = All-unmap T run_entered entries (All-from_first_line names_node_twice (run_entered_all entries) clear.twice) in
+    let start_missing : least_unassigned (length netlist.names) (assigned_at one) ≡ None = ap (λ all. least_left_out all (length netlist.names)) (sym frame.first_start) ∙ clear.start in
+    let input_missing : least_unassigned inputs (assigned_at two) ≡ None = ap (λ all. least_left_out all inputs) (sym frame.first_input) ∙ clear.input in
+    let first = whole_start inputs (length netlist.names) (assigned_at one) (run_held_by one.held) frame.is_start (unknown 1 d (omega arith)) (bits 1 d (omega arith)) (twice 1 d (omega arith)) (below 1 d (omega arith)) start_missing in
+    let second = whole_input inputs (assigned_at two) (run_held_by two.held) frame.is_input (unknown 2 d (omega arith)) (bits 2 d (omega arith)) (twice 2 d (omega arith)) input_missing in
+    let P : RunEntry → Type 0 = λ entry. IsWholeStart (length netlist.names) (assigned_at entry) in
+    let Q : RunEntry → Type 0 = λ entry. IsWholeStart inputs (assigned_at entry) in
+    record {
+      some = omega arith;
+      start_is = subst P (sym s) first;
+      input_is = subst Q (sym i) second;
+      ordered = frame.runs;
+      known = λ k e l. known_variables inputs (run_held_by (get_or later k e).held) (unknown (suc (suc (suc k))) e (omega (arith, l)));
+      front =
+          frame.front
+          ∙ ap (λ entry. Header ∷ Start (assigned_at entry) ∷ Input (assigned_at two) ∷ unnumbered (run_entered_all later)) (sym s)
+          ∙ ap (λ entry. Header ∷ Start (assigned_at start) ∷ Input (assigned_at entry) ∷ unnumbered (run_entered_all later)) (sym i);
+    }
+
+get_or-any : (entries : List RunEntry) (i : ℕ) (d e : RunEntry) → i < length entries → get_or entries i d ≡ get_or entries i e
+get_or-any entries i d e l = get_or_default entries i d e l
+
+pub long_enough : (entries : List RunEntry) → run_out_of_order (run_entered_all entries) ≡ None → 3 ≤ length entries
+long_enough [] e = let wrong : Some 0 ≡ None = e in cc
+long_enough (header ∷ []) e =
+    let a = first_passes is_header start_out_of_order (run_entered header) [] e in
+    let wrong : Some 0 ≡ None = a.1 in cc
+long_enough (header ∷ one ∷ []) e =
+    let a = first_passes is_header start_out_of_order (run_entered header) (run_entered one ∷ []) e in
+    let b = first_passes is_start_line input_out_of_order (run_entered one) [] a.1 in
+    let wrong : Some 0 ≡ None = b.1 in cc
+long_enough (header ∷ one ∷ two ∷ later) e = omega arith
+
+-- the second and the third entry of a text without a fault
+pub ready :
+    (netlist : Netlist) (entries : List RunEntry) (start input : RunEntry) → start ≡ get_or entries 1 start → input ≡ get_or entries 2 input →
+    All (AssignsBelow (length netlist.names)) entries → first_run_fault netlist (run_entered_all entries) ≡ None → IsReady netlist entries (assigned_at start) (assigned_at input)
+ready netlist entries start input s i below h =
+    let clear = clear_run netlist (run_entered_all entries) h in
+    let long = long_enough entries clear.order in
+    ready_at netlist entries below clear start input start s (i ∙ get_or-any entries 2 input start (omega (arith, long)))

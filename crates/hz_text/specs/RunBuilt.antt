@@ -1,0 +1,35 @@
+-- How the runs of a text are built, statement by statement.
+use Rattle.std.specs.Prelude.{◌≡◌, ℕ, Bool, false, nat_eq, List, [], ◌∷◌, ◌++◌, All, Option, Some, None, is_none}
+use Rattle.std.specs.List.{flat_map, list_any}
+use Rattle.hz_text.specs.declared.assigned.Assigned.{Assigned}
+use Rattle.hz_text.specs.declared.run_order.Place.{Place}
+use Rattle.hz_text.specs.declared.run_order.Place.TheVariants.{Between, Lead, Cycle}
+use Rattle.hz_text.specs.Assignment.{has_repeat}
+use Rattle.hz_text.specs.Pass.{IsPair, nodes_of, least_unassigned}
+use Rattle.hz_text.specs.RunLookup.{LookedRun}
+use Rattle.hz_text.specs.RunFault.{place_after}
+use Rattle.hz_text.specs.RunValue.{RunOf}
+use Rattle.hz_text.specs.RunText.{run_statements}
+
+-- assignments that give each of so many nodes a bit, and none of them twice
+pub record IsWholeStart (nodes : ℕ) (all : List Assigned) : Type 0 where
+  pub pairs : All (IsPair nodes) all
+  pub bits : list_any (λ one. is_none one.bit) all ≡ false
+  pub fresh : has_repeat nat_eq (nodes_of all) ≡ false
+  pub whole : least_unassigned nodes all ≡ None
+
+-- where one is after a run whose cycle is this
+abbrev pub place_in : Option (List (List ℕ)) → Place
+place_in None = Lead
+place_in (Some steps) = Cycle
+
+-- where one is after these runs
+abbrev pub last_place : List RunOf → Place
+last_place [] = Between
+last_place (run ∷ []) = place_in run.cycle
+last_place (run ∷ next ∷ later) = last_place (next ∷ later)
+
+-- a statement was added to runs
+pub record IsRunAdded (old : List RunOf) (statement : LookedRun) (new : List RunOf) : Type 0 where
+  pub statements : flat_map run_statements new ≡ flat_map run_statements old ++ statement ∷ []
+  pub place : place_after (last_place old) statement ≡ Some (last_place new)
