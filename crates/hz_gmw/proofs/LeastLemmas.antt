@@ -1,13 +1,13 @@
 -- The least of listed numbers that pass a test, and the least that is listed twice.
 use Rattle.std.proofs.Common.{◌≡◌, ◌≢◌, ℕ, zero, suc, ◌+◌, ◌<◌, ◌≤◌, ◌⊎◌, Bool, true, false, cond, ◌||◌, List, [], ◌∷◌, ◌++◌, length, get_or, set, min, Option, Some, None, All, IsTrue, refl, sym, ap, ◌∙◌, subst, arith, inl, inr}
-use Rattle.std.specs.Prelude.{nat_eq, count_by, Contains}
-use Rattle.std.proofs.lemmas.Bool.{cases_lt, cases_eq, cases_Bool, false≢true, eq-eqb, eqb-true, ne_eqb, or_left, or_right, or_cases, or_parts, cond-true, cond-false, false_from_ne_true}
+use Rattle.std.specs.Prelude.{nat_eq, Contains}
+use Rattle.std.proofs.lemmas.Bool.{cases_lt, cases_eq, cases_Bool, false≢true, eq-eqb, eqb-true, ne_eqb, or_left, or_right, or_cases, cond-true, cond-false, false_from_ne_true}
 use Rattle.std.proofs.lemmas.List.{append-nil, append_assoc, length-set, get_or-set_same, get_or-set_other}
 use Rattle.std.proofs.lemmas.List.Elements.{All-head, All-tail}
 use Rattle.std.proofs.lemmas.List.Sums.{sum_by-cons, sum_by_push}
 use Rattle.hz_net.specs.Network.{bit_at}
 use Rattle.hz_gmw.specs.Runs.{is_listed, RepeatsNone}
-use Rattle.hz_gmw.specs.Least.{IsLeast, IsLeastOf, lesser_of, least_from, least_again}
+use Rattle.hz_gmw.specs.Least.{IsLeastOf, lesser_of, least_from, least_again}
 use Rattle.hz_gmw.specs.ReplayFaults.{times}
 
 pub listed-head : (i x : ℕ) (list : List ℕ) → i ≡ x → is_listed (x ∷ list) i ≡ true

@@ -1,21 +1,21 @@
 -- The loops over the present state: what is known after some variables, and that one more keeps it.
-use Rattle.std.proofs.Common.{◌≡◌, ◌≢◌, ℕ, suc, ◌+◌, ◌<◌, ◌≤◌, ◌⊎◌, Bool, true, false, not, cond, ◌||◌, List, [], ◌∷◌, ◌++◌, length, get_or, set, drop, IsTrue, refl, sym, ap, ◌∙◌, subst, arith, inl, inr, Vec, Global}
+use Rattle.std.proofs.Common.{◌≡◌, ◌≢◌, ℕ, suc, ◌+◌, ◌<◌, ◌≤◌, Bool, true, false, not, cond, ◌||◌, List, [], ◌∷◌, length, get_or, set, drop, refl, sym, ap, ◌∙◌, subst, arith, inl, inr, Vec, Global}
 use Rattle.std.specs.Prelude.{fold}
 use Rattle.std.specs.Bool.{beq}
 use Rattle.std.specs.Vec.{with_item}
-use Rattle.std.proofs.lemmas.Bool.{cases_lt, cases_eq, cases_Bool, false≢true, or_parts, not-true, not-false}
+use Rattle.std.proofs.lemmas.Bool.{cases_lt, cases_eq, false≢true, or_parts, not-true, not-false}
 use Rattle.std.proofs.lemmas.List.{ext_get_or, length-set, get_or-set_same, get_or-set_other, get_or_past, get_or_read, drop_more, drop_all}
-use Rattle.hz_core.specs.Netlist.{Netlist, IsCircuit, variable_count}
-use Rattle.hz_net.specs.Network.{Driver, network_of, bit_at}
+use Rattle.hz_core.specs.Netlist.{Netlist}
+use Rattle.hz_net.specs.Network.{network_of, bit_at}
 use Rattle.hz_net.proofs.Places.{length-network_of}
 use Rattle.hz_gmw.specs.Runs.{is_listed, RepeatsNone, flipped_from, flipped}
 use Rattle.hz_gmw.specs.Instability.{is_unstable}
 use Rattle.hz_gmw.specs.Presents.{Fits, IsExact, rechecked, marked_with, Advances, KeepsUntouched}
 use Rattle.hz_gmw.specs.declared.present.Present.{Present}
-use Rattle.hz_gmw.proofs.Flips.{length-flipped, at-flipped}
+use Rattle.hz_gmw.proofs.Flips.{at-flipped}
 use Rattle.hz_gmw.proofs.LeastLemmas.{listed-head, listed-other}
 use Rattle.hz_gmw.proofs.Readers.{is_unstable-input}
-use Rattle.hz_gmw.proofs.Rechecks.{beq-same, beq-refl, Follows, follows-one, fits-follows, fits-rechecked, flipped-first, length-marked_with}
+use Rattle.hz_gmw.proofs.Rechecks.{beq-same, beq-refl, Follows, follows-one, fits-rechecked, flipped-first}
 
 -- a list is its next element and what is left
 pub next-due : (list : List ℕ) (k x : ℕ) → k < length list → x ≡ get_or list k 0 → drop k list ≡ x ∷ drop (k + 1) list

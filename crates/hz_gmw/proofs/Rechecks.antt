@@ -1,19 +1,18 @@
 -- What rechecks leave: marks that are right at the variables that were checked, and as they were at the others.
-use Rattle.std.proofs.Common.{◌≡◌, ◌≢◌, ℕ, ◌+◌, ◌<◌, ◌≤◌, ◌⊎◌, Bool, true, false, not, cond, ◌||◌, List, [], ◌∷◌, ◌++◌, length, get_or, set, All, IsTrue, refl, sym, ap, ◌∙◌, subst, arith, inl, inr, Vec, Global}
+use Rattle.std.proofs.Common.{◌≡◌, ℕ, ◌<◌, ◌⊎◌, Bool, true, false, not, cond, ◌||◌, List, [], ◌∷◌, ◌++◌, length, set, refl, sym, ap, ◌∙◌, subst, arith, inl, inr, Vec, Global}
 use Rattle.std.specs.Prelude.{fold, flat_map}
 use Rattle.std.specs.Bool.{beq}
-use Rattle.std.proofs.lemmas.Bool.{cases_lt, cases_eq, cases_Bool, false≢true, or_left, or_right, or_cases, or_parts}
-use Rattle.std.proofs.lemmas.List.{ext_get_or, length-set, get_or-set_same, get_or-set_other, append_assoc}
-use Rattle.hz_core.specs.Netlist.{Netlist, IsCircuit, IsWhole, variable_count}
+use Rattle.std.proofs.lemmas.Bool.{cases_eq, cases_Bool, false≢true, or_left, or_right, or_cases, or_parts}
+use Rattle.std.proofs.lemmas.List.{ext_get_or, length-set, get_or-set_same, get_or-set_other}
+use Rattle.hz_core.specs.Netlist.{Netlist}
 use Rattle.hz_net.specs.Network.{Driver, network_of, bit_at}
-use Rattle.hz_net.proofs.Places.{length-network_of}
-use Rattle.hz_gmw.specs.Runs.{is_listed, RepeatsNone, flipped}
+use Rattle.hz_gmw.specs.Runs.{is_listed, flipped}
 use Rattle.hz_gmw.specs.Instability.{is_unstable}
-use Rattle.hz_gmw.specs.Presents.{Fits, IsExact, rechecked, around, marked_with, Advances, KeepsUntouched}
+use Rattle.hz_gmw.specs.Presents.{Fits, IsExact, rechecked, around, marked_with, Advances}
 use Rattle.hz_gmw.specs.declared.present.Present.{Present}
 use Rattle.hz_gmw.proofs.Flips.{length-flipped, at-flipped}
-use Rattle.hz_gmw.proofs.LeastLemmas.{listed-head, listed-tail, listed-cases, listed-other, listed-append}
-use Rattle.hz_gmw.proofs.Readers.{is_unstable-flipped, is_unstable-input}
+use Rattle.hz_gmw.proofs.LeastLemmas.{listed-head, listed-cases, listed-other, listed-append}
+use Rattle.hz_gmw.proofs.Readers.{is_unstable-flipped}
 
 -- whether a variable is unstable in the present state
 abbrev unstable_now : List Driver → Present → ℕ → Bool

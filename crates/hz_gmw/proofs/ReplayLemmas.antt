@@ -1,18 +1,16 @@
 -- What a replayer stands for: after a mark, after a step, and what that tells of the cycle since the mark.
-use Rattle.std.proofs.Common.{◌≡◌, ◌≢◌, ◌↔◌, ℕ, zero, suc, ◌+◌, ◌<◌, ◌≤◌, ◌⊎◌, Bool, true, false, not, cond, ◌||◌, ◌&&◌, List, [], ◌∷◌, ◌++◌, length, get_or, set, map, replicate, All, Option, Some, None, IsTrue, refl, sym, ap, ◌∙◌, subst, arith, inl, inr}
-use Rattle.std.specs.Prelude.{Contains, fold, MatchOption, count_by}
+use Rattle.std.proofs.Common.{◌≡◌, ◌≢◌, ◌↔◌, ℕ, zero, suc, ◌<◌, ◌≤◌, Bool, true, false, not, cond, ◌||◌, ◌&&◌, List, [], ◌∷◌, ◌++◌, length, set, replicate, All, None, IsTrue, refl, sym, ap, ◌∙◌, subst, arith, inl, inr}
 use Rattle.std.specs.Bool.{beq}
-use Rattle.std.specs.List.{AllByRecursion, range_with_len}
 use Rattle.std.proofs.lemmas.Bool.{cases_lt, cases_eq, cases_Bool, false≢true, and_parts, and_from, not-true, not-false, not_from_false, false_from_ne_true, true_from_ne_false}
-use Rattle.std.proofs.lemmas.List.{ext_get_or, length-set, length-map, length-replicate, get_or-set_same, get_or-set_other, get_or_past, get_or-replicate}
-use Rattle.std.proofs.lemmas.List.FromFn.{length-map-range_with_len, get_or-map-range_with_len, fill_by_all}
-use Rattle.hz_net.specs.Network.{Driver, network_of, bit_at, excitation, IsUnstable, IsStable}
+use Rattle.std.proofs.lemmas.List.{ext_get_or, length-set, length-replicate, get_or-set_same, get_or-set_other, get_or_past, get_or-replicate}
+use Rattle.std.proofs.lemmas.List.FromFn.{get_or-map-range_with_len, fill_by_all}
+use Rattle.hz_net.specs.Network.{Driver, network_of, bit_at, excitation, IsUnstable}
 use Rattle.hz_core.specs.Netlist.{Netlist}
-use Rattle.hz_gmw.specs.Runs.{is_listed, RepeatsNone, IsStep, flipped, IsRun, end_of}
-use Rattle.hz_gmw.specs.Cycles.{states_of, IsCycle, WaitsAt, IsTransient, IsNontransient}
+use Rattle.hz_gmw.specs.Runs.{is_listed, IsStep, flipped, end_of}
+use Rattle.hz_gmw.specs.Cycles.{WaitsAt, IsNontransient}
 use Rattle.hz_gmw.specs.Instability.{is_unstable, unstable_variables}
-use Rattle.hz_gmw.specs.Least.{IsLeast, IsLeastOf, least_from, least_again}
-use Rattle.hz_gmw.specs.Replayed.{Replayed, Waits, StandsFor, replayed_at, still_watched, stepped_by}
+use Rattle.hz_gmw.specs.Least.{IsLeast, IsLeastOf, least_from}
+use Rattle.hz_gmw.specs.Replayed.{Replayed, StandsFor, replayed_at, still_watched, stepped_by}
 use Rattle.hz_gmw.specs.ReplayFaults.{times, IsStepFault, IsCycleFault}
 use Rattle.hz_gmw.specs.declared.replay_fault.StepFault.{StepFault}
 use Rattle.hz_gmw.specs.declared.replay_fault.StepFault.TheVariants.{Empty, Repeated, Stable}
@@ -21,10 +19,10 @@ use Rattle.hz_gmw.specs.declared.replay_fault.CycleFault.TheVariants.{Differs, N
 use Rattle.hz_gmw.specs.VariableSets.{AreMembers}
 use Rattle.hz_gmw.specs.Presents.{taken_over}
 use Rattle.hz_gmw.specs.InsideReplay.{without}
-use Rattle.hz_gmw.proofs.Flips.{length-flipped, at-flipped}
+use Rattle.hz_gmw.proofs.Flips.{at-flipped}
 use Rattle.hz_gmw.proofs.Paths.{end_of-append, IsRun-append}
 use Rattle.hz_gmw.proofs.CoverB.{length-end_of}
-use Rattle.hz_gmw.proofs.LeastLemmas.{listed-head, listed-other, listed-Contains, All-listed, IsLeastOf-same, least-listed, least-repeated, RepeatsNone-times, times-RepeatsNone}
+use Rattle.hz_gmw.proofs.LeastLemmas.{listed-other, listed-Contains, All-listed, IsLeastOf-same, least-listed, RepeatsNone-times, times-RepeatsNone}
 use Rattle.hz_gmw.proofs.Rechecks.{beq-same, beq-refl}
 
 -- the test says whether a variable is unstable

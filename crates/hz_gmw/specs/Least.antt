@@ -1,5 +1,5 @@
 -- The least number for which something holds.
-use Rattle.std.specs.Prelude.{◌≡◌, ℕ, ◌≤◌, Bool, true, min, List, [], ◌∷◌, Option, Some, None, slice_set, if◌then◌else◌}
+use Rattle.std.specs.Prelude.{ℕ, ◌≤◌, Bool, true, min, List, [], ◌∷◌, Option, Some, None, slice_set, if◌then◌else◌}
 use Rattle.hz_net.specs.Network.{bit_at}
 
 -- it holds for this number and for no lesser one

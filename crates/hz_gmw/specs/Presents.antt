@@ -1,5 +1,5 @@
 -- The present state of a network as a replayer keeps it: what is known of it while it changes.
-use Rattle.std.specs.Prelude.{◌≡◌, ℕ, ◌<◌, Bool, true, false, not, ◌||◌, List, [], ◌∷◌, length, Option, Some, None, fold, flat_map, slice_get, slice_set, if◌then◌else◌}
+use Rattle.std.specs.Prelude.{◌≡◌, ℕ, ◌<◌, Bool, true, false, not, ◌||◌, List, [], ◌∷◌, length, Option, Some, None, fold, slice_get, slice_set, if◌then◌else◌}
 use Rattle.std.specs.Bool.{beq}
 use Rattle.hz_core.specs.Netlist.{Netlist, IsCircuit, IsWhole}
 use Rattle.hz_net.specs.Network.{Driver, network_of, bit_at}

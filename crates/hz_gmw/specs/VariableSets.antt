@@ -1,5 +1,5 @@
 -- Sets of variables: what their fields stand for, and what their members are.
-use Rattle.std.specs.Prelude.{◌≡◌, ℕ, ◌<◌, ◌≤◌, ◌^◌, Bool, true, false, List, length, map, All, Contains, Option, Some, None, is_some, count_by, slice_index, slice_index_or, vec_capacity}
+use Rattle.std.specs.Prelude.{◌≡◌, ℕ, ◌<◌, ◌≤◌, ◌^◌, Bool, true, List, length, map, All, Contains, Option, Some, None, is_some, count_by, slice_index, slice_index_or, vec_capacity}
 use Rattle.hz_net.specs.Network.{bit_at}
 use Rattle.hz_gmw.specs.declared.variable_set.VariableSet.TheInside.{Inside}
 

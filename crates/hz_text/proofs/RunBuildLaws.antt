@@ -1,10 +1,10 @@
 -- Runs that are built statement by statement, and the front of a run text in order.
-use Rattle.std.proofs.Common.{◌≡◌, ◌∙◌, ℕ, ◌+◌, ◌-◌, ◌<◌, ◌≤◌, Bool, true, false, ◌||◌, cond, nat_eq, nat_le, List, [], ◌∷◌, ◌++◌, Option, Some, None, zero, suc, length, get_or, set, take, drop, map, refl, ap, sym, subst, inl, inr, arith, append_assoc, zero-add}
+use Rattle.std.proofs.Common.{◌≡◌, ◌∙◌, ℕ, ◌+◌, ◌<◌, ◌≤◌, Bool, true, false, ◌||◌, cond, nat_le, List, [], ◌∷◌, ◌++◌, Option, Some, None, zero, suc, length, get_or, set, drop, map, refl, ap, sym, subst, arith, append_assoc, zero-add}
 use Rattle.std.specs.List.{list_any, flat_map, filter_map, range_with_len, All}
 use Rattle.std.specs.Option.{IsSome, IfSome, is_none, option_map_or}
 use Rattle.std.proofs.lemmas.Bool.Decides.{nat_tests}
-use Rattle.std.proofs.lemmas.List.{append-nil, map_push, length-map, length-drop, take_all, drop_more, get_or-map, map-append, get_or_default}
-use Rattle.std.proofs.lemmas.List.Elements.{All-nil, All-cons, All-head, All-tail, All-drop}
+use Rattle.std.proofs.lemmas.List.{append-nil, map_push, length-map, drop_more, get_or_default}
+use Rattle.std.proofs.lemmas.List.Elements.{All-nil, All-cons}
 use Rattle.std.proofs.lemmas.List.FromFn.{length-range_with_len, get_or-map-range_with_len}
 use Rattle.std.proofs.lemmas.Grind.{flat_map-append}
 use Rattle.hz_core.specs.Netlist.{Netlist}
@@ -14,8 +14,8 @@ use Rattle.hz_text.specs.declared.keyword.Keyword.TheVariants as keyword
 use Rattle.hz_text.specs.declared.run_entry.RunEntry.{RunEntry}
 use Rattle.hz_text.specs.declared.run_order.Place.{Place}
 use Rattle.hz_text.specs.declared.run_order.Place.TheVariants as place
-use Rattle.hz_text.specs.ScriptFault.{is_unknown, assigns}
-use Rattle.hz_text.specs.Pass.{IsPair, AreBelow, nodes_of, least_unassigned, pair_of}
+use Rattle.hz_text.specs.ScriptFault.{is_unknown}
+use Rattle.hz_text.specs.Pass.{AreBelow, least_unassigned, pair_of}
 use Rattle.hz_text.specs.ScriptText.{bit_at, bits_at, assignment_to}
 use Rattle.hz_text.specs.RunStatement.{Header, Start, Input, Run, Step, Cycle, End}
 use Rattle.hz_text.specs.RunLookup.{LookedRun, run_entered, run_entered_all, run_held_by}
@@ -24,7 +24,7 @@ use Rattle.hz_text.specs.RunFault.{assignments_in, variables_in, names_unknown, 
 use Rattle.hz_text.specs.RunPass.{AssignsBelow, names_node_twice, least_left_out}
 use Rattle.hz_text.specs.RunText.{step_of, run_statements, unnumbered}
 use Rattle.hz_text.specs.RunBuilt.{IsWholeStart, place_in, last_place, IsRunAdded}
-use Rattle.hz_text.proofs.FaultLaws.{unassigned-None, true-false}
+use Rattle.hz_text.proofs.FaultLaws.{unassigned-None}
 use Rattle.hz_text.proofs.BuildLemmas.{pairs_back}
 use Rattle.hz_text.specs.declared.fault.TextFault.TheVariants as fault
 use Rattle.hz_text.specs.RunFault.{beyond_from}

@@ -1,4 +1,5 @@
-//! Scripts: a start and changes of the inputs of a circuit, read from a text and printed.
+//! Scripts, which are a start and changes of the inputs of a circuit, and run texts, which are a start, an input and runs of
+//! a network: read from a text and printed.
 #![tactic(auto)]
 
 mod assigned;

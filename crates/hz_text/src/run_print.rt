@@ -9,7 +9,7 @@ ghost use Rattle.hz_text.specs.Printed.{statement_text, assignment_text};
 ghost use Rattle.hz_text.specs.RunFault.{IsRunFaultless};
 ghost use Rattle.hz_text.specs.RunPrinted.{spaced_word, variable_word, step_text, cycle_text, run_text, all_listed, run_text_printed};
 ghost use Rattle.hz_text.specs.RunText.{IsRunTextFor, IsRunValue};
-ghost use Rattle.hz_text.specs.RunValue.{all_steps};
+ghost use Rattle.hz_text.specs.RunValue.{all_steps, cycle_steps};
 
 use crate::print::{push_assignment, push_bytes};
 use crate::run_text::RunText;
@@ -30,15 +30,27 @@ pub fn print_run(alloc: Global, net: &Net, text: &RunText) -> Result<Vec<u8>, Me
     ensures value { IfOk result (λ printed. IsRunValue net.now printed.items text.now) }
 {
     let mut printed = Vec::new(alloc);
-    push_bytes(&mut printed, b"runs 1\n")?;
-    push_bits(&mut printed, net.circuit(), b"start", text.nodes())?;
-    push_bits(&mut printed, net.circuit(), b"input", text.input())?;
-    push_runs(&mut printed, net, text)?;
-    push_bytes(&mut printed, b"end\n")?;
+    push_text(&mut printed, net, text)?;
     Ok(printed)
 }
 
+// Adds the lines of a run text.
+#[tactic(auto, unfolding(crate::specs::RunPrinted::run_text_printed))]
+fn push_text(text: &mut Vec<u8>, net: &Net, value: &RunText) -> Result<(), Memory>
+    requires { IsRunTextFor net.now value.now }
+    ensures circuit { IsCircuit net.now }
+    ensures text { OnOk result (text.new.items ≡ text.old.items ++ run_text_printed net.now value.now) }
+{
+    let circuit = net.circuit();
+    push_bytes(text, b"runs 1\n")?;
+    push_bits(text, circuit, b"start", value.nodes())?;
+    push_bits(text, circuit, b"input", value.input())?;
+    push_runs(text, net, value)?;
+    push_bytes(text, b"end\n")
+}
+
 // Adds a line that lists the first nodes, with their bits.
+#[tactic(auto, unfolding(crate::specs::Printed::statement_text))]
 fn push_bits(
     text: &mut Vec<u8>,
     circuit: &Circuit,
@@ -78,13 +90,11 @@ fn push_runs(text: &mut Vec<u8>, net: &Net, value: &RunText) -> Result<(), Memor
 }
 
 // Adds the lines of a run, given its lead and its cycle.
-fn push_run(
-    text: &mut Vec<u8>,
-    net: &Net,
-    lead: &Run,
-    cycle: Option<&Run>,
-) -> Result<(), Memory>
-    ensures { OnOk result (text.new.items ≡ text.old.items ++ run_text net.now (record { lead = lead.now.steps; cycle = option_map (λ run. run.now.steps) cycle })) }
+#[tactic(auto, unfolding(crate::specs::RunPrinted::run_text))]
+fn push_run(text: &mut Vec<u8>, net: &Net, lead: &Run, cycle: Option<&Run>) -> Result<(), Memory>
+    requires lead { All (λ flips. All (λ var. var < length (network_of net.now)) flips) lead.now.steps }
+    requires cycle { All (λ flips. All (λ var. var < length (network_of net.now)) flips) (cycle_steps (option_map (λ run. run.now.steps) cycle)) }
+    ensures { OnOk result (text.new.items ≡ text.old.items ++ run_text net.now (record { lead = lead.now.steps; cycle = option_map (λ run. run.now.steps) cycle.entry })) }
 {
     push_bytes(text, b"run\n")?;
     push_steps(text, net, lead)?;
@@ -93,7 +103,8 @@ fn push_run(
 
 // Adds the lines of a cycle, if there is one.
 fn push_cycle(text: &mut Vec<u8>, net: &Net, cycle: Option<&Run>) -> Result<(), Memory>
-    ensures { OnOk result (text.new.items ≡ text.old.items ++ cycle_text net.now (option_map (λ run. run.now.steps) cycle)) }
+    requires { All (λ flips. All (λ var. var < length (network_of net.now)) flips) (cycle_steps (option_map (λ run. run.now.steps) cycle)) }
+    ensures { OnOk result (text.new.items ≡ text.old.items ++ cycle_text net.now (option_map (λ run. run.now.steps) cycle.entry)) }
 {
     let Some(steps) = cycle else {
         return Ok(());
@@ -104,7 +115,7 @@ fn push_cycle(text: &mut Vec<u8>, net: &Net, cycle: Option<&Run>) -> Result<(), 
 
 // Adds a line for each step.
 fn push_steps(text: &mut Vec<u8>, net: &Net, run: &Run) -> Result<(), Memory>
-    requires { All (All (λ var. var < length (network_of net.now))) run.now.steps }
+    requires { All (λ flips. All (λ var. var < length (network_of net.now)) flips) run.now.steps }
     ensures { OnOk result (text.new.items ≡ text.old.items ++ flat_map (step_text net.now) run.now.steps) }
 {
     for number in 0..run.steps() {
@@ -114,6 +125,7 @@ fn push_steps(text: &mut Vec<u8>, net: &Net, run: &Run) -> Result<(), Memory>
 }
 
 // Adds the line of a step.
+#[tactic(auto, unfolding(crate::specs::RunPrinted::step_text))]
 fn push_step(text: &mut Vec<u8>, net: &Net, flips: &[u32]) -> Result<(), Memory>
     requires { All (λ var. var < length (network_of net.now)) flips.now }
     ensures { OnOk result (text.new.items ≡ text.old.items ++ step_text net.now flips.now) }
@@ -129,10 +141,18 @@ fn push_variables(text: &mut Vec<u8>, net: &Net, flips: &[u32]) -> Result<(), Me
     ensures { OnOk result (text.new.items ≡ text.old.items ++ flat_map (spaced_word net.now) flips.now) }
 {
     for var in flips {
-        push_bytes(text, b" ")?;
-        push_variable(text, net, *var)?;
+        push_spaced(text, net, *var)?;
     }
     Ok(())
+}
+
+// Adds a space, and the word of a variable.
+fn push_spaced(text: &mut Vec<u8>, net: &Net, var: u32) -> Result<(), Memory>
+    requires { var < length (network_of net.now) }
+    ensures { OnOk result (text.new.items ≡ text.old.items ++ spaced_word net.now var) }
+{
+    push_bytes(text, b" ")?;
+    push_variable(text, net, var)
 }
 
 // Adds the word of a variable.
@@ -151,7 +171,7 @@ fn push_variable(text: &mut Vec<u8>, net: &Net, var: u32) -> Result<(), Memory>
 fn push_wire(text: &mut Vec<u8>, circuit: &Circuit, gate: u32, pin: u32) -> Result<(), Memory>
     requires gate { gate < length circuit.now.names }
     requires pin { pin < 256 }
-    ensures { OnOk result (text.new.items ≡ text.old.items ++ slice_index_or circuit.now.names gate [] ++ 40 ∷ decimal (pin + 1) ++ 41 ∷ []) }
+    ensures { OnOk result (text.new.items ≡ text.old.items ++ (slice_index_or circuit.now.names gate [] ++ 40 ∷ decimal (pin + 1) ++ 41 ∷ [])) }
 {
     let mut digits = Buffer::new();
     push_bytes(text, circuit.name(gate))?;

@@ -1,3 +1,6 @@
+ghost use Rattle.std.specs.Prelude.{◌≡◌, ◌≤◌, [], length, take};
+ghost use Rattle.hz_net.specs.Network.{network_of, IsStable};
+
 use super::*;
 use hz_core::{Circuit, Memory};
 use hz_pass::spread;
@@ -25,6 +28,67 @@ fn chain(alloc: Global) -> Result<Circuit, Memory> {
     Ok(circuit)
 }
 
+// The spread run, without a step where the start is not stable.
+fn spread_from(
+    alloc: Global,
+    net: &Net,
+    start: &[bool],
+    input: &[bool],
+    keep_unused: bool,
+) -> Result<Run, Fail>
+    requires start { length start.now ≡ length (network_of net.now) }
+    requires input { length input.now ≡ net.now.inputs }
+{
+    let variables = net.len() as usize;
+    let mut a = vec![in alloc; Tri::Zero; variables]?;
+    let mut work = vec![in alloc; Tri::Zero; variables]?;
+    let mut rank = vec![in alloc; 0u32; variables]?;
+    let mut scratch = Scratch::new(alloc, net)?;
+    let mut run = Run::with_room(alloc, variables, variables)?;
+    if net.settled(&start[..net.circuit().inputs() as usize], start) {
+        pass(
+            net,
+            start,
+            input,
+            keep_unused,
+            &mut a,
+            &mut rank,
+            &mut work,
+            &mut scratch,
+            &mut run,
+        );
+    }
+    Ok(run)
+}
+
+// Makes the spread run by what Algorithm A gives.
+fn pass(
+    net: &Net,
+    start: &[bool],
+    input: &[bool],
+    keep_unused: bool,
+    a: &mut [Tri],
+    rank: &mut [u32],
+    work: &mut [Tri],
+    scratch: &mut Scratch,
+    run: &mut Run,
+)
+    requires start { length start.now ≡ length (network_of net.now) }
+    requires stable { IsStable (network_of net.now) (take net.now.inputs start.now) start.now }
+    requires input { length input.now ≡ net.now.inputs }
+    requires a { length a.old ≡ length (network_of net.now) }
+    requires rank { length rank.old ≡ length (network_of net.now) }
+    requires work { length work.old ≡ length (network_of net.now) }
+    requires scratch { length scratch.old.state ≡ length (network_of net.now) }
+    requires none_marked { scratch.old.marked ≡ [] }
+    requires empty { run.old.steps ≡ [] }
+    requires room_for_flips { length (network_of net.now) ≤ run.old.spare_flips }
+    requires room_for_steps { length (network_of net.now) ≤ run.old.spare_steps }
+{
+    let _rounds = spread(net, input, start, a, rank, work);
+    spread_run(net, start, input, a, rank, keep_unused, scratch, run);
+}
+
 #[test]
 fn wire_that_the_gate_does_not_need_comes_last(rt: HostRuntime) -> Result<(), Fail> {
     let circuit = pulse(rt.alloc())?;
@@ -32,53 +96,25 @@ fn wire_that_the_gate_does_not_need_comes_last(rt: HostRuntime) -> Result<(), Fa
     let net = Net::build(rt.alloc(), circuit)?;
     assert_eq!(rt; net.len(), 4);
     assert_eq!(rt; net.circuit().inputs(), 1);
-    let (start, input) = ([false; 4], [true]);
-    assert!(rt; net.settled(&[false], &start));
-    let (mut a, mut work, mut rank) = ([Tri::Zero; 4], [Tri::Zero; 4], [0; 4]);
-    let _rounds = spread(&net, &input, &start, &mut a, &mut rank, &mut work);
-    let mut scratch = Scratch::new(rt.alloc(), &net)?;
-    let mut run = Run::with_room(rt.alloc(), 4, 4)?;
-    spread_run(
-        &net,
-        &start,
-        &input,
-        &a,
-        &rank,
-        false,
-        &mut scratch,
-        &mut run,
-    );
+    let run = spread_from(rt.alloc(), &net, &[false; 4], &[true], false)?;
     assert_eq!(rt; run.steps(), 4);
     assert_eq!(rt; run.step(0), [0].as_slice());
     assert_eq!(rt; run.step(1), [2].as_slice());
     assert_eq!(rt; run.step(2), [1].as_slice());
     assert_eq!(rt; run.step(3), [3].as_slice());
+    let sparing = spread_from(rt.alloc(), &net, &[false; 4], &[true], true)?;
+    assert_eq!(rt; sparing.steps(), 3);
     Ok(())
 }
 
 #[test]
-fn gates_come_by_rank_and_unused_wires_stay(rt: HostRuntime) -> Result<(), Fail> {
+fn gates_come_by_rank(rt: HostRuntime) -> Result<(), Fail> {
     let circuit = chain(rt.alloc())?;
     assert!(rt; circuit.whole());
     let net = Net::build(rt.alloc(), circuit)?;
     assert_eq!(rt; net.len(), 5);
     assert_eq!(rt; net.circuit().inputs(), 1);
-    let (start, input) = ([false; 5], [true]);
-    assert!(rt; net.settled(&[false], &start));
-    let (mut a, mut work, mut rank) = ([Tri::Zero; 5], [Tri::Zero; 5], [0; 5]);
-    let _rounds = spread(&net, &input, &start, &mut a, &mut rank, &mut work);
-    let mut scratch = Scratch::new(rt.alloc(), &net)?;
-    let mut run = Run::with_room(rt.alloc(), 5, 5)?;
-    spread_run(
-        &net,
-        &start,
-        &input,
-        &a,
-        &rank,
-        true,
-        &mut scratch,
-        &mut run,
-    );
+    let run = spread_from(rt.alloc(), &net, &[false; 5], &[true], true)?;
     assert_eq!(rt; run.steps(), 5);
     assert_eq!(rt; run.step(1), [4].as_slice());
     assert_eq!(rt; run.step(2), [2].as_slice());

@@ -1,4 +1,4 @@
-use Rattle.std.proofs.Common.{◌≡◌, None, not, true, drop}
+use Rattle.std.proofs.Common.{◌≡◌, None, not, drop}
 use Rattle.std.specs.Bool.{beq}
 use Rattle.hz_net.specs.Network.{bit_at}
 use Rattle.hz_gmw.specs.Least.{least_from}

@@ -1,6 +1,4 @@
-use Rattle.std.proofs.Common.{◌≡◌, None, not, true, drop}
-use Rattle.std.specs.Bool.{beq}
-use Rattle.hz_net.specs.Network.{bit_at}
+use Rattle.std.proofs.Common.{◌≡◌, None, true, drop}
 use Rattle.hz_gmw.specs.Least.{least_from}
 use Rattle.hz_gmw.proofs.least.least_listed.Given as goal
 

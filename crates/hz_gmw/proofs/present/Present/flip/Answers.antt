@@ -1,4 +1,4 @@
-use Rattle.std.proofs.Common.{◌≡◌, ◌<◌, ◌+◌, ◌∙◌, sym, refl, subst, ℕ, Bool, not, false, List, length, get_or, set, arith}
+use Rattle.std.proofs.Common.{◌≡◌, ◌<◌, ◌+◌, sym, refl, subst, Bool, not, false, List, length, get_or, set, arith}
 use Rattle.std.proofs.lemmas.List.{get_or_read}
 use Rattle.hz_net.specs.Network.{bit_at}
 use Rattle.hz_gmw.proofs.PresentLemmas.{FlippedSoFar, flip-step, flip-state}

@@ -1,4 +1,4 @@
-use Rattle.std.proofs.Common.{◌<◌, arith}
+use Rattle.std.proofs.Common.{arith}
 use Rattle.hz_gmw.proofs.PresentLemmas.{checked-step}
 use Rattle.hz_gmw.proofs.present.Present.recheck_all.Goals as goal
 

@@ -1,5 +1,3 @@
-use Rattle.std.proofs.Common.{◌≡◌, length}
-use Rattle.hz_net.specs.Network.{network_of}
 use Rattle.hz_gmw.proofs.PresentLemmas.{CheckedBelow}
 use Rattle.hz_gmw.proofs.present.Present.recheck_all.Given as goal
 

@@ -1,4 +1,4 @@
-use Rattle.std.proofs.Common.{◌≡◌, ◌<◌, ◌∙◌, sym, ap, subst, ℕ, Some, List, All, length, arith}
+use Rattle.std.proofs.Common.{◌<◌, ◌∙◌, sym, ap, subst, ℕ, Some, All, length, arith}
 use Rattle.hz_core.specs.Netlist.{variable_count}
 use Rattle.hz_net.specs.Network.{network_of}
 use Rattle.hz_net.specs.declared.variable.VarKind.TheVariants.{Input, Gate}

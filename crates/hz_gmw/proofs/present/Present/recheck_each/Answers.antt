@@ -1,8 +1,7 @@
-use Rattle.std.proofs.Common.{◌<◌, sym, subst, refl, get_or, arith}
+use Rattle.std.proofs.Common.{sym, subst, refl, get_or, arith}
 use Rattle.std.specs.Prelude.{fold}
 use Rattle.hz_net.specs.Network.{network_of}
 use Rattle.hz_gmw.specs.Presents.{Fits, rechecked}
-use Rattle.hz_gmw.specs.declared.present.Present.{Present}
 use Rattle.hz_gmw.proofs.Rechecks.{fits-rechecked}
 use Rattle.hz_gmw.proofs.PresentLemmas.{fold-step}
 use Rattle.hz_gmw.proofs.present.Present.recheck_each.Goals as goal

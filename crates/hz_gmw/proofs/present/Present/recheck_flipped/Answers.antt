@@ -1,4 +1,4 @@
-use Rattle.std.proofs.Common.{◌<◌, sym, subst, refl, ℕ, get_or, arith}
+use Rattle.std.proofs.Common.{sym, subst, refl, ℕ, get_or, arith}
 use Rattle.std.specs.Prelude.{fold}
 use Rattle.hz_net.specs.Network.{network_of}
 use Rattle.hz_gmw.specs.Presents.{Fits, rechecked, around}

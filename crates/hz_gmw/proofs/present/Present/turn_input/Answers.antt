@@ -1,6 +1,5 @@
-use Rattle.std.proofs.Common.{◌≡◌, ◌<◌, ◌≤◌, ◌+◌, ◌∙◌, sym, ap, refl, subst, length, arith}
+use Rattle.std.proofs.Common.{◌<◌, ◌+◌, sym, ap, refl, subst, length, arith}
 use Rattle.hz_core.specs.Netlist.{Netlist}
-use Rattle.hz_net.specs.Network.{network_of}
 use Rattle.hz_net.proofs.Places.{length-network_of}
 use Rattle.hz_gmw.specs.declared.present.Present.{Present}
 use Rattle.hz_gmw.proofs.PresentLemmas.{InputBelow, read-same, input-same, input-turn, input-end}

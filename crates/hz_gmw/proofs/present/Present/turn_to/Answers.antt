@@ -1,4 +1,4 @@
-use Rattle.std.proofs.Common.{◌≡◌, ◌<◌, ◌+◌, ◌∙◌, sym, subst, length, arith}
+use Rattle.std.proofs.Common.{◌<◌, ◌+◌, sym, subst, length, arith}
 use Rattle.hz_net.specs.Network.{network_of}
 use Rattle.hz_gmw.specs.declared.present.Present.{Present}
 use Rattle.hz_gmw.proofs.PresentLemmas.{TurnedBelow, read-same, read-differs, turned-same, turned-flip, turned-end}

@@ -1,5 +1,4 @@
-use Rattle.std.proofs.Common.{◌≡◌, ◌≢◌, ◌∙◌, sym, ap, subst, ℕ, Bool, true, false, List, Option, None}
-use Rattle.hz_net.specs.Network.{bit_at}
+use Rattle.std.proofs.Common.{◌≡◌, ◌∙◌, sym, ap, true, false}
 use Rattle.hz_gmw.specs.Replayed.{Replayed}
 use Rattle.hz_gmw.proofs.ReplayLemmas.{closed-by, not-stable-fault, stable-cycle, transient-fault, moving-cycle}
 use Rattle.hz_gmw.proofs.replay.Replay.cycle_fault.Goals as goal

@@ -1,4 +1,4 @@
-use Rattle.std.proofs.Common.{◌≡◌, ◌≢◌, ◌∙◌, sym, ap, subst, ℕ, Bool, not, List, Option, None}
+use Rattle.std.proofs.Common.{◌≡◌, ◌≢◌, ◌∙◌, sym, ap, subst, Bool, not, List, None}
 use Rattle.std.specs.Bool.{beq}
 use Rattle.hz_net.specs.Network.{bit_at}
 use Rattle.hz_gmw.specs.Least.{IsLeastOf, least_from}

@@ -1,4 +1,4 @@
-use Rattle.std.proofs.Common.{◌<◌, sym, subst, ℕ, length, Option}
+use Rattle.std.proofs.Common.{◌<◌, sym, subst, length}
 use Rattle.hz_net.specs.Network.{network_of, IsUnstable}
 use Rattle.hz_gmw.specs.Least.{IsLeastOf}
 use Rattle.hz_gmw.specs.Replayed.{Replayed}

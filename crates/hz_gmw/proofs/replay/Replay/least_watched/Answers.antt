@@ -1,4 +1,4 @@
-use Rattle.std.proofs.Common.{◌<◌, sym, subst, ℕ, length, Option, IsTrue}
+use Rattle.std.proofs.Common.{◌<◌, sym, subst, length, IsTrue}
 use Rattle.hz_net.specs.Network.{network_of, bit_at}
 use Rattle.hz_gmw.specs.Least.{IsLeastOf}
 use Rattle.hz_gmw.specs.InsideReplay.{without}

@@ -1,9 +1,9 @@
-use Rattle.std.proofs.Common.{rules, ◌≡◌, ◌∙◌, sym, ap, subst, refl, ℕ, Bool, false, List, [], length, replicate, arith}
+use Rattle.std.proofs.Common.{rules, ◌≡◌, ◌∙◌, sym, ap, subst, ℕ, Bool, false, List, [], length, replicate}
 use Rattle.hz_core.specs.Netlist.{Netlist}
-use Rattle.hz_net.specs.Network.{network_of, bit_at}
+use Rattle.hz_net.specs.Network.{network_of}
 use Rattle.hz_gmw.specs.Instability.{unstable_variables}
 use Rattle.hz_gmw.specs.InsideReplay.{without}
-use Rattle.hz_gmw.specs.Replayed.{Replayed, StandsFor, replayed_at}
+use Rattle.hz_gmw.specs.Replayed.{Replayed, StandsFor}
 use Rattle.hz_gmw.proofs.ReplayLemmas.{unstable-list, without-none, replayed-is, stands-at}
 use Rattle.hz_gmw.proofs.replay.Replay.new.Goals as goal
 

@@ -1,6 +1,6 @@
-use Rattle.std.proofs.Common.{◌≡◌, ◌∙◌, ◌∷◌, ◌++◌, sym, ap, subst, refl, ℕ, Bool, true, List, [], length}
+use Rattle.std.proofs.Common.{◌≡◌, ◌∙◌, ◌∷◌, ◌++◌, sym, ap, subst, refl, Bool, List, [], length}
 use Rattle.std.proofs.lemmas.Bool.{false≢true}
-use Rattle.hz_net.specs.Network.{network_of, bit_at}
+use Rattle.hz_net.specs.Network.{network_of}
 use Rattle.hz_gmw.specs.Instability.{is_unstable}
 use Rattle.hz_gmw.specs.InsideReplay.{without}
 use Rattle.hz_gmw.specs.Replayed.{Replayed, StandsFor, stepped_by}

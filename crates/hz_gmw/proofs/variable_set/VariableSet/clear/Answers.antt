@@ -1,4 +1,4 @@
-use Rattle.std.proofs.Common.{◌≡◌, ◌∙◌, sym, ap, ℕ, Bool, false, List, [], Option, None, length, set, replicate, arith}
+use Rattle.std.proofs.Common.{◌≡◌, ◌∙◌, ap, ℕ, false, [], None, length, set, replicate, arith}
 use Rattle.std.proofs.lemmas.List.{length-set, nil_from_length}
 use Rattle.hz_gmw.proofs.SetLemmas.{AreSet-pop, marks-cleared}
 use Rattle.hz_gmw.proofs.variable_set.VariableSet.clear.Goals as goal

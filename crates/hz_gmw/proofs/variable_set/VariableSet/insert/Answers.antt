@@ -1,4 +1,4 @@
-use Rattle.std.proofs.Common.{◌≡◌, ◌<◌, ◌∷◌, [], ◌++◌, ◌∙◌, sym, ap, subst, refl, ℕ, Bool, true, not, List, Option, Some, None, length, get_or, set, map, is_some, arith}
+use Rattle.std.proofs.Common.{◌≡◌, ◌∷◌, [], ◌++◌, ◌∙◌, sym, ap, subst, ℕ, Bool, true, not, List, Some, None, length, get_or, set, is_some, arith}
 use Rattle.std.proofs.lemmas.List.{length-set}
 use Rattle.hz_gmw.specs.VariableSets.{AreSet}
 use Rattle.hz_gmw.proofs.SetLemmas.{inside-of, at-read, none-is, room-left, AreSet-insert, marks-insert, marks-stay}

@@ -1,4 +1,4 @@
-use Rattle.std.proofs.Common.{rules, ◌≡◌, ◌∙◌, ap, refl, ℕ, Option, Some, None, map, is_some}
+use Rattle.std.proofs.Common.{rules, ◌∙◌, ap, ℕ, map, is_some}
 use Rattle.hz_gmw.proofs.SetLemmas.{marks-none}
 use Rattle.hz_gmw.proofs.variable_set.VariableSet.new.Goals as goal
 

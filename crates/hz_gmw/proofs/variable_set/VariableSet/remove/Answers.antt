@@ -1,6 +1,5 @@
-use Rattle.std.proofs.Common.{◌≡◌, ◌≢◌, ◌<◌, ◌+◌, ◌-◌, ◌∷◌, [], ◌++◌, ◌∙◌, sym, ap, subst, refl, ℕ, Bool, true, false, List, Option, Some, None, length, get_or, set, map, is_some, arith}
+use Rattle.std.proofs.Common.{◌≡◌, ◌<◌, ◌-◌, ◌∙◌, sym, ap, subst, ℕ, Bool, false, List, Some, None, length, get_or, set, is_some, arith}
 use Rattle.std.proofs.lemmas.List.{length-set}
-use Rattle.hz_gmw.specs.VariableSets.{AreSet}
 use Rattle.hz_gmw.proofs.SetLemmas.{inside-of, at-read, member-inside, last-is, AreSet-remove, marks-remove, marks-stay}
 use Rattle.hz_gmw.proofs.variable_set.VariableSet.remove.Goals as goal
 
