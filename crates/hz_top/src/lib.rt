@@ -7,6 +7,7 @@
 //! | `refusal` | the lines of refusals |
 //! | `finding` | what one change may do |
 //! | `reporting` | what is printed of a start and of a change |
+//! | `reading_back` | a law on the run that is printed |
 //! | `analysis` | the job `analyse`, from its two files on |
 //! | `running` | the top call |
 #![tactic(auto)]
@@ -14,6 +15,7 @@
 mod analysis;
 mod finding;
 mod job;
+mod reading_back;
 mod refusal;
 mod reporting;
 mod running;
@@ -22,5 +24,6 @@ mod status;
 mod tests;
 
 pub use analysis::MAX_BYTES;
+pub use reading_back::printed_run_reads_back;
 pub use running::run;
 pub use status::Status;
