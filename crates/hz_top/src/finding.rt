@@ -59,12 +59,7 @@ struct Reached {
 }
 
 // Runs Algorithm A, and makes the spread run.
-fn find_reached(
-    alloc: Global,
-    net: &Net,
-    start: &[bool],
-    input: &[bool],
-) -> Result<Reached, Memory>
+fn find_reached(alloc: Global, net: &Net, start: &[bool], input: &[bool]) -> Result<Reached, Memory>
     requires start { length start.now ≡ length (network_of net.now) }
     requires stable { IsStable (network_of net.now) (take net.now.inputs start.now) start.now }
     requires input { length input.now ≡ net.now.inputs }
@@ -81,7 +76,16 @@ fn find_reached(
     let Ok(mut ranks) = vec![in alloc; 0u32; variables] else {
         return Err(Memory);
     };
-    let rounds = reach(net, start, input, &mut a, &mut ranks, &mut work, &mut scratch, &mut run);
+    let rounds = reach(
+        net,
+        start,
+        input,
+        &mut a,
+        &mut ranks,
+        &mut work,
+        &mut scratch,
+        &mut run,
+    );
     Ok(Reached { a, rounds, run })
 }
 
