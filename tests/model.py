@@ -4,7 +4,7 @@ Nothing here is quick. The ternary extension goes through all lists of bits that
 list of its whole states, and reached states are walked through one by one. A state is a text of a letter for each
 variable: 0, 1, and X in a ternary state.
 """
-from itertools import product
+from itertools import combinations, product
 
 GATES = {
     "AND": lambda bits: "0" not in bits,
@@ -27,6 +27,7 @@ SMALL = {
     "holding": ("a", [("y", "OR", "ay")], "00", "1"),
     "pulse": ("x", [("p", "AND", "xn"), ("n", "NOT", "x"), ("y", "OR", "py")], "0010", "1"),
     "multiplexer": ("sxy", [("n", "NOT", "s"), ("a", "AND", "sx"), ("b", "AND", "ny"), ("z", "OR", "ab")], "1110101", "011"),
+    "ring": ("x", [("p", "AND", "xn"), ("n", "NOT", "x"), ("u", "OR", "pw"), ("v", "BUFF", "u"), ("w", "BUFF", "v")], "001000", "1"),
     "c17": (
         "abcfg",
         [("p", "NAND", "ac"), ("q", "NAND", "cf"), ("r", "NAND", "bq"), ("s", "NAND", "qg"), ("t", "NAND", "pr"), ("u", "NAND", "rs")],
@@ -58,6 +59,17 @@ PASSES = {
         (3, "10000111100 100001101111", "10000000000 200000000000"),
     ),
 }
+# By hand: the steps of spread runs.
+SPREAD_RUNS = {
+    "latch": ["r s", "q(1)", "q", "b(1)", "b", "q(2) b(2)"],
+    "xor": ["x", "y(1)", "y", "y(2)"],
+    "inverter": ["e", "y(1)", "y", "y(2)"],
+    "pulse": ["x", "p(1)", "p", "n(1)", "n", "y(1)", "y", "p(2) y(2)"],
+    "multiplexer": ["s", "n(1)", "n", "a(1)", "a", "b(1)", "b", "z(1)", "z", "z(2)"],
+    "ring": ["x", "p(1)", "p", "n(1)", "n", "u(1)", "u", "v(1)", "v", "w(1)", "w", "p(2) u(2)"],
+    "c17": ["a c", "p(1) p(2)", "p", "t(1)", "t", "q(1)"],
+    "c17 one": ["a", "p(1)"],
+}
 # By hand: the states that runs reach in the network of two wires of one source, and those that may persist.
 REACHED = {"0000", "1000", "1010", "1001", "1011", "1110", "1101", "1111"}
 OUTCOMES = {"1011"}
@@ -79,6 +91,10 @@ def extension(kind, pins):
     """The join of the gate function over all lists of bits that refine the pins."""
     refining = product(*("01" if pin == "X" else pin for pin in pins))
     return join({str(int(GATES[kind]("".join(bits)))) for bits in refining})
+
+
+def other(bit):
+    return "1" if bit == "0" else "0"
 
 
 class Circuit:
@@ -176,6 +192,54 @@ class Circuit:
     def letters(self, states):
         """The join over a set of states, for each node."""
         return "".join(join({state[i] for state in states}) for i in range(len(self.names)))
+
+    def variables(self):
+        """The words of the variables: names, and for each wire its gate and its pin, counted from 1."""
+        return list(self.names) + [f"{name}({pin + 1})" for name, _, sources in self.gates for pin in range(len(sources))]
+
+    def spread_run(self):
+        """The steps of the spread run: the inputs, each gate's wires and then the gate by rank, the wires that are left."""
+        (_, a, ranks), _ = self.passes()
+        steps, at = [[i for i, bit in enumerate(self.new) if bit != self.start[i]]], len(self.names)
+        wires = {}
+        for number, (_, kind, sources) in enumerate(self.gates, len(self.inputs)):
+            wires[number] = (kind, range(at, at + len(sources)))
+            at += len(sources)
+        for gate in sorted((number for number in wires if ranks[number]), key=lambda number: (ranks[number], number)):
+            kind, own = wires[gate]
+            free = [wire for wire in own if 0 < ranks[wire] < ranks[gate]]
+            steps += [self.changed_pins(kind, own, free, other(self.start[gate])), [gate]]
+        done = {i for step in steps for i in step}
+        steps.append([i for i in range(len(self.names), len(self.start)) if a[i] == "X" and i not in done])
+        return [step for step in steps if step]
+
+    def changed_pins(self, kind, own, free, wanted):
+        """The fewest free wires that give a gate a value when they change, and among these the first by their numbers."""
+        for count in range(len(free) + 1):
+            for changed in combinations(free, count):
+                if extension(kind, [other(self.start[wire]) if wire in changed else self.start[wire] for wire in own]) == wanted:
+                    return list(changed)
+        raise ValueError("no pattern")
+
+    def run_text(self, steps):
+        """A run text with one run from the start under the new input."""
+        assigned = lambda names, bits: "".join(f" {name}={bit}" for name, bit in zip(names, bits))
+        words = self.variables()
+        lines = ["runs 1", "start" + assigned(self.names, self.start), "input" + assigned(self.inputs, self.new), "run"]
+        return lines + [" ".join(["step"] + [words[i] for i in step]) for step in steps] + ["end"]
+
+    def changes(self, lines):
+        """How often each variable changes in steps, each of which is a step of the model, or None."""
+        state, count, words = self.start, [0] * len(self.start), self.variables()
+        for line in lines:
+            flips = [words.index(word) for word in line.split()[1:]]
+            after = "".join(other(bit) if i in flips else bit for i, bit in enumerate(state))
+            if len(set(flips)) != len(flips) or after not in self.steps(state):
+                return None
+            state = after
+            for i in flips:
+                count[i] += 1
+        return count
 
     def forced(self, listed):
         """The bit of each node that listed values force, each from those that are there already."""
@@ -317,6 +381,9 @@ def hand_rows():
     for name, (a, b) in PASSES.items():
         wanted = tuple((rounds, result.replace(" ", ""), [int(digit) for digit in noted.replace(" ", "")]) for rounds, result, noted in (a, b))
         yield f"passes of {name}", Circuit(*SMALL[name]).passes(), wanted
+    for name, steps in SPREAD_RUNS.items():
+        circuit = Circuit(*SMALL[name])
+        yield f"spread run of {name}", circuit.run_text(circuit.spread_run())[4:-1], [f"step {step}" for step in steps]
     two_wires = Circuit(*SMALL["xor"])
     yield "reached of two wires", two_wires.reached(), REACHED
     yield "outcomes of two wires", two_wires.outcomes(), OUTCOMES

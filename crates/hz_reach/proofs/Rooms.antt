@@ -11,13 +11,13 @@ use Rattle.hz_reach.proofs.Listed.{repeats_none-bound, listed-inside}
 use Rattle.hz_reach.proofs.Places.{flipped-none}
 use Rattle.hz_reach.proofs.Turning.{changed, changed-after, IsOnce}
 
-length-changed : (steps : List (List ℕ)) → length (changed steps) ≡ flip_count steps
+pub length-changed : (steps : List (List ℕ)) → length (changed steps) ≡ flip_count steps
 length-changed [] = refl
 length-changed (flips ∷ steps) =
     omega (arith, length-append flips (concat steps), length-changed steps, sum_by-cons (λ (list : List ℕ). length list) flips steps)
 
 -- no step is empty
-steps-le-flips : (net : List Driver) (input state : List Bool) (steps : List (List ℕ)) → IsRun net input state steps → length steps ≤ length (changed steps)
+pub steps-le-flips : (net : List Driver) (input state : List Bool) (steps : List (List ℕ)) → IsRun net input state steps → length steps ≤ length (changed steps)
 steps-le-flips net input state [] run = omega arith
 steps-le-flips net input state (flips ∷ steps) run =
     let some : 1 ≤ length flips = not-empty flips run.0.some in
@@ -27,7 +27,7 @@ steps-le-flips net input state (flips ∷ steps) run =
     not-empty [] some = absurd (some refl)
     not-empty (x ∷ list) some = omega arith
 
-flips-bound : (net : List Driver) (input start : List Bool) (steps : List (List ℕ)) → IsOnce net input start steps → length (changed steps) ≤ length net
+pub flips-bound : (net : List Driver) (input start : List Bool) (steps : List (List ℕ)) → IsOnce net input start steps → length (changed steps) ≤ length net
 flips-bound net input start steps once =
     repeats_none-bound (changed steps) (length net) once.once (λ i there. listed-inside net input steps start i once.run there)
 

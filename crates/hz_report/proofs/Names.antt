@@ -1,5 +1,5 @@
--- Names of variables, by what a variable is.
-use Rattle.std.proofs.Common.{◌≡◌, ◌∙◌, sym, ap, subst, refl, ℕ, ◌+◌, ◌-◌, ◌<◌, ◌≤◌, List, [], ◌∷◌, ◌++◌, length, Some, All, get_or, map, arith, slice_get, length-append, codes, decimal, inl, inr}
+-- Words of variables, by what a variable is.
+use Rattle.std.proofs.Common.{◌≡◌, ◌∙◌, sym, ap, subst, refl, ℕ, ◌+◌, ◌-◌, ◌<◌, ◌≤◌, List, [], ◌∷◌, ◌++◌, length, Some, All, get_or, map, arith, slice_get, length-append, append_assoc, codes, decimal, inl, inr}
 use Rattle.std.specs.List.{range_with_len}
 use Rattle.std.proofs.lemmas.List.{length-map, get_or-map, get_or_append_left, get_or-append_right}
 use Rattle.std.proofs.lemmas.List.FromFn.{length-range_with_len, length-map-range_with_len}
@@ -15,7 +15,8 @@ use Rattle.hz_net.specs.Variables.{variables_of}
 use Rattle.hz_net.specs.declared.variable.VarKind.{VarKind}
 use Rattle.hz_net.specs.declared.variable.VarKind.TheVariants.{Input as InputKind, Gate as GateKind, Wire as WireKind}
 use Rattle.hz_net.proofs.Places.{no_gate, no_wire}
-use Rattle.hz_report.specs.Words.{node_name, wire_name, variable_name}
+use Rattle.hz_text.specs.RunPrinted.{wire_word, variable_word}
+use Rattle.hz_report.specs.Words.{node_name}
 
 -- what a wire is
 abbrev seen_wire : Wire → VarKind
@@ -167,31 +168,40 @@ wire_goes_into netlist var gate pin source circuit seen =
     let same_pin : pin ≡ wire.pin = cc in
     (omega (arith, into.0), omega (arith, into.1))
 
--- the name of a node
-pub variable_name-node :
-    (netlist : Netlist) (node : ℕ) (name : List ℕ) → slice_get netlist.names node ≡ Some name → variable_name netlist node ≡ name
-unfolding variable_name
-variable_name-node netlist node name there =
-    get_or_append_left netlist.names (map (wire_name netlist) (wires_of netlist)) [] node (slice_get_within netlist.names node name there)
-    ∙ get_or_from_slice_get netlist.names node name [] there
+-- a node's name among the names of all nodes
+pub node_named : (netlist : Netlist) (node : ℕ) (name : List ℕ) → slice_get netlist.names node ≡ Some name → node_name netlist node ≡ name
+node_named netlist node name there = get_or_from_slice_get netlist.names node name [] there
 
--- the name of a wire
-pub variable_name-wire :
+-- the word of a node
+pub variable_word-node :
+    (netlist : Netlist) (node : ℕ) (name : List ℕ) → slice_get netlist.names node ≡ Some name → variable_word netlist node ≡ name
+unfolding variable_word
+variable_word-node netlist node name there =
+    get_or_append_left netlist.names (map (wire_word netlist) (wires_of netlist)) [] node (slice_get_within netlist.names node name there)
+    ∙ node_named netlist node name there
+
+-- the word of a wire, in pieces
+wire_pieces : (name digits : List ℕ) → (name ++ (40 ∷ digits)) ++ (41 ∷ []) ≡ joined (name ∷ codes "(" ∷ digits ∷ codes ")" ∷ [])
+unfolding joined
+wire_pieces name digits = append_assoc name (40 ∷ digits) (41 ∷ [])
+
+-- the word of a wire
+pub variable_word-wire :
     (netlist : Netlist) (var gate pin source : ℕ) (name : List ℕ) → IsCircuit netlist →
     slice_get (variables_of netlist) var ≡ Some (WireKind gate pin source) → slice_get netlist.names gate ≡ Some name →
-    variable_name netlist var ≡ joined (name ∷ codes "(" ∷ decimal (pin + 1) ∷ codes ")" ∷ [])
-unfolding variable_name wire_name
-variable_name-wire netlist var gate pin source name circuit seen named =
+    variable_word netlist var ≡ joined (name ∷ codes "(" ∷ decimal (pin + 1) ∷ codes ")" ∷ [])
+unfolding variable_word wire_word
+variable_word-wire netlist var gate pin source name circuit seen named =
     let there = wire_there netlist var gate pin source circuit seen in
     let place = var - length netlist.names in
     let wire = get_or (wires_of netlist) place no_wire in
     let same : WireKind gate pin source ≡ seen_wire wire = there.1 in
     let same_gate : wire.gate ≡ gate = cc in
     let same_pin : wire.pin ≡ pin = cc in
-    let spelled : node_name netlist gate ≡ name = get_or_from_slice_get netlist.names gate name [] named in
-    get_or-append_right netlist.names (map (wire_name netlist) (wires_of netlist)) (length netlist.names) var [] refl
+    get_or-append_right netlist.names (map (wire_word netlist) (wires_of netlist)) (length netlist.names) var [] refl
     (wire_is_past netlist var gate pin source circuit seen)
-    ∙ get_or-map (wire_name netlist) (wires_of netlist) place no_wire [] there.0
+    ∙ get_or-map (wire_word netlist) (wires_of netlist) place no_wire [] there.0
+    ∙ wire_pieces (node_name netlist wire.gate) (decimal (wire.pin + 1))
     ∙ ap (λ (number : ℕ). joined (node_name netlist number ∷ codes "(" ∷ decimal (wire.pin + 1) ∷ codes ")" ∷ [])) same_gate
     ∙ ap (λ (number : ℕ). joined (node_name netlist gate ∷ codes "(" ∷ decimal (number + 1) ∷ codes ")" ∷ [])) same_pin
-    ∙ ap (λ (text : List ℕ). joined (text ∷ codes "(" ∷ decimal (pin + 1) ∷ codes ")" ∷ [])) spelled
+    ∙ ap (λ (text : List ℕ). joined (text ∷ codes "(" ∷ decimal (pin + 1) ∷ codes ")" ∷ [])) (node_named netlist gate name named)

@@ -62,7 +62,6 @@ fn write_assigned<K: Sink>(
     ensures wrote { Wrote K.written K.faults (change_line net.now number change.now) out.old out.new result }
     ensures emptied { line.new ≡ [] }
 {
-    let _variables = net.len();
     line.add_all(out, &[b"change ", Buffer::new().format(number).as_bytes()])?;
     for &(node, bit) in change {
         add_assignment(line, out, net, node, bit)?;

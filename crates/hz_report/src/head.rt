@@ -4,7 +4,7 @@ ghost use Rattle.hz_net.specs.Network.{network_of};
 ghost use Rattle.hz_write.specs.Writes.{Wrote};
 ghost use Rattle.hz_report.specs.Report.{netlist_line, start_line, head_text};
 
-use crate::words::{add_assignment, end_with};
+use crate::words::{end_with, write_listed};
 use hz_net::Net;
 use hz_outside::{PutFault, Sink};
 use hz_write::Line;
@@ -62,10 +62,6 @@ fn write_start<K: Sink>(
     ensures wrote { Wrote K.written K.faults (start_line net.now start.now) out.old out.new result }
     ensures emptied { line.new ≡ [] }
 {
-    line.add(out, b"start")?;
-    let nodes = net.circuit().nodes();
-    for node in 0..nodes {
-        add_assignment(line, out, net, node, start[node as usize])?;
-    }
-    line.end(out)
+    let nodes = net.circuit().nodes() as usize;
+    write_listed(line, out, net, b"start", &start[..nodes])
 }

@@ -1,8 +1,11 @@
-//! What lines are made of: letters of values, names of variables, assignments.
-ghost use Rattle.std.specs.Prelude.{◌≡◌, ◌<◌, [], ◌++◌, length, map, OnErr};
+//! What lines are made of: letters of values, words of variables, assignments.
+ghost use Rattle.std.specs.Prelude.{◌≡◌, ◌<◌, ◌≤◌, [], ◌++◌, length, map, OnErr};
+ghost use Rattle.hz_core.specs.Netlist.{IsCircuit};
 ghost use Rattle.hz_net.specs.Network.{network_of};
-ghost use Rattle.hz_write.specs.Writes.{line_of, Wrote, Added};
-ghost use Rattle.hz_report.specs.Words.{bit_letter, tri_letter, variable_name, assignment};
+ghost use Rattle.hz_write.specs.Writes.{newline, line_of, Wrote, Added};
+ghost use Rattle.hz_text.specs.Printed.{assignment_text, statement_text};
+ghost use Rattle.hz_text.specs.RunPrinted.{variable_word, spaced_word, all_listed};
+ghost use Rattle.hz_report.specs.Words.{bit_letter, tri_letter};
 
 use hz_core::Tri;
 use hz_net::{Net, VarKind};
@@ -38,7 +41,7 @@ pub fn add_variable<K: Sink>(
     var: u32,
 ) -> Result<(), PutFault>
     requires { var < length (network_of net.now) }
-    ensures added { Added K.written K.faults (line.old ++ variable_name net.now var) out.old out.new line.new result }
+    ensures added { Added K.written K.faults (line.old ++ variable_word net.now var) out.old out.new line.new result }
     ensures dropped { OnErr result (line.new ≡ []) }
 {
     let circuit = net.circuit();
@@ -53,21 +56,72 @@ pub fn add_variable<K: Sink>(
     }
 }
 
-// Adds a blank and the value of a variable to a line.
-pub(crate) fn add_assignment<K: Sink>(
+// Adds a blank and the word of a variable to a line.
+pub(crate) fn add_spaced<K: Sink>(
     line: &mut Line,
     out: &mut K,
     net: &Net,
     var: u32,
-    bit: bool,
 ) -> Result<(), PutFault>
     requires { var < length (network_of net.now) }
-    ensures added { Added K.written K.faults (line.old ++ assignment net.now var bit) out.old out.new line.new result }
+    ensures added { Added K.written K.faults (line.old ++ spaced_word net.now var) out.old out.new line.new result }
     ensures dropped { OnErr result (line.new ≡ []) }
 {
     line.add(out, b" ")?;
-    add_variable(line, out, net, var)?;
+    add_variable(line, out, net, var)
+}
+
+// Adds a blank and the bit of a node to a line.
+pub(crate) fn add_assignment<K: Sink>(
+    line: &mut Line,
+    out: &mut K,
+    net: &Net,
+    node: u32,
+    bit: bool,
+) -> Result<(), PutFault>
+    requires { node < length net.now.names }
+    ensures added { Added K.written K.faults (line.old ++ assignment_text net.now (node, bit)) out.old out.new line.new result }
+    ensures dropped { OnErr result (line.new ≡ []) }
+{
+    let circuit = net.circuit();
+    line.add_all(out, &[b" ", circuit.name(node)])?;
     line.add_all(out, &[b"=", bit_letter(bit)])
+}
+
+// Writes a line that lists the first nodes, with their bits.
+pub(crate) fn write_listed<K: Sink>(
+    line: &mut Line,
+    out: &mut K,
+    net: &Net,
+    keyword: &[u8],
+    bits: &[bool],
+) -> Result<(), PutFault>
+    requires circuit { IsCircuit net.now }
+    requires empty { line.old ≡ [] }
+    requires nodes { length bits.now ≤ length net.now.names }
+    ensures wrote { Wrote K.written K.faults
+        (statement_text net.now keyword.now (all_listed bits.now)) out.old out.new result }
+    ensures emptied { line.new ≡ [] }
+{
+    line.add(out, keyword)?;
+    for node in 0..bits.len() as u32 {
+        add_assignment(line, out, net, node, bits[node as usize])?;
+    }
+    line.end(out)
+}
+
+// Writes a line that is one piece.
+pub(crate) fn write_piece<K: Sink>(
+    line: &mut Line,
+    out: &mut K,
+    piece: &[u8],
+) -> Result<(), PutFault>
+    requires empty { line.old ≡ [] }
+    ensures wrote { Wrote K.written K.faults (piece.now ++ newline) out.old out.new result }
+    ensures emptied { line.new ≡ [] }
+{
+    line.add(out, piece)?;
+    line.end(out)
 }
 
 // Adds the last pieces of a line and ends it.

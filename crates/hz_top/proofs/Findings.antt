@@ -1,14 +1,19 @@
 -- What the passes answer is a finding.
-use Rattle.std.proofs.Common.{◌≡◌, ℕ, ◌+◌, ◌≤◌, Bool, List, length, sym, ap, ◌∙◌, subst, arith, take}
+use Rattle.std.proofs.Common.{◌≡◌, ℕ, ◌+◌, ◌<◌, ◌≤◌, Bool, true, List, [], ◌∷◌, length, All, refl, sym, ap, ◌∙◌, subst, arith, take}
 use Rattle.std.proofs.lemmas.List.{length-take-le}
 use Rattle.hz_core.specs.declared.tri.Tri.{Tri}
 use Rattle.hz_core.specs.Ternary.{Refines, AllBelow}
-use Rattle.hz_net.specs.Network.{Driver}
+use Rattle.hz_net.specs.Network.{Driver, value_at, IsStable}
 use Rattle.hz_net.specs.Passes.{excitations, algorithm_a, algorithm_b, AreRounds}
 use Rattle.hz_core.specs.Netlist.{Netlist, IsCircuit}
 use Rattle.hz_net.specs.Network.{network_of}
 use Rattle.hz_net.proofs.Places.{length-network_of}
 use Rattle.hz_net.proofs.Sequences.{AllBelow-closed, closed-result, length-algorithm_a, length-algorithm_b}
+use Rattle.std.proofs.lemmas.List.Elements.{All-nil, All-cons}
+use Rattle.hz_gmw.specs.Runs.{is_listed, flipped, IsRun, IsReachable, JoinsTo}
+use Rattle.hz_gmw.proofs.LeastLemmas.{listed-head, listed-tail}
+use Rattle.hz_reach.specs.Spread.{IsSpreadRun}
+use Rattle.hz_reach.proofs.Exact.{exact}
 use Rattle.hz_gmw.proofs.CoverA.{covers}
 use Rattle.hz_gmw.proofs.CoverB.{covers_outcomes}
 use Rattle.hz_top.specs.Finding.{IsFinding}
@@ -19,27 +24,36 @@ below-result net input start a b rounds long are is same =
     subst (λ (values : List Tri). AllBelow (excitations net input values) values) (sym (same ∙ is))
     (AllBelow-closed net input (algorithm_a net input start rounds) (closed-result net input start rounds long are))
 
-pub is-finding : (net : List Driver) (input start : List Bool) (a copy b : List Tri) (rounds_a rounds_b : ℕ) → length start ≡ length net → AreRounds (algorithm_a net input start) rounds_a → a ≡ algorithm_a net input start rounds_a → rounds_a ≤ length net + 1 → copy ≡ a → AreRounds (algorithm_b net input copy) rounds_b → b ≡ algorithm_b net input copy rounds_b → rounds_b ≤ length net + 1 → IsFinding net input start a rounds_a b rounds_b
-is-finding net input start a copy b rounds_a rounds_b long a_are a_is a_few same b_are b_is b_few =
-    let from_a : b ≡ algorithm_b net input a rounds_b = b_is ∙ ap (λ (first : List Tri). algorithm_b net input first rounds_b) same in
+-- what both passes and the spread run give is a finding
+pub is-finding :
+    (netlist : Netlist) (own input start : List Bool) (a first b : List Tri) (rounds_a rounds_b : ℕ) (steps : List (List ℕ)) → IsCircuit netlist →
+    length start ≡ length (network_of netlist) → IsStable (network_of netlist) own start → AreRounds (algorithm_a (network_of netlist) input start) rounds_a →
+    a ≡ algorithm_a (network_of netlist) input start rounds_a → rounds_a ≤ length (network_of netlist) + 1 → IsSpreadRun (network_of netlist) input start a steps →
+    first ≡ a → AreRounds (algorithm_b (network_of netlist) input first) rounds_b → b ≡ algorithm_b (network_of netlist) input first rounds_b → rounds_b ≤ length (network_of netlist) + 1 →
+    IsFinding (network_of netlist) input start a rounds_a b rounds_b steps
+is-finding netlist own input start a first b rounds_a rounds_b steps circuit long stable a_are a_is a_few shown same b_are b_is b_few =
+    let net = network_of netlist in
+    let from_a : b ≡ algorithm_b net input a rounds_b = b_is ∙ ap (λ (values : List Tri). algorithm_b net input values rounds_b) same in
     record {
       a_settles = a_are;
       a_result = a_is;
       a_bound = a_few;
       a_covers = λ state reach. subst (Refines state) (sym a_is) (covers net input start state rounds_a long a_are reach);
-      b_settles = subst (λ (first : List Tri). AreRounds (algorithm_b net input first) rounds_b) same b_are;
+      a_exact = λ i within. subst (λ (values : List Tri). JoinsTo (IsReachable net input start) i (value_at values i)) (sym a_is) (exact netlist input own start rounds_a i circuit long stable a_are);
+      spread = shown;
+      b_settles = subst (λ (values : List Tri). AreRounds (algorithm_b net input values) rounds_b) same b_are;
       b_result = from_a;
       b_bound = b_few;
-      b_covers = λ state outcome. subst (Refines state) (sym (from_a ∙ ap (λ (first : List Tri). algorithm_b net input first rounds_b) a_is)) (covers_outcomes net input start state rounds_a rounds_b long a_are outcome);
+      b_covers = λ state outcome. subst (Refines state) (sym (from_a ∙ ap (λ (values : List Tri). algorithm_b net input values rounds_b) a_is)) (covers_outcomes net input start state rounds_a rounds_b long a_are outcome);
     }
 
 -- the results have a value for each variable
-pub long-a : (net : List Driver) (input start : List Bool) (a : List Tri) (rounds_a : ℕ) (b : List Tri) (rounds_b : ℕ) → length start ≡ length net → IsFinding net input start a rounds_a b rounds_b → length a ≡ length net
-long-a net input start a rounds_a b rounds_b long found = ap length found.a_result ∙ length-algorithm_a net input start long rounds_a
+pub long-a : (net : List Driver) (input start : List Bool) (a : List Tri) (rounds_a : ℕ) (b : List Tri) (rounds_b : ℕ) (steps : List (List ℕ)) → length start ≡ length net → IsFinding net input start a rounds_a b rounds_b steps → length a ≡ length net
+long-a net input start a rounds_a b rounds_b steps long found = ap length found.a_result ∙ length-algorithm_a net input start long rounds_a
 
-pub long-b : (net : List Driver) (input start : List Bool) (a : List Tri) (rounds_a : ℕ) (b : List Tri) (rounds_b : ℕ) → length start ≡ length net → IsFinding net input start a rounds_a b rounds_b → length b ≡ length net
-long-b net input start a rounds_a b rounds_b long found =
-    ap length found.b_result ∙ length-algorithm_b net input a (long-a net input start a rounds_a b rounds_b long found) rounds_b
+pub long-b : (net : List Driver) (input start : List Bool) (a : List Tri) (rounds_a : ℕ) (b : List Tri) (rounds_b : ℕ) (steps : List (List ℕ)) → length start ≡ length net → IsFinding net input start a rounds_a b rounds_b steps → length b ≡ length net
+long-b net input start a rounds_a b rounds_b steps long found =
+    ap length found.b_result ∙ length-algorithm_b net input a (long-a net input start a rounds_a b rounds_b steps long found) rounds_b
 
 -- a state begins with the inputs
 pub inputs-bound : (netlist : Netlist) (state : List Bool) → IsCircuit netlist → length state ≡ length (network_of netlist) → netlist.inputs ≤ length state
@@ -50,3 +64,14 @@ inputs-bound netlist state is long =
 pub front-long : (netlist : Netlist) (state : List Bool) (inputs : ℕ) → IsCircuit netlist → length state ≡ length (network_of netlist) → inputs ≡ netlist.inputs → length (take inputs state) ≡ netlist.inputs
 front-long netlist state inputs is long are =
     rw are (length-take-le netlist.inputs state (inputs-bound netlist state is long))
+
+-- the steps of a run change variables that are there
+listed-all : (P : ℕ → Type 0) (list : List ℕ) → ((i : ℕ) → is_listed list i ≡ true → P i) → All P list
+listed-all P [] each = All-nil P
+listed-all P (x ∷ list) each = All-cons P x list (each x (listed-head x x list refl)) (listed-all P list (λ i there. each i (listed-tail i x list there)))
+
+pub run-inside : (net : List Driver) (input state : List Bool) (steps : List (List ℕ)) → IsRun net input state steps → All (All (λ (var : ℕ). var < length net)) steps
+run-inside net input state [] run = All-nil (All (λ (var : ℕ). var < length net))
+run-inside net input state (flips ∷ steps) run =
+    All-cons (All (λ (var : ℕ). var < length net)) flips steps (listed-all (λ (var : ℕ). var < length net) flips run.0.inside)
+    (run-inside net input (flipped flips state) steps run.1)

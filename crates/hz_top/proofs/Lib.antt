@@ -7,3 +7,4 @@ pub mod Refusals
 pub mod Decided
 pub mod Lines
 pub mod Done
+pub mod ReadBack

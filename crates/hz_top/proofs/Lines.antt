@@ -8,22 +8,22 @@ use Rattle.hz_write.proofs.Writing.{joined-push}
 use Rattle.hz_core.specs.Netlist.{Netlist, IsCircuit}
 use Rattle.hz_net.specs.Network.{network_of, wires_of}
 use Rattle.hz_net.proofs.Places.{length-network_of, length-wires_of}
-use Rattle.hz_report.specs.Words.{wire_name, variable_names, variable_name}
+use Rattle.hz_report.specs.Words.{wire_name, variable_names, variable_word}
 use Rattle.hz_text.specs.RunValue.{RunOf, cycle_steps}
 use Rattle.hz_top.specs.Replaying.{no_run, steps_of, step_count}
 use Rattle.hz_top.specs.Verdict.{naming_line}
 
 -- past the variables there are no names
-pub nameless : (netlist : Netlist) (var : ℕ) → IsCircuit netlist → length (network_of netlist) ≤ var → variable_name netlist var ≡ []
-unfolding variable_name
+pub nameless : (netlist : Netlist) (var : ℕ) → IsCircuit netlist → length (network_of netlist) ≤ var → variable_word netlist var ≡ []
+unfolding variable_word
 nameless netlist var circuit past =
     get_or_past (variable_names netlist) var []
     (omega (arith, past, length-append netlist.names (map (wire_name netlist) (wires_of netlist)), length-map (wires_of netlist) (wire_name netlist), length-wires_of netlist, length-network_of netlist circuit))
 
 -- the words, the name, the end of the line
-pub naming_line-is : (netlist : Netlist) (words : List (List ℕ)) (var : ℕ) → naming_line netlist words var ≡ (joined words ++ variable_name netlist var) ++ newline
+pub naming_line-is : (netlist : Netlist) (words : List (List ℕ)) (var : ℕ) → naming_line netlist words var ≡ (joined words ++ variable_word netlist var) ++ newline
 unfolding naming_line line_of
-naming_line-is netlist words var = ap (λ (list : List ℕ). list ++ newline) (joined-push words (variable_name netlist var))
+naming_line-is netlist words var = ap (λ (list : List ℕ). list ++ newline) (joined-push words (variable_word netlist var))
 
 -- the steps of a run, and those of the runs before it, are no more than there are
 pub steps-within : (runs : List RunOf) (number : ℕ) → number < length runs → length (steps_of (get_or runs number no_run)) + step_count (take number runs) ≤ step_count runs

@@ -4,7 +4,10 @@ use Rattle.hz_outside.specs.Written.{joined}
 use Rattle.hz_core.specs.declared.tri.Tri.{Tri}
 use Rattle.hz_core.specs.Netlist.{Netlist}
 use Rattle.hz_net.specs.Network.{network_of}
-use Rattle.hz_report.specs.Report.{head_text, change_text}
+use Rattle.hz_text.specs.RunFault.{IsRunFaultless}
+use Rattle.hz_text.specs.RunText.{IsRunValue}
+use Rattle.hz_text.specs.RunValue.{RunTextOf}
+use Rattle.hz_report.specs.Report.{head_text, change_text, runs_text}
 use Rattle.hz_top.specs.declared.status.Status.{Status}
 use Rattle.hz_top.specs.declared.status.Status.TheVariants as status
 use Rattle.hz_top.specs.Finding.{IsFinding}
@@ -13,12 +16,19 @@ use Rattle.hz_top.specs.Finding.{IsFinding}
 abbrev pub changed_input : List Bool → List (ℕ × Bool) → List Bool
 changed_input input change = fold (λ bits assignment. slice_set bits assignment.0 assignment.1) input change
 
--- the text of one change from a start: for some finding
+-- the text is a run text without fault, and stands for what is told
+pub record ReadsBack (netlist : Netlist) (text : List ℕ) (told : RunTextOf) : Type 0 where
+  pub faultless : IsRunFaultless netlist text
+  pub value : IsRunValue netlist text told
+
+-- the text of one change from a start: for some finding, the change's lines and the run that shows what was found
 abbrev pub ChangeReads : Netlist → List Bool → ℕ → List (ℕ × Bool) → List ℕ → Type 0
 ChangeReads netlist start number change text =
-    (a : List Tri) × (rounds_a : ℕ) × (b : List Tri) × (rounds_b : ℕ)
-    × IsFinding (network_of netlist) (changed_input (take netlist.inputs start) change) start a rounds_a b rounds_b
-    × (text ≡ change_text netlist number change start rounds_a a rounds_b b)
+    (a : List Tri) × (rounds_a : ℕ) × (b : List Tri) × (rounds_b : ℕ) × (steps : List (List ℕ))
+    × IsFinding (network_of netlist) (changed_input (take netlist.inputs start) change) start a rounds_a b rounds_b steps
+    × (text ≡ joined
+    (change_text netlist number change start rounds_a a rounds_b b
+    ∷ runs_text netlist start (changed_input (take netlist.inputs start) change) steps ∷ []))
 
 -- the text of a start and of at most one change from it
 abbrev pub Reads : Netlist → List Bool → List (List (ℕ × Bool)) → List ℕ → Type 0

@@ -6,7 +6,7 @@ use Rattle.hz_gmw.specs.declared.replay_fault.StepFault.{StepFault}
 use Rattle.hz_gmw.specs.declared.replay_fault.StepFault.TheVariants.{Empty, Repeated, Stable}
 use Rattle.hz_gmw.specs.declared.replay_fault.CycleFault.{CycleFault}
 use Rattle.hz_gmw.specs.declared.replay_fault.CycleFault.TheVariants.{Differs, NotStable, Transient}
-use Rattle.hz_report.specs.Words.{variable_name}
+use Rattle.hz_text.specs.RunPrinted.{variable_word}
 use Rattle.hz_text.specs.RunValue.{RunOf, RunTextOf}
 use Rattle.hz_top.specs.declared.status.Status.{Status}
 use Rattle.hz_top.specs.declared.status.Status.TheVariants as status
@@ -30,7 +30,7 @@ cycle_words run said = codes "no: run " ∷ decimal run ∷ said ∷ []
 
 -- a line of words, the last of which is a variable's name
 unfoldable pub naming_line : Netlist → List (List ℕ) → ℕ → List ℕ
-naming_line netlist words var = line_of (words ++ variable_name netlist var ∷ [])
+naming_line netlist words var = line_of (words ++ variable_word netlist var ∷ [])
 
 -- a step that is empty
 unfoldable pub empty_line : ℕ → ℕ → List ℕ

@@ -1,68 +1,180 @@
 //! What one change may do.
-ghost use Rattle.std.specs.Prelude.{◌≡◌, length, IfOk};
-ghost use Rattle.hz_net.specs.Network.{network_of};
+ghost use Rattle.std.specs.Prelude.{◌≡◌, ◌+◌, ◌≤◌, [], length, take, IfOk};
+ghost use Rattle.hz_core.specs.Ternary.{AllBelow};
+ghost use Rattle.hz_net.specs.Network.{network_of, IsStable};
+ghost use Rattle.hz_net.specs.Passes.{algorithm_a, algorithm_b, excitations, AreRounds};
+ghost use Rattle.hz_reach.specs.Scratched.{blank};
+ghost use Rattle.hz_reach.specs.Spread.{IsSpreadRun};
 ghost use Rattle.hz_top.specs.Finding.{IsFinding};
 
-use hz_core::Tri;
+use hz_core::{Memory, Tri};
+use hz_gmw::Run;
 use hz_net::Net;
 use hz_pass::{settle, spread};
-use std::alloc::{AllocError, Global};
+use hz_reach::{Scratch, spread_run};
+use std::alloc::Global;
 
-/// What one change may do: for each variable the values that runs give it and those that may persist.
+/// What one change may do: for each variable the values that runs give it and those that may persist, and a run that
+/// shows the former.
 #[derive(Drop)]
 pub(crate) struct Finding {
     pub a: Vec<Tri>,
     pub rounds_a: u32,
     pub b: Vec<Tri>,
     pub rounds_b: u32,
+    pub run: Run,
 }
 
-// Runs both passes from a start under a new input.
+// Runs both passes from a stable start under a new input, and makes the spread run.
 pub(crate) fn find(
     alloc: Global,
     net: &Net,
     start: &[bool],
     input: &[bool],
-) -> Result<Finding, AllocError>
+) -> Result<Finding, Memory>
     requires start { length start.now ≡ length (network_of net.now) }
+    requires stable { IsStable (network_of net.now) (take net.now.inputs start.now) start.now }
     requires input { length input.now ≡ net.now.inputs }
     ensures { IfOk result (λ found. IsFinding (network_of net.now) input.now start.now
-        found.a.items found.rounds_a found.b.items found.rounds_b) }
+        found.a.items found.rounds_a found.b.items found.rounds_b found.run.steps) }
 {
-    let variables = net.len() as usize;
-    let mut a = vec![in alloc; Tri::Unknown; variables]?;
-    let mut b = vec![in alloc; Tri::Unknown; variables]?;
-    let mut work = vec![in alloc; Tri::Unknown; variables]?;
-    let mut noted = vec![in alloc; 0u32; variables]?;
-    let (rounds_a, rounds_b) = pass(net, start, input, &mut a, &mut b, &mut noted, &mut work);
+    let _variables = net.len();
+    let reached = find_reached(alloc, net, start, input)?;
+    let lasting = find_lasting(alloc, net, input, reached.a.as_slice())?;
     Ok(Finding {
-        a,
-        rounds_a,
-        b,
-        rounds_b,
+        a: reached.a,
+        rounds_a: reached.rounds,
+        b: lasting.b,
+        rounds_b: lasting.rounds,
+        run: reached.run,
     })
 }
 
-// Writes the results of both passes, and answers their rounds.
-fn pass(
+// The values that runs give, and a run that shows them.
+#[derive(Drop)]
+struct Reached {
+    a: Vec<Tri>,
+    rounds: u32,
+    run: Run,
+}
+
+// Runs Algorithm A, and makes the spread run.
+fn find_reached(alloc: Global, net: &Net, start: &[bool], input: &[bool]) -> Result<Reached, Memory>
+    requires start { length start.now ≡ length (network_of net.now) }
+    requires stable { IsStable (network_of net.now) (take net.now.inputs start.now) start.now }
+    requires input { length input.now ≡ net.now.inputs }
+    ensures rounds { IfOk result (λ found. AreRounds (algorithm_a (network_of net.now) input.now start.now) found.rounds) }
+    ensures a { IfOk result (λ found. found.a.items ≡ algorithm_a (network_of net.now) input.now start.now found.rounds) }
+    ensures bound { IfOk result (λ found. found.rounds ≤ length (network_of net.now) + 1) }
+    ensures run { IfOk result (λ found. IsSpreadRun (network_of net.now) input.now start.now found.a.items found.run.steps) }
+{
+    let variables = net.len() as usize;
+    let mut scratch = Scratch::new(alloc, net)?;
+    let mut run = Run::with_room(alloc, variables, variables)?;
+    let mut a = unknown(alloc, variables)?;
+    let mut work = unknown(alloc, variables)?;
+    let Ok(mut ranks) = vec![in alloc; 0u32; variables] else {
+        return Err(Memory);
+    };
+    let rounds = reach(
+        net,
+        start,
+        input,
+        &mut a,
+        &mut ranks,
+        &mut work,
+        &mut scratch,
+        &mut run,
+    );
+    Ok(Reached { a, rounds, run })
+}
+
+// Writes the result of Algorithm A and the spread run, and answers the rounds.
+fn reach(
     net: &Net,
     start: &[bool],
     input: &[bool],
     a: &mut [Tri],
-    b: &mut [Tri],
-    noted: &mut [u32],
+    ranks: &mut [u32],
     work: &mut [Tri],
-) -> (u32, u32)
+    scratch: &mut Scratch,
+    run: &mut Run,
+) -> u32
     requires start { length start.now ≡ length (network_of net.now) }
+    requires stable { IsStable (network_of net.now) (take net.now.inputs start.now) start.now }
     requires input { length input.now ≡ net.now.inputs }
     requires a { length a.old ≡ length (network_of net.now) }
-    requires b { length b.old ≡ length (network_of net.now) }
-    requires noted { length noted.old ≡ length (network_of net.now) }
+    requires ranks { length ranks.old ≡ length (network_of net.now) }
     requires work { length work.old ≡ length (network_of net.now) }
-    ensures { IsFinding (network_of net.now) input.now start.now a.new result.0 b.new result.1 }
+    requires scratch { scratch.old ≡ blank (length (network_of net.now)) }
+    requires empty { run.old.steps ≡ [] }
+    requires room_for_flips { length (network_of net.now) ≤ run.old.spare_flips }
+    requires room_for_steps { length (network_of net.now) ≤ run.old.spare_steps }
+    ensures rounds { AreRounds (algorithm_a (network_of net.now) input.now start.now) result }
+    ensures a { a.new ≡ algorithm_a (network_of net.now) input.now start.now result }
+    ensures bound { result ≤ length (network_of net.now) + 1 }
+    ensures run { IsSpreadRun (network_of net.now) input.now start.now a.new run.new.steps }
 {
-    let rounds_a = spread(net, input, start, a, noted, work);
+    let rounds = spread(net, input, start, a, ranks, work);
+    spread_run(net, start, input, a, ranks, false, scratch, run);
+    rounds
+}
+
+// The values that may persist.
+#[derive(Drop)]
+struct Lasting {
+    b: Vec<Tri>,
+    rounds: u32,
+}
+
+// Runs Algorithm B from the result of Algorithm A.
+fn find_lasting(alloc: Global, net: &Net, input: &[bool], a: &[Tri]) -> Result<Lasting, Memory>
+    requires input { length input.now ≡ net.now.inputs }
+    requires a { length a.now ≡ length (network_of net.now) }
+    requires below { AllBelow (excitations (network_of net.now) input.now a.now) a.now }
+    ensures rounds { IfOk result (λ found. AreRounds (algorithm_b (network_of net.now) input.now a.now) found.rounds) }
+    ensures b { IfOk result (λ found. found.b.items ≡ algorithm_b (network_of net.now) input.now a.now found.rounds) }
+    ensures bound { IfOk result (λ found. found.rounds ≤ length (network_of net.now) + 1) }
+{
+    let variables = net.len() as usize;
+    let mut b = unknown(alloc, variables)?;
+    let mut work = unknown(alloc, variables)?;
+    let Ok(mut when) = vec![in alloc; 0u32; variables] else {
+        return Err(Memory);
+    };
+    let rounds = settle_from(net, input, a, &mut b, &mut when, &mut work);
+    Ok(Lasting { b, rounds })
+}
+
+// Writes the result of Algorithm B, and answers the rounds.
+fn settle_from(
+    net: &Net,
+    input: &[bool],
+    a: &[Tri],
+    b: &mut [Tri],
+    when: &mut [u32],
+    work: &mut [Tri],
+) -> u32
+    requires input { length input.now ≡ net.now.inputs }
+    requires a { length a.now ≡ length (network_of net.now) }
+    requires below { AllBelow (excitations (network_of net.now) input.now a.now) a.now }
+    requires b { length b.old ≡ length (network_of net.now) }
+    requires when { length when.old ≡ length (network_of net.now) }
+    requires work { length work.old ≡ length (network_of net.now) }
+    ensures rounds { AreRounds (algorithm_b (network_of net.now) input.now a.now) result }
+    ensures b { b.new ≡ algorithm_b (network_of net.now) input.now a.now result }
+    ensures bound { result ≤ length (network_of net.now) + 1 }
+{
     b.copy_from_slice(a);
-    let rounds_b = settle(net, input, b, noted, work);
-    (rounds_a, rounds_b)
+    settle(net, input, b, when, work)
+}
+
+// As many values, all X.
+fn unknown(alloc: Global, variables: usize) -> Result<Vec<Tri>, Memory>
+    ensures { IfOk result (λ values. length values.items ≡ variables) }
+{
+    let Ok(values) = vec![in alloc; Tri::Unknown; variables] else {
+        return Err(Memory);
+    };
+    Ok(values)
 }

@@ -1,10 +1,10 @@
 //! The report of a script's changes from its start.
 ghost use Rattle.std.specs.Prelude.{◌≡◌, ◌<◌, ◌≤◌, [], ◌∷◌, length, take, All, IfOk, IsSome};
-ghost use Rattle.hz_net.specs.Network.{network_of};
+ghost use Rattle.hz_net.specs.Network.{network_of, IsStable};
 ghost use Rattle.hz_write.specs.Writes.{Wrote};
 ghost use Rattle.hz_outside.specs.Written.{joined};
 ghost use Rattle.hz_text.specs.ScriptText.{IsScriptFor};
-ghost use Rattle.hz_report.specs.Report.{head_text, change_text};
+ghost use Rattle.hz_report.specs.Report.{head_text, change_text, runs_text};
 ghost use Rattle.hz_top.specs.Answer.{Answers};
 ghost use Rattle.hz_top.specs.Finding.{IsFinding};
 ghost use Rattle.hz_top.specs.Reports.{changed_input, Reports};
@@ -13,7 +13,7 @@ use crate::finding::{Finding, find};
 use crate::status::{Status, status_after};
 use hz_net::Net;
 use hz_outside::{PutFault, Sink};
-use hz_report::{Found, write_change, write_head};
+use hz_report::{Found, write_change, write_head, write_runs};
 use hz_text::Script;
 use std::alloc::{AllocError, Global};
 
@@ -28,6 +28,7 @@ pub(crate) fn report<K: Sink>(
     requires script { IsScriptFor net.now script.now }
     requires few { length script.now.changes ≤ 1 }
     requires start { length start.now ≡ length (network_of net.now) }
+    requires stable { IsStable (network_of net.now) (take net.now.inputs start.now) start.now }
     ensures { Answers K.written K.faults (Reports net.now start.now script.now.changes) out.old out.new result }
 {
     if script.changes() == 0 {
@@ -46,6 +47,7 @@ fn report_change<K: Sink>(
 ) -> Status
     requires change { All (λ pair. pair.0 < net.now.inputs) change.now }
     requires start { length start.now ≡ length (network_of net.now) }
+    requires stable { IsStable (network_of net.now) (take net.now.inputs start.now) start.now }
     ensures { Answers K.written K.faults (Reports net.now start.now (change.now ∷ [])) out.old out.new result }
 {
     let inputs = net.circuit().inputs() as usize;
@@ -56,7 +58,7 @@ fn report_change<K: Sink>(
         return Status::Memory;
     };
     status_after(
-        write_report(out, net, change, start, &finding),
+        write_report(out, net, change, start, input.as_slice(), &finding),
         Status::Done,
     )
 }
@@ -93,23 +95,52 @@ fn write_report<K: Sink>(
     net: &Net,
     change: &[(u32, bool)],
     start: &[bool],
+    input: &[bool],
     finding: &Finding,
 ) -> Result<(), PutFault>
     requires change { All (λ pair. pair.0 < length net.now.names) change.now }
     requires start { length start.now ≡ length (network_of net.now) }
+    requires input { length input.now ≡ net.now.inputs }
     requires a { length finding.now.a.items ≡ length (network_of net.now) }
     requires b { length finding.now.b.items ≡ length (network_of net.now) }
+    requires steps { All (All (λ var. var < length (network_of net.now))) finding.now.run.steps }
     ensures { Wrote K.written K.faults
-        (joined (head_text net.now start.now ∷ change_text net.now 1 change.now start.now
-        finding.now.rounds_a finding.now.a.items finding.now.rounds_b finding.now.b.items ∷ []))
+        (joined (head_text net.now start.now ∷ joined (change_text net.now 1 change.now start.now
+        finding.now.rounds_a finding.now.a.items finding.now.rounds_b finding.now.b.items
+        ∷ runs_text net.now start.now input.now finding.now.run.steps ∷ []) ∷ []))
         out.old out.new result }
 {
     write_head(out, net, start)?;
+    write_finding(out, net, change, start, input, finding)
+}
+
+// Writes the lines of the first change, and the run that shows what was found.
+fn write_finding<K: Sink>(
+    out: &mut K,
+    net: &Net,
+    change: &[(u32, bool)],
+    start: &[bool],
+    input: &[bool],
+    finding: &Finding,
+) -> Result<(), PutFault>
+    requires change { All (λ pair. pair.0 < length net.now.names) change.now }
+    requires start { length start.now ≡ length (network_of net.now) }
+    requires input { length input.now ≡ net.now.inputs }
+    requires a { length finding.now.a.items ≡ length (network_of net.now) }
+    requires b { length finding.now.b.items ≡ length (network_of net.now) }
+    requires steps { All (All (λ var. var < length (network_of net.now))) finding.now.run.steps }
+    ensures { Wrote K.written K.faults
+        (joined (change_text net.now 1 change.now start.now
+        finding.now.rounds_a finding.now.a.items finding.now.rounds_b finding.now.b.items
+        ∷ runs_text net.now start.now input.now finding.now.run.steps ∷ []))
+        out.old out.new result }
+{
     let found = Found {
         a: finding.a.as_slice(),
         rounds_a: finding.rounds_a,
         b: finding.b.as_slice(),
         rounds_b: finding.rounds_b,
     };
-    write_change(out, net, 1, change, start, &found)
+    write_change(out, net, 1, change, start, &found)?;
+    write_runs(out, net, start, input, &finding.run)
 }

@@ -56,7 +56,13 @@ fn reports(rt: HostRuntime) -> Result<(), Fail> {
             start a=0\n\
             change 1 a=1\n\
             rounds A 2 B 2\n\
-            a start 0 A X B 1\n",
+            a start 0 A X B 1\n\
+            runs 1\n\
+            start a=0\n\
+            input a=1\n\
+            run\n\
+            step a\n\
+            end\n",
         ),
         (
             LATCH,
@@ -68,7 +74,18 @@ fn reports(rt: HostRuntime) -> Result<(), Fail> {
             r start 1 A X B 0\n\
             s start 1 A X B 0\n\
             q start 0 A X B X\n\
-            qb start 0 A X B X\n",
+            qb start 0 A X B X\n\
+            runs 1\n\
+            start r=1 s=1 q=0 qb=0\n\
+            input r=0 s=0\n\
+            run\n\
+            step r s\n\
+            step q(1)\n\
+            step q\n\
+            step qb(1)\n\
+            step qb\n\
+            step q(2) qb(2)\n\
+            end\n",
         ),
         (
             C17,
@@ -87,7 +104,18 @@ fn reports(rt: HostRuntime) -> Result<(), Fail> {
             16 start 1 A 1 B 1\n\
             19 start 1 A 1 B 1\n\
             22 start 0 A X B 1\n\
-            23 start 0 A 0 B 0\n",
+            23 start 0 A 0 B 0\n\
+            runs 1\n\
+            start 1=0 2=0 3=0 6=0 7=0 10=1 11=1 16=1 19=1 22=0 23=0\n\
+            input 1=1 2=0 3=1 6=0 7=0\n\
+            run\n\
+            step 1 3\n\
+            step 10(1) 10(2)\n\
+            step 10\n\
+            step 22(1)\n\
+            step 22\n\
+            step 11(1)\n\
+            end\n",
         ),
         (
             MULTIPLEXER,
@@ -102,7 +130,22 @@ fn reports(rt: HostRuntime) -> Result<(), Fail> {
             n start 0 A X B 1\n\
             a start 1 A X B 0\n\
             b start 0 A X B 1\n\
-            z start 1 A X B 1\n",
+            z start 1 A X B 1\n\
+            runs 1\n\
+            start s=1 x=1 y=1 n=0 a=1 b=0 z=1\n\
+            input s=0 x=1 y=1\n\
+            run\n\
+            step s\n\
+            step n(1)\n\
+            step n\n\
+            step a(1)\n\
+            step a\n\
+            step b(1)\n\
+            step b\n\
+            step z(1)\n\
+            step z\n\
+            step z(2)\n\
+            end\n",
         ),
         (
             LATCH,
@@ -114,7 +157,12 @@ fn reports(rt: HostRuntime) -> Result<(), Fail> {
             r start 0 A 0 B 0\n\
             s start 0 A 0 B 0\n\
             q start 1 A 1 B 1\n\
-            qb start 0 A 0 B 0\n",
+            qb start 0 A 0 B 0\n\
+            runs 1\n\
+            start r=0 s=0 q=1 qb=0\n\
+            input r=0 s=0\n\
+            run\n\
+            end\n",
         ),
         (
             LATCH,
@@ -223,9 +271,24 @@ fn failures(rt: HostRuntime) -> Result<(), Fail> {
             8,
             "netlist inputs 1 gates 0 wires 0 variables 1\nsta",
         ),
+        (
+            "analyse",
+            0,
+            7,
+            8,
+            "netlist inputs 1 gates 0 wires 0 variables 1\nstart a=0\n\
+            change 1 a=1\nrounds A 2 B 2\na start 0 A X B 1\nruns 1\nsta",
+        ),
     ];
     for (job, load, put, code, text) in rows {
-        let (status, out) = told(rt.alloc(), job, "INPUT(a)\n", "start a=0\n", load, put)?;
+        let (status, out) = told(
+            rt.alloc(),
+            job,
+            "INPUT(a)\n",
+            "start a=0\nchange a=1\n",
+            load,
+            put,
+        )?;
         assert_eq!(rt; status.code(), code);
         assert_eq!(rt; out.bytes(), text.as_bytes());
     }

@@ -1,7 +1,7 @@
 //! The one line that `replay` writes.
 ghost use Rattle.std.specs.Prelude.{◌≡◌, ◌+◌, ◌<◌, ◌≤◌, ◌++◌, length, map, slice_index_or};
 ghost use Rattle.hz_write.specs.Writes.{Wrote, Added};
-ghost use Rattle.hz_report.specs.Words.{variable_name};
+ghost use Rattle.hz_text.specs.RunPrinted.{variable_word};
 ghost use Rattle.hz_top.specs.Replaying.{step_count, cycle_count, steps_of, no_run};
 ghost use Rattle.hz_top.specs.Verdict.{yes_line, naming_line, step_line, cycle_line, no_line, accepted_line};
 
@@ -174,7 +174,7 @@ fn add_name<K: Sink>(
     net: &Net,
     var: u32,
 ) -> Result<(), PutFault>
-    ensures { Added K.written K.faults (line.old ++ variable_name net.now var) out.old out.new line.new result }
+    ensures { Added K.written K.faults (line.old ++ variable_word net.now var) out.old out.new line.new result }
 {
     if var < net.len() {
         add_variable(line, out, net, var)

@@ -1,7 +1,7 @@
 -- A node's name is its own; a wire's is made of its gate and its pin.
 use Rattle.std.proofs.Common.{arith}
 use Rattle.hz_net.specs.declared.variable.VarKind.TheVariants.{Input as InputKind, Gate as GateKind}
-use Rattle.hz_report.proofs.Names.{node_is_below, wire_goes_into, variable_name-node, variable_name-wire}
+use Rattle.hz_report.proofs.Names.{node_is_below, wire_goes_into, variable_word-node, variable_word-wire}
 use Rattle.hz_report.proofs.words.add_variable.Goals as goal
 
 pub name-requires : goal.name-requires
@@ -26,16 +26,16 @@ name-requires-in-Wire g c =
 pub returns-in-Input-clause-added : goal.returns-in-Input-clause-added
 returns-in-Input-clause-added g c =
     let named = rw c.circuit-circuit.ensures.same at c.name.ensures.name in
-    rw (variable_name-node c.args.net.now c.args.var c.name.result.now named) c.add.ensures.added
+    rw (variable_word-node c.args.net.now c.args.var c.name.result.now named) c.add.ensures.added
 
 pub returns-in-Gate-clause-added : goal.returns-in-Gate-clause-added
 returns-in-Gate-clause-added g c =
     let named = rw c.circuit-circuit.ensures.same at c.name-in-Gate.ensures.name in
-    rw (variable_name-node c.args.net.now c.args.var c.name-in-Gate.result.now named) c.add-in-Gate.ensures.added
+    rw (variable_word-node c.args.net.now c.args.var c.name-in-Gate.result.now named) c.add-in-Gate.ensures.added
 
 pub returns-in-Wire-clause-added : goal.returns-in-Wire-clause-added
 returns-in-Wire-clause-added g c =
     let named = rw c.circuit-circuit.ensures.same at c.name-in-Wire.ensures.name in
     let added = rw (c.as_bytes-number.ensures.value, c.format.ensures.text) at c.add_all.ensures.added in
-    rw (variable_name-wire c.args.net.now c.args.var c.in-Wire.gate c.in-Wire.pin c.in-Wire.source c.name-in-Wire.result.now c.circuit-circuit.ensures.circuit c.in-Wire.ensures named)
+    rw (variable_word-wire c.args.net.now c.args.var c.in-Wire.gate c.in-Wire.pin c.in-Wire.source c.name-in-Wire.result.now c.circuit-circuit.ensures.circuit c.in-Wire.ensures named)
     added

@@ -1,6 +1,6 @@
 use Rattle.std.proofs.Common.{◌≡◌, length, sym, ◌∙◌, ap}
 use Rattle.hz_core.specs.Netlist.{Netlist}
-use Rattle.hz_top.proofs.Findings.{long-a, long-b, front-long}
+use Rattle.hz_top.proofs.Findings.{long-a, long-b, front-long, run-inside}
 use Rattle.hz_top.proofs.reporting.report_change.Goals as goal
 
 pub slice_bounds-input_after-end : goal.slice_bounds-input_after-end
@@ -19,8 +19,17 @@ find-requires-clause-input g c =
     ap length c.as_slice.ensures.value ∙ c.in-Ok.ensures.long
     ∙ front-long c.args.net.now c.args.start.now c.inputs-inputs.result c.circuit.ensures.circuit c.requires.start inputs
 
+pub write_report-requires-clause-input : goal.write_report-requires-clause-input
+write_report-requires-clause-input g c =
+    let inputs : c.inputs-inputs.result ≡ c.args.net.now.inputs = c.inputs-inputs.ensures.inputs ∙ ap (λ (n : Netlist). n.inputs) c.circuit.ensures.same in
+    ap length c.as_slice-2.ensures.value ∙ c.in-Ok.ensures.long
+    ∙ front-long c.args.net.now c.args.start.now c.inputs-inputs.result c.circuit.ensures.circuit c.requires.start inputs
+
 pub write_report-requires-clause-a : goal.write_report-requires-clause-a
-write_report-requires-clause-a g c = long-a _ _ _ _ _ _ _ c.requires.start c.in-Ok-find.ensures
+write_report-requires-clause-a g c = long-a _ _ _ _ _ _ _ _ c.requires.start c.in-Ok-find.ensures
 
 pub write_report-requires-clause-b : goal.write_report-requires-clause-b
-write_report-requires-clause-b g c = long-b _ _ _ _ _ _ _ c.requires.start c.in-Ok-find.ensures
+write_report-requires-clause-b g c = long-b _ _ _ _ _ _ _ _ c.requires.start c.in-Ok-find.ensures
+
+pub write_report-requires-clause-steps : goal.write_report-requires-clause-steps
+write_report-requires-clause-steps g c = run-inside _ _ _ _ c.in-Ok-find.ensures.spread.run

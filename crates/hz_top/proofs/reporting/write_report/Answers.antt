@@ -7,5 +7,5 @@ returns-in_err-write_head g c = Wrote-exit c.from_residual.result c.from_residua
 
 pub returns : goal.returns
 returns g c =
-    let r = c.write_change.result in
-    Wrote-then _ _ _ _ _ _ _ r c.in_ok-write_head.ensures (Wrote-last _ _ _ _ _ r (rw c.as_slice.ensures.value at (rw c.as_slice-2.ensures.value at c.write_change.ensures)))
+    let r = c.write_finding.result in
+    Wrote-then _ _ _ _ _ _ _ r c.in_ok-write_head.ensures (Wrote-last _ _ _ _ _ r c.write_finding.ensures)
