@@ -8,7 +8,7 @@ use Rattle.hz_write.proofs.Writing.{joined-push}
 use Rattle.hz_core.specs.Netlist.{Netlist, IsCircuit}
 use Rattle.hz_net.specs.Network.{network_of, wires_of}
 use Rattle.hz_net.proofs.Places.{length-network_of, length-wires_of}
-use Rattle.hz_report.specs.Words.{wire_name, variable_names, variable_word}
+use Rattle.hz_text.specs.RunPrinted.{wire_word, variable_words, variable_word}
 use Rattle.hz_text.specs.RunValue.{RunOf, cycle_steps}
 use Rattle.hz_top.specs.Replaying.{no_run, steps_of, step_count}
 use Rattle.hz_top.specs.Verdict.{naming_line}
@@ -17,8 +17,8 @@ use Rattle.hz_top.specs.Verdict.{naming_line}
 pub nameless : (netlist : Netlist) (var : ℕ) → IsCircuit netlist → length (network_of netlist) ≤ var → variable_word netlist var ≡ []
 unfolding variable_word
 nameless netlist var circuit past =
-    get_or_past (variable_names netlist) var []
-    (omega (arith, past, length-append netlist.names (map (wire_name netlist) (wires_of netlist)), length-map (wires_of netlist) (wire_name netlist), length-wires_of netlist, length-network_of netlist circuit))
+    get_or_past (variable_words netlist) var []
+    (omega (arith, past, length-append netlist.names (map (wire_word netlist) (wires_of netlist)), length-map (wires_of netlist) (wire_word netlist), length-wires_of netlist, length-network_of netlist circuit))
 
 -- the words, the name, the end of the line
 pub naming_line-is : (netlist : Netlist) (words : List (List ℕ)) (var : ℕ) → naming_line netlist words var ≡ (joined words ++ variable_word netlist var) ++ newline
