@@ -12,3 +12,8 @@ pub mod LeastFault
 pub mod RunFaultLaws
 pub mod RunBuildLaws
 pub mod RunUsableLaws
+pub mod VariableWords
+pub mod RunPrintLemmas
+pub mod DecimalLemmas
+pub mod RunPrintedLines
+pub mod RunPrintedLaws

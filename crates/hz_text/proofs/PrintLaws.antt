@@ -41,7 +41,7 @@ bytes_eq-flip a b h = by_test (bytes_eq b a) refl
     by_test true e = let wrong : true ≡ false = sym ((bytes_eq-Decides a b).1 (sym ((bytes_eq-Decides b a).0 e))) ∙ h in cc
 
 -- a node is found by its name
-node_at : (netlist : Netlist) (node : ℕ) → IsCircuit netlist → node < length netlist.names → node_named netlist (slice_index_or netlist.names node []) ≡ Some node
+pub node_at : (netlist : Netlist) (node : ℕ) → IsCircuit netlist → node < length netlist.names → node_named netlist (slice_index_or netlist.names node []) ≡ Some node
 node_at netlist node whole l =
     let name = slice_index_or netlist.names node [] in
     let at = position_or_len_is (bytes_eq name) netlist.names node [] (omega arith) (λ k h. bytes_eq-flip (get_or netlist.names k []) name (apart_from_distinct bytes_eq netlist.names k node [] whole.names_distinct h l)) (λ h. (bytes_eq-Decides name name).1 refl) in
@@ -52,7 +52,7 @@ bit_back : (bit : Bool) → bit_of (letter_of bit ∷ []) ≡ Some bit
 bit_back true = refl
 bit_back false = refl
 
-assigned_back : (netlist : Netlist) (pairs : List (ℕ × Bool)) → IsCircuit netlist → AreNodes netlist pairs → map (assigned_of netlist) (map (spelled netlist) pairs) ≡ map assignment_to pairs
+pub assigned_back : (netlist : Netlist) (pairs : List (ℕ × Bool)) → IsCircuit netlist → AreNodes netlist pairs → map (assigned_of netlist) (map (spelled netlist) pairs) ≡ map assignment_to pairs
 assigned_back netlist [] whole h = refl
 assigned_back netlist (pair ∷ pairs) whole h =
     let P : ℕ × Bool → Type 0 = λ pair. pair.0 < length netlist.names in
@@ -121,15 +121,15 @@ changes-none inputs test fails (change ∷ changes) line h =
     ∙ ap (λ b. cond b (Some line) (first_line test (changes_sent (suc line) changes))) (fails change (All-head P change changes h))
     ∙ changes-none inputs test fails changes (suc line) (All-tail P change changes h)
 
-start-known : (inputs : ℕ) (pairs : List (ℕ × Bool)) → has_unknown inputs (sent Start pairs) ≡ false
+pub start-known : (inputs : ℕ) (pairs : List (ℕ × Bool)) → has_unknown inputs (sent Start pairs) ≡ false
 start-known inputs [] = refl
 start-known inputs (pair ∷ pairs) = start-known inputs pairs
 
-all-bits : (keyword : Keyword) (pairs : List (ℕ × Bool)) → has_no_bit (sent keyword pairs) ≡ false
+pub all-bits : (keyword : Keyword) (pairs : List (ℕ × Bool)) → has_no_bit (sent keyword pairs) ≡ false
 all-bits keyword [] = refl
 all-bits keyword (pair ∷ pairs) = all-bits keyword pairs
 
-inputs-known : (inputs : ℕ) (pairs : List (ℕ × Bool)) → All (λ pair. pair.0 < inputs) pairs → has_unknown inputs (sent Change pairs) ≡ false
+pub inputs-known : (inputs : ℕ) (pairs : List (ℕ × Bool)) → All (λ pair. pair.0 < inputs) pairs → has_unknown inputs (sent Change pairs) ≡ false
 inputs-known inputs [] h = refl
 inputs-known inputs (pair ∷ pairs) h =
     let P : ℕ × Bool → Type 0 = λ pair. pair.0 < inputs in
@@ -145,7 +145,7 @@ listed-above node from [] h = refl
 listed-above node from (None ∷ later) h = listed-above node (suc from) later (omega arith)
 listed-above node from (Some bit ∷ later) h = let other : nat_eq node from ≡ false = grind (arith, nat_tests, h) in rw other (listed-above node (suc from) later (omega arith))
 
-listed-fresh : (from : ℕ) (start : List (Option Bool)) → has_repeat nat_eq (map (λ pair. pair.0) (listed_from from start)) ≡ false
+pub listed-fresh : (from : ℕ) (start : List (Option Bool)) → has_repeat nat_eq (map (λ pair. pair.0) (listed_from from start)) ≡ false
 listed-fresh from [] = refl
 listed-fresh from (None ∷ later) = listed-fresh (suc from) later
 listed-fresh from (Some bit ∷ later) = rw (listed-above from (suc from) later (omega arith)) (listed-fresh (suc from) later)
@@ -176,16 +176,21 @@ position-nowhere test xs d h =
     let past : ltb (length xs) (length xs) ≡ false = grind (arith, nat_tests) in
     rw (at, past) refl
 
-start-whole : (netlist : Netlist) (script : ScriptOf) → IsCircuit netlist → IsScriptFor netlist script → least_unassigned netlist.inputs (map assignment_to (listed_from 0 script.start)) ≡ None
-start-whole netlist script whole h =
-    let all = map assignment_to (listed_from 0 script.start) in
-    let inputs = netlist.inputs in
+-- a start that lists each of the first nodes leaves none of them out
+pub listed-whole : (start : List (Option Bool)) (inputs : ℕ) → ((k : ℕ) → k < inputs → IsSome (get_or start k None)) → least_unassigned inputs (map assignment_to (listed_from 0 start)) ≡ None
+listed-whole start inputs listed =
+    let all = map assignment_to (listed_from 0 start) in
     position-nowhere not (marks_of all inputs) false (λ k l.
     let low : k < inputs = omega (arith, l, length-marks all inputs) in
-    let long : inputs ≤ length script.start = omega (arith, h.nodes, whole.nodes) in
-    let listed : IsSome (get_or script.start k None) = rw (get_or-take inputs script.start k None low) at (h.inputs k None (omega (arith, low, length-take-le inputs script.start long))) in
-    let found = assigns-bit all k (rw (bit_at-listed 0 k k script.start (sym (zero-add k))) listed) in
+    let found = assigns-bit all k (rw (bit_at-listed 0 k k start (sym (zero-add k))) (listed k low)) in
     rw (get_or-marks all inputs k false low, found) refl)
+
+start-whole : (netlist : Netlist) (script : ScriptOf) → IsCircuit netlist → IsScriptFor netlist script → least_unassigned netlist.inputs (map assignment_to (listed_from 0 script.start)) ≡ None
+start-whole netlist script whole h =
+    let inputs = netlist.inputs in
+    listed-whole script.start inputs (λ k low.
+    let long : inputs ≤ length script.start = omega (arith, h.nodes, whole.nodes) in
+    rw (get_or-take inputs script.start k None low) at (h.inputs k None (omega (arith, low, length-take-le inputs script.start long))))
 
 length-sent : (changes : List (List (ℕ × Bool))) (line : ℕ) → length (changes_sent line changes) ≡ length changes
 length-sent [] line = refl
@@ -215,19 +220,19 @@ printed-faultless netlist script whole h =
     let P : Option TextFault → Type 0 = Outcome netlist text in
     subst P none (first_fault-outcome netlist text (meaning_at-none statement_of text (script_formed netlist script whole h)))
 
-start_back : (netlist : Netlist) (script : ScriptOf) → IsScriptFor netlist script → script.start ≡ map (bit_at (map assignment_to (listed_from 0 script.start))) (range_with_len 0 (length netlist.names))
-start_back netlist script h =
-    let all = map assignment_to (listed_from 0 script.start) in
-    let nodes = length netlist.names in
-    same_lists _ _ (h.nodes ∙ sym (length-map (range_with_len 0 nodes) (bit_at all) ∙ length-range_with_len 0 nodes))
+-- what a start lists is read back
+pub listed-back : (start : List (Option Bool)) (nodes : ℕ) → length start ≡ nodes → start ≡ map (bit_at (map assignment_to (listed_from 0 start))) (range_with_len 0 nodes)
+listed-back start nodes long =
+    let all = map assignment_to (listed_from 0 start) in
+    same_lists _ _ (long ∙ sym (length-map (range_with_len 0 nodes) (bit_at all) ∙ length-range_with_len 0 nodes))
     (λ k d l.
-    let low : k < nodes = omega (arith, l, h.nodes) in
-    get_or_default script.start k d None l
-    ∙ sym (bit_at-listed 0 k k script.start (sym (zero-add k)))
+    let low : k < nodes = omega (arith, l, long) in
+    get_or_default start k d None l
+    ∙ sym (bit_at-listed 0 k k start (sym (zero-add k)))
     ∙ sym (get_or-map-range_with_len (bit_at all) 0 nodes k k d low (zero-add k)))
 
 -- what was printed stands for the script
 pub printed-value : (netlist : Netlist) (script : ScriptOf) → IsCircuit netlist → IsScriptFor netlist script → IsValue netlist (script_text netlist script) script
 printed-value netlist script whole h =
     let P : List (Numbered Looked) → Type 0 = λ statements. IsScriptOf (length netlist.names) statements script in
-    subst P (sym (script_read netlist script whole h)) (record { start = start_back netlist script h; changes = changes_back script.changes 2 })
+    subst P (sym (script_read netlist script whole h)) (record { start = listed-back script.start (length netlist.names) h.nodes; changes = changes_back script.changes 2 })

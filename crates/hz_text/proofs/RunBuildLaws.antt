@@ -1,10 +1,10 @@
 -- Runs that are built statement by statement, and the front of a run text in order.
-use Rattle.std.proofs.Common.{◌≡◌, ◌∙◌, ℕ, ◌+◌, ◌-◌, ◌<◌, ◌≤◌, Bool, true, false, ◌||◌, cond, nat_eq, nat_le, List, [], ◌∷◌, ◌++◌, Option, Some, None, zero, suc, length, get_or, set, take, drop, map, refl, ap, sym, subst, inl, inr, arith, append_assoc, zero-add}
+use Rattle.std.proofs.Common.{◌≡◌, ◌∙◌, ℕ, ◌+◌, ◌<◌, ◌≤◌, Bool, true, false, ◌||◌, cond, nat_le, List, [], ◌∷◌, ◌++◌, Option, Some, None, zero, suc, length, get_or, set, drop, map, refl, ap, sym, subst, arith, append_assoc, zero-add}
 use Rattle.std.specs.List.{list_any, flat_map, filter_map, range_with_len, All}
 use Rattle.std.specs.Option.{IsSome, IfSome, is_none, option_map_or}
 use Rattle.std.proofs.lemmas.Bool.Decides.{nat_tests}
-use Rattle.std.proofs.lemmas.List.{append-nil, map_push, length-map, length-drop, take_all, drop_more, get_or-map, map-append, get_or_default}
-use Rattle.std.proofs.lemmas.List.Elements.{All-nil, All-cons, All-head, All-tail, All-drop}
+use Rattle.std.proofs.lemmas.List.{append-nil, map_push, length-map, drop_more, get_or_default}
+use Rattle.std.proofs.lemmas.List.Elements.{All-nil, All-cons}
 use Rattle.std.proofs.lemmas.List.FromFn.{length-range_with_len, get_or-map-range_with_len}
 use Rattle.std.proofs.lemmas.Grind.{flat_map-append}
 use Rattle.hz_core.specs.Netlist.{Netlist}
@@ -14,8 +14,8 @@ use Rattle.hz_text.specs.declared.keyword.Keyword.TheVariants as keyword
 use Rattle.hz_text.specs.declared.run_entry.RunEntry.{RunEntry}
 use Rattle.hz_text.specs.declared.run_order.Place.{Place}
 use Rattle.hz_text.specs.declared.run_order.Place.TheVariants as place
-use Rattle.hz_text.specs.ScriptFault.{is_unknown, assigns}
-use Rattle.hz_text.specs.Pass.{IsPair, AreBelow, nodes_of, least_unassigned, pair_of}
+use Rattle.hz_text.specs.ScriptFault.{is_unknown}
+use Rattle.hz_text.specs.Pass.{AreBelow, least_unassigned, pair_of}
 use Rattle.hz_text.specs.ScriptText.{bit_at, bits_at, assignment_to}
 use Rattle.hz_text.specs.RunStatement.{Header, Start, Input, Run, Step, Cycle, End}
 use Rattle.hz_text.specs.RunLookup.{LookedRun, run_entered, run_entered_all, run_held_by}
@@ -24,7 +24,7 @@ use Rattle.hz_text.specs.RunFault.{assignments_in, variables_in, names_unknown, 
 use Rattle.hz_text.specs.RunPass.{AssignsBelow, names_node_twice, least_left_out}
 use Rattle.hz_text.specs.RunText.{step_of, run_statements, unnumbered}
 use Rattle.hz_text.specs.RunBuilt.{IsWholeStart, place_in, last_place, IsRunAdded}
-use Rattle.hz_text.proofs.FaultLaws.{unassigned-None, true-false}
+use Rattle.hz_text.proofs.FaultLaws.{unassigned-None}
 use Rattle.hz_text.proofs.BuildLemmas.{pairs_back}
 use Rattle.hz_text.specs.declared.fault.TextFault.TheVariants as fault
 use Rattle.hz_text.specs.RunFault.{beyond_from}
@@ -348,14 +348,14 @@ abbrev pub assigned_at : RunEntry → List Assigned
 assigned_at entry = assignments_in (run_held_by entry.held)
 
 ready_at : (netlist : Netlist) (entries : List RunEntry) → All (AssignsBelow (length netlist.names)) entries → IsClearRun netlist (run_entered_all entries) → (start input d : RunEntry) → start ≡ get_or entries 1 d → input ≡ get_or entries 2 d → IsReady netlist entries (assigned_at start) (assigned_at input)
-ready_at netlist [] below clear start input d s i = let wrong : Some 0 ≡ None = clear.order in cc
+ready_at netlist [] below clear start input d s i = let wrong : ◌≡◌ {A = Option ℕ} (Some 0) None = clear.order in cc
 ready_at netlist (header ∷ []) below clear start input d s i =
     let a = first_passes is_header start_out_of_order (run_entered header) [] clear.order in
-    let wrong : Some 0 ≡ None = a.1 in cc
+    let wrong : ◌≡◌ {A = Option ℕ} (Some 0) None = a.1 in cc
 ready_at netlist (header ∷ one ∷ []) below clear start input d s i =
     let a = first_passes is_header start_out_of_order (run_entered header) (run_entered one ∷ []) clear.order in
     let b = first_passes is_start_line input_out_of_order (run_entered one) [] a.1 in
-    let wrong : Some 0 ≡ None = b.1 in cc
+    let wrong : ◌≡◌ {A = Option ℕ} (Some 0) None = b.1 in cc
 ready_at netlist (header ∷ one ∷ two ∷ later) below clear start input d s i =
     let entries = header ∷ one ∷ two ∷ later in
     let inputs = netlist.inputs in
@@ -388,14 +388,14 @@ get_or-any : (entries : List RunEntry) (i : ℕ) (d e : RunEntry) → i < length
 get_or-any entries i d e l = get_or_default entries i d e l
 
 pub long_enough : (entries : List RunEntry) → run_out_of_order (run_entered_all entries) ≡ None → 3 ≤ length entries
-long_enough [] e = let wrong : Some 0 ≡ None = e in cc
+long_enough [] e = let wrong : ◌≡◌ {A = Option ℕ} (Some 0) None = e in cc
 long_enough (header ∷ []) e =
     let a = first_passes is_header start_out_of_order (run_entered header) [] e in
-    let wrong : Some 0 ≡ None = a.1 in cc
+    let wrong : ◌≡◌ {A = Option ℕ} (Some 0) None = a.1 in cc
 long_enough (header ∷ one ∷ []) e =
     let a = first_passes is_header start_out_of_order (run_entered header) (run_entered one ∷ []) e in
     let b = first_passes is_start_line input_out_of_order (run_entered one) [] a.1 in
-    let wrong : Some 0 ≡ None = b.1 in cc
+    let wrong : ◌≡◌ {A = Option ℕ} (Some 0) None = b.1 in cc
 long_enough (header ∷ one ∷ two ∷ later) e = omega arith
 
 -- the second and the third entry of a text without a fault

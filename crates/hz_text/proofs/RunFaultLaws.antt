@@ -1,10 +1,7 @@
 -- The first answer of the passes over a run text is its least fault.
-use Rattle.std.proofs.Common.{◌≡◌, ◌∙◌, ℕ, ◌+◌, ◌<◌, ◌≤◌, Bool, true, false, ◌||◌, cond, nat_eq, List, [], ◌∷◌, Option, Some, None, length, map, refl, ap, sym, subst, inl, inr, arith}
-use Rattle.std.specs.List.{list_any}
+use Rattle.std.proofs.Common.{◌≡◌, ◌∙◌, ℕ, Bool, true, false, cond, List, [], ◌∷◌, Option, Some, None, length, map, refl, ap, sym, subst, inl, inr, arith}
 use Rattle.std.specs.Prelude.{◌⊎◌}
 use Rattle.std.specs.Option.{option_map}
-use Rattle.std.specs.Str.{bytes_eq}
-use Rattle.std.proofs.lemmas.Option.{same_Some, none-some}
 use Rattle.hz_core.specs.Netlist.{Netlist}
 use Rattle.hz_line.specs.Line.{lines_of}
 use Rattle.hz_line.specs.Statement.{Numbered, PassesOn, first_line, numbered_statements, first_malformed}
@@ -14,18 +11,15 @@ use Rattle.hz_text.specs.declared.keyword.Keyword.TheVariants as keyword
 use Rattle.hz_text.specs.declared.fault.TextFault.{TextFault}
 use Rattle.hz_text.specs.declared.fault.TextFault.TheVariants.{Form, Unknown, Twice, Missing, Bit, Order, TooMany, Memory}
 use Rattle.hz_text.specs.declared.run_entry.RunEntry.{RunEntry}
-use Rattle.hz_text.specs.Assignment.{Assignment, has_repeat}
-use Rattle.hz_text.specs.Lookup.{assigned_of}
-use Rattle.hz_text.specs.ScriptFault.{assigns, number_of, ComesFirst}
-use Rattle.hz_text.specs.Pass.{nodes_of, least_unassigned, first_of, AreBelow, IsAnswer}
-use Rattle.hz_text.specs.RunStatement.{StatementOf, Header, Start, Input, Run, Step, Cycle, End, RunStatement, run_statement_of, run_statements_of}
-use Rattle.hz_text.specs.RunLookup.{LookedRun, run_looked_of, run_looked_up, run_looked_by, run_entered, run_entered_all, run_held_by}
+use Rattle.hz_text.specs.Pass.{least_unassigned, AreBelow, IsAnswer}
+use Rattle.hz_text.specs.RunStatement.{Header, Start, Input, Run, Step, Cycle, End, RunStatement, run_statement_of, run_statements_of}
+use Rattle.hz_text.specs.RunLookup.{LookedRun, run_looked_of, run_looked_up, run_looked_by, run_entered, run_entered_all}
 use Rattle.hz_text.specs.RunReading.{IsReadRun, IsUnreadRun}
-use Rattle.hz_text.specs.RunFault.{looked_run_statements, assignments_in, names_unknown, names_twice, lacks_bit, first_start, first_input, LeavesOut, IsLeftOut, run_out_of_order, beyond_from, StandsInRuns, IsLeastRunFault, IsRunFaultless, IsRunRefusal}
-use Rattle.hz_text.specs.RunPass.{names_node_twice, AssignsBelow, least_left_out, lesser, least_missing_node, first_run_fault}
+use Rattle.hz_text.specs.RunFault.{looked_run_statements, assignments_in, names_unknown, names_twice, lacks_bit, first_start, first_input, LeavesOut, run_out_of_order, beyond_from, StandsInRuns, IsLeastRunFault, IsRunFaultless, IsRunRefusal}
+use Rattle.hz_text.specs.RunPass.{names_node_twice, AssignsBelow, least_left_out, least_missing_node, first_run_fault}
 use Rattle.hz_text.proofs.FaultLaws.{first_line-cons, unassigned-Some, unassigned-None, twice-names, true-false}
 use Rattle.hz_text.proofs.ReadLaws.{looked-below, All-unmap}
-use Rattle.std.proofs.lemmas.List.Elements.{All-nil, All-cons, All-map}
+use Rattle.std.proofs.lemmas.List.Elements.{All-nil, All-map}
 use Rattle.std.specs.List.{All}
 use Rattle.hz_text.proofs.LeastFault.{Answers, NoneBelow, IsLeast, Outcome, outcome-step, first_of-None, answers_itself, answers_either, least-unique}
 
@@ -131,14 +125,22 @@ passes-outcome netlist text below =
 pub read_runs-looked : (netlist : Netlist) (text : List ℕ) (entries : List RunEntry) → IsReadRun netlist text entries → run_entered_all entries ≡ looked_run_statements netlist text
 read_runs-looked netlist text entries h = sym h.statements ∙ looked_runs-read netlist text
 
+-- where no line is malformed
+formed-outcome : (netlist : Netlist) (text : List ℕ) → first_malformed (run_looked_by netlist) 1 (lines_of text) ≡ None → Outcome (StandsInRuns netlist text) (first_run_fault netlist (looked_run_statements netlist text))
+formed-outcome netlist text formed =
+    outcome-step (StandsInRuns netlist text) Form 1 None _ (λ place. (refl, refl, refl)) (none_below-one netlist text) (answers_malformed netlist text None formed) (λ e below. passes-outcome netlist text below)
+
+-- and no pass has an answer
+pub clear-faultless : (netlist : Netlist) (text : List ℕ) → first_malformed (run_looked_by netlist) 1 (lines_of text) ≡ None → first_run_fault netlist (looked_run_statements netlist text) ≡ None → IsRunFaultless netlist text
+clear-faultless netlist text formed clear =
+    let P : Option TextFault → Type 0 = Outcome (StandsInRuns netlist text) in
+    subst P clear (formed-outcome netlist text formed)
+
 -- after the reader: no line is malformed
 pub read_runs-outcome : (netlist : Netlist) (text : List ℕ) (entries : List RunEntry) → IsReadRun netlist text entries → Outcome (StandsInRuns netlist text) (first_run_fault netlist (run_entered_all entries))
 read_runs-outcome netlist text entries h =
-    let stands = StandsInRuns netlist text in
-    let P : List (Numbered LookedRun) → Type 0 = λ statements. Outcome stands (first_run_fault netlist statements) in
-    let none = answers_malformed netlist text None h.formed in
-    let whole = outcome-step stands Form 1 None _ (λ place. (refl, refl, refl)) (none_below-one netlist text) none (λ e below. passes-outcome netlist text below) in
-    subst P (sym (read_runs-looked netlist text entries h)) whole
+    let P : List (Numbered LookedRun) → Type 0 = λ statements. Outcome (StandsInRuns netlist text) (first_run_fault netlist statements) in
+    subst P (sym (read_runs-looked netlist text entries h)) (formed-outcome netlist text h.formed)
 
 least_run : (netlist : Netlist) (text : List ℕ) (fault : TextFault) → IsLeast (StandsInRuns netlist text) fault → IsLeastRunFault netlist text fault
 least_run netlist text fault h = record { stands = h.stands_here; first = h.first }

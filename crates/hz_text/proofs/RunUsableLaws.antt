@@ -19,7 +19,7 @@ use Rattle.hz_text.specs.ScriptText.{bit_at}
 use Rattle.hz_text.specs.RunStatement.{Variable, Node, Pin, Header, Start, Input, Run, Step, Cycle, End, RunStatement, run_statements_of, number_by}
 use Rattle.hz_text.specs.RunLookup.{LookedRun, wire_into, variable_named, run_looked_of, run_looked_up, run_entered_all}
 use Rattle.hz_text.specs.RunValue.{RunOf, RunTextOf, cycle_steps, all_steps}
-use Rattle.hz_text.specs.RunFault.{looked_run_statements, variables_in, steps_in, beyond_from}
+use Rattle.hz_text.specs.RunFault.{variables_in, steps_in, beyond_from}
 use Rattle.hz_text.specs.RunPass.{IsAcceptedRun}
 use Rattle.hz_text.specs.RunText.{step_of, cycle_statements, run_statements, unnumbered, IsRunTextBy, IsRunTextFor}
 use Rattle.hz_text.proofs.VariableLemmas.{node_named-below}
@@ -113,11 +113,11 @@ runs-below bound (run ∷ later) h =
     (runs-below bound later parts.1)
 
 -- how many variables a statement names
-abbrev names_in : LookedRun → ℕ
+abbrev pub names_in : LookedRun → ℕ
 names_in statement = length (variables_in statement)
 
 -- how many steps a statement is
-abbrev steps_of : LookedRun → ℕ
+abbrev pub steps_of : LookedRun → ℕ
 steps_of statement = steps_in statement
 
 -- so many steps and variables, and those of the statements after them, are within the limits
@@ -165,7 +165,7 @@ counted_cycle (Some steps) =
       omega (arith, sum_by-cons names_in Cycle (map step_of steps), rest.1),
     )
 
-counted_runs : (runs : List RunOf) → (sum_by steps_of (flat_map run_statements runs) ≡ length (all_steps runs)) × (sum_by names_in (flat_map run_statements runs) ≡ flip_count (all_steps runs))
+pub counted_runs : (runs : List RunOf) → (sum_by steps_of (flat_map run_statements runs) ≡ length (all_steps runs)) × (sum_by names_in (flat_map run_statements runs) ≡ flip_count (all_steps runs))
 counted_runs [] = (refl, refl)
 counted_runs (run ∷ later) =
     let rest = counted_runs later in

@@ -3,7 +3,6 @@ use Rattle.std.proofs.Common.{◌≡◌, ◌∙◌, ℕ, ◌+◌, ◌*◌, ◌-�
 use Rattle.std.specs.Option.{IfSome, option_map}
 use Rattle.std.specs.Str.{bytes_eq}
 use Rattle.std.proofs.lemmas.Bool.Decides.{nat_tests}
-use Rattle.std.proofs.lemmas.List.{take_more}
 use Rattle.std.proofs.lemmas.List.Quantifiers.{position-Some}
 use Rattle.hz_core.specs.declared.kind.Kind.{Kind}
 use Rattle.hz_core.specs.declared.kind.Kind.TheVariants.{And, Nand, Or, Nor, Xor, Xnor, Not, Buff}
@@ -41,7 +40,7 @@ pub node_named-below : (netlist : Netlist) (name : List ℕ) (answer : Option �
 node_named-below netlist name None e = tt
 node_named-below netlist name (Some node) e = (position-Some (bytes_eq name) netlist.names node [] e).0
 
-few_pins : (kind : Kind) → most_pins kind ≤ 256
+pub few_pins : (kind : Kind) → most_pins kind ≤ 256
 few_pins And = omega arith
 few_pins Nand = omega arith
 few_pins Or = omega arith

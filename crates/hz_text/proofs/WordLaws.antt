@@ -26,7 +26,7 @@ far : (byte at : ℕ) → nat_le 33 byte ≡ true → nat_le at 32 ≡ true → 
 far byte at h l = grind (arith, nat_tests, h, l)
 
 -- a byte of a name is a letter, and ends no line
-name_byte : (byte : ℕ) → is_name_byte byte ≡ true → (is_letter byte ≡ true) × (is_inline byte ≡ true)
+pub name_byte : (byte : ℕ) → is_name_byte byte ≡ true → (is_letter byte ≡ true) × (is_inline byte ≡ true)
 unfolding class_of
 name_byte byte h =
     let parts = both (nat_le 33 byte && nat_le byte 126) _ h in
@@ -47,7 +47,7 @@ name_byte byte h =
     split_last false true h = cc
     split_last false false h = (refl, refl)
 
-name_bytes : (name : List ℕ) → list_all is_name_byte name ≡ true → (list_all is_letter name ≡ true) × (list_all is_inline name ≡ true)
+pub name_bytes : (name : List ℕ) → list_all is_name_byte name ≡ true → (list_all is_letter name ≡ true) × (list_all is_inline name ≡ true)
 name_bytes [] h = (refl, refl)
 name_bytes (byte ∷ name) h =
     let parts = both (is_name_byte byte) _ h in
@@ -69,11 +69,11 @@ pair_tokens netlist (pair ∷ pairs) = WordOf (slice_index_or netlist.names pair
 abbrev pub AreNodes : Netlist → List (ℕ × Bool) → Type 0
 AreNodes netlist pairs = All (λ pair. pair.0 < length netlist.names) pairs
 
-no_word : (netlist : Netlist) (pairs : List (ℕ × Bool)) → begins_in_word (flat_map (assignment_text netlist) pairs) ≡ false
+pub no_word : (netlist : Netlist) (pairs : List (ℕ × Bool)) → begins_in_word (flat_map (assignment_text netlist) pairs) ≡ false
 no_word netlist [] = refl
 no_word netlist (pair ∷ pairs) = is_letter-separators.0
 
-name_at : (netlist : Netlist) (node : ℕ) → IsCircuit netlist → node < length netlist.names → IsName (slice_index_or netlist.names node [])
+pub name_at : (netlist : Netlist) (node : ℕ) → IsCircuit netlist → node < length netlist.names → IsName (slice_index_or netlist.names node [])
 name_at netlist node whole l = whole.names node [] l
 
 one_assignment : (name : List ℕ) (bit : Bool) (rest : List ℕ) (tokens : List TokenOf) → IsName name → begins_in_word rest ≡ false → tokens_of rest ≡ Some tokens → tokens_of ((32 ∷ name ++ 61 ∷ letter_of bit ∷ []) ++ rest) ≡ Some (WordOf name ∷ MarkOf Equals ∷ WordOf (letter_of bit ∷ []) ∷ tokens)
@@ -85,13 +85,13 @@ one_assignment name bit rest tokens is ends read =
     ∙ tokens_of-word_before name (61 ∷ letter_of bit ∷ rest) (omega (arith, is.some)) words.0 is_letter-separators.4
     ∙ ap (with_token (WordOf name)) (tokens_of-equals (letter_of bit ∷ rest) ∙ ap (with_token (MarkOf Equals)) (tokens_of-word_before (letter_of bit ∷ []) rest (omega arith) letters.0 ends ∙ ap (with_token (WordOf (letter_of bit ∷ []))) read))
 
-pairs_read : (netlist : Netlist) (pairs : List (ℕ × Bool)) → IsCircuit netlist → AreNodes netlist pairs → tokens_of (flat_map (assignment_text netlist) pairs) ≡ Some (pair_tokens netlist pairs)
+pub pairs_read : (netlist : Netlist) (pairs : List (ℕ × Bool)) → IsCircuit netlist → AreNodes netlist pairs → tokens_of (flat_map (assignment_text netlist) pairs) ≡ Some (pair_tokens netlist pairs)
 pairs_read netlist [] whole h = refl
 pairs_read netlist (pair ∷ pairs) whole h =
     let P : ℕ × Bool → Type 0 = λ pair. pair.0 < length netlist.names in
     one_assignment (slice_index_or netlist.names pair.0 []) pair.1 (flat_map (assignment_text netlist) pairs) (pair_tokens netlist pairs) (name_at netlist pair.0 whole (All-head P pair pairs h)) (no_word netlist pairs) (pairs_read netlist pairs whole (All-tail P pair pairs h))
 
-pairs_inline : (netlist : Netlist) (pairs : List (ℕ × Bool)) → IsCircuit netlist → AreNodes netlist pairs → list_all is_inline (flat_map (assignment_text netlist) pairs) ≡ true
+pub pairs_inline : (netlist : Netlist) (pairs : List (ℕ × Bool)) → IsCircuit netlist → AreNodes netlist pairs → list_all is_inline (flat_map (assignment_text netlist) pairs) ≡ true
 pairs_inline netlist [] whole h = refl
 pairs_inline netlist (pair ∷ pairs) whole h =
     let P : ℕ × Bool → Type 0 = λ pair. pair.0 < length netlist.names in

@@ -1,14 +1,13 @@
 -- Statements of run texts whose names are looked up in a network.
-use Rattle.std.specs.Prelude.{◌≡◌, ℕ, ◌+◌, ◌-◌, ◌≤◌, ◌&&◌, nat_le, List, [], ◌∷◌, length, map, drop, IsTrue, Option, Some, None, if◌then◌else◌}
+use Rattle.std.specs.Prelude.{◌≡◌, ℕ, ◌+◌, ◌-◌, ◌≤◌, ◌&&◌, nat_le, List, ◌∷◌, length, map, drop, IsTrue, Option, Some, None, if◌then◌else◌}
 use Rattle.std.specs.List.{list_all}
 use Rattle.std.specs.Option.{option_map}
 use Rattle.hz_core.specs.Netlist.{Netlist, node_named, gate_at}
 use Rattle.hz_net.specs.Variables.{first_wire}
-use Rattle.hz_line.specs.Statement.{Numbered, Meaning, Nothing, Malformed, Means}
+use Rattle.hz_line.specs.Statement.{Numbered, Meaning, Nothing, Means}
 use Rattle.hz_line.specs.declared.tokens.Token.{Token}
 use Rattle.hz_line.specs.Token.{TokenOf, WordOf, token_of}
 use Rattle.hz_text.specs.declared.assigned.Assigned.{Assigned}
-use Rattle.hz_text.specs.declared.assigned.Unread.{Unread}
 use Rattle.hz_text.specs.declared.run_keyword.RunKeyword.{RunKeyword}
 use Rattle.hz_text.specs.declared.run_statement.RunHeld.{RunHeld}
 use Rattle.hz_text.specs.declared.run_statement.RunHeld.TheVariants as held

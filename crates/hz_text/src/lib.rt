@@ -1,4 +1,5 @@
-//! Scripts: a start and changes of the inputs of a circuit, read from a text and printed.
+//! Scripts, which are a start and changes of the inputs of a circuit, and run texts, which are a start, an input and runs of
+//! a network: read from a text and printed.
 #![tactic(auto)]
 
 mod assigned;
@@ -16,6 +17,7 @@ mod run_entry;
 mod run_keyword;
 mod run_order;
 mod run_passes;
+mod run_print;
 mod run_read;
 mod run_statement;
 mod run_text;
@@ -27,6 +29,7 @@ pub use entry::MAX_TEXT;
 pub use fault::TextFault;
 pub use print::print_script;
 pub use read::read_script;
+pub use run_print::print_run;
 pub use run_read::read_run;
 pub use run_text::RunText;
 pub use script::{MAX_CHANGES, Script};

@@ -81,7 +81,7 @@ fn push_assignments(
 }
 
 // Adds an assignment after a space.
-fn push_assignment(
+pub(crate) fn push_assignment(
     text: &mut Vec<u8>,
     circuit: &Circuit,
     node: u32,
@@ -103,7 +103,7 @@ fn letter(bit: bool) -> u8
 }
 
 // Adds bytes.
-fn push_bytes(text: &mut Vec<u8>, bytes: &[u8]) -> Result<(), Memory>
+pub(crate) fn push_bytes(text: &mut Vec<u8>, bytes: &[u8]) -> Result<(), Memory>
     ensures { OnOk result (text.new.items ≡ text.old.items ++ bytes.now) }
 {
     let Ok(_) = text.extend_from_slice(bytes) else {

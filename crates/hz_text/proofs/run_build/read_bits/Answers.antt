@@ -1,11 +1,10 @@
-use Rattle.std.proofs.Common.{◌≡◌, ◌∙◌, ℕ, List, Bool, Option, Some, None, length, map, ap, sym, subst}
-use Rattle.std.specs.List.{All, filter_map, range_with_len}
+use Rattle.std.proofs.Common.{◌≡◌, ◌∙◌, List, Bool, Option, Some, None, length, map, ap, sym, subst}
+use Rattle.std.specs.List.{All, filter_map}
 use Rattle.std.specs.Option.{IsSome}
 use Rattle.std.specs.Result.{IfOk}
 use Rattle.std.proofs.lemmas.List.{length-replicate}
 use Rattle.hz_text.specs.declared.keyword.Keyword.TheVariants.{Start}
 use Rattle.hz_text.specs.Pass.{pair_of}
-use Rattle.hz_text.specs.ScriptText.{bit_at}
 use Rattle.hz_text.proofs.BuildLemmas.{change_of}
 use Rattle.hz_text.proofs.RunBuildLaws.{bits_are, bits_known}
 use Rattle.hz_text.proofs.run_build.read_bits.Goals as goal

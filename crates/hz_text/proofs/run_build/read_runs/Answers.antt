@@ -1,5 +1,5 @@
-use Rattle.std.proofs.Common.{◌≡◌, ◌∙◌, ◌+◌, ◌++◌, ◌∷◌, [], ℕ, List, Option, Some, None, Bool, false, length, drop, get_or, map, ap, sym, refl, subst, append_assoc}
-use Rattle.std.specs.List.{All, flat_map, list_any}
+use Rattle.std.proofs.Common.{◌≡◌, ◌∙◌, ◌+◌, ◌++◌, ◌∷◌, [], List, Option, Some, None, false, drop, ap, sym, refl, subst, append_assoc}
+use Rattle.std.specs.List.{flat_map, list_any}
 use Rattle.std.specs.Option.{is_none, IsSome}
 use Rattle.std.proofs.lemmas.List.{drop_all}
 use Rattle.std.proofs.lemmas.Option.{none-some}
@@ -7,7 +7,7 @@ use Rattle.hz_line.specs.Statement.{Numbered}
 use Rattle.hz_text.specs.declared.run_entry.RunEntry.{RunEntry}
 use Rattle.hz_text.specs.declared.run_order.Place.{Place}
 use Rattle.hz_text.specs.RunLookup.{LookedRun, run_entered, run_entered_all, run_held_by}
-use Rattle.hz_text.specs.RunFault.{variables_in, runs_out_of_order, place_after}
+use Rattle.hz_text.specs.RunFault.{variables_in, runs_out_of_order}
 use Rattle.hz_text.specs.RunText.{run_statements, unnumbered}
 use Rattle.hz_text.specs.RunBuilt.{last_place}
 use Rattle.hz_text.proofs.RunBuildLaws.{entries-at, next_in_order, ended}

@@ -1,7 +1,4 @@
-use Rattle.std.proofs.Common.{◌≡◌, ◌∙◌, None, ap, sym}
 use Rattle.std.proofs.lemmas.Result.{err_from_is_err_and}
-use Rattle.hz_text.specs.RunLookup.{run_entered_all}
-use Rattle.hz_text.specs.RunPass.{first_run_fault}
 use Rattle.hz_text.proofs.RunFaultLaws.{run_refusal-read, run_refusal-check, read_runs-looked, read_runs-below, run_faultless}
 use Rattle.hz_text.proofs.run_read.read_accepted_runs.Goals as goal
 

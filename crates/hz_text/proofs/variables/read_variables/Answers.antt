@@ -1,4 +1,4 @@
-use Rattle.std.proofs.Common.{◌≡◌, ◌≤◌, ◌-◌, List, arith, take, drop, length, map, subst}
+use Rattle.std.proofs.Common.{◌≡◌, ◌-◌, List, arith, take, drop, length, subst}
 use Rattle.std.proofs.lemmas.List.{length-drop, take_all}
 use Rattle.hz_line.specs.declared.tokens.Token.{Token}
 use Rattle.hz_text.specs.RunLookup.{IsFirstVariable}

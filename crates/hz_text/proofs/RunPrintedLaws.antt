@@ -1,0 +1,293 @@
+-- A printed run text has no fault, and stands for the run text.
+use Rattle.std.proofs.Common.{◌≡◌, ◌∙◌, ℕ, ◌+◌, ◌<◌, ◌≤◌, suc, Bool, true, false, ◌||◌, cond, nat_eq, nat_lt, List, [], ◌∷◌, ◌++◌, Option, Some, None, length, length-append, get_or, map, refl, ap, sym, subst, arith, append_assoc}
+use Rattle.std.specs.List.{flat_map, range_with_len, All, list_any}
+use Rattle.std.specs.Prelude.{sum_by}
+use Rattle.std.specs.Option.{IsSome, is_none, option_map_or}
+use Rattle.std.proofs.lemmas.Bool.Decides.{nat_tests}
+use Rattle.std.proofs.lemmas.List.{length-map, get_or-map}
+use Rattle.std.proofs.lemmas.List.Elements.{All-nil, All-cons, All-head, All-tail, All-append, All-weaker}
+use Rattle.std.proofs.lemmas.List.Sums.{sum_by-append, sum_by-cons}
+use Rattle.hz_core.specs.Netlist.{Netlist, IsCircuit}
+use Rattle.hz_gmw.specs.Recorded.{flip_count}
+use Rattle.hz_line.specs.Line.{lines_of}
+use Rattle.hz_line.specs.Statement.{Meaning, Nothing, Malformed, Means, meaning_of, Numbered, with_meaning, numbered_from, numbered_statements, first_line, malformed_before, first_malformed}
+use Rattle.hz_text.specs.declared.assigned.Assigned.{Assigned}
+use Rattle.hz_text.specs.declared.keyword.Keyword.TheVariants as keyword
+use Rattle.hz_text.specs.declared.run_order.Place.{Place}
+use Rattle.hz_text.specs.declared.run_order.Place.TheVariants as place
+use Rattle.hz_text.specs.Assignment.{has_repeat}
+use Rattle.hz_text.specs.Pass.{nodes_of, least_unassigned}
+use Rattle.hz_text.specs.ScriptText.{bit_at, assignment_to}
+use Rattle.hz_text.specs.Printed.{listed_from}
+use Rattle.hz_text.specs.RunStatement.{Header, Start, Input, Run, Step, Cycle, End}
+use Rattle.hz_text.specs.RunLookup.{LookedRun, run_looked_by}
+use Rattle.hz_text.specs.RunValue.{RunOf, RunTextOf, cycle_steps, all_steps}
+use Rattle.hz_text.specs.RunText.{step_of, cycle_statements, run_statements, unnumbered, IsRunTextBy, IsRunValue, IsRunTextFor}
+use Rattle.hz_text.specs.RunFault.{looked_run_statements, variables_in, names_unknown, lacks_bit, place_after_step, runs_out_of_order, run_out_of_order, steps_in, beyond_from, IsRunFaultless}
+use Rattle.hz_text.specs.RunPass.{names_node_twice, least_missing_node, first_run_fault}
+use Rattle.hz_text.specs.RunPrinted.{all_listed, run_text_printed}
+use Rattle.hz_text.proofs.BuildLemmas.{nodes_of-pairs}
+use Rattle.hz_text.proofs.FaultLaws.{first_line-cons}
+use Rattle.hz_text.proofs.WordLaws.{AreNodes}
+use Rattle.hz_text.proofs.PrintLemmas.{listed-below}
+use Rattle.hz_text.proofs.PrintLaws.{start-known, all-bits, inputs-known, listed-fresh, listed-whole, listed-back}
+use Rattle.hz_text.proofs.RunFaultLaws.{looked_runs-read, clear-faultless}
+use Rattle.hz_text.proofs.RunPrintedLines.{meanings_of, sent, IsReadAsRun, printed-IsReadAsRun}
+
+-- statements, each on a line of its own, the first of which has this number
+abbrev numbered : ℕ → List LookedRun → List (Numbered LookedRun)
+numbered line [] = []
+numbered line (statement ∷ later) = record { line = line; statement = statement } ∷ numbered (suc line) later
+
+-- the statements of lines, by what the lines are
+abbrev meant : ℕ → List (Meaning LookedRun) → List (Numbered LookedRun)
+meant line [] = []
+meant line (meaning ∷ rest) = with_meaning line meaning (meant (suc line) rest)
+
+lines-meant : (netlist : Netlist) (line : ℕ) (lines : List (List ℕ)) → numbered_from (run_looked_by netlist) line lines ≡ meant line (map (meaning_of (run_looked_by netlist)) lines)
+lines-meant netlist line [] = refl
+lines-meant netlist line (first ∷ rest) = ap (with_meaning line (meaning_of (run_looked_by netlist) first)) (lines-meant netlist (suc line) rest)
+
+meant-back : (line : ℕ) (statements : List LookedRun) → meant line (map Means statements ++ Nothing ∷ []) ≡ numbered line statements
+meant-back line [] = refl
+meant-back line (statement ∷ later) = ap (λ rest. record { line = line; statement = statement } ∷ rest) (meant-back (suc line) later)
+
+-- the first malformed line, by what the lines are
+abbrev malformed_in : ℕ → List (Meaning LookedRun) → Option ℕ
+malformed_in line [] = None
+malformed_in line (meaning ∷ rest) = malformed_before line meaning (malformed_in (suc line) rest)
+
+lines-malformed : (netlist : Netlist) (line : ℕ) (lines : List (List ℕ)) → first_malformed (run_looked_by netlist) line lines ≡ malformed_in line (map (meaning_of (run_looked_by netlist)) lines)
+lines-malformed netlist line [] = refl
+lines-malformed netlist line (first ∷ rest) = ap (malformed_before line (meaning_of (run_looked_by netlist) first)) (lines-malformed netlist (suc line) rest)
+
+none-malformed : (line : ℕ) (statements : List LookedRun) → malformed_in line (map Means statements ++ Nothing ∷ []) ≡ None
+none-malformed line [] = refl
+none-malformed line (statement ∷ later) = none-malformed (suc line) later
+
+-- a text of such lines has these statements
+looked-numbered : (netlist : Netlist) (text : List ℕ) (statements : List LookedRun) → IsReadAsRun netlist text statements → looked_run_statements netlist text ≡ numbered 1 statements
+looked-numbered netlist text statements read =
+    sym (looked_runs-read netlist text) ∙ lines-meant netlist 1 (lines_of text) ∙ ap (meant 1) read ∙ meant-back 1 statements
+
+text-formed : (netlist : Netlist) (text : List ℕ) (statements : List LookedRun) → IsReadAsRun netlist text statements → first_malformed (run_looked_by netlist) 1 (lines_of text) ≡ None
+text-formed netlist text statements read = lines-malformed netlist 1 (lines_of text) ∙ ap (malformed_in 1) read ∙ none-malformed 1 statements
+
+unnumbered-numbered : (line : ℕ) (statements : List LookedRun) → unnumbered (numbered line statements) ≡ statements
+unnumbered-numbered line [] = refl
+unnumbered-numbered line (statement ∷ later) = ap (λ rest. statement ∷ rest) (unnumbered-numbered (suc line) later)
+
+-- no statement passes a test that each of them fails
+none-passes : (test : LookedRun → Bool) (line : ℕ) (statements : List LookedRun) → All (λ statement. test statement ≡ false) statements → first_line test (numbered line statements) ≡ None
+none-passes test line [] h = refl
+none-passes test line (statement ∷ later) h =
+    let P : LookedRun → Type 0 = λ statement. test statement ≡ false in
+    first_line-cons test (record { line = line; statement = statement }) (numbered (suc line) later)
+    ∙ ap (λ b. cond b (Some line) (first_line test (numbered (suc line) later))) (All-head P statement later h)
+    ∙ none-passes test (suc line) later (All-tail P statement later h)
+
+-- the statement has no fault of its own
+record IsSound (inputs : ℕ) (statement : LookedRun) : Type 0 where
+  known : names_unknown inputs statement ≡ false
+  once : names_node_twice statement ≡ false
+  bits : lacks_bit statement ≡ false
+
+flips-known : (flips : List ℕ) → list_any is_none (map Some flips) ≡ false
+flips-known [] = refl
+flips-known (var ∷ flips) = flips-known flips
+
+step-sound : (inputs : ℕ) (flips : List ℕ) → IsSound inputs (step_of flips)
+step-sound inputs flips = record { known = flips-known flips; once = refl; bits = refl }
+
+steps-sound : (inputs : ℕ) (steps : List (List ℕ)) → All (IsSound inputs) (map step_of steps)
+steps-sound inputs [] = All-nil (IsSound inputs)
+steps-sound inputs (flips ∷ steps) = All-cons (IsSound inputs) (step_of flips) (map step_of steps) (step-sound inputs flips) (steps-sound inputs steps)
+
+cycle-sound : (inputs : ℕ) (cycle : Option (List (List ℕ))) → All (IsSound inputs) (cycle_statements cycle)
+cycle-sound inputs None = All-nil (IsSound inputs)
+cycle-sound inputs (Some steps) = All-cons (IsSound inputs) Cycle (map step_of steps) (record { known = refl; once = refl; bits = refl }) (steps-sound inputs steps)
+
+run-sound : (inputs : ℕ) (run : RunOf) → All (IsSound inputs) (run_statements run)
+run-sound inputs run =
+    All-append (IsSound inputs) (Run ∷ map step_of run.lead) (cycle_statements run.cycle)
+    (All-cons (IsSound inputs) Run (map step_of run.lead) (record { known = refl; once = refl; bits = refl }) (steps-sound inputs run.lead))
+    (cycle-sound inputs run.cycle)
+
+runs-sound : (inputs : ℕ) (runs : List RunOf) → All (IsSound inputs) (flat_map run_statements runs)
+runs-sound inputs [] = All-nil (IsSound inputs)
+runs-sound inputs (run ∷ runs) = All-append (IsSound inputs) (run_statements run) (flat_map run_statements runs) (run-sound inputs run) (runs-sound inputs runs)
+
+listed-once : (bits : List Bool) → has_repeat nat_eq (nodes_of (map assignment_to (all_listed bits))) ≡ false
+listed-once bits = ap (has_repeat nat_eq) (nodes_of-pairs (all_listed bits)) ∙ listed-fresh 0 (map Some bits)
+
+-- what lists all nodes lists nodes
+all_listed-below : (bits : List Bool) (bound : ℕ) → length bits ≡ bound → All (λ pair. pair.0 < bound) (all_listed bits)
+all_listed-below bits bound long =
+    let P : ℕ → Type 0 = λ nodes. All (λ (pair : ℕ × Bool). pair.0 < nodes) (all_listed bits) in
+    subst P (length-map bits Some ∙ long) (listed-below (map Some bits))
+
+start-sound : (inputs : ℕ) (bits : List Bool) → IsSound inputs (Start (map assignment_to (all_listed bits)))
+start-sound inputs bits = record { known = start-known inputs (all_listed bits); once = listed-once bits; bits = all-bits keyword.Start (all_listed bits) }
+
+input-sound : (inputs : ℕ) (bits : List Bool) → length bits ≡ inputs → IsSound inputs (Input (map assignment_to (all_listed bits)))
+input-sound inputs bits long = record { known = inputs-known inputs (all_listed bits) (all_listed-below bits inputs long); once = listed-once bits; bits = all-bits keyword.Change (all_listed bits) }
+
+sent-sound : (netlist : Netlist) (value : RunTextOf) → IsRunTextFor netlist value → All (IsSound netlist.inputs) (sent value)
+sent-sound netlist value h =
+    let P = IsSound netlist.inputs in
+    let start = Start (map assignment_to (all_listed value.nodes)) in
+    let input = Input (map assignment_to (all_listed value.input)) in
+    let plain : P Header = record { known = refl; once = refl; bits = refl } in
+    let last : P End = record { known = refl; once = refl; bits = refl } in
+    let runs = flat_map run_statements value.runs in
+    let three = All-cons P Header (start ∷ input ∷ []) plain (All-cons P start (input ∷ []) (start-sound netlist.inputs value.nodes) (All-cons P input [] (input-sound netlist.inputs value.input h.inputs) (All-nil P))) in
+    All-append P (Header ∷ start ∷ input ∷ runs) (End ∷ []) (All-append P (Header ∷ start ∷ input ∷ []) runs three (runs-sound netlist.inputs value.runs)) (All-cons P End [] last (All-nil P))
+
+-- statements of runs and the end stand in order, whatever their lines
+abbrev InOrder : Place → List LookedRun → Type 0
+InOrder here statements = (line : ℕ) → runs_out_of_order here (numbered line statements) ≡ None
+
+steps-in_order : (here : Place) (steps : List (List ℕ)) (rest : List LookedRun) → place_after_step here ≡ Some here → InOrder here rest → InOrder here (map step_of steps ++ rest)
+steps-in_order here [] rest stays h = h
+steps-in_order here (flips ∷ steps) rest stays h = λ line. rw stays (steps-in_order here steps rest stays h (suc line))
+
+cycle-in_order : (cycle : Option (List (List ℕ))) (rest : List LookedRun) → ((here : Place) → InOrder here rest) → InOrder place.Lead (cycle_statements cycle ++ rest)
+cycle-in_order None rest h = h place.Lead
+cycle-in_order (Some steps) rest h = λ line. steps-in_order place.Cycle steps rest refl (h place.Cycle) (suc line)
+
+run-in_order : (here : Place) (run : RunOf) (rest : List LookedRun) → ((here : Place) → InOrder here rest) → InOrder here (run_statements run ++ rest)
+run-in_order here run rest h = λ line.
+    let after : InOrder place.Lead (map step_of run.lead ++ cycle_statements run.cycle ++ rest) =
+    subst (InOrder place.Lead) (sym (append_assoc (map step_of run.lead) (cycle_statements run.cycle) rest))
+    (steps-in_order place.Lead run.lead (cycle_statements run.cycle ++ rest) refl (cycle-in_order run.cycle rest h)) in
+    after (suc line)
+
+runs-in_order : (runs : List RunOf) (here : Place) → InOrder here (flat_map run_statements runs ++ End ∷ [])
+runs-in_order [] here = λ line. refl
+runs-in_order (run ∷ runs) here =
+    subst (InOrder here) (sym (append_assoc (run_statements run) (flat_map run_statements runs) (End ∷ [])))
+    (run-in_order here run (flat_map run_statements runs ++ End ∷ []) (runs-in_order runs))
+
+-- how many variables the steps among statements have
+abbrev variables_count : LookedRun → ℕ
+variables_count statement = length (variables_in statement)
+
+-- the statements have these steps
+record Counts (statements : List LookedRun) (steps : List (List ℕ)) : Type 0 where
+  steps_are : sum_by steps_in statements ≡ length steps
+  variables_are : sum_by variables_count statements ≡ flip_count steps
+
+Counts-append : (a b : List LookedRun) (s t : List (List ℕ)) → Counts a s → Counts b t → Counts (a ++ b) (s ++ t)
+Counts-append a b s t f g = record {
+  steps_are = omega (arith, f.steps_are, g.steps_are, sum_by-append steps_in a b, length-append s t);
+  variables_are = sum_by-append variables_count a b ∙ omega (arith, f.variables_are, g.variables_are, sum_by-append length s t);
+}
+
+steps-count : (steps : List (List ℕ)) → Counts (map step_of steps) steps
+steps-count [] = record { steps_are = refl; variables_are = refl }
+steps-count (flips ∷ steps) =
+    let rest = steps-count steps in
+    record {
+      steps_are = omega (arith, rest.steps_are, sum_by-cons steps_in (step_of flips) (map step_of steps));
+      variables_are = omega (arith, rest.variables_are, sum_by-cons variables_count (step_of flips) (map step_of steps), length-map flips Some, sum_by-cons length flips steps);
+    }
+
+-- a statement that is no step adds none
+plain-count : (statement : LookedRun) (statements : List LookedRun) (steps : List (List ℕ)) → steps_in statement ≡ 0 → variables_count statement ≡ 0 → Counts statements steps → Counts (statement ∷ statements) steps
+plain-count statement statements steps none nothing h = record {
+  steps_are = omega (arith, none, h.steps_are, sum_by-cons steps_in statement statements);
+  variables_are = omega (arith, nothing, h.variables_are, sum_by-cons variables_count statement statements);
+}
+
+cycle-count : (cycle : Option (List (List ℕ))) → Counts (cycle_statements cycle) (cycle_steps cycle)
+cycle-count None = record { steps_are = refl; variables_are = refl }
+cycle-count (Some steps) = plain-count Cycle (map step_of steps) steps refl refl (steps-count steps)
+
+run-count : (run : RunOf) → Counts (run_statements run) (run.lead ++ cycle_steps run.cycle)
+run-count run =
+    Counts-append (Run ∷ map step_of run.lead) (cycle_statements run.cycle) run.lead (cycle_steps run.cycle)
+    (plain-count Run (map step_of run.lead) run.lead refl refl (steps-count run.lead)) (cycle-count run.cycle)
+
+end-count : Counts (End ∷ []) []
+end-count = record { steps_are = refl; variables_are = refl }
+
+runs-count : (runs : List RunOf) → Counts (flat_map run_statements runs ++ End ∷ []) (all_steps runs)
+runs-count [] = end-count
+runs-count (run ∷ runs) =
+    let mine = run.lead ++ cycle_steps run.cycle in
+    let P : List LookedRun → Type 0 = λ statements. Counts statements (mine ++ all_steps runs) in
+    subst P (sym (append_assoc (run_statements run) (flat_map run_statements runs) (End ∷ [])))
+    (Counts-append (run_statements run) (flat_map run_statements runs ++ End ∷ []) mine (all_steps runs) (run-count run) (runs-count runs))
+
+sent-count : (value : RunTextOf) → Counts (sent value) (all_steps value.runs)
+sent-count value =
+    let steps = all_steps value.runs in
+    let start = Start (map assignment_to (all_listed value.nodes)) in
+    let input = Input (map assignment_to (all_listed value.input)) in
+    let runs = flat_map run_statements value.runs ++ End ∷ [] in
+    plain-count Header (start ∷ input ∷ runs) steps refl refl (plain-count start (input ∷ runs) steps refl refl (plain-count input runs steps refl refl (runs-count value.runs)))
+
+-- statements with few steps and few variables are not too many
+none-beyond : (steps variables line : ℕ) (statements : List LookedRun) → steps + sum_by steps_in statements ≤ 2000000 → variables + sum_by variables_count statements ≤ 2000000 → beyond_from steps variables (numbered line statements) ≡ None
+none-beyond steps variables line [] few few' = refl
+none-beyond steps variables line (statement ∷ later) few few' =
+    let first = sum_by-cons steps_in statement later in
+    let first' = sum_by-cons variables_count statement later in
+    let low : steps + steps_in statement ≤ 2000000 = omega (arith, few, first) in
+    let low' : variables + variables_count statement ≤ 2000000 = omega (arith, few', first') in
+    let a : nat_lt 2000000 (steps + steps_in statement) ≡ false = grind (arith, nat_tests, low) in
+    let b : nat_lt 2000000 (variables + variables_count statement) ≡ false = grind (arith, nat_tests, low') in
+    rw (a, b) (none-beyond (steps + steps_in statement) (variables + variables_count statement) (suc line) later (omega (arith, few, first)) (omega (arith, few', first')))
+
+-- each of the first so many is listed
+listed-some : (bits : List Bool) (bound : ℕ) → length bits ≡ bound → (k : ℕ) → k < bound → IsSome (get_or (map Some bits) k None)
+listed-some bits bound long k below = rw (get_or-map Some bits k false None (omega (arith, below, long))) refl
+
+sent-whole : (netlist : Netlist) (value : RunTextOf) → IsRunTextFor netlist value → least_missing_node netlist (numbered 1 (sent value)) ≡ None
+sent-whole netlist value h =
+    let nodes = listed-whole (map Some value.nodes) (length netlist.names) (listed-some value.nodes (length netlist.names) h.nodes) in
+    let inputs = listed-whole (map Some value.input) netlist.inputs (listed-some value.input netlist.inputs h.inputs) in
+    rw (nodes, inputs) refl
+
+sent-clear : (netlist : Netlist) (value : RunTextOf) → IsRunTextFor netlist value → first_run_fault netlist (numbered 1 (sent value)) ≡ None
+sent-clear netlist value h =
+    let all = numbered 1 (sent value) in
+    let sound = sent-sound netlist value h in
+    let count = sent-count value in
+    let unknown : first_line (names_unknown netlist.inputs) all ≡ None = none-passes (names_unknown netlist.inputs) 1 (sent value) (λ k d l. (sound k d l).known) in
+    let twice : first_line names_node_twice all ≡ None = none-passes names_node_twice 1 (sent value) (λ k d l. (sound k d l).once) in
+    let bit : first_line lacks_bit all ≡ None = none-passes lacks_bit 1 (sent value) (λ k d l. (sound k d l).bits) in
+    let missing : least_missing_node netlist all ≡ None = sent-whole netlist value h in
+    let order : run_out_of_order all ≡ None = runs-in_order value.runs place.Between 4 in
+    let few : beyond_from 0 0 all ≡ None = none-beyond 0 0 1 (sent value) (omega (arith, count.steps_are, h.few_steps)) (omega (arith, count.variables_are, h.few_variables)) in
+    rw (unknown, twice, missing, bit, order, few) refl
+
+printed-read : (netlist : Netlist) (value : RunTextOf) → IsCircuit netlist → IsRunTextFor netlist value → IsReadAsRun netlist (run_text_printed netlist value) (sent value)
+printed-read netlist value circuit h =
+    let P : ℕ × Bool → Type 0 = λ pair. pair.0 < netlist.inputs in
+    let Q : ℕ × Bool → Type 0 = λ pair. pair.0 < length netlist.names in
+    let inputs = All-weaker P Q (λ pair l. omega (arith, l, circuit.nodes)) (all_listed value.input) (all_listed-below value.input netlist.inputs h.inputs) in
+    printed-IsReadAsRun netlist value circuit (all_listed-below value.nodes (length netlist.names) h.nodes) inputs h.variables
+
+-- what was printed has no fault
+pub printed-faultless : (netlist : Netlist) (value : RunTextOf) → IsCircuit netlist → IsRunTextFor netlist value → IsRunFaultless netlist (run_text_printed netlist value)
+printed-faultless netlist value circuit h =
+    let text = run_text_printed netlist value in
+    let read = printed-read netlist value circuit h in
+    clear-faultless netlist text (text-formed netlist text (sent value) read)
+    (ap (first_run_fault netlist) (looked-numbered netlist text (sent value) read) ∙ sent-clear netlist value h)
+
+-- what was printed stands for the run text
+pub printed-value : (netlist : Netlist) (value : RunTextOf) → IsCircuit netlist → IsRunTextFor netlist value → IsRunValue netlist (run_text_printed netlist value) value
+printed-value netlist value circuit h =
+    let text = run_text_printed netlist value in
+    let read = printed-read netlist value circuit h in
+    let same : sent value ≡ unnumbered (looked_run_statements netlist text) = sym (ap unnumbered (looked-numbered netlist text (sent value) read) ∙ unnumbered-numbered 1 (sent value)) in
+    let P : List LookedRun → Type 0 = λ statements. IsRunTextBy netlist statements value in
+    subst P same (record {
+      start = map assignment_to (all_listed value.nodes);
+      input = map assignment_to (all_listed value.input);
+      are = refl;
+      nodes_are = listed-back (map Some value.nodes) (length netlist.names) (length-map value.nodes Some ∙ h.nodes);
+      input_is = listed-back (map Some value.input) netlist.inputs (length-map value.input Some ∙ h.inputs);
+    })

@@ -1,0 +1,50 @@
+-- The printed text of a run text.
+use Rattle.std.specs.Prelude.{ℕ, ◌+◌, Bool, List, [], ◌∷◌, ◌++◌, map, codes, decimal, Option, Some, None}
+use Rattle.std.specs.List.{flat_map, slice_index_or}
+use Rattle.hz_core.specs.Netlist.{Netlist}
+use Rattle.hz_net.specs.Network.{Wire, wires_of}
+use Rattle.hz_text.specs.Printed.{statement_text, listed_from}
+use Rattle.hz_text.specs.RunValue.{RunOf, RunTextOf}
+
+-- the word of a wire: the name of its gate and, in parentheses, its pin, counted from 1
+unfoldable pub wire_word : Netlist → Wire → List ℕ
+wire_word netlist wire = slice_index_or netlist.names wire.gate [] ++ 40 ∷ decimal (wire.pin + 1) ++ 41 ∷ []
+
+-- the words of all variables: the names of the nodes, then the words of the wires
+abbrev pub variable_words : Netlist → List (List ℕ)
+variable_words netlist = netlist.names ++ map (wire_word netlist) (wires_of netlist)
+
+-- the word of a variable
+unfoldable pub variable_word : Netlist → ℕ → List ℕ
+variable_word netlist var = slice_index_or (variable_words netlist) var []
+
+-- a space, and the word of a variable
+abbrev pub spaced_word : Netlist → ℕ → List ℕ
+spaced_word netlist var = 32 ∷ variable_word netlist var
+
+-- a step on a line of its own: the variables that change in it, in their order
+unfoldable pub step_text : Netlist → List ℕ → List ℕ
+step_text netlist flips = codes "step" ++ flat_map (spaced_word netlist) flips ++ 10 ∷ []
+
+-- the lines of a cycle, if there is one
+abbrev pub cycle_text : Netlist → Option (List (List ℕ)) → List ℕ
+cycle_text netlist None = []
+cycle_text netlist (Some steps) = codes "cycle\n" ++ flat_map (step_text netlist) steps
+
+-- the lines of a run
+unfoldable pub run_text : Netlist → RunOf → List ℕ
+run_text netlist run = codes "run\n" ++ flat_map (step_text netlist) run.lead ++ cycle_text netlist run.cycle
+
+-- bits, each with its number, as a start lists them
+abbrev pub all_listed : List Bool → List (ℕ × Bool)
+all_listed bits = listed_from 0 (map Some bits)
+
+-- A line for the version, one for the start, which lists all nodes, and one for the input, which lists all inputs; the
+-- lines of each run; and a line for the end.
+unfoldable pub run_text_printed : Netlist → RunTextOf → List ℕ
+run_text_printed netlist value =
+    codes "runs 1\n"
+    ++ statement_text netlist (codes "start") (all_listed value.nodes)
+    ++ statement_text netlist (codes "input") (all_listed value.input)
+    ++ flat_map (run_text netlist) value.runs
+    ++ codes "end\n"
