@@ -1,6 +1,6 @@
 -- One of both holds: a list of variables is a step or has a fault, a run is a nontransient cycle or has one, and so a run text
 -- of a network is accepted or refused.
-use Rattle.std.proofs.Common.{◌≡◌, ◌≢◌, ◌∙◌, refl, sym, ap, subst, ℕ, zero, suc, ◌+◌, ◌<◌, ◌≤◌, ◌⊎◌, inl, inr, Bool, true, false, not, List, [], ◌∷◌, ◌++◌, length, replicate, Option, Some, None, IfSome, IsTrue, All, get_or, arith}
+use Rattle.std.proofs.Common.{◌≡◌, ◌≢◌, ◌∙◌, refl, sym, ap, subst, ℕ, zero, suc, ◌+◌, ◌<◌, ◌≤◌, ◌⊎◌, inl, inr, Bool, true, false, not, List, [], ◌∷◌, ◌++◌, length, replicate, Option, Some, None, IsTrue, All, arith}
 use Rattle.std.specs.Bool.{beq}
 use Rattle.std.proofs.lemmas.Bool.{cases_lt, false≢true, not-true, not_from_false, false_from_ne_true}
 use Rattle.std.proofs.lemmas.List.{append-nil, append_assoc, get_or_past, length-replicate, length-append, get_or_append_left}
@@ -10,7 +10,7 @@ use Rattle.hz_net.specs.Network.{Driver, network_of, bit_at, IsUnstable}
 use Rattle.hz_gmw.specs.Runs.{is_listed, flipped, IsStep, IsRun, end_of}
 use Rattle.hz_gmw.specs.Cycles.{IsNontransient}
 use Rattle.hz_gmw.specs.Instability.{is_unstable, unstable_variables}
-use Rattle.hz_gmw.specs.Least.{IsLeast, IsLeastOf, least_from, least_again}
+use Rattle.hz_gmw.specs.Least.{IsLeastOf, least_from, least_again}
 use Rattle.hz_gmw.specs.Replayed.{Replayed, StandsFor, replayed_at, stepped_by}
 use Rattle.hz_gmw.specs.ReplayFaults.{times, IsStepFault, IsCycleFault}
 use Rattle.hz_gmw.specs.declared.replay_fault.StepFault.{StepFault}
@@ -58,29 +58,35 @@ step-decided net input state (var ∷ rest) all =
 
 -- the least number below a bound that passes a test
 extended : (test : ℕ → Bool) (n : ℕ) (passes : Bool) → test n ≡ passes → (found : Option ℕ) → IsLeastOf (λ i. (i < n) × IsTrue (test i)) found → (new : Option ℕ) × IsLeastOf (λ i. (i < suc n) × IsTrue (test i)) new
-extended test n passes is (Some i) least =
-    (Some i, record {
-      here = (omega (arith, least.here.0), least.here.1);
-      least = λ j h. elim (cases_lt j n) [
-          | inl below ↦ least.least j (below, h.1)
-          | inr past ↦ omega (arith, past, least.here.0)
-      ];
-    })
-extended test n true is None none =
-    (Some n, record {
-      here = (omega (arith), is);
-      least = λ j h. elim (cases_lt j n) [
-          | inl below ↦ absurd (none j (below, h.1))
-          | inr past ↦ past
-      ];
-    })
-extended test n false is None none =
-    (None, λ i h. elim (cases_lt i n) [
-        | inl below ↦ none i (below, h.1)
-        | inr past ↦
-            let same : i ≡ n = omega (arith, past, h.0) in
-            false≢true (sym is ∙ (ap test (sym same) ∙ h.1))
-    ])
+extended test n passes is (Some i) least = (
+  Some i,
+  record {
+    here = (omega (arith, least.here.0), least.here.1);
+    least = λ j h. elim (cases_lt j n) [
+      | inl below ↦ least.least j (below, h.1)
+      | inr past ↦ omega (arith, past, least.here.0)
+    ];
+  },
+)
+extended test n true is None none = (
+  Some n,
+  record {
+    here = (omega (arith), is);
+    least = λ j h. elim (cases_lt j n) [
+      | inl below ↦ absurd (none j (below, h.1))
+      | inr past ↦ past
+    ];
+  },
+)
+extended test n false is None none = (
+  None,
+  λ i h. elim (cases_lt i n) [
+    | inl below ↦ none i (below, h.1)
+    | inr past ↦
+        let same : i ≡ n = omega (arith, past, h.0) in
+        false≢true (sym is ∙ (ap test (sym same) ∙ h.1))
+  ],
+)
 
 least-below : (test : ℕ → Bool) (n : ℕ) → (found : Option ℕ) × IsLeastOf (λ i. (i < n) × IsTrue (test i)) found
 least-below test zero = (None, λ i h. let none : ⊥ = omega (arith, h.0) in none)
@@ -119,8 +125,8 @@ by-differs now steps stands (Some var) least = inr (Differs var, differs-fault n
 -- two states of one length differ only at their places
 differ-inside : (state marked : List Bool) (i : ℕ) → length state ≡ length marked → bit_at state i ≢ bit_at marked i → i < length state
 differ-inside state marked i long differ = elim (cases_lt i (length state)) [
-    | inl below ↦ below
-    | inr past ↦ absurd (differ (get_or_past state i false past ∙ sym (get_or_past marked i false (omega (arith, past, long)))))
+  | inl below ↦ below
+  | inr past ↦ absurd (differ (get_or_past state i false past ∙ sym (get_or_past marked i false (omega (arith, past, long)))))
 ]
 
 standing-decided : (now : Replayed) (steps : List (List ℕ)) → StandsFor now steps → CycleDecided (network_of now.circuit) now.input now.marked steps
@@ -171,15 +177,19 @@ steps-decided net input start (flips ∷ steps) all =
         inr (1, fault, record { before = []; flips = flips; after = steps; whole = refl; place = refl; run = tt; refused = refused })
     onward (inl step) (inl run) = inl (step, run)
     onward (inl step) (inr (number, fault, r)) =
-        inr (number + 1, fault, record {
-          before = flips ∷ r.before;
-          flips = r.flips;
-          after = r.after;
-          whole = ap (λ (list : List (List ℕ)). flips ∷ list) r.whole;
-          place = omega (arith, r.place);
-          run = (step, r.run);
-          refused = r.refused;
-        })
+        inr (
+          number + 1,
+          fault,
+          record {
+            before = flips ∷ r.before;
+            flips = r.flips;
+            after = r.after;
+            whole = ap (λ (list : List (List ℕ)). flips ∷ list) r.whole;
+            place = omega (arith, r.place);
+            run = (step, r.run);
+            refused = r.refused;
+          },
+        )
 
 -- a run of a text is accepted, or refused
 abbrev RunDecided : List Driver → List Bool → List Bool → RunOf → Type 0
@@ -221,15 +231,19 @@ after-run net input start run runs (inr (why, refused)) later =
     inr (1, why, record { before = []; run = run; after = runs; whole = refl; place = refl; accepted = All-nil (IsAcceptedRun net input start); is_refused = refused })
 after-run net input start run runs (inl accepted) (inl all) = inl (All-cons (IsAcceptedRun net input start) run runs accepted all)
 after-run net input start run runs (inl accepted) (inr (number, why, r)) =
-    inr (number + 1, why, record {
-      before = run ∷ r.before;
-      run = r.run;
-      after = r.after;
-      whole = ap (λ (list : List RunOf). run ∷ list) r.whole;
-      place = omega (arith, r.place);
-      accepted = All-cons (IsAcceptedRun net input start) run r.before accepted r.accepted;
-      is_refused = r.is_refused;
-    })
+    inr (
+      number + 1,
+      why,
+      record {
+        before = run ∷ r.before;
+        run = r.run;
+        after = r.after;
+        whole = ap (λ (list : List RunOf). run ∷ list) r.whole;
+        place = omega (arith, r.place);
+        accepted = All-cons (IsAcceptedRun net input start) run r.before accepted r.accepted;
+        is_refused = r.is_refused;
+      },
+    )
 
 runs-decided : (netlist : Netlist) (input start : List Bool) (runs : List RunOf) → length start ≡ length (network_of netlist) → AreVariables netlist (all_steps runs) → RunsDecided (network_of netlist) input start runs
 runs-decided netlist input start [] long all = inl (All-nil (IsAcceptedRun (network_of netlist) input start))

@@ -1,6 +1,6 @@
 -- The line of a replay: a variable's name at its end, and its counts.
-use Rattle.std.proofs.Common.{◌≡◌, ◌∙◌, sym, ap, ℕ, ◌+◌, ◌<◌, ◌≤◌, List, [], ◌∷◌, ◌++◌, length, map, take, get_or, Option, Some, None, arith}
-use Rattle.std.proofs.lemmas.List.{length-append, length-map, get_or_past, take_more}
+use Rattle.std.proofs.Common.{◌≡◌, ap, ℕ, ◌+◌, ◌<◌, ◌≤◌, List, [], ◌++◌, length, map, take, get_or, Option, Some, arith}
+use Rattle.std.proofs.lemmas.List.{length-append, length-map, get_or_past}
 use Rattle.std.proofs.lemmas.List.Folds.{length-flat_map-take}
 use Rattle.hz_outside.specs.Written.{joined}
 use Rattle.hz_write.specs.Writes.{newline, line_of}

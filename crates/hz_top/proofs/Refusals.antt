@@ -1,18 +1,17 @@
 -- A run is accepted or refused, and never both.
-use Rattle.std.proofs.Common.{◌≡◌, ◌∙◌, refl, sym, ap, subst, ℕ, ◌+◌, ◌<◌, ◌≤◌, Bool, List, [], ◌∷◌, ◌++◌, length, get_or, Option, Some, None, IfSome, All, arith}
+use Rattle.std.proofs.Common.{◌≡◌, refl, subst, ℕ, Bool, List, [], ◌∷◌, ◌++◌, length, get_or, Option, Some, None, IfSome, All, arith}
 use Rattle.std.proofs.lemmas.List.{length-append}
 use Rattle.hz_core.specs.Netlist.{Netlist}
 use Rattle.hz_net.specs.Network.{Driver, network_of}
 use Rattle.hz_gmw.specs.Runs.{IsRun, end_of}
 use Rattle.hz_gmw.specs.Cycles.{IsNontransient}
 use Rattle.hz_gmw.specs.declared.replay_fault.StepFault.{StepFault}
-use Rattle.hz_gmw.specs.declared.replay_fault.CycleFault.{CycleFault}
 use Rattle.hz_gmw.proofs.Paths.{IsRun-append, IsRun-rest}
 use Rattle.hz_gmw.proofs.ReplayLemmas.{step-or-fault, cycle-or-fault}
 use Rattle.hz_text.specs.RunValue.{RunOf, RunTextOf, cycle_steps}
 use Rattle.hz_top.specs.declared.replaying.Refused.{Refused}
 use Rattle.hz_top.specs.declared.replaying.Refused.TheVariants.{Step, Cycle}
-use Rattle.hz_top.specs.Replaying.{steps_of, IsAcceptedRun, IsRefusedStep, IsRefusedCycle, IsRefusedRun, IsFirstRefusal, start_of, AreAccepted, IsFirstRefused}
+use Rattle.hz_top.specs.Replaying.{steps_of, IsAcceptedRun, IsRefusedStep, IsRefusedRun, start_of, AreAccepted, IsFirstRefused}
 
 -- no step of a run is refused
 run-or-refused : (net : List Driver) (input start : List Bool) (steps : List (List ℕ)) (number : ℕ) (fault : StepFault) → IsRun net input start steps → IsRefusedStep net input start steps number fault → ⊥

@@ -1,5 +1,5 @@
 -- The runs of a text, one after the other.
-use Rattle.std.proofs.Common.{◌≡◌, ◌∙◌, refl, sym, ap, subst, ℕ, ◌+◌, ◌-◌, ◌<◌, ◌≤◌, Bool, List, [], ◌∷◌, ◌++◌, length, take, drop, get_or, Option, Some, None, Result, Ok, Err, MatchResult, All, arith}
+use Rattle.std.proofs.Common.{◌≡◌, ◌∙◌, refl, sym, ap, subst, ℕ, ◌+◌, ◌-◌, ◌<◌, ◌≤◌, Bool, List, ◌∷◌, ◌++◌, length, take, drop, get_or, Option, Some, Result, Ok, Err, MatchResult, All, arith}
 use Rattle.std.specs.Option.{option_map}
 use Rattle.std.specs.List.{flat_map}
 use Rattle.std.proofs.lemmas.List.{take_more, length-take-le, length-append, get_or-append_right}
@@ -13,7 +13,7 @@ use Rattle.hz_gmw.specs.Cycles.{IsNontransient}
 use Rattle.hz_gmw.specs.Replayed.{Replayed, replayed_at}
 use Rattle.hz_text.specs.RunValue.{RunOf, RunTextOf, cycle_steps, all_steps}
 use Rattle.hz_top.specs.declared.replaying.Refused.{Refused}
-use Rattle.hz_top.specs.Replaying.{no_run, steps_of, step_count, IsAcceptedRun, IsRefusedRun, IsFirstRefusal, AreAccepted, IsFirstRefused}
+use Rattle.hz_top.specs.Replaying.{no_run, steps_of, step_count, IsAcceptedRun, IsRefusedRun, IsFirstRefusal}
 use Rattle.hz_top.specs.Made.{AreVariables, run_of, MadeSteps, IsRefusedBehind}
 use Rattle.hz_top.proofs.Steps.{cut-at, run-refused}
 

@@ -1,6 +1,6 @@
 -- What the steps of a run make of a replayer, and where they are refused.
-use Rattle.std.proofs.Common.{◌≡◌, ◌∙◌, refl, sym, ap, subst, ℕ, ◌+◌, ◌<◌, ◌≤◌, Bool, List, [], ◌∷◌, ◌++◌, length, take, drop, get_or, Option, Some, None, All, arith}
-use Rattle.std.proofs.lemmas.List.{take_more, take-append-drop, append-nil, append_assoc, length-take-le, length-append, get_or_append_left, get_or-append_right}
+use Rattle.std.proofs.Common.{◌≡◌, ◌∙◌, refl, sym, ap, subst, ℕ, ◌+◌, ◌<◌, Bool, List, [], ◌∷◌, ◌++◌, length, take, drop, get_or, Some, arith}
+use Rattle.std.proofs.lemmas.List.{take_more, take-append-drop, append-nil, append_assoc, length-take-le, length-append}
 use Rattle.hz_net.specs.Network.{Driver, network_of}
 use Rattle.hz_gmw.specs.Runs.{IsStep, IsRun, flipped, end_of}
 use Rattle.hz_gmw.specs.Cycles.{IsNontransient}
@@ -9,10 +9,9 @@ use Rattle.hz_gmw.specs.ReplayFaults.{IsStepFault, IsCycleFault}
 use Rattle.hz_gmw.specs.declared.replay_fault.StepFault.{StepFault}
 use Rattle.hz_gmw.specs.declared.replay_fault.CycleFault.{CycleFault}
 use Rattle.hz_gmw.proofs.Paths.{end_of-append, IsRun-append}
-use Rattle.hz_text.specs.RunValue.{RunOf}
 use Rattle.hz_top.specs.declared.replaying.Refused.{Refused}
 use Rattle.hz_top.specs.declared.replaying.Refused.TheVariants.{Step, Cycle}
-use Rattle.hz_top.specs.Replaying.{steps_of, IsAcceptedRun, IsRefusedStep, IsRefusedCycle, IsRefusedRun}
+use Rattle.hz_top.specs.Replaying.{IsRefusedStep, IsRefusedRun}
 use Rattle.hz_top.specs.Made.{run_of, MadeSteps, IsRefusedBehind}
 
 -- a list is what stands before a place, what stands there, and what stands behind it

@@ -1,5 +1,5 @@
 -- What the runs of a run text come to, by the step relation and the definitions of cycles.
-use Rattle.std.specs.Prelude.{◌≡◌, ℕ, ◌+◌, ◌⊎◌, Bool, List, [], ◌∷◌, ◌++◌, length, All, Option, Some, None, IfSome, is_some, count_by}
+use Rattle.std.specs.Prelude.{◌≡◌, ℕ, ◌+◌, Bool, List, [], ◌∷◌, ◌++◌, length, All, Some, None, IfSome, is_some, count_by}
 use Rattle.hz_core.specs.Netlist.{Netlist}
 use Rattle.hz_net.specs.Network.{Driver, network_of}
 use Rattle.hz_net.specs.Variables.{expanded}

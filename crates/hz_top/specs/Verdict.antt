@@ -1,5 +1,5 @@
 -- The one line that `replay` writes.
-use Rattle.std.specs.Prelude.{ℕ, ◌≡◌, ◌⊎◌, List, [], ◌∷◌, ◌++◌, length, codes, decimal}
+use Rattle.std.specs.Prelude.{ℕ, ◌⊎◌, List, [], ◌∷◌, ◌++◌, length, codes, decimal}
 use Rattle.hz_write.specs.Writes.{line_of}
 use Rattle.hz_core.specs.Netlist.{Netlist}
 use Rattle.hz_gmw.specs.declared.replay_fault.StepFault.{StepFault}

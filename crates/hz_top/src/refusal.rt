@@ -116,12 +116,7 @@ fn node_name(net: &Net, node: u32) -> &[u8]
 
 // A node for which a text has no value.
 #[tactic(auto, unfolding(crate::specs::Refusal::missing_line))]
-fn put_missing<K: Sink>(
-    out: &mut K,
-    text: &[u8],
-    net: &Net,
-    node: u32,
-) -> Result<(), PutFault>
+fn put_missing<K: Sink>(out: &mut K, text: &[u8], net: &Net, node: u32) -> Result<(), PutFault>
     ensures { Wrote K.written K.faults (missing_line text.now net.now node) out.old out.new result }
 {
     put_line(
@@ -197,12 +192,7 @@ pub(crate) fn refuse_netlist<K: Sink>(out: &mut K, fault: BenchFault) -> Status
 }
 
 // Writes why a text that is called so can't be read on a network.
-pub(crate) fn refuse_text<K: Sink>(
-    out: &mut K,
-    text: &[u8],
-    net: &Net,
-    fault: TextFault,
-) -> Status
+pub(crate) fn refuse_text<K: Sink>(out: &mut K, text: &[u8], net: &Net, fault: TextFault) -> Status
     ensures { Answers K.written K.faults (TextSays text.now net.now fault) out.old out.new result }
 {
     match fault {

@@ -44,12 +44,7 @@ pub(crate) struct RefusedRun {
 }
 
 // Replays the runs of a text on a network.
-pub(crate) fn replay_text<K: Sink>(
-    alloc: Global,
-    net: &Net,
-    text: &[u8],
-    out: &mut K,
-) -> Status
+pub(crate) fn replay_text<K: Sink>(alloc: Global, net: &Net, text: &[u8], out: &mut K) -> Status
     requires { length text.now ≤ most_bytes }
     ensures { Answers K.written K.faults (RunTextComes net.now text.now) out.old out.new result }
 {

@@ -229,14 +229,26 @@ fn replays(rt: HostRuntime) -> Result<(), Fail> {
             1,
             "no: run 2 cycle: differs q(1)\n",
         ),
-        ("run\nrun\nstep s r\nend\n", 0, "yes: runs 2 steps 1 cycles 0\n"),
+        (
+            "run\nrun\nstep s r\nend\n",
+            0,
+            "yes: runs 2 steps 1 cycles 0\n",
+        ),
         (
             "run\nstep r s\nrun\ncycle\nstep r\nstep q\nend\n",
             1,
             "no: run 2 step 2: stable q\n",
         ),
-        ("run\nstep r qb(1) r qb(1)\nend\n", 1, "no: run 1 step 1: repeated r\n"),
-        ("run\nstep qb(3)\nend\n", 4, "refused: runs line 5: unknown name\n"),
+        (
+            "run\nstep r qb(1) r qb(1)\nend\n",
+            1,
+            "no: run 1 step 1: repeated r\n",
+        ),
+        (
+            "run\nstep qb(3)\nend\n",
+            4,
+            "refused: runs line 5: unknown name\n",
+        ),
     ];
     for (runs, code, text) in rows {
         let mut whole = String::from_str(

@@ -129,12 +129,7 @@ fn put_step<K: Sink>(
 }
 
 // A cycle is refused.
-fn put_cycle<K: Sink>(
-    out: &mut K,
-    net: &Net,
-    run: usize,
-    fault: CycleFault,
-) -> Result<(), PutFault>
+fn put_cycle<K: Sink>(out: &mut K, net: &Net, run: usize, fault: CycleFault) -> Result<(), PutFault>
     ensures { Wrote K.written K.faults (cycle_line net.now run fault) out.old out.new result }
 {
     let mut of_run = Buffer::new();
@@ -153,12 +148,7 @@ fn put_cycle<K: Sink>(
 }
 
 // A line of words, the last of which is a variable's name.
-fn put_naming<K: Sink>(
-    out: &mut K,
-    net: &Net,
-    words: &[&[u8]],
-    var: u32,
-) -> Result<(), PutFault>
+fn put_naming<K: Sink>(out: &mut K, net: &Net, words: &[&[u8]], var: u32) -> Result<(), PutFault>
     ensures { Wrote K.written K.faults (naming_line net.now (map (λ word. word.now) words.now) var) out.old out.new result }
 {
     let mut line = Line::new();
@@ -168,12 +158,7 @@ fn put_naming<K: Sink>(
 }
 
 // Adds the name of a variable to a line; of no variable the empty name.
-fn add_name<K: Sink>(
-    line: &mut Line,
-    out: &mut K,
-    net: &Net,
-    var: u32,
-) -> Result<(), PutFault>
+fn add_name<K: Sink>(line: &mut Line, out: &mut K, net: &Net, var: u32) -> Result<(), PutFault>
     ensures { Added K.written K.faults (line.old ++ variable_word net.now var) out.old out.new line.new result }
 {
     if var < net.len() {

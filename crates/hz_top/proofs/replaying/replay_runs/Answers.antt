@@ -1,4 +1,4 @@
-use Rattle.std.proofs.Common.{◌∙◌, ◌<◌, Bool, List, length, get_or, subst, ap, All}
+use Rattle.std.proofs.Common.{◌∙◌, Bool, List, get_or, subst, ap, All}
 use Rattle.std.proofs.lemmas.List.{take_all}
 use Rattle.std.specs.Option.{option_map}
 use Rattle.hz_net.specs.Network.{Driver, network_of}
@@ -43,8 +43,7 @@ loop-number-preserved c =
     let cycle = option_map (λ run. run.now.steps) c.cycle.result in
     let told = same-run lead cycle (get_or runs number no_run) c.lead.ensures c.cycle.ensures in
     let accepted = begun (λ (net : List Driver) (input start : List Bool). IsAcceptedRun net input start (run_of lead cycle))
-    c.args.replay.now c.loop-number.replay c.begin.new.self c.input.result.now c.args.text.now.input c.args.start.now c.begin.ensures.at c.loop-number.invariant.0 c.input.ensures c.in-Ok.ensures.outcome in
-    (
+    c.args.replay.now c.loop-number.replay c.begin.new.self c.input.result.now c.args.text.now.input c.args.start.now c.begin.ensures.at c.loop-number.invariant.0 c.input.ensures c.in-Ok.ensures.outcome in (
       c.in-Ok.ensures.circuit ∙ (ap (λ (r : Replayed). r.circuit) c.begin.ensures.at ∙ c.loop-number.invariant.0),
       accepted-more (network_of c.args.replay.now.circuit) c.args.text.now.input c.args.start.now runs number (run_of lead cycle) told
           (rw c.runs-number-end.ensures at c.loop-number-test.true) c.loop-number.invariant.1 accepted,
