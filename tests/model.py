@@ -271,6 +271,92 @@ class Circuit:
                 yield {name: bit for name, bit in zip(self.names, bits + held) if bit}
 
 
+    def variables(self):
+        """The names of the variables, as run texts spell them; pins are counted from 1."""
+        return list(self.names) + [f"{name}({pin + 1})" for name, _, sources in self.gates for pin in range(len(sources))]
+
+    def run_text(self, runs):
+        """A run text from the start under the new input: runs are pairs of a lead and a cycle, which may be None."""
+        names, lines = self.variables(), ["runs 1"]
+        lines += ["start" + "".join(f" {name}={bit}" for name, bit in zip(self.names, self.start))]
+        lines += ["input" + "".join(f" {name}={bit}" for name, bit in zip(self.inputs, self.new))]
+        spelt = lambda steps: ["".join(["step"] + [f" {names[var]}" for var in step]) for step in steps]
+        for lead, cycle in runs:
+            lines += ["run"] + spelt(lead) + ([] if cycle is None else ["cycle"] + spelt(cycle))
+        return "\n".join(lines + ["end"]) + "\n"
+
+    def replay(self, runs):
+        """Whether the runs are accepted, and the line that says so."""
+        for number, (lead, cycle) in enumerate(runs, 1):
+            why = self.refused(lead, cycle)
+            if why:
+                return 1, f"no: run {number} {why}\n"
+        steps = sum(len(lead) + len(cycle or []) for lead, cycle in runs)
+        return 0, f"yes: runs {len(runs)} steps {steps} cycles {sum(cycle is not None for _, cycle in runs)}\n"
+
+    def refused(self, lead, cycle):
+        """Why a run is refused, if it is: its first step that is none, or its cycle."""
+        states = [self.start]
+        for number, step in enumerate(lead + (cycle or []), 1):
+            why = self.refused_step(states[-1], step)
+            if why:
+                return f"step {number}: {why}"
+            states.append(turned(states[-1], step))
+        return None if cycle is None else self.refused_cycle(states[len(lead):])
+
+    def refused_step(self, state, step):
+        if not step:
+            return "empty"
+        asked, names = self.excitations(state), self.variables()
+        for why, has in (("repeated", lambda var: step.count(var) > 1), ("stable", lambda var: state[var] == asked[var])):
+            if any(map(has, step)):
+                return f"{why} {names[min(filter(has, step))]}"
+        return None
+
+    def refused_cycle(self, states):
+        """Why these states, from the one where a cycle begins to the one where it ends, are no nontransient cycle."""
+        asked, names = list(map(self.excitations, states)), self.variables()
+        differs = lambda var: states[0][var] != states[-1][var]
+        waits = lambda var: all(state[var] == states[0][var] != wanted[var] for state, wanted in zip(states, asked))
+        kinds = (("differs", differs), ("not stable" if len(states) == 1 else "transient", waits))
+        found = [f"cycle: {why} {names[var]}" for why, has in kinds for var in range(len(names)) if has(var)]
+        return found[0] if found else None
+
+    def wanderings(self, chance, count):
+        """Runs that wander through the states: most of their steps are steps, some are not."""
+        for _ in range(count):
+            yield [self.wandering(chance) for _ in range(chance.randint(1, 3))]
+
+    def wandering(self, chance):
+        state, lead = self.start, []
+        for _ in range(chance.randint(0, 12)):
+            state = self.wander(chance, state, lead)
+        if chance.random() < 0.3:
+            return lead, None
+        cycle, begun = [], state
+        for _ in range(chance.choice((0, 2, 4, 8, 20))):
+            state = self.wander(chance, state, cycle)
+            if state == begun and chance.random() < 0.7:
+                break
+        return lead, cycle
+
+    def wander(self, chance, state, steps):
+        """Adds a step to some, and answers the state after it. One in sixty is no step."""
+        unstable = [var for var, (bit, wanted) in enumerate(zip(state, self.excitations(state))) if bit != wanted]
+        if chance.random() < 1 / 60:
+            steps.append([chance.randrange(len(state)) for _ in range(chance.randint(0, 4))])
+            return state
+        if not unstable:
+            return state
+        steps.append(chance.sample(unstable, chance.randint(1, len(unstable))))
+        return turned(state, steps[-1])
+
+
+def turned(state, step):
+    """The state after a step."""
+    return "".join("10"[int(bit)] if var in step else bit for var, bit in enumerate(state))
+
+
 def until_equal(state, after):
     states = [state]
     while len(states) < 2 or states[-1] != states[-2]:

@@ -1,4 +1,4 @@
-//! The text that `analyse` writes: the lines of a circuit with its start, and those of each change.
+//! The text that `analyse` writes: the lines of a circuit with its start, and those of each change. Names of variables.
 //!
 //! The text is written line by line over a [`Sink`](hz_outside::Sink). No call here takes memory by itself.
 //!
@@ -20,3 +20,4 @@ mod words;
 pub use change::{Found, write_change};
 pub use head::write_head;
 pub use runs::write_runs;
+pub use words::add_variable;

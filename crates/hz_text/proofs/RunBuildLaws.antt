@@ -348,14 +348,14 @@ abbrev pub assigned_at : RunEntry → List Assigned
 assigned_at entry = assignments_in (run_held_by entry.held)
 
 ready_at : (netlist : Netlist) (entries : List RunEntry) → All (AssignsBelow (length netlist.names)) entries → IsClearRun netlist (run_entered_all entries) → (start input d : RunEntry) → start ≡ get_or entries 1 d → input ≡ get_or entries 2 d → IsReady netlist entries (assigned_at start) (assigned_at input)
-ready_at netlist [] below clear start input d s i = let wrong : Some 0 ≡ None = clear.order in cc
+ready_at netlist [] below clear start input d s i = let wrong : ◌≡◌ {A = Option ℕ} (Some 0) None = clear.order in cc
 ready_at netlist (header ∷ []) below clear start input d s i =
     let a = first_passes is_header start_out_of_order (run_entered header) [] clear.order in
-    let wrong : Some 0 ≡ None = a.1 in cc
+    let wrong : ◌≡◌ {A = Option ℕ} (Some 0) None = a.1 in cc
 ready_at netlist (header ∷ one ∷ []) below clear start input d s i =
     let a = first_passes is_header start_out_of_order (run_entered header) (run_entered one ∷ []) clear.order in
     let b = first_passes is_start_line input_out_of_order (run_entered one) [] a.1 in
-    let wrong : Some 0 ≡ None = b.1 in cc
+    let wrong : ◌≡◌ {A = Option ℕ} (Some 0) None = b.1 in cc
 ready_at netlist (header ∷ one ∷ two ∷ later) below clear start input d s i =
     let entries = header ∷ one ∷ two ∷ later in
     let inputs = netlist.inputs in
@@ -388,14 +388,14 @@ get_or-any : (entries : List RunEntry) (i : ℕ) (d e : RunEntry) → i < length
 get_or-any entries i d e l = get_or_default entries i d e l
 
 pub long_enough : (entries : List RunEntry) → run_out_of_order (run_entered_all entries) ≡ None → 3 ≤ length entries
-long_enough [] e = let wrong : Some 0 ≡ None = e in cc
+long_enough [] e = let wrong : ◌≡◌ {A = Option ℕ} (Some 0) None = e in cc
 long_enough (header ∷ []) e =
     let a = first_passes is_header start_out_of_order (run_entered header) [] e in
-    let wrong : Some 0 ≡ None = a.1 in cc
+    let wrong : ◌≡◌ {A = Option ℕ} (Some 0) None = a.1 in cc
 long_enough (header ∷ one ∷ []) e =
     let a = first_passes is_header start_out_of_order (run_entered header) (run_entered one ∷ []) e in
     let b = first_passes is_start_line input_out_of_order (run_entered one) [] a.1 in
-    let wrong : Some 0 ≡ None = b.1 in cc
+    let wrong : ◌≡◌ {A = Option ℕ} (Some 0) None = b.1 in cc
 long_enough (header ∷ one ∷ two ∷ later) e = omega arith
 
 -- the second and the third entry of a text without a fault

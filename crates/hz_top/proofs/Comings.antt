@@ -21,6 +21,8 @@ use Rattle.hz_text.specs.declared.fault.TextFault.{TextFault}
 use Rattle.hz_text.specs.declared.fault.TextFault.TheVariants as reading
 use Rattle.hz_text.specs.ScriptFault.{IsLeastFault}
 use Rattle.hz_text.specs.ScriptReading.{IsRefusal}
+use Rattle.hz_text.specs.RunFault.{IsLeastRunFault, IsRunRefusal}
+use Rattle.hz_top.specs.declared.order.SecondText.{SecondText}
 use Rattle.hz_top.specs.declared.status.Status.{Status}
 use Rattle.hz_top.specs.declared.status.Status.TheVariants as status
 use Rattle.hz_top.specs.Outcome.{LoadSays, most_bytes, Unread, Told, told_by, SecondComes}
@@ -71,12 +73,12 @@ start-accepted netlist listed named state slice same is accepted =
     subst (λ (list : List (Option Bool)). IsAcceptedStart netlist list slice) same (subst (IsAcceptedStart netlist listed) (sym is) accepted)
 
 -- what the second file comes to, seen from before the load of the first: that load left the second place as it was
-pub SecondComes-before : {S : Type 0} (held : S → Option (List ℕ → List ℕ)) (faults longs : S → Place → ℕ) (was mid now : S) (netlist : Netlist) (name : List ℕ) → held mid ≡ held was → faults mid Second ≡ faults was Second → longs mid Second ≡ longs was Second → (own : Status) (text : List ℕ) → SecondComes (told_by held faults longs mid now) netlist name own text → SecondComes (told_by held faults longs was now) netlist name own text
-SecondComes-before held faults longs was mid now netlist name same few short own text (inl (inl (rose, says))) =
+pub SecondComes-before : {S : Type 0} (held : S → Option (List ℕ → List ℕ)) (faults longs : S → Place → ℕ) (was mid now : S) (second_is : SecondText) (netlist : Netlist) (name : List ℕ) → held mid ≡ held was → faults mid Second ≡ faults was Second → longs mid Second ≡ longs was Second → (own : Status) (text : List ℕ) → SecondComes (told_by held faults longs mid now) second_is netlist name own text → SecondComes (told_by held faults longs was now) second_is netlist name own text
+SecondComes-before held faults longs was mid now second_is netlist name same few short own text (inl (inl (rose, says))) =
     inl (inl (subst (λ (count : ℕ). Rose count (faults now Second)) few rose, says))
-SecondComes-before held faults longs was mid now netlist name same few short own text (inl (inr (rose, over, says))) =
+SecondComes-before held faults longs was mid now second_is netlist name same few short own text (inl (inr (rose, over, says))) =
     inl (inr (subst (λ (count : ℕ). Rose count (longs now Second)) short rose, subst (λ (told : Option (List ℕ → List ℕ)). IfSome told (λ bytes_of. most_bytes < length (bytes_of name))) same over, says))
-SecondComes-before held faults longs was mid now netlist name same few short own text (inr (bytes, (is, most), says)) =
+SecondComes-before held faults longs was mid now second_is netlist name same few short own text (inr (bytes, (is, most), says)) =
     inr (bytes, (subst (λ (told : Option (List ℕ → List ℕ)). IfSome told (λ bytes_of. bytes ≡ bytes_of name)) same is, most), says)
 
 -- a refusal of a netlist that is not for want of memory is the least fault of its text
@@ -101,3 +103,14 @@ script-refused netlist text (reading.Bit line) least other = least
 script-refused netlist text (reading.Order line) least other = least
 script-refused netlist text (reading.TooMany line) least other = least
 script-refused netlist text reading.Memory least other = absurd (other refl)
+
+-- a refusal of a run text that is not for want of memory is the least fault of its text
+pub runs-refused : (netlist : Netlist) (text : List ℕ) (fault : TextFault) → IsRunRefusal netlist text fault → fault ≢ reading.Memory → IsLeastRunFault netlist text fault
+runs-refused netlist text (reading.Form line) least other = least
+runs-refused netlist text (reading.Unknown line) least other = least
+runs-refused netlist text (reading.Twice line) least other = least
+runs-refused netlist text (reading.Missing node) least other = least
+runs-refused netlist text (reading.Bit line) least other = least
+runs-refused netlist text (reading.Order line) least other = least
+runs-refused netlist text (reading.TooMany line) least other = least
+runs-refused netlist text reading.Memory least other = absurd (other refl)

@@ -1,4 +1,5 @@
--- A job in which nothing is to be refused is done, where memory does not run out and the output is taken.
+-- How a job ends in which nothing is to be refused but a step or a cycle, where memory does not run out and the output is
+-- taken.
 use Rattle.std.proofs.Common.{◌≡◌, ℕ, ◌⊎◌, inl, inr, List, Option, Some, None, IfSome, refl, subst, sym, ◌∙◌, ap, arith}
 use Rattle.hz_outside.specs.Counts.{Rose}
 use Rattle.hz_outside.specs.declared.fault.Place.TheVariants.{First, Second}
@@ -8,12 +9,17 @@ use Rattle.hz_bench.specs.Netlist.{netlist_of}
 use Rattle.hz_bench.specs.Text.{statements_of}
 use Rattle.hz_text.specs.ScriptText.{IsValue}
 use Rattle.hz_text.specs.ScriptValue.{ScriptOf}
+use Rattle.hz_text.specs.RunValue.{RunTextOf}
+use Rattle.hz_top.specs.declared.order.SecondText.{SecondText}
+use Rattle.hz_top.specs.declared.order.SecondText.TheVariants.{Script, Runs}
 use Rattle.hz_top.specs.declared.status.Status.{Status}
 use Rattle.hz_top.specs.declared.status.Status.TheVariants as status
 use Rattle.hz_top.specs.Answer.{Answers}
-use Rattle.hz_top.specs.Faultless.{IsFaultlessScript, IsFaultlessJob}
-use Rattle.hz_top.specs.Job.{JobOf, Analyse}
-use Rattle.hz_top.specs.Outcome.{Told, ScriptComes, SecondTextComes, SecondComes, FilesCome, JobComes}
+use Rattle.hz_top.specs.Faultless.{IsFaultlessScript, IsFaultlessRuns, IsFaultlessText, EndsReplay, AreFaultless, IsFaultlessJob}
+use Rattle.hz_top.specs.Job.{JobOf, Analyse, Replay}
+use Rattle.hz_top.specs.Outcome.{Told, ScriptComes, ScriptTextComes, RunTextComes, SecondTextComes, SecondComes, FilesCome, JobComes}
+use Rattle.hz_top.specs.Verdict.{ReplayComes}
+use Rattle.hz_top.proofs.Refusals.{accepted-or-refused}
 
 -- a script comes to its report
 script-done : (netlist : Netlist) (text : List ℕ) (value : ScriptOf) (own : Status) (said : List ℕ) → IsFaultlessScript netlist text → IsValue netlist text value → ScriptComes netlist value own said → own ≡ status.Done
@@ -23,49 +29,71 @@ script-done netlist text value own said good is (inr (inl (few, own_is, inl (gat
 script-done netlist text value own said good is (inr (inl (few, own_is, inr (gate, unstable, line)))) = absurd (good.stable value is gate unstable)
 script-done netlist text value own said good is (inr (inr (few, (start, accepted, reports)))) = reports.0
 
--- a text comes to its script's report
-text-done : (netlist : Netlist) (text : List ℕ) (own : Status) (said : List ℕ) → IsFaultlessScript netlist text → SecondTextComes netlist text own said → own ≡ status.Done
-text-done netlist text own said good (inl (fault, least, says)) = absurd (good.faultless fault least.stands)
-text-done netlist text own said good (inr (value, faultless, is, comes)) = script-done netlist text value own said good is comes
+-- the text of a script comes to its report
+script-text-done : (netlist : Netlist) (text : List ℕ) (own : Status) (said : List ℕ) → IsFaultlessScript netlist text → ScriptTextComes netlist text own said → own ≡ status.Done
+script-text-done netlist text own said good (inl (fault, least, says)) = absurd (good.faultless fault least.stands)
+script-text-done netlist text own said good (inr (value, faultless, is, comes)) = script-done netlist text value own said good is comes
+
+-- a replay comes to the one of both ends that it has
+replay-ends : (netlist : Netlist) (value : RunTextOf) (wanted own : Status) (said : List ℕ) → EndsReplay netlist value wanted → ReplayComes netlist value own said → own ≡ wanted
+replay-ends netlist value wanted own said (inl (accepted, is)) (inl (also, says)) = says.0 ∙ sym is
+replay-ends netlist value wanted own said (inl (accepted, is)) (inr (number, why, refused, says)) = absurd (accepted-or-refused netlist value number why accepted refused)
+replay-ends netlist value wanted own said (inr (number, why, refused, is)) (inl (accepted, says)) = absurd (accepted-or-refused netlist value number why accepted refused)
+replay-ends netlist value wanted own said (inr (number, why, refused, is)) (inr (other, because, also, says)) = says.0 ∙ sym is
+
+-- a run text comes to the end of its replay
+runs-end : (netlist : Netlist) (text : List ℕ) (wanted own : Status) (said : List ℕ) → IsFaultlessRuns netlist text wanted → RunTextComes netlist text own said → own ≡ wanted
+runs-end netlist text wanted own said good (inl (fault, least, says)) = absurd (good.faultless fault least.stands)
+runs-end netlist text wanted own said good (inr (value, faultless, is, comes)) = replay-ends netlist value wanted own said (good.ends value is) comes
+
+-- the second text comes to its end
+text-ends : (second_is : SecondText) (netlist : Netlist) (text : List ℕ) (wanted own : Status) (said : List ℕ) → IsFaultlessText second_is netlist text wanted → SecondTextComes second_is netlist text own said → own ≡ wanted
+text-ends Script netlist text wanted own said good comes = script-text-done netlist text own said good.0 comes ∙ sym good.1
+text-ends Runs netlist text wanted own said good comes = runs-end netlist text wanted own said good comes
 
 -- the bytes of a file that is told are the told ones
-told-bytes : (told : Told) (first second : List ℕ) (good : IsFaultlessJob told first second) (name bytes : List ℕ) → IfSome told.held (λ bytes_of. bytes ≡ bytes_of name) → bytes ≡ good.bytes_of name
-told-bytes told first second good name bytes is =
-    subst (λ (held : Option (List ℕ → List ℕ)). IfSome held (λ bytes_of. bytes ≡ bytes_of name)) good.is_told is
+told-bytes : (told : Told) (bytes_of : List ℕ → List ℕ) (name bytes : List ℕ) → told.held ≡ Some bytes_of → IfSome told.held (λ bytes_of. bytes ≡ bytes_of name) → bytes ≡ bytes_of name
+told-bytes told bytes_of name bytes is_told is =
+    subst (λ (held : Option (List ℕ → List ℕ)). IfSome held (λ bytes_of. bytes ≡ bytes_of name)) is_told is
 
--- the second file comes to a report
-second-done : (told : Told) (first second : List ℕ) (good : IsFaultlessJob told first second) (own : Status) (said : List ℕ) → SecondComes told (netlist_of (statements_of (good.bytes_of first))) second own said → own ≡ status.Done
-second-done told first second good own said (inl (inl (rose, says))) = absurd (good.none_failed Second rose)
-second-done told first second good own said (inl (inr (rose, over, says))) = absurd (good.none_long Second rose)
-second-done told first second good own said (inr (bytes, (is, short), comes)) =
-    text-done (netlist_of (statements_of (good.bytes_of first))) (good.bytes_of second) own said good.script
-    (subst (λ (text : List ℕ). SecondTextComes (netlist_of (statements_of (good.bytes_of first))) text own said) (told-bytes told first second good second bytes is) comes)
+-- the second file comes to its end
+second-ends : (told : Told) (second_is : SecondText) (first second : List ℕ) (wanted : Status) (good : AreFaultless told second_is first second wanted) (own : Status) (said : List ℕ) → SecondComes told second_is (netlist_of (statements_of (good.bytes_of first))) second own said → own ≡ wanted
+second-ends told second_is first second wanted good own said (inl (inl (rose, says))) = absurd (good.none_failed Second rose)
+second-ends told second_is first second wanted good own said (inl (inr (rose, over, says))) = absurd (good.none_long Second rose)
+second-ends told second_is first second wanted good own said (inr (bytes, (is, short), comes)) =
+    text-ends second_is (netlist_of (statements_of (good.bytes_of first))) (good.bytes_of second) wanted own said good.text
+    (subst (λ (text : List ℕ). SecondTextComes second_is (netlist_of (statements_of (good.bytes_of first))) text own said) (told-bytes told good.bytes_of second bytes good.is_told is) comes)
 
--- the two files come to a report
-files-done : (told : Told) (first second : List ℕ) (good : IsFaultlessJob told first second) (own : Status) (said : List ℕ) → FilesCome told first second own said → own ≡ status.Done
-files-done told first second good own said (inl (inl (rose, says))) = absurd (good.none_failed First rose)
-files-done told first second good own said (inl (inr (rose, over, says))) = absurd (good.none_long First rose)
-files-done told first second good own said (inr (bytes, (is, short), inl (fault, least, says))) =
-    let here = subst (λ (text : List ℕ). IsLeastFault text fault) (told-bytes told first second good first bytes is) least in
+-- the two files come to their end
+files-end : (told : Told) (second_is : SecondText) (first second : List ℕ) (wanted : Status) (good : AreFaultless told second_is first second wanted) (own : Status) (said : List ℕ) → FilesCome told second_is first second own said → own ≡ wanted
+files-end told second_is first second wanted good own said (inl (inl (rose, says))) = absurd (good.none_failed First rose)
+files-end told second_is first second wanted good own said (inl (inr (rose, over, says))) = absurd (good.none_long First rose)
+files-end told second_is first second wanted good own said (inr (bytes, (is, short), inl (fault, least, says))) =
+    let here = subst (λ (text : List ℕ). IsLeastFault text fault) (told-bytes told good.bytes_of first bytes good.is_told is) least in
     absurd (good.netlist fault here.stands)
-files-done told first second good own said (inr (bytes, (is, short), inr (none, comes))) =
-    second-done told first second good own said
-    (subst (λ (text : List ℕ). SecondComes told (netlist_of (statements_of text)) second own said) (told-bytes told first second good first bytes is) comes)
+files-end told second_is first second wanted good own said (inr (bytes, (is, short), inr (none, comes))) =
+    second-ends told second_is first second wanted good own said
+    (subst (λ (text : List ℕ). SecondComes told second_is (netlist_of (statements_of text)) second own said) (told-bytes told good.bytes_of first bytes good.is_told is) comes)
 
--- the job comes to a report
-job-done : (told : Told) (asked : Option JobOf) (first second : List ℕ) → asked ≡ Some (Analyse first second) → IsFaultlessJob told first second → (own : Status) (said : List ℕ) → JobComes told asked own said → own ≡ status.Done
-job-done told asked first second is good own said comes =
-    files-done told first second good own said (subst (λ (job : Option JobOf). JobComes told job own said) is comes)
+-- a job comes to its end
+job-end : (told : Told) (job : JobOf) (wanted : Status) → IsFaultlessJob told job wanted → (own : Status) (said : List ℕ) → JobComes told (Some job) own said → own ≡ wanted
+job-end told (Analyse first second) wanted good own said comes = files-end told Script first second wanted good own said comes
+job-end told (Replay first second) wanted good own said comes = files-end told Runs first second wanted good own said comes
+
+-- and what was asked is this job
+asked-end : (told : Told) (asked : Option JobOf) (job : JobOf) (wanted : Status) → asked ≡ Some job → IsFaultlessJob told job wanted → (own : Status) (said : List ℕ) → JobComes told asked own said → own ≡ wanted
+asked-end told asked job wanted is good own said comes =
+    job-end told job wanted good own said (subst (λ (job : Option JobOf). JobComes told job own said) is comes)
 
 -- and a call ends so, or for want of memory
-pub done-or-memory : {S : Type 0} (written : S → Option (List ℕ)) (faults : S → ℕ) (told : Told) (asked : Option JobOf) (was now : S) (ends : Status) → Answers written faults (JobComes told asked) was now ends → (first second : List ℕ) → asked ≡ Some (Analyse first second) → IsFaultlessJob told first second → ¬ Rose (faults was) (faults now) → (ends ≡ status.Done) ⊎ (ends ≡ status.Memory)
-done-or-memory written faults told asked was now status.Done answer first second is good quiet = inl refl
-done-or-memory written faults told asked was now status.No (text, says, grew) first second is good quiet = inl (job-done told asked first second is good status.No text says)
-done-or-memory written faults told asked was now status.Words (text, says, grew) first second is good quiet = inl (job-done told asked first second is good status.Words text says)
-done-or-memory written faults told asked was now status.Netlist (text, says, grew) first second is good quiet = inl (job-done told asked first second is good status.Netlist text says)
-done-or-memory written faults told asked was now status.Text (text, says, grew) first second is good quiet = inl (job-done told asked first second is good status.Text text says)
-done-or-memory written faults told asked was now status.Start (text, says, grew) first second is good quiet = inl (job-done told asked first second is good status.Start text says)
-done-or-memory written faults told asked was now status.File (text, says, grew) first second is good quiet = inl (job-done told asked first second is good status.File text says)
-done-or-memory written faults told asked was now status.TooLong (text, says, grew) first second is good quiet = inl (job-done told asked first second is good status.TooLong text says)
-done-or-memory written faults told asked was now status.Sink (rose, front) first second is good quiet = absurd (quiet rose)
-done-or-memory written faults told asked was now status.Memory front first second is good quiet = inr refl
+pub ends-or-memory : {S : Type 0} (written : S → Option (List ℕ)) (faults : S → ℕ) (told : Told) (asked : Option JobOf) (was now : S) (ends : Status) → Answers written faults (JobComes told asked) was now ends → (job : JobOf) (wanted : Status) → asked ≡ Some job → IsFaultlessJob told job wanted → ¬ Rose (faults was) (faults now) → (ends ≡ wanted) ⊎ (ends ≡ status.Memory)
+ends-or-memory written faults told asked was now status.Done (text, says, grew) job wanted is good quiet = inl (asked-end told asked job wanted is good status.Done text says)
+ends-or-memory written faults told asked was now status.No (text, says, grew) job wanted is good quiet = inl (asked-end told asked job wanted is good status.No text says)
+ends-or-memory written faults told asked was now status.Words (text, says, grew) job wanted is good quiet = inl (asked-end told asked job wanted is good status.Words text says)
+ends-or-memory written faults told asked was now status.Netlist (text, says, grew) job wanted is good quiet = inl (asked-end told asked job wanted is good status.Netlist text says)
+ends-or-memory written faults told asked was now status.Text (text, says, grew) job wanted is good quiet = inl (asked-end told asked job wanted is good status.Text text says)
+ends-or-memory written faults told asked was now status.Start (text, says, grew) job wanted is good quiet = inl (asked-end told asked job wanted is good status.Start text says)
+ends-or-memory written faults told asked was now status.File (text, says, grew) job wanted is good quiet = inl (asked-end told asked job wanted is good status.File text says)
+ends-or-memory written faults told asked was now status.TooLong (text, says, grew) job wanted is good quiet = inl (asked-end told asked job wanted is good status.TooLong text says)
+ends-or-memory written faults told asked was now status.Sink (rose, front) job wanted is good quiet = absurd (quiet rose)
+ends-or-memory written faults told asked was now status.Memory front job wanted is good quiet = inr refl

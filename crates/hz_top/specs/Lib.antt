@@ -3,6 +3,9 @@ pub mod Job
 pub mod Finding
 pub mod Answer
 pub mod Refusal
+pub mod Replaying
+pub mod Made
+pub mod Verdict
 pub mod Reports
 pub mod Outcome
 pub mod Faultless

@@ -1,5 +1,5 @@
 -- What a job comes to, in the order of work: the status and the text that is written.
-use Rattle.std.specs.Prelude.{◌≡◌, ◌≢◌, ℕ, ◌<◌, ◌≤◌, ◌⊎◌, Bool, List, length, Option, Some, None, IfSome}
+use Rattle.std.specs.Prelude.{◌≡◌, ◌≢◌, ℕ, ◌<◌, ◌≤◌, ◌⊎◌, Bool, List, length, codes, Option, Some, None, IfSome}
 use Rattle.hz_outside.specs.Counts.{Rose}
 use Rattle.hz_outside.specs.declared.fault.Place.{Place}
 use Rattle.hz_outside.specs.declared.fault.Place.TheVariants.{First, Second}
@@ -17,12 +17,18 @@ use Rattle.hz_text.specs.declared.fault.TextFault.TheVariants as reading
 use Rattle.hz_text.specs.ScriptFault as script
 use Rattle.hz_text.specs.ScriptText.{IsValue}
 use Rattle.hz_text.specs.ScriptValue.{ScriptOf}
+use Rattle.hz_text.specs.RunFault.{IsLeastRunFault, IsRunFaultless}
+use Rattle.hz_text.specs.RunText.{IsRunValue}
+use Rattle.hz_text.specs.RunValue.{RunTextOf}
 use Rattle.hz_top.specs.declared.status.Status.{Status}
 use Rattle.hz_top.specs.declared.status.Status.TheVariants as status
 use Rattle.hz_top.specs.Answer.{Says}
 use Rattle.hz_top.specs.Reports.{Reports}
-use Rattle.hz_top.specs.Job.{JobOf, Analyse}
-use Rattle.hz_top.specs.Refusal.{words_line, unread_line, long_line, netlist_line, script_line, sequence_line, open_line, unstable_line}
+use Rattle.hz_top.specs.Verdict.{ReplayComes}
+use Rattle.hz_top.specs.Job.{JobOf, Analyse, Replay}
+use Rattle.hz_top.specs.declared.order.SecondText.{SecondText}
+use Rattle.hz_top.specs.declared.order.SecondText.TheVariants.{Script, Runs}
+use Rattle.hz_top.specs.Refusal.{words_line, unread_line, long_line, netlist_line, text_line, sequence_line, open_line, unstable_line}
 
 -- the most bytes of a file
 abbrev pub most_bytes : ℕ
@@ -42,11 +48,22 @@ ScriptComes netlist script own text =
     ⊎ ((length script.changes ≤ 1)
     × ((start : List Bool) × IsAcceptedStart netlist script.start start × Reports netlist start script.changes own text))
 
--- what the second text comes to, on a circuit
-abbrev pub SecondTextComes : Netlist → List ℕ → Status → List ℕ → Type 0
-SecondTextComes netlist bytes own text =
-    ((fault : TextFault) × script.IsLeastFault netlist bytes fault × Says status.Text (script_line netlist fault) own text)
+-- what the text of a script comes to, on a circuit
+abbrev pub ScriptTextComes : Netlist → List ℕ → Status → List ℕ → Type 0
+ScriptTextComes netlist bytes own text =
+    ((fault : TextFault) × script.IsLeastFault netlist bytes fault × Says status.Text (text_line (codes "script") netlist fault) own text)
     ⊎ ((value : ScriptOf) × script.IsFaultless netlist bytes × IsValue netlist bytes value × ScriptComes netlist value own text)
+
+-- what a run text comes to, on a circuit
+abbrev pub RunTextComes : Netlist → List ℕ → Status → List ℕ → Type 0
+RunTextComes netlist bytes own text =
+    ((fault : TextFault) × IsLeastRunFault netlist bytes fault × Says status.Text (text_line (codes "runs") netlist fault) own text)
+    ⊎ ((value : RunTextOf) × IsRunFaultless netlist bytes × IsRunValue netlist bytes value × ReplayComes netlist value own text)
+
+-- what the second text comes to, by what it is
+abbrev pub SecondTextComes : SecondText → Netlist → List ℕ → Status → List ℕ → Type 0
+SecondTextComes Script = ScriptTextComes
+SecondTextComes Runs = RunTextComes
 
 -- what files tell and count: the bytes under each name where they are told, and the counts of loads that failed and of
 -- files that were too long, before the call and after it
@@ -79,40 +96,42 @@ LoadSays place load.Memory own text = ⊥
 abbrev pub NetlistSays : BenchFault → Status → List ℕ → Type 0
 NetlistSays fault own text = (fault ≢ bench.Memory) × Says status.Netlist (netlist_line fault) own text
 
--- what is written of a fault of a script's text: for want of memory nothing
-abbrev pub TextSays : Netlist → TextFault → Status → List ℕ → Type 0
-TextSays netlist fault own text = (fault ≢ reading.Memory) × Says status.Text (script_line netlist fault) own text
+-- what is written of a fault of a text that is called so: for want of memory nothing
+abbrev pub TextSays : List ℕ → Netlist → TextFault → Status → List ℕ → Type 0
+TextSays called netlist fault own text = (fault ≢ reading.Memory) × Says status.Text (text_line called netlist fault) own text
 
 -- the bytes are those of the file, where they are told, and not too many
 abbrev pub IsFile : Told → List ℕ → List ℕ → Type 0
 IsFile told name bytes = IfSome told.held (λ bytes_of. bytes ≡ bytes_of name) × (length bytes ≤ most_bytes)
 
 -- what the second file comes to, on a circuit
-abbrev pub SecondComes : Told → Netlist → List ℕ → Status → List ℕ → Type 0
-SecondComes told netlist name own text =
+abbrev pub SecondComes : Told → SecondText → Netlist → List ℕ → Status → List ℕ → Type 0
+SecondComes told second_is netlist name own text =
     Unread told Second name own text
-    ⊎ ((bytes : List ℕ) × IsFile told name bytes × SecondTextComes netlist bytes own text)
+    ⊎ ((bytes : List ℕ) × IsFile told name bytes × SecondTextComes second_is netlist bytes own text)
 
 -- what the first text comes to, and then the second file
-abbrev pub FirstTextComes : Told → List ℕ → List ℕ → Status → List ℕ → Type 0
-FirstTextComes told bytes second own text =
+abbrev pub FirstTextComes : Told → SecondText → List ℕ → List ℕ → Status → List ℕ → Type 0
+FirstTextComes told second_is bytes second own text =
     ((fault : BenchFault) × IsLeastFault bytes fault × Says status.Netlist (netlist_line fault) own text)
-    ⊎ (IsFaultless bytes × SecondComes told (netlist_of (statements_of bytes)) second own text)
+    ⊎ (IsFaultless bytes × SecondComes told second_is (netlist_of (statements_of bytes)) second own text)
 
 -- what the two files come to
-abbrev pub FilesCome : Told → List ℕ → List ℕ → Status → List ℕ → Type 0
-FilesCome told first second own text =
+abbrev pub FilesCome : Told → SecondText → List ℕ → List ℕ → Status → List ℕ → Type 0
+FilesCome told second_is first second own text =
     Unread told First first own text
-    ⊎ ((bytes : List ℕ) × IsFile told first bytes × FirstTextComes told bytes second own text)
+    ⊎ ((bytes : List ℕ) × IsFile told first bytes × FirstTextComes told second_is bytes second own text)
 
 -- what a job comes to; without a job the words are refused, and no file is loaded
 abbrev pub JobComes : Told → Option JobOf → Status → List ℕ → Type 0
 JobComes told None own text =
     ((place : Place) → (told.faults_after place ≡ told.faults place) × (told.longs_after place ≡ told.longs place))
     × Says status.Words words_line own text
-JobComes told (Some (Analyse first second)) own text = FilesCome told first second own text
+JobComes told (Some (Analyse first second)) own text = FilesCome told Script first second own text
+JobComes told (Some (Replay first second)) own text = FilesCome told Runs first second own text
 
 -- the loads that a job may make: each of its two files at its place, with the limit
 abbrev pub MayLoad : (Place → List ℕ → ℕ → Type 0) → Option JobOf → Type 0
 MayLoad granted None = Unit {0}
 MayLoad granted (Some (Analyse first second)) = granted First first most_bytes × granted Second second most_bytes
+MayLoad granted (Some (Replay first second)) = granted First first most_bytes × granted Second second most_bytes

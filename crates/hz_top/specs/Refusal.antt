@@ -40,9 +40,10 @@ counted_line line fault count =
 unfoldable pub variables_line : ℕ → List ℕ
 variables_line variables = line_of (codes "refused: netlist: variables " ∷ decimal variables ∷ [])
 
--- an input that a start does not list
-unfoldable pub missing_line : Netlist → ℕ → List ℕ
-missing_line netlist node = line_of (codes "refused: script: no value for " ∷ node_name netlist node ∷ [])
+-- a node for which a text has no value
+unfoldable pub missing_line : List ℕ → Netlist → ℕ → List ℕ
+missing_line text netlist node =
+    line_of (codes "refused: " ∷ text ∷ codes ": no value for " ∷ node_name netlist node ∷ [])
 
 -- a fault of a netlist's text; for want of memory there is no line
 abbrev pub netlist_line : BenchFault → List ℕ
@@ -56,16 +57,16 @@ netlist_line (bench.Undefined line) = fault_line (codes "netlist") line (codes "
 netlist_line (bench.TooMany variables) = variables_line variables
 netlist_line bench.Memory = []
 
--- a fault of a script's text on a circuit; for want of memory there is no line
-abbrev pub script_line : Netlist → TextFault → List ℕ
-script_line netlist (fault.Form line) = fault_line (codes "script") line (codes ": form")
-script_line netlist (fault.Unknown line) = fault_line (codes "script") line (codes ": unknown name")
-script_line netlist (fault.Twice line) = fault_line (codes "script") line (codes ": assigned twice")
-script_line netlist (fault.Missing node) = missing_line netlist node
-script_line netlist (fault.Bit line) = fault_line (codes "script") line (codes ": bit")
-script_line netlist (fault.Order line) = fault_line (codes "script") line (codes ": order")
-script_line netlist (fault.TooMany line) = fault_line (codes "script") line (codes ": too many")
-script_line netlist fault.Memory = []
+-- a fault of a text that is called so, on a circuit; for want of memory there is no line
+abbrev pub text_line : List ℕ → Netlist → TextFault → List ℕ
+text_line text netlist (fault.Form line) = fault_line text line (codes ": form")
+text_line text netlist (fault.Unknown line) = fault_line text line (codes ": unknown name")
+text_line text netlist (fault.Twice line) = fault_line text line (codes ": assigned twice")
+text_line text netlist (fault.Missing node) = missing_line text netlist node
+text_line text netlist (fault.Bit line) = fault_line text line (codes ": bit")
+text_line text netlist (fault.Order line) = fault_line text line (codes ": order")
+text_line text netlist (fault.TooMany line) = fault_line text line (codes ": too many")
+text_line text netlist fault.Memory = []
 
 -- a script with more than one change, until sequences of changes are analysed
 unfoldable pub sequence_line : List ℕ

@@ -4,26 +4,32 @@
 //! |---|---|
 //! | `status` | how a call of the program ends |
 //! | `job` | what the words ask for |
-//! | `refusal` | the lines of refusals |
+//! | `order` | the order of work: two files, and then what the job does with the second text |
+//! | `refusal` | refusals: their lines and their statuses |
+//! | `analysis` | the job `analyse`: the text of a script, and its start |
 //! | `finding` | what one change may do |
 //! | `reporting` | what is printed of a start and of a change |
 //! | `reading_back` | a law on the run that is printed |
-//! | `analysis` | the job `analyse`, from its two files on |
+//! | `replaying` | the job `replay`: the runs of a run text, step by step |
+//! | `verdict` | the line that `replay` writes |
 //! | `running` | the top call |
 #![tactic(auto)]
 
 mod analysis;
 mod finding;
 mod job;
+mod order;
 mod reading_back;
 mod refusal;
+mod replaying;
 mod reporting;
 mod running;
 mod status;
 #[cfg(test)]
 mod tests;
+mod verdict;
 
-pub use analysis::MAX_BYTES;
+pub use order::MAX_BYTES;
 pub use reading_back::printed_run_reads_back;
 pub use running::run;
 pub use status::Status;

@@ -1,12 +1,15 @@
-//! The lines of refusals.
+//! Refusals: their lines and their statuses.
 ghost use Rattle.std.specs.Prelude.{◌≡◌};
 ghost use Rattle.hz_write.specs.Writes.{Wrote};
 ghost use Rattle.hz_report.specs.Words.{node_name};
-ghost use Rattle.hz_top.specs.Refusal.{words_line, unread_line, long_line, place_word, fault_line, counted_line, variables_line, missing_line, netlist_line, script_line, sequence_line, open_line, unstable_line};
+ghost use Rattle.hz_top.specs.Answer.{Answers};
+ghost use Rattle.hz_top.specs.Outcome.{LoadSays, NetlistSays, TextSays};
+ghost use Rattle.hz_top.specs.Refusal.{words_line, unread_line, long_line, place_word, fault_line, counted_line, variables_line, missing_line, netlist_line, text_line, sequence_line, open_line, unstable_line};
 
+use crate::status::{Status, status_after};
 use hz_bench::BenchFault;
 use hz_net::Net;
-use hz_outside::{Place, PutFault, Sink};
+use hz_outside::{LoadFault, Place, PutFault, Sink};
 use hz_text::TextFault;
 use hz_write::put_line;
 use itoa::Buffer;
@@ -34,7 +37,7 @@ fn place_word(place: Place) -> &'static [u8]
 
 // A file that was not read.
 #[tactic(auto, unfolding(crate::specs::Refusal::unread_line))]
-pub(crate) fn put_unread<K: Sink>(out: &mut K, place: Place) -> Result<(), PutFault>
+fn put_unread<K: Sink>(out: &mut K, place: Place) -> Result<(), PutFault>
     ensures { Wrote K.written K.faults (unread_line place) out.old out.new result }
 {
     put_line(out, &[b"refused: ", place_word(place), b" file not read"])
@@ -42,7 +45,7 @@ pub(crate) fn put_unread<K: Sink>(out: &mut K, place: Place) -> Result<(), PutFa
 
 // A file with too many bytes.
 #[tactic(auto, unfolding(crate::specs::Refusal::long_line))]
-pub(crate) fn put_long<K: Sink>(out: &mut K, place: Place) -> Result<(), PutFault>
+fn put_long<K: Sink>(out: &mut K, place: Place) -> Result<(), PutFault>
     ensures { Wrote K.written K.faults (long_line place) out.old out.new result }
 {
     put_line(out, &[b"refused: ", place_word(place), b" file too long"])
@@ -81,7 +84,7 @@ fn put_variables<K: Sink>(out: &mut K, variables: u32) -> Result<(), PutFault>
 }
 
 // A fault of a netlist's text. For want of memory there is no line.
-pub(crate) fn put_netlist_fault<K: Sink>(out: &mut K, fault: BenchFault) -> Result<(), PutFault>
+fn put_netlist_fault<K: Sink>(out: &mut K, fault: BenchFault) -> Result<(), PutFault>
     ensures { Wrote K.written K.faults (netlist_line fault) out.old out.new result }
 {
     match fault {
@@ -111,33 +114,34 @@ fn node_name(net: &Net, node: u32) -> &[u8]
     }
 }
 
-// An input that a start does not list.
+// A node for which a text has no value.
 #[tactic(auto, unfolding(crate::specs::Refusal::missing_line))]
-fn put_missing<K: Sink>(out: &mut K, net: &Net, node: u32) -> Result<(), PutFault>
-    ensures { Wrote K.written K.faults (missing_line net.now node) out.old out.new result }
+fn put_missing<K: Sink>(out: &mut K, text: &[u8], net: &Net, node: u32) -> Result<(), PutFault>
+    ensures { Wrote K.written K.faults (missing_line text.now net.now node) out.old out.new result }
 {
     put_line(
         out,
-        &[b"refused: script: no value for ", node_name(net, node)],
+        &[b"refused: ", text, b": no value for ", node_name(net, node)],
     )
 }
 
-// A fault of a script's text. For want of memory there is no line.
-pub(crate) fn put_script_fault<K: Sink>(
+// A fault of a text that is called so. For want of memory there is no line.
+fn put_text_fault<K: Sink>(
     out: &mut K,
+    text: &[u8],
     net: &Net,
     fault: TextFault,
 ) -> Result<(), PutFault>
-    ensures { Wrote K.written K.faults (script_line net.now fault) out.old out.new result }
+    ensures { Wrote K.written K.faults (text_line text.now net.now fault) out.old out.new result }
 {
     match fault {
-        TextFault::Form { line } => put_at(out, b"script", line, b": form"),
-        TextFault::Unknown { line } => put_at(out, b"script", line, b": unknown name"),
-        TextFault::Twice { line } => put_at(out, b"script", line, b": assigned twice"),
-        TextFault::Missing { node } => put_missing(out, net, node),
-        TextFault::Bit { line } => put_at(out, b"script", line, b": bit"),
-        TextFault::Order { line } => put_at(out, b"script", line, b": order"),
-        TextFault::TooMany { line } => put_at(out, b"script", line, b": too many"),
+        TextFault::Form { line } => put_at(out, text, line, b": form"),
+        TextFault::Unknown { line } => put_at(out, text, line, b": unknown name"),
+        TextFault::Twice { line } => put_at(out, text, line, b": assigned twice"),
+        TextFault::Missing { node } => put_missing(out, text, net, node),
+        TextFault::Bit { line } => put_at(out, text, line, b": bit"),
+        TextFault::Order { line } => put_at(out, text, line, b": order"),
+        TextFault::TooMany { line } => put_at(out, text, line, b": too many"),
         TextFault::Memory => Ok(()),
     }
 }
@@ -164,4 +168,35 @@ pub(crate) fn put_unstable<K: Sink>(out: &mut K, net: &Net, gate: u32) -> Result
     ensures { Wrote K.written K.faults (unstable_line net.now gate) out.old out.new result }
 {
     put_line(out, &[b"refused: start: unstable ", node_name(net, gate)])
+}
+
+// Writes why a file was not loaded.
+pub(crate) fn refuse_load<K: Sink>(out: &mut K, place: Place, fault: LoadFault) -> Status
+    ensures { Answers K.written K.faults (LoadSays place fault) out.old out.new result }
+{
+    match fault {
+        LoadFault::Failed => status_after(put_unread(out, place), Status::File),
+        LoadFault::TooLong => status_after(put_long(out, place), Status::TooLong),
+        LoadFault::Memory => Status::Memory,
+    }
+}
+
+// Writes why a text is no netlist.
+pub(crate) fn refuse_netlist<K: Sink>(out: &mut K, fault: BenchFault) -> Status
+    ensures { Answers K.written K.faults (NetlistSays fault) out.old out.new result }
+{
+    match fault {
+        BenchFault::Memory => Status::Memory,
+        _ => status_after(put_netlist_fault(out, fault), Status::Netlist),
+    }
+}
+
+// Writes why a text that is called so can't be read on a network.
+pub(crate) fn refuse_text<K: Sink>(out: &mut K, text: &[u8], net: &Net, fault: TextFault) -> Status
+    ensures { Answers K.written K.faults (TextSays text.now net.now fault) out.old out.new result }
+{
+    match fault {
+        TextFault::Memory => Status::Memory,
+        _ => status_after(put_text_fault(out, text, net, fault), Status::Text),
+    }
 }

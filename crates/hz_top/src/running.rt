@@ -1,14 +1,14 @@
 //! The top call.
-ghost use Rattle.std.specs.Prelude.{◌≡◌, ◌⊎◌, ℕ, List, map, Some};
+ghost use Rattle.std.specs.Prelude.{◌≡◌, ◌⊎◌, map, Some};
 ghost use Rattle.std.specs.String.{string_bytes};
-ghost use Rattle.hz_top.specs.Answer.{Answers, Says};
+ghost use Rattle.hz_top.specs.Answer.{Answers};
 ghost use Rattle.hz_outside.specs.Counts.{Rose};
 ghost use Rattle.hz_top.specs.Faultless.{IsFaultlessJob};
-ghost use Rattle.hz_top.specs.Job.{job_of, Analyse};
+ghost use Rattle.hz_top.specs.Job.{JobOf, job_of};
 ghost use Rattle.hz_top.specs.Outcome.{told_by, JobComes, MayLoad};
 
-use crate::analysis::analyse;
-use crate::job::read_job;
+use crate::job::{Job, read_job};
+use crate::order::{SecondText, work};
 use crate::refusal::put_words;
 use crate::status::{Status, status_after};
 use hz_outside::{Files, Sink};
@@ -23,13 +23,18 @@ pub fn run<F: Files, K: Sink>(alloc: Global, words: &[String], files: &mut F, ou
     ensures answer { Answers K.written K.faults
         (JobComes (told_by F.held F.faults F.longs files.old files.new) (job_of (map string_bytes words.now)))
         out.old out.new result }
-    ensures done { (first second : List ℕ) → job_of (map string_bytes words.now) ≡ Some (Analyse first second)
-        → IsFaultlessJob (told_by F.held F.faults F.longs files.old files.new) first second
+    ensures done { (job : JobOf) (own : Status) → job_of (map string_bytes words.now) ≡ Some job
+        → IsFaultlessJob (told_by F.held F.faults F.longs files.old files.new) job own
         → ¬ Rose (K.faults out.old) (K.faults out.new)
-        → (result ≡ Status.Done) ⊎ (result ≡ Status.Memory) }
+        → (result ≡ own) ⊎ (result ≡ Status.Memory) }
 {
     match read_job(words) {
-        Some(asked) => analyse(alloc, asked.first, asked.second, files, out),
+        Some(Job::Analyse { first, second }) => {
+            work(alloc, first, second, SecondText::Script, files, out)
+        }
+        Some(Job::Replay { first, second }) => {
+            work(alloc, first, second, SecondText::Runs, files, out)
+        }
         None => status_after(put_words(out), Status::Words),
     }
 }

@@ -221,6 +221,49 @@ fn refusals(rt: HostRuntime) -> Result<(), Fail> {
 }
 
 #[test]
+fn replays(rt: HostRuntime) -> Result<(), Fail> {
+    let rows = [
+        (
+            "run\nstep r\nrun\nstep s\nstep r\ncycle\nstep q(1) qb(1)\nstep q qb\n\
+            step q(2) qb(2)\nstep q qb\nstep q(2) qb(2)\nend\n",
+            1,
+            "no: run 2 cycle: differs q(1)\n",
+        ),
+        (
+            "run\nrun\nstep s r\nend\n",
+            0,
+            "yes: runs 2 steps 1 cycles 0\n",
+        ),
+        (
+            "run\nstep r s\nrun\ncycle\nstep r\nstep q\nend\n",
+            1,
+            "no: run 2 step 2: stable q\n",
+        ),
+        (
+            "run\nstep r qb(1) r qb(1)\nend\n",
+            1,
+            "no: run 1 step 1: repeated r\n",
+        ),
+        (
+            "run\nstep qb(3)\nend\n",
+            4,
+            "refused: runs line 5: unknown name\n",
+        ),
+    ];
+    for (runs, code, text) in rows {
+        let mut whole = String::from_str(
+            rt.alloc(),
+            "runs 1\nstart r=1 s=1 q=0 qb=0\ninput r=0 s=0\n",
+        )?;
+        whole.push_str(runs)?;
+        let (status, out) = told(rt.alloc(), "replay", LATCH, whole.as_str(), 0, 0)?;
+        assert_eq!(rt; status.code(), code);
+        assert_eq!(rt; out.bytes(), text.as_bytes());
+    }
+    Ok(())
+}
+
+#[test]
 fn failures(rt: HostRuntime) -> Result<(), Fail> {
     let rows = [
         (

@@ -4,19 +4,19 @@ use Rattle.hz_outside.specs.declared.fault.Place.TheVariants.{First}
 use Rattle.hz_top.specs.Outcome.{FilesCome, SecondComes, LoadSays, NetlistSays, told_by}
 use Rattle.hz_top.proofs.Endings.{Answers-more}
 use Rattle.hz_top.proofs.Comings.{Unread-load, SecondComes-before, netlist-refused}
-use Rattle.hz_top.proofs.analysis.analyse.Goals as goal
+use Rattle.hz_top.proofs.order.work.Goals as goal
 
 pub returns-in-Err : goal.returns-in-Err
 returns-in-Err g c =
     let told = told_by g.F.Files.held g.F.Files.faults g.F.Files.longs c.args.files.now c.load.new.self in
-    Answers-more g.K.Sink.written g.K.Sink.faults (LoadSays First c.in-Err.fault) (FilesCome told c.args.first.now c.args.second.now) c.args.out.now c.refuse_load.new.out c.refuse_load.result
+    Answers-more g.K.Sink.written g.K.Sink.faults (LoadSays First c.in-Err.fault) (FilesCome told c.args.second_is c.args.first.now c.args.second.now) c.args.out.now c.refuse_load.new.out c.refuse_load.result
     (λ own text says. inl (Unread-load told First c.args.first.now c.in-Err.fault
     (λ is. c.load.ensures.failed (c.in-Err.is ∙ ap Err is)) (λ is. c.load.ensures.too_long (c.in-Err.is ∙ ap Err is)) (λ is. c.load.ensures.over (c.in-Err.is ∙ ap Err is)) own text says)) c.refuse_load.ensures
 
 pub returns-in-Err-read : goal.returns-in-Err-read
 returns-in-Err-read g c =
     let told = told_by g.F.Files.held g.F.Files.faults g.F.Files.longs c.args.files.now c.load.new.self in
-    Answers-more g.K.Sink.written g.K.Sink.faults (NetlistSays c.in-Err-read.fault) (FilesCome told c.args.first.now c.args.second.now) c.args.out.now c.refuse_netlist.new.out c.refuse_netlist.result
+    Answers-more g.K.Sink.written g.K.Sink.faults (NetlistSays c.in-Err-read.fault) (FilesCome told c.args.second_is c.args.first.now c.args.second.now) c.args.out.now c.refuse_netlist.new.out c.refuse_netlist.result
     (λ own text says. inr (
       c.as_slice.result.now,
       (rw c.as_slice.ensures.value c.in-Ok.ensures.bytes, rw c.as_slice.ensures.len c.in-Ok.ensures.short),
@@ -28,16 +28,16 @@ returns g c =
     let held = g.F.Files.held in
     let faults = g.F.Files.faults in
     let longs = g.F.Files.longs in
-    let now = c.analyse_second.new.files in
+    let now = c.work_on_second.new.files in
     let name = c.args.second.now in
-    Answers-more g.K.Sink.written g.K.Sink.faults (SecondComes (told_by held faults longs c.load.new.self now) c.in-Ok-build.net name)
-    (FilesCome (told_by held faults longs c.args.files.now now) c.args.first.now name) c.args.out.now c.analyse_second.new.out c.analyse_second.result
+    Answers-more g.K.Sink.written g.K.Sink.faults (SecondComes (told_by held faults longs c.load.new.self now) c.args.second_is c.in-Ok-build.net name)
+    (FilesCome (told_by held faults longs c.args.files.now now) c.args.second_is c.args.first.now name) c.args.out.now c.work_on_second.new.out c.work_on_second.result
     (λ own text says. inr (
       c.as_slice.result.now,
       (rw c.as_slice.ensures.value c.in-Ok.ensures.bytes, rw c.as_slice.ensures.len c.in-Ok.ensures.short),
       inr (
         c.in-Ok-read.ensures.faultless,
-        SecondComes-before held faults longs c.args.files.now c.load.new.self now _ name c.load.ensures.same_files c.load.ensures.other_faults c.load.ensures.other_longs own text
-            (subst (λ (netlist : Netlist). SecondComes (told_by held faults longs c.load.new.self now) netlist name own text) (c.in-Ok-build.ensures.ok ∙ c.in-Ok-read.ensures.circuit) says),
+        SecondComes-before held faults longs c.args.files.now c.load.new.self now c.args.second_is _ name c.load.ensures.same_files c.load.ensures.other_faults c.load.ensures.other_longs own text
+            (subst (λ (netlist : Netlist). SecondComes (told_by held faults longs c.load.new.self now) c.args.second_is netlist name own text) (c.in-Ok-build.ensures.ok ∙ c.in-Ok-read.ensures.circuit) says),
       ),
-    )) c.analyse_second.ensures
+    )) c.work_on_second.ensures

@@ -3,7 +3,7 @@ use Rattle.hz_top.specs.declared.status.Status.TheVariants as status
 use Rattle.hz_top.specs.Outcome.{NetlistSays}
 use Rattle.hz_top.specs.Refusal.{netlist_line}
 use Rattle.hz_top.proofs.Endings.{Answers-put}
-use Rattle.hz_top.proofs.analysis.refuse_netlist.Goals as goal
+use Rattle.hz_top.proofs.refusal.refuse_netlist.Goals as goal
 
 pub returns-in_default : goal.returns-in_default
 returns-in_default g c =

@@ -3,7 +3,7 @@ use Rattle.hz_top.specs.Outcome.{LoadSays}
 use Rattle.hz_top.specs.Refusal.{unread_line, long_line}
 use Rattle.hz_top.proofs.Endings.{Answers-put}
 use Rattle.hz_top.proofs.Comings.{LoadSays-failed, LoadSays-long}
-use Rattle.hz_top.proofs.analysis.refuse_load.Goals as goal
+use Rattle.hz_top.proofs.refusal.refuse_load.Goals as goal
 
 pub returns-in-Failed : goal.returns-in-Failed
 returns-in-Failed g c =

@@ -1,0 +1,36 @@
+-- The line of a replay: a variable's name at its end, and its counts.
+use Rattle.std.proofs.Common.{◌≡◌, ◌∙◌, sym, ap, ℕ, ◌+◌, ◌<◌, ◌≤◌, List, [], ◌∷◌, ◌++◌, length, map, take, get_or, Option, Some, None, arith}
+use Rattle.std.proofs.lemmas.List.{length-append, length-map, get_or_past, take_more}
+use Rattle.std.proofs.lemmas.List.Folds.{length-flat_map-take}
+use Rattle.hz_outside.specs.Written.{joined}
+use Rattle.hz_write.specs.Writes.{newline, line_of}
+use Rattle.hz_write.proofs.Writing.{joined-push}
+use Rattle.hz_core.specs.Netlist.{Netlist, IsCircuit}
+use Rattle.hz_net.specs.Network.{network_of, wires_of}
+use Rattle.hz_net.proofs.Places.{length-network_of, length-wires_of}
+use Rattle.hz_text.specs.RunPrinted.{wire_word, variable_words, variable_word}
+use Rattle.hz_text.specs.RunValue.{RunOf, cycle_steps}
+use Rattle.hz_top.specs.Replaying.{no_run, steps_of, step_count}
+use Rattle.hz_top.specs.Verdict.{naming_line}
+
+-- past the variables there are no names
+pub nameless : (netlist : Netlist) (var : ℕ) → IsCircuit netlist → length (network_of netlist) ≤ var → variable_word netlist var ≡ []
+unfolding variable_word
+nameless netlist var circuit past =
+    get_or_past (variable_words netlist) var []
+    (omega (arith, past, length-append netlist.names (map (wire_word netlist) (wires_of netlist)), length-map (wires_of netlist) (wire_word netlist), length-wires_of netlist, length-network_of netlist circuit))
+
+-- the words, the name, the end of the line
+pub naming_line-is : (netlist : Netlist) (words : List (List ℕ)) (var : ℕ) → naming_line netlist words var ≡ (joined words ++ variable_word netlist var) ++ newline
+unfolding naming_line line_of
+naming_line-is netlist words var = ap (λ (list : List ℕ). list ++ newline) (joined-push words (variable_word netlist var))
+
+-- the steps of a run, and those of the runs before it, are no more than there are
+pub steps-within : (runs : List RunOf) (number : ℕ) → number < length runs → length (steps_of (get_or runs number no_run)) + step_count (take number runs) ≤ step_count runs
+steps-within runs number below = omega (arith, length-flat_map-take steps_of runs number no_run below)
+
+-- the steps of a lead and of its cycle
+pub parts-within : (runs : List RunOf) (number lead cycle : ℕ) (steps : List (List ℕ)) → number < length runs → step_count runs ≤ 2000000 → lead ≡ length (get_or runs number no_run).lead → (get_or runs number no_run).cycle ≡ Some steps → cycle ≡ length steps → lead + cycle ≤ 2000000
+parts-within runs number lead cycle steps below few first second third =
+    let run = get_or runs number no_run in
+    omega (arith, steps-within runs number below, length-append run.lead (cycle_steps run.cycle), ap (λ (cycle : Option (List (List ℕ))). length (cycle_steps cycle)) second, few, first, third)

@@ -1,0 +1,64 @@
+-- The one line that `replay` writes.
+use Rattle.std.specs.Prelude.{ℕ, ◌≡◌, ◌⊎◌, List, [], ◌∷◌, ◌++◌, length, codes, decimal}
+use Rattle.hz_write.specs.Writes.{line_of}
+use Rattle.hz_core.specs.Netlist.{Netlist}
+use Rattle.hz_gmw.specs.declared.replay_fault.StepFault.{StepFault}
+use Rattle.hz_gmw.specs.declared.replay_fault.StepFault.TheVariants.{Empty, Repeated, Stable}
+use Rattle.hz_gmw.specs.declared.replay_fault.CycleFault.{CycleFault}
+use Rattle.hz_gmw.specs.declared.replay_fault.CycleFault.TheVariants.{Differs, NotStable, Transient}
+use Rattle.hz_text.specs.RunPrinted.{variable_word}
+use Rattle.hz_text.specs.RunValue.{RunOf, RunTextOf}
+use Rattle.hz_top.specs.declared.status.Status.{Status}
+use Rattle.hz_top.specs.declared.status.Status.TheVariants as status
+use Rattle.hz_top.specs.declared.replaying.Refused.{Refused}
+use Rattle.hz_top.specs.declared.replaying.Refused.TheVariants as refused
+use Rattle.hz_top.specs.Answer.{Says}
+use Rattle.hz_top.specs.Replaying.{step_count, cycle_count, AreAccepted, IsFirstRefused}
+
+-- how many runs there are, and how many steps and cycles they have
+unfoldable pub yes_line : ℕ → ℕ → ℕ → List ℕ
+yes_line runs steps cycles =
+    line_of (codes "yes: runs " ∷ decimal runs ∷ codes " steps " ∷ decimal steps ∷ codes " cycles " ∷ decimal cycles ∷ [])
+
+-- what is said of a step, by its run and its number
+abbrev pub step_words : ℕ → ℕ → List ℕ → List (List ℕ)
+step_words run step said = codes "no: run " ∷ decimal run ∷ codes " step " ∷ decimal step ∷ said ∷ []
+
+-- what is said of a cycle, by its run
+abbrev pub cycle_words : ℕ → List ℕ → List (List ℕ)
+cycle_words run said = codes "no: run " ∷ decimal run ∷ said ∷ []
+
+-- a line of words, the last of which is a variable's name
+unfoldable pub naming_line : Netlist → List (List ℕ) → ℕ → List ℕ
+naming_line netlist words var = line_of (words ++ variable_word netlist var ∷ [])
+
+-- a step that is empty
+unfoldable pub empty_line : ℕ → ℕ → List ℕ
+empty_line run step = line_of (step_words run step (codes ": empty"))
+
+-- a step that is refused
+abbrev pub step_line : Netlist → ℕ → ℕ → StepFault → List ℕ
+step_line netlist run step Empty = empty_line run step
+step_line netlist run step (Repeated var) = naming_line netlist (step_words run step (codes ": repeated ")) var
+step_line netlist run step (Stable var) = naming_line netlist (step_words run step (codes ": stable ")) var
+
+-- a cycle that is refused
+abbrev pub cycle_line : Netlist → ℕ → CycleFault → List ℕ
+cycle_line netlist run (Differs var) = naming_line netlist (cycle_words run (codes " cycle: differs ")) var
+cycle_line netlist run (NotStable var) = naming_line netlist (cycle_words run (codes " cycle: not stable ")) var
+cycle_line netlist run (Transient var) = naming_line netlist (cycle_words run (codes " cycle: transient ")) var
+
+-- a run that is refused
+abbrev pub no_line : Netlist → ℕ → Refused → List ℕ
+no_line netlist run (refused.Step number fault) = step_line netlist run number fault
+no_line netlist run (refused.Cycle fault) = cycle_line netlist run fault
+
+-- the line of runs that are accepted
+abbrev pub accepted_line : List RunOf → List ℕ
+accepted_line runs = yes_line (length runs) (step_count runs) (cycle_count runs)
+
+-- what the replay of a run text comes to
+abbrev pub ReplayComes : Netlist → RunTextOf → Status → List ℕ → Type 0
+ReplayComes netlist runs own text =
+    (AreAccepted netlist runs × Says status.Done (accepted_line runs.runs) own text)
+    ⊎ ((number : ℕ) × (why : Refused) × IsFirstRefused netlist runs number why × Says status.No (no_line netlist number why) own text)

@@ -1,0 +1,177 @@
+//! The job `replay`: the runs of a run text, step by step.
+ghost use Rattle.std.specs.Prelude.{◌≡◌, ◌+◌, ◌≤◌, length, All, IfOk, MatchResult};
+ghost use Rattle.std.specs.Option.{option_map};
+ghost use Rattle.hz_net.specs.Network.{network_of};
+ghost use Rattle.hz_net.specs.Variables.{expanded};
+ghost use Rattle.hz_gmw.specs.Cycles.{IsNontransient};
+ghost use Rattle.hz_text.specs.RunText.{IsRunTextFor};
+ghost use Rattle.hz_top.specs.Answer.{Answers};
+ghost use Rattle.hz_top.specs.Outcome.{most_bytes, RunTextComes};
+ghost use Rattle.hz_top.specs.Replaying.{steps_of, IsAcceptedRun, IsRefusedRun, IsRefusedStep, IsFirstRefusal};
+ghost use Rattle.hz_top.specs.Made.{AreVariables, run_of, MadeSteps, IsRefusedBehind};
+ghost use Rattle.hz_top.specs.Verdict.{ReplayComes};
+
+use crate::refusal::refuse_text;
+use crate::status::{Status, status_after};
+use crate::verdict::{put_no, put_yes};
+use hz_gmw::{CycleFault, Replay, Run, StepFault};
+use hz_net::Net;
+use hz_outside::Sink;
+use hz_text::{RunText, read_run};
+use std::alloc::{AllocError, Global};
+
+/// Why a run is refused.
+#[derive(Clone, Copy, Debug)]
+pub(crate) enum Refused {
+    /// The step with this number is no step. Steps are counted from 1 through the lead and the cycle.
+    Step { number: usize, fault: StepFault },
+    /// The cycle is no nontransient cycle.
+    Cycle { fault: CycleFault },
+}
+
+/// The first step of some steps that is refused. Steps are counted from 1.
+#[derive(Clone, Copy, Debug)]
+pub(crate) struct RefusedStep {
+    pub number: usize,
+    pub fault: StepFault,
+}
+
+/// The first run of a text that is refused. Runs are counted from 1.
+#[derive(Clone, Copy, Debug)]
+pub(crate) struct RefusedRun {
+    pub run: usize,
+    pub why: Refused,
+}
+
+// Replays the runs of a text on a network.
+pub(crate) fn replay_text<K: Sink>(alloc: Global, net: &Net, text: &[u8], out: &mut K) -> Status
+    requires { length text.now ≤ most_bytes }
+    ensures { Answers K.written K.faults (RunTextComes net.now text.now) out.old out.new result }
+{
+    match read_run(alloc, net, text) {
+        Ok(runs) => replay(alloc, net, &runs, out),
+        Err(fault) => refuse_text(out, b"runs", net, fault),
+    }
+}
+
+// Replays runs on a network, and writes what they come to.
+fn replay<K: Sink>(alloc: Global, net: &Net, text: &RunText, out: &mut K) -> Status
+    requires { IsRunTextFor net.now text.now }
+    ensures { Answers K.written K.faults (ReplayComes net.now text.now) out.old out.new result }
+{
+    let Ok(start) = expand_start(alloc, net, text.nodes()) else {
+        return Status::Memory;
+    };
+    let Ok(mut replay) = Replay::new(alloc, net) else {
+        return Status::Memory;
+    };
+    match replay_runs(&mut replay, text, start.as_slice()) {
+        Ok(()) => status_after(put_yes(out, text), Status::Done),
+        Err(refused) => status_after(put_no(out, net, refused.run, refused.why), Status::No),
+    }
+}
+
+// The state in which each node has its bit and each wire its source's.
+fn expand_start(alloc: Global, net: &Net, nodes: &[bool]) -> Result<Vec<bool>, AllocError>
+    requires { length nodes.now ≡ length net.now.names }
+    ensures start { IfOk result (λ start. start.items ≡ expanded net.now nodes.now) }
+    ensures long { IfOk result (λ start. length start.items ≡ length (network_of net.now)) }
+{
+    let mut start = vec![in alloc; false; net.len() as usize]?;
+    net.expand(nodes, start.as_mut_slice());
+    Ok(start)
+}
+
+// Replays the runs of a text, each from the start.
+fn replay_runs(replay: &mut Replay, text: &RunText, start: &[bool]) -> Result<(), RefusedRun>
+    requires text { IsRunTextFor replay.old.circuit text.now }
+    requires start { length start.now ≡ length (network_of replay.old.circuit) }
+    ensures { MatchResult result
+        (λ _. All (IsAcceptedRun (network_of replay.old.circuit) text.now.input start.now) text.now.runs)
+        (λ refused. IsFirstRefusal (network_of replay.old.circuit) text.now.input start.now text.now.runs refused.run refused.why) }
+{
+    for number in 0..text.runs() {
+        replay.begin(text.input(), start);
+        match replay_run(replay, text.lead(number), text.cycle(number)) {
+            Ok(()) => {}
+            Err(why) => {
+                return Err(RefusedRun {
+                    run: number + 1,
+                    why,
+                });
+            }
+        }
+    }
+    Ok(())
+}
+
+// Replays a run from the present state.
+fn replay_run(replay: &mut Replay, lead: &Run, cycle: Option<&Run>) -> Result<(), Refused>
+    requires variables { AreVariables replay.old.circuit (steps_of (run_of lead.now.steps (option_map (λ run. run.now.steps) cycle))) }
+    requires few { length (steps_of (run_of lead.now.steps (option_map (λ run. run.now.steps) cycle))) ≤ 2000000 }
+    ensures circuit { replay.new.circuit ≡ replay.old.circuit }
+    ensures outcome { MatchResult result
+        (λ _. IsAcceptedRun (network_of replay.old.circuit) replay.old.input replay.old.state (run_of lead.now.steps (option_map (λ run. run.now.steps) cycle.entry)))
+        (λ why. IsRefusedRun (network_of replay.old.circuit) replay.old.input replay.old.state (run_of lead.now.steps (option_map (λ run. run.now.steps) cycle.entry)) why) }
+{
+    match make_steps(replay, lead) {
+        Ok(()) => {}
+        Err(refused) => {
+            return Err(Refused::Step {
+                number: refused.number,
+                fault: refused.fault,
+            });
+        }
+    }
+    match cycle {
+        Some(cycle) => replay_cycle(replay, cycle, lead.steps()),
+        None => Ok(()),
+    }
+}
+
+// Replays a cycle from the present state, behind so many steps of its run.
+fn replay_cycle(replay: &mut Replay, cycle: &Run, before: usize) -> Result<(), Refused>
+    requires variables { AreVariables replay.old.circuit cycle.now.steps }
+    requires few { before + length cycle.now.steps ≤ 2000000 }
+    ensures circuit { replay.new.circuit ≡ replay.old.circuit }
+    ensures outcome { MatchResult result
+        (λ _. IsNontransient (network_of replay.old.circuit) replay.old.input replay.old.state cycle.now.steps)
+        (λ why. IsRefusedBehind before (network_of replay.old.circuit) replay.old.input replay.old.state cycle.now.steps why) }
+{
+    replay.mark();
+    match make_steps(replay, cycle) {
+        Ok(()) => {}
+        Err(refused) => {
+            return Err(Refused::Step {
+                number: before + refused.number,
+                fault: refused.fault,
+            });
+        }
+    }
+    match replay.close() {
+        Ok(()) => Ok(()),
+        Err(fault) => Err(Refused::Cycle { fault }),
+    }
+}
+
+// Makes the steps of a run.
+fn make_steps(replay: &mut Replay, run: &Run) -> Result<(), RefusedStep>
+    requires { AreVariables replay.old.circuit run.now.steps }
+    ensures circuit { replay.new.circuit ≡ replay.old.circuit }
+    ensures outcome { MatchResult result
+        (λ _. MadeSteps replay.old replay.new run.now.steps)
+        (λ refused. IsRefusedStep (network_of replay.old.circuit) replay.old.input replay.old.state run.now.steps refused.number refused.fault) }
+{
+    for index in 0..run.steps() {
+        match replay.step(run.step(index)) {
+            Ok(()) => {}
+            Err(fault) => {
+                return Err(RefusedStep {
+                    number: index + 1,
+                    fault,
+                });
+            }
+        }
+    }
+    Ok(())
+}

@@ -1,0 +1,169 @@
+//! The one line that `replay` writes.
+ghost use Rattle.std.specs.Prelude.{◌≡◌, ◌+◌, ◌<◌, ◌≤◌, ◌++◌, length, map, slice_index_or};
+ghost use Rattle.hz_write.specs.Writes.{Wrote, Added};
+ghost use Rattle.hz_text.specs.RunPrinted.{variable_word};
+ghost use Rattle.hz_top.specs.Replaying.{step_count, cycle_count, steps_of, no_run};
+ghost use Rattle.hz_top.specs.Verdict.{yes_line, naming_line, step_line, cycle_line, no_line, accepted_line};
+
+use crate::replaying::Refused;
+use hz_gmw::{CycleFault, StepFault};
+use hz_net::Net;
+use hz_outside::{PutFault, Sink};
+use hz_report::add_variable;
+use hz_text::RunText;
+use hz_write::{Line, put_line};
+use itoa::Buffer;
+
+// All runs are accepted.
+pub(crate) fn put_yes<K: Sink>(out: &mut K, text: &RunText) -> Result<(), PutFault>
+    requires { step_count text.now.runs ≤ 2000000 }
+    ensures { Wrote K.written K.faults (accepted_line text.now.runs) out.old out.new result }
+{
+    put_counts(out, text.runs(), count_steps(text), count_cycles(text))
+}
+
+// How many steps all runs have.
+fn count_steps(text: &RunText) -> usize
+    requires { step_count text.now.runs ≤ 2000000 }
+    ensures { result ≡ step_count text.now.runs }
+{
+    let mut steps = 0;
+    for number in 0..text.runs() {
+        steps += steps_in(text, number);
+    }
+    steps
+}
+
+// How many steps a run has, those of its cycle with them.
+fn steps_in(text: &RunText, number: usize) -> usize
+    requires number { number < length text.now.runs }
+    requires few { step_count text.now.runs ≤ 2000000 }
+    ensures { result ≡ length (steps_of (slice_index_or text.now.runs number no_run)) }
+{
+    let lead = text.lead(number).steps();
+    match text.cycle(number) {
+        Some(cycle) => lead + cycle.steps(),
+        None => lead,
+    }
+}
+
+// How many runs have a cycle.
+fn count_cycles(text: &RunText) -> usize
+    ensures { result ≡ cycle_count text.now.runs }
+{
+    let mut cycles = 0;
+    for number in 0..text.runs() {
+        if text.cycle(number).is_some() {
+            cycles += 1;
+        }
+    }
+    cycles
+}
+
+// The counts of runs that are accepted.
+#[tactic(auto, unfolding(crate::specs::Verdict::yes_line))]
+fn put_counts<K: Sink>(
+    out: &mut K,
+    runs: usize,
+    steps: usize,
+    cycles: usize,
+) -> Result<(), PutFault>
+    ensures { Wrote K.written K.faults (yes_line runs steps cycles) out.old out.new result }
+{
+    let mut of_runs = Buffer::new();
+    let mut of_steps = Buffer::new();
+    let mut of_cycles = Buffer::new();
+    let runs = of_runs.format(runs).as_bytes();
+    let steps = of_steps.format(steps).as_bytes();
+    let cycles = of_cycles.format(cycles).as_bytes();
+    put_line(
+        out,
+        &[b"yes: runs ", runs, b" steps ", steps, b" cycles ", cycles],
+    )
+}
+
+// A run is refused.
+pub(crate) fn put_no<K: Sink>(
+    out: &mut K,
+    net: &Net,
+    run: usize,
+    why: Refused,
+) -> Result<(), PutFault>
+    ensures { Wrote K.written K.faults (no_line net.now run why) out.old out.new result }
+{
+    match why {
+        Refused::Step { number, fault } => put_step(out, net, run, number, fault),
+        Refused::Cycle { fault } => put_cycle(out, net, run, fault),
+    }
+}
+
+// A step is refused.
+fn put_step<K: Sink>(
+    out: &mut K,
+    net: &Net,
+    run: usize,
+    step: usize,
+    fault: StepFault,
+) -> Result<(), PutFault>
+    ensures { Wrote K.written K.faults (step_line net.now run step fault) out.old out.new result }
+{
+    let mut of_run = Buffer::new();
+    let mut of_step = Buffer::new();
+    let run = of_run.format(run).as_bytes();
+    let step = of_step.format(step).as_bytes();
+    match fault {
+        StepFault::Empty => put_line(out, &[b"no: run ", run, b" step ", step, b": empty"]),
+        StepFault::Repeated { var } => put_naming(
+            out,
+            net,
+            &[b"no: run ", run, b" step ", step, b": repeated "],
+            var,
+        ),
+        StepFault::Stable { var } => put_naming(
+            out,
+            net,
+            &[b"no: run ", run, b" step ", step, b": stable "],
+            var,
+        ),
+    }
+}
+
+// A cycle is refused.
+fn put_cycle<K: Sink>(out: &mut K, net: &Net, run: usize, fault: CycleFault) -> Result<(), PutFault>
+    ensures { Wrote K.written K.faults (cycle_line net.now run fault) out.old out.new result }
+{
+    let mut of_run = Buffer::new();
+    let run = of_run.format(run).as_bytes();
+    match fault {
+        CycleFault::Differs { var } => {
+            put_naming(out, net, &[b"no: run ", run, b" cycle: differs "], var)
+        }
+        CycleFault::NotStable { var } => {
+            put_naming(out, net, &[b"no: run ", run, b" cycle: not stable "], var)
+        }
+        CycleFault::Transient { var } => {
+            put_naming(out, net, &[b"no: run ", run, b" cycle: transient "], var)
+        }
+    }
+}
+
+// A line of words, the last of which is a variable's name.
+fn put_naming<K: Sink>(out: &mut K, net: &Net, words: &[&[u8]], var: u32) -> Result<(), PutFault>
+    ensures { Wrote K.written K.faults (naming_line net.now (map (λ word. word.now) words.now) var) out.old out.new result }
+{
+    let mut line = Line::new();
+    line.add_all(out, words)?;
+    add_name(&mut line, out, net, var)?;
+    line.end(out)
+}
+
+// Adds the name of a variable to a line; of no variable the empty name.
+fn add_name<K: Sink>(line: &mut Line, out: &mut K, net: &Net, var: u32) -> Result<(), PutFault>
+    ensures { Added K.written K.faults (line.old ++ variable_word net.now var) out.old out.new line.new result }
+{
+    if var < net.len() {
+        add_variable(line, out, net, var)
+    } else {
+        Ok(())
+    }
+}
