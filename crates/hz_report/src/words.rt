@@ -31,7 +31,7 @@ pub(crate) fn tri_letter(value: Tri) -> &'static [u8]
     }
 }
 
-/// Adds the name of a variable to a line: a node's own name, or the gate and the pin that a wire goes into, counted from 1.
+/// Adds the word of a variable to a line: a node's own name, or the gate and the pin that a wire goes into, counted from 1.
 ///
 /// After a refusal the line is dropped: nothing waits.
 pub fn add_variable<K: Sink>(
