@@ -27,7 +27,6 @@ SMALL = {
     "holding": ("a", [("y", "OR", "ay")], "00", "1"),
     "pulse": ("x", [("p", "AND", "xn"), ("n", "NOT", "x"), ("y", "OR", "py")], "0010", "1"),
     "multiplexer": ("sxy", [("n", "NOT", "s"), ("a", "AND", "sx"), ("b", "AND", "ny"), ("z", "OR", "ab")], "1110101", "011"),
-    "ring": ("x", [("p", "AND", "xn"), ("n", "NOT", "x"), ("u", "OR", "pw"), ("v", "BUFF", "u"), ("w", "BUFF", "v")], "001000", "1"),
     "c17": (
         "abcfg",
         [("p", "NAND", "ac"), ("q", "NAND", "cf"), ("r", "NAND", "bq"), ("s", "NAND", "qg"), ("t", "NAND", "pr"), ("u", "NAND", "rs")],
@@ -40,6 +39,7 @@ SMALL = {
         "00000111100",
         "10000",
     ),
+    "ring": ("x", [("p", "AND", "xn"), ("n", "NOT", "x"), ("u", "OR", "pw"), ("v", "BUFF", "u"), ("w", "BUFF", "v")], "001000", "1"),
 }
 # By hand: the rounds, results and ranks of Algorithm A, then those of B with its settling rounds. Nodes, then wires.
 PASSES = {
@@ -193,10 +193,6 @@ class Circuit:
         """The join over a set of states, for each node."""
         return "".join(join({state[i] for state in states}) for i in range(len(self.names)))
 
-    def variables(self):
-        """The words of the variables: names, and for each wire its gate and its pin, counted from 1."""
-        return list(self.names) + [f"{name}({pin + 1})" for name, _, sources in self.gates for pin in range(len(sources))]
-
     def spread_run(self):
         """The steps of the spread run: the inputs, each gate's wires and then the gate by rank, the wires that are left."""
         (_, a, ranks), _ = self.passes()
@@ -221,19 +217,12 @@ class Circuit:
                     return list(changed)
         raise ValueError("no pattern")
 
-    def run_text(self, steps):
-        """A run text with one run from the start under the new input."""
-        assigned = lambda names, bits: "".join(f" {name}={bit}" for name, bit in zip(names, bits))
-        words = self.variables()
-        lines = ["runs 1", "start" + assigned(self.names, self.start), "input" + assigned(self.inputs, self.new), "run"]
-        return lines + [" ".join(["step"] + [words[i] for i in step]) for step in steps] + ["end"]
-
     def changes(self, lines):
         """How often each variable changes in steps, each of which is a step of the model, or None."""
         state, count, words = self.start, [0] * len(self.start), self.variables()
         for line in lines:
             flips = [words.index(word) for word in line.split()[1:]]
-            after = "".join(other(bit) if i in flips else bit for i, bit in enumerate(state))
+            after = turned(state, flips)
             if len(set(flips)) != len(flips) or after not in self.steps(state):
                 return None
             state = after
@@ -270,7 +259,6 @@ class Circuit:
         for bits in product("01", repeat=len(self.inputs)):
             for held in product(("", "0", "1"), repeat=len(self.gates)):
                 yield {name: bit for name, bit in zip(self.names, bits + held) if bit}
-
 
     def variables(self):
         """The names of the variables, as run texts spell them; pins are counted from 1."""
@@ -383,7 +371,7 @@ def hand_rows():
         yield f"passes of {name}", Circuit(*SMALL[name]).passes(), wanted
     for name, steps in SPREAD_RUNS.items():
         circuit = Circuit(*SMALL[name])
-        yield f"spread run of {name}", circuit.run_text(circuit.spread_run())[4:-1], [f"step {step}" for step in steps]
+        yield f"spread run of {name}", circuit.run_text([(circuit.spread_run(), None)]).splitlines()[4:-1], [f"step {step}" for step in steps]
     two_wires = Circuit(*SMALL["xor"])
     yield "reached of two wires", two_wires.reached(), REACHED
     yield "outcomes of two wires", two_wires.outcomes(), OUTCOMES
