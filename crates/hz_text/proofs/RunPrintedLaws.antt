@@ -1,8 +1,8 @@
 -- A printed run text has no fault, and stands for the run text.
-use Rattle.std.proofs.Common.{◌≡◌, ◌∙◌, ℕ, ◌+◌, ◌<◌, ◌≤◌, suc, Bool, true, false, ◌||◌, cond, nat_eq, nat_lt, List, [], ◌∷◌, ◌++◌, Option, Some, None, length, length-append, get_or, map, refl, ap, sym, subst, arith, append_assoc}
-use Rattle.std.specs.List.{flat_map, range_with_len, All, list_any}
+use Rattle.std.proofs.Common.{◌≡◌, ◌∙◌, ℕ, ◌+◌, ◌<◌, ◌≤◌, suc, Bool, false, cond, nat_eq, nat_lt, List, [], ◌∷◌, ◌++◌, Option, Some, None, length, length-append, get_or, map, refl, ap, sym, subst, arith, append_assoc}
+use Rattle.std.specs.List.{flat_map, All, list_any}
 use Rattle.std.specs.Prelude.{sum_by}
-use Rattle.std.specs.Option.{IsSome, is_none, option_map_or}
+use Rattle.std.specs.Option.{IsSome, is_none}
 use Rattle.std.proofs.lemmas.Bool.Decides.{nat_tests}
 use Rattle.std.proofs.lemmas.List.{length-map, get_or-map}
 use Rattle.std.proofs.lemmas.List.Elements.{All-nil, All-cons, All-head, All-tail, All-append, All-weaker}
@@ -10,16 +10,14 @@ use Rattle.std.proofs.lemmas.List.Sums.{sum_by-append, sum_by-cons}
 use Rattle.hz_core.specs.Netlist.{Netlist, IsCircuit}
 use Rattle.hz_gmw.specs.Recorded.{flip_count}
 use Rattle.hz_line.specs.Line.{lines_of}
-use Rattle.hz_line.specs.Statement.{Meaning, Nothing, Malformed, Means, meaning_of, Numbered, with_meaning, numbered_from, numbered_statements, first_line, malformed_before, first_malformed}
-use Rattle.hz_text.specs.declared.assigned.Assigned.{Assigned}
+use Rattle.hz_line.specs.Statement.{Meaning, Nothing, Means, meaning_of, Numbered, with_meaning, numbered_from, first_line, malformed_before, first_malformed}
 use Rattle.hz_text.specs.declared.keyword.Keyword.TheVariants as keyword
 use Rattle.hz_text.specs.declared.run_order.Place.{Place}
 use Rattle.hz_text.specs.declared.run_order.Place.TheVariants as place
 use Rattle.hz_text.specs.Assignment.{has_repeat}
-use Rattle.hz_text.specs.Pass.{nodes_of, least_unassigned}
-use Rattle.hz_text.specs.ScriptText.{bit_at, assignment_to}
-use Rattle.hz_text.specs.Printed.{listed_from}
-use Rattle.hz_text.specs.RunStatement.{Header, Start, Input, Run, Step, Cycle, End}
+use Rattle.hz_text.specs.Pass.{nodes_of}
+use Rattle.hz_text.specs.ScriptText.{assignment_to}
+use Rattle.hz_text.specs.RunStatement.{Header, Start, Input, Run, Cycle, End}
 use Rattle.hz_text.specs.RunLookup.{LookedRun, run_looked_by}
 use Rattle.hz_text.specs.RunValue.{RunOf, RunTextOf, cycle_steps, all_steps}
 use Rattle.hz_text.specs.RunText.{step_of, cycle_statements, run_statements, unnumbered, IsRunTextBy, IsRunValue, IsRunTextFor}
@@ -28,11 +26,10 @@ use Rattle.hz_text.specs.RunPass.{names_node_twice, least_missing_node, first_ru
 use Rattle.hz_text.specs.RunPrinted.{all_listed, run_text_printed}
 use Rattle.hz_text.proofs.BuildLemmas.{nodes_of-pairs}
 use Rattle.hz_text.proofs.FaultLaws.{first_line-cons}
-use Rattle.hz_text.proofs.WordLaws.{AreNodes}
 use Rattle.hz_text.proofs.PrintLemmas.{listed-below}
 use Rattle.hz_text.proofs.PrintLaws.{start-known, all-bits, inputs-known, listed-fresh, listed-whole, listed-back}
 use Rattle.hz_text.proofs.RunFaultLaws.{looked_runs-read, clear-faultless}
-use Rattle.hz_text.proofs.RunPrintedLines.{meanings_of, sent, IsReadAsRun, printed-IsReadAsRun}
+use Rattle.hz_text.proofs.RunPrintedLines.{sent, IsReadAsRun, printed-IsReadAsRun}
 
 -- statements, each on a line of its own, the first of which has this number
 abbrev numbered : ℕ → List LookedRun → List (Numbered LookedRun)

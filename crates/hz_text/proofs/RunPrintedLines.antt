@@ -1,16 +1,14 @@
 -- The lines of a printed run text are read as its statements.
-use Rattle.std.proofs.Common.{◌≡◌, ◌∙◌, ℕ, ◌+◌, ◌-◌, ◌<◌, ◌≤◌, ◌^◌, suc, Bool, true, false, nat_le, ◌&&◌, cond, List, [], ◌∷◌, ◌++◌, Option, Some, None, length, map, get_or, codes, refl, ap, sym, arith, append_assoc, decimal, inl, inr, subst}
+use Rattle.std.proofs.Common.{◌≡◌, ◌∙◌, ℕ, ◌+◌, ◌-◌, ◌<◌, ◌≤◌, ◌^◌, Bool, true, false, nat_le, List, [], ◌∷◌, ◌++◌, Option, Some, None, length, map, get_or, codes, refl, ap, sym, arith, append_assoc, decimal, inl, inr, subst}
 use Rattle.std.specs.List.{list_all, flat_map, All}
-use Rattle.std.specs.Option.{option_map}
 use Rattle.std.proofs.lemmas.Bool.{cases_lt}
 use Rattle.std.proofs.lemmas.Fmt.{decimal_nonempty}
 use Rattle.std.proofs.lemmas.Bool.Decides.{nat_tests}
 use Rattle.std.proofs.lemmas.List.{map-append, append-nil}
 use Rattle.std.proofs.lemmas.List.Folds.{list_all-append}
 use Rattle.std.proofs.lemmas.List.Elements.{All-nil, All-cons, All-head, All-tail}
-use Rattle.hz_core.specs.Netlist.{Netlist, IsName, IsCircuit, gate_at, node_named, variable_count}
-use Rattle.hz_net.specs.Network.{Wire, network_of}
-use Rattle.hz_net.specs.Variables.{first_wire}
+use Rattle.hz_core.specs.Netlist.{Netlist, IsCircuit, gate_at, variable_count}
+use Rattle.hz_net.specs.Network.{network_of}
 use Rattle.hz_net.proofs.Places.{length-network_of}
 use Rattle.hz_line.specs.declared.bytes.Mark.TheVariants.{Open, Close}
 use Rattle.hz_line.specs.Byte.{class_of, is_letter}
@@ -18,18 +16,15 @@ use Rattle.hz_line.specs.Line.{lines_of}
 use Rattle.hz_line.specs.Token.{TokenOf, WordOf, MarkOf, tokens_of, with_token, begins_in_word}
 use Rattle.hz_line.specs.Statement.{Meaning, Nothing, Means, meaning_of, meaning_of_tokens}
 use Rattle.hz_line.proofs.WrittenLemmas.{tokens_of-open, tokens_of-close, tokens_of-space, is_letter-separators, tokens_of-word_before, is_inline, lines_of-written}
-use Rattle.hz_text.specs.declared.assigned.Assigned.{Assigned}
 use Rattle.hz_text.specs.declared.run_keyword.RunKeyword.TheVariants as keyword
-use Rattle.hz_text.specs.Assignment.{Assignment}
-use Rattle.hz_text.specs.Lookup.{assigned_of}
 use Rattle.hz_text.specs.Printed.{assignment_text, statement_text}
 use Rattle.hz_text.specs.ScriptText.{assignment_to}
-use Rattle.hz_text.specs.RunStatement.{Variable, Node, Pin, Header, Start, Input, Run, Step, Cycle, End, with_first, variables_of, is_decimal, number_by, run_keyword_of, run_statement_of}
-use Rattle.hz_text.specs.RunLookup.{LookedRun, variable_named, wire_into, run_looked_of, run_looked_by}
+use Rattle.hz_text.specs.RunStatement.{Variable, Node, Pin, Header, Start, Input, Run, Step, Cycle, End, with_first, variables_of, is_decimal, run_keyword_of}
+use Rattle.hz_text.specs.RunLookup.{LookedRun, variable_named, run_looked_by}
 use Rattle.hz_text.specs.RunValue.{RunOf, RunTextOf, cycle_steps, all_steps}
-use Rattle.hz_text.specs.RunText.{step_of, cycle_statements, run_statements, IsRunTextFor}
+use Rattle.hz_text.specs.RunText.{step_of, cycle_statements, run_statements}
 use Rattle.hz_text.specs.RunPrinted.{wire_word, variable_word, spaced_word, step_text, cycle_text, run_text, all_listed, run_text_printed}
-use Rattle.hz_text.proofs.WordLaws.{AreNodes, name_bytes, no_word, name_at, pair_tokens, pairs_read, pairs_inline, spelled, assignments_read}
+use Rattle.hz_text.proofs.WordLaws.{AreNodes, name_bytes, no_word, name_at, pair_tokens, pairs_read, pairs_inline, assignments_read}
 use Rattle.hz_text.proofs.PrintLaws.{node_at, assigned_back}
 use Rattle.hz_text.proofs.DecimalLemmas.{decimal-digits, number_by-decimal, decimal-is_decimal, digits-name}
 use Rattle.hz_text.proofs.VariableWords.{wire_at, variable_word-node, variable_word-wire, wire_is_pin, pin-bound}
