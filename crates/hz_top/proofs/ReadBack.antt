@@ -1,14 +1,17 @@
--- How the run text of a change reads back.
-use Rattle.std.proofs.Common.{◌≡◌, ◌∙◌, sym, ap, subst, refl, ℕ, ◌+◌, ◌<◌, ◌≤◌, Bool, cond, List, [], ◌∷◌, ◌++◌, length, All, arith, inl, inr}
+-- How the run text of a change reads back, and that its run is accepted.
+use Rattle.std.proofs.Common.{◌≡◌, ◌∙◌, sym, ap, subst, refl, ℕ, ◌+◌, ◌<◌, ◌≤◌, Bool, cond, List, [], ◌∷◌, ◌++◌, Option, None, length, take, All, arith, inl, inr}
 use Rattle.std.specs.List.{concat}
 use Rattle.std.proofs.lemmas.Bool.{cases_Bool}
 use Rattle.std.proofs.lemmas.List.{append-nil, length-take-le}
+use Rattle.std.proofs.lemmas.List.Elements.{All-nil, All-cons}
 use Rattle.std.proofs.lemmas.List.Sums.{sum_by-cons}
 use Rattle.hz_core.specs.declared.tri.Tri.{Tri}
 use Rattle.hz_core.specs.declared.tri.Tri.TheVariants.{Zero, One, Unknown}
 use Rattle.hz_core.specs.Netlist.{Netlist, IsCircuit}
 use Rattle.hz_net.specs.Network.{Driver, network_of, value_at}
 use Rattle.hz_net.specs.Passes.{IsKnown, IsUnknown}
+use Rattle.hz_net.specs.Starts.{IsAcceptedStart}
+use Rattle.hz_net.specs.Variables.{expanded}
 use Rattle.hz_net.proofs.Places.{length-network_of}
 use Rattle.hz_gmw.specs.Runs.{is_listed, RepeatsNone, flipped, IsRun}
 use Rattle.hz_gmw.specs.Recorded.{flip_count}
@@ -17,9 +20,10 @@ use Rattle.hz_reach.proofs.Listed.{AreApart, repeats_none-append, changes-listed
 use Rattle.hz_reach.proofs.Rooms.{length-changed, steps-le-flips, flips-bound}
 use Rattle.hz_reach.proofs.Turning.{IsOnce}
 use Rattle.hz_text.specs.RunText.{IsRunTextFor}
-use Rattle.hz_text.specs.RunValue.{all_steps}
+use Rattle.hz_text.specs.RunValue.{RunOf, all_steps}
 use Rattle.hz_text.proofs.RunPrintedLaws.{printed-faultless, printed-value}
 use Rattle.hz_report.specs.Report.{run_of_change, runs_text}
+use Rattle.hz_top.specs.Replaying.{IsAcceptedRun, AreAccepted}
 use Rattle.hz_top.specs.Reports.{ReadsBack}
 use Rattle.hz_top.proofs.Findings.{run-inside}
 
@@ -85,3 +89,17 @@ reads-back netlist input start a steps circuit long inputs shown =
       faultless = printed-faultless netlist value circuit usable;
       value = printed-value netlist value circuit usable;
     }
+
+-- an accepted start is where the runs of its text begin, so the run is accepted
+pub is-accepted :
+    (netlist : Netlist) (listed : List (Option Bool)) (input start : List Bool) (a : List Tri) (steps : List (List ℕ)) →
+    IsAcceptedStart netlist listed start → IsSpreadRun (network_of netlist) input start a steps → AreAccepted netlist (run_of_change netlist start input steps)
+is-accepted netlist listed input start a steps begun shown =
+    let net = network_of netlist in
+    let begin : List Bool = expanded netlist (take (length netlist.names) start) in
+    let run : RunOf = record { lead = steps; cycle = None } in
+    let taken : IsAcceptedRun net input begin run = record {
+      lead = subst (λ (state : List Bool). IsRun net input state steps) begun.completed.wires shown.run;
+      cycle = tt;
+    } in
+    All-cons (IsAcceptedRun net input begin) run [] taken (All-nil (IsAcceptedRun net input begin))

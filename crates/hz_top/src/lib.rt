@@ -9,7 +9,7 @@
 //! | `analysis` | the job `analyse`: the text of a script, and its start |
 //! | `finding` | what one change may do |
 //! | `reporting` | what is printed of a start and of a change |
-//! | `reading_back` | a law on the run that is printed |
+//! | `reading_back` | laws on the run that is printed |
 //! | `replaying` | the job `replay`: the runs of a run text, step by step |
 //! | `verdict` | the line that `replay` writes |
 //! | `running` | the top call |
@@ -30,6 +30,6 @@ mod tests;
 mod verdict;
 
 pub use order::MAX_BYTES;
-pub use reading_back::printed_run_reads_back;
+pub use reading_back::{printed_run_is_accepted, printed_run_reads_back};
 pub use running::run;
 pub use status::Status;
