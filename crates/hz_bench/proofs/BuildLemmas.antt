@@ -1,5 +1,5 @@
 -- When a node or a pin may be added.
-use Rattle.std.proofs.Common.{◌≡◌, ◌∙◌, ℕ, ◌+◌, ◌<◌, List, [], ◌∷◌, Bool, true, false, ◌++◌, ◌||◌, ◌&&◌, ◌==◌, cond, nat_le, Some, None, length, map, take, drop, fold, get_or, refl, sym, ap, subst, arith}
+use Rattle.std.proofs.Common.{◌≡◌, ◌∙◌, ℕ, ◌+◌, ◌<◌, List, [], ◌∷◌, Bool, true, false, ◌++◌, ◌||◌, ◌&&◌, ◌==◌, cond, nat_le, None, length, map, take, drop, fold, get_or, refl, sym, ap, subst, arith}
 use Rattle.std.specs.List.{list_all}
 use Rattle.std.proofs.lemmas.Bool.Decides.{nat_tests}
 use Rattle.hz_core.specs.Netlist.{Netlist, IsName, is_name_byte, node_named, variable_count}
@@ -7,20 +7,15 @@ use Rattle.hz_line.specs.declared.bytes.Class.{Class}
 use Rattle.hz_line.specs.declared.bytes.Class.TheVariants.{Blank, Hash, Sign, Letter, Forbidden}
 use Rattle.hz_line.specs.declared.bytes.Mark.TheVariants.{Open, Close, Comma, Equals}
 use Rattle.hz_line.specs.Byte.{class_of, is_letter, is_letter_class}
-use Rattle.std.specs.Prelude.{IsSome}
-use Rattle.std.specs.Str.{bytes_eq}
 use Rattle.std.proofs.lemmas.List.{take_more, map_push, at_drop_more}
-use Rattle.std.proofs.lemmas.List.Quantifiers.{position-Some}
-use Rattle.hz_line.specs.declared.tokens.Token.{Token}
-use Rattle.hz_line.specs.Token.{TokenOf, WordOf, MarkOf, token_of}
 use Rattle.hz_line.proofs.WrittenLemmas.{both}
 use Rattle.hz_bench.specs.declared.entry.Entry.{Entry}
-use Rattle.hz_bench.specs.Built.{Connecting, MayAdd, MayInput, MayGate, MayPin, MayPins, MayOutput, MaySteps, after_pin}
-use Rattle.hz_bench.specs.Entry.{statement_list}
+use Rattle.hz_bench.specs.Built.{MayAdd, MayInput, MayGate, MaySteps}
+use Rattle.hz_bench.specs.Entry.{stated, statement_list}
 use Rattle.hz_bench.specs.declared.forms.Form.TheVariants as form
 use Rattle.hz_bench.specs.declared.forms.KindWord.{KindWord}
-use Rattle.hz_bench.specs.Statement.{Statement, Input, Output, Gate, name_of, form_of, sources_of, is_long, words_of}
-use Rattle.hz_bench.specs.Text.{statement_in}
+use Rattle.hz_bench.specs.Statement.{Statement, Input, Output, Gate, name_of, form_of, is_long}
+use Rattle.hz_bench.proofs.EntryLemmas.{entry-formed, entry-named}
 
 past : (test : Bool) (class rest : Class) → is_letter_class class ≡ false → is_letter_class (cond test class rest) ≡ true → (test ≡ false) × (is_letter_class rest ≡ true)
 past true class rest none h = cc
@@ -71,83 +66,42 @@ input_addable netlist entry (Input name) is h may = (addable netlist entry name 
 input_addable netlist entry (Output name) is h may = cc
 input_addable netlist entry (Gate name kind sources) is h may = cc
 
-pub entry-input : (netlist : Netlist) (entry : Entry) → entry.form ≡ form.Input → MayInput netlist (statement_in entry.text.now) → IsAddable netlist entry.name.now × (netlist.gates ≡ [])
-entry-input netlist entry h may = input_addable netlist entry (statement_in entry.text.now) entry.named (sym entry.formed ∙ h) may
+pub entry-input : (netlist : Netlist) (entry : Entry) → entry.form ≡ form.Input → MayInput netlist (stated entry) → IsAddable netlist entry.name.now × (netlist.gates ≡ [])
+entry-input netlist entry h may = input_addable netlist entry (stated entry) (entry-named entry) (sym (entry-formed entry) ∙ h) may
 
 gate_addable : (netlist : Netlist) (entry : Entry) (word : KindWord) (statement : Statement) → entry.name.now ≡ name_of statement → form_of statement ≡ form.Gate word → MayGate netlist statement → IsAddable netlist entry.name.now
 gate_addable netlist entry word (Input name) is h may = cc
 gate_addable netlist entry word (Output name) is h may = cc
 gate_addable netlist entry word (Gate name kind sources) is h may = addable netlist entry name is may
 
-pub entry-gate : (netlist : Netlist) (entry : Entry) (word : KindWord) → entry.form ≡ form.Gate word → MayGate netlist (statement_in entry.text.now) → IsAddable netlist entry.name.now
-entry-gate netlist entry word h may = gate_addable netlist entry word (statement_in entry.text.now) entry.named (sym entry.formed ∙ h) may
-
-output_named : (netlist : Netlist) (name : List ℕ) (statement : Statement) → name ≡ name_of statement → form_of statement ≡ form.Output → MayOutput netlist statement → IsSome (node_named netlist name)
-output_named netlist name (Input other) is h may = cc
-output_named netlist name (Output other) is h may = rw is may
-output_named netlist name (Gate other kind sources) is h may = cc
-
-pub entry-output : (netlist : Netlist) (entry : Entry) → entry.form ≡ form.Output → MayOutput netlist (statement_in entry.text.now) → IsSome (node_named netlist entry.name.now)
-entry-output netlist entry h may = output_named netlist entry.name.now (statement_in entry.text.now) entry.named (sym entry.formed ∙ h) may
-
--- the pins of a gate statement
-pins_of_gate : (now : Connecting) (word : KindWord) (statement : Statement) → form_of statement ≡ form.Gate word → MayPins now statement → (now.gate < 200000) × MaySteps (MayPin now.gate) (after_pin now.gate) now.netlist (sources_of statement)
-pins_of_gate now word (Input name) h may = cc
-pins_of_gate now word (Output name) h may = cc
-pins_of_gate now word (Gate name kind sources) h may = may
-
-pub entry-pins : (now : Connecting) (entry : Entry) (word : KindWord) → entry.form ≡ form.Gate word → MayPins now (statement_in entry.text.now) → (now.gate < 200000) × MaySteps (MayPin now.gate) (after_pin now.gate) now.netlist (sources_of (statement_in entry.text.now))
-entry-pins now entry word h may = pins_of_gate now word (statement_in entry.text.now) (sym entry.formed ∙ h) may
-
--- a node that a name has is one of the nodes
-pub node-below : (netlist : Netlist) (name : List ℕ) (node : ℕ) → node_named netlist name ≡ Some node → node < length netlist.names
-node-below netlist name node e = (position-Some (bytes_eq name) netlist.names node [] e).0
-
-words_of-append : (front back : List TokenOf) → words_of (front ++ back) ≡ words_of front ++ words_of back
-words_of-append [] back = refl
-words_of-append (WordOf word ∷ front) back = ap (λ words. word ∷ words) (words_of-append front back)
-words_of-append (MarkOf mark ∷ front) back = words_of-append front back
+pub entry-gate : (netlist : Netlist) (entry : Entry) (word : KindWord) → entry.form ≡ form.Gate word → MayGate netlist (stated entry) → IsAddable netlist entry.name.now
+entry-gate netlist entry word h may = gate_addable netlist entry word (stated entry) (entry-named entry) (sym (entry-formed entry) ∙ h) may
 
 fold-append : {A B : Type 0} (step : A → B → A) (start : A) (front back : List B) → fold step start (front ++ back) ≡ fold step (fold step start front) back
 fold-append step start [] back = refl
 fold-append step start (first ∷ front) back = fold-append step (step start first) front back
 
--- one statement more may come, and then the rest
-pub entries_may : {A : Type 0} (May : A → Statement → Type 0) (step : A → Statement → A) (now : A) (entries : List Entry) (index : ℕ) (entry : Entry) → index < length entries → entry ≡ get_or entries index entry
-    → MaySteps May step now (statement_list (drop index entries)) → May now (statement_in entry.text.now) × MaySteps May step (step now (statement_in entry.text.now)) (statement_list (drop (index + 1) entries))
-entries_may May step now entries index entry inside is may =
-    let next : statement_list (drop index entries) ≡ statement_in entry.text.now ∷ statement_list (drop (index + 1) entries) =
-    at_drop_more statement_list entries index entry inside ∙ ap (λ (one : Entry). statement_in one.text.now ∷ statement_list (drop (index + 1) entries)) (sym is) in
+-- one statement more may come, and then the rest, where each item of a list stands for a statement
+pub items_may : {A X : Type 0} (May : A → Statement → Type 0) (step : A → Statement → A) (statement : X → Statement) (now : A) (items : List X) (index : ℕ) (item other : X) → index < length items → item ≡ get_or items index other
+    → MaySteps May step now (map statement (drop index items)) → May now (statement item) × MaySteps May step (step now (statement item)) (map statement (drop (index + 1) items))
+items_may May step statement now items index item other inside is may =
+    let next : map statement (drop index items) ≡ statement item ∷ map statement (drop (index + 1) items) =
+    at_drop_more (map statement) items index other inside ∙ ap (λ one. statement one ∷ map statement (drop (index + 1) items)) (sym is) in
     subst (MaySteps May step now) next may
 
 -- and where it leads
+pub items_more : {A X : Type 0} (step : A → Statement → A) (statement : X → Statement) (start now new : A) (items : List X) (index : ℕ) (item other : X) → index < length items → item ≡ get_or items index other
+    → now ≡ fold step start (map statement (take index items)) → new ≡ step now (statement item) → new ≡ fold step start (map statement (take (index + 1) items))
+items_more step statement start now new items index item other inside is so_far more =
+    let next : map statement (take (index + 1) items) ≡ map statement (take index items) ++ statement item ∷ [] =
+    ap (map statement) (take_more items index other inside ∙ ap (λ last. take index items ++ last ∷ []) (sym is)) ∙ map_push statement (take index items) item in
+    more ∙ ap (λ one. step one (statement item)) so_far ∙ sym (ap (fold step start) next ∙ fold-append step start (map statement (take index items)) (statement item ∷ []))
+
+-- the statements of entries
+pub entries_may : {A : Type 0} (May : A → Statement → Type 0) (step : A → Statement → A) (now : A) (entries : List Entry) (index : ℕ) (entry : Entry) → index < length entries → entry ≡ get_or entries index entry
+    → MaySteps May step now (statement_list (drop index entries)) → May now (stated entry) × MaySteps May step (step now (stated entry)) (statement_list (drop (index + 1) entries))
+entries_may May step now entries index entry inside is may = items_may May step stated now entries index entry entry inside is may
+
 pub entries_more : {A : Type 0} (step : A → Statement → A) (start now new : A) (entries : List Entry) (index : ℕ) (entry : Entry) → index < length entries → entry ≡ get_or entries index entry
-    → now ≡ fold step start (statement_list (take index entries)) → new ≡ step now (statement_in entry.text.now) → new ≡ fold step start (statement_list (take (index + 1) entries))
-entries_more step start now new entries index entry inside is so_far more =
-    let next : statement_list (take (index + 1) entries) ≡ statement_list (take index entries) ++ statement_in entry.text.now ∷ [] =
-    ap statement_list (take_more entries index entry inside ∙ ap (λ last. take index entries ++ last ∷ []) (sym is)) ∙ map_push (λ (one : Entry). statement_in one.text.now) (take index entries) entry in
-    more ∙ ap (λ one. step one (statement_in entry.text.now)) so_far ∙ sym (ap (fold step start) next ∙ fold-append step start (statement_list (take index entries)) (statement_in entry.text.now ∷ []))
-
--- steps of two lists
-MaySteps-split : {A B : Type 0} (May : A → B → Type 0) (step : A → B → A) (now : A) (front back : List B) → MaySteps May step now (front ++ back) → MaySteps May step now front × MaySteps May step (fold step now front) back
-MaySteps-split May step now [] back h = (tt, h)
-MaySteps-split May step now (first ∷ front) back h =
-    let rest = MaySteps-split May step (step now first) front back h.1 in
-    ((h.0, rest.0), rest.1)
-
-pub tokens_may : (gate : ℕ) (now : Netlist) (tokens : List Token) (index : ℕ) (token other : Token) → index < length tokens → token ≡ get_or tokens index other
-    → MaySteps (MayPin gate) (after_pin gate) now (words_of (map token_of (drop index tokens)))
-    → MaySteps (MayPin gate) (after_pin gate) now (words_of (token_of token ∷ [])) × MaySteps (MayPin gate) (after_pin gate) (fold (after_pin gate) now (words_of (token_of token ∷ []))) (words_of (map token_of (drop (index + 1) tokens)))
-tokens_may gate now tokens index token other inside is may =
-    let next : words_of (map token_of (drop index tokens)) ≡ words_of (token_of token ∷ []) ++ words_of (map token_of (drop (index + 1) tokens)) =
-    at_drop_more (λ all. words_of (map token_of all)) tokens index other inside ∙ ap (λ one. words_of (token_of one ∷ map token_of (drop (index + 1) tokens))) (sym is) ∙ words_of-append (token_of token ∷ []) (map token_of (drop (index + 1) tokens)) in
-    MaySteps-split (MayPin gate) (after_pin gate) now (words_of (token_of token ∷ [])) (words_of (map token_of (drop (index + 1) tokens))) (subst (MaySteps (MayPin gate) (after_pin gate) now) next may)
-
--- the pins of one token more
-pub pins_more : (gate : ℕ) (start now new : Netlist) (tokens : List Token) (index : ℕ) (token other : Token) → index < length tokens → token ≡ get_or tokens index other
-    → now ≡ fold (after_pin gate) start (words_of (map token_of (take index tokens))) → new ≡ fold (after_pin gate) now (words_of (token_of token ∷ []))
-    → new ≡ fold (after_pin gate) start (words_of (map token_of (take (index + 1) tokens)))
-pins_more gate start now new tokens index token other inside is so_far more =
-    let words : words_of (map token_of (take (index + 1) tokens)) ≡ words_of (map token_of (take index tokens)) ++ words_of (token_of token ∷ []) =
-    ap (λ all. words_of (map token_of all)) (take_more tokens index other inside ∙ ap (λ last. take index tokens ++ last ∷ []) (sym is)) ∙ ap words_of (map_push token_of (take index tokens) token) ∙ words_of-append (map token_of (take index tokens)) (token_of token ∷ []) in
-    more ∙ ap (λ netlist. fold (after_pin gate) netlist (words_of (token_of token ∷ []))) so_far ∙ sym (ap (fold (after_pin gate) start) words ∙ fold-append (after_pin gate) start (words_of (map token_of (take index tokens))) (words_of (token_of token ∷ [])))
+    → now ≡ fold step start (statement_list (take index entries)) → new ≡ step now (stated entry) → new ≡ fold step start (statement_list (take (index + 1) entries))
+entries_more step start now new entries index entry inside is so_far more = items_more step stated start now new entries index entry entry inside is so_far more

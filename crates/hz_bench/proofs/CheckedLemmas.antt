@@ -1,5 +1,5 @@
 -- What holds of statements in which the check found no fault.
-use Rattle.std.proofs.Common.{◌≡◌, ◌∙◌, ℕ, ◌≤◌, ◌++◌, ◌||◌, Bool, true, false, not, cond, List, [], ◌∷◌, Option, Some, None, is_some, map, refl, ap, sym, subst, arith}
+use Rattle.std.proofs.Common.{◌≡◌, ◌∙◌, ℕ, ◌≤◌, ◌++◌, ◌||◌, Bool, true, false, not, cond, List, [], ◌∷◌, Option, Some, None, is_some, refl, ap, sym, subst, arith, append_assoc}
 use Rattle.std.specs.Prelude.{nat_lt}
 use Rattle.std.specs.List.{list_any, AllByRecursion}
 use Rattle.std.specs.Str.{bytes_eq}
@@ -11,17 +11,13 @@ use Rattle.hz_line.specs.Statement.{Numbered}
 use Rattle.hz_bench.specs.declared.fault.BenchFault.{BenchFault}
 use Rattle.hz_bench.specs.declared.fault.BenchFault.TheVariants as fault
 use Rattle.hz_bench.specs.Check.{has_unknown_kind, has_clocked_kind, has_wrong_pins, pin_count, uses_undefined, first_that, fault_or, first_or, too_many, first_fault}
-use Rattle.hz_bench.specs.Definition.{defines, definer}
+use Rattle.hz_bench.specs.Definition.{defines, definer, defined_names}
 use Rattle.hz_bench.specs.Netlist.{input_names, gate_names, node_names}
 use Rattle.hz_bench.specs.Statement.{Statement, Input, Output, Gate, defined_name, used_names, has_long_name}
 use Rattle.hz_bench.specs.Text.{variables_of, variables_among}
 use Rattle.hz_bench.specs.Twice.{twice_or, earlier_line, twice_after, twice_fault}
-use Rattle.hz_bench.proofs.DefinitionLemmas.{definer-cons}
+use Rattle.hz_bench.proofs.DefinitionLemmas.{plain, definer-cons, defined_names-push}
 use Rattle.hz_bench.proofs.ParseLemmas.{variables_of-statements}
-
--- the statements without their lines
-abbrev pub plain : List (Numbered Statement) → List Statement
-plain statements = map (λ numbered. numbered.statement) statements
 
 -- the names are new where they come: none is among these or among those before it
 abbrev pub Apart : List (List ℕ) → List (List ℕ) → Type 0
@@ -44,7 +40,7 @@ pub record IsChecked (statements : List Statement) : Type 0 where
   pub few : variables_of statements ≤ 200000
 
 -- no statement passes a test that finds none
-each_fails : (test : Statement → Bool) (statements : List (Numbered Statement)) → first_that test statements ≡ None → AllByRecursion (λ statement. test statement ≡ false) (plain statements)
+pub each_fails : (test : Statement → Bool) (statements : List (Numbered Statement)) → first_that test statements ≡ None → AllByRecursion (λ statement. test statement ≡ false) (plain statements)
 each_fails test [] e = tt
 each_fails test (first ∷ rest) e = by_test (test first.statement) refl e (each_fails test rest)
   where
@@ -68,7 +64,7 @@ second_of_two : (a b : Bool) → b ≡ true → (a || b) ≡ true
 second_of_two true b h = refl
 second_of_two false b h = h
 
-same_name : (a b : List ℕ) → bytes_eq a b ≡ bytes_eq b a
+pub same_name : (a b : List ℕ) → bytes_eq a b ≡ bytes_eq b a
 same_name a b = by_test (bytes_eq a b) (bytes_eq b a) refl refl
   where
     by_test : (r s : Bool) → bytes_eq a b ≡ r → bytes_eq b a ≡ s → r ≡ s
@@ -76,13 +72,6 @@ same_name a b = by_test (bytes_eq a b) (bytes_eq b a) refl refl
     by_test false false p q = refl
     by_test true false p q = sym ((bytes_eq-Decides b a).1 (sym ((bytes_eq-Decides a b).0 p))) ∙ q
     by_test false true p q = sym p ∙ (bytes_eq-Decides a b).1 (sym ((bytes_eq-Decides b a).0 q))
-
--- the names that statements define, in order
-abbrev defined_names : List Statement → List (List ℕ)
-defined_names [] = []
-defined_names (Input name ∷ rest) = name ∷ defined_names rest
-defined_names (Output name ∷ rest) = defined_names rest
-defined_names (Gate name kind sources ∷ rest) = name ∷ defined_names rest
 
 definer-absent : (statements : List (Numbered Statement)) (name : List ℕ) → definer statements name ≡ None → list_any (bytes_eq name) (defined_names (plain statements)) ≡ false
 definer-absent [] name e = refl
@@ -96,15 +85,6 @@ definer-absent (first ∷ rest) name e = by_statement first.statement (sym (defi
     by_statement (Input other) e ih = by_test (bytes_eq other name) other refl e ih
     by_statement (Output other) e ih = ih e
     by_statement (Gate other kind sources) e ih = by_test (bytes_eq other name) other refl e ih
-
-defined_names-push : (seen : List (Numbered Statement)) (next : Numbered Statement) → defined_names (plain (seen ++ next ∷ [])) ≡ defined_names (plain seen) ++ defined_names (next.statement ∷ [])
-defined_names-push [] next = refl
-defined_names-push (first ∷ seen) next = by_statement first.statement (defined_names-push seen next)
-  where
-    by_statement : (statement : Statement) → defined_names (plain (seen ++ next ∷ [])) ≡ defined_names (plain seen) ++ defined_names (next.statement ∷ []) → defined_names (statement ∷ plain (seen ++ next ∷ [])) ≡ defined_names (statement ∷ plain seen) ++ defined_names (next.statement ∷ [])
-    by_statement (Input name) ih = ap (λ rest. name ∷ rest) ih
-    by_statement (Output name) ih = ih
-    by_statement (Gate name kind sources) ih = ap (λ rest. name ∷ rest) ih
 
 -- where no name is defined twice, the defined names are apart
 apart-from_twice : (seen rest : List (Numbered Statement)) → twice_after seen rest ≡ None → Apart (defined_names (plain seen)) (defined_names (plain rest))
@@ -253,3 +233,16 @@ checked statements h =
       defined = each_known statements (plain statements) (each_fails (uses_undefined statements) statements f.0);
       few = (let few = few_enough (variables_among statements) f.1 in let same = variables_of-statements statements in omega (arith, few, same));
     }
+
+-- names that are apart, one list after the other
+Apart-append : (names front back : List (List ℕ)) → Apart names front → Apart (names ++ front) back → Apart names (front ++ back)
+Apart-append names [] back h more = subst (λ all. Apart all back) (append-nil names) more
+Apart-append names (first ∷ front) back h more =
+    (h.0, Apart-append (names ++ first ∷ []) front back h.1 (subst (λ all. Apart all back) (sym (append_assoc names (first ∷ []) front)) more))
+
+-- where no name is defined twice, the names of the nodes are apart
+pub nodes_apart : (statements : List (Numbered Statement)) → twice_fault statements ≡ None → Apart [] (node_names (plain statements))
+nodes_apart statements h =
+    let apart = apart-from_twice [] statements h in
+    Apart-append [] (input_names (plain statements)) (gate_names (plain statements))
+    (inputs_apart [] [] (plain statements) (λ name away. away) apart) (gates_apart (input_names (plain statements)) [] (plain statements) (λ name away none. none) apart)

@@ -1,18 +1,20 @@
 -- The table of names, statement by statement.
-use Rattle.std.proofs.Common.{◌≡◌, ◌∙◌, ℕ, ◌+◌, ◌<◌, List, [], ◌∷◌, ◌++◌, Bool, true, false, Option, Some, None, cond, length, take, drop, refl, sym, ap, subst, get_or}
+use Rattle.std.proofs.Common.{◌≡◌, ◌∙◌, ℕ, ◌+◌, ◌<◌, List, [], ◌∷◌, ◌++◌, ◌||◌, Bool, true, false, not, is_some, Option, Some, None, cond, length, map, take, drop, refl, sym, ap, subst, get_or}
 use Rattle.std.proofs.lemmas.List.{take_more, at_drop_more}
 use Rattle.std.proofs.lemmas.Slice.Eq.{bytes_eq-Decides}
 use Rattle.std.specs.Borrow.{Bor}
 use Rattle.std.specs.HashMap.{HashMap}
+use Rattle.std.specs.List.{list_any}
 use Rattle.std.specs.Str.{bytes_eq}
 use Rattle.hz_line.specs.Statement.{Numbered}
 use Rattle.hz_bench.specs.declared.entry.Entry.{Entry}
 use Rattle.hz_bench.specs.declared.fault.BenchFault.{BenchFault}
 use Rattle.hz_bench.specs.declared.fault.BenchFault.TheVariants.{Form, Name, KindUnknown, Clocked, Twice, Pins, Undefined, TooMany, Memory}
-use Rattle.hz_bench.specs.Definition.{is_that, defines, definer, line_for_defined, IsPut, IsTableOf}
+use Rattle.hz_bench.specs.Definition.{is_that, defines, definer, defined_names, names_in, line_for, line_for_defined, IsPut, IsTableOf}
 use Rattle.hz_bench.specs.Statement.{Statement, Input, Output, Gate, defined_name, name_of, form_of, form_defines}
-use Rattle.hz_bench.specs.Text.{statement_in}
+use Rattle.hz_bench.specs.Entry.{stated}
 use Rattle.hz_bench.specs.Twice.{twice_or, earlier_line, twice_after, twice_fault, IsFoundOrMemory}
+use Rattle.hz_bench.proofs.EntryLemmas.{entry-formed, entry-named}
 
 abbrev pub or_line : Option ℕ → Option ℕ → Option ℕ
 or_line None later = later
@@ -35,10 +37,10 @@ definer-append (first ∷ rest) back name =
     or_line-cond true line some later = refl
     or_line-cond false line some later = refl
 
-definer-push : (seen : List (Numbered Statement)) (next : Numbered Statement) (name : List ℕ) → definer (seen ++ next ∷ []) name ≡ or_line (definer seen name) (cond (is_that name (defined_name next.statement)) (Some next.line) None)
+pub definer-push : (seen : List (Numbered Statement)) (next : Numbered Statement) (name : List ℕ) → definer (seen ++ next ∷ []) name ≡ or_line (definer seen name) (cond (is_that name (defined_name next.statement)) (Some next.line) None)
 definer-push seen next name = definer-append seen (next ∷ []) name ∙ ap (or_line (definer seen name)) (definer-cons next [] name)
 
-or_line-none : (line : Option ℕ) → or_line line None ≡ line
+pub or_line-none : (line : Option ℕ) → or_line line None ≡ line
 or_line-none None = refl
 or_line-none (Some line) = refl
 
@@ -60,23 +62,38 @@ nothing_earlier : {S : Type 0} (old new : HashMap (Bor (List ℕ)) ℕ S) (line 
 nothing_earlier old new line None added = refl
 nothing_earlier old new line (Some defined) added = added.0
 
+-- the statements without their lines
+abbrev pub plain : List (Numbered Statement) → List Statement
+plain statements = map (λ numbered. numbered.statement) statements
+
+pub defined_names-push : (seen : List (Numbered Statement)) (next : Numbered Statement) → defined_names (plain (seen ++ next ∷ [])) ≡ defined_names (plain seen) ++ defined_names (next.statement ∷ [])
+defined_names-push [] next = refl
+defined_names-push (first ∷ seen) next = by_statement first.statement (defined_names-push seen next)
+  where
+    by_statement : (statement : Statement) → defined_names (plain (seen ++ next ∷ [])) ≡ defined_names (plain seen) ++ defined_names (next.statement ∷ []) → defined_names (statement ∷ plain (seen ++ next ∷ [])) ≡ defined_names (statement ∷ plain seen) ++ defined_names (next.statement ∷ [])
+    by_statement (Input name) ih = ap (λ rest. name ∷ rest) ih
+    by_statement (Output name) ih = ih
+    by_statement (Gate name kind sources) ih = ap (λ rest. name ∷ rest) ih
+
 -- the statements so far are in the table, and the first of a name among the rest is the first of all
 pub record IsDefining {S : Type 0} (statements : List (Numbered Statement)) (index : ℕ) (lines : HashMap (Bor (List ℕ)) ℕ S) : Type 0 where
   pub table : IsTableOf (take index statements) lines
   pub rest : twice_after (take index statements) (drop index statements) ≡ twice_fault statements
+  pub names : names_in lines ≡ defined_names (plain (take index statements))
 
 twice_after-drop : (statements : List (Numbered Statement)) (index : ℕ) (next : Numbered Statement) → index < length statements → next ≡ get_or statements index next
     → twice_after (take index statements) (drop index statements) ≡ twice_or next.line (earlier_line (take index statements) (defined_name next.statement)) (twice_after (take index statements ++ next ∷ []) (drop (index + 1) statements))
 twice_after-drop statements index next inside is = at_drop_more (twice_after (take index statements)) statements index next inside ∙ rw (sym is) refl
 
 pub IsDefining-step : {S : Type 0} (old new : HashMap (Bor (List ℕ)) ℕ S) (statements : List (Numbered Statement)) (index : ℕ) (next : Numbered Statement) → index < length statements → next ≡ get_or statements index next
-    → IsPut old new next.line (defined_name next.statement) → IsDefining statements index old → IsDefining statements (index + 1) new
+    → IsPut old new next.line (defined_name next.statement) × (names_in new ≡ names_in old ++ defined_names (next.statement ∷ [])) → IsDefining statements index old → IsDefining statements (index + 1) new
 IsDefining-step old new statements index next inside is added was =
     let more : take (index + 1) statements ≡ take index statements ++ next ∷ [] = take_more statements index next inside ∙ ap (λ (last : Numbered Statement). take index statements ++ last ∷ []) (sym is) in
-    let none = sym (earlier_line-table old (take index statements) (defined_name next.statement) was.table) ∙ nothing_earlier old new next.line (defined_name next.statement) added in
+    let none = sym (earlier_line-table old (take index statements) (defined_name next.statement) was.table) ∙ nothing_earlier old new next.line (defined_name next.statement) added.0 in
     record {
-      table = rw more (put old new (take index statements) next (defined_name next.statement) refl added was.table);
+      table = rw more (put old new (take index statements) next (defined_name next.statement) refl added.0 was.table);
       rest = rw more (sym (twice_after-drop statements index next inside is ∙ ap (λ earlier. twice_or next.line earlier (twice_after (take index statements ++ next ∷ []) (drop (index + 1) statements))) none) ∙ was.rest);
+      names = added.1 ∙ ap (λ names. names ++ defined_names (next.statement ∷ [])) was.names ∙ sym (ap (λ all. defined_names (plain all)) more ∙ defined_names-push (take index statements) next);
     }
 
 IsFoundOrMemory-later : (line : ℕ) (earlier : Option ℕ) (later : Option BenchFault) (fault : BenchFault) → IsFoundOrMemory (twice_or line earlier None) fault → IsFoundOrMemory (twice_or line earlier later) fault
@@ -99,19 +116,45 @@ IsDefining-fault old statements index next fault inside is found was =
     let found' = subst (λ earlier. IsFoundOrMemory (twice_or next.line earlier None) fault) e found in
     subst (λ all. IsFoundOrMemory all fault) (sym all) (IsFoundOrMemory-later next.line _ _ fault found')
 
+-- tests that agree on each name
+pub any-same : (test other : List ℕ → Bool) → ((name : List ℕ) → test name ≡ other name) → (names : List (List ℕ)) → list_any test names ≡ list_any other names
+any-same test other same [] = refl
+any-same test other same (name ∷ names) = ap (λ b. b || list_any test names) (same name) ∙ ap (λ b. other name || b) (any-same test other same names)
+
+-- a name that a table does not have is defined by no statement
+pub undefined-table : {S : Type 0} (lines : HashMap (Bor (List ℕ)) ℕ S) (statements : List (Numbered Statement)) (names : List (List ℕ)) → IsTableOf statements lines
+    → list_any (λ name. not (is_some (line_for lines name))) names ≡ list_any (λ name. not (is_some (definer statements name))) names
+undefined-table lines statements names table = any-same (λ name. not (is_some (line_for lines name))) (λ name. not (is_some (definer statements name))) (λ name. ap (λ line. not (is_some line)) (table name)) names
+
 -- a statement whose form defines its name
 defined-from_form : (statement : Statement) → form_defines (form_of statement) ≡ true → defined_name statement ≡ Some (name_of statement)
 defined-from_form (Input name) h = refl
 defined-from_form (Output name) h = cc
 defined-from_form (Gate name kind sources) h = refl
 
-undefined-from_form : (statement : Statement) → form_defines (form_of statement) ≡ false → defined_name statement ≡ None
+pub undefined-from_form : (statement : Statement) → form_defines (form_of statement) ≡ false → defined_name statement ≡ None
 undefined-from_form (Input name) h = cc
 undefined-from_form (Output name) h = refl
 undefined-from_form (Gate name kind sources) h = cc
 
-pub entry-defines : (entry : Entry) → form_defines entry.form ≡ true → defined_name (statement_in entry.text.now) ≡ Some entry.name.now
-entry-defines entry h = defined-from_form _ (sym (ap form_defines entry.formed) ∙ h) ∙ ap Some (sym entry.named)
+pub entry-defines : (entry : Entry) → form_defines entry.form ≡ true → defined_name (stated entry) ≡ Some entry.name.now
+entry-defines entry h = defined-from_form _ (sym (ap form_defines (entry-formed entry)) ∙ h) ∙ ap Some (sym (entry-named entry))
 
-pub entry-uses : (entry : Entry) → form_defines entry.form ≡ false → defined_name (statement_in entry.text.now) ≡ None
-entry-uses entry h = undefined-from_form _ (sym (ap form_defines entry.formed) ∙ h)
+pub entry-uses : (entry : Entry) → form_defines entry.form ≡ false → defined_name (stated entry) ≡ None
+entry-uses entry h = undefined-from_form _ (sym (ap form_defines (entry-formed entry)) ∙ h)
+
+-- a name as a list, if there is one
+abbrev option_or_list : Option (List ℕ) → List (List ℕ)
+option_or_list None = []
+option_or_list (Some name) = name ∷ []
+
+-- the names of a table after one more statement
+pub names-same : (statement : Statement) → defined_name statement ≡ None → defined_names (statement ∷ []) ≡ []
+names-same (Input name) h = cc
+names-same (Output name) h = refl
+names-same (Gate name kind sources) h = cc
+
+pub names-more : (statement : Statement) (name : List ℕ) → defined_name statement ≡ Some name → defined_names (statement ∷ []) ≡ name ∷ []
+names-more (Input other) name h = ap (λ defined. option_or_list defined) h
+names-more (Output other) name h = cc
+names-more (Gate other kind sources) name h = ap (λ defined. option_or_list defined) h

@@ -171,7 +171,7 @@ outputs_may all (Output name ∷ rest) defined = (present-named all.names name d
 outputs_may all (Gate name kind sources ∷ rest) defined = (tt, outputs_may all rest defined.1)
 
 -- checked statements may be built
-pub may_build : (statements : List Statement) → IsChecked statements → MayBuild statements
+pub may_build : (statements : List Statement) → IsChecked statements → MayBuild statements statements
 may_build statements h =
     let total = counts statements in
     let few = h.few in
@@ -184,7 +184,7 @@ may_build statements h =
       gates = subst (λ now. MaySteps MayGate after_gate now statements) (sym nodes.0) (gates_may (record { names = input_names statements; inputs = length (input_names statements); gates = []; outputs = [] }) statements h.short h.gates_apart (omega (arith, total, few)));
       pins = subst (λ (now : netlist.Netlist). MaySteps MayPins after_pins (record { netlist = now; gate = now.inputs }) statements) (sym nodes.1)
           (pins_may base (length (input_names statements)) [] statements (sym (add-zero (length (input_names statements)))) (omega (arith, long)) h.known h.unclocked h.pins h.defined (omega (arith, total, few, long)));
-      outputs = subst (λ now. MaySteps MayOutput after_output now statements) (sym (connected-is statements)) (outputs_may (with_gates base (gates_of (node_names statements) statements)) statements h.defined);
+      outputs_may = subst (λ now. MaySteps MayOutput after_output now statements) (sym (connected-is statements)) (outputs_may (with_gates base (gates_of (node_names statements) statements)) statements h.defined);
     }
 
 -- each of their gates has a pin

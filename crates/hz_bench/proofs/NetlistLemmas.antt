@@ -6,15 +6,20 @@ use Rattle.hz_core.specs.declared.kind.Kind.{Kind}
 use Rattle.hz_core.specs.Netlist as netlist
 use Rattle.hz_line.specs.Statement.{Numbered}
 use Rattle.hz_bench.specs.declared.entry.Entry.{Entry}
+use Rattle.hz_bench.specs.declared.entry.OutputLine.{OutputLine}
 use Rattle.hz_bench.specs.Built.{after_input, after_gate, after_pin, after_pins, after_output, nodes_of, connected, built}
-use Rattle.hz_bench.specs.Entry.{numbered_list, statement_list}
+use Rattle.hz_bench.specs.Entry.{stated, numbered_list, numbered_outputs, statement_list, output_list}
 use Rattle.hz_bench.specs.Netlist.{input_names, gate_names, output_names, node_names, number_in, kind_of_word, gates_of, add_once, netlist_of}
 use Rattle.hz_bench.specs.Statement.{Statement, Input, Output, Gate}
-use Rattle.hz_bench.specs.Text.{statement_in}
 
+-- the statements of entries, and those of lines of outputs, without their lines
 pub statement_list-numbered : (entries : List Entry) → map (λ (numbered : Numbered Statement). numbered.statement) (numbered_list entries) ≡ statement_list entries
 statement_list-numbered [] = refl
-statement_list-numbered (entry ∷ rest) = ap (λ statements. statement_in entry.text.now ∷ statements) (statement_list-numbered rest)
+statement_list-numbered (entry ∷ rest) = ap (λ statements. stated entry ∷ statements) (statement_list-numbered rest)
+
+pub output_list-numbered : (outputs : List OutputLine) → map (λ (numbered : Numbered Statement). numbered.statement) (numbered_outputs outputs) ≡ output_list outputs
+output_list-numbered [] = refl
+output_list-numbered (output ∷ rest) = ap (λ statements. Output output.name.now ∷ statements) (output_list-numbered rest)
 
 -- the inputs come after the names that are there
 add-one-suc : (a b : ℕ) → (a + 1) + b ≡ a + suc b
@@ -97,7 +102,7 @@ connected-is statements =
     let base : netlist.Netlist = record { names = node_names statements; inputs = length (input_names statements); gates = bare_gates statements; outputs = [] } in
     ap (λ all. connected all statements) (nodes_of-is statements).1 ∙ gates_connected base (length (input_names statements)) [] statements (sym (add-zero (length (input_names statements))))
 
-pub built-netlist_of : (statements : List Statement) → built statements ≡ netlist_of statements
+pub built-netlist_of : (statements : List Statement) → built statements statements ≡ netlist_of statements
 built-netlist_of statements =
     ap (λ all. fold after_output all statements) (connected-is statements)
     ∙ outputs_added (record { names = node_names statements; inputs = length (input_names statements); gates = gates_of (node_names statements) statements; outputs = [] }) statements

@@ -1,23 +1,24 @@
 -- What the reader answers, by the law of faults.
-use Rattle.std.proofs.Common.{◌≡◌, ◌∙◌, ℕ, List, Option, Some, None, map, refl, ap, sym, subst, inl, inr, arith, if◌then◌else◌, ◌==◌}
+use Rattle.std.proofs.Common.{◌≡◌, ◌∙◌, ℕ, ◌+◌, ◌^◌, ◌<◌, ◌≤◌, List, [], ◌∷◌, length, Option, Some, None, cond, refl, ap, sym, subst, inl, inr, arith, if◌then◌else◌, ◌==◌}
+use Rattle.std.proofs.lemmas.List.{length-map}
+use Rattle.std.proofs.lemmas.List.Sums.{sum_by-cons}
 use Rattle.std.specs.Prelude.{◌⊎◌}
-use Rattle.hz_core.specs.Netlist.{IsWhole}
-use Rattle.hz_line.specs.Statement.{Numbered}
-use Rattle.hz_bench.specs.declared.entry.Entry.{Entry}
+use Rattle.hz_bench.specs.declared.parse.Statements.{Statements}
 use Rattle.hz_bench.specs.declared.fault.BenchFault.{BenchFault}
 use Rattle.hz_bench.specs.declared.fault.BenchFault.TheVariants.{Form, Name, KindUnknown, Clocked, Twice, Pins, Undefined, TooMany, Memory}
-use Rattle.hz_bench.specs.Check.{first_fault, pin_count}
-use Rattle.hz_bench.specs.Entry.{numbered_list, statement_list}
+use Rattle.hz_bench.specs.Check.{pin_count}
 use Rattle.hz_bench.specs.Fault.{Defines, Stands, number_of, line_of, ComesFirst, IsLeastFault, IsAnswer}
-use Rattle.hz_bench.specs.Netlist.{netlist_of}
 use Rattle.hz_bench.specs.Pass.{IsParsed, IsParseFault, IsAccepted}
-use Rattle.hz_bench.specs.Statement.{Statement, defined_name}
-use Rattle.hz_bench.specs.Text.{meaning_at, statement_meant, numbered_statements, statements_of, variables_of}
+use Rattle.hz_bench.specs.Statement.{Statement, Input, Output, Gate, defined_name, is_node, variables_in}
+use Rattle.hz_bench.specs.Text.{meaning_at, statement_meant, numbered_statements, statements_of, nodes_among, variables_of, variables_among}
+use Rattle.hz_line.specs.Statement.{Numbered}
+use Rattle.hz_bench.specs.Entry.{numbered_of, numbered_list}
 use Rattle.hz_bench.specs.Twice.{IsFoundOrMemory, earlier_line}
-use Rattle.hz_bench.proofs.CheckedLemmas.{IsChecked, checked}
+use Rattle.hz_bench.proofs.CheckedLemmas.{checked}
 use Rattle.hz_bench.proofs.FaultLaws.{Outcome, form-least, form-none, first_fault-outcome, second-first, line_found}
 use Rattle.hz_bench.proofs.MayLemmas.{may_build, whole}
-use Rattle.hz_bench.proofs.NetlistLemmas.{statement_list-numbered}
+use Rattle.hz_bench.proofs.ParseLemmas.{variables_of-statements}
+use Rattle.hz_bench.proofs.Sorted.{fault_in, fault_in-first, may_build-sorted}
 
 -- why a text was not parsed
 pub parse-answer : (text : List ℕ) (fault : BenchFault) → IsParseFault text fault → IsAnswer text fault
@@ -32,30 +33,30 @@ parse-answer text (TooMany variables) h = absurd h
 parse-answer text Memory h = tt
 
 -- what the check answers of the statements of a text is said of the text
-check-outcome : (text : List ℕ) (entries : List Entry) (answer : Option BenchFault) → IsParsed text entries → first_fault (numbered_list entries) ≡ answer → Outcome text answer
-check-outcome text entries answer parsed e =
-    subst (Outcome text) (ap first_fault (sym parsed.statements) ∙ e) (first_fault-outcome text (form-none text parsed.formed))
+check-outcome : (text : List ℕ) (statements : Statements) (answer : Option BenchFault) → IsParsed text statements → fault_in statements ≡ answer → Outcome text answer
+check-outcome text statements answer parsed e =
+    subst (Outcome text) (sym (fault_in-first text statements parsed) ∙ e) (first_fault-outcome text (form-none text parsed.formed))
 
-pub check-answer : (text : List ℕ) (entries : List Entry) (fault : BenchFault) → IsParsed text entries → IsFoundOrMemory (first_fault (numbered_list entries)) fault → IsAnswer text fault
-check-answer text entries (Form line) parsed h = check-outcome text entries (Some (Form line)) parsed h
-check-answer text entries (Name line) parsed h = check-outcome text entries (Some (Name line)) parsed h
-check-answer text entries (KindUnknown line) parsed h = check-outcome text entries (Some (KindUnknown line)) parsed h
-check-answer text entries (Clocked line) parsed h = check-outcome text entries (Some (Clocked line)) parsed h
-check-answer text entries (Twice line first) parsed h = check-outcome text entries (Some (Twice line first)) parsed h
-check-answer text entries (Pins line count) parsed h = check-outcome text entries (Some (Pins line count)) parsed h
-check-answer text entries (Undefined line) parsed h = check-outcome text entries (Some (Undefined line)) parsed h
-check-answer text entries (TooMany variables) parsed h = check-outcome text entries (Some (TooMany variables)) parsed h
-check-answer text entries Memory parsed h = tt
+pub check-answer : (text : List ℕ) (statements : Statements) (fault : BenchFault) → IsParsed text statements → IsFoundOrMemory (fault_in statements) fault → IsAnswer text fault
+check-answer text statements (Form line) parsed h = check-outcome text statements (Some (Form line)) parsed h
+check-answer text statements (Name line) parsed h = check-outcome text statements (Some (Name line)) parsed h
+check-answer text statements (KindUnknown line) parsed h = check-outcome text statements (Some (KindUnknown line)) parsed h
+check-answer text statements (Clocked line) parsed h = check-outcome text statements (Some (Clocked line)) parsed h
+check-answer text statements (Twice line first) parsed h = check-outcome text statements (Some (Twice line first)) parsed h
+check-answer text statements (Pins line count) parsed h = check-outcome text statements (Some (Pins line count)) parsed h
+check-answer text statements (Undefined line) parsed h = check-outcome text statements (Some (Undefined line)) parsed h
+check-answer text statements (TooMany variables) parsed h = check-outcome text statements (Some (TooMany variables)) parsed h
+check-answer text statements Memory parsed h = tt
 
-pub accepted : (text : List ℕ) (entries : List Entry) → IsParsed text entries → first_fault (numbered_list entries) ≡ None → IsAccepted text entries
-accepted text entries parsed e =
-    let statements = sym (statement_list-numbered entries) ∙ ap (map (λ (numbered : Numbered Statement). numbered.statement)) parsed.statements in
-    let fine = subst IsChecked (statement_list-numbered entries) (checked (numbered_list entries) e) in
+pub accepted : (text : List ℕ) (statements : Statements) → IsParsed text statements → fault_in statements ≡ None → IsAccepted text statements
+accepted text statements parsed e =
+    let fine = checked (numbered_statements text) (sym (fault_in-first text statements parsed) ∙ e) in
     record {
-      statements = statements;
-      faultless = check-outcome text entries None parsed e;
-      may = may_build (statement_list entries) fine;
-      whole = subst (λ (list : List Statement). IsWhole (netlist_of list)) statements (whole (statement_list entries) fine);
+      nodes = parsed.nodes;
+      outputs = parsed.outputs;
+      faultless = check-outcome text statements None parsed e;
+      may = may_build-sorted text statements parsed.nodes parsed.outputs (may_build (statements_of text) fine);
+      whole = whole (statements_of text) fine;
     }
 
 -- the one fault with this number on this line: what it carries besides is the text's
@@ -109,3 +110,22 @@ answer-exact text (Pins line count) other h l = inl (least-unique text (Pins lin
 answer-exact text (Undefined line) other h l = inl (least-unique text (Undefined line) other h l)
 answer-exact text (TooMany variables) other h l = inl (least-unique text (TooMany variables) other h l)
 answer-exact text Memory other h l = inr refl
+
+-- there are no more nodes than variables
+nodes_few : (statements : List (Numbered Statement)) → length (nodes_among statements) ≤ variables_among statements
+nodes_few [] = omega arith
+nodes_few (first ∷ rest) = by_statement first.statement (nodes_few rest) (sum_by-cons (λ (numbered : Numbered Statement). variables_in numbered.statement) first rest)
+  where
+    by_statement : (statement : Statement) → length (nodes_among rest) ≤ variables_among rest → variables_among (first ∷ rest) ≡ variables_in statement + variables_among rest
+        → length (cond (is_node statement) (first ∷ nodes_among rest) (nodes_among rest)) ≤ variables_among (first ∷ rest)
+    by_statement (Input name) h e = omega (arith, h, e)
+    by_statement (Output name) h e = omega (arith, h, e)
+    by_statement (Gate name kind sources) h e = omega (arith, h, e)
+
+-- so the nodes of a text that is not too long are few
+pub few_read : (text : List ℕ) (statements : Statements) → length text ≤ 16777216 → IsParsed text statements → length statements.nodes.items < 2 ^ 31
+few_read text statements short parsed =
+    let listed : length (numbered_list statements.nodes.items) ≡ length statements.nodes.items = length-map statements.nodes.items numbered_of in
+    let same : length (numbered_list statements.nodes.items) ≡ length (nodes_among (numbered_statements text)) = ap length parsed.nodes in
+    let fits = parsed.fits in
+    omega (arith, listed, same, nodes_few (numbered_statements text), variables_of-statements (numbered_statements text), fits, short)

@@ -1,33 +1,22 @@
 -- The statement that a line means, from the head of its tokens.
-use Rattle.std.proofs.Common.{◌≡◌, ◌∙◌, ℕ, ◌*◌, ◌/◌, ◌||◌, ◌==◌, List, [], ◌∷◌, Bool, true, false, Option, Some, None, option_map, is_some, length, map, cond, refl, ap, subst, arith, codes, IfSome}
-use Rattle.std.proofs.lemmas.List.{length-map}
-use Rattle.std.proofs.lemmas.Bool.Decides.{nat_tests}
+use Rattle.std.proofs.Common.{◌≡◌, ◌∙◌, ℕ, ◌*◌, ◌||◌, List, [], ◌∷◌, Bool, true, false, Option, Some, None, option_map, is_some, length, cond, refl, sym, ap, subst, arith, codes, IfSome}
+use Rattle.std.specs.List.{list_any}
+use Rattle.hz_line.specs.declared.bytes.Mark.{Mark}
 use Rattle.hz_line.specs.declared.bytes.Mark.TheVariants.{Open, Close, Comma, Equals}
 use Rattle.hz_line.specs.Keyword.{is_keyword}
 use Rattle.hz_line.specs.Statement.{Means, meaning_of_tokens}
-use Rattle.hz_line.specs.Token.{TokenOf, WordOf, MarkOf, tokens_of, token_of, AreWords}
+use Rattle.hz_line.specs.Token.{TokenOf, WordOf, MarkOf, tokens_of, with_token, IsWord, AreWords}
 use Rattle.hz_line.proofs.TokenLemmas.{tokens_of-AreWords}
 use Rattle.hz_bench.specs.declared.forms.Form.{Form}
 use Rattle.hz_bench.specs.declared.forms.Form.TheVariants as form
 use Rattle.hz_bench.specs.declared.statement.Head.{Head}
-use Rattle.hz_bench.specs.Head.{head_tokens}
-use Rattle.hz_bench.specs.Statement.{Statement, Gate, statement_of, names_of, words_of, port_form, port_of, form_of, name_of, sources_of, kind_word_of, has_long_name, is_long}
-use Rattle.hz_bench.specs.Text.{meaning_of, statement_in, statement_meant}
+use Rattle.hz_bench.specs.declared.statement.NameList.{NameList}
+use Rattle.hz_bench.specs.Head.{is_bare, head_tokens, names_by, noted_names, no_names}
+use Rattle.hz_bench.specs.Statement.{Gate, statement_of, names_of, words_of, port_form, port_of, sources_of, kind_word_of, has_long_name, is_long, statement_with, words_by}
+use Rattle.hz_bench.specs.Text.{meaning_of}
 
--- a line means its statement
-pub record IsMeant (text : List ℕ) (statement : Statement) : Type 0 where
-  pub meaning : meaning_of text ≡ Means statement
-  pub statement_is : statement_in text ≡ statement
-
-IsMeant-from_meaning : (text : List ℕ) (statement : Statement) → meaning_of text ≡ Means statement → IsMeant text statement
-unfolding statement_in
-IsMeant-from_meaning text statement h = record { meaning = h; statement_is = ap statement_meant h }
-
--- a statement that is the one meant is the line's own
-pub means-itself : (text : List ℕ) (statement : Statement) → IsMeant text statement → meaning_of text ≡ Means (statement_in text)
-means-itself text statement h = rw h.statement_is h.meaning
-
-port_form-step : (input output : Bool) (made : Form) → cond input (Some form.Input) (cond output (Some form.Output) None) ≡ Some made → (name : List ℕ) → form_of (port_of name made) ≡ made
+-- a word before a name in parentheses makes an input or output of it, and no gate
+port_form-step : (input output : Bool) (made : Form) → cond input (Some form.Input) (cond output (Some form.Output) None) ≡ Some made → (name : List ℕ) → port_of name made ≡ statement_with name made []
 port_form-step true output form.Input h name = refl
 port_form-step true output form.Output h name = refl
 port_form-step true output (form.Gate kind) h name = cc
@@ -36,38 +25,25 @@ port_form-step false true form.Output h name = refl
 port_form-step false true (form.Gate kind) h name = cc
 port_form-step false false made h name = cc
 
-pub form_of-port_of : (word name : List ℕ) (made : Form) → port_form word ≡ Some made → form_of (port_of name made) ≡ made
+pub port-made : (word name : List ℕ) (made : Form) → port_form word ≡ Some made → port_of name made ≡ statement_with name made []
 unfolding port_form
-form_of-port_of word name made h = port_form-step (is_keyword word (codes "INPUT")) (is_keyword word (codes "OUTPUT")) made h name
+port-made word name made h = port_form-step (is_keyword word (codes "INPUT")) (is_keyword word (codes "OUTPUT")) made h name
 
-pub name_of-port_of : (name : List ℕ) (made : Form) → name_of (port_of name made) ≡ name
-name_of-port_of name form.Input = refl
-name_of-port_of name form.Output = refl
-name_of-port_of name (form.Gate kind) = refl
-
-pub sources_of-port_of : (name : List ℕ) (made : Form) → sources_of (port_of name made) ≡ []
-sources_of-port_of name form.Input = refl
-sources_of-port_of name form.Output = refl
-sources_of-port_of name (form.Gate kind) = refl
+-- where no part of the line is left, no names are read
+pub no-sources : (name : List ℕ) (made : Form) → sources_of (statement_with name made []) ≡ []
+no-sources name form.Input = refl
+no-sources name form.Output = refl
+no-sources name (form.Gate kind) = refl
 
 or_false : (a : Bool) → (a || false) ≡ a
 or_false true = refl
 or_false false = refl
 
 -- an input or output has one name
-pub port_long : (name : List ℕ) (made : Form) → has_long_name (port_of name made) ≡ is_long name
+pub port_long : (name : List ℕ) (made : Form) → has_long_name (statement_with name made []) ≡ is_long name
 port_long name form.Input = or_false (is_long name)
 port_long name form.Output = or_false (is_long name)
 port_long name (form.Gate kind) = or_false (is_long name)
-
-no_more : {X : Type 0} (xs : List X) → (length xs == 0) ≡ true → xs ≡ []
-no_more [] h = refl
-no_more (x ∷ xs) h = absurd (grind (arith, nat_tests))
-
-pub port_meant : (text : List ℕ) (head : Head) (made : Form) → tokens_of text ≡ Some (head_tokens head) → head.mark ≡ Open → head.next ≡ Close → (length head.rest.now == 0) ≡ true → port_form head.first.now ≡ Some made → IsMeant text (port_of head.second.now made)
-port_meant text head made tokens opened closed none port =
-    let rest = no_more head.rest.now none in
-    IsMeant-from_meaning text _ (ap (meaning_of_tokens statement_of) tokens ∙ rw (opened, closed, rest, port) refl)
 
 -- a list of names in words
 pub record IsNameList (tokens : List TokenOf) : Type 0 where
@@ -95,18 +71,67 @@ IsNameList-from_some (WordOf name ∷ MarkOf Comma ∷ rest) h =
     let ih = IsNameList-from_some rest (more_names name (names_of rest) h) in
     record { words = ap (option_map (λ (names : List (List ℕ)). name ∷ names)) ih.words; twice = let t = ih.twice in omega arith }
 
-pub gate_meant : (text : List ℕ) (head : Head) → tokens_of text ≡ Some (head_tokens head) → head.mark ≡ Equals → head.next ≡ Open → is_some (names_of (map token_of head.rest.now)) ≡ true → IsMeant text (Gate head.first.now (kind_word_of head.second.now) (words_of (map token_of head.rest.now)))
-gate_meant text head tokens equals opened names =
-    let list = IsNameList-from_some (map token_of head.rest.now) names in
-    IsMeant-from_meaning text _ (ap (meaning_of_tokens statement_of) tokens ∙ rw (equals, opened, list.words) refl)
+-- the tokens of a head before these
+abbrev pub headed : List ℕ → Mark → List ℕ → Mark → Option (List TokenOf) → Option (List TokenOf)
+headed first mark second next tokens = with_token (WordOf first) (with_token (MarkOf mark) (with_token (WordOf second) (with_token (MarkOf next) tokens)))
 
--- half of a list of names is its names
-pub half-words : (head : Head) → is_some (names_of (map token_of head.rest.now)) ≡ true → length head.rest.now / 2 ≡ length (words_of (map token_of head.rest.now))
-half-words head names =
-    let list = IsNameList-from_some (map token_of head.rest.now) names in
-    let twice = list.twice in
-    let same : length (map token_of head.rest.now) ≡ length head.rest.now = length-map _ _ in omega arith
+-- an input or output
+pub port_meant : (text : List ℕ) (head : Head) (made : Form) → tokens_of text ≡ head_tokens head → head.mark ≡ Open → head.next ≡ Close → is_bare (tokens_of head.rest.now) ≡ true → port_form head.first.now ≡ Some made → meaning_of text ≡ Means (statement_with head.second.now made [])
+port_meant text head made tokens opened closed bare port =
+    ap (meaning_of_tokens statement_of) tokens ∙ rw (opened, closed) (meant (tokens_of head.rest.now) bare) ∙ ap Means (port-made head.first.now head.second.now made port)
+  where
+    meant : (rest : Option (List TokenOf)) → is_bare rest ≡ true → meaning_of_tokens statement_of (headed head.first.now Open head.second.now Close rest) ≡ Means (port_of head.second.now made)
+    meant None h = cc
+    meant (Some []) h = rw port refl
+    meant (Some (token ∷ rest)) h = cc
 
--- the words among the tokens of a line are words
-pub words_in : (line : List ℕ) (tokens : List TokenOf) → tokens_of line ≡ Some tokens → AreWords tokens
-words_in line tokens h = subst (λ (found : Option (List TokenOf)). IfSome found AreWords) h (tokens_of-AreWords line)
+-- the tokens are a list of these names, of which this was noted
+pub record IsListed (tokens : Option (List TokenOf)) (noted : NameList) : Type 0 where
+  pub names : List (List ℕ)
+  pub listed : names_by tokens ≡ Some names
+  pub words : option_map words_of tokens ≡ Some names
+  pub count : noted.count ≡ length names
+  pub long : noted.long ≡ list_any is_long names
+
+listed_words : (tokens : Option (List TokenOf)) (names : List (List ℕ)) → names_by tokens ≡ Some names → option_map words_of tokens ≡ Some names
+listed_words None names h = cc
+listed_words (Some tokens) names h = sym (IsNameList-from_some tokens (ap is_some h)).words ∙ h
+
+listed_by : (tokens : Option (List TokenOf)) (found : Option (List (List ℕ))) (noted : NameList) → names_by tokens ≡ found → option_map (noted_names no_names) found ≡ Some noted → IsListed tokens noted
+listed_by tokens None noted e h = cc
+listed_by tokens (Some names) noted e h =
+    let same : noted_names no_names names ≡ noted = cc h in
+    record { names = names; listed = e; words = listed_words tokens names e; count = let e = ap (λ (list : NameList). list.count) same in omega arith; long = sym (ap (λ (list : NameList). list.long) same) }
+
+pub IsListed-from_noted : (tokens : Option (List TokenOf)) (noted : NameList) → option_map (noted_names no_names) (names_by tokens) ≡ Some noted → IsListed tokens noted
+IsListed-from_noted tokens noted h = listed_by tokens (names_by tokens) noted refl h
+
+-- a gate
+pub gate_meant : (text : List ℕ) (head : Head) (names : List (List ℕ)) → tokens_of text ≡ head_tokens head → head.mark ≡ Equals → head.next ≡ Open → names_by (tokens_of head.rest.now) ≡ Some names → meaning_of text ≡ Means (Gate head.first.now (kind_word_of head.second.now) names)
+gate_meant text head names tokens equals opened listed =
+    ap (meaning_of_tokens statement_of) tokens ∙ rw (equals, opened) (meant (tokens_of head.rest.now) listed)
+  where
+    meant : (rest : Option (List TokenOf)) → names_by rest ≡ Some names → meaning_of_tokens statement_of (headed head.first.now Equals head.second.now Open rest) ≡ Means (Gate head.first.now (kind_word_of head.second.now) names)
+    meant None h = cc
+    meant (Some rest) h = rw h refl
+
+-- the words of a head are words, where what follows it has tokens
+headed_words : (first second : List ℕ) (mark next : Mark) (rest : Option (List TokenOf)) → is_some rest ≡ true → IfSome (headed first mark second next rest) AreWords → IsWord first × IsWord second
+headed_words first second mark next None h words = cc
+headed_words first second mark next (Some rest) h words = (words.0, words.1.0)
+
+pub head_words : (text : List ℕ) (head : Head) → tokens_of text ≡ head_tokens head → is_some (tokens_of head.rest.now) ≡ true → IsWord head.first.now × IsWord head.second.now
+head_words text head e some = headed_words head.first.now head.second.now head.mark head.next (tokens_of head.rest.now) some (subst (λ (found : Option (List TokenOf)). IfSome found AreWords) e (tokens_of-AreWords text))
+
+pub bare-some : (tokens : Option (List TokenOf)) → is_bare tokens ≡ true → is_some tokens ≡ true
+bare-some None h = cc
+bare-some (Some tokens) h = refl
+
+-- tokens that have these words
+pub words-known : (tokens : Option (List TokenOf)) (names : List (List ℕ)) → option_map words_of tokens ≡ Some names → words_by tokens ≡ names
+words-known None names h = cc
+words-known (Some tokens) names h = cc h
+
+pub listed-some : (tokens : Option (List TokenOf)) (names : List (List ℕ)) → names_by tokens ≡ Some names → is_some tokens ≡ true
+listed-some None names h = cc
+listed-some (Some tokens) names h = refl

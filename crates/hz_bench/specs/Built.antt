@@ -1,5 +1,6 @@
 -- A circuit that is built statement by statement: inputs, gates, pins, outputs.
-use Rattle.std.specs.Prelude.{◌≡◌, ℕ, suc, ◌<◌, false, List, [], ◌∷◌, length, fold, None, IsSome}
+use Rattle.std.specs.Prelude.{◌≡◌, ℕ, suc, ◌<◌, Bool, true, false, nat_eq, List, [], ◌∷◌, length, fold, None, IsSome}
+use Rattle.std.specs.List.{list_any, slice_index_or}
 use Rattle.hz_core.specs.declared.circuit.TheConstants.{MAX_VARIABLES}
 use Rattle.hz_core.specs.Netlist.{Netlist, empty_netlist, with_input, with_gate, with_pin, with_output, node_named, variable_count, IsGateNumber, gate_at, most_pins}
 use Rattle.hz_bench.specs.Netlist.{kind_of_word, number_in}
@@ -20,6 +21,10 @@ after_gate netlist (Gate name kind sources) = with_gate netlist name (kind_of_wo
 -- a pin that reads the node with a name
 abbrev pub after_pin : ℕ → Netlist → List ℕ → Netlist
 after_pin gate netlist source = with_pin netlist gate (number_in netlist.names source)
+
+-- a pin that reads this node
+abbrev pub after_read : ℕ → Netlist → ℕ → Netlist
+after_read gate netlist node = with_pin netlist gate node
 
 -- a circuit and the number of the gate whose pins come next
 pub record Connecting : Type 0 where
@@ -46,9 +51,9 @@ nodes_of statements = fold after_gate (fold after_input empty_netlist statements
 abbrev pub connected : Netlist → List Statement → Netlist
 connected netlist statements = (fold after_pins (record { netlist = netlist; gate = netlist.inputs }) statements).netlist
 
--- the circuit of statements, built
-abbrev pub built : List Statement → Netlist
-built statements = fold after_output (connected (nodes_of statements) statements) statements
+-- the circuit of nodes and outputs, built
+abbrev pub built : List Statement → List Statement → Netlist
+built nodes outputs = fold after_output (connected (nodes_of nodes) nodes) outputs
 
 -- each step may be taken, from where the earlier ones lead
 abbrev pub MaySteps : {A B : Type 0} → (A → B → Type 0) → (A → B → A) → A → List B → Type 0
@@ -80,6 +85,22 @@ pub record MayPin (gate : ℕ) (netlist : Netlist) (source : List ℕ) : Type 0 
   pub pins : length (gate_at netlist gate).sources < most_pins (gate_at netlist gate).kind
   pub room : variable_count netlist < MAX_VARIABLES
 
+-- the gate may have a pin more, which reads this node
+pub record MayRead (gate : ℕ) (netlist : Netlist) (node : ℕ) : Type 0 where
+  pub gate_is : IsGateNumber netlist gate
+  pub node_is : node < length netlist.names
+  pub pins : length (gate_at netlist gate).sources < most_pins (gate_at netlist gate).kind
+  pub room : variable_count netlist < MAX_VARIABLES
+
+-- the circuit has this node
+abbrev pub IsNode : Netlist → ℕ → Type 0
+IsNode netlist node = node < length netlist.names
+
+-- there is a mark for each node, and the marked nodes are outputs
+pub record AreMarked (netlist : Netlist) (marks : List Bool) : Type 0 where
+  pub long : length marks ≡ length netlist.names
+  pub listed : (node : ℕ) → node < length marks → slice_index_or marks node false ≡ true → list_any (nat_eq node) netlist.outputs ≡ true
+
 -- the pins of a statement may be added, if it is a gate
 abbrev pub MayPins : Connecting → Statement → Type 0
 MayPins now (Input name) = Unit {0}
@@ -93,9 +114,9 @@ MayOutput netlist (Input name) = Unit {0}
 MayOutput netlist (Output name) = IsSome (node_named netlist name)
 MayOutput netlist (Gate name kind sources) = Unit {0}
 
--- the circuit of statements may be built, step by step
-pub record MayBuild (statements : List Statement) : Type 0 where
-  pub inputs : MaySteps MayInput after_input empty_netlist statements
-  pub gates : MaySteps MayGate after_gate (fold after_input empty_netlist statements) statements
-  pub pins : MaySteps MayPins after_pins (record { netlist = nodes_of statements; gate = (nodes_of statements).inputs }) statements
-  pub outputs : MaySteps MayOutput after_output (connected (nodes_of statements) statements) statements
+-- the circuit of nodes and outputs may be built, step by step
+pub record MayBuild (nodes outputs : List Statement) : Type 0 where
+  pub inputs : MaySteps MayInput after_input empty_netlist nodes
+  pub gates : MaySteps MayGate after_gate (fold after_input empty_netlist nodes) nodes
+  pub pins : MaySteps MayPins after_pins (record { netlist = nodes_of nodes; gate = (nodes_of nodes).inputs }) nodes
+  pub outputs_may : MaySteps MayOutput after_output (connected (nodes_of nodes) nodes) outputs

@@ -1,9 +1,7 @@
 -- The checks of single statements.
-use Rattle.std.specs.Prelude.{ℕ, Bool, not, nat_lt, List, length, find, Option, Some, None, is_some, if◌then◌else◌}
+use Rattle.std.specs.Prelude.{ℕ, min, Bool, not, nat_lt, List, length, find, Option, Some, None, is_some, if◌then◌else◌}
 use Rattle.std.specs.List.{list_any}
 use Rattle.hz_line.specs.Statement.{Numbered}
-use Rattle.hz_bench.specs.declared.checks.Check.{Check}
-use Rattle.hz_bench.specs.declared.checks.Check.TheVariants.{LongName, UnknownKind, ClockedKind, WrongPins}
 use Rattle.hz_bench.specs.Definition.{definer}
 use Rattle.hz_bench.specs.Statement.{Statement, form_of, sources_of, used_names, has_long_name, is_unknown, is_clocked, refuses_pins}
 use Rattle.hz_bench.specs.Text.{variables_among}
@@ -28,16 +26,13 @@ has_unknown_kind statement = is_unknown (form_of statement)
 abbrev pub has_clocked_kind : Statement → Bool
 has_clocked_kind statement = is_clocked (form_of statement)
 
--- the statement fails the check
-abbrev pub fails : Check → Statement → Bool
-fails LongName statement = has_long_name statement
-fails UnknownKind statement = has_unknown_kind statement
-fails ClockedKind statement = has_clocked_kind statement
-fails WrongPins statement = has_wrong_pins statement
-
 -- the statement uses a name that none of these defines
 abbrev pub uses_undefined : List (Numbered Statement) → Statement → Bool
 uses_undefined statements statement = list_any (λ name. not (is_some (definer statements name))) (used_names statement)
+
+-- the pins of the statement read a name that none of these defines
+abbrev pub reads_undefined : List (Numbered Statement) → Statement → Bool
+reads_undefined statements statement = list_any (λ name. not (is_some (definer statements name))) (sources_of statement)
 
 -- the first statement that passes a test
 abbrev pub first_that : (Statement → Bool) → List (Numbered Statement) → Option (Numbered Statement)
@@ -67,3 +62,9 @@ first_fault statements =
     (fault_or (λ found. fault.Pins found.line (pin_count found.statement)) (first_that has_wrong_pins statements)
     (fault_or (λ found. fault.Undefined found.line) (first_that (uses_undefined statements) statements)
     (too_many (variables_among statements)))))))
+
+-- the earlier of two lines, where both are there
+abbrev pub earlier : Option ℕ → Option ℕ → Option ℕ
+earlier None other = other
+earlier (Some one) None = Some one
+earlier (Some one) (Some other) = Some (min one other)

@@ -1,10 +1,10 @@
 -- Which line defines a name.
-use Rattle.std.specs.Prelude.{◌≡◌, ℕ, Bool, false, List, Option, Some, None, if◌then◌else◌}
+use Rattle.std.specs.Prelude.{◌≡◌, ℕ, Bool, false, List, [], ◌∷◌, map, Option, Some, None, if◌then◌else◌}
 use Rattle.std.specs.Str.{bytes_eq}
 use Rattle.std.specs.Borrow.{Bor}
 use Rattle.std.specs.HashMap.{HashMap, get_by}
 use Rattle.hz_line.specs.Statement.{Numbered, first_line}
-use Rattle.hz_bench.specs.Statement.{Statement, defined_name}
+use Rattle.hz_bench.specs.Statement.{Statement, Input, Output, Gate, defined_name}
 
 -- the name is the one that is defined, if one is
 abbrev pub is_that : List ℕ → Option (List ℕ) → Bool
@@ -18,6 +18,17 @@ defines name statement = is_that name (defined_name statement)
 -- the line of the first statement that defines the name
 abbrev pub definer : List (Numbered Statement) → List ℕ → Option ℕ
 definer statements name = first_line (defines name) statements
+
+-- the names that statements define, in order
+abbrev pub defined_names : List Statement → List (List ℕ)
+defined_names [] = []
+defined_names (Input name ∷ rest) = name ∷ defined_names rest
+defined_names (Output name ∷ rest) = defined_names rest
+defined_names (Gate name kind sources ∷ rest) = name ∷ defined_names rest
+
+-- the names in a table, in order
+abbrev pub names_in : {S : Type 0} → HashMap (Bor (List ℕ)) ℕ S → List (List ℕ)
+names_in table = map (λ entry. entry.0.now) table.entries
 
 -- the line that a table has for a name
 abbrev pub line_for : {S : Type 0} → HashMap (Bor (List ℕ)) ℕ S → List ℕ → Option ℕ

@@ -1,24 +1,34 @@
 -- The statement of an entry.
-use Rattle.std.specs.Prelude.{◌≡◌, ℕ, List, map, Option, None, Some}
+use Rattle.std.specs.Prelude.{List, map}
 use Rattle.hz_line.specs.Statement.{Numbered}
-use Rattle.hz_line.specs.Token.{TokenOf}
 use Rattle.hz_bench.specs.declared.entry.Entry.{Entry}
-use Rattle.hz_bench.specs.Statement.{Statement, statement_of}
-use Rattle.hz_bench.specs.Text.{statement_in}
+use Rattle.hz_bench.specs.declared.entry.OutputLine.{OutputLine}
+use Rattle.hz_bench.specs.Statement.{Statement, Output, statement_with}
+
+-- the statement that an entry is
+abbrev pub stated : Entry → Statement
+stated entry = statement_with entry.name.now entry.form entry.sources.now
 
 -- an entry as a statement with its line
 abbrev pub numbered_of : Entry → Numbered Statement
-numbered_of entry = record { line = entry.line; statement = statement_in entry.text.now }
+numbered_of entry = record { line = entry.line; statement = stated entry }
 
 -- entries as the statements of a text
 abbrev pub numbered_list : List Entry → List (Numbered Statement)
 numbered_list entries = map numbered_of entries
 
--- what is read of a line with these tokens: its statement as an entry, or nothing where they are no statement
-abbrev pub IsRead : ℕ → List ℕ → List TokenOf → Option Entry → Type 0
-IsRead line text tokens None = statement_of tokens ≡ None
-IsRead line text tokens (Some entry) = (entry.line ≡ line) × (entry.text.now ≡ text) × (statement_of tokens ≡ Some (statement_in text))
-
 -- the statements of entries
 abbrev pub statement_list : List Entry → List Statement
-statement_list entries = map (λ entry. statement_in entry.text.now) entries
+statement_list entries = map stated entries
+
+-- a line of an output as a statement with its line
+abbrev pub numbered_output : OutputLine → Numbered Statement
+numbered_output output = record { line = output.line; statement = Output output.name.now }
+
+-- lines of outputs as statements with their lines
+abbrev pub numbered_outputs : List OutputLine → List (Numbered Statement)
+numbered_outputs outputs = map numbered_output outputs
+
+-- the statements of lines of outputs
+abbrev pub output_list : List OutputLine → List Statement
+output_list outputs = map (λ output. Output output.name.now) outputs

@@ -1,14 +1,88 @@
--- How the tokens of a statement begin.
-use Rattle.std.specs.Prelude.{◌≡◌, List, ◌∷◌, map, Option, None, Some}
-use Rattle.hz_line.specs.Token.{TokenOf, WordOf, MarkOf, token_of}
+-- How a statement is read from the front of its line.
+use Rattle.std.specs.Prelude.{◌≡◌, ◌<◌, ◌≤◌, ◌+◌, ◌||◌, ℕ, Bool, true, false, List, [], ◌∷◌, length, Option, None, Some}
+use Rattle.std.specs.List.{list_any}
+use Rattle.std.specs.Borrow.{Bor}
+use Rattle.hz_line.specs.declared.bytes.Mark.{Mark}
+use Rattle.hz_line.specs.Statement.{Means}
+use Rattle.hz_line.specs.Token.{TokenOf, WordOf, MarkOf, tokens_of, with_token}
+use Rattle.hz_bench.specs.declared.entry.Entry.{Entry}
 use Rattle.hz_bench.specs.declared.statement.Head.{Head}
-use Rattle.hz_bench.specs.Statement.{statement_of}
+use Rattle.hz_bench.specs.declared.statement.MarkedWord.{MarkedWord}
+use Rattle.hz_bench.specs.declared.statement.NameList.{NameList}
+use Rattle.hz_bench.specs.Entry.{stated}
+use Rattle.hz_bench.specs.Statement.{Statement, statement_of, names_of, is_long}
+use Rattle.hz_bench.specs.Text.{meaning_of}
 
--- the tokens of a head and of what follows it
-abbrev pub head_tokens : Head → List TokenOf
-head_tokens head = WordOf head.first.now ∷ MarkOf head.mark ∷ WordOf head.second.now ∷ MarkOf head.next ∷ map token_of head.rest.now
+-- the tokens of a line are there, and none
+abbrev pub is_bare : Option (List TokenOf) → Bool
+is_bare None = false
+is_bare (Some []) = true
+is_bare (Some (token ∷ tokens)) = false
 
--- the tokens begin with this head; without one they are no statement
-abbrev pub IsHeadOf : List TokenOf → Option Head → Type 0
-IsHeadOf tokens None = statement_of tokens ≡ None
-IsHeadOf tokens (Some head) = tokens ≡ head_tokens head
+-- the first token is a word
+abbrev pub has_word_first : Option (List TokenOf) → Bool
+has_word_first None = false
+has_word_first (Some []) = false
+has_word_first (Some (WordOf word ∷ tokens)) = true
+has_word_first (Some (MarkOf mark ∷ tokens)) = false
+
+-- the first token is a mark
+abbrev pub has_mark_first : Option (List TokenOf) → Bool
+has_mark_first None = false
+has_mark_first (Some []) = false
+has_mark_first (Some (WordOf word ∷ tokens)) = false
+has_mark_first (Some (MarkOf mark ∷ tokens)) = true
+
+-- the first tokens are a word and a mark
+abbrev pub has_marked_first : Option (List TokenOf) → Bool
+has_marked_first None = false
+has_marked_first (Some []) = false
+has_marked_first (Some (MarkOf mark ∷ tokens)) = false
+has_marked_first (Some (WordOf word ∷ tokens)) = has_mark_first (Some tokens)
+
+-- a line begins with this word, before a shorter line; or with none
+abbrev pub IsWordFirst : List ℕ → Option (Bor (List ℕ) × Bor (List ℕ)) → Type 0
+IsWordFirst line None = has_word_first (tokens_of line) ≡ false
+IsWordFirst line (Some found) = (tokens_of line ≡ with_token (WordOf found.0.now) (tokens_of found.1.now)) × (length found.1.now < length line)
+
+-- a line begins with this mark, before a shorter line; or with none
+abbrev pub IsMarkFirst : List ℕ → Option (Mark × Bor (List ℕ)) → Type 0
+IsMarkFirst line None = has_mark_first (tokens_of line) ≡ false
+IsMarkFirst line (Some found) = (tokens_of line ≡ with_token (MarkOf found.0) (tokens_of found.1.now)) × (length found.1.now < length line)
+
+-- a line begins with this word and this mark, before a shorter line; or with no word that has a mark after it
+abbrev pub IsMarkedFirst : List ℕ → Option MarkedWord → Type 0
+IsMarkedFirst line None = has_marked_first (tokens_of line) ≡ false
+IsMarkedFirst line (Some marked) = (tokens_of line ≡ with_token (WordOf marked.word.now) (with_token (MarkOf marked.mark) (tokens_of marked.rest.now))) × (length marked.rest.now < length line)
+
+-- the statement of a line's tokens, if it has them and they are one
+abbrev pub statement_by : Option (List TokenOf) → Option Statement
+statement_by None = None
+statement_by (Some tokens) = statement_of tokens
+
+-- what is read of a line: an entry that is its statement, or nothing where it has none
+abbrev pub IsRead : ℕ → List ℕ → Option Entry → Type 0
+IsRead line text None = statement_by (tokens_of text) ≡ None
+IsRead line text (Some entry) = (entry.line ≡ line) × (meaning_of text ≡ Means (stated entry))
+
+-- the tokens of a head, and of the line after it
+abbrev pub head_tokens : Head → Option (List TokenOf)
+head_tokens head = with_token (WordOf head.first.now) (with_token (MarkOf head.mark) (with_token (WordOf head.second.now) (with_token (MarkOf head.next) (tokens_of head.rest.now))))
+
+-- a line begins with this head; without one it has no statement
+abbrev pub IsHeadOf : List ℕ → Option Head → Type 0
+IsHeadOf line None = statement_by (tokens_of line) ≡ None
+IsHeadOf line (Some head) = (tokens_of line ≡ head_tokens head) × (length head.rest.now ≤ length line)
+
+-- the names that a line's tokens list, if it has them and they are a list of names
+abbrev pub names_by : Option (List TokenOf) → Option (List (List ℕ))
+names_by None = None
+names_by (Some tokens) = names_of tokens
+
+-- what is noted of names, after what was noted before them
+abbrev pub noted_names : NameList → List (List ℕ) → NameList
+noted_names noted names = record { count = noted.count + length names; long = noted.long || list_any is_long names }
+
+-- nothing is noted yet
+abbrev pub no_names : NameList
+no_names = record { count = 0; long = false }

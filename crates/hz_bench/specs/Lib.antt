@@ -6,7 +6,10 @@ pub mod Definition
 pub mod Twice
 pub mod Pass
 pub mod Check
+pub mod Noted
+pub mod Sorted
 pub mod Fault
 pub mod Netlist
 pub mod Built
 pub mod Printed
+pub mod Uses

@@ -1,22 +1,24 @@
 -- What the passes over a text find.
-use Rattle.std.specs.Prelude.{◌≡◌, ℕ, ◌+◌, ◌≤◌, List, length, Option, Some, None}
+use Rattle.std.specs.Prelude.{◌≡◌, ℕ, ◌+◌, ◌≤◌, List, [], ◌∷◌, ◌++◌, length, Option, Some, None}
 use Rattle.hz_line.specs.Line.{lines_of}
-use Rattle.hz_line.specs.Statement.{Nothing, Malformed, first_malformed}
+use Rattle.hz_line.specs.Statement.{Nothing, Malformed, Means, first_malformed}
 use Rattle.hz_core.specs.Netlist.{IsWhole}
 use Rattle.hz_bench.specs.declared.entry.Entry.{Entry}
+use Rattle.hz_bench.specs.declared.parse.Statements.{Statements}
 use Rattle.hz_bench.specs.declared.fault.BenchFault.{BenchFault}
 use Rattle.hz_bench.specs.declared.fault.BenchFault.TheVariants.{Form, Name, KindUnknown, Clocked, Twice, Pins, Undefined, TooMany, Memory}
 use Rattle.hz_bench.specs.Built.{MayBuild}
-use Rattle.hz_bench.specs.Entry.{numbered_list, statement_list}
+use Rattle.hz_bench.specs.Entry.{stated, numbered_of, numbered_list, numbered_outputs, statement_list, output_list}
+use Rattle.hz_bench.specs.Noted.{noted, notes_of}
 use Rattle.hz_bench.specs.Fault.{IsFaultless}
 use Rattle.hz_bench.specs.Netlist.{netlist_of}
 use Rattle.hz_bench.specs.Statement.{statement_of}
-use Rattle.hz_bench.specs.Text.{meaning_of, numbered_statements, statements_of, variables_of}
+use Rattle.hz_bench.specs.Text.{meaning_of, numbered_statements, nodes_among, outputs_among, statements_of, variables_of}
 
--- what is read of a line: nothing, or its statement
+-- what is read of a line: nothing, or an entry that is its statement
 abbrev pub IsLineRead : ℕ → List ℕ → Option Entry → Type 0
 IsLineRead line text None = meaning_of text ≡ Nothing
-IsLineRead line text (Some entry) = (entry.line ≡ line) × (entry.text.now ≡ text)
+IsLineRead line text (Some entry) = (entry.line ≡ line) × (meaning_of text ≡ Means (stated entry))
 
 -- a fault in a line
 abbrev pub IsLineFault : ℕ → List ℕ → BenchFault → Type 0
@@ -28,11 +30,19 @@ IsLineFault line text (Twice at first) = ⊥
 IsLineFault line text (Pins at count) = ⊥
 IsLineFault line text (Undefined at) = ⊥
 IsLineFault line text (TooMany variables) = ⊥
-IsLineFault line text Memory = Unit {0}
+IsLineFault line text Memory = ⊥
 
--- the entries are the statements of a text without a malformed line
-pub record IsParsed (text : List ℕ) (entries : List Entry) : Type 0 where
-  pub statements : numbered_list entries ≡ numbered_statements text
+-- the next statement was added to those before it: to the nodes or to the outputs, and to the notes
+pub record IsSorted (old : Statements) (entry : Entry) (new : Statements) : Type 0 where
+  pub nodes : numbered_list new.nodes.items ≡ numbered_list old.nodes.items ++ nodes_among (numbered_of entry ∷ [])
+  pub outputs : numbered_outputs new.outputs.items ≡ numbered_outputs old.outputs.items ++ outputs_among (numbered_of entry ∷ [])
+  pub notes : new.notes ≡ noted old.notes (numbered_of entry)
+
+-- the statements are those of a text without a malformed line
+pub record IsParsed (text : List ℕ) (statements : Statements) : Type 0 where
+  pub nodes : numbered_list statements.nodes.items ≡ nodes_among (numbered_statements text)
+  pub outputs : numbered_outputs statements.outputs.items ≡ outputs_among (numbered_statements text)
+  pub notes : statements.notes ≡ notes_of (numbered_statements text)
   pub formed : first_malformed statement_of 1 (lines_of text) ≡ None
   pub fits : variables_of (statements_of text) ≤ length text + 1
 
@@ -48,9 +58,10 @@ IsParseFault text (Undefined at) = ⊥
 IsParseFault text (TooMany variables) = ⊥
 IsParseFault text Memory = Unit {0}
 
--- the entries are the statements of a text in which no fault stands; their circuit may be built, and is whole
-pub record IsAccepted (text : List ℕ) (entries : List Entry) : Type 0 where
-  pub statements : statement_list entries ≡ statements_of text
+-- the statements are those of a text in which no fault stands; their circuit may be built, and is whole
+pub record IsAccepted (text : List ℕ) (statements : Statements) : Type 0 where
+  pub nodes : numbered_list statements.nodes.items ≡ nodes_among (numbered_statements text)
+  pub outputs : numbered_outputs statements.outputs.items ≡ outputs_among (numbered_statements text)
   pub faultless : IsFaultless text
-  pub may : MayBuild (statement_list entries)
+  pub may : MayBuild (statement_list statements.nodes.items) (output_list statements.outputs.items)
   pub whole : IsWhole (netlist_of (statements_of text))

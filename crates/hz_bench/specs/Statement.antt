@@ -6,7 +6,7 @@ use Rattle.hz_core.specs.declared.kind.TheConstants.{MAX_PINS}
 use Rattle.hz_core.specs.Gate.{takes}
 use Rattle.hz_line.specs.declared.bytes.Mark.TheVariants.{Open, Close, Comma, Equals}
 use Rattle.hz_line.specs.Keyword.{is_keyword}
-use Rattle.hz_line.specs.Token.{TokenOf, WordOf, MarkOf}
+use Rattle.hz_line.specs.Token.{TokenOf, WordOf, MarkOf, tokens_of}
 use Rattle.hz_bench.specs.declared.forms.KindWord.{KindWord}
 use Rattle.hz_bench.specs.declared.forms.KindWord.TheVariants.{Known, Clocked, Unknown}
 use Rattle.hz_bench.specs.declared.forms.Form.{Form}
@@ -76,6 +76,14 @@ form_defines form.Input = true
 form_defines form.Output = false
 form_defines (form.Gate kind) = true
 
+-- the statement defines its name: it is an input or a gate
+abbrev pub is_node : Statement → Bool
+is_node statement = form_defines (form_of statement)
+
+-- the statement is an output
+abbrev pub is_output : Statement → Bool
+is_output statement = not (is_node statement)
+
 -- the names that a gate's pins read
 abbrev pub sources_of : Statement → List (List ℕ)
 sources_of (Input name) = []
@@ -137,3 +145,18 @@ abbrev pub words_of : List TokenOf → List (List ℕ)
 words_of [] = []
 words_of (WordOf word ∷ tokens) = word ∷ words_of tokens
 words_of (MarkOf mark ∷ tokens) = words_of tokens
+
+-- the words among tokens; none where there are no tokens
+abbrev pub words_by : Option (List TokenOf) → List (List ℕ)
+words_by None = []
+words_by (Some tokens) = words_of tokens
+
+-- the words of a part of a line; none where it has no tokens
+abbrev pub words_in : List ℕ → List (List ℕ)
+words_in part = words_by (tokens_of part)
+
+-- the statement of this form, with this name; a gate's pins read the words of the part of its line where they begin
+abbrev pub statement_with : List ℕ → Form → List ℕ → Statement
+statement_with name form.Input part = Input name
+statement_with name form.Output part = Output name
+statement_with name (form.Gate kind) part = Gate name kind (words_in part)

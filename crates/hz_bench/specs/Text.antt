@@ -1,8 +1,8 @@
 -- The statements of a netlist's text, by their lines.
-use Rattle.std.specs.Prelude.{ℕ, List, [], map, sum_by}
+use Rattle.std.specs.Prelude.{ℕ, List, [], map, filter, sum_by}
 use Rattle.hz_line.specs.Statement as grammar
 use Rattle.hz_line.specs.Statement.{Meaning, Nothing, Malformed, Means, Numbered}
-use Rattle.hz_bench.specs.Statement.{Statement, Output, statement_of, variables_in}
+use Rattle.hz_bench.specs.Statement.{Statement, Output, statement_of, variables_in, is_node, is_output}
 
 -- what a line is
 abbrev pub meaning_of : List ℕ → Meaning Statement
@@ -17,10 +17,6 @@ abbrev pub statement_meant : Meaning Statement → Statement
 statement_meant Nothing = Output []
 statement_meant Malformed = Output []
 statement_meant (Means statement) = statement
-
--- the statement of a line
-unfoldable pub statement_in : List ℕ → Statement
-statement_in line = statement_meant (meaning_of line)
 
 -- the statements of a text, with their lines
 abbrev pub numbered_statements : List ℕ → List (Numbered Statement)
@@ -37,3 +33,11 @@ variables_of statements = sum_by variables_in statements
 -- the variables of numbered statements
 abbrev pub variables_among : List (Numbered Statement) → ℕ
 variables_among statements = sum_by (λ numbered. variables_in numbered.statement) statements
+
+-- the inputs and gates among statements
+abbrev pub nodes_among : List (Numbered Statement) → List (Numbered Statement)
+nodes_among statements = filter (λ numbered. is_node numbered.statement) statements
+
+-- the outputs among statements
+abbrev pub outputs_among : List (Numbered Statement) → List (Numbered Statement)
+outputs_among statements = filter (λ numbered. is_output numbered.statement) statements

@@ -1,30 +1,31 @@
 // The circuit of the statements.
 
-ghost use Rattle.std.specs.Prelude.{◌≡◌, [], ◌∷◌, IfOk, OnOk, length, map, fold, take};
-ghost use Rattle.hz_line.specs.Token.{token_of};
-ghost use Rattle.hz_bench.specs.Built.{after_input, after_gate, after_pin, after_pins, after_output, built, connected, MayBuild, MayGate, MayInput, MayOutput, MayPin, MayPins, MaySteps};
-ghost use Rattle.hz_bench.specs.Entry.{statement_list};
-ghost use Rattle.hz_bench.specs.Statement.{words_of};
-ghost use Rattle.hz_bench.specs.Text.{statement_in};
+ghost use Rattle.std.specs.Prelude.{◌≡◌, IfOk, OnOk, fold};
+ghost use Rattle.hz_core.specs.Netlist.{with_output};
+ghost use Rattle.hz_bench.specs.Built.{after_input, after_gate, after_pins, after_read, built, connected, AreMarked, IsNode, MayBuild, MayGate, MayInput, MayPins, MayRead, MaySteps};
+ghost use Rattle.hz_bench.specs.Entry.{stated, statement_list, output_list};
 ghost use Rattle.hz_bench.specs.Netlist.{kind_of_word};
+ghost use Rattle.hz_bench.specs.Uses.{pins_in, AreUses};
 
 use crate::entry::Entry;
 use crate::forms::{Form, KindWord};
-use crate::uses::read_sources;
+use crate::parse::Statements;
+use crate::uses::Uses;
 use hz_core::{Circuit, Kind, Memory};
-use hz_line::Token;
 use std::alloc::Global;
 
-/// The circuit of the statements.
-pub(crate) fn build(alloc: Global, entries: &[Entry]) -> Result<Circuit, Memory>
-    requires { MayBuild (statement_list entries.now) }
-    ensures { IfOk result (λ circuit. circuit ≡ built (statement_list entries.now)) }
+/// The circuit of the statements, which use these nodes.
+pub(crate) fn build(alloc: Global, statements: &Statements, uses: &Uses) -> Result<Circuit, Memory>
+    requires may { MayBuild (statement_list statements.now.nodes.items) (output_list statements.now.outputs.items) }
+    requires uses { AreUses (statement_list statements.now.nodes.items) (output_list statements.now.outputs.items) uses.now }
+    ensures { IfOk result (λ circuit. circuit ≡ built (statement_list statements.now.nodes.items) (output_list statements.now.outputs.items)) }
 {
+    let nodes = statements.nodes.as_slice();
     let mut circuit = Circuit::new(alloc);
-    add_inputs(&mut circuit, entries)?;
-    add_gates(&mut circuit, entries)?;
-    connect_gates(alloc, &mut circuit, entries)?;
-    add_outputs(&mut circuit, entries)?;
+    add_inputs(&mut circuit, nodes)?;
+    add_gates(&mut circuit, nodes)?;
+    connect_gates(&mut circuit, nodes, uses.pins.as_slice())?;
+    add_outputs(alloc, &mut circuit, uses.outputs.as_slice())?;
     Ok(circuit)
 }
 
@@ -44,8 +45,8 @@ fn add_inputs(circuit: &mut Circuit, entries: &[Entry]) -> Result<(), Memory>
 
 // Adds the input of a statement, if it is one.
 fn add_input(circuit: &mut Circuit, entry: &Entry) -> Result<(), Memory>
-    requires { MayInput circuit.old (statement_in entry.now.text.now) }
-    ensures { OnOk result (circuit.new ≡ after_input circuit.old (statement_in entry.now.text.now)) }
+    requires { MayInput circuit.old (stated entry.now) }
+    ensures { OnOk result (circuit.new ≡ after_input circuit.old (stated entry.now)) }
 {
     match entry.form {
         Form::Input => {
@@ -72,8 +73,8 @@ fn add_gates(circuit: &mut Circuit, entries: &[Entry]) -> Result<(), Memory>
 
 // Adds the gate of a statement, if it is one.
 fn add_gate(circuit: &mut Circuit, entry: &Entry) -> Result<(), Memory>
-    requires { MayGate circuit.old (statement_in entry.now.text.now) }
-    ensures { OnOk result (circuit.new ≡ after_gate circuit.old (statement_in entry.now.text.now)) }
+    requires { MayGate circuit.old (stated entry.now) }
+    ensures { OnOk result (circuit.new ≡ after_gate circuit.old (stated entry.now)) }
 {
     match entry.form {
         Form::Gate(word) => {
@@ -94,34 +95,35 @@ fn kind_of(word: KindWord) -> Kind
     }
 }
 
-// Connects the pins of the gates.
-fn connect_gates(alloc: Global, circuit: &mut Circuit, entries: &[Entry]) -> Result<(), Memory>
-    requires { MaySteps MayPins after_pins (record { netlist = circuit.old; gate = circuit.old.inputs }) (statement_list entries.now) }
+// Connects the pins of the gates to these nodes, gate by gate.
+fn connect_gates(circuit: &mut Circuit, entries: &[Entry], pins: &[u32]) -> Result<(), Memory>
+    requires may { MaySteps MayPins after_pins (record { netlist = circuit.old; gate = circuit.old.inputs }) (statement_list entries.now) }
+    requires pins { pins.now ≡ pins_in circuit.old.names (statement_list entries.now) }
     ensures { OnOk result (circuit.new ≡ connected circuit.old (statement_list entries.now)) }
 {
-    let mut tokens = Vec::new(alloc);
     let mut gate = circuit.inputs();
+    let mut left = pins;
     for entry in entries {
         if let Form::Gate(_) = entry.form {
-            let Ok(sources) = read_sources(entry, &mut tokens) else {
-                return Err(Memory);
-            };
-            let Ok(()) = connect_gate(circuit, gate, sources) else {
-                return Err(Memory);
-            };
+            let (sources, rest) = left.split_at(entry.pins);
+            match connect_gate(circuit, gate, sources) {
+                Ok(()) => {}
+                Err(Memory) => return Err(Memory),
+            }
             gate += 1;
+            left = rest;
         }
     }
     Ok(())
 }
 
-// Connects the pins of a gate to the nodes with these names.
-fn connect_gate(circuit: &mut Circuit, gate: u32, sources: &[Token]) -> Result<(), Memory>
-    requires { MaySteps (MayPin gate) (after_pin gate) circuit.old (words_of (map token_of sources.now)) }
-    ensures { OnOk result (circuit.new ≡ fold (after_pin gate) circuit.old (words_of (map token_of sources.now))) }
+// Connects the pins of a gate to these nodes.
+fn connect_gate(circuit: &mut Circuit, gate: u32, sources: &[u32]) -> Result<(), Memory>
+    requires { MaySteps (MayRead gate) (after_read gate) circuit.old sources.now }
+    ensures { OnOk result (circuit.new ≡ fold (after_read gate) circuit.old sources.now) }
 {
-    for token in sources {
-        match connect_token(circuit, gate, token) {
+    for source in sources {
+        match circuit.connect(gate, *source) {
             Ok(()) => {}
             Err(Memory) => return Err(Memory),
         }
@@ -129,33 +131,16 @@ fn connect_gate(circuit: &mut Circuit, gate: u32, sources: &[Token]) -> Result<(
     Ok(())
 }
 
-// Connects a pin, if the token is a name.
-fn connect_token(circuit: &mut Circuit, gate: u32, token: &Token) -> Result<(), Memory>
-    requires { MaySteps (MayPin gate) (after_pin gate) circuit.old (words_of (token_of token.now ∷ [])) }
-    ensures { OnOk result (circuit.new ≡ fold (after_pin gate) circuit.old (words_of (token_of token.now ∷ []))) }
+// Makes these nodes outputs. One that is an output already costs no look-up.
+fn add_outputs(alloc: Global, circuit: &mut Circuit, outputs: &[u32]) -> Result<(), Memory>
+    requires { MaySteps IsNode with_output circuit.old outputs.now }
+    ensures { OnOk result (circuit.new ≡ fold with_output circuit.old outputs.now) }
 {
-    match token {
-        Token::Word(name) => connect_pin(circuit, gate, name),
-        Token::Sign(_) => Ok(()),
-    }
-}
-
-// Connects a pin to the node with a name.
-fn connect_pin(circuit: &mut Circuit, gate: u32, source: &[u8]) -> Result<(), Memory>
-    requires { MayPin gate circuit.old source.now }
-    ensures { OnOk result (circuit.new ≡ after_pin gate circuit.old source.now) }
-{
-    let node = circuit.find(source).unwrap();
-    circuit.connect(gate, node)
-}
-
-// Adds the outputs.
-fn add_outputs(circuit: &mut Circuit, entries: &[Entry]) -> Result<(), Memory>
-    requires { MaySteps MayOutput after_output circuit.old (statement_list entries.now) }
-    ensures { OnOk result (circuit.new ≡ fold after_output circuit.old (statement_list entries.now)) }
-{
-    for entry in entries {
-        match add_output(circuit, entry) {
+    let Ok(mut marks) = vec![in alloc; false; circuit.nodes() as usize] else {
+        return Err(Memory);
+    };
+    for node in outputs {
+        match add_output(circuit, &mut marks, *node) {
             Ok(()) => {}
             Err(Memory) => return Err(Memory),
         }
@@ -163,16 +148,18 @@ fn add_outputs(circuit: &mut Circuit, entries: &[Entry]) -> Result<(), Memory>
     Ok(())
 }
 
-// Makes the node that a statement names an output, if the statement is one.
-fn add_output(circuit: &mut Circuit, entry: &Entry) -> Result<(), Memory>
-    requires { MayOutput circuit.old (statement_in entry.now.text.now) }
-    ensures { OnOk result (circuit.new ≡ after_output circuit.old (statement_in entry.now.text.now)) }
+// Makes a node an output, if it is not marked as one, and marks it.
+fn add_output(circuit: &mut Circuit, marks: &mut Vec<bool>, node: u32) -> Result<(), Memory>
+    requires node { IsNode circuit.old node }
+    requires marks { AreMarked circuit.old marks.old.items }
+    ensures added { OnOk result (circuit.new ≡ with_output circuit.old node) }
+    ensures marks { OnOk result (AreMarked circuit.new marks.new.items) }
 {
-    match entry.form {
-        Form::Output => {
-            let node = circuit.find(entry.name).unwrap();
-            circuit.add_output(node)
-        }
-        Form::Input | Form::Gate(_) => Ok(()),
+    let place = node as usize;
+    if marks[place] {
+        return Ok(());
     }
+    circuit.add_output(node)?;
+    marks[place] = true;
+    Ok(())
 }

@@ -1,10 +1,11 @@
 // The names that statements define.
 
-ghost use Rattle.std.specs.Prelude.{◌≡◌, MatchResult, None, is_some};
-ghost use Rattle.hz_bench.specs.Definition.{line_for, line_for_defined, IsPut, IsTableOf};
-ghost use Rattle.hz_bench.specs.Entry.{numbered_list};
+ghost use Rattle.std.specs.Prelude.{◌≡◌, ◌++◌, ◌∷◌, [], MatchResult, None};
+ghost use Rattle.std.specs.Str.{bytes_eq};
+ghost use Rattle.indexmap.specs.IndexMap.{index_of_by};
+ghost use Rattle.hz_bench.specs.Definition.{line_for_defined, names_in, defined_names, IsPut, IsTableOf};
+ghost use Rattle.hz_bench.specs.Entry.{stated, numbered_list, statement_list};
 ghost use Rattle.hz_bench.specs.Statement.{defined_name};
-ghost use Rattle.hz_bench.specs.Text.{statement_in};
 ghost use Rattle.hz_bench.specs.Twice.{twice_or, twice_fault, IsFoundOrMemory};
 
 use crate::entry::Entry;
@@ -21,10 +22,12 @@ pub(crate) fn definitions<'a>(
     entries: &[Entry<'a>],
 ) -> Result<Definitions<'a>, BenchFault>
     ensures { MatchResult result
-        (λ lines. (twice_fault (numbered_list entries.now) ≡ None) × IsTableOf (numbered_list entries.now) lines)
+        (λ lines. (twice_fault (numbered_list entries.now) ≡ None) × IsTableOf (numbered_list entries.now) lines × (names_in lines ≡ defined_names (statement_list entries.now)))
         (λ fault. IsFoundOrMemory (twice_fault (numbered_list entries.now)) fault) }
 {
-    let mut lines: Definitions<'a> = IndexMap::new(alloc);
+    let Ok(mut lines) = Definitions::with_capacity(alloc, entries.len()) else {
+        return Err(BenchFault::Memory);
+    };
     for entry in entries {
         match define(&mut lines, entry) {
             Ok(()) => {}
@@ -37,8 +40,8 @@ pub(crate) fn definitions<'a>(
 // Puts the name that a statement defines into the table, if it is new there.
 fn define<'a>(lines: &mut Definitions<'a>, entry: &Entry<'a>) -> Result<(), BenchFault>
     ensures { MatchResult result
-        (λ _. IsPut lines.old lines.new entry.now.line (defined_name (statement_in entry.now.text.now)))
-        (λ fault. IsFoundOrMemory (twice_or entry.now.line (line_for_defined lines.old (defined_name (statement_in entry.now.text.now))) None) fault) }
+        (λ _. IsPut lines.old lines.new entry.now.line (defined_name (stated entry.now)) × (names_in lines.new ≡ names_in lines.old ++ defined_names (stated entry.now ∷ [])))
+        (λ fault. IsFoundOrMemory (twice_or entry.now.line (line_for_defined lines.old (defined_name (stated entry.now))) None) fault) }
 {
     if !entry.form.defines() {
         return Ok(());
@@ -53,9 +56,9 @@ fn define<'a>(lines: &mut Definitions<'a>, entry: &Entry<'a>) -> Result<(), Benc
     }
 }
 
-/// Whether a statement defines the name.
-pub(crate) fn is_defined(lines: &Definitions, name: &[u8]) -> bool
-    ensures { result ≡ is_some (line_for lines.now name.now) }
+/// The place of a name in the table.
+pub(crate) fn place_of(lines: &Definitions, name: &[u8]) -> Option<usize>
+    ensures { result ≡ index_of_by (λ key. bytes_eq name.now key.now) lines.now }
 {
-    lines.get(name).is_some()
+    lines.get_index_of(name)
 }

@@ -1,33 +1,38 @@
 // A statement of the text, as the passes over the statements read it.
 
-ghost use Rattle.std.specs.Prelude.{◌≡◌, ◌<◌, ◌^◌, length};
-ghost use Rattle.hz_line.specs.Statement.{Means};
-ghost use Rattle.hz_line.specs.Token.{IsWord};
-ghost use Rattle.hz_bench.specs.Statement.{name_of, form_of, sources_of, has_long_name};
-ghost use Rattle.hz_bench.specs.Text.{meaning_of, statement_in};
+ghost use Rattle.std.specs.Prelude.{◌≡◌, ◌<◌, ◌^◌, length, Some, option_map};
+ghost use Rattle.hz_line.specs.Token.{IsWord, tokens_of};
+ghost use Rattle.hz_bench.specs.Statement.{sources_of, has_long_name, words_of, statement_with};
 
 use crate::forms::Form;
 
-/// A statement, which borrows its line. A gate's sources are read again from the line when they are needed,
+/// A statement, which borrows from its line. A gate's sources are read again from the line when they are needed,
 /// so that a statement takes the same room however many pins its gate has.
+// Fields lie in this order: the small ones stand together, which makes 48 bytes.
 #[derive(Clone, Copy)]
 pub struct Entry<'a> {
     /// The number of the line, counted from 1.
     pub line: u32,
-    /// The line.
-    pub text: &'a [u8],
-    /// The name that the statement begins with.
-    pub name: &'a [u8],
     pub form: Form,
-    /// How many pins the gate has.
-    pub pins: usize,
     /// Whether some name of the statement is too long.
     pub long: bool,
-    ghost means: { meaning_of text.now ≡ Means (statement_in text.now) },
-    ghost named: { name.now ≡ name_of (statement_in text.now) },
+    /// The name that the statement begins with.
+    pub name: &'a [u8],
+    /// The line from a gate's first source on; empty of an input or output.
+    pub sources: &'a [u8],
+    /// How many pins the gate has.
+    pub pins: usize,
     ghost worded: { IsWord name.now },
-    ghost formed: { form ≡ form_of (statement_in text.now) },
-    ghost counted: { pins ≡ length (sources_of (statement_in text.now)) },
+    ghost sourced: { option_map words_of (tokens_of sources.now) ≡ Some (sources_of (statement_with name.now form sources.now)) },
+    ghost counted: { pins ≡ length (sources_of (statement_with name.now form sources.now)) },
     ghost small: { pins < 2 ^ 32 },
-    ghost measured: { long ≡ has_long_name (statement_in text.now) },
+    ghost measured: { long ≡ has_long_name (statement_with name.now form sources.now) },
+}
+
+/// A line `OUTPUT(name)`, which borrows its name.
+#[derive(Clone, Copy)]
+pub struct OutputLine<'a> {
+    /// The number of the line, counted from 1.
+    pub line: u32,
+    pub name: &'a [u8],
 }

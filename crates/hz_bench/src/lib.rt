@@ -2,11 +2,11 @@
 #![tactic(auto)]
 
 mod build;
-mod checks;
 mod definitions;
 mod entry;
 mod fault;
 mod forms;
+mod notes;
 mod parse;
 mod printing;
 mod reading;

@@ -2,22 +2,22 @@
 
 ghost use Rattle.std.specs.Prelude.{◌≡◌, ◌<◌, ◌≤◌, ◌^◌, ◌⊎◌, IfOk, IfErr, OnOk, IsErrOf, MatchResult, None, length};
 ghost use Rattle.hz_core.specs.Netlist.{IsWhole};
-ghost use Rattle.hz_bench.specs.Check.{first_fault};
-ghost use Rattle.hz_bench.specs.Entry.{numbered_list};
+ghost use Rattle.hz_bench.specs.Entry.{numbered_list, numbered_outputs, statement_list, output_list};
 ghost use Rattle.hz_bench.specs.Fault.{IsAnswer, IsFaultless, IsLeastFault};
 ghost use Rattle.hz_bench.specs.Netlist.{netlist_of};
 ghost use Rattle.hz_bench.specs.Pass.{IsAccepted};
-ghost use Rattle.hz_bench.specs.Text.{statements_of, variables_among};
+ghost use Rattle.hz_bench.specs.Sorted.{sorted_fault};
+ghost use Rattle.hz_bench.specs.Text.{statements_of};
 ghost use Rattle.hz_bench.specs.Twice.{IsFoundOrMemory};
+ghost use Rattle.hz_bench.specs.Uses.{AreUses};
 
 use crate::build::build;
-use crate::checks::{Check, first_failing, variables};
 use crate::definitions::definitions;
-use crate::entry::Entry;
 use crate::fault::BenchFault;
-use crate::parse::parse;
-use crate::uses::first_undefined;
-use hz_core::{Circuit, MAX_VARIABLES, Memory};
+use crate::notes::WrongPins;
+use crate::parse::{Statements, parse};
+use crate::uses::{Uses, resolve};
+use hz_core::{Circuit, MAX_VARIABLES};
 use std::alloc::Global;
 
 /// Reads a netlist in the .bench format.
@@ -35,59 +35,64 @@ pub fn read(alloc: Global, text: &[u8]) -> Result<Circuit, BenchFault>
     ensures exact { (fault : BenchFault) → IsLeastFault text.now fault
         → IsErrOf result fault ⊎ IsErrOf result BenchFault.Memory }
 {
-    let entries = read_accepted(alloc, text)?;
-    let Ok(circuit) = build(alloc, &entries) else {
+    let accepted = read_accepted(alloc, text)?;
+    let Ok(circuit) = build(alloc, &accepted.statements, &accepted.uses) else {
         return Err(BenchFault::Memory);
     };
     Ok(circuit)
 }
 
-// The statements of a text in which no fault stands.
-fn read_accepted<'a>(alloc: Global, text: &'a [u8]) -> Result<Vec<Entry<'a>>, BenchFault>
-    requires { length text.now ≤ 16777216 }
-    ensures { MatchResult result
-        (λ entries. IsAccepted text.now entries.items)
-        (λ fault. IsAnswer text.now fault) }
-{
-    let entries = parse(alloc, text)?;
-    check(alloc, &entries)?;
-    Ok(entries)
+// The statements of a text in which no fault stands, and the nodes that they use.
+#[derive(Drop)]
+struct Accepted<'a> {
+    statements: Statements<'a>,
+    uses: Uses,
 }
 
-// Checks the statements, in the order of the faults.
-fn check(alloc: Global, entries: &[Entry]) -> Result<(), BenchFault>
-    requires { variables_among (numbered_list entries.now) < 2 ^ 32 }
+// Reads and checks the statements of a text.
+fn read_accepted<'a>(alloc: Global, text: &'a [u8]) -> Result<Accepted<'a>, BenchFault>
+    requires { length text.now ≤ 16777216 }
     ensures { MatchResult result
-        (λ _. first_fault (numbered_list entries.now) ≡ None)
-        (λ fault. IsFoundOrMemory (first_fault (numbered_list entries.now)) fault) }
+        (λ accepted. IsAccepted text.now accepted.statements × AreUses (statement_list accepted.statements.nodes.items) (output_list accepted.statements.outputs.items) accepted.uses)
+        (λ fault. IsAnswer text.now fault) }
 {
-    if let Some(entry) = first_failing(entries, Check::LongName) {
-        return Err(BenchFault::Name { line: entry.line });
+    let statements = parse(alloc, text)?;
+    let uses = check(alloc, &statements)?;
+    Ok(Accepted { statements, uses })
+}
+
+// Checks the statements, in the order of the faults, and answers the nodes that they use.
+fn check(alloc: Global, statements: &Statements) -> Result<Uses, BenchFault>
+    requires { length statements.now.nodes.items < 2 ^ 31 }
+    ensures { MatchResult result
+        (λ uses. (sorted_fault (numbered_list statements.now.nodes.items) (numbered_outputs statements.now.outputs.items) statements.now.notes ≡ None)
+        × AreUses (statement_list statements.now.nodes.items) (output_list statements.now.outputs.items) uses)
+        (λ fault. IsFoundOrMemory (sorted_fault (numbered_list statements.now.nodes.items) (numbered_outputs statements.now.outputs.items) statements.now.notes) fault) }
+{
+    let notes = statements.notes;
+    if let Some(line) = notes.long_name {
+        return Err(BenchFault::Name { line });
     }
-    if let Some(entry) = first_failing(entries, Check::UnknownKind) {
-        return Err(BenchFault::KindUnknown { line: entry.line });
+    if let Some(line) = notes.unknown_kind {
+        return Err(BenchFault::KindUnknown { line });
     }
-    if let Some(entry) = first_failing(entries, Check::ClockedKind) {
-        return Err(BenchFault::Clocked { line: entry.line });
+    if let Some(line) = notes.clocked_kind {
+        return Err(BenchFault::Clocked { line });
     }
-    let lines = match definitions(alloc, entries) {
+    let lines = match definitions(alloc, statements.nodes.as_slice()) {
         Ok(lines) => lines,
         Err(fault) => return Err(fault),
     };
-    if let Some(entry) = first_failing(entries, Check::WrongPins) {
-        return Err(BenchFault::Pins {
-            line: entry.line,
-            count: entry.pins as u32,
-        });
+    if let Some(WrongPins { line, count }) = notes.wrong_pins {
+        return Err(BenchFault::Pins { line, count });
     }
-    match first_undefined(alloc, entries, &lines) {
-        Ok(None) => {}
-        Ok(Some(entry)) => return Err(BenchFault::Undefined { line: entry.line }),
-        Err(Memory) => return Err(BenchFault::Memory),
-    }
-    let variables = variables(entries);
+    let uses = match resolve(alloc, statements, &lines) {
+        Ok(uses) => uses,
+        Err(fault) => return Err(fault),
+    };
+    let variables = notes.variables;
     if variables > MAX_VARIABLES {
         return Err(BenchFault::TooMany { variables });
     }
-    Ok(())
+    Ok(uses)
 }

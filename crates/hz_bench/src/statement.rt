@@ -1,23 +1,20 @@
 // The statement of a line.
 
-ghost use Rattle.std.specs.Prelude.{◌≡◌, ◌∷◌, ◌<◌, ◌≤◌, ◌^◌, IfSome, length, map, Some, is_some};
-ghost use Rattle.std.specs.List.{list_any};
-ghost use Rattle.hz_line.specs.Token.{token_of, tokens_of};
-ghost use Rattle.hz_bench.specs.Entry.{IsRead};
-ghost use Rattle.hz_bench.specs.Head.{IsHeadOf, head_tokens};
-ghost use Rattle.hz_bench.specs.Statement.{names_of, port_form, words_of, is_long};
+ghost use Rattle.std.specs.Prelude.{◌≡◌, ◌<◌, ◌≤◌, ◌^◌, ◌+◌, ◌||◌, [], ◌∷◌, None, Some, if◌then◌else◌, IfSome, length, option_map};
+ghost use Rattle.hz_line.specs.Token.{tokens_of};
+ghost use Rattle.hz_bench.specs.Head.{IsRead, IsWordFirst, IsMarkFirst, IsMarkedFirst, IsHeadOf, head_tokens, is_bare, names_by, noted_names, no_names};
+ghost use Rattle.hz_bench.specs.Statement.{port_form, is_long};
 
 use crate::entry::Entry;
 use crate::forms::{Form, kind_word};
-use hz_line::{Mark, Token, is_keyword};
+use hz_line::{Mark, Next, Token, is_keyword, next_token};
 
-/// The statement of a line with these tokens, if they are one.
-pub(crate) fn entry_of<'a>(line: u32, text: &'a [u8], tokens: &[Token<'a>]) -> Option<Entry<'a>>
-    requires tokens { tokens_of text.now ≡ Some (map token_of tokens.now) }
-    requires few { length tokens.now < 2 ^ 32 }
-    ensures { IsRead line text.now (map token_of tokens.now) result }
+/// The statement of a line, if it has one. It takes no memory.
+pub(crate) fn entry_of<'a>(line: u32, text: &'a [u8]) -> Option<Entry<'a>>
+    requires { length text.now < 2 ^ 32 }
+    ensures { IsRead line text.now result }
 {
-    let head = head_of(tokens)?;
+    let head = head_of(text)?;
     match (head.mark, head.next) {
         (Mark::Open, Mark::Close) => port_entry(line, text, &head),
         (Mark::Equals, Mark::Open) => gate_entry(line, text, &head),
@@ -27,76 +24,129 @@ pub(crate) fn entry_of<'a>(line: u32, text: &'a [u8], tokens: &[Token<'a>]) -> O
 
 // Every statement begins with two words, each with a mark after it.
 #[derive(Clone, Copy)]
-struct Head<'t, 'a> {
+struct Head<'a> {
     first: &'a [u8],
     mark: Mark,
     second: &'a [u8],
     next: Mark,
-    rest: &'t [Token<'a>],
+    rest: &'a [u8],
 }
 
-// The head of a line's tokens, if they begin as a statement does.
-fn head_of<'t, 'a>(tokens: &'t [Token<'a>]) -> Option<Head<'t, 'a>>
-    ensures head { IsHeadOf (map token_of tokens.now) result }
-    ensures shorter { IfSome result (λ head. length head.rest.now ≤ length tokens.now) }
+// A word with a mark after it, and the line after both.
+#[derive(Clone, Copy)]
+struct MarkedWord<'a> {
+    word: &'a [u8],
+    mark: Mark,
+    rest: &'a [u8],
+}
+
+// What is noted of a list of names: how many there are, and whether some name is too long.
+#[derive(Clone, Copy)]
+struct NameList {
+    count: usize,
+    long: bool,
+}
+
+// The head of a line, if it begins as a statement does.
+fn head_of<'a>(line: &'a [u8]) -> Option<Head<'a>>
+    ensures { IsHeadOf line.now result }
 {
-    match tokens {
-        [
-            Token::Word(first),
-            Token::Sign(mark),
-            Token::Word(second),
-            Token::Sign(next),
-            rest @ ..,
-        ] => Some(Head {
-            first,
-            mark: *mark,
-            second,
-            next: *next,
-            rest,
-        }),
-        _ => None,
+    let first = marked(line)?;
+    let second = marked(first.rest)?;
+    Some(Head {
+        first: first.word,
+        mark: first.mark,
+        second: second.word,
+        next: second.mark,
+        rest: second.rest,
+    })
+}
+
+// The word and the mark that a line begins with.
+fn marked<'a>(line: &'a [u8]) -> Option<MarkedWord<'a>>
+    ensures { IsMarkedFirst line.now result }
+{
+    let (word, after) = word(line)?;
+    let (mark, rest) = mark(after)?;
+    Some(MarkedWord { word, mark, rest })
+}
+
+// The word that a line begins with, and the line after it.
+fn word<'a>(line: &'a [u8]) -> Option<(&'a [u8], &'a [u8])>
+    ensures { IsWordFirst line.now result }
+{
+    match next_token(line) {
+        Next::End => None,
+        Next::Forbidden => None,
+        Next::Token(token, rest) => match token {
+            Token::Word(word) => Some((word, rest)),
+            Token::Sign(_) => None,
+        },
+    }
+}
+
+// The mark that a line begins with, and the line after it.
+fn mark<'a>(line: &'a [u8]) -> Option<(Mark, &'a [u8])>
+    ensures { IsMarkFirst line.now result }
+{
+    match next_token(line) {
+        Next::End => None,
+        Next::Forbidden => None,
+        Next::Token(token, rest) => match token {
+            Token::Word(_) => None,
+            Token::Sign(mark) => Some((mark, rest)),
+        },
+    }
+}
+
+/// Whether a line has no tokens: it is empty, or has blanks and a comment alone.
+pub(crate) fn is_bare(line: &[u8]) -> bool
+    ensures { result ≡ is_bare (tokens_of line.now) }
+{
+    match next_token(line) {
+        Next::End => true,
+        Next::Forbidden => false,
+        Next::Token(_, _) => false,
     }
 }
 
 // The input or output `WORD ( NAME )`.
-fn port_entry<'a>(line: u32, text: &'a [u8], head: &Head<'_, 'a>) -> Option<Entry<'a>>
-    requires tokens { tokens_of text.now ≡ Some (head_tokens head.now) }
+fn port_entry<'a>(line: u32, text: &'a [u8], head: &Head<'a>) -> Option<Entry<'a>>
+    requires tokens { tokens_of text.now ≡ head_tokens head.now }
     requires opened { head.now.mark ≡ Mark.Open }
     requires closed { head.now.next ≡ Mark.Close }
-    ensures { IsRead line text.now (head_tokens head.now) result }
+    ensures { IsRead line text.now result }
 {
-    if !head.rest.is_empty() {
+    if !is_bare(head.rest) {
         return None;
     }
     let form = port(head.first)?;
     Some(Entry {
         line,
-        text,
-        name: head.second,
         form,
-        pins: 0,
         long: is_long(head.second),
+        name: head.second,
+        sources: &[],
+        pins: 0,
     })
 }
 
 // The gate `NAME = KIND ( NAME , .. NAME )`.
-fn gate_entry<'a>(line: u32, text: &'a [u8], head: &Head<'_, 'a>) -> Option<Entry<'a>>
-    requires tokens { tokens_of text.now ≡ Some (head_tokens head.now) }
+fn gate_entry<'a>(line: u32, text: &'a [u8], head: &Head<'a>) -> Option<Entry<'a>>
+    requires tokens { tokens_of text.now ≡ head_tokens head.now }
     requires equals { head.now.mark ≡ Mark.Equals }
     requires opened { head.now.next ≡ Mark.Open }
     requires few { length head.now.rest.now < 2 ^ 32 }
-    ensures { IsRead line text.now (head_tokens head.now) result }
+    ensures { IsRead line text.now result }
 {
-    if !is_name_list(head.rest) {
-        return None;
-    }
+    let names = names(head.rest)?;
     Some(Entry {
         line,
-        text,
-        name: head.first,
         form: Form::Gate(kind_word(head.second)),
-        pins: head.rest.len() / 2,
-        long: has_long_name(head.first, head.rest),
+        long: names.has_long_after(head.first),
+        name: head.first,
+        sources: head.rest,
+        pins: names.count,
     })
 }
 
@@ -114,42 +164,54 @@ fn port(word: &[u8]) -> Option<Form>
     }
 }
 
-// Whether the tokens are one or more names separated by commas, and a closing parenthesis.
-fn is_name_list(tokens: &[Token]) -> bool
-    ensures { result ≡ is_some (names_of (map token_of tokens.now)) }
+// What is noted of the one or more names, separated by commas and closed by a parenthesis, that a line has.
+fn names(line: &[u8]) -> Option<NameList>
+    ensures noted { result ≡ option_map (noted_names no_names) (names_by (tokens_of line.now)) }
+    ensures few { IfSome result (λ names. names.count ≤ length line.now) }
 {
-    let mut left = tokens;
+    let mut names = NameList {
+        count: 0,
+        long: false,
+    };
+    let mut left = line;
     loop {
-        let [Token::Word(_), Token::Sign(mark), rest @ ..] = left else {
-            return false;
+        let Some(name) = marked(left) else {
+            return None;
         };
-        match mark {
-            Mark::Close => return rest.is_empty(),
-            Mark::Comma => left = rest,
-            Mark::Open | Mark::Equals => return false,
+        names = names.add(name.word);
+        match name.mark {
+            Mark::Comma => left = name.rest,
+            Mark::Close => return names.at_end(name.rest),
+            Mark::Open | Mark::Equals => return None,
         }
     }
 }
 
-// Whether the name, or some word among the tokens, is too long for a name.
-fn has_long_name(name: &[u8], tokens: &[Token]) -> bool
-    ensures { result ≡ list_any is_long (name.now ∷ words_of (map token_of tokens.now)) }
-{
-    is_long(name) || has_long_word(tokens)
-}
-
-// Whether some word among the tokens is too long for a name.
-fn has_long_word(tokens: &[Token]) -> bool
-    ensures { result ≡ list_any is_long (words_of (map token_of tokens.now)) }
-{
-    for token in tokens {
-        if let Token::Word(word) = token {
-            if is_long(word) {
-                return true;
-            }
+impl NameList {
+    // The same with one name more.
+    fn add(self, name: &[u8]) -> NameList
+        requires { self.count + 1 < 2 ^ 63 }
+        ensures { result ≡ noted_names self (name.now ∷ []) }
+    {
+        NameList {
+            count: self.count + 1,
+            long: self.long || is_long(name),
         }
     }
-    false
+
+    // Whether the name that stands before these, or one of them, is too long.
+    fn has_long_after(self, name: &[u8]) -> bool
+        ensures { result ≡ is_long name.now || self.long }
+    {
+        is_long(name) || self.long
+    }
+
+    // The same, if nothing follows the names.
+    fn at_end(self, rest: &[u8]) -> Option<NameList>
+        ensures { result ≡ if is_bare (tokens_of rest.now) then Some self else None }
+    {
+        if is_bare(rest) { Some(self) } else { None }
+    }
 }
 
 // Whether a name has more than 255 bytes.

@@ -1,72 +1,242 @@
-// The names that statements use.
+// The nodes that the names in statements stand for.
 
-ghost use Rattle.std.specs.Prelude.{◌≡◌, ℕ, List, IfOk, MatchResult, map, not, is_some, option_map};
+ghost use Rattle.std.specs.Prelude.{◌≡◌, ◌<◌, ◌≤◌, ◌^◌, ◌++◌, ◌∷◌, [], false, IfOk, MatchResult, None, length, map, option_map};
 ghost use Rattle.std.specs.List.{list_any};
-ghost use Rattle.hz_line.specs.Statement.{Numbered};
+ghost use Rattle.hz_line.specs.Statement.{first_line};
 ghost use Rattle.hz_line.specs.Token.{token_of};
-ghost use Rattle.hz_bench.specs.Check.{first_that, uses_undefined};
-ghost use Rattle.hz_bench.specs.Definition.{line_for, IsTableOf};
-ghost use Rattle.hz_bench.specs.Entry.{numbered_of, numbered_list};
-ghost use Rattle.hz_bench.specs.Statement.{Statement, sources_of, words_of};
-ghost use Rattle.hz_bench.specs.Text.{statement_in};
+ghost use Rattle.indexmap.specs.IndexMap.{index_map_len};
+ghost use Rattle.hz_bench.specs.Check.{earlier};
+ghost use Rattle.hz_bench.specs.Definition.{defined_names, names_in, IsTableOf};
+ghost use Rattle.hz_bench.specs.Entry.{stated, numbered_list, numbered_outputs, statement_list, output_list};
+ghost use Rattle.hz_bench.specs.Netlist.{input_names, node_names, output_names, number_in};
+ghost use Rattle.hz_bench.specs.Sorted.{undefined_line};
+ghost use Rattle.hz_bench.specs.Statement.{sources_of, used_names, words_of};
+ghost use Rattle.hz_bench.specs.Twice.{twice_fault, IsFoundOrMemory};
+ghost use Rattle.hz_bench.specs.Uses.{is_unnumbered, number_for, numbers_of, pin_numbers, AreUses};
 
-use crate::definitions::{Definitions, is_defined};
-use crate::entry::Entry;
+use crate::definitions::{Definitions, place_of};
+use crate::entry::{Entry, OutputLine};
+use crate::fault::BenchFault;
 use crate::forms::Form;
+use crate::parse::Statements;
 use hz_core::Memory;
 use hz_line::{LineFault, Token, read_tokens};
 use std::alloc::Global;
 
-/// The first statement that uses a name which no statement defines.
-pub(crate) fn first_undefined<'a>(
+/// The nodes that statements use, by their numbers.
+#[derive(Drop)]
+pub struct Uses {
+    /// The node that each pin reads, gate by gate in the order of the text.
+    pub pins: Vec<u32>,
+    /// The node of each output line.
+    pub outputs: Vec<u32>,
+}
+
+/// The nodes that the statements use, or the first line that uses a name which no statement defines.
+pub(crate) fn resolve(
     alloc: Global,
-    entries: &[Entry<'a>],
+    statements: &Statements,
     lines: &Definitions,
-) -> Result<Option<Entry<'a>>, Memory>
-    requires { IsTableOf (numbered_list entries.now) lines.now }
-    ensures { IfOk result (λ found. option_map numbered_of found ≡ first_that (uses_undefined (numbered_list entries.now)) (numbered_list entries.now)) }
+) -> Result<Uses, BenchFault>
+    requires few { length statements.now.nodes.items < 2 ^ 31 }
+    requires once { twice_fault (numbered_list statements.now.nodes.items) ≡ None }
+    requires table { IsTableOf (numbered_list statements.now.nodes.items) lines.now }
+    requires names { names_in lines.now ≡ defined_names (statement_list statements.now.nodes.items) }
+    ensures { MatchResult result
+        (λ uses. (undefined_line (numbered_list statements.now.nodes.items) (numbered_outputs statements.now.outputs.items) ≡ None)
+        × AreUses (statement_list statements.now.nodes.items) (output_list statements.now.outputs.items) uses)
+        (λ fault. IsFoundOrMemory (option_map BenchFault.Undefined (undefined_line (numbered_list statements.now.nodes.items) (numbered_outputs statements.now.outputs.items))) fault) }
+{
+    let nodes = statements.nodes.as_slice();
+    let Ok(numbers) = number_nodes(alloc, nodes) else {
+        return Err(BenchFault::Memory);
+    };
+    let mut uses = Uses {
+        pins: Vec::new(alloc),
+        outputs: Vec::new(alloc),
+    };
+    let Ok(source) = resolve_pins(alloc, nodes, lines, numbers.as_slice(), &mut uses.pins) else {
+        return Err(BenchFault::Memory);
+    };
+    let Ok(output) = resolve_outputs(
+        statements.outputs.as_slice(),
+        lines,
+        numbers.as_slice(),
+        &mut uses.outputs,
+    ) else {
+        return Err(BenchFault::Memory);
+    };
+    match earlier(source, output) {
+        Some(line) => Err(BenchFault::Undefined { line }),
+        None => Ok(uses),
+    }
+}
+
+// The earlier of two lines, where both are there.
+fn earlier(one: Option<u32>, other: Option<u32>) -> Option<u32>
+    ensures { result ≡ earlier one other }
+{
+    match (one, other) {
+        (Some(one), Some(other)) => Some(one.min(other)),
+        (Some(one), None) => Some(one),
+        (None, other) => other,
+    }
+}
+
+// The number of each node in the order of the text: inputs are numbered before gates.
+fn number_nodes(alloc: Global, nodes: &[Entry]) -> Result<Vec<u32>, Memory>
+    requires few { length nodes.now < 2 ^ 31 }
+    requires once { twice_fault (numbered_list nodes.now) ≡ None }
+    ensures { IfOk result (λ numbers. numbers.items ≡ map (number_in (node_names (statement_list nodes.now))) (defined_names (statement_list nodes.now))) }
+{
+    let Ok(mut numbers) = Vec::with_capacity(alloc, nodes.len()) else {
+        return Err(Memory);
+    };
+    let mut input = 0u32;
+    let mut gate = count_inputs(nodes);
+    for entry in nodes {
+        match entry.form {
+            Form::Input => {
+                let Ok(()) = numbers.push(input) else {
+                    return Err(Memory);
+                };
+                input += 1;
+            }
+            Form::Gate(_) => {
+                let Ok(()) = numbers.push(gate) else {
+                    return Err(Memory);
+                };
+                gate += 1;
+            }
+            Form::Output => {}
+        }
+    }
+    Ok(numbers)
+}
+
+// How many of the nodes are inputs.
+fn count_inputs(nodes: &[Entry]) -> u32
+    requires { length nodes.now < 2 ^ 31 }
+    ensures inputs { result ≡ length (input_names (statement_list nodes.now)) }
+    ensures few { result ≤ length nodes.now }
+{
+    let mut inputs = 0u32;
+    for entry in nodes {
+        if let Form::Input = entry.form {
+            inputs += 1;
+        }
+    }
+    inputs
+}
+
+// The nodes that the pins read, or the line of the first gate with a source that the table does not have.
+fn resolve_pins(
+    alloc: Global,
+    nodes: &[Entry],
+    lines: &Definitions,
+    numbers: &[u32],
+    pins: &mut Vec<u32>,
+) -> Result<Option<u32>, Memory>
+    requires { index_map_len lines.now ≡ length numbers.now }
+    ensures line { IfOk result (λ line. line ≡ first_line (λ statement. list_any (is_unnumbered (number_for lines.now numbers.now)) (sources_of statement)) (numbered_list nodes.now)) }
+    ensures pins { IfOk result (λ line. line ≡ None → pins.new.items ≡ pins.old.items ++ pin_numbers (number_for lines.now numbers.now) (statement_list nodes.now)) }
 {
     let mut tokens = Vec::new(alloc);
-    for entry in entries {
-        match has_undefined_use(entry, lines, &mut tokens) {
+    for entry in nodes {
+        match resolve_sources(entry, lines, numbers, &mut tokens, pins) {
             Ok(false) => {}
-            Ok(true) => return Ok(Some(*entry)),
+            Ok(true) => return Ok(Some(entry.line)),
             Err(Memory) => return Err(Memory),
         }
     }
     Ok(None)
 }
 
-// Whether a statement uses a name that the table does not have.
-fn has_undefined_use<'a>(
+// The nodes that the pins of a statement read; whether the table does not have some source.
+fn resolve_sources<'a>(
     entry: &Entry<'a>,
     lines: &Definitions,
+    numbers: &[u32],
     tokens: &mut Vec<Token<'a>>,
+    pins: &mut Vec<u32>,
 ) -> Result<bool, Memory>
-    ensures { IfOk result (λ found. (statements : List (Numbered Statement)) → IsTableOf statements lines.now → found ≡ uses_undefined statements (statement_in entry.now.text.now)) }
+    requires { index_map_len lines.now ≡ length numbers.now }
+    ensures unnumbered { IfOk result (λ unnumbered. unnumbered ≡ list_any (is_unnumbered (number_for lines.now numbers.now)) (sources_of (stated entry.now))) }
+    ensures pins { IfOk result (λ unnumbered. unnumbered ≡ false → pins.new.items ≡ pins.old.items ++ numbers_of (number_for lines.now numbers.now) (sources_of (stated entry.now))) }
 {
     match entry.form {
-        Form::Input => Ok(false),
-        Form::Output => Ok(!is_defined(lines, entry.name)),
         Form::Gate(_) => {
             let sources = read_sources(entry, tokens)?;
-            Ok(has_undefined(sources, lines))
+            resolve_words(sources, lines, numbers, pins)
         }
+        Form::Input | Form::Output => Ok(false),
     }
 }
 
-// Whether a word among the tokens is no name of the table.
-fn has_undefined(tokens: &[Token], lines: &Definitions) -> bool
-    ensures { result ≡ list_any (λ name. not (is_some (line_for lines.now name))) (words_of (map token_of tokens.now)) }
+// The nodes with the names among the tokens; whether the table does not have some name.
+fn resolve_words(
+    tokens: &[Token],
+    lines: &Definitions,
+    numbers: &[u32],
+    found: &mut Vec<u32>,
+) -> Result<bool, Memory>
+    requires { index_map_len lines.now ≡ length numbers.now }
+    ensures unnumbered { IfOk result (λ unnumbered. unnumbered ≡ list_any (is_unnumbered (number_for lines.now numbers.now)) (words_of (map token_of tokens.now))) }
+    ensures found { IfOk result (λ unnumbered. unnumbered ≡ false → found.new.items ≡ found.old.items ++ numbers_of (number_for lines.now numbers.now) (words_of (map token_of tokens.now))) }
 {
     for token in tokens {
         if let Token::Word(name) = token {
-            if !is_defined(lines, name) {
-                return true;
+            match resolve_name(name, lines, numbers, found) {
+                Ok(false) => {}
+                Ok(true) => return Ok(true),
+                Err(Memory) => return Err(Memory),
             }
         }
     }
-    false
+    Ok(false)
+}
+
+// The nodes of the outputs, or the line of the first output that the table does not have.
+fn resolve_outputs(
+    outputs: &[OutputLine],
+    lines: &Definitions,
+    numbers: &[u32],
+    found: &mut Vec<u32>,
+) -> Result<Option<u32>, Memory>
+    requires { index_map_len lines.now ≡ length numbers.now }
+    ensures line { IfOk result (λ line. line ≡ first_line (λ statement. list_any (is_unnumbered (number_for lines.now numbers.now)) (used_names statement)) (numbered_outputs outputs.now)) }
+    ensures found { IfOk result (λ line. line ≡ None → found.new.items ≡ found.old.items ++ numbers_of (number_for lines.now numbers.now) (output_names (output_list outputs.now))) }
+{
+    for output in outputs {
+        match resolve_name(output.name, lines, numbers, found) {
+            Ok(false) => {}
+            Ok(true) => return Ok(Some(output.line)),
+            Err(Memory) => return Err(Memory),
+        }
+    }
+    Ok(None)
+}
+
+// The node with a name; whether the table does not have the name.
+fn resolve_name(
+    name: &[u8],
+    lines: &Definitions,
+    numbers: &[u32],
+    found: &mut Vec<u32>,
+) -> Result<bool, Memory>
+    requires { index_map_len lines.now ≡ length numbers.now }
+    ensures unnumbered { IfOk result (λ unnumbered. unnumbered ≡ is_unnumbered (number_for lines.now numbers.now) name.now) }
+    ensures found { IfOk result (λ unnumbered. unnumbered ≡ false → found.new.items ≡ found.old.items ++ numbers_of (number_for lines.now numbers.now) (name.now ∷ [])) }
+{
+    match place_of(lines, name) {
+        Some(place) => {
+            let Ok(()) = found.push(numbers[place]) else {
+                return Err(Memory);
+            };
+            Ok(false)
+        }
+        None => Ok(true),
+    }
 }
 
 /// The tokens from the sources of a gate on, read again from its line.
@@ -74,12 +244,12 @@ pub(crate) fn read_sources<'t, 'a>(
     entry: &Entry<'a>,
     tokens: &'t mut Vec<Token<'a>>,
 ) -> Result<&'t [Token<'a>], Memory>
-    ensures { IfOk result (λ sources. words_of (map token_of sources.now) ≡ sources_of (statement_in entry.now.text.now)) }
+    ensures { IfOk result (λ sources. words_of (map token_of sources.now) ≡ sources_of (stated entry.now)) }
 {
-    match read_tokens(entry.text, tokens) {
+    match read_tokens(entry.sources, tokens) {
         Ok(()) => {}
         Err(LineFault::Forbidden) => unreachable!(),
         Err(LineFault::Memory) => return Err(Memory),
     }
-    Ok(&tokens[4..])
+    Ok(tokens)
 }

@@ -1,10 +1,11 @@
 -- The first line of a text.
-use Rattle.std.proofs.Common.{◌≡◌, ℕ, ◌+◌, ◌<◌, List, [], ◌∷◌, Bool, true, false, Some, None, length, take, drop, refl, arith, cond, ltb, not}
+use Rattle.std.proofs.Common.{◌≡◌, ℕ, ◌+◌, ◌<◌, List, [], ◌∷◌, Bool, true, false, Option, Some, None, length, take, drop, refl, arith, cond, ltb, not}
 use Rattle.std.specs.List.{position, position_or_len, slice_split}
 use Rattle.std.proofs.lemmas.List.Quantifiers.{position-Some}
 use Rattle.std.proofs.lemmas.List.Sums.{position_or_len_is, prefix_len-le-length}
 use Rattle.std.proofs.lemmas.List.Splits.{slice_split_first}
 use Rattle.std.proofs.lemmas.Bool.Decides.{nat_tests}
+use Rattle.memchr.specs.Find.{IsFirstByte, is_byte}
 use Rattle.hz_line.specs.Line.{is_line_feed}
 
 -- the first part ends at the first line feed
@@ -34,3 +35,17 @@ within text false e h = let upper = prefix_len-le-length (λ byte. not (is_line_
 -- without a line feed the text is one part
 pub slice_split-no_position : (text : List ℕ) → position is_line_feed text ≡ None → slice_split is_line_feed text ≡ text ∷ []
 slice_split-no_position text h = no_feed text (within text _ refl h)
+
+test_false : (test : Bool) → (test ≡ true → ⊥) → test ≡ false
+test_false true h = absurd (h refl)
+test_false false h = refl
+
+-- the first byte that is a line feed is at the position of the first line feed
+pub position-first_byte : (text : List ℕ) (found : Option ℕ) → IsFirstByte (is_byte 10) text found → found ≡ position is_line_feed text
+position-first_byte text None h =
+    let last : position_or_len is_line_feed text ≡ length text = position_or_len_is is_line_feed text (length text) 0 (omega arith) (λ k below. test_false _ (h k (omega arith) below)) (λ more. absurd (omega arith)) in
+    rw last (grind (arith, nat_tests))
+position-first_byte text (Some end) h =
+    let inside : end < length text = h.0.high in
+    let first : position_or_len is_line_feed text ≡ end = position_or_len_is is_line_feed text end 0 (omega arith) (λ k below. test_false _ (h.0.before k (omega arith) below)) (λ more. h.1) in
+    rw first (grind (arith, nat_tests, inside))

@@ -32,6 +32,7 @@ pub enum Class {
 }
 
 /// The class of a byte.
+#[inline(always)]
 #[tactic(auto, unfolding(crate::specs::Byte::class_of))]
 pub fn class_of(byte: u8) -> Class
     ensures { result ≡ class_of byte }

@@ -4,6 +4,8 @@ ghost use Rattle.std.specs.Prelude.{◌≡◌, ◌+◌, ◌<◌, ◌≤◌, IfSo
 ghost use Rattle.std.specs.Str.Lines.{strip_carriage_return};
 ghost use Rattle.hz_line.specs.Line.{is_line_feed, lines_of, lines_of_rest, rest_length};
 
+use memchr::memchr;
+
 /// A line, and what the text has after its line feed: nothing at the last line.
 #[derive(Clone, Copy, Debug)]
 pub struct Cut<'a> {
@@ -34,7 +36,7 @@ fn first_line_feed(text: &[u8]) -> Option<usize>
     ensures value { result ≡ position is_line_feed text.now }
     ensures within { IfSome result (λ index. index < length text.now) }
 {
-    text.iter().position(|byte| *byte == b'\n')
+    memchr(b'\n', text)
 }
 
 // The line without one carriage return at its end.

@@ -24,11 +24,14 @@ pub enum LineFault {
     Memory,
 }
 
-// What comes first in a line.
+/// What comes first in a line.
 #[derive(Clone, Copy)]
-enum Next<'a> {
+pub enum Next<'a> {
+    /// The line has no token left.
     End,
+    /// A forbidden byte stands before any token.
     Forbidden,
+    /// A token, and the line after it.
     Token(Token<'a>, &'a [u8]),
 }
 
@@ -55,8 +58,8 @@ pub fn read_tokens<'a>(line: &'a [u8], tokens: &mut Vec<Token<'a>>) -> Result<()
     }
 }
 
-// The first token of a line.
-fn next_token<'a>(line: &'a [u8]) -> Next<'a>
+/// The first token of a line, and what comes after it. It takes time linear in what it reads, and no memory.
+pub fn next_token<'a>(line: &'a [u8]) -> Next<'a>
     ensures { IsNext line.now result }
 {
     let mut rest = line;

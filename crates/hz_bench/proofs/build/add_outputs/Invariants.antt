@@ -1,10 +1,11 @@
-use Rattle.std.proofs.Common.{◌≡◌, take, drop, fold}
-use Rattle.hz_bench.specs.Built.{after_output, MayOutput, MaySteps}
-use Rattle.hz_bench.specs.Entry.{statement_list}
+use Rattle.std.proofs.Common.{◌≡◌, drop, fold}
+use Rattle.hz_core.specs.Netlist.{with_output}
+use Rattle.hz_bench.specs.Built.{AreMarked, IsNode, MaySteps}
 use Rattle.hz_bench.proofs.build.add_outputs.Given as goal
 
-abbrev pub invariant-loop-entry : goal.invariant-loop-entry
-invariant-loop-entry l = record {
-  so_far : l.circuit ≡ fold after_output l.fn.circuit (statement_list (take l.entry-index l.entries));
-  may : MaySteps MayOutput after_output l.circuit (statement_list (drop l.entry-index l.entries));
+abbrev pub invariant-loop-node : goal.invariant-loop-node
+invariant-loop-node l = record {
+  rest : fold with_output l.circuit (drop l.node-index l.outputs) ≡ fold with_output l.fn.circuit l.outputs;
+  may : MaySteps IsNode with_output l.circuit (drop l.node-index l.outputs);
+  marks : AreMarked l.circuit l.marks.items;
 }

@@ -1,11 +1,9 @@
-use Rattle.std.proofs.Common.{◌≡◌, take, drop, fold, map}
-use Rattle.hz_line.specs.Token.{token_of}
-use Rattle.hz_bench.specs.Built.{after_pin, MayPin, MaySteps}
-use Rattle.hz_bench.specs.Statement.{words_of}
+use Rattle.std.proofs.Common.{◌≡◌, drop, fold}
+use Rattle.hz_bench.specs.Built.{after_read, MayRead, MaySteps}
 use Rattle.hz_bench.proofs.build.connect_gate.Given as goal
 
-abbrev pub invariant-loop-token : goal.invariant-loop-token
-invariant-loop-token l = record {
-  so_far : l.circuit ≡ fold (after_pin l.gate) l.fn.circuit (words_of (map token_of (take l.token-index l.sources)));
-  may : MaySteps (MayPin l.gate) (after_pin l.gate) l.circuit (words_of (map token_of (drop l.token-index l.sources)));
+abbrev pub invariant-loop-source : goal.invariant-loop-source
+invariant-loop-source l = record {
+  rest : fold (after_read l.gate) l.circuit (drop l.source-index l.sources) ≡ fold (after_read l.gate) l.fn.circuit l.sources;
+  may : MaySteps (MayRead l.gate) (after_read l.gate) l.circuit (drop l.source-index l.sources);
 }

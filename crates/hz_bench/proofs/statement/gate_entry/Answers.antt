@@ -1,20 +1,24 @@
-use Rattle.std.proofs.Common.{◌∙◌, length, ap, sym, arith}
-use Rattle.hz_bench.specs.Statement.{form_of, name_of, sources_of, has_long_name}
-use Rattle.hz_bench.proofs.StatementLemmas.{gate_meant, means-itself, half-words, words_in}
-use Rattle.hz_bench.specs.declared.forms.Form.TheVariants as form
+use Rattle.std.proofs.Common.{◌≡◌, ◌∙◌, ◌||◌, ap, sym, refl, arith}
+use Rattle.hz_line.specs.Token.{tokens_of}
+use Rattle.hz_bench.specs.Statement.{is_long, words_in}
+use Rattle.hz_bench.proofs.StatementLemmas.{IsListed-from_noted, gate_meant, head_words, listed-some, words-known}
 use Rattle.hz_bench.proofs.statement.gate_entry.Goals as goal
 
 pub invariant_of-result : goal.invariant_of-result
 invariant_of-result c =
-    let names = sym c.is_name_list.ensures ∙ c.if-not-is_name_list.false in
-    let meant = gate_meant c.args.text.now c.args.head.now c.requires.tokens c.requires.equals c.requires.opened names in
-    let head_words = words_in c.args.text.now _ c.requires.tokens in
+    let list = IsListed-from_noted (tokens_of c.args.head.now.rest.now) c.in_ok-names.names (sym c.names.ensures.noted ∙ c.in_ok-names.was) in
+    let words = head_words c.args.text.now c.args.head.now c.requires.tokens (listed-some _ list.names list.listed) in
+    let known : words_in c.args.head.now.rest.now ≡ list.names = words-known _ list.names list.words in
     record {
-      means = means-itself _ _ meant;
-      named = sym (ap name_of meant.statement_is);
-      worded = head_words.0;
-      formed = ap form.Gate c.kind_word.ensures ∙ sym (ap form_of meant.statement_is);
-      counted = half-words c.args.head.now names ∙ sym (ap (λ statement. length (sources_of statement)) meant.statement_is);
-      small = omega arith;
-      measured = c.has_long_name.ensures ∙ sym (ap has_long_name meant.statement_is);
+      worded = words.0;
+      sourced = rw known list.words;
+      counted = rw known list.count;
+      small = let few = c.in_ok-names.ensures.few in let short = c.requires.few in omega arith;
+      measured = rw known (c.has_long_after.ensures ∙ ap (λ b. is_long c.args.head.now.first.now || b) list.long);
     }
+
+pub returns : goal.returns
+returns c =
+    let list = IsListed-from_noted (tokens_of c.args.head.now.rest.now) c.in_ok-names.names (sym c.names.ensures.noted ∙ c.in_ok-names.was) in
+    let known : words_in c.args.head.now.rest.now ≡ list.names = words-known _ list.names list.words in
+    (refl, rw (known, c.kind_word.ensures) (gate_meant c.args.text.now c.args.head.now list.names c.requires.tokens c.requires.equals c.requires.opened list.listed))

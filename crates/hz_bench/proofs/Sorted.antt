@@ -1,0 +1,279 @@
+-- From all statements of a text to its nodes and its outputs, and back.
+use Rattle.std.proofs.Common.{◌≡◌, ◌∙◌, ℕ, ◌≤◌, ◌++◌, Bool, true, false, not, cond, suc, List, [], ◌∷◌, Option, Some, None, is_some, option_map, fold, refl, ap, sym, subst, arith}
+use Rattle.std.specs.Prelude.{filter}
+use Rattle.std.specs.List.{list_any}
+use Rattle.std.proofs.Math.Nat.{min-eq_left, min-eq_right}
+use Rattle.hz_line.specs.Line.{lines_of}
+use Rattle.hz_line.specs.Statement.{Numbered, first_line}
+use Rattle.hz_line.proofs.StatementLemmas.{Ascends, numbered_from-Ascends}
+use Rattle.hz_core.specs.Netlist.{Netlist, empty_netlist}
+use Rattle.hz_bench.specs.declared.fault.BenchFault.{BenchFault}
+use Rattle.hz_bench.specs.declared.fault.BenchFault.TheVariants as fault
+use Rattle.hz_bench.specs.declared.parse.Statements.{Statements}
+use Rattle.hz_bench.specs.Built.{Connecting, after_input, after_gate, after_pins, after_output, nodes_of, connected, built, MaySteps, MayInput, MayGate, MayPins, MayOutput, MayBuild}
+use Rattle.hz_bench.specs.Check.{has_unknown_kind, has_clocked_kind, has_wrong_pins, pin_count, reads_undefined, uses_undefined, first_that, fault_or, first_or, too_many, first_fault, earlier}
+use Rattle.hz_bench.specs.Definition.{is_that, defines, definer}
+use Rattle.hz_bench.specs.Entry.{numbered_list, numbered_outputs, statement_list, output_list}
+use Rattle.hz_bench.specs.Noted.{wrong_pins_of, notes_of}
+use Rattle.hz_bench.specs.Pass.{IsParsed}
+use Rattle.hz_bench.specs.Sorted.{undefined_line, pins_fault, sorted_fault}
+use Rattle.hz_bench.specs.Statement.{Statement, Input, Output, Gate, statement_of, is_node, is_output, defined_name, sources_of, used_names, has_long_name}
+use Rattle.hz_bench.specs.Text.{numbered_statements, statements_of, nodes_among, outputs_among, variables_among}
+use Rattle.hz_bench.specs.Twice.{twice_or, earlier_line, twice_after, twice_fault}
+use Rattle.hz_bench.proofs.DefinitionLemmas.{plain, any-same, or_line, or_line-none, definer-append, definer-push, undefined-from_form}
+use Rattle.hz_bench.proofs.NetlistLemmas.{statement_list-numbered, output_list-numbered}
+
+-- the statements that pass a test, with their lines
+abbrev kept : (Statement → Bool) → List (Numbered Statement) → List (Numbered Statement)
+kept keeps statements = filter (λ numbered. keeps numbered.statement) statements
+
+-- a step that leaves alone what is not kept
+abbrev IsStill : {A : Type 0} → (A → Statement → A) → (Statement → Bool) → Type 0
+IsStill {A} step keeps = (now : A) (statement : Statement) → keeps statement ≡ false → step now statement ≡ now
+
+fold-kept : {A : Type 0} (step : A → Statement → A) (keeps : Statement → Bool) → IsStill step keeps → (now : A) (statements : List (Numbered Statement)) → fold step now (plain (kept keeps statements)) ≡ fold step now (plain statements)
+fold-kept step keeps still now [] = refl
+fold-kept {A} step keeps still now (first ∷ rest) = by_test (keeps first.statement) refl (λ next. fold-kept step keeps still next rest)
+  where
+    by_test : (b : Bool) → keeps first.statement ≡ b → ((next : A) → fold step next (plain (kept keeps rest)) ≡ fold step next (plain rest)) → fold step now (plain (cond b (first ∷ kept keeps rest) (kept keeps rest))) ≡ fold step (step now first.statement) (plain rest)
+    by_test true t ih = ih (step now first.statement)
+    by_test false t ih = ih now ∙ sym (ap (λ next. fold step next (plain rest)) (still now first.statement t))
+
+may-kept : {A : Type 0} (May : A → Statement → Type 0) (step : A → Statement → A) (keeps : Statement → Bool) → IsStill step keeps → (now : A) (statements : List (Numbered Statement)) → MaySteps May step now (plain statements) → MaySteps May step now (plain (kept keeps statements))
+may-kept May step keeps still now [] h = tt
+may-kept {A} May step keeps still now (first ∷ rest) h = by_test (keeps first.statement) refl (λ next. may-kept May step keeps still next rest)
+  where
+    by_test : (b : Bool) → keeps first.statement ≡ b → ((next : A) → MaySteps May step next (plain rest) → MaySteps May step next (plain (kept keeps rest))) → MaySteps May step now (plain (cond b (first ∷ kept keeps rest) (kept keeps rest)))
+    by_test true t ih = (h.0, ih (step now first.statement) h.1)
+    by_test false t ih = ih now (subst (λ next. MaySteps May step next (plain rest)) (still now first.statement t) h.1)
+
+-- inputs, gates and pins come of nodes alone, and outputs of outputs
+inputs_still : IsStill after_input is_node
+inputs_still now (Input name) h = cc
+inputs_still now (Output name) h = refl
+inputs_still now (Gate name kind sources) h = refl
+
+gates_still : IsStill after_gate is_node
+gates_still now (Input name) h = refl
+gates_still now (Output name) h = refl
+gates_still now (Gate name kind sources) h = cc
+
+pins_still : IsStill after_pins is_node
+pins_still now (Input name) h = refl
+pins_still now (Output name) h = refl
+pins_still now (Gate name kind sources) h = cc
+
+outputs_still : IsStill after_output is_output
+outputs_still now (Input name) h = refl
+outputs_still now (Output name) h = cc
+outputs_still now (Gate name kind sources) h = refl
+
+inputs-kept : (statements : List (Numbered Statement)) → fold after_input empty_netlist (plain (nodes_among statements)) ≡ fold after_input empty_netlist (plain statements)
+inputs-kept statements = fold-kept after_input is_node inputs_still empty_netlist statements
+
+nodes_of-kept : (statements : List (Numbered Statement)) → nodes_of (plain (nodes_among statements)) ≡ nodes_of (plain statements)
+nodes_of-kept statements =
+    ap (λ now. fold after_gate now (plain (nodes_among statements))) (inputs-kept statements)
+    ∙ fold-kept after_gate is_node gates_still (fold after_input empty_netlist (plain statements)) statements
+
+connected-kept : (statements : List (Numbered Statement)) → connected (nodes_of (plain (nodes_among statements))) (plain (nodes_among statements)) ≡ connected (nodes_of (plain statements)) (plain statements)
+connected-kept statements =
+    ap (λ now. connected now (plain (nodes_among statements))) (nodes_of-kept statements)
+    ∙ ap (λ (now : Connecting). now.netlist) (fold-kept after_pins is_node pins_still (record { netlist = nodes_of (plain statements); gate = (nodes_of (plain statements)).inputs }) statements)
+
+-- the circuit of the nodes and the outputs is that of all statements
+built-kept : (statements : List (Numbered Statement)) → built (plain (nodes_among statements)) (plain (outputs_among statements)) ≡ built (plain statements) (plain statements)
+built-kept statements =
+    ap (λ now. fold after_output now (plain (outputs_among statements))) (connected-kept statements)
+    ∙ fold-kept after_output is_output outputs_still (connected (nodes_of (plain statements)) (plain statements)) statements
+
+may_build-kept : (statements : List (Numbered Statement)) → MayBuild (plain statements) (plain statements) → MayBuild (plain (nodes_among statements)) (plain (outputs_among statements))
+may_build-kept statements may = record {
+  inputs = may-kept MayInput after_input is_node inputs_still empty_netlist statements may.inputs;
+  gates = subst (λ now. MaySteps MayGate after_gate now (plain (nodes_among statements))) (sym (inputs-kept statements))
+      (may-kept MayGate after_gate is_node gates_still (fold after_input empty_netlist (plain statements)) statements may.gates);
+  pins = subst (λ (now : Netlist). MaySteps MayPins after_pins (record { netlist = now; gate = now.inputs }) (plain (nodes_among statements))) (sym (nodes_of-kept statements))
+      (may-kept MayPins after_pins is_node pins_still (record { netlist = nodes_of (plain statements); gate = (nodes_of (plain statements)).inputs }) statements may.pins);
+  outputs_may = subst (λ now. MaySteps MayOutput after_output now (plain (outputs_among statements))) (sym (connected-kept statements))
+      (may-kept MayOutput after_output is_output outputs_still (connected (nodes_of (plain statements)) (plain statements)) statements may.outputs_may);
+}
+
+-- the nodes and outputs that were read are those of a text
+nodes_read : (text : List ℕ) (statements : Statements) → numbered_list statements.nodes.items ≡ nodes_among (numbered_statements text) → plain (nodes_among (numbered_statements text)) ≡ statement_list statements.nodes.items
+nodes_read text statements e = sym (ap plain e) ∙ statement_list-numbered statements.nodes.items
+
+outputs_read : (text : List ℕ) (statements : Statements) → numbered_outputs statements.outputs.items ≡ outputs_among (numbered_statements text) → plain (outputs_among (numbered_statements text)) ≡ output_list statements.outputs.items
+outputs_read text statements e = sym (ap plain e) ∙ output_list-numbered statements.outputs.items
+
+pub built-sorted : (text : List ℕ) (statements : Statements) → numbered_list statements.nodes.items ≡ nodes_among (numbered_statements text) → numbered_outputs statements.outputs.items ≡ outputs_among (numbered_statements text)
+    → built (statement_list statements.nodes.items) (output_list statements.outputs.items) ≡ built (statements_of text) (statements_of text)
+built-sorted text statements nodes outputs =
+    sym (ap (λ list. built list (output_list statements.outputs.items)) (nodes_read text statements nodes))
+    ∙ sym (ap (built (plain (nodes_among (numbered_statements text)))) (outputs_read text statements outputs))
+    ∙ built-kept (numbered_statements text)
+
+pub may_build-sorted : (text : List ℕ) (statements : Statements) → numbered_list statements.nodes.items ≡ nodes_among (numbered_statements text) → numbered_outputs statements.outputs.items ≡ outputs_among (numbered_statements text)
+    → MayBuild (statements_of text) (statements_of text) → MayBuild (statement_list statements.nodes.items) (output_list statements.outputs.items)
+may_build-sorted text statements nodes outputs may =
+    subst (λ list. MayBuild list (output_list statements.outputs.items)) (nodes_read text statements nodes)
+    (subst (MayBuild (plain (nodes_among (numbered_statements text)))) (outputs_read text statements outputs) (may_build-kept (numbered_statements text) may))
+
+-- the first line that passes a test
+pub first_line-cons : (test : Statement → Bool) (first : Numbered Statement) (rest : List (Numbered Statement)) → first_line test (first ∷ rest) ≡ cond (test first.statement) (Some first.line) (first_line test rest)
+first_line-cons test first rest = by_test (test first.statement) refl
+  where
+    by_test : (b : Bool) → test first.statement ≡ b → first_line test (first ∷ rest) ≡ cond b (Some first.line) (first_line test rest)
+    by_test true t = rw t refl
+    by_test false t = rw t refl
+
+-- where only what is kept passes, it is the same
+first_line-kept : (test keeps : Statement → Bool) → ((statement : Statement) → keeps statement ≡ false → test statement ≡ false) → (statements : List (Numbered Statement)) → first_line test (kept keeps statements) ≡ first_line test statements
+first_line-kept test keeps none [] = refl
+first_line-kept test keeps none (first ∷ rest) = by_test (keeps first.statement) refl (first_line-kept test keeps none rest)
+  where
+    by_test : (b : Bool) → keeps first.statement ≡ b → first_line test (kept keeps rest) ≡ first_line test rest → first_line test (cond b (first ∷ kept keeps rest) (kept keeps rest)) ≡ first_line test (first ∷ rest)
+    by_test true t ih = first_line-cons test first (kept keeps rest) ∙ ap (cond (test first.statement) (Some first.line)) ih ∙ sym (first_line-cons test first rest)
+    by_test false t ih = ih ∙ sym (first_line-cons test first rest ∙ ap (λ b. cond b (Some first.line) (first_line test rest)) (none first.statement t))
+
+-- two tests that agree on what is kept find the same
+first_line-same : (test other keeps : Statement → Bool) → ((statement : Statement) → keeps statement ≡ true → test statement ≡ other statement) → (statements : List (Numbered Statement)) → first_line test (kept keeps statements) ≡ first_line other (kept keeps statements)
+first_line-same test other keeps same [] = refl
+first_line-same test other keeps same (first ∷ rest) = by_test (keeps first.statement) refl (first_line-same test other keeps same rest)
+  where
+    by_test : (b : Bool) → keeps first.statement ≡ b → first_line test (kept keeps rest) ≡ first_line other (kept keeps rest) → first_line test (cond b (first ∷ kept keeps rest) (kept keeps rest)) ≡ first_line other (cond b (first ∷ kept keeps rest) (kept keeps rest))
+    by_test true t ih =
+        first_line-cons test first (kept keeps rest) ∙ ap (λ b. cond b (Some first.line) (first_line test (kept keeps rest))) (same first.statement t)
+        ∙ ap (cond (other first.statement) (Some first.line)) ih ∙ sym (first_line-cons other first (kept keeps rest))
+    by_test false t ih = ih
+
+-- lines ascend among those that are kept
+Ascends-kept : (keeps : Statement → Bool) (low high : ℕ) (statements : List (Numbered Statement)) → low ≤ high → Ascends high statements → Ascends low (kept keeps statements)
+Ascends-kept keeps low high [] l h = tt
+Ascends-kept keeps low high (first ∷ rest) l h = by_test (keeps first.statement) (λ new. λ more. Ascends-kept keeps new (suc first.line) rest more h.1)
+  where
+    by_test : (b : Bool) → ((new : ℕ) → new ≤ suc first.line → Ascends new (kept keeps rest)) → Ascends low (cond b (first ∷ kept keeps rest) (kept keeps rest))
+    by_test true ih = (omega (arith, l, h.0), ih (suc first.line) (omega arith))
+    by_test false ih = ih low (omega (arith, l, h.0))
+
+first_line-low : (test : Statement → Bool) (low line : ℕ) (statements : List (Numbered Statement)) → Ascends low statements → first_line test statements ≡ Some line → low ≤ line
+first_line-low test low line [] h e = cc
+first_line-low test low line (first ∷ rest) h e = by_test (test first.statement) (sym (first_line-cons test first rest) ∙ e) (first_line-low test (suc first.line) line rest h.1)
+  where
+    here : (number : ℕ) → Some number ≡ Some line → number ≡ line
+    here number e = cc
+
+    by_test : (b : Bool) → cond b (Some first.line) (first_line test rest) ≡ Some line → (first_line test rest ≡ Some line → suc first.line ≤ line) → low ≤ line
+    by_test true e ih = omega (arith, h.0, here first.line e)
+    by_test false e ih = omega (arith, h.0, ih e)
+
+-- a line before all others is the earlier one
+earlier-left : (line : ℕ) (other : Option ℕ) → ((found : ℕ) → other ≡ Some found → line ≤ found) → earlier (Some line) other ≡ Some line
+earlier-left line None low = refl
+earlier-left line (Some found) low = ap Some (min-eq_left (low found refl))
+
+earlier-right : (line : ℕ) (other : Option ℕ) → ((found : ℕ) → other ≡ Some found → line ≤ found) → earlier other (Some line) ≡ Some line
+earlier-right line None low = refl
+earlier-right line (Some found) low = ap Some (min-eq_right (low found refl))
+
+-- the first line that passes is the first among the nodes or the first among the outputs
+earlier-all : (test : Statement → Bool) (low : ℕ) (statements : List (Numbered Statement)) → Ascends low statements → earlier (first_line test (nodes_among statements)) (first_line test (outputs_among statements)) ≡ first_line test statements
+earlier-all test low [] h = refl
+earlier-all test low (first ∷ rest) h = by_node (is_node first.statement) (earlier-all test (suc first.line) rest h.1) ∙ sym (first_line-cons test first rest)
+  where
+    later : (keeps : Statement → Bool) (found : ℕ) → first_line test (kept keeps rest) ≡ Some found → first.line ≤ found
+    later keeps found e = let above = first_line-low test (suc first.line) found (kept keeps rest) (Ascends-kept keeps (suc first.line) (suc first.line) rest (omega arith) h.1) e in omega (arith, above)
+
+    left : (b : Bool) → earlier (first_line test (nodes_among rest)) (first_line test (outputs_among rest)) ≡ first_line test rest → earlier (cond b (Some first.line) (first_line test (nodes_among rest))) (first_line test (outputs_among rest)) ≡ cond b (Some first.line) (first_line test rest)
+    left true ih = earlier-left first.line (first_line test (outputs_among rest)) (later is_output)
+    left false ih = ih
+
+    right : (b : Bool) → earlier (first_line test (nodes_among rest)) (first_line test (outputs_among rest)) ≡ first_line test rest → earlier (first_line test (nodes_among rest)) (cond b (Some first.line) (first_line test (outputs_among rest))) ≡ cond b (Some first.line) (first_line test rest)
+    right true ih = earlier-right first.line (first_line test (nodes_among rest)) (later is_node)
+    right false ih = ih
+
+    by_node : (b : Bool) → earlier (first_line test (nodes_among rest)) (first_line test (outputs_among rest)) ≡ first_line test rest
+        → earlier (first_line test (cond b (first ∷ nodes_among rest) (nodes_among rest))) (first_line test (cond (not b) (first ∷ outputs_among rest) (outputs_among rest))) ≡ cond (test first.statement) (Some first.line) (first_line test rest)
+    by_node true ih = ap (λ line. earlier line (first_line test (outputs_among rest))) (first_line-cons test first (nodes_among rest)) ∙ left (test first.statement) ih
+    by_node false ih = ap (earlier (first_line test (nodes_among rest))) (first_line-cons test first (outputs_among rest)) ∙ right (test first.statement) ih
+
+-- only nodes define names
+undefined-output : (statement : Statement) → is_node statement ≡ false → defined_name statement ≡ None
+undefined-output statement h = undefined-from_form statement h
+
+definer-kept : (statements : List (Numbered Statement)) (name : List ℕ) → definer (nodes_among statements) name ≡ definer statements name
+definer-kept statements name = first_line-kept (defines name) is_node (λ statement h. ap (is_that name) (undefined-output statement h)) statements
+
+earlier_line-same : (other seen : List (Numbered Statement)) (defined : Option (List ℕ)) → ((name : List ℕ) → definer other name ≡ definer seen name) → earlier_line other defined ≡ earlier_line seen defined
+earlier_line-same other seen None same = refl
+earlier_line-same other seen (Some name) same = same name
+
+-- so the first that defines a name again is the same
+twice_after-kept : (other seen rest : List (Numbered Statement)) → ((name : List ℕ) → definer other name ≡ definer seen name) → twice_after other (nodes_among rest) ≡ twice_after seen rest
+twice_after-kept other seen [] same = refl
+twice_after-kept other seen (next ∷ rest) same = by_node (is_node next.statement) refl (λ more. λ also. twice_after-kept more (seen ++ next ∷ []) rest also)
+  where
+    by_node : (b : Bool) → is_node next.statement ≡ b → ((more : List (Numbered Statement)) → ((name : List ℕ) → definer more name ≡ definer (seen ++ next ∷ []) name) → twice_after more (nodes_among rest) ≡ twice_after (seen ++ next ∷ []) rest)
+        → twice_after other (cond b (next ∷ nodes_among rest) (nodes_among rest)) ≡ twice_or next.line (earlier_line seen (defined_name next.statement)) (twice_after (seen ++ next ∷ []) rest)
+    by_node true t ih =
+        ap (λ line. twice_or next.line line (twice_after (other ++ next ∷ []) (nodes_among rest))) (earlier_line-same other seen (defined_name next.statement) same)
+        ∙ ap (twice_or next.line (earlier_line seen (defined_name next.statement)))
+        (ih (other ++ next ∷ []) (λ name. definer-append other (next ∷ []) name ∙ ap (λ line. or_line line (definer (next ∷ []) name)) (same name) ∙ sym (definer-append seen (next ∷ []) name)))
+    by_node false t ih =
+        let none = undefined-output next.statement t in
+        ih other (λ name. same name ∙ sym (definer-push seen next name ∙ ap (λ defined. or_line (definer seen name) (cond (is_that name defined) (Some next.line) None)) none ∙ or_line-none (definer seen name)))
+        ∙ sym (ap (λ defined. twice_or next.line (earlier_line seen defined) (twice_after (seen ++ next ∷ []) rest)) none)
+
+undefined-kept : (statements : List (Numbered Statement)) (names : List (List ℕ)) → list_any (λ name. not (is_some (definer (nodes_among statements) name))) names ≡ list_any (λ name. not (is_some (definer statements name))) names
+undefined-kept statements names = any-same (λ name. not (is_some (definer (nodes_among statements) name))) (λ name. not (is_some (definer statements name))) (λ name. ap (λ line. not (is_some line)) (definer-kept statements name)) names
+
+node_sources : (statement : Statement) → is_node statement ≡ true → sources_of statement ≡ used_names statement
+node_sources (Input name) h = refl
+node_sources (Output name) h = cc
+node_sources (Gate name kind sources) h = refl
+
+-- the first use of an undefined name, by nodes and outputs
+undefined_line-kept : (statements : List (Numbered Statement)) → Ascends 1 statements → undefined_line (nodes_among statements) (outputs_among statements) ≡ first_line (uses_undefined statements) statements
+undefined_line-kept statements h =
+    let nodes = first_line-same (reads_undefined (nodes_among statements)) (uses_undefined statements) is_node
+    (λ statement node. undefined-kept statements (sources_of statement) ∙ ap (list_any (λ name. not (is_some (definer statements name)))) (node_sources statement node)) statements in
+    let outputs = first_line-same (uses_undefined (nodes_among statements)) (uses_undefined statements) is_output
+    (λ statement output. undefined-kept statements (used_names statement)) statements in
+    ap (λ line. earlier line (first_line (uses_undefined (nodes_among statements)) (outputs_among statements))) nodes
+    ∙ ap (earlier (first_line (uses_undefined statements) (nodes_among statements))) outputs
+    ∙ earlier-all (uses_undefined statements) 1 statements h
+
+-- a line that was noted, as the fault of what is found
+line-fault : (make : ℕ → BenchFault) (found : Option (Numbered Statement)) (later : Option BenchFault) → first_or (option_map make (option_map (λ (numbered : Numbered Statement). numbered.line) found)) later ≡ fault_or (λ one. make one.line) found later
+line-fault make None later = refl
+line-fault make (Some found) later = refl
+
+pins-fault : (found : Option (Numbered Statement)) (later : Option BenchFault) → first_or (option_map pins_fault (option_map wrong_pins_of found)) later ≡ fault_or (λ one. fault.Pins one.line (pin_count one.statement)) found later
+pins-fault None later = refl
+pins-fault (Some found) later = refl
+
+twice-fault : (statements : List (Numbered Statement)) (later other : Option BenchFault) → later ≡ other → first_or (twice_fault (nodes_among statements)) later ≡ first_or (twice_fault statements) other
+twice-fault statements later other e = ap (λ answer. first_or answer later) (twice_after-kept [] [] statements (λ name. refl)) ∙ ap (first_or (twice_fault statements)) e
+
+sorted_fault-kept : (statements : List (Numbered Statement)) → Ascends 1 statements → sorted_fault (nodes_among statements) (outputs_among statements) (notes_of statements) ≡ first_fault statements
+sorted_fault-kept statements h =
+    let undefined = ap (λ line. first_or (option_map fault.Undefined line) (too_many (variables_among statements))) (undefined_line-kept statements h)
+    ∙ line-fault fault.Undefined (first_that (uses_undefined statements) statements) (too_many (variables_among statements)) in
+    let pins = ap (first_or (option_map pins_fault (option_map wrong_pins_of (first_that has_wrong_pins statements)))) undefined
+    ∙ pins-fault (first_that has_wrong_pins statements) _ in
+    let twice = twice-fault statements _ _ pins in
+    let clocked = ap (first_or (option_map fault.Clocked (first_line has_clocked_kind statements))) twice ∙ line-fault fault.Clocked (first_that has_clocked_kind statements) _ in
+    let kinds = ap (first_or (option_map fault.KindUnknown (first_line has_unknown_kind statements))) clocked ∙ line-fault fault.KindUnknown (first_that has_unknown_kind statements) _ in
+    ap (first_or (option_map fault.Name (first_line has_long_name statements))) kinds ∙ line-fault fault.Name (first_that has_long_name statements) _
+
+-- the fault of the statements that were read
+abbrev pub fault_in : Statements → Option BenchFault
+fault_in statements = sorted_fault (numbered_list statements.nodes.items) (numbered_outputs statements.outputs.items) statements.notes
+
+-- is that of all statements of the text
+pub fault_in-first : (text : List ℕ) (statements : Statements) → IsParsed text statements → fault_in statements ≡ first_fault (numbered_statements text)
+fault_in-first text statements parsed =
+    let all = numbered_statements text in
+    ap (λ nodes. sorted_fault nodes (numbered_outputs statements.outputs.items) statements.notes) parsed.nodes
+    ∙ ap (λ outputs. sorted_fault (nodes_among all) outputs statements.notes) parsed.outputs
+    ∙ ap (sorted_fault (nodes_among all) (outputs_among all)) parsed.notes
+    ∙ sorted_fault-kept all (numbered_from-Ascends statement_of 1 (lines_of text))

@@ -1,0 +1,46 @@
+-- What is noted of statements while they are read.
+use Rattle.std.specs.Prelude.{ℕ, ◌+◌, Bool, List, Option, Some, None, option_map, if◌then◌else◌}
+use Rattle.hz_line.specs.Statement.{Numbered, first_line}
+use Rattle.hz_bench.specs.declared.notes.Notes.{Notes}
+use Rattle.hz_bench.specs.declared.notes.WrongPins.{WrongPins}
+use Rattle.hz_bench.specs.Check.{has_unknown_kind, has_clocked_kind, has_wrong_pins, pin_count, first_that}
+use Rattle.hz_bench.specs.Statement.{Statement, has_long_name, variables_in}
+use Rattle.hz_bench.specs.Text.{variables_among}
+
+-- a gate with wrong pins, as it is noted
+abbrev pub wrong_pins_of : Numbered Statement → WrongPins
+wrong_pins_of numbered = record { line = numbered.line; count = pin_count numbered.statement }
+
+-- the notes are those of these statements: the first line of each fault of a single statement, and the sum of all variables
+abbrev pub notes_of : List (Numbered Statement) → Notes
+notes_of statements = record {
+  long_name = first_line has_long_name statements;
+  unknown_kind = first_line has_unknown_kind statements;
+  clocked_kind = first_line has_clocked_kind statements;
+  wrong_pins = option_map wrong_pins_of (first_that has_wrong_pins statements);
+  variables = variables_among statements;
+}
+
+-- of no statement
+abbrev pub nothing_noted : Notes
+nothing_noted = record { long_name = None; unknown_kind = None; clocked_kind = None; wrong_pins = None; variables = 0 }
+
+-- the line that was noted first, or this one where it is the first to be noted
+abbrev pub first_of : Option ℕ → Bool → ℕ → Option ℕ
+first_of (Some first) here line = Some first
+first_of None here line = if here then Some line else None
+
+-- the gate with wrong pins that was noted first, or this statement where it is the first
+abbrev pub wrong_or : Option WrongPins → Numbered Statement → Option WrongPins
+wrong_or (Some first) numbered = Some first
+wrong_or None numbered = if has_wrong_pins numbered.statement then Some (wrong_pins_of numbered) else None
+
+-- with one statement more
+abbrev pub noted : Notes → Numbered Statement → Notes
+noted notes numbered = record {
+  long_name = first_of notes.long_name (has_long_name numbered.statement) numbered.line;
+  unknown_kind = first_of notes.unknown_kind (has_unknown_kind numbered.statement) numbered.line;
+  clocked_kind = first_of notes.clocked_kind (has_clocked_kind numbered.statement) numbered.line;
+  wrong_pins = wrong_or notes.wrong_pins numbered;
+  variables = notes.variables + variables_in numbered.statement;
+}
