@@ -16,21 +16,21 @@ EndsAt-push start [] last more cut longer = (omega (arith, cut, longer), refl)
 EndsAt-push start (end ∷ ends) last more cut longer = (cut.0, EndsAt-push end ends last more cut.1 longer)
 
 -- a part of a list is the same in a longer list
-slice_range-longer :
-    (list more : List ℕ) (from to : ℕ) → from ≤ to → to ≤ length list → slice_range (list ++ more) from to ≡ slice_range list from to
+pub slice_range-longer :
+    {X : Type 0} (list more : List X) (from to : ℕ) → from ≤ to → to ≤ length list → slice_range (list ++ more) from to ≡ slice_range list from to
 slice_range-longer list more from to ordered within =
     ap (take (to - from)) (drop-append-le from list more (omega arith)) ∙
     take-append-le (to - from) (drop from list) more (omega (arith, length-drop from list))
 
 -- what stands after a list
-slice_range-after : (list more : List ℕ) (start : ℕ) → start ≡ length list → slice_range (list ++ more) start (length list + length more) ≡ more
+pub slice_range-after : {X : Type 0} (list more : List X) (start : ℕ) → start ≡ length list → slice_range (list ++ more) start (length list + length more) ≡ more
 slice_range-after list more start here =
     ap (take (length list + length more - start)) (drop_at list more start (sym here)) ∙
     take_all (length list + length more - start) more (omega (arith, here))
 
 -- one part more
 pub parts_from-push :
-    (start : ℕ) (ends list more : List ℕ) → EndsAt start ends (length list) →
+    {X : Type 0} (start : ℕ) (ends : List ℕ) (list more : List X) → EndsAt start ends (length list) →
     parts_from start (ends ++ (length list + length more) ∷ []) (list ++ more) ≡ parts_from start ends list ++ more ∷ []
 parts_from-push start [] list more cut = ap (λ part. part ∷ []) (slice_range-after list more start cut)
 parts_from-push start (end ∷ ends) list more cut =
@@ -39,13 +39,13 @@ parts_from-push start (end ∷ ends) list more cut =
     ap (λ parts. slice_range list start end ∷ parts) (parts_from-push end ends list more cut.1)
 
 -- there are as many parts as ends
-pub length-parts_from : (start : ℕ) (ends list : List ℕ) → length (parts_from start ends list) ≡ length ends
+pub length-parts_from : {X : Type 0} (start : ℕ) (ends : List ℕ) (list : List X) → length (parts_from start ends list) ≡ length ends
 length-parts_from start [] list = refl
 length-parts_from start (end ∷ ends) list = ap suc (length-parts_from end ends list)
 
 -- the parts have together what the list has from the start on
 pub sum_by-parts_from :
-    (start : ℕ) (ends list : List ℕ) → EndsAt start ends (length list) → start + sum_by length (parts_from start ends list) ≡ length list
+    {X : Type 0} (start : ℕ) (ends : List ℕ) (list : List X) → EndsAt start ends (length list) → start + sum_by length (parts_from start ends list) ≡ length list
 sum_by-parts_from start [] list cut = omega (arith, cut)
 sum_by-parts_from start (end ∷ ends) list cut =
     let within = EndsAt-within end ends (length list) cut.1 in

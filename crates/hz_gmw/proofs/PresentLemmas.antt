@@ -126,18 +126,6 @@ pub record TurnedBelow (netlist : Netlist) (given : List Bool) (first now : Pres
 pub turned-begin : (netlist : Netlist) (given : List Bool) (first : Present) → IsExact netlist first → TurnedBelow netlist given first first 0
 turned-begin netlist given first exact = record { exact = exact; input = refl; below = λ i few. absurd (omega (arith, few)); untouched = λ i still. (still, refl) }
 
--- a variable that has its value
-pub turned-same : (netlist : Netlist) (given : List Bool) (first now : Present) (k : ℕ) → TurnedBelow netlist given first now k → bit_at now.state.items k ≡ bit_at given k → TurnedBelow netlist given first now (k + 1)
-turned-same netlist given first now k so_far same = record {
-  exact = so_far.exact;
-  input = so_far.input;
-  below = λ i few. elim (cases_lt i k) [
-    | inl less ↦ so_far.below i less
-    | inr from ↦ (let e : i ≡ k = omega (arith, few, from) in ap (bit_at now.state.items) e ∙ (same ∙ ap (bit_at given) (sym e)))
-  ];
-  untouched = so_far.untouched;
-}
-
 -- what a step does not touch was not touched before it, and did not change
 pub advances-untouched : (netlist : Netlist) (flips : List ℕ) (before after : Present) → Fits netlist before → Advances netlist flips before after → KeepsUntouched before after
 advances-untouched netlist flips before after fits advances i still = elim (cases_lt i (length (network_of netlist))) [
@@ -167,31 +155,34 @@ other-bit false true differ = refl
 other-bit true false differ = refl
 other-bit true true differ = absurd (differ refl)
 
--- a variable that is turned
-pub turned-flip : (netlist : Netlist) (given : List Bool) (first now next : Present) (k : ℕ) → TurnedBelow netlist given first now k → k < length (network_of netlist) → (bit_at now.state.items k ≡ bit_at given k → ⊥) → Advances netlist (k ∷ []) now next → TurnedBelow netlist given first next (k + 1)
-turned-flip netlist given first now next k so_far inside differ advances =
+-- one variable that changes takes the value that it has not
+pub flipped-one : (state : List Bool) (var : ℕ) (value : Bool) → (bit_at state var ≡ value → ⊥) → flipped (var ∷ []) state ≡ set state var value
+flipped-one state var value differ =
+    flipped-first var [] state refl ∙ (flipped-none 0 (set state var (not (bit_at state var))) ∙ ap (set state var) (other-bit (bit_at state var) value differ))
+
+-- what was kept twice is kept
+pub untouched-then : (first now next : Present) → KeepsUntouched first now → KeepsUntouched now next → KeepsUntouched first next
+untouched-then first now next earlier later i still =
+    let step = later i still in
+    let before = earlier i step.0 in
+    (before.0, step.1 ∙ before.1)
+
+-- one variable more has its given value
+pub turned-more : (netlist : Netlist) (given : List Bool) (first now next : Present) (k : ℕ) → TurnedBelow netlist given first now k → k < length (network_of netlist) → IsExact netlist next → next.input.items ≡ now.input.items → next.state.items ≡ set now.state.items k (bit_at given k) → KeepsUntouched now next → TurnedBelow netlist given first next (k + 1)
+turned-more netlist given first now next k so_far inside exact input state untouched =
     let state_long = so_far.exact.fits.state in
-    let untouched = advances-untouched netlist (k ∷ []) now next so_far.exact.fits advances in
     record {
-      exact = advances.exact;
-      input = advances.input ∙ so_far.input;
-      below = λ i few.
-          let within : i < length now.state.items = omega (arith, few, inside, state_long) in
-          ap (λ (state : List Bool). bit_at state i) advances.state ∙ (at-flipped (k ∷ []) now.state.items i within ∙ (elim (cases_lt i k) [
-            | inl less ↦ (
-                let other : i ≢ k = omega (arith, less) in
-                ap (λ (b : Bool). cond b (not (bit_at now.state.items i)) (bit_at now.state.items i)) (listed-other i k [] other) ∙ so_far.below i less
-                )
-            | inr from ↦ (
-                let e : i ≡ k = omega (arith, few, from) in
-                ap (λ (b : Bool). cond b (not (bit_at now.state.items i)) (bit_at now.state.items i)) (listed-head i k [] e) ∙
-                (ap (λ (j : ℕ). not (bit_at now.state.items j)) e ∙ (other-bit (bit_at now.state.items k) (bit_at given k) differ ∙ ap (bit_at given) (sym e)))
-                )
-          ]));
-      untouched = λ i still.
-          let step = untouched i still in
-          let earlier = so_far.untouched i step.0 in
-          (earlier.0, step.1 ∙ earlier.1);
+      exact = exact;
+      input = input ∙ so_far.input;
+      below = λ i few. ap (λ (bits : List Bool). bit_at bits i) state ∙ (elim (cases_lt i k) [
+        | inl less ↦ (let other : i ≢ k = omega (arith, less) in get_or-set_other now.state.items k i (bit_at given k) false other ∙ so_far.below i less)
+        | inr from ↦ (
+            let e : i ≡ k = omega (arith, few, from) in
+            let within : k < length now.state.items = omega (arith, inside, state_long) in
+            ap (bit_at (set now.state.items k (bit_at given k))) e ∙ (get_or-set_same now.state.items k (bit_at given k) false within ∙ ap (bit_at given) (sym e))
+            )
+      ]);
+      untouched = untouched-then first now next so_far.untouched untouched;
     }
 
 pub turned-end : (netlist : Netlist) (given : List Bool) (first now : Present) (k : ℕ) → TurnedBelow netlist given first now k → length given ≡ length (network_of netlist) → length (network_of netlist) ≤ k → now.state.items ≡ given

@@ -1,7 +1,7 @@
 -- What a replayer stands for: after a mark, after a step, and what that tells of the cycle since the mark.
 use Rattle.std.proofs.Common.{◌≡◌, ◌≢◌, ◌↔◌, ℕ, zero, suc, ◌<◌, ◌≤◌, Bool, true, false, not, cond, ◌||◌, ◌&&◌, List, [], ◌∷◌, ◌++◌, length, set, replicate, All, None, IsTrue, refl, sym, ap, ◌∙◌, subst, arith, inl, inr}
 use Rattle.std.specs.Bool.{beq}
-use Rattle.std.proofs.lemmas.Bool.{cases_lt, cases_eq, cases_Bool, false≢true, and_parts, and_from, not-true, not-false, not_from_false, false_from_ne_true, true_from_ne_false}
+use Rattle.std.proofs.lemmas.Bool.{cases_lt, cases_eq, cases_Bool, false≢true, and_parts, and_from, not-true, not-false, not_from_false, or_parts, false_from_ne_true, true_from_ne_false}
 use Rattle.std.proofs.lemmas.List.{ext_get_or, length-set, length-replicate, get_or-set_same, get_or-set_other, get_or_past, get_or-replicate}
 use Rattle.std.proofs.lemmas.List.FromFn.{get_or-map-range_with_len, fill_by_all}
 use Rattle.hz_net.specs.Network.{Driver, network_of, bit_at, excitation, IsUnstable}
@@ -17,13 +17,13 @@ use Rattle.hz_gmw.specs.declared.replay_fault.StepFault.TheVariants.{Empty, Repe
 use Rattle.hz_gmw.specs.declared.replay_fault.CycleFault.{CycleFault}
 use Rattle.hz_gmw.specs.declared.replay_fault.CycleFault.TheVariants.{Differs, NotStable, Transient}
 use Rattle.hz_gmw.specs.VariableSets.{AreMembers}
-use Rattle.hz_gmw.specs.Presents.{taken_over}
+use Rattle.hz_gmw.specs.Presents.{marked_with, taken_over}
 use Rattle.hz_gmw.specs.InsideReplay.{without}
-use Rattle.hz_gmw.proofs.Flips.{at-flipped}
+use Rattle.hz_gmw.proofs.Flips.{length-flipped, at-flipped}
 use Rattle.hz_gmw.proofs.Paths.{end_of-append, IsRun-append}
 use Rattle.hz_gmw.proofs.CoverB.{length-end_of}
 use Rattle.hz_gmw.proofs.LeastLemmas.{listed-other, listed-Contains, All-listed, IsLeastOf-same, least-listed, RepeatsNone-times, times-RepeatsNone}
-use Rattle.hz_gmw.proofs.Rechecks.{beq-same, beq-refl}
+use Rattle.hz_gmw.proofs.Rechecks.{beq-same, beq-refl, at-marked_with}
 
 -- the test says whether a variable is unstable
 pub unstable-true : (net : List Driver) (input state : List Bool) (i : ℕ) → is_unstable net input state i ≡ true → IsUnstable net input state i
@@ -46,8 +46,8 @@ pub unstable-list : (net : List Driver) (input state marks : List Bool) → leng
 unstable-list net input state marks long right = fill_by_all (is_unstable net input state) marks (length net) false long right
 
 -- a replayer whose state is marked stands for the run of this state alone
-pub stands-at : (circuit : Netlist) (input state : List Bool) → StandsFor (replayed_at circuit input state) []
-stands-at circuit input state =
+pub stands-at : (circuit : Netlist) (input begun state : List Bool) → StandsFor (replayed_at circuit input begun state) []
+stands-at circuit input begun state =
     let net = network_of circuit in
     record {
       run = tt;
@@ -285,6 +285,19 @@ taken-listed state marked (x ∷ list) i inside there = elim (cases_eq i x) [
   | inr other ↦ taken-listed state (set marked x (bit_at state x)) list i (omega (arith, inside, length-set marked x (bit_at state x))) (sym (listed-other i x list other) ∙ there)
 ]
 
+-- what did not move before a step and is not changed by it has not moved after it
+pub back-step : (flips : List ℕ) (begun moved moved' state state' : List Bool) → length moved ≡ length state → state' ≡ flipped flips state → moved' ≡ marked_with moved flips → ((i : ℕ) → bit_at moved i ≡ false → bit_at begun i ≡ bit_at state i) → (i : ℕ) → bit_at moved' i ≡ false → bit_at begun i ≡ bit_at state' i
+back-step flips begun moved moved' state state' long state_is moved_is back i still =
+    subst (λ (bits : List Bool). bit_at begun i ≡ bit_at bits i) (sym state_is) (elim (cases_lt i (length state)) [
+      | inl inside ↦ (
+          let parts = or_parts (bit_at moved i) (is_listed flips i) (sym (at-marked_with moved flips i (omega (arith, inside, long))) ∙ (ap (λ (bits : List Bool). bit_at bits i) (sym moved_is) ∙ still)) in
+          back i parts.0 ∙ sym (at-flipped flips state i inside ∙ ap (λ (b : Bool). cond b (not (bit_at state i)) (bit_at state i)) parts.1)
+          )
+      | inr past ↦
+          back i (get_or_past moved i false (omega (arith, past, long))) ∙
+          (get_or_past state i false past ∙ sym (get_or_past (flipped flips state) i false (omega (arith, past, length-flipped flips state))))
+    ])
+
 -- all that was touched is taken over: the marked state is the present one
 pub taken-all : (state marked touched : List Bool) (list : List ℕ) → length marked ≡ length state → AreMembers touched list → ((i : ℕ) → bit_at touched i ≡ false → bit_at marked i ≡ bit_at state i) → taken_over state marked list ≡ state
 taken-all state marked touched list long members same =
@@ -368,20 +381,21 @@ stable-fault net input state marks flips var all right once found =
     )
 
 -- a replayer with these parts is at a marked state
-pub replayed-is : (circuit : Netlist) (input input' state state' marked watched : List Bool) → input' ≡ input → state' ≡ state → marked ≡ state → watched ≡ unstable_variables (network_of circuit) input state → (let now : Replayed = record { circuit = circuit; input = input'; state = state'; marked = marked; stepped = false; watched = watched } in now) ≡ replayed_at circuit input state
-replayed-is circuit input input' state state' marked watched input_is state_is marked_is watched_is =
-    let parts : List Bool → List Bool → List Bool → List Bool → Replayed =
-    λ i s m w. record { circuit = circuit; input = i; state = s; marked = m; stepped = false; watched = w } in
-    ap (λ (i : List Bool). parts i state' marked watched) input_is ∙
-    (ap (λ (s : List Bool). parts input s marked watched) state_is ∙
-    (ap (λ (m : List Bool). parts input state m watched) marked_is ∙
-    ap (λ (w : List Bool). parts input state state w) watched_is))
+pub replayed-is : (circuit : Netlist) (input input' begun begun' state state' marked watched : List Bool) → input' ≡ input → begun' ≡ begun → state' ≡ state → marked ≡ state → watched ≡ unstable_variables (network_of circuit) input state → (let now : Replayed = record { circuit = circuit; input = input'; begun = begun'; state = state'; marked = marked; stepped = false; watched = watched } in now) ≡ replayed_at circuit input begun state
+replayed-is circuit input input' begun begun' state state' marked watched input_is begun_is state_is marked_is watched_is =
+    let parts : List Bool → List Bool → List Bool → List Bool → List Bool → Replayed =
+    λ i b s m w. record { circuit = circuit; input = i; begun = b; state = s; marked = m; stepped = false; watched = w } in
+    ap (λ (i : List Bool). parts i begun' state' marked watched) input_is ∙
+    (ap (λ (b : List Bool). parts input b state' marked watched) begun_is ∙
+    (ap (λ (s : List Bool). parts input begun s marked watched) state_is ∙
+    (ap (λ (m : List Bool). parts input begun state m watched) marked_is ∙
+    ap (λ (w : List Bool). parts input begun state state w) watched_is)))
 
 -- a replayer with these parts is a step further
-pub stepped-is : (now : Replayed) (flips : List ℕ) (input state watched : List Bool) → input ≡ now.input → state ≡ flipped flips now.state → watched ≡ still_watched now flips → (let next : Replayed = record { circuit = now.circuit; input = input; state = state; marked = now.marked; stepped = true; watched = watched } in next) ≡ stepped_by now flips
+pub stepped-is : (now : Replayed) (flips : List ℕ) (input state watched : List Bool) → input ≡ now.input → state ≡ flipped flips now.state → watched ≡ still_watched now flips → (let next : Replayed = record { circuit = now.circuit; input = input; begun = now.begun; state = state; marked = now.marked; stepped = true; watched = watched } in next) ≡ stepped_by now flips
 stepped-is now flips input state watched input_is state_is watched_is =
     let parts : List Bool → List Bool → List Bool → Replayed =
-    λ i s w. record { circuit = now.circuit; input = i; state = s; marked = now.marked; stepped = true; watched = w } in
+    λ i s w. record { circuit = now.circuit; input = i; begun = now.begun; state = s; marked = now.marked; stepped = true; watched = w } in
     ap (λ (i : List Bool). parts i state watched) input_is ∙
     (ap (λ (s : List Bool). parts now.input s watched) state_is ∙
     ap (λ (w : List Bool). parts now.input (flipped flips now.state) w) watched_is)

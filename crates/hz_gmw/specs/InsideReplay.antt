@@ -16,15 +16,20 @@ abbrev pub replayed_of : Inside → Replayed
 replayed_of fields = record {
   circuit = fields.net.now;
   input = fields.present.input.items;
+  begun = fields.begun.items;
   state = fields.present.state.items;
   marked = fields.marked.items;
   stepped = fields.stepped;
   watched = without fields.present.unstable fields.present.touched;
 }
 
--- the marks are right, what was not touched has the value that it had at the mark, and no variable is named
+-- The marks are right; what was not touched has the value that it had at the mark, what did not move the value that it had
+-- at the begin; and no variable is named.
 pub record HoldsReplay (fields : Inside) : Type 0 where
   pub exact : IsExact fields.net.now fields.present
   pub marked : length fields.marked.items ≡ length (network_of fields.net.now)
   pub same : (i : ℕ) → bit_at fields.present.touched i ≡ false → bit_at fields.marked.items i ≡ bit_at fields.present.state.items i
+  pub begun : length fields.begun.items ≡ length (network_of fields.net.now)
+  pub moved : length fields.moved ≡ length (network_of fields.net.now)
+  pub back : (i : ℕ) → bit_at fields.moved i ≡ false → bit_at fields.begun.items i ≡ bit_at fields.present.state.items i
   pub named : fields.named ≡ replicate (length (network_of fields.net.now)) false

@@ -3,7 +3,7 @@ use Rattle.std.specs.Prelude.{◌≡◌, ℕ, zero, suc, ◌≤◌, List, [], �
 use Rattle.std.specs.List.{slice_range}
 
 -- the parts, each from where the one before it ends
-abbrev pub parts_from : ℕ → List ℕ → List ℕ → List (List ℕ)
+abbrev pub parts_from : {X : Type 0} → ℕ → List ℕ → List X → List (List X)
 parts_from start [] list = []
 parts_from start (end ∷ ends) list = slice_range list start end ∷ parts_from end ends list
 

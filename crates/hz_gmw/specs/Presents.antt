@@ -55,7 +55,7 @@ marked_with marks list = fold (λ marks var. slice_set marks var true) marks lis
 
 -- a state in which listed variables have the values that they have in another
 abbrev pub taken_over : List Bool → List Bool → List ℕ → List Bool
-taken_over state marked list = fold (λ marked var. slice_set marked var (bit_at state var)) marked list
+taken_over given state list = fold (λ state var. slice_set state var (bit_at given var)) state list
 
 -- a state and its marks after listed variables changed at once
 pub record Advances (netlist : Netlist) (flips : List ℕ) (before after : Present) : Type 0 where

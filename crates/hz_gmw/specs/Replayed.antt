@@ -7,11 +7,12 @@ use Rattle.hz_gmw.specs.Runs.{is_listed, flipped, IsRun, end_of}
 use Rattle.hz_gmw.specs.Cycles.{WaitsAt}
 use Rattle.hz_gmw.specs.Instability.{is_unstable, unstable_variables}
 
--- What a replayer keeps: the circuit, the external input, the present state, the marked state, whether a step was made
--- since the mark, and of each variable whether it is watched.
+-- What a replayer keeps: the circuit, the external input, the state in which it began, the present state, the marked
+-- state, whether a step was made since the mark, and of each variable whether it is watched.
 pub record Replayed : Type 0 where
   pub circuit : Netlist
   pub input : List Bool
+  pub begun : List Bool
   pub state : List Bool
   pub marked : List Bool
   pub stepped : Bool
@@ -29,16 +30,21 @@ pub record StandsFor (now : Replayed) (steps : List (List ℕ)) : Type 0 where
   pub stepped : IsTrue now.stepped ↔ (steps ≢ [])
   pub watched : (i : ℕ) → i < length (network_of now.circuit) → IsTrue (bit_at now.watched i) ↔ Waits now steps i
 
--- a replayer whose present state is marked, with no step since
-abbrev pub replayed_at : Netlist → List Bool → List Bool → Replayed
-replayed_at circuit input state = record {
+-- a replayer that began in one state, and whose present state is marked, with no step since
+abbrev pub replayed_at : Netlist → List Bool → List Bool → List Bool → Replayed
+replayed_at circuit input begun state = record {
   circuit = circuit;
   input = input;
+  begun = begun;
   state = state;
   marked = state;
   stepped = false;
   watched = unstable_variables (network_of circuit) input state;
 }
+
+-- a replayer that begins in a state
+abbrev pub begun_at : Netlist → List Bool → List Bool → Replayed
+begun_at circuit input state = replayed_at circuit input state state
 
 -- of each variable whether it was watched, is not among those that a step changes, and is unstable after it
 abbrev pub still_watched : Replayed → List ℕ → List Bool

@@ -18,7 +18,7 @@ pub(crate) struct Present {
 }
 
 impl Present {
-    ghost use Rattle.hz_gmw.specs.Presents.{Fits, IsExact, rechecked, around, marked_with, Advances, KeepsUntouched};
+    ghost use Rattle.hz_gmw.specs.Presents.{Fits, IsExact, rechecked, around, marked_with, taken_over, Advances, KeepsUntouched};
 
     // Changes the listed variables at once.
     pub(crate) fn advance(&mut self, net: &Net, flips: &[u32])
@@ -41,9 +41,22 @@ impl Present {
         ensures untouched { KeepsUntouched self.old self.new }
     {
         for var in 0..net.len() {
-            if self.state[var as usize] != state[var as usize] {
-                self.advance(net, &[var]);
-            }
+            self.turn(net, var, state[var as usize]);
+        }
+    }
+
+    // Gives the listed variables the values that they have in a given state.
+    pub(crate) fn turn_back(&mut self, net: &Net, list: &[u32], state: &[bool])
+        requires exact { IsExact net.now self.old }
+        requires inside { All (λ var. var < length (network_of net.now)) list.now }
+        requires state { length state.now ≡ length (network_of net.now) }
+        ensures exact { IsExact net.now self.new }
+        ensures input { self.new.input.items ≡ self.old.input.items }
+        ensures state { self.new.state.items ≡ taken_over state.now self.old.state.items list.now }
+        ensures untouched { KeepsUntouched self.old self.new }
+    {
+        for var in list {
+            self.turn(net, *var, state[*var as usize]);
         }
     }
 
@@ -73,6 +86,20 @@ impl Present {
     {
         for var in 0..net.len() {
             self.recheck(net, var);
+        }
+    }
+
+    // Gives a variable a value. Where it has it nothing is done.
+    fn turn(&mut self, net: &Net, var: u32, value: bool)
+        requires exact { IsExact net.now self.old }
+        requires var { var < length (network_of net.now) }
+        ensures exact { IsExact net.now self.new }
+        ensures input { self.new.input.items ≡ self.old.input.items }
+        ensures state { self.new.state.items ≡ slice_set self.old.state.items var value }
+        ensures untouched { KeepsUntouched self.old self.new }
+    {
+        if self.state[var as usize] != value {
+            self.advance(net, &[var]);
         }
     }
 

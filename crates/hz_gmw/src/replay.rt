@@ -5,13 +5,13 @@ ghost use Rattle.hz_gmw.specs.Runs.{IsStep};
 ghost use Rattle.hz_gmw.specs.Cycles.{IsNontransient};
 ghost use Rattle.hz_gmw.specs.Instability.{unstable_count};
 ghost use Rattle.hz_gmw.specs.Least.{IsLeastOf};
-ghost use Rattle.hz_gmw.specs.Replayed.{StandsFor, replayed_at, stepped_by};
+ghost use Rattle.hz_gmw.specs.Replayed.{StandsFor, replayed_at, begun_at, stepped_by};
 ghost use Rattle.hz_gmw.specs.ReplayFaults.{IsStepFault, IsCycleFault};
 ghost use Rattle.hz_gmw.specs.Presents.{taken_over};
 
 use crate::least::{least_differing, least_listed, least_outside, least_repeated};
 use crate::present::Present;
-use crate::variable_set::VariableSet;
+use crate::variable_set::{VariableSet, insert_each};
 use crate::{CycleFault, StepFault};
 use hz_core::Memory;
 use hz_net::Net;
@@ -23,13 +23,19 @@ use std::marker::Model;
 ///
 /// Numbers of variables are those of the network. The unstable variables are kept while steps are made: a step costs the
 /// variables that it changes and those that read them, a mark or the end of a cycle what changed since the mark and what
-/// is unstable; none of them costs the whole network. Only `new` takes memory.
+/// is unstable; none of them costs the whole network. `begin` does: it compares each input and each variable. Of many runs
+/// from one state the first begins there and each further one restarts, which costs what the run before it changed. Only
+/// `new` takes memory.
 #[derive(Debug, Drop)]
 pub struct Replay<'n> {
     net: &'n Net,
     present: Present,
     marked: Vec<bool>,
     stepped: bool,
+    // The state in which it began, and the variables that changed since.
+    begun: Vec<bool>,
+    moved: VariableSet,
+    // Room to find what a list repeats.
     named: VariableSet,
 }
 
@@ -48,7 +54,7 @@ impl<'n> Model for Replay<'n> {
 impl<'n> Replay<'n> {
     /// The present state, in which every input and every variable is 0, is marked.
     pub fn new(alloc: Global, net: &'n Net) -> Result<Replay<'n>, Memory>
-        ensures at { IfOk result (λ replay. replay ≡ replayed_at net.now (replicate net.now.inputs false) (replicate (length (network_of net.now)) false)) }
+        ensures at { IfOk result (λ replay. replay ≡ begun_at net.now (replicate net.now.inputs false) (replicate (length (network_of net.now)) false)) }
         ensures stands { IfOk result (λ replay. StandsFor replay []) }
     {
         let inputs = net.circuit().inputs() as usize;
@@ -62,8 +68,12 @@ impl<'n> Replay<'n> {
         let Ok(marked) = vec![in alloc; false; variables as usize] else {
             return Err(Memory);
         };
+        let Ok(begun) = vec![in alloc; false; variables as usize] else {
+            return Err(Memory);
+        };
         let unstable = VariableSet::new(alloc, variables)?;
         let touched = VariableSet::new(alloc, variables)?;
+        let moved = VariableSet::new(alloc, variables)?;
         let named = VariableSet::new(alloc, variables)?;
         let mut present = Present {
             input,
@@ -78,6 +88,8 @@ impl<'n> Replay<'n> {
             present,
             marked,
             stepped: false,
+            begun,
+            moved,
             named,
         })
     }
@@ -87,17 +99,31 @@ impl<'n> Replay<'n> {
     pub fn begin(&mut self, input: &[bool], state: &[bool])
         requires input { length input.now ≡ self.old.circuit.inputs }
         requires state { length state.now ≡ length (network_of self.old.circuit) }
-        ensures at { self.new ≡ replayed_at self.old.circuit input.now state.now }
+        ensures at { self.new ≡ begun_at self.old.circuit input.now state.now }
         ensures stands { StandsFor self.new [] }
     {
         self.present.turn_input(self.net, input);
         self.present.turn_to(self.net, state);
+        self.begun.as_mut_slice().copy_from_slice(state);
+        self.moved.clear();
+        self.mark();
+    }
+
+    /// Goes back to the state in which it began last, and marks it, with no step since. It costs what the steps since then
+    /// changed, not the whole network.
+    pub fn restart(&mut self)
+        ensures at { self.new ≡ begun_at self.old.circuit self.old.input self.old.begun }
+        ensures stands { StandsFor self.new [] }
+    {
+        self.present
+            .turn_back(self.net, self.moved.members(), self.begun.as_slice());
+        self.moved.clear();
         self.mark();
     }
 
     /// Marks the present state, with no step since.
     pub fn mark(&mut self)
-        ensures at { self.new ≡ replayed_at self.old.circuit self.old.input self.old.state }
+        ensures at { self.new ≡ replayed_at self.old.circuit self.old.input self.old.begun self.old.state }
         ensures stands { StandsFor self.new [] }
     {
         take_over(
@@ -122,6 +148,7 @@ impl<'n> Replay<'n> {
             return Err(fault);
         }
         self.present.advance(self.net, flips);
+        insert_each(&mut self.moved, flips);
         self.stepped = true;
         Ok(())
     }

@@ -59,7 +59,7 @@ fn idle(alloc: Global) -> Result<Circuit, Memory> {
     Ok(circuit)
 }
 
-// Both inputs of the latch fall. Its outputs race, and may race for ever.
+// Both inputs of the latch fall. Its outputs race, and may race for ever. Begun again, it sees the second input fall first.
 #[test]
 fn a_latch_races_around(rt: HostRuntime) -> Result<(), Fail> {
     let circuit = latch(rt.alloc())?;
@@ -84,6 +84,8 @@ fn a_latch_races_around(rt: HostRuntime) -> Result<(), Fail> {
     assert!(rt; follow(&mut replay, 8, &[&[5], &[2, 7], &[3], &[5], &[2, 7], &[3]]));
     assert!(rt; replay.close().is_ok());
     assert!(rt; !follow(&mut replay, 8, &[&[4]]));
+    replay.restart();
+    assert!(rt; follow(&mut replay, 8, &[&[1]]));
     Ok(())
 }
 

@@ -1,7 +1,8 @@
 //! Sets of variables.
-ghost use Rattle.std.specs.Prelude.{◌≡◌, ◌<◌, ◌^◌, Bool, true, false, length, replicate, slice_set, count_by, IfOk};
+ghost use Rattle.std.specs.Prelude.{◌≡◌, ◌<◌, ◌^◌, Bool, true, false, length, replicate, slice_set, count_by, IfOk, All};
 ghost use Rattle.hz_net.specs.Network.{bit_at};
 ghost use Rattle.hz_gmw.specs.VariableSets.{AreMembers};
+ghost use Rattle.hz_gmw.specs.Presents.{marked_with};
 
 use hz_core::Memory;
 use std::alloc::Global;
@@ -105,5 +106,15 @@ impl VariableSet {
         while let Some(var) = self.members.pop() {
             self.places[var as usize] = None;
         }
+    }
+}
+
+// Puts the listed variables into a set.
+pub(crate) fn insert_each(set: &mut VariableSet, list: &[u32])
+    requires { All (λ var. var < length set.old) list.now }
+    ensures { set.new ≡ marked_with set.old list.now }
+{
+    for var in list {
+        set.insert(*var);
     }
 }

@@ -3,7 +3,7 @@ ghost use Rattle.std.specs.Prelude.{◌≡◌, ◌≢◌, ◌+◌, ◌≤◌, le
 ghost use Rattle.hz_net.specs.Network.{network_of};
 ghost use Rattle.hz_net.specs.Passes.{excitations, join_each, algorithm_a, AreRounds, AreRanks};
 
-use crate::rounds::{differ, excite_all, join_all, know, note_unknown};
+use crate::rounds::{differ, excite_all, join_all, note_unknown, write_bits};
 use hz_core::Tri;
 use hz_net::Net;
 
@@ -32,7 +32,7 @@ pub fn spread(
     ensures bound { result ≤ length (network_of net.now) + 1 }
 {
     let _variables = net.len();
-    know(start, out);
+    write_bits(start, out);
     rank.fill(0);
     let mut rounds = 1;
     while widen(net, input, out, work) {

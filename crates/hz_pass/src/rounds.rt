@@ -9,7 +9,7 @@ use hz_core::Tri;
 use hz_net::Net;
 
 // Writes the values of known bits.
-pub(crate) fn know(bits: &[bool], values: &mut [Tri])
+pub(crate) fn write_bits(bits: &[bool], values: &mut [Tri])
     requires { length values.old ≡ length bits.now }
     ensures { values.new ≡ map tri_of bits.now }
 {

@@ -4,7 +4,7 @@ use Rattle.std.proofs.lemmas.Bool.{false_from_ne_true}
 use Rattle.hz_gmw.specs.Runs.{is_listed, RepeatsNone}
 use Rattle.hz_reach.specs.Picked.{picked}
 use Rattle.hz_reach.proofs.Listed.{listed-cases, repeats_none-append, repeats_none-bound}
-use Rattle.hz_reach.proofs.PickedLemmas.{is-one, picked-is}
+use Rattle.hz_reach.proofs.PickedLemmas.{is-one, picked-is, picked-last}
 
 pub mark-once : (marked : List ℕ) (var : ℕ) → RepeatsNone marked → ((i : ℕ) → is_listed marked i ≡ true → i < var) → RepeatsNone (marked ++ var ∷ [])
 mark-once marked var once below =
@@ -35,10 +35,10 @@ pub picked-more : (test : ℕ → Bool) (first count var : ℕ) → var ≡ firs
 picked-more test first count var next passes =
     let here : test (first + count) ≡ true = subst (λ (n : ℕ). test n ≡ true) next passes in
     ap (λ (n : ℕ). picked test first count ++ n ∷ []) next
-    ∙ (sym (ap (λ (b : Bool). picked test first count ++ cond b ((first + count) ∷ []) []) here) ∙ ap (picked test first) (sym (add-one count)))
+    ∙ (sym (ap (λ (b : Bool). picked test first count ++ cond b ((first + count) ∷ []) []) here) ∙ (sym (picked-last test first count) ∙ ap (picked test first) (sym (add-one count))))
 
 pub picked-skip : (test : ℕ → Bool) (first count var : ℕ) → var ≡ first + count → test var ≡ false → picked test first count ≡ picked test first (count + 1)
 picked-skip test first count var next fails =
     let here : test (first + count) ≡ false = subst (λ (n : ℕ). test n ≡ false) next fails in
     sym (append-nil (picked test first count))
-    ∙ (sym (ap (λ (b : Bool). picked test first count ++ cond b ((first + count) ∷ []) []) here) ∙ ap (picked test first) (sym (add-one count)))
+    ∙ (sym (ap (λ (b : Bool). picked test first count ++ cond b ((first + count) ∷ []) []) here) ∙ (sym (picked-last test first count) ∙ ap (picked test first) (sym (add-one count))))

@@ -1,5 +1,7 @@
 -- The variables that pass a test: which they are, and that none comes twice.
-use Rattle.std.proofs.Common.{◌≡◌, ◌≢◌, ℕ, zero, suc, ◌+◌, ◌<◌, Bool, true, false, cond, [], ◌∷◌, refl, ap, ◌∙◌, subst, arith, inl, inr, eqb}
+use Rattle.std.proofs.Common.{◌≡◌, ◌≢◌, ℕ, zero, suc, ◌+◌, ◌<◌, Bool, true, false, cond, List, [], ◌∷◌, ◌++◌, refl, sym, ap, ◌∙◌, subst, arith, inl, inr, eqb}
+use Rattle.std.specs.List.{filter, range_with_len}
+use Rattle.std.proofs.lemmas.List.Elements.{filter-append}
 use Rattle.std.proofs.lemmas.Bool.{cases_eq, both_ways, or_cases, eqb-true, eq-eqb, or_left, false_from_ne_true}
 use Rattle.hz_gmw.specs.Runs.{is_listed, RepeatsNone}
 use Rattle.hz_core.specs.Pattern.{differs}
@@ -12,6 +14,15 @@ only-one x i same = or_left (eqb i x) false (eq-eqb i x same)
 
 pub is-one : (x i : ℕ) → is_listed (x ∷ []) i ≡ true → i ≡ x
 is-one x i there = elim (or_cases (eqb i x) false there) [ inl same ↦ eqb-true i x same | inr none ↦ cc ]
+
+-- the last of the variables comes last, if it passes
+one-more : (first count last : ℕ) → first + count ≡ last → range_with_len first (suc count) ≡ range_with_len first count ++ last ∷ []
+one-more first zero last is = let same : first ≡ last = omega (arith, is) in ap (λ (n : ℕ). n ∷ []) same
+one-more first (suc count) last is = ap (λ (list : List ℕ). first ∷ list) (one-more (first + 1) count last (omega (arith, is)))
+
+pub picked-last : (test : ℕ → Bool) (first count : ℕ) → picked test first (suc count) ≡ picked test first count ++ cond (test (first + count)) ((first + count) ∷ []) []
+picked-last test first count =
+    ap (filter test) (one-more first count (first + count) refl) ∙ filter-append test (range_with_len first count) ((first + count) ∷ [])
 
 -- what is picked has a number from the first on, and passes the test
 pub record IsPicked (test : ℕ → Bool) (first count i : ℕ) : Type 0 where
@@ -27,7 +38,7 @@ one-listed false x i there = absurd (both_ways false refl there)
 pub picked-is : (test : ℕ → Bool) (first count i : ℕ) → is_listed (picked test first count) i ≡ true → IsPicked test first count i
 picked-is test first zero i there = absurd (both_ways false refl there)
 picked-is test first (suc count) i there =
-    elim (listed-cases (picked test first count) (cond (test (first + count)) ((first + count) ∷ []) []) i there) [
+    elim (listed-cases (picked test first count) (cond (test (first + count)) ((first + count) ∷ []) []) i (sym (ap (λ (list : List ℕ). is_listed list i) (picked-last test first count)) ∙ there)) [
       | inl before ↦ (
           let is = picked-is test first count i before in
           let few : is.place < count = is.few in
@@ -42,7 +53,8 @@ picked-is test first (suc count) i there =
 pub is-picked : (test : ℕ → Bool) (first count place : ℕ) → place < count → test (first + place) ≡ true → is_listed (picked test first count) (first + place) ≡ true
 is-picked test first zero place few passes = absurd (omega (arith, few))
 is-picked test first (suc count) place few passes =
-    elim (cases_eq place count) [
+    ap (λ (list : List ℕ). is_listed list (first + place)) (picked-last test first count)
+    ∙ elim (cases_eq place count) [
       | inl same ↦ (
           let here : is_listed (cond (test (first + place)) ((first + place) ∷ []) []) (first + place) ≡ true =
           rw passes (only-one (first + place) (first + place) refl) in
@@ -60,13 +72,14 @@ one-once false x = tt
 pub picked-once : (test : ℕ → Bool) (first count : ℕ) → RepeatsNone (picked test first count)
 picked-once test first zero = tt
 picked-once test first (suc count) =
-    repeats_none-append (picked test first count) (cond (test (first + count)) ((first + count) ∷ []) []) (picked-once test first count) (one-once (test (first + count)) (first + count))
+    subst RepeatsNone (sym (picked-last test first count))
+    (repeats_none-append (picked test first count) (cond (test (first + count)) ((first + count) ∷ []) []) (picked-once test first count) (one-once (test (first + count)) (first + count))
     (λ i there. false_from_ne_true _ (λ last.
     let is = picked-is test first count i there in
     let few : is.place < count = is.few in
     let here : i ≡ first + is.place = is.is in
     let again : i ≡ first + count = (one-listed (test (first + count)) (first + count) i last).0 in
-    absurd (omega arith)))
+    absurd (omega arith))))
 
 -- the test of two bits
 pub differs-true : (here there : Bool) → differs here there ≡ true → here ≢ there

@@ -31,9 +31,9 @@ pub record IsSpreadRun (net : List Driver) (input start : List Bool) (a : List T
   pub known : (i : ℕ) → IsKnown (value_at a i) → changes_in steps i ≡ 0
   pub unknown : (i : ℕ) → IsUnknown (value_at a i) → changes_in steps i ≡ 1
 
--- The spread run without the wires that it does not need: each node that is X in the result of Algorithm A changes
--- once, each wire that is X there at most once, and no other variable. A wire changes only where its source is earlier
--- than its gate, by rank and then by number.
+-- A spread run in which wires may stay: each node that is X in the result of Algorithm A changes once, each wire that is
+-- X there at most once, and no other variable. A wire changes only where its source is earlier than its gate, by rank and
+-- then by number.
 pub record IsSparingRun (net : List Driver) (input start : List Bool) (a : List Tri) (ranks : List ℕ) (steps : List (List ℕ)) : Type 0 where
   pub run : IsRun net input start steps
   pub known : (i : ℕ) → IsKnown (value_at a i) → changes_in steps i ≡ 0

@@ -169,14 +169,14 @@ fn mark_unchanged(net: &Net, start: &[bool], a: &[Tri], scratch: &mut Scratch)
     for wire in net.circuit().nodes()..net.len() {
         let place = wire as usize;
         let now = scratch.state()[place];
-        if is_left(a[place], start[place], now) {
+        if has_yet_to_change(a[place], start[place], now) {
             scratch.mark(wire);
         }
     }
 }
 
 // A variable is X in the result of Algorithm A and has not changed.
-fn is_left(value: Tri, start: bool, now: bool) -> bool
+fn has_yet_to_change(value: Tri, start: bool, now: bool) -> bool
     ensures { result ≡ (is_unknown value && not (differs start now)) }
 {
     match value {

@@ -1,5 +1,5 @@
 -- Decimal digits are read back.
-use Rattle.std.proofs.Common.{◌≡◌, ◌∙◌, ℕ, ◌+◌, ◌*◌, ◌-◌, ◌<◌, ◌≤◌, ◌^◌, true, false, ◌==◌, nat_le, List, [], ◌∷◌, length, get_or, refl, ap, arith, fold, decimal}
+use Rattle.std.proofs.Common.{◌≡◌, ◌∙◌, ℕ, ◌<◌, ◌≤◌, ◌^◌, true, false, ◌==◌, nat_le, List, [], ◌∷◌, length, get_or, refl, ap, arith, decimal}
 use Rattle.std.specs.List.{list_all}
 use Rattle.std.proofs.lemmas.Bool.Decides.{nat_tests}
 use Rattle.std.proofs.lemmas.Fmt.{decimal_is_IsNumeral, first_decimal}
@@ -7,10 +7,7 @@ use Rattle.std.proofs.lemmas.Str.Parse.{IsDigitsTest, FoldsDigits, IsNumeralMode
 use Rattle.hz_core.specs.Netlist.{is_name_byte}
 use Rattle.hz_line.proofs.WrittenLemmas.{both}
 use Rattle.hz_text.specs.RunStatement.{is_digit, is_decimal, number_by}
-
--- the number that digits stand for after a number before them
-abbrev number_after : ℕ → List ℕ → ℕ
-number_after number digits = fold (λ number digit. 10 * number + (digit - 48)) number digits
+use Rattle.hz_text.proofs.VariableLemmas.{number_after}
 
 digit_range : (byte : ℕ) → is_digit byte ≡ true → (48 ≤ byte) × (byte ≤ 57)
 digit_range byte h = let parts = both (nat_le 48 byte) (nat_le byte 57) h in (grind (arith, nat_tests, parts.0), grind (arith, nat_tests, parts.1))

@@ -1,113 +1,31 @@
 -- The first answer of the passes is the least fault.
-use Rattle.std.proofs.Common.{◌≡◌, ◌∙◌, ℕ, ◌+◌, ◌<◌, ◌≤◌, Bool, true, false, not, ◌||◌, cond, nat_eq, List, [], ◌∷◌, Option, Some, None, zero, suc, length, get_or, map, filter, refl, ap, sym, subst, inl, inr, arith, ltb, lit<}
+use Rattle.std.proofs.Common.{◌≡◌, ◌∙◌, ℕ, ◌+◌, ◌<◌, ◌≤◌, Bool, true, false, not, ◌||◌, cond, nat_eq, List, [], ◌∷◌, Option, Some, None, zero, suc, length, get_or, map, filter, refl, ap, sym, subst, inl, inr, arith, ltb}
 use Rattle.std.specs.List.{list_any, position, position_or_len}
-use Rattle.std.specs.Option.{option_map, MatchOption}
+use Rattle.std.specs.Option.{option_map}
 use Rattle.std.specs.Str.{bytes_eq}
 use Rattle.std.proofs.lemmas.List.Quantifiers.{position-Some}
 use Rattle.std.proofs.lemmas.Slice.Eq.{bytes_eq-Decides}
 use Rattle.std.proofs.lemmas.Bool.Decides.{nat_tests}
 use Rattle.std.proofs.lemmas.Bool.{cases_lt, ltb-false}
 use Rattle.std.specs.Prelude.{◌⊎◌}
-use Rattle.std.proofs.lemmas.Option.{same_Some, none-some}
+use Rattle.std.proofs.lemmas.Option.{same_Some}
 use Rattle.hz_core.specs.Netlist.{Netlist, node_named}
+use Rattle.hz_gmw.specs.Least.{IsLeastOf}
 use Rattle.hz_line.specs.Line.{lines_of}
 use Rattle.hz_line.specs.Statement.{Numbered, first_line, numbered_statements, first_malformed}
 use Rattle.hz_line.proofs.StatementLemmas.{Ascends, numbered_from-Ascends, PassesOn-above, first_line-Some, first_line-None, meaning_at-first, meaning_at-none, numbered_from-map, first_malformed-map}
 use Rattle.hz_text.specs.declared.assigned.Assigned.{Assigned}
 use Rattle.hz_text.specs.declared.keyword.Keyword.{Keyword}
 use Rattle.hz_text.specs.declared.keyword.Keyword.TheVariants.{Start, Change}
-use Rattle.hz_text.specs.declared.fault.TextFault.{TextFault}
-use Rattle.hz_text.specs.declared.fault.TextFault.TheVariants.{Form, Unknown, Twice, Missing, Bit, Order, TooMany, Memory}
+use Rattle.hz_text.specs.declared.fault.TextFault.TheVariants.{Form, Unknown, Twice, Missing, Bit, Order, TooMany}
 use Rattle.hz_text.specs.Assignment.{Assignment, has_repeat}
 use Rattle.hz_text.specs.Statement.{Statement, statement_of, statements_of}
 use Rattle.hz_text.specs.Lookup.{Looked, looked_of, looked_up, looked_by, assigned_of}
-use Rattle.hz_text.specs.ScriptFault.{looked_statements, is_unknown, has_unknown, has_twice, has_no_bit, is_start, assigns, IsMissing, IsOutOfOrder, line_beyond, Stands, ComesFirst, IsLeastFault, IsFaultless}
-use Rattle.hz_text.specs.Pass.{nodes_of, has_node_twice, least_unassigned, least_missing, first_out_of_order, last_beyond, first_of, first_fault}
+use Rattle.hz_text.specs.ScriptFault.{looked_statements, is_unknown, has_unknown, has_twice, has_no_bit, is_start, assigns, IsMissing, IsOutOfOrder, line_beyond, Stands, IsLeastFault}
+use Rattle.hz_text.specs.Pass.{nodes_of, has_node_twice, least_unassigned, least_missing, first_out_of_order, last_beyond, first_fault}
+use Rattle.hz_text.proofs.BuildLemmas.{or_parts}
+use Rattle.hz_text.proofs.LeastFault.{NoneBelow, Outcome, outcome-step, any_number, none_past, answers_first, option_or-None, answers_itself}
 use Rattle.hz_text.proofs.NodeLemmas.{marks_of, length-marks, get_or-marks}
-
--- no fault of this kind stands in the text
-abbrev pub NoneOf : Netlist → List ℕ → (ℕ → TextFault) → Type 0
-NoneOf netlist text kind = (place : ℕ) → Stands netlist text (kind place) → ⊥
-
-form-first : (netlist : Netlist) (text : List ℕ) (place : ℕ) → ((other : ℕ) → Stands netlist text (Form other) → place ≤ other) → (other : TextFault) → Stands netlist text other → ComesFirst (Form place) other
-form-first netlist text place least (Form other) p = inr (refl, least other p)
-form-first netlist text place least (Unknown other) p = inl (lit< tt)
-form-first netlist text place least (Twice other) p = inl (lit< tt)
-form-first netlist text place least (Missing other) p = inl (lit< tt)
-form-first netlist text place least (Bit other) p = inl (lit< tt)
-form-first netlist text place least (Order other) p = inl (lit< tt)
-form-first netlist text place least (TooMany other) p = inl (lit< tt)
-form-first netlist text place least Memory p = absurd p
-
-unknown-first : (netlist : Netlist) (text : List ℕ) (place : ℕ) → NoneOf netlist text Form → ((other : ℕ) → Stands netlist text (Unknown other) → place ≤ other) → (other : TextFault) → Stands netlist text other → ComesFirst (Unknown place) other
-unknown-first netlist text place no0 least (Form other) p = absurd (no0 other p)
-unknown-first netlist text place no0 least (Unknown other) p = inr (refl, least other p)
-unknown-first netlist text place no0 least (Twice other) p = inl (lit< tt)
-unknown-first netlist text place no0 least (Missing other) p = inl (lit< tt)
-unknown-first netlist text place no0 least (Bit other) p = inl (lit< tt)
-unknown-first netlist text place no0 least (Order other) p = inl (lit< tt)
-unknown-first netlist text place no0 least (TooMany other) p = inl (lit< tt)
-unknown-first netlist text place no0 least Memory p = absurd p
-
-twice-first : (netlist : Netlist) (text : List ℕ) (place : ℕ) → NoneOf netlist text Form → NoneOf netlist text Unknown → ((other : ℕ) → Stands netlist text (Twice other) → place ≤ other) → (other : TextFault) → Stands netlist text other → ComesFirst (Twice place) other
-twice-first netlist text place no0 no1 least (Form other) p = absurd (no0 other p)
-twice-first netlist text place no0 no1 least (Unknown other) p = absurd (no1 other p)
-twice-first netlist text place no0 no1 least (Twice other) p = inr (refl, least other p)
-twice-first netlist text place no0 no1 least (Missing other) p = inl (lit< tt)
-twice-first netlist text place no0 no1 least (Bit other) p = inl (lit< tt)
-twice-first netlist text place no0 no1 least (Order other) p = inl (lit< tt)
-twice-first netlist text place no0 no1 least (TooMany other) p = inl (lit< tt)
-twice-first netlist text place no0 no1 least Memory p = absurd p
-
-missing-first : (netlist : Netlist) (text : List ℕ) (place : ℕ) → NoneOf netlist text Form → NoneOf netlist text Unknown → NoneOf netlist text Twice → ((other : ℕ) → Stands netlist text (Missing other) → place ≤ other) → (other : TextFault) → Stands netlist text other → ComesFirst (Missing place) other
-missing-first netlist text place no0 no1 no2 least (Form other) p = absurd (no0 other p)
-missing-first netlist text place no0 no1 no2 least (Unknown other) p = absurd (no1 other p)
-missing-first netlist text place no0 no1 no2 least (Twice other) p = absurd (no2 other p)
-missing-first netlist text place no0 no1 no2 least (Missing other) p = inr (refl, least other p)
-missing-first netlist text place no0 no1 no2 least (Bit other) p = inl (lit< tt)
-missing-first netlist text place no0 no1 no2 least (Order other) p = inl (lit< tt)
-missing-first netlist text place no0 no1 no2 least (TooMany other) p = inl (lit< tt)
-missing-first netlist text place no0 no1 no2 least Memory p = absurd p
-
-bit-first : (netlist : Netlist) (text : List ℕ) (place : ℕ) → NoneOf netlist text Form → NoneOf netlist text Unknown → NoneOf netlist text Twice → NoneOf netlist text Missing → ((other : ℕ) → Stands netlist text (Bit other) → place ≤ other) → (other : TextFault) → Stands netlist text other → ComesFirst (Bit place) other
-bit-first netlist text place no0 no1 no2 no3 least (Form other) p = absurd (no0 other p)
-bit-first netlist text place no0 no1 no2 no3 least (Unknown other) p = absurd (no1 other p)
-bit-first netlist text place no0 no1 no2 no3 least (Twice other) p = absurd (no2 other p)
-bit-first netlist text place no0 no1 no2 no3 least (Missing other) p = absurd (no3 other p)
-bit-first netlist text place no0 no1 no2 no3 least (Bit other) p = inr (refl, least other p)
-bit-first netlist text place no0 no1 no2 no3 least (Order other) p = inl (lit< tt)
-bit-first netlist text place no0 no1 no2 no3 least (TooMany other) p = inl (lit< tt)
-bit-first netlist text place no0 no1 no2 no3 least Memory p = absurd p
-
-order-first : (netlist : Netlist) (text : List ℕ) (place : ℕ) → NoneOf netlist text Form → NoneOf netlist text Unknown → NoneOf netlist text Twice → NoneOf netlist text Missing → NoneOf netlist text Bit → ((other : ℕ) → Stands netlist text (Order other) → place ≤ other) → (other : TextFault) → Stands netlist text other → ComesFirst (Order place) other
-order-first netlist text place no0 no1 no2 no3 no4 least (Form other) p = absurd (no0 other p)
-order-first netlist text place no0 no1 no2 no3 no4 least (Unknown other) p = absurd (no1 other p)
-order-first netlist text place no0 no1 no2 no3 no4 least (Twice other) p = absurd (no2 other p)
-order-first netlist text place no0 no1 no2 no3 no4 least (Missing other) p = absurd (no3 other p)
-order-first netlist text place no0 no1 no2 no3 no4 least (Bit other) p = absurd (no4 other p)
-order-first netlist text place no0 no1 no2 no3 no4 least (Order other) p = inr (refl, least other p)
-order-first netlist text place no0 no1 no2 no3 no4 least (TooMany other) p = inl (lit< tt)
-order-first netlist text place no0 no1 no2 no3 no4 least Memory p = absurd p
-
-toomany-first : (netlist : Netlist) (text : List ℕ) (place : ℕ) → NoneOf netlist text Form → NoneOf netlist text Unknown → NoneOf netlist text Twice → NoneOf netlist text Missing → NoneOf netlist text Bit → NoneOf netlist text Order → ((other : ℕ) → Stands netlist text (TooMany other) → place ≤ other) → (other : TextFault) → Stands netlist text other → ComesFirst (TooMany place) other
-toomany-first netlist text place no0 no1 no2 no3 no4 no5 least (Form other) p = absurd (no0 other p)
-toomany-first netlist text place no0 no1 no2 no3 no4 no5 least (Unknown other) p = absurd (no1 other p)
-toomany-first netlist text place no0 no1 no2 no3 no4 no5 least (Twice other) p = absurd (no2 other p)
-toomany-first netlist text place no0 no1 no2 no3 no4 no5 least (Missing other) p = absurd (no3 other p)
-toomany-first netlist text place no0 no1 no2 no3 no4 no5 least (Bit other) p = absurd (no4 other p)
-toomany-first netlist text place no0 no1 no2 no3 no4 no5 least (Order other) p = absurd (no5 other p)
-toomany-first netlist text place no0 no1 no2 no3 no4 no5 least (TooMany other) p = inr (refl, least other p)
-toomany-first netlist text place no0 no1 no2 no3 no4 no5 least Memory p = absurd p
-
-faultless : (netlist : Netlist) (text : List ℕ) → NoneOf netlist text Form → NoneOf netlist text Unknown → NoneOf netlist text Twice → NoneOf netlist text Missing → NoneOf netlist text Bit → NoneOf netlist text Order → NoneOf netlist text TooMany → IsFaultless netlist text
-faultless netlist text no0 no1 no2 no3 no4 no5 no6 (Form place) p = no0 place p
-faultless netlist text no0 no1 no2 no3 no4 no5 no6 (Unknown place) p = no1 place p
-faultless netlist text no0 no1 no2 no3 no4 no5 no6 (Twice place) p = no2 place p
-faultless netlist text no0 no1 no2 no3 no4 no5 no6 (Missing place) p = no3 place p
-faultless netlist text no0 no1 no2 no3 no4 no5 no6 (Bit place) p = no4 place p
-faultless netlist text no0 no1 no2 no3 no4 no5 no6 (Order place) p = no5 place p
-faultless netlist text no0 no1 no2 no3 no4 no5 no6 (TooMany place) p = no6 place p
-faultless netlist text no0 no1 no2 no3 no4 no5 no6 Memory p = p
 
 -- the statements that the reader reads are those of the text, looked up
 pub looked_statements-read : (netlist : Netlist) (text : List ℕ) → numbered_statements (looked_by netlist) text ≡ looked_statements netlist text
@@ -119,36 +37,14 @@ looked-Ascends netlist text = subst (Ascends 1) (looked_statements-read netlist 
 formed : (netlist : Netlist) (text : List ℕ) (answer : Option ℕ) → first_malformed (looked_by netlist) 1 (lines_of text) ≡ answer → first_malformed statement_of 1 (lines_of text) ≡ answer
 formed netlist text answer e = sym (first_malformed-map (looked_of netlist) statement_of 1 (lines_of text)) ∙ e
 
+answers_malformed : (netlist : Netlist) (text : List ℕ) (answer : Option ℕ) → first_malformed (looked_by netlist) 1 (lines_of text) ≡ answer → IsLeastOf (λ line. Stands netlist text (Form line)) answer
+answers_malformed netlist text None e = meaning_at-none statement_of text (formed netlist text None e)
+answers_malformed netlist text (Some line) e = let at = meaning_at-first statement_of text line (formed netlist text (Some line) e) in record { here = at.0; least = at.1 }
+
 -- the first malformed line is the least fault
 pub form-least : (netlist : Netlist) (text : List ℕ) (line : ℕ) → first_malformed (looked_by netlist) 1 (lines_of text) ≡ Some line → IsLeastFault netlist text (Form line)
 form-least netlist text line e =
-    let at = meaning_at-first statement_of text line (formed netlist text (Some line) e) in
-    record { stands = at.0; first = form-first netlist text line at.1 }
-
-pub form-none : (netlist : Netlist) (text : List ℕ) → first_malformed (looked_by netlist) 1 (lines_of text) ≡ None → NoneOf netlist text Form
-form-none netlist text e = meaning_at-none statement_of text (formed netlist text None e)
-
--- what an answer says of the text
-abbrev pub Outcome : Netlist → List ℕ → Option TextFault → Type 0
-Outcome netlist text answer = MatchOption answer (IsFaultless netlist text) (IsLeastFault netlist text)
-
-outcome-unknown : (netlist : Netlist) (text : List ℕ) (answer : Option ℕ) (rest : Option TextFault) → NoneOf netlist text Form → first_line (has_unknown netlist.inputs) (looked_statements netlist text) ≡ answer → (first_line (has_unknown netlist.inputs) (looked_statements netlist text) ≡ None → Outcome netlist text rest) → Outcome netlist text (first_of (option_map Unknown answer) rest)
-outcome-unknown netlist text None rest no0 e next = next e
-outcome-unknown netlist text (Some line) rest no0 e next =
-    let h = first_line-Some (has_unknown netlist.inputs) (looked_statements netlist text) 1 line (looked-Ascends netlist text) e in
-    record { stands = h.passes; first = unknown-first netlist text line no0 h.least }
-
-outcome-twice : (netlist : Netlist) (text : List ℕ) (answer : Option ℕ) (rest : Option TextFault) → NoneOf netlist text Form → NoneOf netlist text Unknown → first_line has_twice (statements_of text) ≡ answer → (first_line has_twice (statements_of text) ≡ None → Outcome netlist text rest) → Outcome netlist text (first_of (option_map Twice answer) rest)
-outcome-twice netlist text None rest no0 no1 e next = next e
-outcome-twice netlist text (Some line) rest no0 no1 e next =
-    let h = first_line-Some has_twice (statements_of text) 1 line (numbered_from-Ascends statement_of 1 (lines_of text)) e in
-    record { stands = h.passes; first = twice-first netlist text line no0 no1 h.least }
-
-outcome-bit : (netlist : Netlist) (text : List ℕ) (answer : Option ℕ) (rest : Option TextFault) → NoneOf netlist text Form → NoneOf netlist text Unknown → NoneOf netlist text Twice → NoneOf netlist text Missing → first_line has_no_bit (looked_statements netlist text) ≡ answer → (first_line has_no_bit (looked_statements netlist text) ≡ None → Outcome netlist text rest) → Outcome netlist text (first_of (option_map Bit answer) rest)
-outcome-bit netlist text None rest no0 no1 no2 no3 e next = next e
-outcome-bit netlist text (Some line) rest no0 no1 no2 no3 e next =
-    let h = first_line-Some has_no_bit (looked_statements netlist text) 1 line (looked-Ascends netlist text) e in
-    record { stands = h.passes; first = bit-first netlist text line no0 no1 no2 no3 h.least }
+    outcome-step (Stands netlist text) Form 1 (Some line) None (λ place. (refl, refl, refl)) (any_number (Stands netlist text)) (answers_malformed netlist text (Some line) e) (λ w. let wrong : Some line ≡ None = w in cc)
 
 -- the first input that is not assigned
 pub record IsLeastUnassigned (inputs : ℕ) (all : List Assigned) (node : ℕ) : Type 0 where
@@ -215,11 +111,9 @@ missing-None : (inputs : ℕ) (statements : List (Numbered Looked)) → least_mi
 missing-None inputs [] e node p = p
 missing-None inputs (first ∷ later) e node p = true-false (sym (unassigned-None inputs first.statement.assigned (rw p.0 at e) node p.1) ∙ p.2)
 
-outcome-missing : (netlist : Netlist) (text : List ℕ) (answer : Option ℕ) (rest : Option TextFault) → NoneOf netlist text Form → NoneOf netlist text Unknown → NoneOf netlist text Twice → least_missing netlist.inputs (looked_statements netlist text) ≡ answer → (least_missing netlist.inputs (looked_statements netlist text) ≡ None → Outcome netlist text rest) → Outcome netlist text (first_of (option_map Missing answer) rest)
-outcome-missing netlist text None rest no0 no1 no2 e next = next e
-outcome-missing netlist text (Some node) rest no0 no1 no2 e next =
-    let h = missing-Some netlist.inputs (looked_statements netlist text) node e in
-    record { stands = h.0; first = missing-first netlist text node no0 no1 no2 h.1 }
+answers_missing : (inputs : ℕ) (statements : List (Numbered Looked)) (answer : Option ℕ) → least_missing inputs statements ≡ answer → IsLeastOf (IsMissing inputs statements) answer
+answers_missing inputs statements None e = missing-None inputs statements e
+answers_missing inputs statements (Some node) e = let at = missing-Some inputs statements node e in record { here = at.0; least = at.1 }
 
 order-Some : (statements : List (Numbered Looked)) (low line : ℕ) → Ascends low statements → first_out_of_order statements ≡ Some line → IsOutOfOrder statements line × ((other : ℕ) → IsOutOfOrder statements other → line ≤ other)
 order-Some [] low line h e = (sym (same_Some 0 line e), λ other p. omega (arith, same_Some 0 line e))
@@ -262,11 +156,9 @@ ordered-none (first ∷ later) h line (inl (inl at)) = true-false (sym at.1 ∙ 
 ordered-none (first ∷ later) h line (inl (inr none)) = none
 ordered-none (first ∷ later) h line (inr q) = first_line-None is_start later h.1 line q
 
-outcome-order : (netlist : Netlist) (text : List ℕ) (answer : Option ℕ) (rest : Option TextFault) → NoneOf netlist text Form → NoneOf netlist text Unknown → NoneOf netlist text Twice → NoneOf netlist text Missing → NoneOf netlist text Bit → first_out_of_order (looked_statements netlist text) ≡ answer → (first_out_of_order (looked_statements netlist text) ≡ None → Outcome netlist text rest) → Outcome netlist text (first_of (option_map Order answer) rest)
-outcome-order netlist text None rest no0 no1 no2 no3 no4 e next = next e
-outcome-order netlist text (Some line) rest no0 no1 no2 no3 no4 e next =
-    let h = order-Some (looked_statements netlist text) 1 line (looked-Ascends netlist text) e in
-    record { stands = h.0; first = order-first netlist text line no0 no1 no2 no3 no4 h.1 }
+answers_order : (statements : List (Numbered Looked)) (answer : Option ℕ) → Ascends 1 statements → first_out_of_order statements ≡ answer → IsLeastOf (IsOutOfOrder statements) answer
+answers_order statements None up e = ordered-none statements (order-None statements e)
+answers_order statements (Some line) up e = let at = order-Some statements 1 line up e in record { here = at.0; least = at.1 }
 
 filter-changes : (statements : List (Numbered Looked)) → first_line is_start statements ≡ None → filter (λ numbered. not (is_start numbered.statement)) statements ≡ statements
 filter-changes [] e = refl
@@ -280,12 +172,6 @@ pub line_beyond-ordered : (statements : List (Numbered Looked)) → IsOrdered st
 line_beyond-ordered [] h = absurd h
 line_beyond-ordered (first ∷ later) h =
     rw (h.0, filter-changes later h.1) refl
-
-outcome-beyond : (netlist : Netlist) (text : List ℕ) (answer : Option ℕ) → NoneOf netlist text Form → NoneOf netlist text Unknown → NoneOf netlist text Twice → NoneOf netlist text Missing → NoneOf netlist text Bit → NoneOf netlist text Order → line_beyond (looked_statements netlist text) ≡ answer → Outcome netlist text (option_map TooMany answer)
-outcome-beyond netlist text None no0 no1 no2 no3 no4 no5 e =
-    faultless netlist text no0 no1 no2 no3 no4 no5 (λ line p. none-some line (sym e ∙ p))
-outcome-beyond netlist text (Some line) no0 no1 no2 no3 no4 no5 e =
-    record { stands = e; first = toomany-first netlist text line no0 no1 no2 no3 no4 no5 (λ other p. omega (arith, same_Some line other (sym e ∙ p))) }
 
 -- names of nodes are equal where the nodes are
 pub name-eq : (netlist : Netlist) (a b : List ℕ) (i j : ℕ) → node_named netlist a ≡ Some i → node_named netlist b ≡ Some j → nat_eq i j ≡ bytes_eq a b
@@ -313,10 +199,6 @@ known inputs Start None e = cc
 known inputs Start (Some node) e = (node, refl)
 known inputs Change None e = cc
 known inputs Change (Some node) e = (node, refl)
-
-pub or_parts : (a b : Bool) → (a || b) ≡ false → (a ≡ false) × (b ≡ false)
-or_parts true b h = cc
-or_parts false b h = (refl, h)
 
 -- no name of these is unknown
 abbrev pub AllKnown : Netlist → Keyword → List Assignment → Type 0
@@ -361,24 +243,30 @@ twice-line netlist (first ∷ later) e =
         ∙ sym (first_line-cons has_twice first later)
 
 -- what the passes answer over the statements of a text without a malformed line
-pub first_fault-outcome : (netlist : Netlist) (text : List ℕ) → NoneOf netlist text Form → Outcome netlist text (first_fault netlist.inputs (looked_statements netlist text))
-first_fault-outcome netlist text no0 =
+passes-outcome : (netlist : Netlist) (text : List ℕ) → NoneBelow (Stands netlist text) 2 → Outcome (Stands netlist text) (first_fault netlist.inputs (looked_statements netlist text))
+passes-outcome netlist text below =
+    let stands = Stands netlist text in
+    let inputs = netlist.inputs in
     let looked = looked_statements netlist text in
-    outcome-unknown netlist text (first_line (has_unknown netlist.inputs) looked) _ no0 refl
-    (λ unknown.
-    let no1 : NoneOf netlist text Unknown = first_line-None (has_unknown netlist.inputs) looked unknown in
-    let same = twice-line netlist (statements_of text) unknown in
-    rw same (outcome-twice netlist text (first_line has_twice (statements_of text)) _ no0 no1 refl
-    (λ twice.
-    let no2 : NoneOf netlist text Twice = first_line-None has_twice (statements_of text) twice in
-    outcome-missing netlist text (least_missing netlist.inputs looked) _ no0 no1 no2 refl
-    (λ missing.
-    let no3 : NoneOf netlist text Missing = missing-None netlist.inputs looked missing in
-    outcome-bit netlist text (first_line has_no_bit looked) _ no0 no1 no2 no3 refl
-    (λ bit.
-    let no4 : NoneOf netlist text Bit = first_line-None has_no_bit looked bit in
-    outcome-order netlist text (first_out_of_order looked) _ no0 no1 no2 no3 no4 refl
-    (λ order.
-    let ordered = order-None looked order in
-    let no5 : NoneOf netlist text Order = ordered-none looked ordered in
-    outcome-beyond netlist text (last_beyond looked) no0 no1 no2 no3 no4 no5 (line_beyond-ordered looked ordered)))))))
+    let up = looked-Ascends netlist text in
+    let last : IsOrdered looked → NoneBelow stands 7 → Outcome stands (option_map TooMany (last_beyond looked)) = λ ordered below7.
+    let P : Option ℕ → Type 0 = λ answer. IsLeastOf (λ place. line_beyond looked ≡ Some place) answer in
+    subst (Outcome stands) (option_or-None (option_map TooMany (last_beyond looked)))
+    (outcome-step stands TooMany 7 (last_beyond looked) None (λ place. (refl, refl, refl)) below7
+    (subst P (line_beyond-ordered looked ordered) (answers_itself (line_beyond looked)))
+    (λ e below8. none_past stands (λ s. s) below8)) in
+    let order = λ (below6 : NoneBelow stands 6). outcome-step stands Order 6 (first_out_of_order looked) _ (λ place. (refl, refl, refl)) below6 (answers_order looked (first_out_of_order looked) up refl) (λ e. last (order-None looked e)) in
+    let bit = λ (below5 : NoneBelow stands 5). outcome-step stands Bit 5 (first_line has_no_bit looked) _ (λ place. (refl, refl, refl)) below5 (answers_first has_no_bit looked (first_line has_no_bit looked) up refl) (λ e. order) in
+    let missing = λ (below4 : NoneBelow stands 4). outcome-step stands Missing 4 (least_missing inputs looked) _ (λ place. (refl, refl, refl)) below4 (answers_missing inputs looked (least_missing inputs looked) refl) (λ e. bit) in
+    outcome-step stands Unknown 2 (first_line (has_unknown inputs) looked) _ (λ place. (refl, refl, refl)) below
+    (answers_first (has_unknown inputs) looked (first_line (has_unknown inputs) looked) up refl)
+    (λ known below3.
+    let same = twice-line netlist (statements_of text) known in
+    rw same (outcome-step stands Twice 3 (first_line has_twice (statements_of text)) _ (λ place. (refl, refl, refl)) below3
+    (answers_first has_twice (statements_of text) (first_line has_twice (statements_of text)) (numbered_from-Ascends statement_of 1 (lines_of text)) refl)
+    (λ e. missing)))
+
+-- where no line is malformed
+pub formed-outcome : (netlist : Netlist) (text : List ℕ) → first_malformed (looked_by netlist) 1 (lines_of text) ≡ None → Outcome (Stands netlist text) (first_fault netlist.inputs (looked_statements netlist text))
+formed-outcome netlist text formed =
+    outcome-step (Stands netlist text) Form 1 None _ (λ place. (refl, refl, refl)) (any_number (Stands netlist text)) (answers_malformed netlist text None formed) (λ e below. passes-outcome netlist text below)

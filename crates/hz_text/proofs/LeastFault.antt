@@ -1,34 +1,57 @@
 -- Passes that answer the least place of their kind, one after the other, answer the least fault.
-use Rattle.std.proofs.Common.{◌≡◌, ◌∙◌, ℕ, ◌+◌, ◌≤◌, Option, Some, None, refl, ap, sym, subst, inl, inr, arith, nat_le, Bool, true, false, cond}
-use Rattle.std.specs.Option.{option_map}
-use Rattle.std.specs.Prelude.{◌⊎◌}
+use Rattle.std.proofs.Common.{◌≡◌, ◌∙◌, ℕ, ◌+◌, ◌≤◌, List, Option, Some, None, refl, ap, sym, subst, inl, inr, arith, nat_le, Bool, true, false, cond}
+use Rattle.std.specs.Option.{option_map, option_or}
+use Rattle.std.specs.Prelude.{◌⊎◌, ◌==◌, if◌then◌else◌}
 use Rattle.std.proofs.lemmas.Bool.{cases_lt, cases_eq}
 use Rattle.std.proofs.lemmas.Bool.Decides.{nat_tests}
 use Rattle.std.proofs.lemmas.Option.{same_Some, none-some}
+use Rattle.hz_gmw.specs.Least.{IsLeastOf}
+use Rattle.hz_line.specs.Line.{lines_of}
+use Rattle.hz_line.specs.Token.{TokenOf}
+use Rattle.hz_line.specs.Statement.{Numbered, PassesOn, first_line, first_malformed}
+use Rattle.hz_line.proofs.StatementLemmas.{Ascends, first_line-Some, first_line-None}
 use Rattle.hz_text.specs.declared.fault.TextFault.{TextFault}
-use Rattle.hz_text.specs.ScriptFault.{number_of, place_of, ComesFirst}
-use Rattle.hz_text.specs.Pass.{first_of}
+use Rattle.hz_text.specs.declared.fault.TextFault.TheVariants.{Form, Unknown, Twice, Missing, Bit, Order, TooMany, Memory}
+use Rattle.hz_text.specs.ScriptFault.{number_of, place_of, ComesFirst, IsLeastFaultOf, IsLeastFaultOrMemory}
+use Rattle.hz_text.specs.Pass.{IsAnswer}
+use Rattle.hz_text.specs.Reading.{IsUnreadText}
 use Rattle.hz_text.specs.RunPass.{lesser}
-use Rattle.hz_text.proofs.ReadLaws.{fault_of, fault_of-back, both-first}
-
--- an answer is the least place with a property, if there is one
-abbrev pub Answers : (ℕ → Type 0) → Option ℕ → Type 0
-Answers holds None = (place : ℕ) → holds place → ⊥
-Answers holds (Some least) = holds least × ((place : ℕ) → holds place → least ≤ place)
 
 -- no fault with a number below this one stands
 abbrev pub NoneBelow : (TextFault → Type 0) → ℕ → Type 0
 NoneBelow stands number = (fault : TextFault) → stands fault → number ≤ number_of fault
 
--- a fault that stands and comes before each other that does
-pub record IsLeast (stands : TextFault → Type 0) (fault : TextFault) : Type 0 where
-  pub stands_here : stands fault
-  pub first : (other : TextFault) → stands other → ComesFirst fault other
-
 -- what an answer says: no fault stands, or this one is the least
 abbrev pub Outcome : (TextFault → Type 0) → Option TextFault → Type 0
 Outcome stands None = (fault : TextFault) → stands fault → ⊥
-Outcome stands (Some fault) = IsLeast stands fault
+Outcome stands (Some fault) = IsLeastFaultOf stands fault
+
+-- the fault with this number and place
+abbrev pub fault_of : ℕ → ℕ → TextFault
+fault_of number place =
+    if number == 1 then Form place
+    else (if number == 2 then Unknown place
+    else (if number == 3 then Twice place
+    else (if number == 4 then Missing place
+    else (if number == 5 then Bit place
+    else (if number == 6 then Order place
+    else (if number == 7 then TooMany place else Memory))))))
+
+pub fault_of-back : (fault : TextFault) → fault_of (number_of fault) (place_of fault) ≡ fault
+fault_of-back (Form line) = refl
+fault_of-back (Unknown line) = refl
+fault_of-back (Twice line) = refl
+fault_of-back (Missing node) = refl
+fault_of-back (Bit line) = refl
+fault_of-back (Order line) = refl
+fault_of-back (TooMany line) = refl
+fault_of-back Memory = refl
+
+pub both-first : (fault other : TextFault) → ComesFirst fault other → ComesFirst other fault → (number_of fault ≡ number_of other) × (place_of fault ≡ place_of other)
+both-first fault other (inl a) (inl b) = absurd (omega (arith, a, b))
+both-first fault other (inl a) (inr b) = absurd (omega (arith, a, b.0))
+both-first fault other (inr a) (inl b) = absurd (omega (arith, a.0, b))
+both-first fault other (inr a) (inr b) = (a.0, omega (arith, a.1, b.1))
 
 -- a fault by its number
 same_fault : (fault : TextFault) (number : ℕ) → number_of fault ≡ number → fault ≡ fault_of number (place_of fault)
@@ -38,8 +61,8 @@ same_fault fault number e = sym (fault_of-back fault) ∙ ap (λ n. fault_of n (
 pub outcome-step :
     (stands : TextFault → Type 0) (kind : ℕ → TextFault) (number : ℕ) (answer : Option ℕ) (rest : Option TextFault) →
     ((place : ℕ) → (number_of (kind place) ≡ number) × (place_of (kind place) ≡ place) × (kind place ≡ fault_of number place)) →
-    NoneBelow stands number → Answers (λ place. stands (kind place)) answer →
-    (answer ≡ None → NoneBelow stands (number + 1) → Outcome stands rest) → Outcome stands (first_of (option_map kind answer) rest)
+    NoneBelow stands number → IsLeastOf (λ place. stands (kind place)) answer →
+    (answer ≡ None → NoneBelow stands (number + 1) → Outcome stands rest) → Outcome stands (option_or (option_map kind answer) rest)
 outcome-step stands kind number None rest is below none next =
     next refl (λ fault s. elim (cases_eq (number_of fault) number) [
       | inl same ↦ absurd (none (place_of fault) (subst stands (same_fault fault number same ∙ sym (is (place_of fault)).2) s))
@@ -53,43 +76,107 @@ outcome-step stands kind number None rest is below none next =
     ]
 outcome-step stands kind number (Some place) rest is below least next =
     record {
-      stands_here = least.0;
+      stands = least.here;
       first = λ other s. elim (cases_lt number (number_of other)) [
         | inl l ↦ inl (omega (arith, l, (is place).0))
         | inr l ↦ (
             let same : number_of other ≡ number = omega (arith, l, below other s) in
-            let at = least.1 (place_of other) (subst stands (same_fault other number same ∙ sym (is (place_of other)).2) s) in
+            let at = least.least (place_of other) (subst stands (same_fault other number same ∙ sym (is (place_of other)).2) s) in
             inr (((is place).0 ∙ sym same), omega (arith, at, (is place).1))
             )
       ];
     }
 
-pub first_of-None : (answer : Option TextFault) → first_of answer None ≡ answer
-first_of-None None = refl
-first_of-None (Some fault) = refl
+pub any_number : (stands : TextFault → Type 0) → NoneBelow stands 1
+any_number stands (Form line) s = omega arith
+any_number stands (Unknown line) s = omega arith
+any_number stands (Twice line) s = omega arith
+any_number stands (Missing node) s = omega arith
+any_number stands (Bit line) s = omega arith
+any_number stands (Order line) s = omega arith
+any_number stands (TooMany line) s = omega arith
+any_number stands Memory s = omega arith
+
+-- no fault of a text has a greater number than the last
+pub none_past : (stands : TextFault → Type 0) → (stands Memory → ⊥) → NoneBelow stands 8 → Outcome stands None
+none_past stands never below Memory s = never s
+none_past stands never below (Form line) s = absurd (omega (arith, below (Form line) s))
+none_past stands never below (Unknown line) s = absurd (omega (arith, below (Unknown line) s))
+none_past stands never below (Twice line) s = absurd (omega (arith, below (Twice line) s))
+none_past stands never below (Missing node) s = absurd (omega (arith, below (Missing node) s))
+none_past stands never below (Bit line) s = absurd (omega (arith, below (Bit line) s))
+none_past stands never below (Order line) s = absurd (omega (arith, below (Order line) s))
+none_past stands never below (TooMany line) s = absurd (omega (arith, below (TooMany line) s))
+
+-- the first statement that passes a test is the least line of those that do
+pub answers_first : {S : Type 0} (test : S → Bool) (statements : List (Numbered S)) (answer : Option ℕ) → Ascends 1 statements → first_line test statements ≡ answer → IsLeastOf (PassesOn test statements) answer
+answers_first test statements None up e = first_line-None test statements e
+answers_first test statements (Some line) up e = let is = first_line-Some test statements 1 line up e in record { here = is.passes; least = is.least }
+
+pub option_or-None : (answer : Option TextFault) → option_or answer None ≡ answer
+option_or-None None = refl
+option_or-None (Some fault) = refl
 
 -- an equation has its own answer
-pub answers_itself : (answer : Option ℕ) → Answers (λ place. answer ≡ Some place) answer
+pub answers_itself : (answer : Option ℕ) → IsLeastOf (λ place. answer ≡ Some place) answer
 answers_itself None = λ place e. none-some place e
-answers_itself (Some least) = (refl, λ place e. omega (arith, same_Some least place e))
+answers_itself (Some least) = record { here = refl; least = λ place e. omega (arith, same_Some least place e) }
 
 -- the lesser of two answers
-pub answers_either : (first second : ℕ → Type 0) (a b : Option ℕ) → Answers first a → Answers second b → Answers (λ place. first place ⊎ second place) (lesser a b)
+pub answers_either : (first second : ℕ → Type 0) (a b : Option ℕ) → IsLeastOf first a → IsLeastOf second b → IsLeastOf (λ place. first place ⊎ second place) (lesser a b)
 answers_either first second None None p q = λ place h. elim h [ inl l ↦ p place l | inr r ↦ q place r ]
-answers_either first second None (Some b) p q = (inr q.0, λ place h. elim h [ inl l ↦ absurd (p place l) | inr r ↦ q.1 place r ])
-answers_either first second (Some a) None p q = (inl p.0, λ place h. elim h [ inl l ↦ p.1 place l | inr r ↦ absurd (q place r) ])
+answers_either first second None (Some b) p q = record { here = inr q.here; least = λ place h. elim h [ inl l ↦ absurd (p place l) | inr r ↦ q.least place r ] }
+answers_either first second (Some a) None p q = record { here = inl p.here; least = λ place h. elim h [ inl l ↦ p.least place l | inr r ↦ absurd (q place r) ] }
 answers_either first second (Some a) (Some b) p q = by_test (nat_le a b) refl
   where
-    by_test : (test : Bool) → nat_le a b ≡ test → Answers (λ place. first place ⊎ second place) (cond test (Some a) (Some b))
+    by_test : (test : Bool) → nat_le a b ≡ test → IsLeastOf (λ place. first place ⊎ second place) (cond test (Some a) (Some b))
     by_test true t =
         let low : a ≤ b = grind (arith, nat_tests, t) in
-        (inl p.0, λ place h. elim h [ inl l ↦ p.1 place l | inr r ↦ omega (arith, low, q.1 place r) ])
+        record { here = inl p.here; least = λ place h. elim h [ inl l ↦ p.least place l | inr r ↦ omega (arith, low, q.least place r) ] }
     by_test false t =
         let low : b ≤ a = grind (arith, nat_tests, t) in
-        (inr q.0, λ place h. elim h [ inl l ↦ omega (arith, low, p.1 place l) | inr r ↦ q.1 place r ])
+        record { here = inr q.here; least = λ place h. elim h [ inl l ↦ omega (arith, low, p.least place l) | inr r ↦ q.least place r ] }
 
 -- the least fault is one
-pub least-unique : (stands : TextFault → Type 0) (fault other : TextFault) → IsLeast stands fault → IsLeast stands other → fault ≡ other
+pub least-unique : (stands : TextFault → Type 0) (fault other : TextFault) → IsLeastFaultOf stands fault → IsLeastFaultOf stands other → fault ≡ other
 least-unique stands fault other a b =
-    let same = both-first fault other (a.first other b.stands_here) (b.first fault a.stands_here) in
+    let same = both-first fault other (a.first other b.stands) (b.first fault a.stands) in
     sym (fault_of-back fault) ∙ ap (λ number. fault_of number (place_of fault)) same.0 ∙ ap (fault_of (number_of other)) same.1 ∙ fault_of-back other
+
+-- the answer is the least fault, or want of memory
+pub exact : (stands : TextFault → Type 0) (fault other : TextFault) → IsLeastFaultOrMemory stands fault → IsLeastFaultOf stands other → (fault ≡ other) ⊎ (fault ≡ Memory)
+exact stands (Form line) other h l = inl (least-unique stands (Form line) other h l)
+exact stands (Unknown line) other h l = inl (least-unique stands (Unknown line) other h l)
+exact stands (Twice line) other h l = inl (least-unique stands (Twice line) other h l)
+exact stands (Missing node) other h l = inl (least-unique stands (Missing node) other h l)
+exact stands (Bit line) other h l = inl (least-unique stands (Bit line) other h l)
+exact stands (Order line) other h l = inl (least-unique stands (Order line) other h l)
+exact stands (TooMany line) other h l = inl (least-unique stands (TooMany line) other h l)
+exact stands Memory other h l = inr refl
+
+given : (stands : TextFault → Type 0) (answer : Option TextFault) (fault : TextFault) → Outcome stands answer → answer ≡ Some fault → IsLeastFaultOf stands fault
+given stands answer fault h e = let P : Option TextFault → Type 0 = Outcome stands in subst P e h
+
+-- what an answer of the passes says of the fault that it gives
+pub answered : (stands : TextFault → Type 0) (answer : Option TextFault) (fault : TextFault) → Outcome stands answer → IsAnswer answer fault → IsLeastFaultOrMemory stands fault
+answered stands answer (Form line) h a = absurd a
+answered stands answer (Unknown line) h a = given stands answer (Unknown line) h a
+answered stands answer (Twice line) h a = given stands answer (Twice line) h a
+answered stands answer (Missing node) h a = given stands answer (Missing node) h a
+answered stands answer (Bit line) h a = given stands answer (Bit line) h a
+answered stands answer (Order line) h a = given stands answer (Order line) h a
+answered stands answer (TooMany line) h a = given stands answer (TooMany line) h a
+answered stands answer Memory h a = tt
+
+-- a text that was not read, where its first malformed line is the least fault
+pub unread :
+    {S : Type 0} (grammar : List TokenOf → Option S) (text : List ℕ) (stands : TextFault → Type 0) (fault : TextFault) →
+    ((line : ℕ) → first_malformed grammar 1 (lines_of text) ≡ Some line → IsLeastFaultOf stands (Form line)) → IsUnreadText grammar text fault → IsLeastFaultOrMemory stands fault
+unread grammar text stands (Form line) least h = least line h
+unread grammar text stands (Unknown line) least h = absurd h
+unread grammar text stands (Twice line) least h = absurd h
+unread grammar text stands (Missing node) least h = absurd h
+unread grammar text stands (Bit line) least h = absurd h
+unread grammar text stands (Order line) least h = absurd h
+unread grammar text stands (TooMany line) least h = absurd h
+unread grammar text stands Memory least h = tt

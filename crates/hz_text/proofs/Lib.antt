@@ -1,4 +1,4 @@
-pub mod PieceLemmas
+pub mod PartLemmas
 pub mod ScriptLemmas
 pub mod NodeLemmas
 pub mod BuildLemmas
@@ -9,6 +9,7 @@ pub mod WordLaws
 pub mod PrintLaws
 pub mod VariableLemmas
 pub mod LeastFault
+pub mod BeyondLaws
 pub mod RunFaultLaws
 pub mod RunBuildLaws
 pub mod RunUsableLaws

@@ -1,14 +1,14 @@
 -- What holds of a text in which the passes find no fault.
 use Rattle.std.proofs.Common.{◌≡◌, ◌∙◌, ℕ, ◌<◌, ◌≤◌, Bool, true, false, ◌||◌, cond, nat_eq, nat_le, List, [], ◌∷◌, Option, Some, None, length, get_or, map, refl, ap, sym, subst, inl, inr, arith, zero-add}
 use Rattle.std.specs.List.{list_any, range_with_len, All}
-use Rattle.std.specs.Option.{option_map, IfSome, IsSome, IsSomeAnd, is_none}
+use Rattle.std.specs.Option.{option_map, option_or, IfSome, IsSome, IsSomeAnd, is_none}
 use Rattle.std.specs.Str.{bytes_eq}
 use Rattle.std.proofs.lemmas.List.Quantifiers.{position-Some}
 use Rattle.std.proofs.lemmas.List.Elements.{All-nil, All-cons, All-map, All-head, All-tail}
 use Rattle.std.proofs.lemmas.List.{get_or-map, length-map, length-take-le, get_or-take}
 use Rattle.std.proofs.lemmas.List.FromFn.{length-range_with_len, get_or-map-range_with_len}
 use Rattle.std.proofs.lemmas.Bool.{cases_lt}
-use Rattle.std.specs.Prelude.{◌⊎◌, ◌==◌, if◌then◌else◌}
+use Rattle.std.specs.Prelude.{◌⊎◌}
 use Rattle.std.proofs.lemmas.Bool.Decides.{nat_tests}
 use Rattle.std.proofs.lemmas.Option.{none-some, slice_get-get_or}
 use Rattle.hz_core.specs.Netlist.{Netlist, IsCircuit, node_named}
@@ -18,18 +18,19 @@ use Rattle.hz_text.specs.declared.entry.Entry.{Entry}
 use Rattle.hz_text.specs.declared.keyword.Keyword.{Keyword}
 use Rattle.hz_text.specs.declared.keyword.Keyword.TheVariants.{Start, Change}
 use Rattle.hz_text.specs.declared.fault.TextFault.{TextFault}
-use Rattle.hz_text.specs.declared.fault.TextFault.TheVariants.{Form, Unknown, Twice, Missing, Bit, Order, TooMany, Memory}
+use Rattle.hz_text.specs.declared.fault.TextFault.TheVariants.{Unknown, Twice, Missing, Bit, Order, TooMany}
 use Rattle.hz_text.specs.Assignment.{Assignment, has_repeat}
 use Rattle.hz_text.specs.Statement.{Statement, statements_of}
-use Rattle.hz_text.specs.Lookup.{Looked, looked_up, assigned_of, held_by, entered}
+use Rattle.hz_text.specs.Lookup.{Looked, looked_up, looked_by, assigned_of, held_by, entered}
 use Rattle.hz_text.specs.Reading.{IsRead, IsUnreadText}
-use Rattle.hz_text.specs.ScriptFault.{looked_statements, is_unknown, has_unknown, has_no_bit, is_start, is_start_word, is_node, assigns, IsLeastFault, ComesFirst, number_of, place_of}
-use Rattle.hz_text.specs.Pass.{nodes_of, has_node_twice, AreBelow, least_unassigned, least_missing, first_out_of_order, last_beyond, first_of, first_fault, IsAnswer, IsPair, IsSound}
+use Rattle.hz_text.specs.ScriptFault.{looked_statements, is_unknown, has_unknown, has_no_bit, is_start, is_start_word, is_node, assigns, Stands}
+use Rattle.hz_text.specs.Pass.{nodes_of, has_node_twice, AreBelow, least_unassigned, least_missing, first_out_of_order, last_beyond, first_fault, IsAnswer, IsPair, IsSound}
 use Rattle.hz_text.specs.ScriptValue.{ScriptOf, IsChange}
 use Rattle.hz_text.specs.ScriptText.{bit_at, assignment_to, IsScriptOf, IsScriptFor}
 use Rattle.hz_text.specs.ScriptReading.{IsAccepted, IsRefusal}
-use Rattle.hz_text.proofs.FaultLaws.{known, or_parts, first_line-cons, unassigned-None, order-None, IsOrdered, looked_statements-read, first_fault-outcome, form-none, form-least, Outcome}
-use Rattle.hz_text.proofs.BuildLemmas.{nodes_of-pairs, IsDistinct-from_repeat}
+use Rattle.hz_text.proofs.FaultLaws.{known, first_line-cons, unassigned-None, order-None, IsOrdered, looked_statements-read, formed-outcome, form-least}
+use Rattle.hz_text.proofs.LeastFault.{Outcome, answered, unread}
+use Rattle.hz_text.proofs.BuildLemmas.{or_parts, nodes_of-pairs, IsDistinct-from_repeat}
 
 -- no pass has an answer
 pub record IsClear (inputs : ℕ) (statements : List (Numbered Looked)) : Type 0 where
@@ -40,7 +41,7 @@ pub record IsClear (inputs : ℕ) (statements : List (Numbered Looked)) : Type 0
   pub order : first_out_of_order statements ≡ None
   pub few : last_beyond statements ≡ None
 
-pub none_parts : (kind : ℕ → TextFault) (answer : Option ℕ) (rest : Option TextFault) → first_of (option_map kind answer) rest ≡ None → (answer ≡ None) × (rest ≡ None)
+pub none_parts : (kind : ℕ → TextFault) (answer : Option ℕ) (rest : Option TextFault) → option_or (option_map kind answer) rest ≡ None → (answer ≡ None) × (rest ≡ None)
 none_parts kind None rest h = (refl, h)
 none_parts kind (Some place) rest h = cc
 
@@ -104,10 +105,10 @@ entries-below netlist statements entries e =
     All-unmap P entered entries (subst Q (sym e) (All-map P (looked_up netlist) statements (λ k d l. looked-below netlist _)))
 
 -- what was read is looked up
-pub read-looked : (netlist : Netlist) (text : List ℕ) (entries : List Entry) → IsRead netlist text entries → map entered entries ≡ looked_statements netlist text
+pub read-looked : (netlist : Netlist) (text : List ℕ) (entries : List Entry) → IsRead (looked_by netlist) text (map entered entries) → map entered entries ≡ looked_statements netlist text
 read-looked netlist text entries h = sym h.statements ∙ looked_statements-read netlist text
 
-pub read-below : (netlist : Netlist) (text : List ℕ) (entries : List Entry) → IsRead netlist text entries → All (λ entry. AreBelow (length netlist.names) entry.held.assigned.items) entries
+pub read-below : (netlist : Netlist) (text : List ℕ) (entries : List Entry) → IsRead (looked_by netlist) text (map entered entries) → All (λ entry. AreBelow (length netlist.names) entry.held.assigned.items) entries
 read-below netlist text entries h = entries-below netlist (statements_of text) entries (read-looked netlist text entries h)
 
 pub entries-sound : (inputs nodes : ℕ) (entries : List Entry) → IsClear inputs (map entered entries) → All (λ entry. AreBelow nodes entry.held.assigned.items) entries → All (λ entry. IsSound nodes (held_by entry.held)) entries
@@ -121,34 +122,17 @@ entries-sound inputs nodes entries h below =
     λ k d l. record { pairs = pairs-sound inputs nodes (get_or entries k d).held.keyword _ (u k d l) (b k d l) (below k d l); fresh = t k d l }
 
 -- why a text was not read, as a refusal
-pub refusal-read : (netlist : Netlist) (text : List ℕ) (fault : TextFault) → IsUnreadText netlist text fault → IsRefusal netlist text fault
-refusal-read netlist text (Form line) h = form-least netlist text line h
-refusal-read netlist text (Unknown line) h = absurd h
-refusal-read netlist text (Twice line) h = absurd h
-refusal-read netlist text (Missing node) h = absurd h
-refusal-read netlist text (Bit line) h = absurd h
-refusal-read netlist text (Order line) h = absurd h
-refusal-read netlist text (TooMany line) h = absurd h
-refusal-read netlist text Memory h = tt
+pub refusal-read : (netlist : Netlist) (text : List ℕ) (fault : TextFault) → IsUnreadText (looked_by netlist) text fault → IsRefusal netlist text fault
+refusal-read netlist text fault h = unread (looked_by netlist) text (Stands netlist text) fault (form-least netlist text) h
 
-read-outcome : (netlist : Netlist) (text : List ℕ) (entries : List Entry) → IsRead netlist text entries → Outcome netlist text (first_fault netlist.inputs (map entered entries))
+read-outcome : (netlist : Netlist) (text : List ℕ) (entries : List Entry) → IsRead (looked_by netlist) text (map entered entries) → Outcome (Stands netlist text) (first_fault netlist.inputs (map entered entries))
 read-outcome netlist text entries h =
-    let P : List (Numbered Looked) → Type 0 = λ statements. Outcome netlist text (first_fault netlist.inputs statements) in
-    subst P (sym (read-looked netlist text entries h)) (first_fault-outcome netlist text (form-none netlist text h.formed))
-
-answered : (netlist : Netlist) (text : List ℕ) (answer : Option TextFault) (fault : TextFault) → Outcome netlist text answer → answer ≡ Some fault → IsLeastFault netlist text fault
-answered netlist text answer fault h e = let P : Option TextFault → Type 0 = Outcome netlist text in subst P e h
+    let P : List (Numbered Looked) → Type 0 = λ statements. Outcome (Stands netlist text) (first_fault netlist.inputs statements) in
+    subst P (sym (read-looked netlist text entries h)) (formed-outcome netlist text h.formed)
 
 -- what the check answered, as a refusal
-pub refusal-check : (netlist : Netlist) (text : List ℕ) (entries : List Entry) (fault : TextFault) → IsRead netlist text entries → IsAnswer (first_fault netlist.inputs (map entered entries)) fault → IsRefusal netlist text fault
-refusal-check netlist text entries (Form line) h a = absurd a
-refusal-check netlist text entries (Unknown line) h a = answered netlist text _ (Unknown line) (read-outcome netlist text entries h) a
-refusal-check netlist text entries (Twice line) h a = answered netlist text _ (Twice line) (read-outcome netlist text entries h) a
-refusal-check netlist text entries (Missing node) h a = answered netlist text _ (Missing node) (read-outcome netlist text entries h) a
-refusal-check netlist text entries (Bit line) h a = answered netlist text _ (Bit line) (read-outcome netlist text entries h) a
-refusal-check netlist text entries (Order line) h a = answered netlist text _ (Order line) (read-outcome netlist text entries h) a
-refusal-check netlist text entries (TooMany line) h a = answered netlist text _ (TooMany line) (read-outcome netlist text entries h) a
-refusal-check netlist text entries Memory h a = tt
+pub refusal-check : (netlist : Netlist) (text : List ℕ) (entries : List Entry) (fault : TextFault) → IsRead (looked_by netlist) text (map entered entries) → IsAnswer (first_fault netlist.inputs (map entered entries)) fault → IsRefusal netlist text fault
+refusal-check netlist text entries fault h a = answered (Stands netlist text) _ fault (read-outcome netlist text entries h) a
 
 ordered-some : (statements : List (Numbered Looked)) → IsOrdered statements → 0 < length statements
 ordered-some [] h = absurd h
@@ -164,9 +148,9 @@ short statements e = by_place (cases_lt 10001 (length statements))
     by_place (inl more) = let wrong = ap (option_map (λ (numbered : Numbered Looked). numbered.line)) (slice_get-get_or statements 10001 nothing more) in absurd (none-some _ (sym e ∙ wrong))
     by_place (inr few) = few
 
-pub is_none-Some : (bit : Option Bool) → is_none bit ≡ false → IsSome bit
+pub is_none-Some : {X : Type 0} (value : Option X) → is_none value ≡ false → IsSome value
 is_none-Some None h = cc
-is_none-Some (Some bit) h = refl
+is_none-Some (Some value) h = refl
 
 pub bit-some : (all : List Assigned) (node : ℕ) → assigns all node ≡ true → list_any (λ assigned. is_none assigned.bit) all ≡ false → IsSome (bit_at all node)
 bit-some [] node a b = cc
@@ -226,14 +210,14 @@ usable netlist (first ∷ later) script whole h below is =
       few = omega (arith, many, short (first ∷ later) h.few);
     }
 
-pub accepted : (netlist : Netlist) (text : List ℕ) (entries : List Entry) → IsCircuit netlist → IsRead netlist text entries → first_fault netlist.inputs (map entered entries) ≡ None → IsAccepted netlist text entries
+pub accepted : (netlist : Netlist) (text : List ℕ) (entries : List Entry) → IsCircuit netlist → IsRead (looked_by netlist) text (map entered entries) → first_fault netlist.inputs (map entered entries) ≡ None → IsAccepted netlist text entries
 accepted netlist text entries whole h e =
     let clear = clear-from netlist.inputs (map entered entries) e in
     let looked = read-looked netlist text entries h in
     let below = read-below netlist text entries h in
     let many = length-map entries entered in
     let P : List (Numbered Looked) → Type 0 = λ statements. (script : ScriptOf) → IsScriptOf (length netlist.names) statements script → IsScriptFor netlist script in
-    let Q : Option TextFault → Type 0 = Outcome netlist text in
+    let Q : Option TextFault → Type 0 = Outcome (Stands netlist text) in
     record {
       statements = looked;
       some = omega (arith, many, ordered-some (map entered entries) (order-None (map entered entries) clear.order));
@@ -242,46 +226,3 @@ accepted netlist text entries whole h e =
       faultless = subst Q e (read-outcome netlist text entries h);
       usable = subst P looked (λ script is. usable netlist (map entered entries) script whole clear (All-map (λ (numbered : Numbered Looked). AreBelow (length netlist.names) numbered.statement.assigned) entered entries below) is);
     }
-
--- the fault with this number and place
-abbrev pub fault_of : ℕ → ℕ → TextFault
-fault_of number place =
-    if number == 1 then Form place
-    else (if number == 2 then Unknown place
-    else (if number == 3 then Twice place
-    else (if number == 4 then Missing place
-    else (if number == 5 then Bit place
-    else (if number == 6 then Order place
-    else (if number == 7 then TooMany place else Memory))))))
-
-pub fault_of-back : (fault : TextFault) → fault_of (number_of fault) (place_of fault) ≡ fault
-fault_of-back (Form line) = refl
-fault_of-back (Unknown line) = refl
-fault_of-back (Twice line) = refl
-fault_of-back (Missing node) = refl
-fault_of-back (Bit line) = refl
-fault_of-back (Order line) = refl
-fault_of-back (TooMany line) = refl
-fault_of-back Memory = refl
-
-pub both-first : (fault other : TextFault) → ComesFirst fault other → ComesFirst other fault → (number_of fault ≡ number_of other) × (place_of fault ≡ place_of other)
-both-first fault other (inl a) (inl b) = absurd (omega (arith, a, b))
-both-first fault other (inl a) (inr b) = absurd (omega (arith, a, b.0))
-both-first fault other (inr a) (inl b) = absurd (omega (arith, a.0, b))
-both-first fault other (inr a) (inr b) = (a.0, omega (arith, a.1, b.1))
-
--- the least fault is one
-least-unique : (netlist : Netlist) (text : List ℕ) (fault other : TextFault) → IsLeastFault netlist text fault → IsLeastFault netlist text other → fault ≡ other
-least-unique netlist text fault other a b =
-    let same = both-first fault other (a.first other b.stands) (b.first fault a.stands) in
-    sym (fault_of-back fault) ∙ ap (λ number. fault_of number (place_of fault)) same.0 ∙ ap (fault_of (number_of other)) same.1 ∙ fault_of-back other
-
-pub refusal-exact : (netlist : Netlist) (text : List ℕ) (fault other : TextFault) → IsRefusal netlist text fault → IsLeastFault netlist text other → (fault ≡ other) ⊎ (fault ≡ Memory)
-refusal-exact netlist text (Form line) other h l = inl (least-unique netlist text (Form line) other h l)
-refusal-exact netlist text (Unknown line) other h l = inl (least-unique netlist text (Unknown line) other h l)
-refusal-exact netlist text (Twice line) other h l = inl (least-unique netlist text (Twice line) other h l)
-refusal-exact netlist text (Missing node) other h l = inl (least-unique netlist text (Missing node) other h l)
-refusal-exact netlist text (Bit line) other h l = inl (least-unique netlist text (Bit line) other h l)
-refusal-exact netlist text (Order line) other h l = inl (least-unique netlist text (Order line) other h l)
-refusal-exact netlist text (TooMany line) other h l = inl (least-unique netlist text (TooMany line) other h l)
-refusal-exact netlist text Memory other h l = inr refl

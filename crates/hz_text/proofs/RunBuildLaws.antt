@@ -1,5 +1,5 @@
 -- Runs that are built statement by statement, and the front of a run text in order.
-use Rattle.std.proofs.Common.{◌≡◌, ◌∙◌, ℕ, ◌+◌, ◌<◌, ◌≤◌, Bool, true, false, ◌||◌, cond, nat_le, List, [], ◌∷◌, ◌++◌, Option, Some, None, zero, suc, length, get_or, set, drop, map, refl, ap, sym, subst, arith, append_assoc, zero-add}
+use Rattle.std.proofs.Common.{◌≡◌, ◌∙◌, ℕ, ◌+◌, ◌<◌, ◌≤◌, Bool, true, false, cond, nat_le, List, [], ◌∷◌, ◌++◌, Option, Some, None, zero, suc, length, get_or, set, drop, map, refl, ap, sym, subst, arith, append_assoc, zero-add}
 use Rattle.std.specs.List.{list_any, flat_map, filter_map, range_with_len, All}
 use Rattle.std.specs.Option.{IsSome, IfSome, is_none, option_map_or}
 use Rattle.std.proofs.lemmas.Bool.Decides.{nat_tests}
@@ -21,15 +21,14 @@ use Rattle.hz_text.specs.RunStatement.{Header, Start, Input, Run, Step, Cycle, E
 use Rattle.hz_text.specs.RunLookup.{LookedRun, run_entered, run_entered_all, run_held_by}
 use Rattle.hz_text.specs.RunValue.{RunOf, with_step_in, with_step}
 use Rattle.hz_text.specs.RunFault.{assignments_in, variables_in, names_unknown, lacks_bit, is_header, is_start_line, is_input_line, is_end, place_after, end_out_of_order, runs_out_of_order, out_of_order_with, start_out_of_order, input_out_of_order, run_out_of_order, first_start, first_input}
-use Rattle.hz_text.specs.RunPass.{AssignsBelow, names_node_twice, least_left_out}
+use Rattle.hz_text.specs.RunPass.{beyond_from, AssignsBelow, names_node_twice, least_left_out}
 use Rattle.hz_text.specs.RunText.{step_of, run_statements, unnumbered}
 use Rattle.hz_text.specs.RunBuilt.{IsWholeStart, place_in, last_place, IsRunAdded}
 use Rattle.hz_text.proofs.FaultLaws.{unassigned-None}
-use Rattle.hz_text.proofs.BuildLemmas.{pairs_back}
+use Rattle.hz_text.proofs.BuildLemmas.{or_parts, pairs_back}
 use Rattle.hz_text.specs.declared.fault.TextFault.TheVariants as fault
-use Rattle.hz_text.specs.RunFault.{beyond_from}
 use Rattle.hz_text.specs.RunPass.{lesser, least_missing_node, first_run_fault}
-use Rattle.hz_text.proofs.ReadLaws.{bit-some, pairs-sound, none_parts, none_last, All-unmap, All-from_first_line}
+use Rattle.hz_text.proofs.ReadLaws.{is_none-Some, bit-some, pairs-sound, none_parts, none_last, All-unmap, All-from_first_line}
 
 -- one run more, after the last
 last_place-push : (old : List RunOf) (run : RunOf) → last_place (old ++ run ∷ []) ≡ place_in run.cycle
@@ -258,13 +257,9 @@ framed header start input later e =
 inputs-below : (inputs : ℕ) (all : List Assigned) → list_any (λ one. is_unknown inputs keyword.Change one.node) all ≡ false → AreBelow inputs all
 inputs-below inputs [] e = All-nil _
 inputs-below inputs (first ∷ later) e =
-    let parts = either_false (is_unknown inputs keyword.Change first.node) _ e in
+    let parts = or_parts (is_unknown inputs keyword.Change first.node) _ e in
     All-cons (λ (one : Assigned). IfSome one.node (λ node. node < inputs)) first later (at first.node parts.0) (inputs-below inputs later parts.1)
   where
-    either_false : (a b : Bool) → (a || b) ≡ false → (a ≡ false) × (b ≡ false)
-    either_false true b h = cc
-    either_false false b h = (refl, h)
-
     at : (node : Option ℕ) → is_unknown inputs keyword.Change node ≡ false → IfSome node (λ node. node < inputs)
     at None h = tt
     at (Some node) h = grind (arith, nat_tests, h)
@@ -304,6 +299,13 @@ known_variables inputs Run e = refl
 known_variables inputs (Step variables) e = e
 known_variables inputs Cycle e = refl
 known_variables inputs End e = refl
+
+-- values of which none is missing are all there
+pub all_known : {X : Type 0} (values : List (Option X)) → list_any is_none values ≡ false → All IsSome values
+all_known [] e = All-nil _
+all_known (first ∷ later) e =
+    let parts = or_parts (is_none first) (list_any is_none later) e in
+    All-cons IsSome first later (is_none-Some first parts.0) (all_known later parts.1)
 
 -- no pass has an answer
 pub record IsClearRun (netlist : Netlist) (statements : List (Numbered LookedRun)) : Type 0 where

@@ -1,27 +1,28 @@
 -- The first answer of the passes over a run text is its least fault.
-use Rattle.std.proofs.Common.{◌≡◌, ◌∙◌, ℕ, Bool, true, false, cond, List, [], ◌∷◌, Option, Some, None, length, map, refl, ap, sym, subst, inl, inr, arith}
-use Rattle.std.specs.Prelude.{◌⊎◌}
+use Rattle.std.proofs.Common.{◌≡◌, ◌∙◌, ℕ, Bool, true, false, cond, List, [], ◌∷◌, Option, Some, None, length, map, refl, ap, sym, subst}
 use Rattle.std.specs.Option.{option_map}
 use Rattle.hz_core.specs.Netlist.{Netlist}
+use Rattle.hz_gmw.specs.Least.{IsLeastOf}
 use Rattle.hz_line.specs.Line.{lines_of}
-use Rattle.hz_line.specs.Statement.{Numbered, PassesOn, first_line, numbered_statements, first_malformed}
-use Rattle.hz_line.proofs.StatementLemmas.{Ascends, numbered_from-Ascends, first_line-Some, first_line-None, meaning_at-first, meaning_at-none, numbered_from-map, first_malformed-map}
+use Rattle.hz_line.specs.Statement.{Numbered, first_line, numbered_statements, first_malformed}
+use Rattle.hz_line.proofs.StatementLemmas.{Ascends, numbered_from-Ascends, meaning_at-first, meaning_at-none, numbered_from-map, first_malformed-map}
 use Rattle.hz_text.specs.declared.assigned.Assigned.{Assigned}
 use Rattle.hz_text.specs.declared.keyword.Keyword.TheVariants as keyword
 use Rattle.hz_text.specs.declared.fault.TextFault.{TextFault}
-use Rattle.hz_text.specs.declared.fault.TextFault.TheVariants.{Form, Unknown, Twice, Missing, Bit, Order, TooMany, Memory}
+use Rattle.hz_text.specs.declared.fault.TextFault.TheVariants.{Form, Unknown, Twice, Missing, Bit, Order, TooMany}
 use Rattle.hz_text.specs.declared.run_entry.RunEntry.{RunEntry}
 use Rattle.hz_text.specs.Pass.{least_unassigned, AreBelow, IsAnswer}
 use Rattle.hz_text.specs.RunStatement.{Header, Start, Input, Run, Step, Cycle, End, RunStatement, run_statement_of, run_statements_of}
 use Rattle.hz_text.specs.RunLookup.{LookedRun, run_looked_of, run_looked_up, run_looked_by, run_entered, run_entered_all}
-use Rattle.hz_text.specs.RunReading.{IsReadRun, IsUnreadRun}
-use Rattle.hz_text.specs.RunFault.{looked_run_statements, assignments_in, names_unknown, names_twice, lacks_bit, first_start, first_input, LeavesOut, run_out_of_order, beyond_from, StandsInRuns, IsLeastRunFault, IsRunFaultless, IsRunRefusal}
-use Rattle.hz_text.specs.RunPass.{names_node_twice, AssignsBelow, least_left_out, least_missing_node, first_run_fault}
+use Rattle.hz_text.specs.Reading.{IsRead, IsUnreadText}
+use Rattle.hz_text.specs.RunFault.{looked_run_statements, assignments_in, names_unknown, names_twice, lacks_bit, first_start, first_input, LeavesOut, run_out_of_order, StandsInRuns, IsLeastRunFault, IsRunFaultless, IsRunRefusal}
+use Rattle.hz_text.specs.RunPass.{names_node_twice, AssignsBelow, least_left_out, least_missing_node, beyond_from, first_run_fault}
 use Rattle.hz_text.proofs.FaultLaws.{first_line-cons, unassigned-Some, unassigned-None, twice-names, true-false}
 use Rattle.hz_text.proofs.ReadLaws.{looked-below, All-unmap}
 use Rattle.std.proofs.lemmas.List.Elements.{All-nil, All-map}
 use Rattle.std.specs.List.{All}
-use Rattle.hz_text.proofs.LeastFault.{Answers, NoneBelow, IsLeast, Outcome, outcome-step, first_of-None, answers_itself, answers_either, least-unique}
+use Rattle.hz_text.proofs.BeyondLaws.{answers_beyond}
+use Rattle.hz_text.proofs.LeastFault.{NoneBelow, Outcome, outcome-step, any_number, none_past, answers_first, option_or-None, answers_itself, answers_either, answered, unread}
 
 -- the statements that the reader reads are those of the text, looked up
 pub looked_runs-read : (netlist : Netlist) (text : List ℕ) → numbered_statements (run_looked_by netlist) text ≡ looked_run_statements netlist text
@@ -33,23 +34,18 @@ looked_runs-Ascends netlist text = subst (Ascends 1) (looked_runs-read netlist t
 runs-formed : (netlist : Netlist) (text : List ℕ) (answer : Option ℕ) → first_malformed (run_looked_by netlist) 1 (lines_of text) ≡ answer → first_malformed run_statement_of 1 (lines_of text) ≡ answer
 runs-formed netlist text answer e = sym (first_malformed-map (run_looked_of netlist) run_statement_of 1 (lines_of text)) ∙ e
 
--- the first statement that passes a test is the least line of those that do
-answers_first : {S : Type 0} (test : S → Bool) (statements : List (Numbered S)) (answer : Option ℕ) → Ascends 1 statements → first_line test statements ≡ answer → Answers (PassesOn test statements) answer
-answers_first test statements None up e = first_line-None test statements e
-answers_first test statements (Some line) up e = let is = first_line-Some test statements 1 line up e in (is.passes, is.least)
-
-answers_malformed : (netlist : Netlist) (text : List ℕ) (answer : Option ℕ) → first_malformed (run_looked_by netlist) 1 (lines_of text) ≡ answer → Answers (λ line. StandsInRuns netlist text (Form line)) answer
+answers_malformed : (netlist : Netlist) (text : List ℕ) (answer : Option ℕ) → first_malformed (run_looked_by netlist) 1 (lines_of text) ≡ answer → IsLeastOf (λ line. StandsInRuns netlist text (Form line)) answer
 answers_malformed netlist text None e = meaning_at-none run_statement_of text (runs-formed netlist text None e)
-answers_malformed netlist text (Some line) e = meaning_at-first run_statement_of text line (runs-formed netlist text (Some line) e)
+answers_malformed netlist text (Some line) e = let at = meaning_at-first run_statement_of text line (runs-formed netlist text (Some line) e) in record { here = at.0; least = at.1 }
 
 -- the least node that assignments leave out
-answers_unassigned : (all : List Assigned) (nodes : ℕ) (answer : Option ℕ) → least_unassigned nodes all ≡ answer → Answers (LeavesOut (Some all) nodes) answer
+answers_unassigned : (all : List Assigned) (nodes : ℕ) (answer : Option ℕ) → least_unassigned nodes all ≡ answer → IsLeastOf (LeavesOut (Some all) nodes) answer
 answers_unassigned all nodes None e = λ node out. true-false (sym (unassigned-None nodes all e node out.0) ∙ out.1)
 answers_unassigned all nodes (Some node) e =
     let is = unassigned-Some nodes all node e in
-    ((is.below, is.unassigned), λ other out. is.least other out.0 out.1)
+    record { here = (is.below, is.unassigned); least = λ other out. is.least other out.0 out.1 }
 
-answers_left_out : (all : Option (List Assigned)) (nodes : ℕ) → Answers (LeavesOut all nodes) (least_left_out all nodes)
+answers_left_out : (all : Option (List Assigned)) (nodes : ℕ) → IsLeastOf (LeavesOut all nodes) (least_left_out all nodes)
 answers_left_out None nodes = λ node out. out
 answers_left_out (Some all) nodes = answers_unassigned all nodes (least_unassigned nodes all) refl
 
@@ -77,27 +73,6 @@ twice_on netlist (first ∷ later) e =
         ∙ ap (λ rest. cond (names_twice first.statement) (Some first.line) rest) (ih w)
         ∙ sym (first_line-cons names_twice first later)
 
-none_below-one : (netlist : Netlist) (text : List ℕ) → NoneBelow (StandsInRuns netlist text) 1
-none_below-one netlist text (Form line) s = omega arith
-none_below-one netlist text (Unknown line) s = omega arith
-none_below-one netlist text (Twice line) s = omega arith
-none_below-one netlist text (Missing node) s = omega arith
-none_below-one netlist text (Bit line) s = omega arith
-none_below-one netlist text (Order line) s = omega arith
-none_below-one netlist text (TooMany line) s = omega arith
-none_below-one netlist text Memory s = absurd s
-
--- a fault with a number past the last place
-none_at-eight : (netlist : Netlist) (text : List ℕ) → NoneBelow (StandsInRuns netlist text) 8 → Outcome (StandsInRuns netlist text) None
-none_at-eight netlist text below Memory s = s
-none_at-eight netlist text below (Form line) s = absurd (omega (arith, below (Form line) s))
-none_at-eight netlist text below (Unknown line) s = absurd (omega (arith, below (Unknown line) s))
-none_at-eight netlist text below (Twice line) s = absurd (omega (arith, below (Twice line) s))
-none_at-eight netlist text below (Missing node) s = absurd (omega (arith, below (Missing node) s))
-none_at-eight netlist text below (Bit line) s = absurd (omega (arith, below (Bit line) s))
-none_at-eight netlist text below (Order line) s = absurd (omega (arith, below (Order line) s))
-none_at-eight netlist text below (TooMany line) s = absurd (omega (arith, below (TooMany line) s))
-
 -- what the passes answer over the statements of a text without a malformed line
 passes-outcome : (netlist : Netlist) (text : List ℕ) → NoneBelow (StandsInRuns netlist text) 2 → Outcome (StandsInRuns netlist text) (first_run_fault netlist (looked_run_statements netlist text))
 passes-outcome netlist text below =
@@ -105,9 +80,9 @@ passes-outcome netlist text below =
     let looked = looked_run_statements netlist text in
     let up = looked_runs-Ascends netlist text in
     let last : NoneBelow stands 7 → Outcome stands (option_map TooMany (beyond_from 0 0 looked)) = λ below7.
-    subst (Outcome stands) (first_of-None (option_map TooMany (beyond_from 0 0 looked)))
-    (outcome-step stands TooMany 7 (beyond_from 0 0 looked) None (λ place. (refl, refl, refl)) below7 (answers_itself (beyond_from 0 0 looked))
-    (λ e below8. none_at-eight netlist text below8)) in
+    subst (Outcome stands) (option_or-None (option_map TooMany (beyond_from 0 0 looked)))
+    (outcome-step stands TooMany 7 (beyond_from 0 0 looked) None (λ place. (refl, refl, refl)) below7 (answers_beyond looked (beyond_from 0 0 looked) refl)
+    (λ e below8. none_past stands (λ s. s) below8)) in
     let order = λ (below6 : NoneBelow stands 6). outcome-step stands Order 6 (run_out_of_order looked) _ (λ place. (refl, refl, refl)) below6 (answers_itself (run_out_of_order looked)) (λ e. last) in
     let bit = λ (below5 : NoneBelow stands 5). outcome-step stands Bit 5 (first_line lacks_bit looked) _ (λ place. (refl, refl, refl)) below5 (answers_first lacks_bit looked (first_line lacks_bit looked) up refl) (λ e. order) in
     let missing = λ (below4 : NoneBelow stands 4). outcome-step stands Missing 4 (least_missing_node netlist looked) _ (λ place. (refl, refl, refl)) below4
@@ -122,13 +97,13 @@ passes-outcome netlist text below =
     (λ e. missing)))
 
 -- what was read is looked up
-pub read_runs-looked : (netlist : Netlist) (text : List ℕ) (entries : List RunEntry) → IsReadRun netlist text entries → run_entered_all entries ≡ looked_run_statements netlist text
+pub read_runs-looked : (netlist : Netlist) (text : List ℕ) (entries : List RunEntry) → IsRead (run_looked_by netlist) text (run_entered_all entries) → run_entered_all entries ≡ looked_run_statements netlist text
 read_runs-looked netlist text entries h = sym h.statements ∙ looked_runs-read netlist text
 
 -- where no line is malformed
 formed-outcome : (netlist : Netlist) (text : List ℕ) → first_malformed (run_looked_by netlist) 1 (lines_of text) ≡ None → Outcome (StandsInRuns netlist text) (first_run_fault netlist (looked_run_statements netlist text))
 formed-outcome netlist text formed =
-    outcome-step (StandsInRuns netlist text) Form 1 None _ (λ place. (refl, refl, refl)) (none_below-one netlist text) (answers_malformed netlist text None formed) (λ e below. passes-outcome netlist text below)
+    outcome-step (StandsInRuns netlist text) Form 1 None _ (λ place. (refl, refl, refl)) (any_number (StandsInRuns netlist text)) (answers_malformed netlist text None formed) (λ e below. passes-outcome netlist text below)
 
 -- and no pass has an answer
 pub clear-faultless : (netlist : Netlist) (text : List ℕ) → first_malformed (run_looked_by netlist) 1 (lines_of text) ≡ None → first_run_fault netlist (looked_run_statements netlist text) ≡ None → IsRunFaultless netlist text
@@ -137,68 +112,29 @@ clear-faultless netlist text formed clear =
     subst P clear (formed-outcome netlist text formed)
 
 -- after the reader: no line is malformed
-pub read_runs-outcome : (netlist : Netlist) (text : List ℕ) (entries : List RunEntry) → IsReadRun netlist text entries → Outcome (StandsInRuns netlist text) (first_run_fault netlist (run_entered_all entries))
+pub read_runs-outcome : (netlist : Netlist) (text : List ℕ) (entries : List RunEntry) → IsRead (run_looked_by netlist) text (run_entered_all entries) → Outcome (StandsInRuns netlist text) (first_run_fault netlist (run_entered_all entries))
 read_runs-outcome netlist text entries h =
     let P : List (Numbered LookedRun) → Type 0 = λ statements. Outcome (StandsInRuns netlist text) (first_run_fault netlist statements) in
     subst P (sym (read_runs-looked netlist text entries h)) (formed-outcome netlist text h.formed)
 
-least_run : (netlist : Netlist) (text : List ℕ) (fault : TextFault) → IsLeast (StandsInRuns netlist text) fault → IsLeastRunFault netlist text fault
-least_run netlist text fault h = record { stands = h.stands_here; first = h.first }
-
-least_back : (netlist : Netlist) (text : List ℕ) (fault : TextFault) → IsLeastRunFault netlist text fault → IsLeast (StandsInRuns netlist text) fault
-least_back netlist text fault h = record { stands_here = h.stands; first = h.first }
-
 -- a first malformed line is the least fault
 malformed-least : (netlist : Netlist) (text : List ℕ) (line : ℕ) → first_malformed (run_looked_by netlist) 1 (lines_of text) ≡ Some line → IsLeastRunFault netlist text (Form line)
 malformed-least netlist text line e =
-    least_run netlist text (Form line) (outcome-step (StandsInRuns netlist text) Form 1 (Some line) None (λ place. (refl, refl, refl)) (none_below-one netlist text) (answers_malformed netlist text (Some line) e) (λ w. let wrong : Some line ≡ None = w in cc))
+    outcome-step (StandsInRuns netlist text) Form 1 (Some line) None (λ place. (refl, refl, refl)) (any_number (StandsInRuns netlist text)) (answers_malformed netlist text (Some line) e) (λ w. let wrong : Some line ≡ None = w in cc)
 
 -- why a text was not read, as a refusal
-pub run_refusal-read : (netlist : Netlist) (text : List ℕ) (fault : TextFault) → IsUnreadRun netlist text fault → IsRunRefusal netlist text fault
-run_refusal-read netlist text (Form line) h = malformed-least netlist text line h
-run_refusal-read netlist text (Unknown line) h = absurd h
-run_refusal-read netlist text (Twice line) h = absurd h
-run_refusal-read netlist text (Missing node) h = absurd h
-run_refusal-read netlist text (Bit line) h = absurd h
-run_refusal-read netlist text (Order line) h = absurd h
-run_refusal-read netlist text (TooMany line) h = absurd h
-run_refusal-read netlist text Memory h = tt
-
-run_answered : (netlist : Netlist) (text : List ℕ) (entries : List RunEntry) (fault : TextFault) → IsReadRun netlist text entries → first_run_fault netlist (run_entered_all entries) ≡ Some fault → IsLeastRunFault netlist text fault
-run_answered netlist text entries fault h e =
-    let P : Option TextFault → Type 0 = Outcome (StandsInRuns netlist text) in
-    least_run netlist text fault (subst P e (read_runs-outcome netlist text entries h))
+pub run_refusal-read : (netlist : Netlist) (text : List ℕ) (fault : TextFault) → IsUnreadText (run_looked_by netlist) text fault → IsRunRefusal netlist text fault
+run_refusal-read netlist text fault h = unread (run_looked_by netlist) text (StandsInRuns netlist text) fault (malformed-least netlist text) h
 
 -- what the check answered, as a refusal
-pub run_refusal-check : (netlist : Netlist) (text : List ℕ) (entries : List RunEntry) (fault : TextFault) → IsReadRun netlist text entries → IsAnswer (first_run_fault netlist (run_entered_all entries)) fault → IsRunRefusal netlist text fault
-run_refusal-check netlist text entries (Form line) h a = absurd a
-run_refusal-check netlist text entries (Unknown line) h a = run_answered netlist text entries (Unknown line) h a
-run_refusal-check netlist text entries (Twice line) h a = run_answered netlist text entries (Twice line) h a
-run_refusal-check netlist text entries (Missing node) h a = run_answered netlist text entries (Missing node) h a
-run_refusal-check netlist text entries (Bit line) h a = run_answered netlist text entries (Bit line) h a
-run_refusal-check netlist text entries (Order line) h a = run_answered netlist text entries (Order line) h a
-run_refusal-check netlist text entries (TooMany line) h a = run_answered netlist text entries (TooMany line) h a
-run_refusal-check netlist text entries Memory h a = tt
+pub run_refusal-check : (netlist : Netlist) (text : List ℕ) (entries : List RunEntry) (fault : TextFault) → IsRead (run_looked_by netlist) text (run_entered_all entries) → IsAnswer (first_run_fault netlist (run_entered_all entries)) fault → IsRunRefusal netlist text fault
+run_refusal-check netlist text entries fault h a = answered (StandsInRuns netlist text) _ fault (read_runs-outcome netlist text entries h) a
 
 -- where no pass has an answer, the text has no fault
-pub run_faultless : (netlist : Netlist) (text : List ℕ) (entries : List RunEntry) → IsReadRun netlist text entries → first_run_fault netlist (run_entered_all entries) ≡ None → IsRunFaultless netlist text
+pub run_faultless : (netlist : Netlist) (text : List ℕ) (entries : List RunEntry) → IsRead (run_looked_by netlist) text (run_entered_all entries) → first_run_fault netlist (run_entered_all entries) ≡ None → IsRunFaultless netlist text
 run_faultless netlist text entries h e =
     let P : Option TextFault → Type 0 = Outcome (StandsInRuns netlist text) in
     subst P e (read_runs-outcome netlist text entries h)
-
-same_least : (netlist : Netlist) (text : List ℕ) (fault other : TextFault) → IsLeastRunFault netlist text fault → IsLeastRunFault netlist text other → fault ≡ other
-same_least netlist text fault other a b = least-unique (StandsInRuns netlist text) fault other (least_back netlist text fault a) (least_back netlist text other b)
-
--- the answer is the least fault, or want of memory
-pub run_refusal-exact : (netlist : Netlist) (text : List ℕ) (fault other : TextFault) → IsRunRefusal netlist text fault → IsLeastRunFault netlist text other → (fault ≡ other) ⊎ (fault ≡ Memory)
-run_refusal-exact netlist text (Form line) other h l = inl (same_least netlist text (Form line) other h l)
-run_refusal-exact netlist text (Unknown line) other h l = inl (same_least netlist text (Unknown line) other h l)
-run_refusal-exact netlist text (Twice line) other h l = inl (same_least netlist text (Twice line) other h l)
-run_refusal-exact netlist text (Missing node) other h l = inl (same_least netlist text (Missing node) other h l)
-run_refusal-exact netlist text (Bit line) other h l = inl (same_least netlist text (Bit line) other h l)
-run_refusal-exact netlist text (Order line) other h l = inl (same_least netlist text (Order line) other h l)
-run_refusal-exact netlist text (TooMany line) other h l = inl (same_least netlist text (TooMany line) other h l)
-run_refusal-exact netlist text Memory other h l = inr refl
 
 assigns-below : (netlist : Netlist) (statement : RunStatement) → AreBelow (length netlist.names) (assignments_in (run_looked_of netlist statement))
 assigns-below netlist Header = All-nil _
@@ -210,7 +146,7 @@ assigns-below netlist Cycle = All-nil _
 assigns-below netlist End = All-nil _
 
 -- the nodes that were read are nodes
-pub read_runs-below : (netlist : Netlist) (text : List ℕ) (entries : List RunEntry) → IsReadRun netlist text entries → All (AssignsBelow (length netlist.names)) entries
+pub read_runs-below : (netlist : Netlist) (text : List ℕ) (entries : List RunEntry) → IsRead (run_looked_by netlist) text (run_entered_all entries) → All (AssignsBelow (length netlist.names)) entries
 read_runs-below netlist text entries h =
     let P : Numbered LookedRun → Type 0 = λ numbered. AreBelow (length netlist.names) (assignments_in numbered.statement) in
     let Q : List (Numbered LookedRun) → Type 0 = All P in

@@ -14,25 +14,19 @@ use Rattle.hz_net.specs.Variables.{first_wire}
 use Rattle.hz_net.proofs.Places.{length-network_of, first_wire-bound}
 use Rattle.hz_gmw.specs.Recorded.{flip_count}
 use Rattle.hz_line.specs.Statement.{Numbered}
+use Rattle.hz_line.proofs.WrittenLemmas.{both}
 use Rattle.hz_text.specs.declared.run_entry.RunEntry.{RunEntry}
 use Rattle.hz_text.specs.ScriptText.{bit_at}
 use Rattle.hz_text.specs.RunStatement.{Variable, Node, Pin, Header, Start, Input, Run, Step, Cycle, End, RunStatement, run_statements_of, number_by}
 use Rattle.hz_text.specs.RunLookup.{LookedRun, wire_into, variable_named, run_looked_of, run_looked_up, run_entered_all}
 use Rattle.hz_text.specs.RunValue.{RunOf, RunTextOf, cycle_steps, all_steps}
-use Rattle.hz_text.specs.RunFault.{variables_in, steps_in, beyond_from}
-use Rattle.hz_text.specs.RunPass.{IsAcceptedRun}
+use Rattle.hz_text.specs.RunFault.{variables_in, steps_in}
+use Rattle.hz_text.specs.RunPass.{beyond_from, IsAcceptedRun}
 use Rattle.hz_text.specs.RunText.{step_of, cycle_statements, run_statements, unnumbered, IsRunTextBy, IsRunTextFor}
 use Rattle.hz_text.proofs.VariableLemmas.{node_named-below}
+use Rattle.hz_text.proofs.BuildLemmas.{or_parts}
 use Rattle.hz_text.proofs.ReadLaws.{All-unmap}
 use Rattle.hz_text.proofs.RunBuildLaws.{clear_run}
-
-both_true : (a b : Bool) → (a && b) ≡ true → (a ≡ true) × (b ≡ true)
-both_true true b h = (refl, h)
-both_true false b h = cc
-
-either_false : (a b : Bool) → (a || b) ≡ false → (a ≡ false) × (b ≡ false)
-either_false true b h = cc
-either_false false b h = (refl, h)
 
 wire-below : (netlist : Netlist) (node : Option ℕ) (pin var : ℕ) → IsCircuit netlist → IfSome node (λ node. node < length netlist.names) → wire_into netlist node pin ≡ Some var → var < variable_count netlist
 wire-below netlist None pin var circuit within e = cc
@@ -41,8 +35,8 @@ wire-below netlist (Some node) pin var circuit within e = by_test (nat_le netlis
     by_test : (b : Bool) → (nat_le netlist.inputs node && (nat_le 1 pin && nat_le pin (length (gate_at netlist node).sources))) ≡ b → cond b (Some (first_wire netlist node + (pin - 1))) None ≡ Some var → var < variable_count netlist
     by_test false t w = cc
     by_test true t w =
-        let parts = both_true (nat_le netlist.inputs node) _ t in
-        let pins = both_true (nat_le 1 pin) _ parts.1 in
+        let parts = both (nat_le netlist.inputs node) _ t in
+        let pins = both (nat_le 1 pin) _ parts.1 in
         let gate : netlist.inputs ≤ node = grind (arith, nat_tests, parts.0) in
         let low : 1 ≤ pin = grind (arith, nat_tests, pins.0) in
         let high : pin ≤ length (gate_at netlist node).sources = grind (arith, nat_tests, pins.1) in
@@ -140,7 +134,7 @@ within_limits steps variables (first ∷ later) s v e =
         AreFew steps variables (first ∷ later)
     by_test true t w ih = cc
     by_test false t w ih =
-        let parts = either_false (nat_lt 2000000 (steps + steps_of first.statement)) _ t in
+        let parts = or_parts (nat_lt 2000000 (steps + steps_of first.statement)) _ t in
         let few_steps : steps + steps_of first.statement ≤ 2000000 = grind (arith, nat_tests, parts.0) in
         let few_variables : variables + names_in first.statement ≤ 2000000 = grind (arith, nat_tests, parts.1) in
         let rest = ih few_steps few_variables w in (

@@ -14,7 +14,7 @@ use Rattle.hz_text.specs.RunStatement.{Variable, Pin, variables_of, with_first, 
 use Rattle.hz_text.specs.RunLookup.{wire_into, variable_named, variables_by}
 
 -- the number that digits stand for after a number before them
-abbrev number_after : ℕ → List ℕ → ℕ
+abbrev pub number_after : ℕ → List ℕ → ℕ
 number_after number digits = fold (λ number digit. 10 * number + (digit - 48)) number digits
 
 number-grows : (number : ℕ) (digits : List ℕ) → number ≤ number_after number digits

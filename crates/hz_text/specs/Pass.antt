@@ -1,7 +1,7 @@
 -- What the passes over a script's statements answer.
 use Rattle.std.specs.Prelude.{◌≡◌, ℕ, ◌<◌, Bool, true, false, not, nat_eq, List, [], ◌∷◌, map, All, position, slice_get, slice_set, Option, Some, None, IfSome, IsSome, IsSomeAnd, if◌then◌else◌}
 use Rattle.std.specs.List.{filter_map, range_with_len}
-use Rattle.std.specs.Option.{option_map}
+use Rattle.std.specs.Option.{option_map, option_or, option_zip}
 use Rattle.hz_line.specs.Statement.{Numbered, first_line}
 use Rattle.hz_text.specs.declared.assigned.Assigned.{Assigned}
 use Rattle.hz_text.specs.declared.fault.TextFault.{TextFault}
@@ -46,23 +46,18 @@ abbrev pub marked : List Bool → Option ℕ → List Bool
 marked marks None = marks
 marked marks (Some node) = slice_set marks node true
 
--- the first of two answers
-abbrev pub first_of : {A : Type 0} → Option A → Option A → Option A
-first_of None other = other
-first_of (Some answer) other = Some answer
-
--- the line of the statement with number 10,001, counted from 0
+-- the line of the first statement past a start and 10,000 changes
 abbrev pub last_beyond : List (Numbered Looked) → Option ℕ
 last_beyond statements = option_map (λ numbered. numbered.line) (slice_get statements 10001)
 
 -- what the passes answer, one after the other
 abbrev pub first_fault : ℕ → List (Numbered Looked) → Option TextFault
 first_fault inputs statements =
-    first_of (option_map Unknown (first_line (has_unknown inputs) statements))
-    (first_of (option_map Twice (first_line has_node_twice statements))
-    (first_of (option_map Missing (least_missing inputs statements))
-    (first_of (option_map Bit (first_line has_no_bit statements))
-    (first_of (option_map Order (first_out_of_order statements))
+    option_or (option_map Unknown (first_line (has_unknown inputs) statements))
+    (option_or (option_map Twice (first_line has_node_twice statements))
+    (option_or (option_map Missing (least_missing inputs statements))
+    (option_or (option_map Bit (first_line has_no_bit statements))
+    (option_or (option_map Order (first_out_of_order statements))
     (option_map TooMany (last_beyond statements))))))
 
 -- the fault is the answer; memory may always run out
@@ -86,12 +81,6 @@ pub record IsSound (nodes : ℕ) (looked : Looked) : Type 0 where
   pub pairs : All (IsPair nodes) looked.assigned
   pub fresh : has_node_twice looked ≡ false
 
--- both values, where there are both
-abbrev pub both : {A B : Type 0} → Option A → Option B → Option (A × B)
-both None second = None
-both (Some first) None = None
-both (Some first) (Some second) = Some (first, second)
-
 -- the node and the bit, where there are both
 abbrev pub pair_of : Assigned → Option (ℕ × Bool)
-pair_of assigned = both assigned.node assigned.bit
+pair_of assigned = option_zip assigned.node assigned.bit

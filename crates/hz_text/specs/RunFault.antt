@@ -1,5 +1,5 @@
 -- The faults of a run text.
-use Rattle.std.specs.Prelude.{◌≡◌, ℕ, ◌+◌, ◌<◌, Bool, true, false, ◌||◌, nat_lt, List, [], ◌∷◌, length, map, Option, Some, None, is_none, ◌⊎◌, if◌then◌else◌}
+use Rattle.std.specs.Prelude.{◌≡◌, ℕ, ◌<◌, Bool, true, false, List, [], ◌∷◌, ◌++◌, length, map, sum_by, Option, Some, None, is_none, ◌⊎◌, if◌then◌else◌}
 use Rattle.std.specs.List.{list_any}
 use Rattle.std.specs.Option.{option_map_or}
 use Rattle.std.specs.Str.{bytes_eq}
@@ -14,7 +14,7 @@ use Rattle.hz_text.specs.declared.run_order.Place.TheVariants as place
 use Rattle.hz_text.specs.Assignment.{has_repeat}
 use Rattle.hz_text.specs.RunStatement.{StatementOf, Header, Start, Input, Run, Step, Cycle, End, RunStatement, run_statement_of, run_statements_of}
 use Rattle.hz_text.specs.RunLookup.{LookedRun, run_looked_up}
-use Rattle.hz_text.specs.ScriptFault.{is_unknown, assigns, ComesFirst}
+use Rattle.hz_text.specs.ScriptFault.{is_unknown, assigns, IsLeastFaultOf, IsLeastFaultOrMemory}
 
 -- the statements of a run text, looked up in a network
 abbrev pub looked_run_statements : Netlist → List ℕ → List (Numbered LookedRun)
@@ -94,15 +94,17 @@ is_end (Step variables) = false
 is_end Cycle = false
 is_end End = true
 
--- what the first start assigns, if there is one
-abbrev pub first_start : List (Numbered LookedRun) → Option (List Assigned)
-first_start [] = None
-first_start (first ∷ later) = if is_start_line first.statement then Some (assignments_in first.statement) else first_start later
+-- what the first statement that passes the test assigns, if there is one
+abbrev pub first_assigned : (LookedRun → Bool) → List (Numbered LookedRun) → Option (List Assigned)
+first_assigned test [] = None
+first_assigned test (first ∷ later) = if test first.statement then Some (assignments_in first.statement) else first_assigned test later
 
--- what the first input line assigns, if there is one
+-- what the first start assigns, and what the first input line does
+abbrev pub first_start : List (Numbered LookedRun) → Option (List Assigned)
+first_start statements = first_assigned is_start_line statements
+
 abbrev pub first_input : List (Numbered LookedRun) → Option (List Assigned)
-first_input [] = None
-first_input (first ∷ later) = if is_input_line first.statement then Some (assignments_in first.statement) else first_input later
+first_input statements = first_assigned is_input_line statements
 
 -- the assignments are there, and leave this one of so many nodes out
 abbrev pub LeavesOut : Option (List Assigned) → ℕ → ℕ → Type 0
@@ -173,14 +175,27 @@ steps_in (Step variables) = 1
 steps_in Cycle = 0
 steps_in End = 0
 
--- the first line up to which there are more than 2,000,000 steps, or more than 2,000,000 variables in steps, where there
--- were so many before
-abbrev pub beyond_from : ℕ → ℕ → List (Numbered LookedRun) → Option ℕ
-beyond_from steps variables [] = None
-beyond_from steps variables (first ∷ later) =
-    if nat_lt 2000000 (steps + steps_in first.statement) || nat_lt 2000000 (variables + length (variables_in first.statement))
-    then Some first.line
-    else beyond_from (steps + steps_in first.statement) (variables + length (variables_in first.statement)) later
+-- how many steps the statements are
+abbrev pub step_count : List (Numbered LookedRun) → ℕ
+step_count statements = sum_by (λ numbered. steps_in numbered.statement) statements
+
+-- how many variables the statements name, each counted as often as it is named
+abbrev pub named_count : List (Numbered LookedRun) → ℕ
+named_count statements = sum_by (λ numbered. length (variables_in numbered.statement)) statements
+
+-- there are more than 2,000,000 steps, or more than 2,000,000 variables in steps
+abbrev pub AreTooMany : List (Numbered LookedRun) → Type 0
+AreTooMany statements = (2000000 < step_count statements) ⊎ (2000000 < named_count statements)
+
+-- up to the statement on this line there are too many, and before it there are not
+pub record IsBeyond (statements : List (Numbered LookedRun)) (line : ℕ) : Type 0 where
+  pub before : List (Numbered LookedRun)
+  pub last : Numbered LookedRun
+  pub after : List (Numbered LookedRun)
+  pub are : statements ≡ before ++ last ∷ after
+  pub here : last.line ≡ line
+  pub beyond : AreTooMany (before ++ last ∷ [])
+  pub within : ¬ AreTooMany before
 
 -- the fault stands in the text
 abbrev pub StandsInRuns : Netlist → List ℕ → TextFault → Type 0
@@ -190,13 +205,12 @@ StandsInRuns netlist text (fault.Twice line) = PassesOn names_twice (run_stateme
 StandsInRuns netlist text (fault.Missing node) = IsLeftOut netlist (looked_run_statements netlist text) node
 StandsInRuns netlist text (fault.Bit line) = PassesOn lacks_bit (looked_run_statements netlist text) line
 StandsInRuns netlist text (fault.Order line) = run_out_of_order (looked_run_statements netlist text) ≡ Some line
-StandsInRuns netlist text (fault.TooMany line) = beyond_from 0 0 (looked_run_statements netlist text) ≡ Some line
+StandsInRuns netlist text (fault.TooMany line) = IsBeyond (looked_run_statements netlist text) line
 StandsInRuns netlist text fault.Memory = ⊥
 
 -- the fault stands in the text and comes before each other that does
-pub record IsLeastRunFault (netlist : Netlist) (text : List ℕ) (fault : TextFault) : Type 0 where
-  pub stands : StandsInRuns netlist text fault
-  pub first : (other : TextFault) → StandsInRuns netlist text other → ComesFirst fault other
+abbrev pub IsLeastRunFault : Netlist → List ℕ → TextFault → Type 0
+IsLeastRunFault netlist text fault = IsLeastFaultOf (StandsInRuns netlist text) fault
 
 -- no fault stands in the text
 abbrev pub IsRunFaultless : Netlist → List ℕ → Type 0
@@ -204,11 +218,4 @@ IsRunFaultless netlist text = (fault : TextFault) → ¬ StandsInRuns netlist te
 
 -- the fault is the least that stands in the text; memory may always run out
 abbrev pub IsRunRefusal : Netlist → List ℕ → TextFault → Type 0
-IsRunRefusal netlist text (fault.Form line) = IsLeastRunFault netlist text (fault.Form line)
-IsRunRefusal netlist text (fault.Unknown line) = IsLeastRunFault netlist text (fault.Unknown line)
-IsRunRefusal netlist text (fault.Twice line) = IsLeastRunFault netlist text (fault.Twice line)
-IsRunRefusal netlist text (fault.Missing node) = IsLeastRunFault netlist text (fault.Missing node)
-IsRunRefusal netlist text (fault.Bit line) = IsLeastRunFault netlist text (fault.Bit line)
-IsRunRefusal netlist text (fault.Order line) = IsLeastRunFault netlist text (fault.Order line)
-IsRunRefusal netlist text (fault.TooMany line) = IsLeastRunFault netlist text (fault.TooMany line)
-IsRunRefusal netlist text fault.Memory = Unit {0}
+IsRunRefusal netlist text fault = IsLeastFaultOrMemory (StandsInRuns netlist text) fault

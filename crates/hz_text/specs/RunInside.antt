@@ -5,4 +5,4 @@ use Rattle.hz_text.specs.declared.run_text.ToldRun.TheInside.{Inside}
 
 -- the steps of the fields' runs
 abbrev pub told_of : Inside → RunOf
-told_of inside = record { lead = inside.lead.steps; cycle = option_map (λ run. run.steps) inside.cycle }
+told_of inside = record { lead = inside.lead.steps; cycle = option_map (λ run. run.value.steps) inside.cycle }

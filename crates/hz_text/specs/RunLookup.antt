@@ -1,23 +1,17 @@
 -- Statements of run texts whose names are looked up in a network.
-use Rattle.std.specs.Prelude.{◌≡◌, ℕ, ◌+◌, ◌-◌, ◌≤◌, ◌&&◌, nat_le, List, ◌∷◌, length, map, drop, IsTrue, Option, Some, None, if◌then◌else◌}
-use Rattle.std.specs.List.{list_all}
+use Rattle.std.specs.Prelude.{ℕ, ◌+◌, ◌-◌, ◌&&◌, nat_le, List, length, map, Option, Some, None, if◌then◌else◌}
 use Rattle.std.specs.Option.{option_map}
 use Rattle.hz_core.specs.Netlist.{Netlist, node_named, gate_at}
 use Rattle.hz_net.specs.Variables.{first_wire}
-use Rattle.hz_line.specs.Statement.{Numbered, Meaning, Nothing, Means}
-use Rattle.hz_line.specs.declared.tokens.Token.{Token}
-use Rattle.hz_line.specs.Token.{TokenOf, WordOf, token_of}
+use Rattle.hz_line.specs.Statement.{Numbered}
+use Rattle.hz_line.specs.Token.{TokenOf}
 use Rattle.hz_text.specs.declared.assigned.Assigned.{Assigned}
 use Rattle.hz_text.specs.declared.run_keyword.RunKeyword.{RunKeyword}
 use Rattle.hz_text.specs.declared.run_statement.RunHeld.{RunHeld}
 use Rattle.hz_text.specs.declared.run_statement.RunHeld.TheVariants as held
-use Rattle.hz_text.specs.declared.variables.PinAfter.{PinAfter}
-use Rattle.hz_text.specs.declared.variables.PinAfter.TheVariants as pin
-use Rattle.hz_text.specs.declared.variables.First.{First}
-use Rattle.hz_text.specs.declared.variables.First.TheVariants as first
 use Rattle.hz_text.specs.declared.run_entry.RunEntry.{RunEntry}
 use Rattle.hz_text.specs.Lookup.{assigned_of}
-use Rattle.hz_text.specs.RunStatement.{Variable, Node, Pin, StatementOf, Header, Start, Input, Run, Step, Cycle, End, RunStatement, run_statement_of, run_statement_with, variables_of, number_by, is_digit, with_first}
+use Rattle.hz_text.specs.RunStatement.{Variable, Node, Pin, StatementOf, Header, Start, Input, Run, Step, Cycle, End, RunStatement, run_statement_of, run_statement_with, variables_of, number_by}
 
 -- the wire into the pin with this number of the node, if the node is a gate with such a pin; pins are counted from 1
 abbrev pub wire_into : Netlist → Option ℕ → ℕ → Option ℕ
@@ -78,24 +72,3 @@ run_entered entry = record { line = entry.line; statement = run_held_by entry.he
 -- the statements of entries
 abbrev pub run_entered_all : List RunEntry → List (Numbered LookedRun)
 run_entered_all entries = map run_entered entries
-
--- what stands after a name: no pin, what is none, or a pin
-abbrev pub IsPinAfter : List Token → PinAfter → Type 0
-IsPinAfter tokens pin.Absent =
-    (name : List ℕ) → variables_of (WordOf name ∷ map token_of tokens) ≡ with_first (Node name) (variables_of (map token_of tokens))
-IsPinAfter tokens pin.Malformed = (name : List ℕ) → variables_of (WordOf name ∷ map token_of tokens) ≡ None
-IsPinAfter tokens (pin.Pin number) =
-    ((name : List ℕ) → variables_of (WordOf name ∷ map token_of tokens) ≡ with_first (Pin name number.now) (variables_of (map token_of (drop 3 tokens))))
-    × IsTrue (list_all is_digit number.now) × (3 ≤ length tokens)
-
--- what comes first in tokens: what is no variable, or a variable, looked up, of so many tokens
-abbrev pub IsFirstVariable : Netlist → List Token → First → Type 0
-IsFirstVariable netlist tokens first.Malformed = variables_by netlist (map token_of tokens) ≡ None
-IsFirstVariable netlist tokens (first.Variable variable taken) =
-    (variables_by netlist (map token_of tokens) ≡ with_first variable (variables_by netlist (map token_of (drop taken tokens))))
-    × (1 ≤ taken) × (taken ≤ length tokens)
-
--- what a line is, by what was read of it
-abbrev pub run_meaning_read : Option RunHeld → Meaning LookedRun
-run_meaning_read None = Nothing
-run_meaning_read (Some held) = Means (run_held_by held)

@@ -1,6 +1,6 @@
 -- What the passes over a run text's statements answer.
-use Rattle.std.specs.Prelude.{◌≡◌, ℕ, Bool, nat_eq, nat_le, List, length, All, Option, Some, None, if◌then◌else◌}
-use Rattle.std.specs.Option.{option_map}
+use Rattle.std.specs.Prelude.{◌≡◌, ℕ, ◌+◌, Bool, ◌||◌, nat_eq, nat_le, nat_lt, List, [], ◌∷◌, length, All, Option, Some, None, if◌then◌else◌}
+use Rattle.std.specs.Option.{option_map, option_or}
 use Rattle.hz_core.specs.Netlist.{Netlist, IsCircuit}
 use Rattle.hz_line.specs.Statement.{Numbered, first_line}
 use Rattle.hz_text.specs.declared.assigned.Assigned.{Assigned}
@@ -8,9 +8,9 @@ use Rattle.hz_text.specs.declared.fault.TextFault.{TextFault}
 use Rattle.hz_text.specs.declared.fault.TextFault.TheVariants.{Unknown, Twice, Missing, Bit, Order, TooMany}
 use Rattle.hz_text.specs.declared.run_entry.RunEntry.{RunEntry}
 use Rattle.hz_text.specs.Assignment.{has_repeat}
-use Rattle.hz_text.specs.Pass.{nodes_of, least_unassigned, first_of, AreBelow}
+use Rattle.hz_text.specs.Pass.{nodes_of, least_unassigned, AreBelow}
 use Rattle.hz_text.specs.RunLookup.{LookedRun, run_held_by, run_entered_all}
-use Rattle.hz_text.specs.RunFault.{looked_run_statements, IsRunFaultless, assignments_in, names_unknown, lacks_bit, first_start, first_input, run_out_of_order, beyond_from}
+use Rattle.hz_text.specs.RunFault.{looked_run_statements, IsRunFaultless, assignments_in, variables_in, steps_in, names_unknown, lacks_bit, first_start, first_input, run_out_of_order}
 
 -- the statement assigns a node twice
 abbrev pub names_node_twice : LookedRun → Bool
@@ -36,14 +36,23 @@ abbrev pub least_missing_node : Netlist → List (Numbered LookedRun) → Option
 least_missing_node netlist statements =
     lesser (least_left_out (first_start statements) (length netlist.names)) (least_left_out (first_input statements) netlist.inputs)
 
+-- the first line up to which there are more than 2,000,000 steps, or more than 2,000,000 variables in steps, where there
+-- were so many before
+abbrev pub beyond_from : ℕ → ℕ → List (Numbered LookedRun) → Option ℕ
+beyond_from steps variables [] = None
+beyond_from steps variables (first ∷ later) =
+    if nat_lt 2000000 (steps + steps_in first.statement) || nat_lt 2000000 (variables + length (variables_in first.statement))
+    then Some first.line
+    else beyond_from (steps + steps_in first.statement) (variables + length (variables_in first.statement)) later
+
 -- what the passes answer, one after the other
 abbrev pub first_run_fault : Netlist → List (Numbered LookedRun) → Option TextFault
 first_run_fault netlist statements =
-    first_of (option_map Unknown (first_line (names_unknown netlist.inputs) statements))
-    (first_of (option_map Twice (first_line names_node_twice statements))
-    (first_of (option_map Missing (least_missing_node netlist statements))
-    (first_of (option_map Bit (first_line lacks_bit statements))
-    (first_of (option_map Order (run_out_of_order statements))
+    option_or (option_map Unknown (first_line (names_unknown netlist.inputs) statements))
+    (option_or (option_map Twice (first_line names_node_twice statements))
+    (option_or (option_map Missing (least_missing_node netlist statements))
+    (option_or (option_map Bit (first_line lacks_bit statements))
+    (option_or (option_map Order (run_out_of_order statements))
     (option_map TooMany (beyond_from 0 0 statements))))))
 
 -- the statements of a text in which no fault stands

@@ -30,8 +30,7 @@ number_by digits = fold (λ number digit. 10 * number + (digit - 48)) 0 digits
 
 -- an element before others, if they are there
 abbrev pub with_first : {A : Type 0} → A → Option (List A) → Option (List A)
-with_first first None = None
-with_first first (Some later) = Some (first ∷ later)
+with_first first later = option_map (λ those. first ∷ those) later
 
 -- the variables that tokens are: a name, or the four tokens name, '(', number, ')'
 abbrev pub variables_of : List TokenOf → Option (List Variable)

@@ -110,10 +110,25 @@ abbrev pub ComesFirst : TextFault → TextFault → Type 0
 ComesFirst fault other =
     (number_of fault < number_of other) ⊎ ((number_of fault ≡ number_of other) × (place_of fault ≤ place_of other))
 
+-- of the faults that hold, this one comes before each other
+pub record IsLeastFaultOf (holds : TextFault → Type 0) (fault : TextFault) : Type 0 where
+  pub stands : holds fault
+  pub first : (other : TextFault) → holds other → ComesFirst fault other
+
+-- of the faults that hold, this one is the least; memory may always run out
+abbrev pub IsLeastFaultOrMemory : (TextFault → Type 0) → TextFault → Type 0
+IsLeastFaultOrMemory holds (Form line) = IsLeastFaultOf holds (Form line)
+IsLeastFaultOrMemory holds (Unknown line) = IsLeastFaultOf holds (Unknown line)
+IsLeastFaultOrMemory holds (Twice line) = IsLeastFaultOf holds (Twice line)
+IsLeastFaultOrMemory holds (Missing node) = IsLeastFaultOf holds (Missing node)
+IsLeastFaultOrMemory holds (Bit line) = IsLeastFaultOf holds (Bit line)
+IsLeastFaultOrMemory holds (Order line) = IsLeastFaultOf holds (Order line)
+IsLeastFaultOrMemory holds (TooMany line) = IsLeastFaultOf holds (TooMany line)
+IsLeastFaultOrMemory holds Memory = Unit {0}
+
 -- the fault stands in the text and comes before each other that does
-pub record IsLeastFault (netlist : Netlist) (text : List ℕ) (fault : TextFault) : Type 0 where
-  pub stands : Stands netlist text fault
-  pub first : (other : TextFault) → Stands netlist text other → ComesFirst fault other
+abbrev pub IsLeastFault : Netlist → List ℕ → TextFault → Type 0
+IsLeastFault netlist text fault = IsLeastFaultOf (Stands netlist text) fault
 
 -- no fault stands in the text
 abbrev pub IsFaultless : Netlist → List ℕ → Type 0

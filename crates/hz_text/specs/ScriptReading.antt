@@ -3,23 +3,15 @@ use Rattle.std.specs.Prelude.{◌≡◌, ℕ, ◌<◌, ◌≤◌, List, length, 
 use Rattle.hz_core.specs.Netlist.{Netlist}
 use Rattle.hz_text.specs.declared.entry.Entry.{Entry}
 use Rattle.hz_text.specs.declared.fault.TextFault.{TextFault}
-use Rattle.hz_text.specs.declared.fault.TextFault.TheVariants.{Form, Unknown, Twice, Missing, Bit, Order, TooMany, Memory}
 use Rattle.hz_text.specs.Lookup.{held_by, entered}
-use Rattle.hz_text.specs.ScriptFault.{looked_statements, IsLeastFault, IsFaultless}
+use Rattle.hz_text.specs.ScriptFault.{looked_statements, Stands, IsLeastFaultOrMemory, IsFaultless}
 use Rattle.hz_text.specs.Pass.{IsSound}
 use Rattle.hz_text.specs.ScriptText.{IsScriptOf, IsScriptFor}
 use Rattle.hz_text.specs.ScriptValue.{ScriptOf}
 
 -- the fault is the least that stands in the text; memory may always run out
 abbrev pub IsRefusal : Netlist → List ℕ → TextFault → Type 0
-IsRefusal netlist text (Form line) = IsLeastFault netlist text (Form line)
-IsRefusal netlist text (Unknown line) = IsLeastFault netlist text (Unknown line)
-IsRefusal netlist text (Twice line) = IsLeastFault netlist text (Twice line)
-IsRefusal netlist text (Missing node) = IsLeastFault netlist text (Missing node)
-IsRefusal netlist text (Bit line) = IsLeastFault netlist text (Bit line)
-IsRefusal netlist text (Order line) = IsLeastFault netlist text (Order line)
-IsRefusal netlist text (TooMany line) = IsLeastFault netlist text (TooMany line)
-IsRefusal netlist text Memory = Unit {0}
+IsRefusal netlist text fault = IsLeastFaultOrMemory (Stands netlist text) fault
 
 -- the statements of a text in which no fault stands
 pub record IsAccepted (netlist : Netlist) (text : List ℕ) (entries : List Entry) : Type 0 where

@@ -1,6 +1,8 @@
 // The statements of a script's text, with their lines.
 
 ghost use Rattle.std.specs.Prelude.{◌≤◌, length, MatchResult};
+ghost use Rattle.hz_text.specs.Lookup.{looked_by};
+ghost use Rattle.hz_text.specs.Pass.{entered_all};
 ghost use Rattle.hz_text.specs.Reading.{IsRead, IsUnreadText};
 
 use crate::assigned::Unread;
@@ -28,8 +30,8 @@ pub(crate) fn read_entries(
 ) -> Result<Vec<Entry>, TextFault>
     requires { length text.now ≤ MAX_TEXT }
     ensures { MatchResult result
-        (λ entries. IsRead circuit.now text.now entries.items)
-        (λ fault. IsUnreadText circuit.now text.now fault) }
+        (λ entries. IsRead (looked_by circuit.now) text.now (entered_all entries.items))
+        (λ fault. IsUnreadText (looked_by circuit.now) text.now fault) }
 {
     let mut entries = Vec::new(alloc);
     let mut tokens = Vec::new(alloc);

@@ -51,32 +51,9 @@ fn read_bits(alloc: Global, all: &[Assigned], nodes: u32) -> Result<Vec<bool>, M
     let mut pairs = Vec::new(alloc);
     read_pairs(all, &mut pairs)?;
     list_all(&mut listed, pairs.as_slice());
-    known_bits(alloc, listed.start())
-}
-
-// Bits that are all there.
-fn known_bits(alloc: Global, listed: &[Option<bool>]) -> Result<Vec<bool>, Memory>
-    requires { All IsSome listed.now }
-    ensures { IfOk result (λ bits. map Some bits.items ≡ listed.now) }
-{
     let mut bits = Vec::new(alloc);
-    for bit in listed {
-        push_bit(&mut bits, *bit)?;
-    }
+    read_known(listed.start(), &mut bits)?;
     Ok(bits)
-}
-
-fn push_bit(bits: &mut Vec<bool>, listed: Option<bool>) -> Result<(), Memory>
-    requires { IsSome listed }
-    ensures { OnOk result (map Some bits.new.items ≡ map Some bits.old.items ++ listed ∷ []) }
-{
-    let Some(bit) = listed else {
-        unreachable!();
-    };
-    let Ok(_) = bits.push(bit) else {
-        return Err(Memory);
-    };
-    Ok(())
 }
 
 // The runs that statements before the end are.
@@ -138,7 +115,7 @@ fn add_step(
     requires known { list_any is_none variables.now ≡ false }
     ensures { OnOk result (IsRunAdded runs.old.items (Step variables.now) runs.new.items) }
 {
-    read_flips(variables, flips)?;
+    read_known(variables, flips)?;
     let last = runs.len() - 1;
     let run = &mut runs[last];
     run.push_step(flips.as_slice())
@@ -151,30 +128,29 @@ fn begin_cycle(alloc: Global, runs: &mut Vec<ToldRun>) -> Result<(), Memory>
 {
     let last = runs.len() - 1;
     let run = &mut runs[last];
-    run.begin_cycle(alloc);
-    Ok(())
+    run.begin_cycle(alloc)
 }
 
-// Variables that are all there, in place of those that the vector had.
-fn read_flips(variables: &[Option<u32>], flips: &mut Vec<u32>) -> Result<(), Memory>
-    requires { list_any is_none variables.now ≡ false }
-    ensures { OnOk result (map Some flips.new.items ≡ variables.now) }
+// Values that are all there, in place of those that the vector had.
+fn read_known<T: Copy>(values: &[Option<T>], known: &mut Vec<T>) -> Result<(), Memory>
+    requires { All IsSome values.now }
+    ensures { OnOk result (map Some known.new.items ≡ values.now) }
 {
-    flips.clear();
-    for variable in variables {
-        push_flip(flips, *variable)?;
+    known.clear();
+    for value in values {
+        push_known(known, *value)?;
     }
     Ok(())
 }
 
-fn push_flip(flips: &mut Vec<u32>, variable: Option<u32>) -> Result<(), Memory>
-    requires { IsSome variable }
-    ensures { OnOk result (map Some flips.new.items ≡ map Some flips.old.items ++ variable ∷ []) }
+fn push_known<T: Copy>(known: &mut Vec<T>, value: Option<T>) -> Result<(), Memory>
+    requires { IsSome value }
+    ensures { OnOk result (map Some known.new.items ≡ map Some known.old.items ++ value ∷ []) }
 {
-    let Some(variable) = variable else {
+    let Some(value) = value else {
         unreachable!();
     };
-    let Ok(_) = flips.push(variable) else {
+    let Ok(_) = known.push(value) else {
         return Err(Memory);
     };
     Ok(())

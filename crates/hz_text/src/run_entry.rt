@@ -1,7 +1,8 @@
 // The statements of a run text, with their lines.
 
 ghost use Rattle.std.specs.Prelude.{◌≤◌, length, MatchResult};
-ghost use Rattle.hz_text.specs.RunReading.{IsReadRun, IsUnreadRun};
+ghost use Rattle.hz_text.specs.Reading.{IsRead, IsUnreadText};
+ghost use Rattle.hz_text.specs.RunLookup.{run_looked_by, run_entered_all};
 
 use crate::assigned::Unread;
 use crate::entry::MAX_TEXT;
@@ -26,8 +27,8 @@ pub(crate) fn read_run_entries(
 ) -> Result<Vec<RunEntry>, TextFault>
     requires { length text.now ≤ MAX_TEXT }
     ensures { MatchResult result
-        (λ entries. IsReadRun net.now text.now entries.items)
-        (λ fault. IsUnreadRun net.now text.now fault) }
+        (λ entries. IsRead (run_looked_by net.now) text.now (run_entered_all entries.items))
+        (λ fault. IsUnreadText (run_looked_by net.now) text.now fault) }
 {
     let mut entries = Vec::new(alloc);
     let mut tokens = Vec::new(alloc);

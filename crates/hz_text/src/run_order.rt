@@ -125,55 +125,23 @@ fn place_after_cycle(place: Place) -> Option<Place>
 fn is_header(held: &RunHeld) -> bool
     ensures { result ≡ is_header (run_held_by held.now) }
 {
-    match held {
-        RunHeld::Header => true,
-        RunHeld::Start(_) => false,
-        RunHeld::Input(_) => false,
-        RunHeld::Run => false,
-        RunHeld::Step(_) => false,
-        RunHeld::Cycle => false,
-        RunHeld::End => false,
-    }
+    matches!(held, RunHeld::Header)
 }
 
 pub(crate) fn is_start_line(held: &RunHeld) -> bool
     ensures { result ≡ is_start_line (run_held_by held.now) }
 {
-    match held {
-        RunHeld::Header => false,
-        RunHeld::Start(_) => true,
-        RunHeld::Input(_) => false,
-        RunHeld::Run => false,
-        RunHeld::Step(_) => false,
-        RunHeld::Cycle => false,
-        RunHeld::End => false,
-    }
+    matches!(held, RunHeld::Start(_))
 }
 
 pub(crate) fn is_input_line(held: &RunHeld) -> bool
     ensures { result ≡ is_input_line (run_held_by held.now) }
 {
-    match held {
-        RunHeld::Header => false,
-        RunHeld::Start(_) => false,
-        RunHeld::Input(_) => true,
-        RunHeld::Run => false,
-        RunHeld::Step(_) => false,
-        RunHeld::Cycle => false,
-        RunHeld::End => false,
-    }
+    matches!(held, RunHeld::Input(_))
 }
 
 pub(crate) fn is_end(held: &RunHeld) -> bool
     ensures { result ≡ is_end (run_held_by held.now) }
 {
-    match held {
-        RunHeld::Header => false,
-        RunHeld::Start(_) => false,
-        RunHeld::Input(_) => false,
-        RunHeld::Run => false,
-        RunHeld::Step(_) => false,
-        RunHeld::Cycle => false,
-        RunHeld::End => true,
-    }
+    matches!(held, RunHeld::End)
 }

@@ -5,8 +5,8 @@ ghost use Rattle.std.specs.List.{list_any};
 ghost use Rattle.std.specs.Option.{option_map};
 ghost use Rattle.hz_line.specs.Statement.{first_line};
 ghost use Rattle.hz_text.specs.RunLookup.{run_held_by, run_entered_all};
-ghost use Rattle.hz_text.specs.RunFault.{assignments_in, variables_in, names_unknown, lacks_bit, first_start, first_input, steps_in, beyond_from};
-ghost use Rattle.hz_text.specs.RunPass.{names_node_twice, AssignsBelow, least_left_out, lesser, least_missing_node};
+ghost use Rattle.hz_text.specs.RunFault.{assignments_in, variables_in, names_unknown, lacks_bit, first_start, first_input, steps_in};
+ghost use Rattle.hz_text.specs.RunPass.{names_node_twice, AssignsBelow, least_left_out, lesser, least_missing_node, beyond_from};
 
 use crate::assigned::Assigned;
 use crate::keyword::Keyword;

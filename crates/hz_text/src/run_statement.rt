@@ -5,8 +5,8 @@ ghost use Rattle.hz_line.specs.Statement.{meaning_of};
 ghost use Rattle.hz_line.specs.Token.{token_of};
 ghost use Rattle.hz_text.specs.Lookup.{IsUnread};
 ghost use Rattle.hz_text.specs.RunStatement.{run_keyword_of, is_version};
-ghost use Rattle.hz_text.specs.RunLookup.{run_looked_by, run_looked_with, run_held_by, run_meaning_read};
-ghost use Rattle.hz_text.specs.RunReading.{IsUnreadRunLine};
+ghost use Rattle.hz_text.specs.RunLookup.{run_looked_by, run_looked_with, run_held_by};
+ghost use Rattle.hz_text.specs.Reading.{meaning_read, IsUnreadLine};
 
 use crate::assigned::{Assigned, Unread, read_assignments};
 use crate::run_keyword::RunKeyword;
@@ -35,8 +35,8 @@ pub(crate) fn read_run_line<'a>(
     tokens: &mut Vec<Token<'a>>,
 ) -> Result<Option<RunHeld>, Unread>
     ensures { MatchResult result
-        (λ read. meaning_of (run_looked_by net.now) line.now ≡ run_meaning_read read)
-        (λ why. IsUnreadRunLine why (meaning_of (run_looked_by net.now) line.now)) }
+        (λ read. meaning_of (run_looked_by net.now) line.now ≡ meaning_read run_held_by read)
+        (λ why. IsUnreadLine why (meaning_of (run_looked_by net.now) line.now)) }
 {
     match read_tokens(line, tokens) {
         Ok(()) => {}
@@ -79,13 +79,8 @@ fn read_statement_of(
         (λ why. IsUnread why (run_looked_with net.now (Some keyword) (map token_of rest.now))) }
 {
     match keyword {
-        RunKeyword::Runs => {
-            if is_version(rest) {
-                Ok(RunHeld::Header)
-            } else {
-                Err(Unread::Form)
-            }
-        }
+        RunKeyword::Runs if is_version(rest) => Ok(RunHeld::Header),
+        RunKeyword::Runs => Err(Unread::Form),
         RunKeyword::Start => match read_assignments(alloc, net.circuit(), rest) {
             Ok(assigned) => Ok(RunHeld::Start(assigned)),
             Err(why) => Err(why),
@@ -94,31 +89,16 @@ fn read_statement_of(
             Ok(assigned) => Ok(RunHeld::Input(assigned)),
             Err(why) => Err(why),
         },
-        RunKeyword::Run => {
-            if rest.is_empty() {
-                Ok(RunHeld::Run)
-            } else {
-                Err(Unread::Form)
-            }
-        }
+        RunKeyword::Run if rest.is_empty() => Ok(RunHeld::Run),
+        RunKeyword::Run => Err(Unread::Form),
         RunKeyword::Step => match read_variables(alloc, net, rest) {
             Ok(variables) => Ok(RunHeld::Step(variables)),
             Err(why) => Err(why),
         },
-        RunKeyword::Cycle => {
-            if rest.is_empty() {
-                Ok(RunHeld::Cycle)
-            } else {
-                Err(Unread::Form)
-            }
-        }
-        RunKeyword::End => {
-            if rest.is_empty() {
-                Ok(RunHeld::End)
-            } else {
-                Err(Unread::Form)
-            }
-        }
+        RunKeyword::Cycle if rest.is_empty() => Ok(RunHeld::Cycle),
+        RunKeyword::Cycle => Err(Unread::Form),
+        RunKeyword::End if rest.is_empty() => Ok(RunHeld::End),
+        RunKeyword::End => Err(Unread::Form),
     }
 }
 

@@ -13,7 +13,8 @@ use std::marker::Model;
 #[derive(Debug, Drop)]
 pub(crate) struct ToldRun {
     lead: Run,
-    cycle: Option<Run>,
+    // Apart, since most runs have none.
+    cycle: Option<Box<Run>>,
 }
 
 impl Model for ToldRun {
@@ -38,10 +39,14 @@ impl ToldRun {
     }
 
     // Begins the cycle, in place of one that was there.
-    pub(crate) fn begin_cycle(&mut self, alloc: Global)
-        ensures { self.new ≡ record self.old { cycle = Some [] } }
+    pub(crate) fn begin_cycle(&mut self, alloc: Global) -> Result<(), Memory>
+        ensures { OnOk result (self.new ≡ record self.old { cycle = Some [] }) }
     {
-        self.cycle = Some(Run::new(alloc));
+        let Ok(cycle) = Box::new(alloc, Run::new(alloc)) else {
+            return Err(Memory);
+        };
+        self.cycle = Some(cycle);
+        Ok(())
     }
 
     // Adds a step at the end.
@@ -53,6 +58,19 @@ impl ToldRun {
             None => push_step(&mut self.lead, flips),
         }
     }
+}
+
+// A cycle on the heap, if there is one.
+fn boxed(alloc: Global, cycle: Option<Run>) -> Result<Option<Box<Run>>, Memory>
+    ensures { IfOk result (λ boxed. option_map (λ run. run.value.steps) boxed ≡ option_map (λ run. run.steps) cycle) }
+{
+    let Some(cycle) = cycle else {
+        return Ok(None);
+    };
+    let Ok(boxed) = Box::new(alloc, cycle) else {
+        return Err(Memory);
+    };
+    Ok(Some(boxed))
 }
 
 // Adds a step to a run.
@@ -107,6 +125,7 @@ impl RunText {
         ensures ok { OnOk result (self.new ≡ record self.old { runs = self.old.runs ++ record { lead = lead.steps; cycle = option_map (λ run. run.steps) cycle } ∷ [] }) }
         ensures err { OnErr result (self.new ≡ self.old) }
     {
+        let cycle = boxed(*self.runs.allocator(), cycle)?;
         let Ok(()) = self.runs.push(ToldRun { lead, cycle }) else {
             return Err(Memory);
         };
@@ -149,6 +168,9 @@ impl RunText {
         ensures { option_map (λ run. run.now.steps) result ≡ (slice_index_or self.now.runs number (record { lead = []; cycle = None })).cycle }
     {
         let run = &self.runs[number];
-        run.cycle.as_ref()
+        match &run.cycle {
+            Some(cycle) => Some(cycle),
+            None => None,
+        }
     }
 }

@@ -2,7 +2,8 @@
 
 ghost use Rattle.std.specs.Prelude.{◌≡◌, ◌<◌, ◌≤◌, ◌++◌, ◌∷◌, [], length, replicate, slice_get, slice_index, slice_range, slice_set, Some, None, IfOk, OnOk, OnErr};
 ghost use Rattle.hz_text.specs.ScriptValue.{IsChange, IsScript};
-ghost use Rattle.hz_text.specs.Pieces.{pieces, AreEnds};
+ghost use Rattle.hz_gmw.specs.Parts.{EndsAt};
+ghost use Rattle.hz_gmw.specs.Parts.{parts_from};
 
 use hz_core::Memory;
 use std::alloc::Global;
@@ -103,9 +104,9 @@ impl Script {
 
 // The piece of a list that ends at the end with this number.
 fn piece<'a>(items: &'a [(u32, bool)], ends: &[usize], number: usize) -> &'a [(u32, bool)]
-    requires ends { AreEnds 0 ends.now (length items.now) }
+    requires ends { EndsAt 0 ends.now (length items.now) }
     requires number { number < length ends.now }
-    ensures { slice_get (pieces 0 ends.now items.now) number ≡ Some result.now }
+    ensures { slice_get (parts_from 0 ends.now items.now) number ≡ Some result.now }
 {
     let from = begin(ends, number);
     let end = ends[number];

@@ -28,7 +28,7 @@ pub(crate) fn read_line<'a>(
     tokens: &mut Vec<Token<'a>>,
 ) -> Result<Option<Held>, Unread>
     ensures { MatchResult result
-        (λ read. meaning_of (looked_by circuit.now) line.now ≡ meaning_read read)
+        (λ read. meaning_of (looked_by circuit.now) line.now ≡ meaning_read held_by read)
         (λ why. IsUnreadLine why (meaning_of (looked_by circuit.now) line.now)) }
 {
     match read_tokens(line, tokens) {

@@ -7,7 +7,8 @@ ghost use Rattle.hz_line.specs.declared.tokens.Token.TheVariants.{Sign};
 ghost use Rattle.hz_line.specs.Token.{token_of};
 ghost use Rattle.hz_text.specs.Lookup.{IsUnread};
 ghost use Rattle.hz_text.specs.RunStatement.{is_digit, is_decimal, number_by};
-ghost use Rattle.hz_text.specs.RunLookup.{wire_into, variables_by, IsPinAfter, IsFirstVariable};
+ghost use Rattle.hz_text.specs.RunLookup.{wire_into, variables_by};
+ghost use Rattle.hz_text.specs.VariablesRead.{IsPinAfter, IsFirstVariable};
 
 use crate::assigned::Unread;
 use hz_line::{Mark, Token};

@@ -11,7 +11,7 @@ use Rattle.hz_gmw.specs.Runs.{is_listed, flipped, IsStep, IsRun, end_of}
 use Rattle.hz_gmw.specs.Cycles.{IsNontransient}
 use Rattle.hz_gmw.specs.Instability.{is_unstable, unstable_variables}
 use Rattle.hz_gmw.specs.Least.{IsLeastOf, least_from, least_again}
-use Rattle.hz_gmw.specs.Replayed.{Replayed, StandsFor, replayed_at, stepped_by}
+use Rattle.hz_gmw.specs.Replayed.{Replayed, StandsFor, begun_at, stepped_by}
 use Rattle.hz_gmw.specs.ReplayFaults.{times, IsStepFault, IsCycleFault}
 use Rattle.hz_gmw.specs.declared.replay_fault.StepFault.{StepFault}
 use Rattle.hz_gmw.specs.declared.replay_fault.StepFault.TheVariants.{Empty, Repeated, Stable}
@@ -163,7 +163,7 @@ led was earlier (flips ∷ steps) long stands run =
 
 pub cycle-decided : (netlist : Netlist) (input state : List Bool) (steps : List (List ℕ)) → length state ≡ length (network_of netlist) → IsRun (network_of netlist) input state steps → CycleDecided (network_of netlist) input state steps
 cycle-decided netlist input state steps long run =
-    let one = led (replayed_at netlist input state) [] steps long (stands-at netlist input state) run in
+    let one = led (begun_at netlist input state) [] steps long (stands-at netlist input state state) run in
     rw (one.circuit, one.input, one.marked) at (standing-decided one.now steps one.stands)
 
 -- steps of variables are a run, or one of them is refused

@@ -1,24 +1,15 @@
 -- The line of a replay: a variable's name at its end, and its counts.
-use Rattle.std.proofs.Common.{◌≡◌, ap, ℕ, ◌+◌, ◌<◌, ◌≤◌, List, [], ◌++◌, length, map, take, get_or, Option, Some, arith}
-use Rattle.std.proofs.lemmas.List.{length-append, length-map, get_or_past}
+use Rattle.std.proofs.Common.{◌≡◌, ap, ℕ, ◌+◌, ◌<◌, ◌≤◌, List, ◌++◌, length, take, get_or, Option, Some, arith}
+use Rattle.std.proofs.lemmas.List.{length-append}
 use Rattle.std.proofs.lemmas.List.Folds.{length-flat_map-take}
 use Rattle.hz_outside.specs.Written.{joined}
 use Rattle.hz_write.specs.Writes.{newline, line_of}
 use Rattle.hz_write.proofs.Writing.{joined-push}
-use Rattle.hz_core.specs.Netlist.{Netlist, IsCircuit}
-use Rattle.hz_net.specs.Network.{network_of, wires_of}
-use Rattle.hz_net.proofs.Places.{length-network_of, length-wires_of}
-use Rattle.hz_text.specs.RunPrinted.{wire_word, variable_words, variable_word}
+use Rattle.hz_core.specs.Netlist.{Netlist}
+use Rattle.hz_text.specs.RunPrinted.{variable_word}
 use Rattle.hz_text.specs.RunValue.{RunOf, cycle_steps}
 use Rattle.hz_top.specs.Replaying.{no_run, steps_of, step_count}
 use Rattle.hz_top.specs.Verdict.{naming_line}
-
--- past the variables there are no names
-pub nameless : (netlist : Netlist) (var : ℕ) → IsCircuit netlist → length (network_of netlist) ≤ var → variable_word netlist var ≡ []
-unfolding variable_word
-nameless netlist var circuit past =
-    get_or_past (variable_words netlist) var []
-    (omega (arith, past, length-append netlist.names (map (wire_word netlist) (wires_of netlist)), length-map (wires_of netlist) (wire_word netlist), length-wires_of netlist, length-network_of netlist circuit))
 
 -- the words, the name, the end of the line
 pub naming_line-is : (netlist : Netlist) (words : List (List ℕ)) (var : ℕ) → naming_line netlist words var ≡ (joined words ++ variable_word netlist var) ++ newline

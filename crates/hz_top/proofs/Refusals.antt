@@ -34,13 +34,13 @@ run-accepted-or-refused net input start run (Cycle fault) accepted r =
     cycle-or-fault net input (end_of start run.lead) r.steps fault r.refused lasts
 
 -- what stands in the middle of a list stands at a place of it
-middle : {X : Type 0} (before after : List X) (x : X) → get_or (before ++ x ∷ after) (length before) x ≡ x
-middle [] after x = refl
-middle (y ∷ before) after x = middle before after x
+pub middle : {X : Type 0} (before after : List X) (x d : X) → get_or (before ++ x ∷ after) (length before) d ≡ x
+middle [] after x d = refl
+middle (y ∷ before) after x d = middle before after x d
 
-All-middle : {X : Type 0} (P : X → Type 0) (before after : List X) (x : X) → All P (before ++ x ∷ after) → P x
+pub All-middle : {X : Type 0} (P : X → Type 0) (before after : List X) (x : X) → All P (before ++ x ∷ after) → P x
 All-middle P before after x all =
-    subst P (middle before after x) (all (length before) x (omega (arith, length-append before (x ∷ after))))
+    subst P (middle before after x x) (all (length before) x (omega (arith, length-append before (x ∷ after))))
 
 -- no text is both
 pub accepted-or-refused : (netlist : Netlist) (value : RunTextOf) (number : ℕ) (why : Refused) → AreAccepted netlist value → IsFirstRefused netlist value number why → ⊥

@@ -10,11 +10,11 @@ use Rattle.hz_core.specs.Netlist.{Netlist}
 use Rattle.hz_net.specs.Network.{Driver, network_of}
 use Rattle.hz_net.specs.Variables.{expanded}
 use Rattle.hz_gmw.specs.Cycles.{IsNontransient}
-use Rattle.hz_gmw.specs.Replayed.{Replayed, replayed_at}
+use Rattle.hz_gmw.specs.Replayed.{Replayed, begun_at}
 use Rattle.hz_text.specs.RunValue.{RunOf, RunTextOf, cycle_steps, all_steps}
 use Rattle.hz_top.specs.declared.replaying.Refused.{Refused}
 use Rattle.hz_top.specs.Replaying.{no_run, steps_of, step_count, IsAcceptedRun, IsRefusedRun, IsFirstRefusal}
-use Rattle.hz_top.specs.Made.{AreVariables, run_of, MadeSteps, IsRefusedBehind}
+use Rattle.hz_top.specs.Made.{AreVariables, run_of, KeepsBegin, MadeSteps, IsRefusedBehind}
 use Rattle.hz_top.proofs.Steps.{cut-at, run-refused}
 
 -- the steps behind others name variables too
@@ -38,9 +38,9 @@ cycle-variables netlist other lead steps_in cycle one is same all =
 pub run-outcome : {T : Type 0} (was now : Replayed) (lead : List (List ℕ)) (steps_in : T → List (List ℕ)) (cycle : Option T) (one : T) (before : ℕ) (result : Result (Unit {0}) Refused) → cycle ≡ Some one → before ≡ length lead → MadeSteps was now lead → MatchResult result (λ done. IsNontransient (network_of now.circuit) now.input now.state (steps_in one)) (λ why. IsRefusedBehind before (network_of now.circuit) now.input now.state (steps_in one) why) → MatchResult result (λ done. IsAcceptedRun (network_of was.circuit) was.input was.state (run_of lead (option_map steps_in cycle))) (λ why. IsRefusedRun (network_of was.circuit) was.input was.state (run_of lead (option_map steps_in cycle)) why)
 run-outcome was now lead steps_in cycle one before (Ok done) is long made lasts =
     subst (λ (o : Option _). IsAcceptedRun (network_of was.circuit) was.input was.state (run_of lead (option_map steps_in o))) (sym is)
-    record { lead = made.run; cycle = rw (made.circuit, made.input, made.ends) at lasts }
+    record { lead = made.run; cycle = rw (made.begin.circuit, made.begin.input, made.ends) at lasts }
 run-outcome was now lead steps_in cycle one before (Err why) is long made refused =
-    let here : IsRefusedBehind (length lead) (network_of was.circuit) was.input _ (steps_in one) why = rw (long, made.circuit, made.input, made.ends) at refused in
+    let here : IsRefusedBehind (length lead) (network_of was.circuit) was.input _ (steps_in one) why = rw (long, made.begin.circuit, made.begin.input, made.ends) at refused in
     subst (λ (o : Option _). IsRefusedRun (network_of was.circuit) was.input was.state (run_of lead (option_map steps_in o)) why) (sym is)
     (run-refused (network_of was.circuit) was.input was.state lead (steps_in one) why made.run here)
 
@@ -64,13 +64,21 @@ pub run-few : (runs : List RunOf) (number : ℕ) (run : RunOf) → run ≡ get_o
 run-few runs number run is below few =
     omega (arith, ap (λ (r : RunOf). length (steps_of r)) is, length-flat_map-take steps_of runs number no_run below, few)
 
--- what is said of a replayer that has begun is said of what it was given
-pub begun : (P : List Driver → List Bool → List Bool → Type 0) (first was now : Replayed) (given input start : List Bool) → now ≡ replayed_at was.circuit given start → was.circuit ≡ first.circuit → given ≡ input → P (network_of now.circuit) now.input now.state → P (network_of first.circuit) input start
-begun P first was now given input start at same is holds =
-    let circuit : now.circuit ≡ first.circuit = ap (λ (r : Replayed). r.circuit) at ∙ same in
-    let under : now.input ≡ input = ap (λ (r : Replayed). r.input) at ∙ is in
-    let state : now.state ≡ start = ap (λ (r : Replayed). r.state) at in
+-- what is said of a replayer that begins again is said of what it was given
+pub begun-again : (P : List Driver → List Bool → List Bool → Type 0) (netlist : Netlist) (input start : List Bool) (was now : Replayed) → KeepsBegin (begun_at netlist input start) was → now ≡ begun_at was.circuit was.input was.begun → P (network_of now.circuit) now.input now.state → P (network_of netlist) input start
+begun-again P netlist input start was now kept at holds =
+    let circuit : now.circuit ≡ netlist = ap (λ (r : Replayed). r.circuit) at ∙ kept.circuit in
+    let under : now.input ≡ input = ap (λ (r : Replayed). r.input) at ∙ kept.input in
+    let state : now.state ≡ start = ap (λ (r : Replayed). r.state) at ∙ kept.begun in
     rw (circuit, under, state) at holds
+
+-- and it may begin once more
+pub kept-again : (netlist : Netlist) (input start : List Bool) (was now next : Replayed) → KeepsBegin (begun_at netlist input start) was → now ≡ begun_at was.circuit was.input was.begun → KeepsBegin now next → KeepsBegin (begun_at netlist input start) next
+kept-again netlist input start was now next kept at onward = record {
+  circuit = onward.circuit ∙ (ap (λ (r : Replayed). r.circuit) at ∙ kept.circuit);
+  input = onward.input ∙ (ap (λ (r : Replayed). r.input) at ∙ kept.input);
+  begun = onward.begun ∙ (ap (λ (r : Replayed). r.begun) at ∙ kept.begun);
+}
 
 -- one more run is accepted
 pub accepted-more : (net : List Driver) (input start : List Bool) (runs : List RunOf) (number : ℕ) (run : RunOf) → run ≡ get_or runs number no_run → number < length runs → All (IsAcceptedRun net input start) (take number runs) → IsAcceptedRun net input start run → All (IsAcceptedRun net input start) (take (number + 1) runs)

@@ -24,8 +24,7 @@ cut-at list i d below =
 pub made-none : (was : Replayed) → MadeSteps was was []
 made-none was = record {
   run = tt;
-  circuit = refl;
-  input = refl;
+  begin = record { circuit = refl; input = refl; begun = refl };
   marked = refl;
   ends = refl;
   stands = λ earlier stands. subst (StandsFor was) (sym (append-nil earlier)) stands;
@@ -35,15 +34,18 @@ made-none was = record {
 pub made-more : (was now next : Replayed) (steps : List (List ℕ)) (i : ℕ) (flips : List ℕ) → i < length steps → flips ≡ get_or steps i [] → MadeSteps was now (take i steps) → IsStep (network_of now.circuit) now.input now.state flips → next ≡ stepped_by now flips → ((earlier : List (List ℕ)) → StandsFor now earlier → StandsFor next (earlier ++ flips ∷ [])) → MadeSteps was next (take (i + 1) steps)
 made-more was now next steps i flips below is made step after stands =
     let more : take (i + 1) steps ≡ take i steps ++ flips ∷ [] = take_more steps i [] below ∙ ap (λ (x : List ℕ). take i steps ++ x ∷ []) (sym is) in
-    let here : IsStep (network_of was.circuit) was.input (end_of was.state (take i steps)) flips = rw (made.circuit, made.input, made.ends) at step in
+    let here : IsStep (network_of was.circuit) was.input (end_of was.state (take i steps)) flips = rw (made.begin.circuit, made.begin.input, made.ends) at step in
     let run : IsRun (network_of was.circuit) was.input was.state (take i steps ++ flips ∷ []) =
     IsRun-append (network_of was.circuit) was.input was.state (take i steps) (flips ∷ []) made.run (here, tt) in
     let ends : next.state ≡ end_of was.state (take i steps ++ flips ∷ []) =
     ap (λ (r : Replayed). r.state) after ∙ (ap (flipped flips) made.ends ∙ sym (end_of-append was.state (take i steps) (flips ∷ []))) in
     subst (MadeSteps was next) (sym more) record {
       run = run;
-      circuit = ap (λ (r : Replayed). r.circuit) after ∙ made.circuit;
-      input = ap (λ (r : Replayed). r.input) after ∙ made.input;
+      begin = record {
+        circuit = ap (λ (r : Replayed). r.circuit) after ∙ made.begin.circuit;
+        input = ap (λ (r : Replayed). r.input) after ∙ made.begin.input;
+        begun = ap (λ (r : Replayed). r.begun) after ∙ made.begin.begun;
+      };
       marked = ap (λ (r : Replayed). r.marked) after ∙ made.marked;
       ends = ends;
       stands = λ earlier first. subst (StandsFor next) (append_assoc earlier (take i steps) (flips ∷ [])) (stands (earlier ++ take i steps) (made.stands earlier first));
@@ -58,7 +60,7 @@ refused-next was now steps i flips fault below is made refused = record {
   whole = cut-at steps i [] below ∙ ap (λ (x : List ℕ). take i steps ++ x ∷ drop (i + 1) steps) (sym is);
   place = omega (arith, length-take-le i steps, below);
   run = made.run;
-  refused = rw (made.circuit, made.input, made.ends) at refused;
+  refused = rw (made.begin.circuit, made.begin.input, made.ends) at refused;
 }
 
 -- a step that is refused in the front of some steps is refused in the whole
@@ -97,16 +99,16 @@ run-refused net input start lead steps (Cycle fault) run (onward, refused) = rec
 }
 
 -- a cycle from a state that was marked
-pub cycle-accepted : (was start now : Replayed) (steps : List (List ℕ)) → start ≡ replayed_at was.circuit was.input was.state → MadeSteps start now steps → IsNontransient (network_of now.circuit) now.input now.marked steps → IsNontransient (network_of was.circuit) was.input was.state steps
+pub cycle-accepted : (was start now : Replayed) (steps : List (List ℕ)) → start ≡ replayed_at was.circuit was.input was.begun was.state → MadeSteps start now steps → IsNontransient (network_of now.circuit) now.input now.marked steps → IsNontransient (network_of was.circuit) was.input was.state steps
 cycle-accepted was start now steps at made lasts =
-    let circuit : now.circuit ≡ was.circuit = made.circuit ∙ ap (λ (r : Replayed). r.circuit) at in
-    let input : now.input ≡ was.input = made.input ∙ ap (λ (r : Replayed). r.input) at in
+    let circuit : now.circuit ≡ was.circuit = made.begin.circuit ∙ ap (λ (r : Replayed). r.circuit) at in
+    let input : now.input ≡ was.input = made.begin.input ∙ ap (λ (r : Replayed). r.input) at in
     let marked : now.marked ≡ was.state = made.marked ∙ ap (λ (r : Replayed). r.marked) at in
     rw (circuit, input, marked) at lasts
 
-pub cycle-refused : (was start now : Replayed) (steps : List (List ℕ)) (fault : CycleFault) → start ≡ replayed_at was.circuit was.input was.state → MadeSteps start now steps → IsCycleFault (network_of now.circuit) now.input now.marked steps fault → IsRun (network_of was.circuit) was.input was.state steps × IsCycleFault (network_of was.circuit) was.input was.state steps fault
+pub cycle-refused : (was start now : Replayed) (steps : List (List ℕ)) (fault : CycleFault) → start ≡ replayed_at was.circuit was.input was.begun was.state → MadeSteps start now steps → IsCycleFault (network_of now.circuit) now.input now.marked steps fault → IsRun (network_of was.circuit) was.input was.state steps × IsCycleFault (network_of was.circuit) was.input was.state steps fault
 cycle-refused was start now steps fault at made refused =
-    let circuit : now.circuit ≡ was.circuit = made.circuit ∙ ap (λ (r : Replayed). r.circuit) at in
-    let input : now.input ≡ was.input = made.input ∙ ap (λ (r : Replayed). r.input) at in
+    let circuit : now.circuit ≡ was.circuit = made.begin.circuit ∙ ap (λ (r : Replayed). r.circuit) at in
+    let input : now.input ≡ was.input = made.begin.input ∙ ap (λ (r : Replayed). r.input) at in
     let marked : now.marked ≡ was.state = made.marked ∙ ap (λ (r : Replayed). r.marked) at in
     (subst (λ (r : Replayed). IsRun (network_of r.circuit) r.input r.state steps) at made.run, rw (circuit, input, marked) at refused)

@@ -18,12 +18,17 @@ AreVariables netlist steps = All (λ flips. All (λ var. var < length (network_o
 abbrev pub run_of : List (List ℕ) → Option (List (List ℕ)) → RunOf
 run_of lead cycle = record { lead = lead; cycle = cycle }
 
+-- a replayer would begin again as it would have before
+pub record KeepsBegin (was now : Replayed) : Type 0 where
+  pub circuit : now.circuit ≡ was.circuit
+  pub input : now.input ≡ was.input
+  pub begun : now.begun ≡ was.begun
+
 -- Steps were made from a replayer's state: they are a run, the state is the one in which it ends, and the replayer stands
 -- for each run for which it stood before, with these steps behind it.
 pub record MadeSteps (was now : Replayed) (steps : List (List ℕ)) : Type 0 where
   pub run : IsRun (network_of was.circuit) was.input was.state steps
-  pub circuit : now.circuit ≡ was.circuit
-  pub input : now.input ≡ was.input
+  pub begin : KeepsBegin was now
   pub marked : now.marked ≡ was.marked
   pub ends : now.state ≡ end_of was.state steps
   pub stands : (earlier : List (List ℕ)) → StandsFor was earlier → StandsFor now (earlier ++ steps)

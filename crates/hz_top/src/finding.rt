@@ -38,6 +38,7 @@ pub(crate) fn find(
     ensures { IfOk result (λ found. IsFinding (network_of net.now) input.now start.now
         found.a.items found.rounds_a found.b.items found.rounds_b found.run.steps) }
 {
+    // A getter of the network tells that its circuit is one, on which the proof stands.
     let _variables = net.len();
     let reached = find_reached(alloc, net, start, input)?;
     let lasting = find_lasting(alloc, net, input, reached.a.as_slice())?;

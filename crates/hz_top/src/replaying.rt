@@ -8,7 +8,7 @@ ghost use Rattle.hz_text.specs.RunText.{IsRunTextFor};
 ghost use Rattle.hz_top.specs.Answer.{Answers};
 ghost use Rattle.hz_top.specs.Outcome.{most_bytes, RunTextComes};
 ghost use Rattle.hz_top.specs.Replaying.{steps_of, IsAcceptedRun, IsRefusedRun, IsRefusedStep, IsFirstRefusal};
-ghost use Rattle.hz_top.specs.Made.{AreVariables, run_of, MadeSteps, IsRefusedBehind};
+ghost use Rattle.hz_top.specs.Made.{AreVariables, run_of, KeepsBegin, MadeSteps, IsRefusedBehind};
 ghost use Rattle.hz_top.specs.Verdict.{ReplayComes};
 
 use crate::refusal::refuse_text;
@@ -82,7 +82,8 @@ fn expand_start(alloc: Global, net: &Net, nodes: &[bool]) -> Result<Vec<bool>, A
     Ok(start)
 }
 
-// Replays the runs of a text, each from the start.
+// Replays the runs of a text, each from the start. The first begins there, and each goes back over what the one before it
+// changed.
 fn replay_runs(replay: &mut Replay, text: &RunText, start: &[bool]) -> Result<(), RefusedRun>
     requires text { IsRunTextFor replay.old.circuit text.now }
     requires start { length start.now ≡ length (network_of replay.old.circuit) }
@@ -90,8 +91,9 @@ fn replay_runs(replay: &mut Replay, text: &RunText, start: &[bool]) -> Result<()
         (λ _. All (IsAcceptedRun (network_of replay.old.circuit) text.now.input start.now) text.now.runs)
         (λ refused. IsFirstRefusal (network_of replay.old.circuit) text.now.input start.now text.now.runs refused.run refused.why) }
 {
+    replay.begin(text.input(), start);
     for number in 0..text.runs() {
-        replay.begin(text.input(), start);
+        replay.restart();
         match replay_run(replay, text.lead(number), text.cycle(number)) {
             Ok(()) => {}
             Err(why) => {
@@ -109,7 +111,7 @@ fn replay_runs(replay: &mut Replay, text: &RunText, start: &[bool]) -> Result<()
 fn replay_run(replay: &mut Replay, lead: &Run, cycle: Option<&Run>) -> Result<(), Refused>
     requires variables { AreVariables replay.old.circuit (steps_of (run_of lead.now.steps (option_map (λ run. run.now.steps) cycle))) }
     requires few { length (steps_of (run_of lead.now.steps (option_map (λ run. run.now.steps) cycle))) ≤ 2000000 }
-    ensures circuit { replay.new.circuit ≡ replay.old.circuit }
+    ensures begin { KeepsBegin replay.old replay.new }
     ensures outcome { MatchResult result
         (λ _. IsAcceptedRun (network_of replay.old.circuit) replay.old.input replay.old.state (run_of lead.now.steps (option_map (λ run. run.now.steps) cycle.entry)))
         (λ why. IsRefusedRun (network_of replay.old.circuit) replay.old.input replay.old.state (run_of lead.now.steps (option_map (λ run. run.now.steps) cycle.entry)) why) }
@@ -133,7 +135,7 @@ fn replay_run(replay: &mut Replay, lead: &Run, cycle: Option<&Run>) -> Result<()
 fn replay_cycle(replay: &mut Replay, cycle: &Run, before: usize) -> Result<(), Refused>
     requires variables { AreVariables replay.old.circuit cycle.now.steps }
     requires few { before + length cycle.now.steps ≤ 2000000 }
-    ensures circuit { replay.new.circuit ≡ replay.old.circuit }
+    ensures begin { KeepsBegin replay.old replay.new }
     ensures outcome { MatchResult result
         (λ _. IsNontransient (network_of replay.old.circuit) replay.old.input replay.old.state cycle.now.steps)
         (λ why. IsRefusedBehind before (network_of replay.old.circuit) replay.old.input replay.old.state cycle.now.steps why) }
@@ -157,7 +159,7 @@ fn replay_cycle(replay: &mut Replay, cycle: &Run, before: usize) -> Result<(), R
 // Makes the steps of a run.
 fn make_steps(replay: &mut Replay, run: &Run) -> Result<(), RefusedStep>
     requires { AreVariables replay.old.circuit run.now.steps }
-    ensures circuit { replay.new.circuit ≡ replay.old.circuit }
+    ensures begin { KeepsBegin replay.old replay.new }
     ensures outcome { MatchResult result
         (λ _. MadeSteps replay.old replay.new run.now.steps)
         (λ refused. IsRefusedStep (network_of replay.old.circuit) replay.old.input replay.old.state run.now.steps refused.number refused.fault) }

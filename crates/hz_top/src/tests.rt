@@ -46,131 +46,133 @@ const C17: &str = "INPUT(1)\nINPUT(2)\nINPUT(3)\nINPUT(6)\nINPUT(7)\nOUTPUT(22)\
 const MULTIPLEXER: &str = "INPUT(s)\nINPUT(x)\nINPUT(y)\nOUTPUT(z)\n\
     n = NOT(s)\na = AND(s, x)\nb = AND(n, y)\nz = OR(a, b)\n";
 
+// Netlists, scripts and what is printed.
+const REPORTS: [(&str, &str, &str); 6] = [
+    (
+        "INPUT(a)\nOUTPUT(a)\n",
+        "start a=0\nchange a=1\n",
+        "netlist inputs 1 gates 0 wires 0 variables 1\n\
+        start a=0\n\
+        change 1 a=1\n\
+        rounds A 2 B 2\n\
+        a start 0 A X B 1\n\
+        runs 1\n\
+        start a=0\n\
+        input a=1\n\
+        run\n\
+        step a\n\
+        end\n",
+    ),
+    (
+        LATCH,
+        "start r=1 s=1\nchange r=0 s=0\n",
+        "netlist inputs 2 gates 2 wires 4 variables 8\n\
+        start r=1 s=1 q=0 qb=0\n\
+        change 1 r=0 s=0\n\
+        rounds A 5 B 3\n\
+        r start 1 A X B 0\n\
+        s start 1 A X B 0\n\
+        q start 0 A X B X\n\
+        qb start 0 A X B X\n\
+        runs 1\n\
+        start r=1 s=1 q=0 qb=0\n\
+        input r=0 s=0\n\
+        run\n\
+        step r s\n\
+        step q(1)\n\
+        step q\n\
+        step qb(1)\n\
+        step qb\n\
+        step q(2) qb(2)\n\
+        end\n",
+    ),
+    (
+        C17,
+        "start 1=0 2=0 3=0 6=0 7=0\nchange 3=1 1=1\n",
+        "netlist inputs 5 gates 6 wires 12 variables 23\n\
+        start 1=0 2=0 3=0 6=0 7=0 10=1 11=1 16=1 19=1 22=0 23=0\n\
+        change 1 3=1 1=1\n\
+        rounds A 6 B 6\n\
+        1 start 0 A X B 1\n\
+        2 start 0 A 0 B 0\n\
+        3 start 0 A X B 1\n\
+        6 start 0 A 0 B 0\n\
+        7 start 0 A 0 B 0\n\
+        10 start 1 A X B 0\n\
+        11 start 1 A 1 B 1\n\
+        16 start 1 A 1 B 1\n\
+        19 start 1 A 1 B 1\n\
+        22 start 0 A X B 1\n\
+        23 start 0 A 0 B 0\n\
+        runs 1\n\
+        start 1=0 2=0 3=0 6=0 7=0 10=1 11=1 16=1 19=1 22=0 23=0\n\
+        input 1=1 2=0 3=1 6=0 7=0\n\
+        run\n\
+        step 1 3\n\
+        step 10(1) 10(2)\n\
+        step 10\n\
+        step 22(1)\n\
+        step 22\n\
+        step 11(1)\n\
+        end\n",
+    ),
+    (
+        MULTIPLEXER,
+        "start s=1 x=1 y=1\nchange s=0\n",
+        "netlist inputs 3 gates 4 wires 7 variables 14\n\
+        start s=1 x=1 y=1 n=0 a=1 b=0 z=1\n\
+        change 1 s=0\n\
+        rounds A 7 B 8\n\
+        s start 1 A X B 0\n\
+        x start 1 A 1 B 1\n\
+        y start 1 A 1 B 1\n\
+        n start 0 A X B 1\n\
+        a start 1 A X B 0\n\
+        b start 0 A X B 1\n\
+        z start 1 A X B 1\n\
+        runs 1\n\
+        start s=1 x=1 y=1 n=0 a=1 b=0 z=1\n\
+        input s=0 x=1 y=1\n\
+        run\n\
+        step s\n\
+        step n(1)\n\
+        step n\n\
+        step a(1)\n\
+        step a\n\
+        step b(1)\n\
+        step b\n\
+        step z(1)\n\
+        step z\n\
+        step z(2)\n\
+        end\n",
+    ),
+    (
+        LATCH,
+        "start r=0 s=0 q=1\nchange s=0\n",
+        "netlist inputs 2 gates 2 wires 4 variables 8\n\
+        start r=0 s=0 q=1 qb=0\n\
+        change 1 s=0\n\
+        rounds A 1 B 1\n\
+        r start 0 A 0 B 0\n\
+        s start 0 A 0 B 0\n\
+        q start 1 A 1 B 1\n\
+        qb start 0 A 0 B 0\n\
+        runs 1\n\
+        start r=0 s=0 q=1 qb=0\n\
+        input r=0 s=0\n\
+        run\n\
+        end\n",
+    ),
+    (
+        LATCH,
+        "start r=0 s=0 q=1 qb=0\n",
+        "netlist inputs 2 gates 2 wires 4 variables 8\nstart r=0 s=0 q=1 qb=0\n",
+    ),
+];
+
 #[test]
 fn reports(rt: HostRuntime) -> Result<(), Fail> {
-    let rows = [
-        (
-            "INPUT(a)\nOUTPUT(a)\n",
-            "start a=0\nchange a=1\n",
-            "netlist inputs 1 gates 0 wires 0 variables 1\n\
-            start a=0\n\
-            change 1 a=1\n\
-            rounds A 2 B 2\n\
-            a start 0 A X B 1\n\
-            runs 1\n\
-            start a=0\n\
-            input a=1\n\
-            run\n\
-            step a\n\
-            end\n",
-        ),
-        (
-            LATCH,
-            "start r=1 s=1\nchange r=0 s=0\n",
-            "netlist inputs 2 gates 2 wires 4 variables 8\n\
-            start r=1 s=1 q=0 qb=0\n\
-            change 1 r=0 s=0\n\
-            rounds A 5 B 3\n\
-            r start 1 A X B 0\n\
-            s start 1 A X B 0\n\
-            q start 0 A X B X\n\
-            qb start 0 A X B X\n\
-            runs 1\n\
-            start r=1 s=1 q=0 qb=0\n\
-            input r=0 s=0\n\
-            run\n\
-            step r s\n\
-            step q(1)\n\
-            step q\n\
-            step qb(1)\n\
-            step qb\n\
-            step q(2) qb(2)\n\
-            end\n",
-        ),
-        (
-            C17,
-            "start 1=0 2=0 3=0 6=0 7=0\nchange 3=1 1=1\n",
-            "netlist inputs 5 gates 6 wires 12 variables 23\n\
-            start 1=0 2=0 3=0 6=0 7=0 10=1 11=1 16=1 19=1 22=0 23=0\n\
-            change 1 3=1 1=1\n\
-            rounds A 6 B 6\n\
-            1 start 0 A X B 1\n\
-            2 start 0 A 0 B 0\n\
-            3 start 0 A X B 1\n\
-            6 start 0 A 0 B 0\n\
-            7 start 0 A 0 B 0\n\
-            10 start 1 A X B 0\n\
-            11 start 1 A 1 B 1\n\
-            16 start 1 A 1 B 1\n\
-            19 start 1 A 1 B 1\n\
-            22 start 0 A X B 1\n\
-            23 start 0 A 0 B 0\n\
-            runs 1\n\
-            start 1=0 2=0 3=0 6=0 7=0 10=1 11=1 16=1 19=1 22=0 23=0\n\
-            input 1=1 2=0 3=1 6=0 7=0\n\
-            run\n\
-            step 1 3\n\
-            step 10(1) 10(2)\n\
-            step 10\n\
-            step 22(1)\n\
-            step 22\n\
-            step 11(1)\n\
-            end\n",
-        ),
-        (
-            MULTIPLEXER,
-            "start s=1 x=1 y=1\nchange s=0\n",
-            "netlist inputs 3 gates 4 wires 7 variables 14\n\
-            start s=1 x=1 y=1 n=0 a=1 b=0 z=1\n\
-            change 1 s=0\n\
-            rounds A 7 B 8\n\
-            s start 1 A X B 0\n\
-            x start 1 A 1 B 1\n\
-            y start 1 A 1 B 1\n\
-            n start 0 A X B 1\n\
-            a start 1 A X B 0\n\
-            b start 0 A X B 1\n\
-            z start 1 A X B 1\n\
-            runs 1\n\
-            start s=1 x=1 y=1 n=0 a=1 b=0 z=1\n\
-            input s=0 x=1 y=1\n\
-            run\n\
-            step s\n\
-            step n(1)\n\
-            step n\n\
-            step a(1)\n\
-            step a\n\
-            step b(1)\n\
-            step b\n\
-            step z(1)\n\
-            step z\n\
-            step z(2)\n\
-            end\n",
-        ),
-        (
-            LATCH,
-            "start r=0 s=0 q=1\nchange s=0\n",
-            "netlist inputs 2 gates 2 wires 4 variables 8\n\
-            start r=0 s=0 q=1 qb=0\n\
-            change 1 s=0\n\
-            rounds A 1 B 1\n\
-            r start 0 A 0 B 0\n\
-            s start 0 A 0 B 0\n\
-            q start 1 A 1 B 1\n\
-            qb start 0 A 0 B 0\n\
-            runs 1\n\
-            start r=0 s=0 q=1 qb=0\n\
-            input r=0 s=0\n\
-            run\n\
-            end\n",
-        ),
-        (
-            LATCH,
-            "start r=0 s=0 q=1 qb=0\n",
-            "netlist inputs 2 gates 2 wires 4 variables 8\nstart r=0 s=0 q=1 qb=0\n",
-        ),
-    ];
-    for (netlist, script, text) in rows {
+    for (netlist, script, text) in REPORTS {
         let (status, out) = told(rt.alloc(), "analyse", netlist, script, 0, 0)?;
         assert_eq!(rt; status, Status::Done);
         assert_eq!(rt; out.bytes(), text.as_bytes());

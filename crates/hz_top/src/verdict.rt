@@ -1,9 +1,9 @@
 //! The one line that `replay` writes.
-ghost use Rattle.std.specs.Prelude.{◌≡◌, ◌+◌, ◌<◌, ◌≤◌, ◌++◌, length, map, slice_index_or};
-ghost use Rattle.hz_write.specs.Writes.{Wrote, Added};
-ghost use Rattle.hz_text.specs.RunPrinted.{variable_word};
+ghost use Rattle.std.specs.Prelude.{◌≡◌, ◌+◌, ◌<◌, ◌≤◌, length, map, slice_index_or};
+ghost use Rattle.hz_net.specs.Network.{network_of};
+ghost use Rattle.hz_write.specs.Writes.{Wrote};
 ghost use Rattle.hz_top.specs.Replaying.{step_count, cycle_count, steps_of, no_run};
-ghost use Rattle.hz_top.specs.Verdict.{yes_line, naming_line, step_line, cycle_line, no_line, accepted_line};
+ghost use Rattle.hz_top.specs.Verdict.{yes_line, naming_line, step_line, cycle_line, no_line, accepted_line, step_variable, cycle_variable, named_variable, NamesVariable};
 
 use crate::replaying::Refused;
 use hz_gmw::{CycleFault, StepFault};
@@ -89,6 +89,7 @@ pub(crate) fn put_no<K: Sink>(
     run: usize,
     why: Refused,
 ) -> Result<(), PutFault>
+    requires { NamesVariable net.now (named_variable why) }
     ensures { Wrote K.written K.faults (no_line net.now run why) out.old out.new result }
 {
     match why {
@@ -105,6 +106,7 @@ fn put_step<K: Sink>(
     step: usize,
     fault: StepFault,
 ) -> Result<(), PutFault>
+    requires { NamesVariable net.now (step_variable fault) }
     ensures { Wrote K.written K.faults (step_line net.now run step fault) out.old out.new result }
 {
     let mut of_run = Buffer::new();
@@ -130,6 +132,7 @@ fn put_step<K: Sink>(
 
 // A cycle is refused.
 fn put_cycle<K: Sink>(out: &mut K, net: &Net, run: usize, fault: CycleFault) -> Result<(), PutFault>
+    requires { cycle_variable fault < length (network_of net.now) }
     ensures { Wrote K.written K.faults (cycle_line net.now run fault) out.old out.new result }
 {
     let mut of_run = Buffer::new();
@@ -149,21 +152,11 @@ fn put_cycle<K: Sink>(out: &mut K, net: &Net, run: usize, fault: CycleFault) -> 
 
 // A line of words, the last of which is a variable's name.
 fn put_naming<K: Sink>(out: &mut K, net: &Net, words: &[&[u8]], var: u32) -> Result<(), PutFault>
+    requires { var < length (network_of net.now) }
     ensures { Wrote K.written K.faults (naming_line net.now (map (λ word. word.now) words.now) var) out.old out.new result }
 {
     let mut line = Line::new();
     line.add_all(out, words)?;
-    add_name(&mut line, out, net, var)?;
+    add_variable(&mut line, out, net, var)?;
     line.end(out)
-}
-
-// Adds the name of a variable to a line; of no variable the empty name.
-fn add_name<K: Sink>(line: &mut Line, out: &mut K, net: &Net, var: u32) -> Result<(), PutFault>
-    ensures { Added K.written K.faults (line.old ++ variable_word net.now var) out.old out.new line.new result }
-{
-    if var < net.len() {
-        add_variable(line, out, net, var)
-    } else {
-        Ok(())
-    }
 }

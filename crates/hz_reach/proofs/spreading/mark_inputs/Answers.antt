@@ -1,10 +1,12 @@
-use Rattle.std.proofs.Common.{ap, arith}
+use Rattle.std.proofs.Common.{◌≡◌, ◌∙◌, ◌+◌, ◌∷◌, ◌++◌, [], ℕ, Bool, List, ap, arith}
 use Rattle.hz_core.specs.Netlist.{Netlist}
 use Rattle.hz_core.specs.Pattern.{differs}
 use Rattle.hz_net.specs.Network.{bit_at}
 use Rattle.hz_net.proofs.Places.{length-network_of}
-use Rattle.hz_reach.proofs.Marks.{picked-below}
+use Rattle.hz_reach.specs.Scratched.{Scratched}
+use Rattle.hz_reach.proofs.Marks.{picked-below, picked-more, picked-skip}
 use Rattle.hz_reach.proofs.spreading.mark_inputs.Goals as goal
+use Rattle.hz_reach.proofs.spreading.mark_inputs.Goals.{then-start-var, else-start-var}
 
 pub bounds-start-var : goal.bounds-start-var
 bounds-start-var c =
@@ -20,3 +22,24 @@ mark-requires-clause-inside c =
 pub mark-requires-clause-ascending : goal.mark-requires-clause-ascending
 mark-requires-clause-ascending c =
     rw c.loop-var.invariant.0 (λ i. picked-below (λ n. differs (bit_at c.args.start.now n) (bit_at c.args.input.now n)) 0 c.loop-var.var c.loop-var.var i (omega arith))
+
+pub loop-var-preserved : goal.loop-var-preserved
+loop-var-preserved c =
+    let test : ℕ → Bool = λ n. differs (bit_at c.args.start.now n) (bit_at c.args.input.now n) in
+    let var = c.loop-var.var in
+    let next : var ≡ 0 + var = omega arith in
+    elim c.if-start-var.branch [
+      | then-start-var w ↦ (
+        ap (λ (s : Scratched). s.marked) w.scratch-is
+            ∙ (w.mark.ensures.marked
+            ∙ (ap (λ (list : List ℕ). list ++ var ∷ []) c.loop-var.invariant.0
+            ∙ picked-more test 0 var var next w.if-start-var.true)),
+        ap (λ (s : Scratched). s.state) w.scratch-is ∙ (w.mark.ensures.state ∙ c.loop-var.invariant.1),
+        ap (λ (s : Scratched). s.sorted) w.scratch-is ∙ (w.mark.ensures.sorted ∙ c.loop-var.invariant.2),
+      )
+      | else-start-var w ↦ (
+        ap (λ (s : Scratched). s.marked) w.scratch-is ∙ (c.loop-var.invariant.0 ∙ picked-skip test 0 var var next w.if-start-var.false),
+        ap (λ (s : Scratched). s.state) w.scratch-is ∙ c.loop-var.invariant.1,
+        ap (λ (s : Scratched). s.sorted) w.scratch-is ∙ c.loop-var.invariant.2,
+      )
+    ]

@@ -7,7 +7,7 @@ use Rattle.hz_reach.specs.Scratched.{Scratched}
 use Rattle.hz_reach.specs.Turn.{is_unknown}
 use Rattle.hz_reach.proofs.Marks.{picked-below, picked-more, picked-skip}
 use Rattle.hz_reach.proofs.spreading.mark_unchanged.Goals as goal
-use Rattle.hz_reach.proofs.spreading.mark_unchanged.Goals.{then-is_left, else-is_left}
+use Rattle.hz_reach.proofs.spreading.mark_unchanged.Goals.{then-has_yet_to_change, else-has_yet_to_change}
 
 pub mark-requires-clause-ascending : goal.mark-requires-clause-ascending
 mark-requires-clause-ascending c =
@@ -24,20 +24,20 @@ loop-wire-preserved c =
     let next : c.loop-wire.wire ≡ names + (c.loop-wire.wire - names) = omega (arith, above) in
     let count : c.loop-wire.wire - names + 1 ≡ c.loop-wire.wire + 1 - names = omega (arith, above) in
     let states = c.state.ensures ∙ c.loop-wire.invariant.1 in
-    let is : c.is_left.result ≡ test c.loop-wire.wire =
-    c.is_left.ensures ∙ ap (λ (s : List Bool). is_unknown (value_at c.args.a.now c.loop-wire.wire) && not (differs (bit_at c.args.start.now c.loop-wire.wire) (bit_at s c.loop-wire.wire))) states in
-    elim c.if-is_left.branch [
-      | then-is_left w ↦ (
+    let is : c.has_yet_to_change.result ≡ test c.loop-wire.wire =
+    c.has_yet_to_change.ensures ∙ ap (λ (s : List Bool). is_unknown (value_at c.args.a.now c.loop-wire.wire) && not (differs (bit_at c.args.start.now c.loop-wire.wire) (bit_at s c.loop-wire.wire))) states in
+    elim c.if-has_yet_to_change.branch [
+      | then-has_yet_to_change w ↦ (
         ap (λ (s : Scratched). s.marked) w.scratch-is
             ∙ (w.mark.ensures.marked
             ∙ (ap (λ (list : List ℕ). list ++ c.loop-wire.wire ∷ []) c.loop-wire.invariant.0
-            ∙ (picked-more test names (c.loop-wire.wire - names) c.loop-wire.wire next (sym is ∙ w.if-is_left.true) ∙ ap (picked test names) count))),
+            ∙ (picked-more test names (c.loop-wire.wire - names) c.loop-wire.wire next (sym is ∙ w.if-has_yet_to_change.true) ∙ ap (picked test names) count))),
         ap (λ (s : Scratched). s.state) w.scratch-is ∙ (w.mark.ensures.state ∙ c.loop-wire.invariant.1),
         ap (λ (s : Scratched). s.sorted) w.scratch-is ∙ (w.mark.ensures.sorted ∙ c.loop-wire.invariant.2),
       )
-      | else-is_left w ↦ (
+      | else-has_yet_to_change w ↦ (
         ap (λ (s : Scratched). s.marked) w.scratch-is
-            ∙ (c.loop-wire.invariant.0 ∙ (picked-skip test names (c.loop-wire.wire - names) c.loop-wire.wire next (sym is ∙ w.if-is_left.false) ∙ ap (picked test names) count)),
+            ∙ (c.loop-wire.invariant.0 ∙ (picked-skip test names (c.loop-wire.wire - names) c.loop-wire.wire next (sym is ∙ w.if-has_yet_to_change.false) ∙ ap (picked test names) count)),
         ap (λ (s : Scratched). s.state) w.scratch-is ∙ c.loop-wire.invariant.1,
         ap (λ (s : Scratched). s.sorted) w.scratch-is ∙ c.loop-wire.invariant.2,
       )

@@ -1,4 +1,5 @@
 use Rattle.std.proofs.Common.{◌≡◌, ◌∙◌, ◌-◌, [], suc, Some, length, get_or, set, refl, ap, sym, subst, arith}
+use Rattle.std.proofs.lemmas.Result.{on_ok_weaker}
 use Rattle.hz_text.specs.RunStatement.{Cycle}
 use Rattle.hz_text.specs.RunValue.{RunOf}
 use Rattle.hz_text.specs.RunBuilt.{IsRunAdded}
@@ -15,4 +16,4 @@ returns c =
     let is : run ≡ get_or old n run = c.index_mut-run.ensures.value in
     let F : RunOf → RunOf = λ one. record { lead = one.lead; cycle = Some [] } in
     let P : RunOf → Type 0 = λ one. IsRunAdded old Cycle (set old n one) in
-    subst P (ap F (sym is) ∙ sym c.begin_cycle.ensures) (added_cycle old n run long c.requires.follows)
+    on_ok_weaker c.begin_cycle.result (λ d. subst P (ap F (sym is) ∙ sym d) (added_cycle old n run long c.requires.follows)) c.begin_cycle.ensures

@@ -1,5 +1,5 @@
 use Rattle.std.proofs.Common.{◌≡◌, ◌≤◌, drop}
-use Rattle.hz_text.specs.RunFault.{beyond_from}
+use Rattle.hz_text.specs.RunPass.{beyond_from}
 use Rattle.hz_text.specs.RunLookup.{run_entered_all}
 use Rattle.hz_text.proofs.run_passes.line_beyond.Given as goal
 

@@ -5,13 +5,14 @@ use Rattle.hz_text.specs.RunText.{IsRunTextBy, unnumbered}
 use Rattle.hz_text.proofs.RunBuildLaws.{clear_run, long_enough}
 use Rattle.hz_text.proofs.RunUsableLaws.{usable_run}
 use Rattle.std.proofs.lemmas.Result.{err_from_is_err_and}
-use Rattle.hz_text.proofs.RunFaultLaws.{run_refusal-exact}
+use Rattle.hz_text.specs.RunFault.{StandsInRuns}
+use Rattle.hz_text.proofs.LeastFault.{exact}
 use Rattle.hz_text.proofs.run_read.read_run.Goals as goal
 
 pub returns-in_err-entries-clause-exact : goal.returns-in_err-entries-clause-exact
 returns-in_err-entries-clause-exact c =
     let p = err_from_is_err_and c.from_residual.result c.from_residual.ensures.1 in
-    λ fault h. rw (p.1, p.2) (elim (run_refusal-exact c.args.net.now c.args.text.now c.in_err-entries.field-0.0 fault c.in_err-entries.ensures h) [
+    λ fault h. rw (p.1, p.2) (elim (exact (StandsInRuns c.args.net.now c.args.text.now) c.in_err-entries.field-0.0 fault c.in_err-entries.ensures h) [
       | inl same ↦ inl (ap Err same)
       | inr memory ↦ inr (ap Err memory)
     ])

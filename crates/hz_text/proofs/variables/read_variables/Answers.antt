@@ -1,7 +1,7 @@
 use Rattle.std.proofs.Common.{◌≡◌, ◌-◌, List, arith, take, drop, length, subst}
 use Rattle.std.proofs.lemmas.List.{length-drop, take_all}
 use Rattle.hz_line.specs.declared.tokens.Token.{Token}
-use Rattle.hz_text.specs.RunLookup.{IsFirstVariable}
+use Rattle.hz_text.specs.VariablesRead.{IsFirstVariable}
 use Rattle.hz_text.specs.declared.variables.First.TheVariants.{Variable}
 use Rattle.hz_text.proofs.VariableLemmas.{variable_step}
 use Rattle.hz_text.proofs.variables.read_variables.Goals as goal

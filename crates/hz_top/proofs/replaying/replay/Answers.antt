@@ -1,4 +1,5 @@
-use Rattle.std.proofs.Common.{inl, inr, refl, ap, ◌∙◌, List, Bool, All, length, sym}
+use Rattle.std.proofs.Common.{inl, inr, refl, ap, ◌∙◌, List, Bool, All, length, sym, subst}
+use Rattle.hz_core.specs.Netlist.{Netlist}
 use Rattle.hz_net.specs.Network.{Driver, network_of}
 use Rattle.hz_net.specs.Variables.{expanded}
 use Rattle.hz_gmw.specs.Replayed.{Replayed}
@@ -7,11 +8,19 @@ use Rattle.hz_top.specs.Replaying.{IsAcceptedRun, IsFirstRefusal}
 use Rattle.hz_top.specs.Verdict.{ReplayComes, accepted_line, no_line}
 use Rattle.hz_top.proofs.Endings.{Answers-put}
 use Rattle.hz_top.proofs.RunSteps.{of-text}
+use Rattle.hz_top.proofs.NamedVariables.{refusal-variable}
 use Rattle.hz_top.proofs.replaying.replay.Goals as goal
 
 pub replay_runs-requires-clause-start : goal.replay_runs-requires-clause-start
 replay_runs-requires-clause-start g c =
     ap length c.as_slice.ensures.value ∙ (c.in-Ok.ensures.long ∙ ap (λ (r : Replayed). length (network_of r.circuit)) (sym c.in-Ok-new.ensures.at))
+
+pub put_no-requires : goal.put_no-requires
+put_no-requires g c =
+    let text = c.args.text.now in
+    refusal-variable c.args.net.now text c.as_slice.result.now c.in-Err.refused.run c.in-Err.refused.why c.requires (ap length c.as_slice.ensures.value ∙ c.in-Ok.ensures.long)
+    (subst (λ (netlist : Netlist). IsFirstRefusal (network_of netlist) text.input c.as_slice.result.now text.runs c.in-Err.refused.run c.in-Err.refused.why)
+    (ap (λ (r : Replayed). r.circuit) c.in-Ok-new.ensures.at) c.in-Err.ensures)
 
 pub returns-in-Ok-replay_runs : goal.returns-in-Ok-replay_runs
 returns-in-Ok-replay_runs g c =

@@ -3,7 +3,7 @@ use Rattle.hz_top.proofs.replaying.replay_run.Goals as goal
 
 pub replay_cycle-requires-clause-variables : goal.replay_cycle-requires-clause-variables
 replay_cycle-requires-clause-variables c =
-    cycle-variables c.args.replay.now.circuit c.make_steps.new.replay.circuit c.args.lead.now.steps (λ run. run.now.steps) c.args.cycle c.in-Some.cycle c.in-Some.is c.make_steps.ensures.circuit c.requires.variables
+    cycle-variables c.args.replay.now.circuit c.make_steps.new.replay.circuit c.args.lead.now.steps (λ run. run.now.steps) c.args.cycle c.in-Some.cycle c.in-Some.is c.make_steps.ensures.begin.circuit c.requires.variables
 
 pub returns-in-Some-clause-outcome : goal.returns-in-Some-clause-outcome
 returns-in-Some-clause-outcome c =

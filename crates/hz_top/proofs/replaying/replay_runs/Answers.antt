@@ -5,7 +5,7 @@ use Rattle.hz_net.specs.Network.{Driver, network_of}
 use Rattle.hz_gmw.specs.Replayed.{Replayed}
 use Rattle.hz_top.specs.Replaying.{no_run, IsAcceptedRun, IsRefusedRun}
 use Rattle.hz_top.specs.Made.{run_of}
-use Rattle.hz_top.proofs.RunSteps.{same-run, run-variables, run-few, begun, accepted-more, first-refused}
+use Rattle.hz_top.proofs.RunSteps.{same-run, run-variables, run-few, begun-again, kept-again, accepted-more, first-refused}
 use Rattle.hz_top.proofs.replaying.replay_runs.Goals as goal
 
 pub replay_run-requires-clause-variables : goal.replay_run-requires-clause-variables
@@ -13,8 +13,8 @@ replay_run-requires-clause-variables c =
     let runs = c.args.text.now.runs in
     let number = c.loop-number.number in
     let told = same-run c.lead.result.now.steps (option_map (λ run. run.now.steps) c.cycle.result) (get_or runs number no_run) c.lead.ensures c.cycle.ensures in
-    run-variables c.args.replay.now.circuit c.begin.new.self.circuit runs number _ told (rw c.runs-number-end.ensures at c.loop-number-test.true)
-    (ap (λ (r : Replayed). r.circuit) c.begin.ensures.at ∙ c.loop-number.invariant.0) c.requires.text.variables
+    run-variables c.args.replay.now.circuit c.restart.new.self.circuit runs number _ told (rw c.runs-number-end.ensures at c.loop-number-test.true)
+    (ap (λ (r : Replayed). r.circuit) c.restart.ensures.at ∙ c.loop-number.invariant.0.circuit) c.requires.text.variables
 
 pub replay_run-requires-clause-few : goal.replay_run-requires-clause-few
 replay_run-requires-clause-few c =
@@ -30,8 +30,8 @@ returns-in-Err c =
     let lead = c.lead.result.now.steps in
     let cycle = option_map (λ run. run.now.steps) c.cycle.result in
     let told = same-run lead cycle (get_or runs number no_run) c.lead.ensures c.cycle.ensures in
-    let refused = begun (λ (net : List Driver) (input start : List Bool). IsRefusedRun net input start (run_of lead cycle) c.in-Err.why)
-    c.args.replay.now c.loop-number.replay c.begin.new.self c.input.result.now c.args.text.now.input c.args.start.now c.begin.ensures.at c.loop-number.invariant.0 c.input.ensures c.in-Err.ensures.outcome in
+    let refused = begun-again (λ (net : List Driver) (input start : List Bool). IsRefusedRun net input start (run_of lead cycle) c.in-Err.why)
+    c.args.replay.now.circuit c.args.text.now.input c.args.start.now c.loop-number.replay c.restart.new.self c.loop-number.invariant.0 c.restart.ensures.at c.in-Err.ensures.outcome in
     first-refused (network_of c.args.replay.now.circuit) c.args.text.now.input c.args.start.now runs number (run_of lead cycle) c.in-Err.why told
     (rw c.runs-number-end.ensures at c.loop-number-test.true) c.loop-number.invariant.1 refused
 
@@ -42,9 +42,9 @@ loop-number-preserved c =
     let lead = c.lead.result.now.steps in
     let cycle = option_map (λ run. run.now.steps) c.cycle.result in
     let told = same-run lead cycle (get_or runs number no_run) c.lead.ensures c.cycle.ensures in
-    let accepted = begun (λ (net : List Driver) (input start : List Bool). IsAcceptedRun net input start (run_of lead cycle))
-    c.args.replay.now c.loop-number.replay c.begin.new.self c.input.result.now c.args.text.now.input c.args.start.now c.begin.ensures.at c.loop-number.invariant.0 c.input.ensures c.in-Ok.ensures.outcome in (
-      c.in-Ok.ensures.circuit ∙ (ap (λ (r : Replayed). r.circuit) c.begin.ensures.at ∙ c.loop-number.invariant.0),
+    let accepted = begun-again (λ (net : List Driver) (input start : List Bool). IsAcceptedRun net input start (run_of lead cycle))
+    c.args.replay.now.circuit c.args.text.now.input c.args.start.now c.loop-number.replay c.restart.new.self c.loop-number.invariant.0 c.restart.ensures.at c.in-Ok.ensures.outcome in (
+      kept-again c.args.replay.now.circuit c.args.text.now.input c.args.start.now c.loop-number.replay c.restart.new.self c.replay_run.new.replay c.loop-number.invariant.0 c.restart.ensures.at c.replay_run.ensures.begin,
       accepted-more (network_of c.args.replay.now.circuit) c.args.text.now.input c.args.start.now runs number (run_of lead cycle) told
           (rw c.runs-number-end.ensures at c.loop-number-test.true) c.loop-number.invariant.1 accepted,
     )

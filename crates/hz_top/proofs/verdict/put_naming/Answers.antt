@@ -13,17 +13,17 @@ returns-in_err-add_all g c =
     rw (naming_line-is c.args.net.now (map (λ word. word.now) c.args.words.now) c.args.var)
     (Wrote-exit c.from_residual.result c.from_residual.ensures.1 (Stops-longer newline (Stops-longer name stopped)))
 
-pub returns-in_err-add_name : goal.returns-in_err-add_name
-returns-in_err-add_name g c =
+pub returns-in_err-add_variable : goal.returns-in_err-add_variable
+returns-in_err-add_variable g c =
     let name = variable_word c.args.net.now c.args.var in
-    let exit = c.from_residual-in_err-add_name in
+    let exit = c.from_residual-in_err-add_variable in
     let waits = rw c.new-line.ensures at c.in_ok-add_all.ensures.added in
     rw (naming_line-is c.args.net.now (map (λ word. word.now) c.args.words.now) c.args.var)
-    (Wrote-exit exit.result exit.ensures.1 (Stops-longer newline (Stops-waiting name waits c.in_err-add_name.ensures)))
+    (Wrote-exit exit.result exit.ensures.1 (Stops-longer newline (Stops-waiting name waits c.in_err-add_variable.ensures.added)))
 
 pub returns : goal.returns
 returns g c =
     let name = variable_word c.args.net.now c.args.var in
     let waits = rw c.new-line.ensures at c.in_ok-add_all.ensures.added in
     rw (naming_line-is c.args.net.now (map (λ word. word.now) c.args.words.now) c.args.var)
-    (Wrote-waiting _ _ _ newline _ _ _ _ c.end.result (Waits-append name waits c.in_ok-add_name.ensures) c.end.ensures.wrote)
+    (Wrote-waiting _ _ _ newline _ _ _ _ c.end.result (Waits-append name waits c.in_ok-add_variable.ensures.added) c.end.ensures.wrote)

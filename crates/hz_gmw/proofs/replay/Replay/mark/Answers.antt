@@ -37,6 +37,9 @@ invariant_of-self c =
       };
       marked = ap (length {A = Bool}) marked ∙ fits.state;
       same = λ i still. ap (λ (bits : List Bool). bit_at bits i) marked;
+      begun = c.self.invariant.begun;
+      moved = c.self.invariant.moved;
+      back = c.self.invariant.back;
       named = c.self.invariant.named;
     }
 
@@ -58,8 +61,8 @@ returns-clause-at c =
     let watched : without present.unstable c.clear.new.self ≡ unstable_variables net present.input.items state =
     ap (without present.unstable) c.clear.ensures ∙ (without-none present.unstable (length present.touched) (fits.touched ∙ sym fits.unstable) ∙
     unstable-list net present.input.items state present.unstable fits.unstable c.self.invariant.exact.unstable) in
-    let at = replayed-is fields.net.now present.input.items present.input.items state state (with_items fields.marked c.take_over.new.marked).items (without present.unstable c.clear.new.self) refl refl marked watched in
-    subst (λ (now : Replayed). (let next : Replayed = record { circuit = fields.net.now; input = present.input.items; state = state; marked = (with_items fields.marked c.take_over.new.marked).items; stepped = false; watched = without present.unstable c.clear.new.self } in next) ≡ replayed_at now.circuit now.input now.state) c.self.view_is at
+    let at = replayed-is fields.net.now present.input.items present.input.items fields.begun.items fields.begun.items state state (with_items fields.marked c.take_over.new.marked).items (without present.unstable c.clear.new.self) refl refl refl marked watched in
+    subst (λ (now : Replayed). (let next : Replayed = record { circuit = fields.net.now; input = present.input.items; begun = fields.begun.items; state = state; marked = (with_items fields.marked c.take_over.new.marked).items; stepped = false; watched = without present.unstable c.clear.new.self } in next) ≡ replayed_at now.circuit now.input now.begun now.state) c.self.view_is at
 
 pub returns-clause-stands : goal.returns-clause-stands
 returns-clause-stands c =
@@ -79,5 +82,5 @@ returns-clause-stands c =
     let watched : without present.unstable c.clear.new.self ≡ unstable_variables net present.input.items state =
     ap (without present.unstable) c.clear.ensures ∙ (without-none present.unstable (length present.touched) (fits.touched ∙ sym fits.unstable) ∙
     unstable-list net present.input.items state present.unstable fits.unstable c.self.invariant.exact.unstable) in
-    let at = replayed-is fields.net.now present.input.items present.input.items state state (with_items fields.marked c.take_over.new.marked).items (without present.unstable c.clear.new.self) refl refl marked watched in
-    subst (λ (now : Replayed). StandsFor now []) (sym at) (stands-at fields.net.now present.input.items state)
+    let at = replayed-is fields.net.now present.input.items present.input.items fields.begun.items fields.begun.items state state (with_items fields.marked c.take_over.new.marked).items (without present.unstable c.clear.new.self) refl refl refl marked watched in
+    subst (λ (now : Replayed). StandsFor now []) (sym at) (stands-at fields.net.now present.input.items fields.begun.items state)

@@ -21,11 +21,13 @@ returns-clause-at c =
     c.recheck_all.ensures.state ∙ (c.in-Ok-vec.ensures.items_if_clones_equal (λ y clone. search rules) ∙ ap (λ (n : ℕ). replicate n false) c.len-variables.ensures.len) in
     let marked_is : c.in-Ok-vec-2.marked.items ≡ bits =
     c.in-Ok-vec-2.ensures.items_if_clones_equal (λ y clone. search rules) ∙ ap (λ (n : ℕ). replicate n false) c.len-variables.ensures.len in
+    let begun_is : c.in-Ok-vec-3.begun.items ≡ bits =
+    c.in-Ok-vec-3.ensures.items_if_clones_equal (λ y clone. search rules) ∙ ap (λ (n : ℕ). replicate n false) c.len-variables.ensures.len in
     let watched_is : without after.unstable c.clear.new.self ≡ unstable_variables net inputs bits =
     ap (without after.unstable) c.clear.ensures ∙ (without-none after.unstable (length after.touched) (exact.fits.touched ∙ sym exact.fits.unstable) ∙
     (unstable-list net after.input.items after.state.items after.unstable exact.fits.unstable exact.unstable ∙
     (ap (λ (i : List Bool). unstable_variables net i after.state.items) input_is ∙ ap (unstable_variables net inputs) state_is))) in
-    let at = replayed-is netlist inputs after.input.items bits after.state.items c.in-Ok-vec-2.marked.items (without after.unstable c.clear.new.self) input_is state_is marked_is watched_is in
+    let at = replayed-is netlist inputs after.input.items bits c.in-Ok-vec-3.begun.items bits after.state.items c.in-Ok-vec-2.marked.items (without after.unstable c.clear.new.self) input_is begun_is state_is marked_is watched_is in
     at
 
 pub returns-clause-stands : goal.returns-clause-stands
@@ -42,9 +44,11 @@ returns-clause-stands c =
     c.recheck_all.ensures.state ∙ (c.in-Ok-vec.ensures.items_if_clones_equal (λ y clone. search rules) ∙ ap (λ (n : ℕ). replicate n false) c.len-variables.ensures.len) in
     let marked_is : c.in-Ok-vec-2.marked.items ≡ bits =
     c.in-Ok-vec-2.ensures.items_if_clones_equal (λ y clone. search rules) ∙ ap (λ (n : ℕ). replicate n false) c.len-variables.ensures.len in
+    let begun_is : c.in-Ok-vec-3.begun.items ≡ bits =
+    c.in-Ok-vec-3.ensures.items_if_clones_equal (λ y clone. search rules) ∙ ap (λ (n : ℕ). replicate n false) c.len-variables.ensures.len in
     let watched_is : without after.unstable c.clear.new.self ≡ unstable_variables net inputs bits =
     ap (without after.unstable) c.clear.ensures ∙ (without-none after.unstable (length after.touched) (exact.fits.touched ∙ sym exact.fits.unstable) ∙
     (unstable-list net after.input.items after.state.items after.unstable exact.fits.unstable exact.unstable ∙
     (ap (λ (i : List Bool). unstable_variables net i after.state.items) input_is ∙ ap (unstable_variables net inputs) state_is))) in
-    let at = replayed-is netlist inputs after.input.items bits after.state.items c.in-Ok-vec-2.marked.items (without after.unstable c.clear.new.self) input_is state_is marked_is watched_is in
-    subst (λ (now : Replayed). StandsFor now []) (sym at) (stands-at netlist inputs bits)
+    let at = replayed-is netlist inputs after.input.items bits c.in-Ok-vec-3.begun.items bits after.state.items c.in-Ok-vec-2.marked.items (without after.unstable c.clear.new.self) input_is begun_is state_is marked_is watched_is in
+    subst (λ (now : Replayed). StandsFor now []) (sym at) (stands-at netlist inputs bits bits)

@@ -5,7 +5,8 @@ use Rattle.hz_gmw.specs.Instability.{is_unstable}
 use Rattle.hz_gmw.specs.InsideReplay.{without}
 use Rattle.hz_gmw.specs.Replayed.{Replayed, StandsFor, stepped_by}
 use Rattle.hz_gmw.proofs.PresentLemmas.{advances-untouched}
-use Rattle.hz_gmw.proofs.ReplayLemmas.{step-or-fault, watched-step, stepped-is, stands-step}
+use Rattle.hz_gmw.proofs.Rechecks.{length-marked_with}
+use Rattle.hz_gmw.proofs.ReplayLemmas.{back-step, step-or-fault, watched-step, stepped-is, stands-step}
 use Rattle.hz_gmw.proofs.replay.Replay.step.Goals as goal
 
 pub returns-in-Some-clause-exact : goal.returns-in-Some-clause-exact
@@ -23,6 +24,9 @@ invariant_of-self c =
       same = λ i still.
           let was = advances-untouched fields.net.now c.args.flips.now fields.present c.advance.new.self c.self.invariant.exact.fits c.advance.ensures i still in
           c.self.invariant.same i was.0 ∙ sym was.1;
+      begun = c.self.invariant.begun;
+      moved = ap (length {A = Bool}) c.insert_each.ensures ∙ (length-marked_with fields.moved c.args.flips.now ∙ c.self.invariant.moved);
+      back = back-step c.args.flips.now fields.begun.items fields.moved c.insert_each.new.set fields.present.state.items c.advance.new.self.state.items (c.self.invariant.moved ∙ sym c.self.invariant.exact.fits.state) c.advance.ensures.state c.insert_each.ensures c.self.invariant.back;
       named = c.self.invariant.named;
     }
 
@@ -34,7 +38,7 @@ returns-clause-after c =
     let flips = c.args.flips.now in
     let fits = c.self.invariant.exact.fits in
     let exact = c.advance.ensures.exact in
-    let was : Replayed = record { circuit = fields.net.now; input = before.input.items; state = before.state.items; marked = fields.marked.items; stepped = fields.stepped; watched = without before.unstable before.touched } in
+    let was : Replayed = record { circuit = fields.net.now; input = before.input.items; begun = fields.begun.items; state = before.state.items; marked = fields.marked.items; stepped = fields.stepped; watched = without before.unstable before.touched } in
     let watched = watched-step was flips before.unstable before.touched after.unstable after.touched refl fits.unstable fits.touched exact.fits.unstable exact.fits.touched
     (λ i inside. exact.unstable i inside ∙ (ap (λ (input : List Bool). is_unstable (network_of fields.net.now) input after.state.items i) c.advance.ensures.input ∙ ap (λ (state : List Bool). is_unstable (network_of fields.net.now) before.input.items state i) c.advance.ensures.state))
     c.advance.ensures.touched in
@@ -52,7 +56,7 @@ returns-clause-stands c =
     let flips = c.args.flips.now in
     let fits = c.self.invariant.exact.fits in
     let exact = c.advance.ensures.exact in
-    let was : Replayed = record { circuit = fields.net.now; input = before.input.items; state = before.state.items; marked = fields.marked.items; stepped = fields.stepped; watched = without before.unstable before.touched } in
+    let was : Replayed = record { circuit = fields.net.now; input = before.input.items; begun = fields.begun.items; state = before.state.items; marked = fields.marked.items; stepped = fields.stepped; watched = without before.unstable before.touched } in
     let watched = watched-step was flips before.unstable before.touched after.unstable after.touched refl fits.unstable fits.touched exact.fits.unstable exact.fits.touched
     (λ i inside. exact.unstable i inside ∙ (ap (λ (input : List Bool). is_unstable (network_of fields.net.now) input after.state.items i) c.advance.ensures.input ∙ ap (λ (state : List Bool). is_unstable (network_of fields.net.now) before.input.items state i) c.advance.ensures.state))
     c.advance.ensures.touched in

@@ -1,8 +1,9 @@
 use Rattle.std.proofs.Common.{◌≡◌, ◌∙◌, ◌<◌, ◌++◌, ◌∷◌, [], refl, ap, length, arith, length-append}
-use Rattle.hz_text.specs.Pieces.{pieces}
+use Rattle.hz_gmw.specs.Parts.{parts_from}
 use Rattle.hz_text.specs.Inside.{script_of}
 use Rattle.hz_text.specs.ScriptValue.{IsChange}
-use Rattle.hz_text.proofs.PieceLemmas.{pieces-grown, AreEnds-push}
+use Rattle.hz_gmw.proofs.PartLemmas.{EndsAt-push}
+use Rattle.hz_text.proofs.PartLemmas.{parts-grown}
 use Rattle.hz_text.proofs.ScriptLemmas.{IsScript-add}
 use Rattle.hz_text.proofs.script.Script.add_change.Goals as goal
 
@@ -13,11 +14,11 @@ invariant_of-self-2 c =
     let items : c.extend_from_slice.new.self.items ≡ inside.assignments.items ++ change = c.in-Ok-extend_from_slice.ensures.items in
     let long : c.len.result ≡ length c.extend_from_slice.new.self.items = c.len.ensures ∙ c.extend_from_slice.new.self.ok.0 in
     let ends : c.push_reserved.new.self.items ≡ inside.ends.items ++ length c.extend_from_slice.new.self.items ∷ [] = rw (← long, ← c.reserve.ensures.items) c.push_reserved.ensures.items in
-    let grown = pieces-grown inside.ends.items c.push_reserved.new.self.items inside.assignments.items c.extend_from_slice.new.self.items change items ends c.self.invariant.ends in
+    let grown = parts-grown inside.ends.items c.push_reserved.new.self.items inside.assignments.items c.extend_from_slice.new.self.items change items ends c.self.invariant.ends in
     let fits : IsChange (length inside.start.items) change = rw (← c.self.view_is) at c.requires.change in
-    let few : length (pieces 0 inside.ends.items inside.assignments.items) < 10000 = rw (← c.self.view_is) at c.requires.few in
+    let few : length (parts_from 0 inside.ends.items inside.assignments.items) < 10000 = rw (← c.self.view_is) at c.requires.few in
     record {
-      ends = rw ends (AreEnds-push 0 inside.ends.items (length inside.assignments.items) _ c.self.invariant.ends (omega (arith, ap length items, length-append inside.assignments.items change)));
+      ends = rw ends (EndsAt-push 0 inside.ends.items (length inside.assignments.items) _ c.self.invariant.ends (omega (arith, ap length items, length-append inside.assignments.items change)));
       script = rw grown (IsScript-add (script_of inside) change c.self.invariant.script fits few);
     }
 
@@ -28,5 +29,5 @@ returns-clause-ok c =
     let items : c.extend_from_slice.new.self.items ≡ inside.assignments.items ++ change = c.in-Ok-extend_from_slice.ensures.items in
     let long : c.len.result ≡ length c.extend_from_slice.new.self.items = c.len.ensures ∙ c.extend_from_slice.new.self.ok.0 in
     let ends : c.push_reserved.new.self.items ≡ inside.ends.items ++ length c.extend_from_slice.new.self.items ∷ [] = rw (← long, ← c.reserve.ensures.items) c.push_reserved.ensures.items in
-    let grown = pieces-grown inside.ends.items c.push_reserved.new.self.items inside.assignments.items c.extend_from_slice.new.self.items change items ends c.self.invariant.ends in
+    let grown = parts-grown inside.ends.items c.push_reserved.new.self.items inside.assignments.items c.extend_from_slice.new.self.items change items ends c.self.invariant.ends in
     rw (grown, ← c.self.view_is) refl

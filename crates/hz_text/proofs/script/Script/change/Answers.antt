@@ -1,10 +1,10 @@
 use Rattle.std.proofs.Common.{arith}
-use Rattle.hz_text.proofs.PieceLemmas.{length-pieces}
+use Rattle.hz_gmw.proofs.PartLemmas.{length-parts_from}
 use Rattle.hz_text.proofs.script.Script.change.Goals as goal
 
 pub piece-requires-clause-number : goal.piece-requires-clause-number
 piece-requires-clause-number c =
     let inside = c.self.inside in
-    let many = length-pieces 0 inside.ends.items inside.assignments.items in
+    let many = length-parts_from 0 inside.ends.items inside.assignments.items in
     let within = rw (← c.self.view_is) at c.requires in
     rw c.as_slice-2.ensures.value (omega (arith, many, within))

@@ -1,0 +1,42 @@
+use Rattle.std.proofs.Common.{◌≡◌, ◌∙◌, sym, ap, subst, Bool, false, List, length}
+use Rattle.std.proofs.lemmas.List.{length-replicate}
+use Rattle.hz_net.specs.Network.{bit_at}
+use Rattle.hz_gmw.specs.Presents.{taken_over}
+use Rattle.hz_gmw.specs.Replayed.{Replayed, replayed_at, begun_at}
+use Rattle.hz_gmw.proofs.ReplayLemmas.{taken-all}
+use Rattle.hz_gmw.proofs.replay.Replay.restart.Goals as goal
+
+pub invariant_of-self : goal.invariant_of-self
+invariant_of-self c =
+    let fields = c.self.inside in
+    let held = c.self.invariant in
+    let state = fields.present.state.items in
+    let list = c.members.result.now in
+    let gone : c.turn_back.new.self.state.items ≡ fields.begun.items =
+    c.turn_back.ensures.state ∙ (ap (λ (given : List Bool). taken_over given state list) c.as_slice.ensures.value ∙
+    taken-all fields.begun.items state fields.moved list (held.exact.fits.state ∙ sym held.begun) c.members.ensures (λ i still. sym (held.back i still))) in
+    record {
+      exact = c.turn_back.ensures.exact;
+      marked = held.marked;
+      same = λ i still.
+          let was = c.turn_back.ensures.untouched i still in
+          held.same i was.0 ∙ sym was.1;
+      begun = held.begun;
+      moved = ap (length {A = Bool}) c.clear.ensures ∙ (length-replicate (length fields.moved) false ∙ held.moved);
+      back = λ i still. ap (λ (bits : List Bool). bit_at bits i) (sym gone);
+      named = held.named;
+    }
+
+pub returns-clause-at : goal.returns-clause-at
+returns-clause-at c =
+    let fields = c.self.inside in
+    let held = c.self.invariant in
+    let state = fields.present.state.items in
+    let begun = fields.begun.items in
+    let list = c.members.result.now in
+    let gone : c.turn_back.new.self.state.items ≡ begun =
+    c.turn_back.ensures.state ∙ (ap (λ (given : List Bool). taken_over given state list) c.as_slice.ensures.value ∙
+    taken-all begun state fields.moved list (held.exact.fits.state ∙ sym held.begun) c.members.ensures (λ i still. sym (held.back i still))) in
+    let at = c.mark.ensures.at ∙ (ap (λ (input : List Bool). replayed_at fields.net.now input begun c.turn_back.new.self.state.items) c.turn_back.ensures.input ∙
+    ap (replayed_at fields.net.now fields.present.input.items begun) gone) in
+    subst (λ (now : Replayed). c.mark.new.self ≡ begun_at now.circuit now.input now.begun) c.self.view_is at
