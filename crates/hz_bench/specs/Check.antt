@@ -1,4 +1,4 @@
--- The checks of single statements.
+-- The checks of statements, and the first fault of all in the order of their numbers.
 use Rattle.std.specs.Prelude.{ℕ, min, Bool, not, nat_lt, List, length, find, Option, Some, None, is_some, if◌then◌else◌}
 use Rattle.std.specs.List.{list_any}
 use Rattle.hz_line.specs.Statement.{Numbered}

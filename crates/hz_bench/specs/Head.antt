@@ -13,7 +13,7 @@ use Rattle.hz_bench.specs.Entry.{stated}
 use Rattle.hz_bench.specs.Statement.{Statement, statement_of, names_of, is_long}
 use Rattle.hz_bench.specs.Text.{meaning_of}
 
--- the tokens of a line are there, and none
+-- a line has a list of tokens, and it is empty
 abbrev pub is_bare : Option (List TokenOf) → Bool
 is_bare None = false
 is_bare (Some []) = true

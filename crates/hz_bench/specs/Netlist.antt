@@ -38,7 +38,7 @@ node_names statements = input_names statements ++ gate_names statements
 abbrev pub number_in : List (List ℕ) → List ℕ → ℕ
 number_in names name = position_or_len (bytes_eq name) names
 
--- the kind that a word names; a word that names none has no gate
+-- the kind that a word names; for a word that names none, which no accepted text has, AND stands in
 abbrev pub kind_of_word : KindWord → Kind
 kind_of_word (Known kind) = kind
 kind_of_word Clocked = And

@@ -1,6 +1,7 @@
 // The circuit of the statements.
 
-ghost use Rattle.std.specs.Prelude.{◌≡◌, IfOk, OnOk, fold};
+ghost use Rattle.std.specs.Prelude.{◌≡◌, IfOk, OnOk, fold, true};
+ghost use Rattle.std.specs.List.{slice_set};
 ghost use Rattle.hz_core.specs.Netlist.{with_output};
 ghost use Rattle.hz_bench.specs.Built.{after_input, after_gate, after_pins, after_read, built, connected, AreMarked, IsNode, MayBuild, MayGate, MayInput, MayPins, MayRead, MaySteps};
 ghost use Rattle.hz_bench.specs.Entry.{stated, statement_list, output_list};
@@ -154,6 +155,7 @@ fn add_output(circuit: &mut Circuit, marks: &mut Vec<bool>, node: u32) -> Result
     requires marks { AreMarked circuit.old marks.old.items }
     ensures added { OnOk result (circuit.new ≡ with_output circuit.old node) }
     ensures marks { OnOk result (AreMarked circuit.new marks.new.items) }
+    ensures marked { OnOk result (marks.new.items ≡ slice_set marks.old.items node true) }
 {
     let place = node as usize;
     if marks[place] {

@@ -239,7 +239,7 @@ fn resolve_name(
     }
 }
 
-/// The tokens from the sources of a gate on, read again from its line.
+/// The tokens of a gate's sources, read again from its line.
 pub(crate) fn read_sources<'t, 'a>(
     entry: &Entry<'a>,
     tokens: &'t mut Vec<Token<'a>>,
