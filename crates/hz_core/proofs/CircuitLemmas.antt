@@ -10,7 +10,6 @@ use Rattle.std.proofs.lemmas.List.Elements.{All-nil, All-push, All-set, All-weak
 use Rattle.std.proofs.lemmas.Map.Keys.{IsDistinct-push}
 use Rattle.hz_core.specs.declared.kind.Kind.{Kind}
 use Rattle.hz_core.specs.declared.kind.Kind.TheVariants.{And, Nand, Or, Nor, Xor, Xnor, Not, Buff}
-use Rattle.hz_core.specs.declared.circuit.TheConstants.{MAX_VARIABLES}
 use Rattle.hz_core.specs.Gate.{takes}
 use Rattle.hz_core.specs.Netlist.{Gate, Netlist, IsName, IsCircuit, IsGateAmong, IsGateNumber, IsWhole, pin_count, variable_count, most_pins, gate_at, node_named, empty_netlist, with_input, with_gate, with_source, with_pin}
 use Rattle.hz_core.proofs.ListLemmas.{list_any-from_position_none}
@@ -69,7 +68,7 @@ pin_count-with_gate netlist name kind =
 -- what `add_input` makes
 pub IsCircuit-with_input :
     (netlist : Netlist) (name : List ℕ) → IsCircuit netlist → IsName name → node_named netlist name ≡ None → netlist.gates ≡ [] →
-    variable_count netlist < MAX_VARIABLES → IsCircuit (with_input netlist name)
+    variable_count netlist < 200000 → IsCircuit (with_input netlist name)
 IsCircuit-with_input netlist name circuit is_name fresh no_gate room =
     record {
       names = All-push IsName netlist.names name circuit.names is_name;
@@ -84,7 +83,7 @@ IsCircuit-with_input netlist name circuit is_name fresh no_gate room =
 -- what `add_gate` makes
 pub IsCircuit-with_gate :
     (netlist : Netlist) (name : List ℕ) (kind : Kind) → IsCircuit netlist → IsName name → node_named netlist name ≡ None →
-    variable_count netlist < MAX_VARIABLES → IsCircuit (with_gate netlist name kind)
+    variable_count netlist < 200000 → IsCircuit (with_gate netlist name kind)
 IsCircuit-with_gate netlist name kind circuit is_name fresh room =
     let gate : Gate = record { kind = kind; sources = [] } in
     let none : IsGateAmong (length (netlist.names ++ name ∷ [])) gate =
@@ -116,7 +115,7 @@ pin_count-with_pin netlist node source circuit is_gate =
 -- what `connect` makes
 pub IsCircuit-with_pin :
     (netlist : Netlist) (node source : ℕ) → IsCircuit netlist → IsGateNumber netlist node → source < length netlist.names →
-    length (gate_at netlist node).sources < most_pins (gate_at netlist node).kind → variable_count netlist < MAX_VARIABLES →
+    length (gate_at netlist node).sources < most_pins (gate_at netlist node).kind → variable_count netlist < 200000 →
     IsCircuit (with_pin netlist node source)
 IsCircuit-with_pin netlist node source circuit is_gate is_node free room =
     let gate = gate_at netlist node in

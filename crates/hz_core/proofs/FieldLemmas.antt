@@ -1,27 +1,24 @@
 -- How the fields of a circuit change at each call, and what they then stand for.
-use Rattle.std.proofs.Common.{◌≡◌, ◌∙◌, sym, ap, ℕ, ◌+◌, ◌-◌, ◌<◌, List, [], ◌∷◌, ◌++◌, length, None, get_or, set, map, arith, subst, Vec, Global}
+use Rattle.std.proofs.Common.{◌≡◌, ◌∙◌, sym, ap, ℕ, ◌+◌, ◌-◌, ◌<◌, List, [], ◌∷◌, ◌++◌, length, None, get_or, set, arith, subst}
 use Rattle.std.specs.List.{position}
 use Rattle.std.specs.Str.{bytes_eq}
-use Rattle.std.proofs.lemmas.List.{length-map}
 use Rattle.indexmap.specs.IndexSet.{insert_key}
 use Rattle.hz_core.specs.declared.kind.Kind.{Kind}
 use Rattle.hz_core.specs.declared.kind.Kind.TheVariants.{And}
-use Rattle.hz_core.specs.declared.circuit.TheConstants.{MAX_VARIABLES}
 use Rattle.hz_core.specs.declared.circuit.Circuit.TheInside.{Inside}
 use Rattle.hz_core.specs.Inside.{netlist_of, HoldsCircuit}
 use Rattle.hz_core.specs.Netlist.{Gate, Netlist, IsName, IsCircuit, IsGateNumber, pin_count, variable_count, most_pins, gate_at, node_named, empty_netlist, with_input, with_gate, with_source, with_pin}
-use Rattle.hz_core.proofs.ListLemmas.{position-map, names_grow, get_or-default}
+use Rattle.hz_core.proofs.ListLemmas.{names_grow, get_or-default}
 use Rattle.hz_core.proofs.CircuitLemmas.{IsCircuit-empty, IsCircuit-with_input, IsCircuit-with_gate, IsCircuit-with_pin, pin_count-with_gate, pin_count-with_pin, same_netlist}
 
 -- the names after a new one came
 name_came :
-    (old new : Inside) (netlist : Netlist) (key : Vec ℕ Global) (name : List ℕ) → netlist_of old ≡ netlist →
-    node_named netlist name ≡ None → key.items ≡ name →
-    new.names.keys ≡ insert_key (λ x y. bytes_eq x.items y.items) old.names.keys key →
+    (old new : Inside) (netlist : Netlist) (key name : List ℕ) → netlist_of old ≡ netlist →
+    node_named netlist name ≡ None → key ≡ name →
+    new.names.keys ≡ insert_key bytes_eq old.names.keys key →
     (netlist_of new).names ≡ (netlist_of old).names ++ name ∷ []
 name_came old new netlist key name same fresh is keys =
-    ap (map (λ (key : Vec ℕ Global). key.items)) keys ∙
-    names_grow (λ (key : Vec ℕ Global). key.items) old.names.keys key name is (ap (λ n. node_named n name) same ∙ fresh)
+    keys ∙ names_grow old.names.keys key name is (ap (λ n. node_named n name) same ∙ fresh)
 
 -- fields that stand for a circuit, and count its pins
 holds_circuit :
@@ -40,12 +37,12 @@ pub HoldsCircuit-empty :
     fields.pins ≡ 0 → HoldsCircuit fields
 HoldsCircuit-empty fields names inputs gates outputs pins =
     holds_circuit fields empty_netlist
-    (same_netlist (netlist_of fields) empty_netlist (ap (map (λ (key : Vec ℕ Global). key.items)) names) inputs gates outputs)
+    (same_netlist (netlist_of fields) empty_netlist names inputs gates outputs)
     IsCircuit-empty pins
 
 -- the fields from old to new, where an input came
-pub record InputComes (old new : Inside) (key : Vec ℕ Global) : Type 0 where
-  pub names : new.names.keys ≡ insert_key (λ x y. bytes_eq x.items y.items) old.names.keys key
+pub record InputComes (old new : Inside) (key : List ℕ) : Type 0 where
+  pub names : new.names.keys ≡ insert_key bytes_eq old.names.keys key
   pub inputs : new.inputs ≡ old.inputs + 1
   pub gates : new.gates.items ≡ old.gates.items
   pub outputs : new.outputs.keys ≡ old.outputs.keys
@@ -53,25 +50,25 @@ pub record InputComes (old new : Inside) (key : Vec ℕ Global) : Type 0 where
 
 -- then the circuit is the definition's
 pub view-InputComes :
-    (old new : Inside) (netlist : Netlist) (key : Vec ℕ Global) (name : List ℕ) → netlist_of old ≡ netlist →
-    node_named netlist name ≡ None → key.items ≡ name → InputComes old new key → netlist_of new ≡ with_input netlist name
+    (old new : Inside) (netlist : Netlist) (key name : List ℕ) → netlist_of old ≡ netlist →
+    node_named netlist name ≡ None → key ≡ name → InputComes old new key → netlist_of new ≡ with_input netlist name
 view-InputComes old new netlist key name same fresh is comes =
     same_netlist (netlist_of new) (with_input (netlist_of old) name) (name_came old new netlist key name same fresh is comes.names)
     comes.inputs comes.gates comes.outputs ∙ ap (λ n. with_input n name) same
 
 -- and the invariant holds again
 pub HoldsCircuit-InputComes :
-    (old new : Inside) (netlist : Netlist) (key : Vec ℕ Global) (name : List ℕ) → netlist_of old ≡ netlist →
-    node_named netlist name ≡ None → key.items ≡ name → InputComes old new key → HoldsCircuit old → IsName name →
-    netlist.gates ≡ [] → variable_count netlist < MAX_VARIABLES → HoldsCircuit new
+    (old new : Inside) (netlist : Netlist) (key name : List ℕ) → netlist_of old ≡ netlist →
+    node_named netlist name ≡ None → key ≡ name → InputComes old new key → HoldsCircuit old → IsName name →
+    netlist.gates ≡ [] → variable_count netlist < 200000 → HoldsCircuit new
 HoldsCircuit-InputComes old new netlist key name same fresh is comes holds is_name no_gate room =
     holds_circuit new (with_input netlist name) (view-InputComes old new netlist key name same fresh is comes)
     (IsCircuit-with_input netlist name (circuit_of old netlist same holds) is_name fresh no_gate room)
     (comes.pins ∙ holds.counted ∙ ap pin_count same)
 
 -- the fields from old to new, where a gate came
-pub record GateComes (old new : Inside) (key : Vec ℕ Global) (kind : Kind) : Type 0 where
-  pub names : new.names.keys ≡ insert_key (λ x y. bytes_eq x.items y.items) old.names.keys key
+pub record GateComes (old new : Inside) (key : List ℕ) (kind : Kind) : Type 0 where
+  pub names : new.names.keys ≡ insert_key bytes_eq old.names.keys key
   pub inputs : new.inputs ≡ old.inputs
   pub gates : new.gates.items ≡ old.gates.items ++ record { kind = kind; sources = [] } ∷ []
   pub outputs : new.outputs.keys ≡ old.outputs.keys
@@ -79,17 +76,17 @@ pub record GateComes (old new : Inside) (key : Vec ℕ Global) (kind : Kind) : T
 
 -- then the circuit is the definition's
 pub view-GateComes :
-    (old new : Inside) (netlist : Netlist) (key : Vec ℕ Global) (name : List ℕ) (kind : Kind) → netlist_of old ≡ netlist →
-    node_named netlist name ≡ None → key.items ≡ name → GateComes old new key kind → netlist_of new ≡ with_gate netlist name kind
+    (old new : Inside) (netlist : Netlist) (key name : List ℕ) (kind : Kind) → netlist_of old ≡ netlist →
+    node_named netlist name ≡ None → key ≡ name → GateComes old new key kind → netlist_of new ≡ with_gate netlist name kind
 view-GateComes old new netlist key name kind same fresh is comes =
     same_netlist (netlist_of new) (with_gate (netlist_of old) name kind) (name_came old new netlist key name same fresh is comes.names)
     comes.inputs comes.gates comes.outputs ∙ ap (λ n. with_gate n name kind) same
 
 -- and the invariant holds again
 pub HoldsCircuit-GateComes :
-    (old new : Inside) (netlist : Netlist) (key : Vec ℕ Global) (name : List ℕ) (kind : Kind) → netlist_of old ≡ netlist →
-    node_named netlist name ≡ None → key.items ≡ name → GateComes old new key kind → HoldsCircuit old → IsName name →
-    variable_count netlist < MAX_VARIABLES → HoldsCircuit new
+    (old new : Inside) (netlist : Netlist) (key name : List ℕ) (kind : Kind) → netlist_of old ≡ netlist →
+    node_named netlist name ≡ None → key ≡ name → GateComes old new key kind → HoldsCircuit old → IsName name →
+    variable_count netlist < 200000 → HoldsCircuit new
 HoldsCircuit-GateComes old new netlist key name kind same fresh is comes holds is_name room =
     holds_circuit new (with_gate netlist name kind) (view-GateComes old new netlist key name kind same fresh is comes)
     (IsCircuit-with_gate netlist name kind (circuit_of old netlist same holds) is_name fresh room)
@@ -113,7 +110,7 @@ view-PinComes old new netlist was node source same holds is_gate comes =
     let within : node - old.inputs < length old.gates.items = omega (arith, holds.circuit.nodes, is_gate_of_old.0, is_gate_of_old.1) in
     let read : was ≡ gate_at (netlist_of old) node =
     comes.read ∙ get_or-default old.gates.items (node - old.inputs) was (record { kind = And; sources = [] }) within in
-    same_netlist (netlist_of new) (with_pin (netlist_of old) node source) (ap (map (λ (key : Vec ℕ Global). key.items)) comes.names)
+    same_netlist (netlist_of new) (with_pin (netlist_of old) node source) comes.names
     comes.inputs
     (comes.gates ∙ ap (λ gate. set old.gates.items (node - old.inputs) (with_source gate source)) read)
     comes.outputs ∙ ap (λ n. with_pin n node source) same
@@ -122,7 +119,7 @@ view-PinComes old new netlist was node source same holds is_gate comes =
 pub HoldsCircuit-PinComes :
     (old new : Inside) (netlist : Netlist) (was : Gate) (node source : ℕ) → netlist_of old ≡ netlist → HoldsCircuit old →
     IsGateNumber netlist node → PinComes old new was node source → source < length netlist.names →
-    length (gate_at netlist node).sources < most_pins (gate_at netlist node).kind → variable_count netlist < MAX_VARIABLES →
+    length (gate_at netlist node).sources < most_pins (gate_at netlist node).kind → variable_count netlist < 200000 →
     HoldsCircuit new
 HoldsCircuit-PinComes old new netlist was node source same holds is_gate comes is_node free room =
     let circuit = circuit_of old netlist same holds in
@@ -133,11 +130,11 @@ HoldsCircuit-PinComes old new netlist was node source same holds is_gate comes i
 -- how many names, of a list of keys
 pub names_counted : (fields : Inside) (netlist : Netlist) → netlist_of fields ≡ netlist → length fields.names.keys ≡ length netlist.names
 names_counted fields netlist same =
-    sym (length-map fields.names.keys (λ (key : Vec ℕ Global). key.items)) ∙ ap (λ n. length n.names) same
+    ap (λ n. length n.names) same
 
 -- the key that is looked for stands where its name does
 pub found_at :
     (fields : Inside) (netlist : Netlist) (name : List ℕ) → netlist_of fields ≡ netlist →
-    position (λ (key : Vec ℕ Global). bytes_eq name key.items) fields.names.keys ≡ node_named netlist name
+    position (bytes_eq name) fields.names.keys ≡ node_named netlist name
 found_at fields netlist name same =
-    sym (position-map (bytes_eq name) (λ (key : Vec ℕ Global). key.items) fields.names.keys) ∙ ap (λ n. node_named n name) same
+    ap (λ n. node_named n name) same

@@ -1,5 +1,5 @@
 -- What a circuit's fields stand for.
-use Rattle.std.specs.Prelude.{◌≡◌, map}
+use Rattle.std.specs.Prelude.{◌≡◌}
 use Rattle.hz_core.specs.Netlist.{Netlist, pin_count, IsCircuit}
 use Rattle.hz_core.specs.declared.circuit.Circuit.TheInside.{Inside}
 
@@ -7,7 +7,7 @@ use Rattle.hz_core.specs.declared.circuit.Circuit.TheInside.{Inside}
 abbrev pub netlist_of : Inside → Netlist
 netlist_of fields =
     record {
-      names = map (λ name. name.items) fields.names.keys;
+      names = fields.names.keys;
       inputs = fields.inputs;
       gates = fields.gates.items;
       outputs = fields.outputs.keys;

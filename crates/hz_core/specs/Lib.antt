@@ -4,5 +4,6 @@ pub mod Extension
 pub mod Kleene
 pub mod Pattern
 pub mod Reached
+pub mod NameHash
 pub mod Netlist
 pub mod Inside

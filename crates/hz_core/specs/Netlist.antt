@@ -4,8 +4,6 @@ use Rattle.std.specs.List.{slice_index_or, list_any, list_all, IsDistinct}
 use Rattle.std.specs.Str.{bytes_eq}
 use Rattle.hz_core.specs.declared.kind.Kind.{Kind}
 use Rattle.hz_core.specs.declared.kind.Kind.TheVariants.{And, Nand, Or, Nor, Xor, Xnor, Not, Buff}
-use Rattle.hz_core.specs.declared.kind.TheConstants.{MAX_PINS}
-use Rattle.hz_core.specs.declared.circuit.TheConstants.{MAX_VARIABLES}
 
 -- a gate: its kind, and the node that each of its pins reads, in the order of the pins
 pub record Gate : Type 0 where
@@ -42,12 +40,12 @@ variable_count netlist = length netlist.names + pin_count netlist
 abbrev pub most_pins : Kind → ℕ
 most_pins Not = 1
 most_pins Buff = 1
-most_pins And = MAX_PINS
-most_pins Nand = MAX_PINS
-most_pins Or = MAX_PINS
-most_pins Nor = MAX_PINS
-most_pins Xor = MAX_PINS
-most_pins Xnor = MAX_PINS
+most_pins And = 256
+most_pins Nand = 256
+most_pins Or = 256
+most_pins Nor = 256
+most_pins Xor = 256
+most_pins Xnor = 256
 
 -- the node is a gate: gates are numbered after the inputs
 abbrev pub IsGateNumber : Netlist → ℕ → Type 0
@@ -108,7 +106,7 @@ pub record IsCircuit (netlist : Netlist) : Type 0 where
   pub gates : All (IsGateAmong (length netlist.names)) netlist.gates
   pub outputs : All (λ node. node < length netlist.names) netlist.outputs
   pub outputs_distinct : IsDistinct nat_eq netlist.outputs
-  pub variables : variable_count netlist ≤ MAX_VARIABLES
+  pub variables : variable_count netlist ≤ 200000
 
 -- each gate has a pin
 abbrev pub IsWhole : Netlist → Type 0

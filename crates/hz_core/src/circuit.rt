@@ -3,9 +3,12 @@ ghost use Rattle.std.specs.Prelude.{◌≡◌, ◌+◌, ◌<◌, ◌≤◌, ◌�
 ghost use Rattle.hz_core.specs.Netlist.{IsName, IsCircuit, IsGateNumber, IsWhole, node_named, variable_count, most_pins, gate_at, empty_netlist, with_input, with_gate, with_pin, with_output};
 
 use crate::gate::GateEntry;
+use crate::name::{Name, NameEntry};
+use crate::name_hasher::NameHasher;
 use crate::{Kind, Memory};
 use indexmap::IndexSet;
 use std::alloc::Global;
+use std::hash::BuildHasherDefault;
 use std::marker::Model;
 
 /// The most variables of a circuit's complete network: its nodes and its pins.
@@ -17,7 +20,7 @@ pub const MAX_VARIABLES: u32 = 200_000;
 /// each has a name. Each pin of a gate reads a node, its source.
 #[derive(Debug, Drop)]
 pub struct Circuit {
-    names: IndexSet<Vec<u8>>,
+    names: IndexSet<NameEntry, BuildHasherDefault<NameHasher>>,
     inputs: u32,
     gates: Vec<GateEntry>,
     outputs: IndexSet<u32>,
@@ -42,7 +45,7 @@ impl Circuit {
         ensures { result ≡ empty_netlist }
     {
         Circuit {
-            names: IndexSet::new(alloc),
+            names: IndexSet::with_hasher(alloc, BuildHasherDefault::new()),
             inputs: 0,
             gates: Vec::new(alloc),
             outputs: IndexSet::new(alloc),
@@ -55,15 +58,15 @@ impl Circuit {
         requires name { IsName name.now }
         requires fresh { node_named self.old name.now ≡ None }
         requires no_gate { self.old.gates ≡ [] }
-        requires room { variable_count self.old < MAX_VARIABLES }
+        requires room { variable_count self.old < 200000 }
         ensures ok { IfOk result (λ number. (number ≡ length self.old.names) × (self.new ≡ with_input self.old name.now)) }
         ensures err { OnErr result (self.new ≡ self.old) }
     {
         let number = self.names.len() as u32;
-        let Ok(text) = Vec::from_slice(*self.names.allocator(), name) else {
+        let Ok(entry) = NameEntry::new(*self.names.allocator(), name) else {
             return Err(Memory);
         };
-        let Ok(_) = self.names.insert(text) else {
+        let Ok(_) = self.names.insert(entry) else {
             return Err(Memory);
         };
         self.inputs += 1;
@@ -74,13 +77,13 @@ impl Circuit {
     pub fn add_gate(&mut self, name: &[u8], kind: Kind) -> Result<u32, Memory>
         requires name { IsName name.now }
         requires fresh { node_named self.old name.now ≡ None }
-        requires room { variable_count self.old < MAX_VARIABLES }
+        requires room { variable_count self.old < 200000 }
         ensures ok { IfOk result (λ number. (number ≡ length self.old.names) × (self.new ≡ with_gate self.old name.now kind)) }
         ensures err { OnErr result (self.new ≡ self.old) }
     {
         let number = self.names.len() as u32;
         let alloc = *self.names.allocator();
-        let Ok(key) = Vec::from_slice(alloc, name) else {
+        let Ok(key) = NameEntry::new(alloc, name) else {
             return Err(Memory);
         };
         let Ok(()) = self.gates.reserve(1) else {
@@ -98,7 +101,7 @@ impl Circuit {
         requires gate { IsGateNumber self.old gate }
         requires source { source < length self.old.names }
         requires pins { length (gate_at self.old gate).sources < most_pins (gate_at self.old gate).kind }
-        requires room { variable_count self.old < MAX_VARIABLES }
+        requires room { variable_count self.old < 200000 }
         ensures ok { OnOk result (self.new ≡ with_pin self.old gate source) }
         ensures err { OnErr result (self.new ≡ self.old) }
     {
@@ -127,7 +130,7 @@ impl Circuit {
         ensures found { result ≡ node_named self.now name.now }
         ensures circuit { IsCircuit self.now }
     {
-        let index = self.names.get_index_of(name)?;
+        let index = self.names.get_index_of(Name { bytes: name })?;
         Some(index as u32)
     }
 

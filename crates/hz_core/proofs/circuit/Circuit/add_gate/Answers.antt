@@ -18,18 +18,18 @@ comes c =
       names = c.in-Ok-insert.ensures.keys;
       inputs = refl;
       gates = c.push_reserved.ensures.items ∙
-          (ap (λ was. was ++ c.new.result ∷ []) c.reserve.ensures.items ∙ ap (λ last. c.self.inside.gates.items ++ last ∷ []) c.new.ensures);
+          (ap (λ was. was ++ c.new-2.result ∷ []) c.reserve.ensures.items ∙ ap (λ last. c.self.inside.gates.items ++ last ∷ []) c.new-2.ensures);
       outputs = refl;
       pins = refl;
     }
 
 pub invariant_of-self-2 : goal.invariant_of-self-2
 invariant_of-self-2 c =
-    HoldsCircuit-GateComes _ _ _ _ _ _ c.self.view_is c.requires.fresh c.in-Ok.ensures.items (comes c) c.self.invariant
+    HoldsCircuit-GateComes _ _ _ _ _ _ c.self.view_is c.requires.fresh c.in-Ok.ensures (comes c) c.self.invariant
     c.requires.name c.requires.room
 
 pub returns-clause-ok : goal.returns-clause-ok
 returns-clause-ok c = (
   c.len-number.ensures.len ∙ names_counted c.self.inside c.args.self.now c.self.view_is,
-  view-GateComes _ _ _ _ _ _ c.self.view_is c.requires.fresh c.in-Ok.ensures.items (comes c),
+  view-GateComes _ _ _ _ _ _ c.self.view_is c.requires.fresh c.in-Ok.ensures (comes c),
 )

@@ -4,8 +4,8 @@ use Rattle.hz_core.proofs.circuit.Circuit.add_input.Goals as goal
 
 pub invariant_of-self-2 : goal.invariant_of-self-2
 invariant_of-self-2 c =
-    HoldsCircuit-InputComes c.self.inside _ c.args.self.now c.in-Ok.text c.args.name.now c.self.view_is c.requires.fresh
-    c.in-Ok.ensures.items
+    HoldsCircuit-InputComes c.self.inside _ c.args.self.now c.in-Ok.entry c.args.name.now c.self.view_is c.requires.fresh
+    c.in-Ok.ensures
     (record { names = c.in-Ok-insert.ensures.keys; inputs = refl; gates = refl; outputs = refl; pins = refl })
     c.self.invariant c.requires.name c.requires.no_gate c.requires.room
 
@@ -20,6 +20,6 @@ returns-clause-ok c = (
         outputs = c.self.inside.outputs;
         pins = c.self.inside.pins;
       })
-      c.args.self.now c.in-Ok.text c.args.name.now c.self.view_is c.requires.fresh c.in-Ok.ensures.items
+      c.args.self.now c.in-Ok.entry c.args.name.now c.self.view_is c.requires.fresh c.in-Ok.ensures
       (record { names = c.in-Ok-insert.ensures.keys; inputs = refl; gates = refl; outputs = refl; pins = refl }),
 )
