@@ -1,12 +1,14 @@
 -- The tokens of a line, from the front.
-use Rattle.std.proofs.Common.{IfSome, lit<, ◌≡◌, ◌∙◌, ℕ, ◌+◌, ◌<◌, ◌≤◌, List, [], ◌∷◌, ◌++◌, Bool, true, false, Option, Some, None, length, drop, get_or, cond, suc, refl, ap, arith}
+use Rattle.std.proofs.Common.{IfSome, lit<, ◌≡◌, ◌∙◌, ℕ, ◌+◌, ◌<◌, ◌≤◌, List, [], ◌∷◌, ◌++◌, Bool, true, false, Option, Some, None, length, drop, get_or, cond, suc, refl, sym, ap, subst, arith}
 use Rattle.std.specs.List.{prefix_len}
-use Rattle.std.specs.List.{take_while}
+use Rattle.std.specs.List.{take_while, list_all}
+use Rattle.std.proofs.lemmas.List.{take-append-drop, append_assoc}
+use Rattle.std.proofs.lemmas.List.Folds.{list_all-append}
 use Rattle.std.proofs.lemmas.List.Sums.{take_while-cons}
-use Rattle.hz_line.specs.Byte.{class_of, is_letter, is_letter_class}
+use Rattle.hz_line.specs.Byte.{class_of, is_letter, is_letter_class, is_blank, is_blank_class}
 use Rattle.hz_line.specs.declared.bytes.Class.{Class}
 use Rattle.hz_line.specs.declared.bytes.Class.TheVariants.{Blank, Hash, Sign, Letter, Forbidden}
-use Rattle.hz_line.specs.Token.{TokenOf, WordOf, MarkOf, tokens_of, tokens_with, with_token, lengthen, begins_in_word, IsWord, AreWords}
+use Rattle.hz_line.specs.Token.{TokenOf, WordOf, MarkOf, tokens_of, tokens_with, with_token, lengthen, begins_in_word, IsWord, AreWords, PastBlanks, IsSplit, BeginsWithToken, BeginsWithTokens}
 
 -- these tokens before others
 abbrev pub with_tokens : List TokenOf → Option (List TokenOf) → Option (List TokenOf)
@@ -67,6 +69,54 @@ tokens_of-word (byte ∷ rest) h = word_step byte rest (begins_in_word rest) (Le
 pub tokens_of-word_at : (line : List ℕ) → 0 < length line → class_of (get_or line 0 0) ≡ Letter → BeginsWithItsWord line × (0 < prefix_len is_letter line)
 tokens_of-word_at [] more e = absurd (omega arith)
 tokens_of-word_at (byte ∷ rest) more e = (tokens_of-word (byte ∷ rest) (ap is_letter_class e), rw e (omega arith))
+
+letters_at : (byte : ℕ) (rest : List ℕ) (letter : Bool) → is_letter byte ≡ letter → list_all is_letter (take_while is_letter rest) ≡ true → list_all is_letter (take_while is_letter (byte ∷ rest)) ≡ true
+letters_at byte rest true e ih = rw (front byte rest (Letter-from_is_letter (class_of byte) e), e, ih) refl
+letters_at byte rest false e ih = rw (prefix_len-no_word (byte ∷ rest) e) refl
+
+letters : (line : List ℕ) → list_all is_letter (take_while is_letter line) ≡ true
+letters [] = refl
+letters (byte ∷ rest) = letters_at byte rest (is_letter byte) refl (letters rest)
+
+ends_at : (byte : ℕ) (rest : List ℕ) (letter : Bool) → is_letter byte ≡ letter → begins_in_word (drop (prefix_len is_letter rest) rest) ≡ false → begins_in_word (drop (prefix_len is_letter (byte ∷ rest)) (byte ∷ rest)) ≡ false
+ends_at byte rest true e ih = ap begins_in_word (after byte rest (Letter-from_is_letter (class_of byte) e)) ∙ ih
+ends_at byte rest false e ih = rw (prefix_len-no_word (byte ∷ rest) e) e
+
+ends : (line : List ℕ) → begins_in_word (drop (prefix_len is_letter line) line) ≡ false
+ends [] = refl
+ends (byte ∷ rest) = ends_at byte rest (is_letter byte) refl (ends rest)
+
+-- a line that begins with a letter is its longest word and what comes after it
+pub IsSplit-word : (line : List ℕ) → 0 < length line → class_of (get_or line 0 0) ≡ Letter → IsSplit (WordOf (take_while is_letter line)) (drop (prefix_len is_letter line) line) line
+IsSplit-word [] more e = absurd (omega arith)
+IsSplit-word (byte ∷ rest) more e =
+    let some : 0 < length (take_while is_letter (byte ∷ rest)) = rw (front byte rest e) (omega arith) in (
+      record { some = some; letters = letters (byte ∷ rest) },
+      sym (take-append-drop (prefix_len is_letter (byte ∷ rest)) (byte ∷ rest)),
+      ends (byte ∷ rest),
+    )
+
+-- one more blank
+pub PastBlanks-more : (line rest : List ℕ) → 0 < length rest → class_of (get_or rest 0 0) ≡ Blank → PastBlanks (λ after. after ≡ rest) line → PastBlanks (λ after. after ≡ drop 1 rest) line
+PastBlanks-more line [] some e h = absurd (omega arith)
+PastBlanks-more line (byte ∷ rest) some e h =
+    let blank : is_blank byte ≡ true = ap is_blank_class e in
+    record {
+      blanks = h.blanks ++ byte ∷ [];
+      after = rest;
+      whole = h.whole ∙ ap (λ after. h.blanks ++ after) h.so ∙ sym (append_assoc h.blanks (byte ∷ []) rest);
+      blank = rw (list_all-append is_blank h.blanks (byte ∷ []), h.blank, blank) refl;
+      so = refl;
+    }
+
+-- what the rest is, the line is past its blanks
+pub PastBlanks-so : (is : List ℕ → Type 0) (line rest : List ℕ) → PastBlanks (λ after. after ≡ rest) line → is rest → PastBlanks is line
+PastBlanks-so is line rest h so = record { blanks = h.blanks; after = rest; whole = h.whole ∙ ap (λ after. h.blanks ++ after) h.so; blank = h.blank; so = so }
+
+-- one more token
+pub BeginsWithTokens-push : (line : List ℕ) (tokens : List TokenOf) (token : TokenOf) (middle rest : List ℕ) → BeginsWithTokens line tokens middle → BeginsWithToken middle token rest → BeginsWithTokens line (tokens ++ token ∷ []) rest
+BeginsWithTokens-push line [] token middle rest h t = (rest, subst (λ front. BeginsWithToken front token rest) (sym h) t, refl)
+BeginsWithTokens-push line (first ∷ tokens) token middle rest h t = (h.0, h.1, BeginsWithTokens-push h.0 tokens token middle rest h.2 t)
 
 is_letter-Letter : (byte : ℕ) → class_of byte ≡ Letter → is_letter byte ≡ true
 is_letter-Letter byte e = ap is_letter_class e

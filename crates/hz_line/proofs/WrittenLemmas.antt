@@ -1,5 +1,5 @@
 -- Lines and tokens of a text that is written: what a printer's law stands on.
-use Rattle.std.proofs.Common.{◌≡◌, ◌∙◌, ℕ, ◌-◌, ◌<◌, List, [], ◌∷◌, ◌++◌, Bool, true, false, not, ◌||◌, ◌&&◌, ◌==◌, length, refl, ap, arith, slice_index, zero, suc}
+use Rattle.std.proofs.Common.{◌≡◌, ◌∙◌, ℕ, ◌-◌, ◌<◌, List, [], ◌∷◌, ◌++◌, Bool, true, false, not, nat_le, ◌||◌, ◌&&◌, ◌==◌, length, refl, ap, arith, slice_index, zero, suc}
 use Rattle.std.specs.List.{list_all, slice_split}
 use Rattle.std.proofs.lemmas.Bool.Decides.{nat_tests}
 use Rattle.hz_line.specs.declared.bytes.Mark.TheVariants.{Open, Close, Comma, Equals}
@@ -52,6 +52,47 @@ tokens_of-word_before (byte ∷ next ∷ word) rest some letters ends =
 -- the byte ends no line: it is no line feed and no carriage return
 abbrev pub is_inline : ℕ → Bool
 is_inline byte = not (byte == 10 || byte == 13)
+
+-- the byte is from 0x21 to 0x7E, and none of the signs ( ) , = #
+abbrev pub is_word_byte : ℕ → Bool
+is_word_byte byte = nat_le 33 byte && nat_le byte 126 && not (byte == 40 || byte == 41 || byte == 44 || byte == 61 || byte == 35)
+
+neither : (a b : Bool) → not (a || b) ≡ true → (not a ≡ true) × (b ≡ false)
+neither true b h = cc
+neither false true h = cc
+neither false false h = (refl, refl)
+
+off : (a : Bool) → not a ≡ true → a ≡ false
+off true h = cc
+off false h = refl
+
+far : (byte at : ℕ) → nat_le 33 byte ≡ true → nat_le at 32 ≡ true → (byte == at) ≡ false
+far byte at h l = grind (arith, nat_tests, h, l)
+
+-- such a byte is a letter, and ends no line
+pub word_byte : (byte : ℕ) → is_word_byte byte ≡ true → (is_letter byte ≡ true) × (is_inline byte ≡ true)
+unfolding class_of
+word_byte byte h =
+    let parts = both (nat_le 33 byte && nat_le byte 126) _ h in
+    let range = both (nat_le 33 byte) (nat_le byte 126) parts.0 in
+    let hash = neither (byte == 40 || byte == 41 || byte == 44 || byte == 61) (byte == 35) parts.1 in
+    let equals = neither (byte == 40 || byte == 41 || byte == 44) (byte == 61) hash.0 in
+    let comma = neither (byte == 40 || byte == 41) (byte == 44) equals.0 in
+    let closing = neither (byte == 40) (byte == 41) comma.0 in
+    let opening = off (byte == 40) closing.0 in
+    let space = far byte 32 range.0 refl in
+    let tab = far byte 9 range.0 refl in
+    let feed = far byte 10 range.0 refl in
+    let back = far byte 13 range.0 refl in
+    (rw (space, tab, hash.1, opening, closing.1, comma.1, equals.1, range.0, range.1) refl, rw (feed, back) refl)
+
+pub word_bytes : (word : List ℕ) → list_all is_word_byte word ≡ true → (list_all is_letter word ≡ true) × (list_all is_inline word ≡ true)
+word_bytes [] h = (refl, refl)
+word_bytes (byte ∷ word) h =
+    let parts = both (is_word_byte byte) _ h in
+    let this = word_byte byte parts.0 in
+    let rest = word_bytes word parts.1 in
+    (rw (this.0, rest.0) refl, rw (this.1, rest.1) refl)
 
 inline_parts : (byte : ℕ) → is_inline byte ≡ true → (is_line_feed byte ≡ false) × ((byte == 13) ≡ false)
 inline_parts byte h = (grind (arith, nat_tests), grind (arith, nat_tests))

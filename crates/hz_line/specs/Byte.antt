@@ -26,3 +26,15 @@ is_letter_class Forbidden = false
 -- the byte may stand in a word
 abbrev pub is_letter : ℕ → Bool
 is_letter byte = is_letter_class (class_of byte)
+
+-- the class is that of blanks
+abbrev pub is_blank_class : Class → Bool
+is_blank_class Blank = true
+is_blank_class Hash = false
+is_blank_class (Sign mark) = false
+is_blank_class Letter = false
+is_blank_class Forbidden = false
+
+-- the byte is a blank
+abbrev pub is_blank : ℕ → Bool
+is_blank byte = is_blank_class (class_of byte)

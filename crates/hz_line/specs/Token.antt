@@ -1,7 +1,7 @@
 -- The tokens of a line.
-use Rattle.std.specs.Prelude.{◌≡◌, ◌<◌, ℕ, length, Bool, true, false, List, [], ◌∷◌, Option, Some, None, if◌then◌else◌}
+use Rattle.std.specs.Prelude.{◌≡◌, ◌<◌, ℕ, length, Bool, true, false, List, [], ◌∷◌, ◌++◌, Option, Some, None, if◌then◌else◌}
 use Rattle.std.specs.List.{list_all}
-use Rattle.hz_line.specs.Byte.{class_of, is_letter}
+use Rattle.hz_line.specs.Byte.{class_of, is_letter, is_blank}
 use Rattle.hz_line.specs.declared.bytes.Mark.{Mark}
 use Rattle.hz_line.specs.declared.bytes.Class.{Class}
 use Rattle.hz_line.specs.declared.bytes.Class.TheVariants.{Blank, Hash, Sign, Letter, Forbidden}
@@ -53,7 +53,7 @@ abbrev pub token_of : Token → TokenOf
 token_of (token.Word word) = WordOf word.now
 token_of (token.Sign mark) = MarkOf mark
 
--- what comes first in a line: nothing, a forbidden byte, or a token before the tokens of the rest
+-- what comes first, by the tokens of the whole line: it has no token, none for a forbidden byte, or this one before those of the rest
 abbrev pub IsNext : List ℕ → Next → Type 0
 IsNext line next.End = tokens_of line ≡ Some []
 IsNext line next.Forbidden = tokens_of line ≡ None
@@ -74,3 +74,46 @@ abbrev pub AreWords : List TokenOf → Type 0
 AreWords [] = Unit {0}
 AreWords (WordOf word ∷ tokens) = IsWord word × AreWords tokens
 AreWords (MarkOf mark ∷ tokens) = AreWords tokens
+
+-- behind the blanks at its front the line is so
+pub record PastBlanks (is : List ℕ → Type 0) (line : List ℕ) : Type 0 where
+  pub blanks : List ℕ
+  pub after : List ℕ
+  pub whole : line ≡ blanks ++ after
+  pub blank : list_all is_blank blanks ≡ true
+  pub so : is after
+
+-- the line is over: it is empty, or goes on with a comment
+abbrev pub IsOver : List ℕ → Type 0
+IsOver [] = Unit {0}
+IsOver (byte ∷ rest) = class_of byte ≡ Hash
+
+-- the line begins with a forbidden byte
+abbrev pub BeginsForbidden : List ℕ → Type 0
+BeginsForbidden [] = ⊥
+BeginsForbidden (byte ∷ rest) = class_of byte ≡ Forbidden
+
+-- the line is the token and then this rest: a word has all the letters that stand there, a mark is one byte
+abbrev pub IsSplit : TokenOf → List ℕ → List ℕ → Type 0
+IsSplit (WordOf word) rest line = IsWord word × (line ≡ word ++ rest) × (begins_in_word rest ≡ false)
+IsSplit (MarkOf mark) rest line = (byte : ℕ) × (class_of byte ≡ Sign mark) × (line ≡ byte ∷ rest)
+
+-- the line begins with the token, and this rest comes after it
+abbrev pub BeginsWithToken : List ℕ → TokenOf → List ℕ → Type 0
+BeginsWithToken line token rest = PastBlanks (IsSplit token rest) line
+
+-- what a line begins with, whatever comes behind: the end, a forbidden byte, or a token and then this rest
+abbrev pub BeginsWith : List ℕ → Next → Type 0
+BeginsWith line next.End = PastBlanks IsOver line
+BeginsWith line next.Forbidden = PastBlanks BeginsForbidden line
+BeginsWith line (next.Token token rest) = BeginsWithToken line (token_of token) rest.now
+
+-- the line begins with these tokens, one after the other, and this rest comes after them
+abbrev pub BeginsWithTokens : List ℕ → List TokenOf → List ℕ → Type 0
+BeginsWithTokens line [] rest = line ≡ rest
+BeginsWithTokens line (token ∷ tokens) rest = (after : List ℕ) × BeginsWithToken line token after × BeginsWithTokens after tokens rest
+
+-- these tokens stand before the fault: all of those before the forbidden byte, or some where memory ran out
+abbrev pub StandBefore : LineFault → List TokenOf → List ℕ → Type 0
+StandBefore fault.Forbidden tokens line = (rest : List ℕ) × BeginsWithTokens line tokens rest × PastBlanks BeginsForbidden rest
+StandBefore fault.Memory tokens line = (rest : List ℕ) × BeginsWithTokens line tokens rest

@@ -50,6 +50,7 @@ pub fn class_of(byte: u8) -> Class
 }
 
 // Whether the byte is a part of a word.
+#[inline]
 pub(crate) fn is_letter(byte: u8) -> bool
     ensures { result ≡ is_letter byte }
 {

@@ -1,6 +1,6 @@
 // Each public function once, with ample memory.
 
-use crate::{Cut, LineFault, Mark, Token, cut_line, is_keyword, read_tokens};
+use crate::{Cut, LineFault, Mark, Next, Token, cut_line, is_keyword, next_token, read_tokens};
 use std::test::Fail;
 
 // The bytes of a token.
@@ -39,6 +39,13 @@ fn reads_lines(rt: HostRuntime) -> Result<(), Fail> {
         read_tokens(b"a\rb # c", &mut tokens),
         Err(LineFault::Forbidden)
     );
+    match next_token(b" a,\xff") {
+        Next::Token(first, behind) => {
+            assert_eq!(rt; spelling(&first), b"a".as_slice());
+            assert_eq!(rt; behind, b",\xff".as_slice());
+        }
+        _ => assert!(rt; false),
+    }
     assert!(rt; is_keyword(b"Buf", b"BUF"));
     Ok(())
 }

@@ -1,9 +1,9 @@
 // Tokens of a line.
 
-ghost use Rattle.std.specs.Prelude.{◌≡◌, ◌≤◌, length, MatchResult, map, Some};
+ghost use Rattle.std.specs.Prelude.{◌≡◌, ◌≤◌, length, IfErr, MatchResult, map, Some};
 ghost use Rattle.std.specs.List.{prefix_len};
 ghost use Rattle.hz_line.specs.Byte.{is_letter};
-ghost use Rattle.hz_line.specs.Token.{token_of, tokens_of, IsNext, StandsInLine};
+ghost use Rattle.hz_line.specs.Token.{token_of, tokens_of, BeginsWith, IsNext, StandBefore, StandsInLine};
 
 use crate::bytes::{Class, Mark, class_of, is_letter};
 
@@ -36,11 +36,12 @@ pub enum Next<'a> {
 }
 
 /// Reads the tokens of a line into `tokens`, in place of those that it had. The vector may be used again
-/// for each line: no other memory is taken. After a fault its tokens are a front of the line's.
+/// for each line: no other memory is taken. After a fault its tokens are those that stand before the fault.
 pub fn read_tokens<'a>(line: &'a [u8], tokens: &mut Vec<Token<'a>>) -> Result<(), LineFault>
-    ensures { MatchResult result
+    ensures value { MatchResult result
         (λ _. tokens_of line.now ≡ Some (map token_of tokens.new.items))
         (λ fault. StandsInLine fault line.now) }
+    ensures before { IfErr result (λ fault. StandBefore fault (map token_of tokens.new.items) line.now) }
 {
     tokens.clear();
     let mut rest = line;
@@ -58,9 +59,12 @@ pub fn read_tokens<'a>(line: &'a [u8], tokens: &mut Vec<Token<'a>>) -> Result<()
     }
 }
 
-/// The first token of a line, and what comes after it. It takes time linear in what it reads, and no memory.
+/// The first token of a line, and what comes after it. Nothing that stands behind the token changes the answer. It
+/// takes time linear in what it reads, and no memory.
+#[inline]
 pub fn next_token<'a>(line: &'a [u8]) -> Next<'a>
-    ensures { IsNext line.now result }
+    ensures first { BeginsWith line.now result }
+    ensures tokens { IsNext line.now result }
 {
     let mut rest = line;
     while let [first, others @ ..] = rest {
@@ -79,6 +83,7 @@ pub fn next_token<'a>(line: &'a [u8]) -> Next<'a>
 }
 
 // How many letters a line begins with.
+#[inline]
 fn word_len(line: &[u8]) -> usize
     ensures value { result ≡ prefix_len is_letter line.now }
     ensures within { result ≤ length line.now }
