@@ -8,5 +8,4 @@ pub mod Readers
 pub mod Rechecks
 pub mod PresentLemmas
 pub mod ReplayLemmas
-pub mod PartLemmas
 pub mod RunLemmas

@@ -1,10 +1,10 @@
 -- What a variable's excitation depends on: where no variable changes that it reads, it stays; those that read a variable
 -- are the wires from a node, and the gate of a wire.
-use Rattle.std.proofs.Common.{◌≡◌, ◌≢◌, ℕ, ◌+◌, ◌-◌, ◌<◌, ◌≤◌, ◌⊎◌, Bool, true, false, not, cond, List, [], ◌∷◌, length, get_or, set, take, drop, All, Some, slice_get, IsTrue, refl, sym, ap, ◌∙◌, subst, arith, inl, inr}
-use Rattle.std.specs.Prelude.{Contains, slice_range, flat_map}
+use Rattle.std.proofs.Common.{◌≡◌, ◌≢◌, ℕ, ◌+◌, ◌-◌, ◌<◌, ◌≤◌, ◌⊎◌, Bool, true, false, not, cond, List, [], ◌∷◌, length, get_or, set, All, Some, slice_get, IsTrue, refl, sym, ap, ◌∙◌, subst, arith, inl, inr}
+use Rattle.std.specs.Prelude.{Contains, flat_map}
 use Rattle.std.specs.Bool.{beq}
 use Rattle.std.proofs.lemmas.Bool.{cases_lt, cases_eq, false≢true, or_left, or_right, false_from_ne_true}
-use Rattle.std.proofs.lemmas.List.{ext_get_or, get_or-take, get_or-drop, length-take, length-drop, get_or-set_other, get_or_default, get_or_past}
+use Rattle.std.proofs.lemmas.List.{get_or-set_other, get_or_default, get_or_past}
 use Rattle.std.proofs.lemmas.List.Elements.{All-from_get_or, Contains-get_or}
 use Rattle.hz_core.specs.Netlist.{Netlist, IsCircuit, IsWhole, IsGateNumber, gate_at, variable_count}
 use Rattle.hz_core.specs.Gate.{gate_value}
@@ -15,6 +15,7 @@ use Rattle.hz_net.specs.declared.variable.VarKind.TheVariants.{Wire as WireKind}
 use Rattle.hz_net.specs.Entries.{entries_of, seen_as, IsEntryAt}
 use Rattle.hz_net.specs.declared.entry.Entry.{Entry}
 use Rattle.hz_net.specs.declared.entry.Entry.TheVariants.{Input as InputEntry, Gate as GateEntry, Wire as WireEntry}
+use Rattle.hz_net.proofs.PartLemmas.{same-parts}
 use Rattle.hz_net.proofs.Places.{no_wire, length-network_of, length-entries_of, driver_at-input, driver_at-gate, driver_at-wire, first_wire-bound, variables_of-entry, IsEntryAt-entries_of}
 use Rattle.hz_net.proofs.Wires.{IsWireFrom, IsWireFrom-node, IsWireFrom-fan_out_of, Contains-fan_out_of, variables_of-wire, GoesInto-variables_of}
 use Rattle.hz_gmw.specs.Runs.{is_listed, flipped}
@@ -54,21 +55,11 @@ some-read driver (x ∷ flips) = elim (reads-or-not driver x) [
   ]
 ]
 
-slice-same : (left right : List Bool) (first pins : ℕ) → length left ≡ length right → ((i : ℕ) → first ≤ i → i < first + pins → bit_at left i ≡ bit_at right i) → slice_range left first (first + pins) ≡ slice_range right first (first + pins)
-slice-same left right first pins long each =
-    let count = first + pins - first in
-    ext_get_or false (take count (drop first left)) (take count (drop first right))
-    (omega (arith, long, length-take count (drop first left), length-take count (drop first right), length-drop first left, length-drop first right))
-    (λ k few.
-    let inside : k < count = omega (arith, few, length-take count (drop first left)) in
-    get_or-take count (drop first left) k false inside ∙ (get_or-drop first left k false ∙
-    (each (first + k) (omega arith) (omega (arith, inside)) ∙ sym (get_or-take count (drop first right) k false inside ∙ get_or-drop first right k false))))
-
 -- a driver that reads the same asks for the same
 driven-same : (input left right : List Bool) (driver : Driver) → length left ≡ length right → ((i : ℕ) → Reads driver i → bit_at left i ≡ bit_at right i) → driven input left driver ≡ driven input right driver
 driven-same input left right (External place) long each = refl
 driven-same input left right (Function kind first pins) long each =
-    ap (gate_value kind) (slice-same left right first pins long (λ i from within. each i (from, within)))
+    ap (gate_value kind) (same-parts false left right first pins long (λ k few. each (first + k) (omega arith, omega (arith, few))))
 driven-same input left right (Source node) long each = each node refl
 
 -- and one that reads the same place of the external input

@@ -2,7 +2,7 @@
 use Rattle.std.specs.Prelude.{◌+◌, ◌≤◌, length}
 use Rattle.std.specs.Vec.{vec_len, vec_capacity}
 use Rattle.hz_gmw.specs.Recorded.{Recorded}
-use Rattle.hz_gmw.specs.Parts.{parts_from, EndsAt}
+use Rattle.hz_net.specs.Parts.{parts_from, EndsAt}
 use Rattle.hz_gmw.specs.declared.run.Run.TheInside.{Inside}
 
 -- the run that the fields hold

@@ -1,11 +1,10 @@
 //! A run as it is written down: its steps, each the variables that change in it.
 ghost use Rattle.std.specs.Prelude.{◌≡◌, ◌+◌, ◌<◌, ◌≤◌, [], ◌∷◌, ◌++◌, length, slice_index_or, IfOk, OnOk, OnErr};
-ghost use Rattle.std.specs.List.{slice_range};
 ghost use Rattle.std.specs.Vec.{vec_len, vec_capacity};
 ghost use Rattle.hz_gmw.specs.Recorded.{flip_count, no_steps};
-ghost use Rattle.hz_gmw.specs.Parts.{start_of};
 
 use hz_core::Memory;
+use hz_net::part_at;
 use std::alloc::Global;
 use std::marker::Model;
 
@@ -124,8 +123,7 @@ impl Run {
         requires { number < length self.now.steps }
         ensures { result.now ≡ slice_index_or self.now.steps number [] }
     {
-        let start = start_at(self.ends.as_slice(), number);
-        part(self.flips.as_slice(), start, self.ends[number])
+        part_at(self.flips.as_slice(), self.ends.as_slice(), number)
     }
 }
 
@@ -137,23 +135,6 @@ fn append(list: &mut Vec<u32>, more: &[u32])
     ensures capacity { vec_capacity list.old ≤ vec_capacity list.new }
 {
     list.extend_from_slice(more).unwrap();
-}
-
-// Where a step begins: where the one before it ends.
-fn start_at(ends: &[usize], number: usize) -> usize
-    requires { number < length ends.now }
-    ensures { result ≡ start_of 0 ends.now number }
-{
-    if number == 0 { 0 } else { ends[number - 1] }
-}
-
-// The part of a list from a start up to an end.
-fn part(list: &[u32], start: usize, end: usize) -> &[u32]
-    requires ordered { start ≤ end }
-    requires inside { end ≤ length list.now }
-    ensures { result.now ≡ slice_range list.now start end }
-{
-    &list[start..end]
 }
 
 #[cfg(test)]

@@ -1,6 +1,5 @@
 -- What a network's fields tell of each variable.
-use Rattle.std.proofs.Common.{◌≡◌, ◌∙◌, sym, ap, ℕ, ◌+◌, ◌<◌, ◌≤◌, List, length, Some, slice_get, get_or, arith, subst}
-use Rattle.std.specs.List.{slice_range}
+use Rattle.std.proofs.Common.{◌≡◌, ◌∙◌, sym, ap, ℕ, ◌+◌, suc, ◌<◌, ◌≤◌, List, [], ◌∷◌, length, Some, slice_get, get_or, arith, subst}
 use Rattle.std.proofs.lemmas.List.{get_or_default}
 use Rattle.hz_core.specs.Netlist.{Netlist, IsCircuit, IsWhole, variable_count}
 use Rattle.hz_net.specs.Network.{network_of, driver_at}
@@ -11,6 +10,7 @@ use Rattle.hz_net.specs.Inside.{HoldsNetwork}
 use Rattle.hz_net.specs.declared.net.Net.TheInside.{Inside}
 use Rattle.hz_net.specs.declared.entry.Entry.{Entry}
 use Rattle.hz_net.proofs.Places.{length-entries_of, length-network_of, driver_at-entry, variables_of-entry, IsEntryAt-entries_of}
+use Rattle.hz_net.proofs.PartLemmas.{length-parts_from, IsPart, is_part}
 use Rattle.hz_net.proofs.FanOutLemmas.{length-readers_by_node, at-readers_by_node}
 
 -- the fields hold this circuit
@@ -82,30 +82,37 @@ pub starts_counted :
     (fields : Inside) (netlist : Netlist) → fields.circuit ≡ netlist → HoldsNetwork fields →
     length fields.fan_out.starts.items ≡ length netlist.names + 1
 starts_counted fields netlist same holds =
-    (split_of fields netlist same holds).counted ∙ ap (λ n. n + 1) (length-readers_by_node (length netlist.names) (entries_of netlist))
+    let split = split_of fields netlist same holds in
+    omega (
+      arith,
+      ap length split.starts_are,
+      length-parts_from 0 split.ends fields.fan_out.readers.items,
+      ap length split.parts_are,
+      length-readers_by_node (length netlist.names) (entries_of netlist),
+    )
 
 -- the part of the list that holds the fan-out of a node
-pub record HoldsFanOut (readers fan_out : List ℕ) (start end : ℕ) : Type 0 where
-  pub ordered : start ≤ end
-  pub inside : end ≤ length readers
-  pub same : slice_range readers start end ≡ fan_out
-
 pub fan_out_is :
     (fields : Inside) (netlist : Netlist) → fields.circuit ≡ netlist → HoldsNetwork fields → (node start end : ℕ) →
     node < length netlist.names → start ≡ get_or fields.fan_out.starts.items node start → end ≡ get_or fields.fan_out.starts.items (node + 1) end →
-    HoldsFanOut fields.fan_out.readers.items (fan_out_of netlist node) start end
+    IsPart fields.fan_out.readers.items (fan_out_of netlist node) start end
 fan_out_is fields netlist same holds node start end within read_start read_end =
     let starts = fields.fan_out.starts.items in
     let split = split_of fields netlist same holds in
     let counted : length starts ≡ length netlist.names + 1 = starts_counted fields netlist same holds in
-    let pieces : node < length (readers_by_node (length netlist.names) (entries_of netlist)) =
-    omega (arith, within, length-readers_by_node (length netlist.names) (entries_of netlist)) in
-    let start_is : start ≡ get_or starts node 0 = read_start ∙ get_or_default starts node start 0 (omega (arith, within, counted)) in
-    let end_is : end ≡ get_or starts (node + 1) 0 = read_end ∙ get_or_default starts (node + 1) end 0 (omega (arith, within, counted)) in
+    let read : (place value : ℕ) → place ≤ node + 1 → value ≡ get_or starts place value → value ≡ get_or (0 ∷ split.ends) place 0 =
+    λ place value few is. is ∙ get_or_default starts place value 0 (omega (arith, few, within, counted)) ∙
+    ap (λ (list : List ℕ). get_or list place 0) split.starts_are in
+    let begins : start ≡ get_or (0 ∷ split.ends) node 0 = read node start (omega arith) read_start in
+    let next : node + 1 ≡ suc node = omega arith in
+    let ends_at : end ≡ get_or split.ends node 0 =
+    read (node + 1) end (omega arith) read_end ∙ ap (λ (n : ℕ). get_or (0 ∷ split.ends) n 0) next in
+    let inside : node < length split.ends = omega (arith, within, counted, ap length split.starts_are) in
+    let part = is_part 0 split.ends fields.fan_out.readers.items node split.cut inside in
     record {
-      ordered = omega (arith, start_is, end_is, split.ordered node pieces);
-      inside = omega (arith, end_is, split.inside node pieces);
-      same = ap (λ n. slice_range fields.fan_out.readers.items n end) start_is ∙
-          ap (slice_range fields.fan_out.readers.items (get_or starts node 0)) end_is ∙ split.pieces_are node pieces ∙
-          at-readers_by_node netlist (length netlist.names) node (circuit_of fields netlist same holds) within;
+      ordered = omega (arith, begins, ends_at, part.ordered);
+      inside = omega (arith, ends_at, part.inside);
+      same = rw (begins, ends_at)
+          (part.same ∙ ap (λ (parts : List (List ℕ)). get_or parts node []) split.parts_are ∙
+          at-readers_by_node netlist (length netlist.names) node (circuit_of fields netlist same holds) within);
     }

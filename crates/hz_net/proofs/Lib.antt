@@ -1,4 +1,5 @@
 pub mod Places
+pub mod PartLemmas
 pub mod FanOutLemmas
 pub mod Fields
 pub mod Excitations

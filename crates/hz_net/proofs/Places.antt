@@ -1,8 +1,8 @@
 -- Where each variable of a circuit's network stands, and what drives it there.
 use Rattle.std.proofs.Common.{◌≡◌, ◌∙◌, sym, ap, refl, suc, zero, ℕ, ◌+◌, ◌-◌, ◌<◌, ◌≤◌, Bool, false, List, [], ◌∷◌, ◌++◌, length, Some, All, get_or, map, take, drop, arith, subst, slice_get, add-zero, length-append, append_assoc, inl, inr}
-use Rattle.std.specs.List.{sum_by, range_with_len, slice_range, drop-map}
+use Rattle.std.specs.List.{sum_by, range_with_len}
 use Rattle.std.proofs.lemmas.Simd.{map-map}
-use Rattle.std.proofs.lemmas.List.{length-map, map-append, get_or-map, get_or_append_left, get_or-append_right, take-map, drop-drop, drop_at, take_at, drop_more, drop_all, get_or-drop, get_or-take, append-nil}
+use Rattle.std.proofs.lemmas.List.{length-map, map-append, get_or-map, get_or_append_left, get_or-append_right, drop-drop, drop_at, take_at, drop_more, drop_all, get_or-drop, get_or-take, append-nil}
 use Rattle.std.proofs.lemmas.List.FromFn.{length-map-range_with_len, get_or-map-range_with_len}
 use Rattle.std.proofs.lemmas.List.Sums.{sum_by-cons, sum_by_more, sum_by-take-le}
 use Rattle.std.proofs.lemmas.List.Elements.{All-nil, All-cons, All-head, All-tail, All-append}
@@ -333,11 +333,6 @@ driver_at-pin netlist node pin circuit is_gate within =
     driver_at-wire netlist (first_wire netlist node + pin) circuit (omega arith) (omega (arith, first_wire-bound netlist node circuit is_gate)) ∙
     ap (λ wire. Source wire.source) (wire_at-pin netlist node pin circuit is_gate within)
 
-map-gate_wires :
-    (nodes : List Bool) (gate pin : ℕ) (sources : List ℕ) → map (λ wire. bit_at nodes wire.source) (gate_wires gate pin sources) ≡ map (bit_at nodes) sources
-map-gate_wires nodes gate pin [] = refl
-map-gate_wires nodes gate pin (source ∷ sources) = ap (λ bits. bit_at nodes source ∷ bits) (map-gate_wires nodes gate (pin + 1) sources)
-
 pub length-expanded :
     (netlist : Netlist) (nodes : List Bool) → IsCircuit netlist → length nodes ≡ length netlist.names →
     length (expanded netlist nodes) ≡ length (network_of netlist)
@@ -376,22 +371,3 @@ bit_at-expanded-entry netlist nodes var gate pin source same entry =
     let inside : k < length (wires_of netlist) = slice_get_within (wires_of netlist) k wire entry.2 in
     bit_at-expanded-wire netlist nodes var same entry.0 (omega (arith, length-wires_of netlist)) ∙
     ap (λ wire. bit_at nodes wire.source) (get_or_from_slice_get (wires_of netlist) k wire no_wire entry.2)
-
--- the wires of a gate, as a part of the state, have the values of its sources
-pub slice_range-expanded :
-    (netlist : Netlist) (nodes : List Bool) (node : ℕ) → IsCircuit netlist → length nodes ≡ length netlist.names → IsGateNumber netlist node →
-    slice_range (expanded netlist nodes) (first_wire netlist node) (first_wire netlist node + length (gate_at netlist node).sources) ≡
-    map (bit_at nodes) (gate_at netlist node).sources
-slice_range-expanded netlist nodes node circuit same is_gate =
-    let value : Wire → Bool = λ wire. bit_at nodes wire.source in
-    let pins = length (gate_at netlist node).sources in
-    let first = first_wire netlist node in
-    let offset = first - length netlist.names in
-    let count : first + pins - first ≡ pins = omega arith in
-    let place : first ≡ length netlist.names + offset = omega arith in
-    ap (λ n. take n (drop first (expanded netlist nodes))) count ∙
-    ap (λ n. take pins (drop n (expanded netlist nodes))) place ∙
-    ap (take pins) (sym (drop-drop offset (length netlist.names) (nodes ++ map value (wires_of netlist)))) ∙
-    ap (λ bits. take pins (drop offset bits)) (drop_at nodes (map value (wires_of netlist)) (length netlist.names) same) ∙
-    ap (take pins) (drop-map value offset (wires_of netlist)) ∙ take-map value pins (drop offset (wires_of netlist)) ∙
-    ap (map value) (wires_of-gate netlist node circuit is_gate) ∙ map-gate_wires nodes node 0 (gate_at netlist node).sources

@@ -1,16 +1,17 @@
--- Wires by the node that drives them, and by the gate that they go into.
+-- Wires by the node that drives them, and by the gate that they go into; what a list has at a gate's wires.
 use Rattle.std.proofs.Common.{◌≡◌, ◌∙◌, sym, ap, suc, zero, ℕ, ◌+◌, ◌-◌, ◌<◌, ◌≤◌, true, false, List, [], ◌∷◌, length, Some, All, get_or, arith, subst, slice_get, inl, inr}
 use Rattle.std.specs.Prelude.{Contains, nat_eq}
 use Rattle.std.proofs.lemmas.Bool.{cases_lt, cases_eq, eq-eqb}
 use Rattle.std.proofs.lemmas.Bool.Decides.{nat_tests}
 use Rattle.std.proofs.lemmas.List.{get_or_past}
 use Rattle.std.proofs.lemmas.List.Elements.{All-nil, All-cons, All-append}
-use Rattle.hz_core.specs.Netlist.{Gate, Netlist, IsCircuit, IsGateNumber, variable_count}
+use Rattle.hz_core.specs.Netlist.{Gate, Netlist, IsCircuit, IsGateNumber, gate_at, variable_count}
 use Rattle.hz_net.specs.Network.{Wire, gate_wires, wires_from, wires_of, External, Source, network_of, driver_at}
-use Rattle.hz_net.specs.Variables.{variables_of, first_wire, readers_from, fan_out_of, GoesInto}
+use Rattle.hz_net.specs.Variables.{variables_of, first_wire, at_wires, readers_from, fan_out_of, GoesInto}
 use Rattle.hz_net.specs.declared.variable.VarKind.TheVariants.{Wire as WireKind}
 use Rattle.hz_net.specs.Entries.{wire_entry}
-use Rattle.hz_net.proofs.Places.{no_wire, All-wires_of, length-network_of, length-wires_of, driver_at-input, driver_at-gate, driver_at-wire, wire_at-pin, at-entries_of-wire, variables_of-entry}
+use Rattle.hz_net.proofs.Places.{no_wire, All-wires_of, length-network_of, length-wires_of, driver_at-input, driver_at-gate, driver_at-wire, wire_at-pin, at-entries_of-wire, variables_of-entry, first_wire-bound}
+use Rattle.hz_net.proofs.PartLemmas.{length-part, at-part}
 
 -- a variable is a wire from a node
 pub record IsWireFrom (netlist : Netlist) (wire node : ℕ) : Type 0 where
@@ -159,3 +160,17 @@ GoesInto-variables_of netlist wire gate pin source circuit above below is =
           let there : first_wire netlist other + place - length netlist.names ≡ k = omega (arith, here) in
           sym (ap (λ (w : Wire). w.gate) (wire_at-pin netlist other place circuit is_gate within)) ∙ (ap (λ (n : ℕ). (get_or (wires_of netlist) n no_wire).gate) there ∙ named);
     }
+
+-- a gate's wires have one element for each pin
+pub length-at_wires :
+    {X : Type 0} (netlist : Netlist) (gate : ℕ) (list : List X) → IsCircuit netlist → IsGateNumber netlist gate →
+    length list ≡ length (network_of netlist) → length (at_wires netlist gate list) ≡ length (gate_at netlist gate).sources
+length-at_wires netlist gate list circuit is_gate long =
+    length-part list (first_wire netlist gate) (length (gate_at netlist gate).sources)
+    (λ k few. omega (arith, few, long, length-network_of netlist circuit, first_wire-bound netlist gate circuit is_gate))
+
+-- it stands as many variables on as its pin says
+pub get_or-at_wires :
+    {X : Type 0} (netlist : Netlist) (gate : ℕ) (list : List X) (pin : ℕ) (none : X) → pin < length (gate_at netlist gate).sources →
+    get_or (at_wires netlist gate list) pin none ≡ get_or list (first_wire netlist gate + pin) none
+get_or-at_wires netlist gate list pin none few = at-part list (first_wire netlist gate) (length (gate_at netlist gate).sources) pin none few

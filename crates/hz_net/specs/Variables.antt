@@ -1,6 +1,6 @@
 -- The variables of the complete network by what they are, and how nodes and wires hang together.
 use Rattle.std.specs.Prelude.{◌≡◌, ℕ, suc, ◌+◌, ◌-◌, ◌<◌, Bool, List, [], ◌∷◌, ◌++◌, length, map, take, sum_by, if◌then◌else◌, ◌==◌}
-use Rattle.std.specs.List.{range_with_len}
+use Rattle.std.specs.List.{range_with_len, slice_range}
 use Rattle.hz_core.specs.Netlist.{Netlist, IsGateNumber, gate_at}
 use Rattle.hz_net.specs.Network.{Wire, wires_of, bit_at}
 use Rattle.hz_net.specs.declared.variable.VarKind.{VarKind}
@@ -16,6 +16,11 @@ variables_of netlist =
 abbrev pub first_wire : Netlist → ℕ → ℕ
 first_wire netlist gate =
     length netlist.names + sum_by (λ earlier. length earlier.sources) (take (gate - netlist.inputs) netlist.gates)
+
+-- what a list over all variables has at the wires of a gate
+abbrev pub at_wires : {X : Type 0} → Netlist → ℕ → List X → List X
+at_wires netlist gate list =
+    slice_range list (first_wire netlist gate) (first_wire netlist gate + length (gate_at netlist gate).sources)
 
 -- of wires whose variables begin at a number, the variables of those that come from a node
 abbrev pub readers_from : ℕ → List Wire → ℕ → List ℕ

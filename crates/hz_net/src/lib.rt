@@ -4,7 +4,9 @@
 mod entry;
 mod fan_out;
 mod net;
+mod parts;
 mod variable;
 
 pub use net::Net;
+pub use parts::part_at;
 pub use variable::VarKind;

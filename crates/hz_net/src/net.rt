@@ -8,6 +8,7 @@ ghost use Rattle.hz_net.specs.Entries.{driver_of, seen_as, IsEntryAt};
 use crate::VarKind;
 use crate::entry::{Entry, list_entries};
 use crate::fan_out::{FanOut, list_fan_out};
+use crate::parts::part;
 use hz_core::{Circuit, Memory, Tri};
 use std::alloc::Global;
 use std::marker::Model;
@@ -189,15 +190,6 @@ impl Net {
     {
         self.entries[var as usize]
     }
-}
-
-// The part of a list from a start up to an end.
-fn part(list: &[u32], start: usize, end: usize) -> &[u32]
-    requires ordered { start ≤ end }
-    requires inside { end ≤ length list.now }
-    ensures { result.now ≡ slice_range list.now start end }
-{
-    &list[start..end]
 }
 
 #[cfg(test)]

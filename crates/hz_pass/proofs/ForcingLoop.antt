@@ -1,9 +1,9 @@
 -- The loop that forces values: that each of its steps keeps what is known, and what is known at its end.
-use Rattle.std.proofs.Common.{◌≡◌, ◌≢◌, ℕ, zero, suc, ◌+◌, ◌-◌, ◌<◌, ◌≤◌, ◌⊎◌, Bool, true, false, Option, Some, None, List, [], ◌∷◌, ◌++◌, length, map, take, drop, get_or, set, slice_get, refl, sym, ap, ◌∙◌, subst, arith, length-append, inl, inr}
+use Rattle.std.proofs.Common.{◌≡◌, ◌≢◌, ℕ, zero, suc, ◌+◌, ◌-◌, ◌<◌, ◌≤◌, ◌⊎◌, Bool, true, false, Option, Some, None, List, [], ◌∷◌, ◌++◌, length, map, get_or, set, slice_get, refl, sym, ap, ◌∙◌, subst, arith, length-append, inl, inr}
 use Rattle.std.specs.Prelude.{Contains, slice_range}
 use Rattle.std.proofs.lemmas.Bool.{cases_eq}
 use Rattle.std.proofs.lemmas.Option.{slice_get_within, slice_get-get_or, slice_get_past}
-use Rattle.std.proofs.lemmas.List.{get_or-set_same, get_or-set_other, length-set, length-map, get_or-map, get_or-take, get_or-drop, length-take, length-drop, get_or_append_left}
+use Rattle.std.proofs.lemmas.List.{get_or-set_same, get_or-set_other, length-set, length-map, get_or-map, get_or_append_left}
 use Rattle.std.proofs.lemmas.List.Elements.{All-push, All-contains, Contains-append_left, Contains-push, Contains-push_cases}
 use Rattle.hz_core.specs.declared.tri.Tri.{Tri}
 use Rattle.hz_core.specs.declared.tri.Tri.TheVariants.{Zero, One, Unknown}
@@ -12,44 +12,21 @@ use Rattle.hz_core.specs.Ternary.{tri_of}
 use Rattle.hz_core.specs.Extension.{extension}
 use Rattle.hz_core.specs.Netlist.{Netlist, IsCircuit, IsWhole, IsGateNumber, gate_at, variable_count}
 use Rattle.hz_net.specs.Network.{network_of, Source, driver_at, value_at}
-use Rattle.hz_net.specs.Variables.{first_wire, fan_out_of, GoesInto}
+use Rattle.hz_net.specs.Variables.{first_wire, at_wires, fan_out_of, GoesInto}
 use Rattle.hz_net.specs.Starts.{IsForced}
-use Rattle.hz_net.proofs.Places.{length-network_of, driver_at-pin, first_wire-bound}
+use Rattle.hz_net.proofs.Places.{length-network_of, driver_at-pin}
+use Rattle.hz_net.proofs.PartLemmas.{same-parts}
 use Rattle.hz_net.proofs.Derivations.{AreForced, IsClosed, forced_once, forced-listed, forced-extension, closed-forced}
-use Rattle.hz_net.proofs.Wires.{IsWireFrom, IsWireFrom-driver_at, IsWireFrom-node, Contains-fan_out_of}
-use Rattle.hz_pass.specs.Forcing.{listed_value, IsListed, pin_values, gate_extension, SetsGate, ForcedSoFar, AreForcedValues}
+use Rattle.hz_net.proofs.Wires.{IsWireFrom, IsWireFrom-driver_at, IsWireFrom-node, Contains-fan_out_of, length-at_wires, get_or-at_wires}
+use Rattle.hz_pass.specs.Forcing.{listed_value, IsListed, gate_extension, SetsGate, ForcedSoFar, AreForcedValues}
 use Rattle.hz_pass.proofs.Places.{same-values}
 use Rattle.hz_pass.proofs.AllOpen.{extension-unknown}
 
 -- a part of a list is the same where a value outside it is set
 slice_range-set : (values : List Tri) (at from count : ℕ) (value : Tri) → ((k : ℕ) → k < count → from + k ≢ at) → slice_range (set values at value) from (from + count) ≡ slice_range values from (from + count)
 slice_range-set values at from count value outside =
-    let n : from + count - from ≡ count = omega arith in
-    let lengths : length (set values at value) ≡ length values = length-set values at value in
-    same-values (take (from + count - from) (drop from (set values at value))) (take (from + count - from) (drop from values))
-    (omega (arith, lengths, length-take (from + count - from) (drop from (set values at value)), length-take (from + count - from) (drop from values), length-drop from (set values at value), length-drop from values))
-    (λ k few.
-    let inside : k < from + count - from = omega (arith, few, length-take (from + count - from) (drop from (set values at value))) in
-    let less : k < count = omega (arith, inside) in
-    get_or-take (from + count - from) (drop from (set values at value)) k Zero inside ∙
-    (get_or-drop from (set values at value) k Zero ∙
-    (get_or-set_other values at (from + k) value Zero (outside k less) ∙
-    (sym (get_or-drop from values k Zero) ∙ sym (get_or-take (from + count - from) (drop from values) k Zero inside)))))
-
--- a value among a gate's wires stands as many variables on as its pin says
-at-pin_values : (netlist : Netlist) (values : List Tri) (gate pin : ℕ) → pin < length (gate_at netlist gate).sources → value_at (pin_values netlist values gate) pin ≡ value_at values (first_wire netlist gate + pin)
-at-pin_values netlist values gate pin few =
-    let first = first_wire netlist gate in
-    let count = length (gate_at netlist gate).sources in
-    let inside : pin < first + count - first = omega arith in
-    get_or-take (first + count - first) (drop first values) pin Zero inside ∙ get_or-drop first values pin Zero
-
--- there is one for each pin
-length-pin_values : (netlist : Netlist) (values : List Tri) (gate : ℕ) → IsCircuit netlist → IsGateNumber netlist gate → length values ≡ length (network_of netlist) → length (pin_values netlist values gate) ≡ length (gate_at netlist gate).sources
-length-pin_values netlist values gate circuit is_gate long =
-    let first = first_wire netlist gate in
-    let count = length (gate_at netlist gate).sources in
-    omega (arith, long, length-network_of netlist circuit, first_wire-bound netlist gate circuit is_gate, length-take (first + count - first) (drop first values), length-drop first values)
+    same-parts Zero (set values at value) values from count (length-set values at value)
+    (λ k few. get_or-set_other values at (from + k) value Zero (outside k few))
 
 -- pins that are forced, by places
 AreForced-places : (netlist : Netlist) (listed : List (Option Bool)) (sources : List ℕ) (pins : List Tri) → length pins ≡ length sources → ((k : ℕ) (bit : Bool) → k < length sources → value_at pins k ≡ tri_of bit → IsForced netlist listed (get_or sources k 0) bit) → AreForced netlist listed sources pins
@@ -139,12 +116,12 @@ module _ (netlist : Netlist) (listed : List (Option Bool)) (circuit : IsCircuit 
           | inr known ↦ inr (inl (set_values.wait source known.0 (bit_listed source known.0 (IsWireFrom-node netlist wire source circuit (IsWireFrom-driver_at netlist wire source circuit drives)) known.1)))
         ];
         closed = λ gate is_gate unknown.
-            let pins : length (pin_values netlist values gate) ≡ length (gate_at netlist gate).sources = length-pin_values netlist values gate circuit is_gate long in
+            let pins : length (at_wires netlist gate values) ≡ length (gate_at netlist gate).sources = length-at_wires netlist gate values circuit is_gate long in
             let some : 1 ≤ length (gate_at netlist gate).sources = whole (gate - netlist.inputs) (record { kind = And; sources = [] }) (omega (arith, is_gate.0, is_gate.1, circuit.nodes)) in
-            inl (extension-unknown (gate_at netlist gate).kind (pin_values netlist values gate) (omega (arith, pins, some))
+            inl (extension-unknown (gate_at netlist gate).kind (at_wires netlist gate values) (omega (arith, pins, some))
             (λ k few.
             let pin : k < length (gate_at netlist gate).sources = omega (arith, few, pins) in
-            at-pin_values netlist values gate k pin ∙ wires (first_wire netlist gate + k) (get_or (gate_at netlist gate).sources k 0) (driver_at-pin netlist gate k circuit is_gate pin)));
+            get_or-at_wires netlist gate values k Zero pin ∙ wires (first_wire netlist gate + k) (get_or (gate_at netlist gate).sources k 0) (driver_at-pin netlist gate k circuit is_gate pin)));
         waits = λ k d few.
             let entry = set_values.are_listed k d few in
             (listed-node (get_or waiting k d) (Some entry.0) entry.1, known≢unknown (value_at values (get_or waiting k d)) entry.0 (given (get_or waiting k d) entry.0 entry.1));
@@ -199,13 +176,13 @@ module _ (netlist : Netlist) (listed : List (Option Bool)) (circuit : IsCircuit 
       }
 
   -- a gate's pins are forced
-  pins-forced : (values : List Tri) (waiting due touched : List ℕ) (gate : ℕ) → ForcedSoFar netlist listed values waiting due touched → IsGateNumber netlist gate → AreForced netlist listed (gate_at netlist gate).sources (pin_values netlist values gate)
+  pins-forced : (values : List Tri) (waiting due touched : List ℕ) (gate : ℕ) → ForcedSoFar netlist listed values waiting due touched → IsGateNumber netlist gate → AreForced netlist listed (gate_at netlist gate).sources (at_wires netlist gate values)
   pins-forced values waiting due touched gate so_far is_gate =
-      AreForced-places netlist listed (gate_at netlist gate).sources (pin_values netlist values gate) (length-pin_values netlist values gate circuit is_gate so_far.long)
+      AreForced-places netlist listed (gate_at netlist gate).sources (at_wires netlist gate values) (length-at_wires netlist gate values circuit is_gate so_far.long)
       (λ k bit few known.
       let source = get_or (gate_at netlist gate).sources k 0 in
       let driven : driver_at (network_of netlist) (first_wire netlist gate + k) ≡ Source source = driver_at-pin netlist gate k circuit is_gate few in
-      let wire_known : value_at values (first_wire netlist gate + k) ≡ tri_of bit = sym (at-pin_values netlist values gate k few) ∙ known in
+      let wire_known : value_at values (first_wire netlist gate + k) ≡ tri_of bit = sym (get_or-at_wires netlist gate values k Zero few) ∙ known in
       elim (so_far.carried (first_wire netlist gate + k) source driven) [
         | inl unknown ↦ absurd (known≢unknown (value_at values (first_wire netlist gate + k)) bit wire_known unknown)
         | inr equal ↦ so_far.sound source bit (IsWireFrom-node netlist (first_wire netlist gate + k) source circuit (IsWireFrom-driver_at netlist (first_wire netlist gate + k) source circuit driven)) (sym equal ∙ wire_known)
@@ -241,7 +218,7 @@ module _ (netlist : Netlist) (listed : List (Option Bool)) (circuit : IsCircuit 
           | inl same ↦ (
               let e : bit ≡ b = same-known bit b (sym here ∙ (ap (value_at (set values gate value)) (sym same) ∙ is)) in
               subst (λ (m : ℕ). IsForced netlist listed m b) (sym same) (subst (IsForced netlist listed gate) e
-              (forced-extension netlist listed gate (pin_values netlist values gate) bit is_gate (unlisted values waiting due (gate ∷ []) gate so_far few_gate unknown) (pins-forced values waiting due (gate ∷ []) gate so_far is_gate) extended))
+              (forced-extension netlist listed gate (at_wires netlist gate values) bit is_gate (unlisted values waiting due (gate ∷ []) gate so_far few_gate unknown) (pins-forced values waiting due (gate ∷ []) gate so_far is_gate) extended))
               )
           | inr differ ↦ so_far.sound n b few (sym (others n differ) ∙ is)
         ];
@@ -323,15 +300,15 @@ module _ (netlist : Netlist) (listed : List (Option Bool)) (circuit : IsCircuit 
       sets-gate (value_at values gate) (gate_extension netlist values gate) values values' waiting waiting' due gate so_far is_gate refl refl sets
 
   -- where all is delivered, a gate's wires have the values of its sources
-  pins-delivered : (values : List Tri) (gate : ℕ) → ForcedSoFar netlist listed values [] [] [] → IsGateNumber netlist gate → pin_values netlist values gate ≡ map (value_at values) (gate_at netlist gate).sources
+  pins-delivered : (values : List Tri) (gate : ℕ) → ForcedSoFar netlist listed values [] [] [] → IsGateNumber netlist gate → at_wires netlist gate values ≡ map (value_at values) (gate_at netlist gate).sources
   pins-delivered values gate so_far is_gate =
       let sources = (gate_at netlist gate).sources in
-      let long : length (pin_values netlist values gate) ≡ length sources = length-pin_values netlist values gate circuit is_gate so_far.long in
-      same-values (pin_values netlist values gate) (map (value_at values) sources) (long ∙ sym (length-map sources (value_at values)))
+      let long : length (at_wires netlist gate values) ≡ length sources = length-at_wires netlist gate values circuit is_gate so_far.long in
+      same-values (at_wires netlist gate values) (map (value_at values) sources) (long ∙ sym (length-map sources (value_at values)))
       (λ k few.
       let inside : k < length sources = omega (arith, few, long) in
       let source = get_or sources k 0 in
-      at-pin_values netlist values gate k inside ∙
+      get_or-at_wires netlist gate values k Zero inside ∙
       (elim (so_far.delivered (first_wire netlist gate + k) source (driver_at-pin netlist gate k circuit is_gate inside)) [
         | inl equal ↦ equal
         | inr (inl none) ↦ absurd (no-element source none)
@@ -351,7 +328,7 @@ module _ (netlist : Netlist) (listed : List (Option Bool)) (circuit : IsCircuit 
                 | inr none ↦ absurd (no-element gate none)
               ]
               | inr known ↦ (
-                  let forced : IsForced netlist listed gate bit = forced-extension netlist listed gate (pin_values netlist values gate) bit is_gate not_listed (pins-forced values [] [] [] gate so_far is_gate) pins in
+                  let forced : IsForced netlist listed gate bit = forced-extension netlist listed gate (at_wires netlist gate values) bit is_gate not_listed (pins-forced values [] [] [] gate so_far is_gate) pins in
                   known.1 ∙ ap tri_of (forced_once netlist listed gate known.0 bit (so_far.sound gate known.0 is_gate.1 known.1) forced)
                   )
             ];

@@ -1,12 +1,12 @@
 -- How values are forced: what is known while they are carried from node to node.
-use Rattle.std.specs.Prelude.{◌≡◌, ◌≢◌, ℕ, suc, ◌+◌, ◌<◌, ◌⊎◌, Bool, Option, Some, None, List, [], ◌∷◌, ◌++◌, length, All, Contains, slice_get, slice_range, slice_set}
+use Rattle.std.specs.Prelude.{◌≡◌, ◌≢◌, ℕ, suc, ◌<◌, ◌⊎◌, Bool, Option, Some, None, List, [], ◌∷◌, ◌++◌, length, All, Contains, slice_get, slice_set}
 use Rattle.hz_core.specs.declared.tri.Tri.{Tri}
 use Rattle.hz_core.specs.declared.tri.Tri.TheVariants.{Zero, One, Unknown}
 use Rattle.hz_core.specs.Ternary.{tri_of}
 use Rattle.hz_core.specs.Extension.{extension}
 use Rattle.hz_core.specs.Netlist.{Netlist, IsGateNumber, gate_at}
 use Rattle.hz_net.specs.Network.{network_of, Source, driver_at, value_at}
-use Rattle.hz_net.specs.Variables.{first_wire}
+use Rattle.hz_net.specs.Variables.{at_wires}
 use Rattle.hz_net.specs.Starts.{IsForced, IsOpen}
 
 -- the value of a node that listed values give it, X where they give none
@@ -21,14 +21,9 @@ pub record IsListed (listed : List (Option Bool)) (values : List Tri) (waiting :
   pub wait : (node : ℕ) (bit : Bool) → slice_get listed node ≡ Some (Some bit) → Contains waiting node
   pub are_listed : All (λ node. (bit : Bool) × (slice_get listed node ≡ Some (Some bit))) waiting
 
--- the values of a gate's wires
-abbrev pub pin_values : Netlist → List Tri → ℕ → List Tri
-pin_values netlist values gate =
-    slice_range values (first_wire netlist gate) (first_wire netlist gate + length (gate_at netlist gate).sources)
-
 -- the ternary extension of a gate's function on its wires
 abbrev pub gate_extension : Netlist → List Tri → ℕ → Tri
-gate_extension netlist values gate = extension (gate_at netlist gate).kind (pin_values netlist values gate)
+gate_extension netlist values gate = extension (gate_at netlist gate).kind (at_wires netlist gate values)
 
 -- a gate that was X and has a known extension is set to it and waits; else nothing changes
 abbrev pub SetsGate : Tri → Tri → ℕ → List Tri → List Tri → List ℕ → List ℕ → Type 0

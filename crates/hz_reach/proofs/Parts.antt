@@ -1,9 +1,10 @@
 -- Parts of a state, and variables by what drives them.
-use Rattle.std.proofs.Common.{◌≡◌, ℕ, zero, suc, ◌+◌, ◌-◌, ◌<◌, Bool, false, List, length, get_or, drop, sym, ◌∙◌, arith, inl, inr}
+use Rattle.std.proofs.Common.{◌≡◌, ℕ, ◌+◌, ◌<◌, Bool, false, List, length, sym, ◌∙◌, arith, inl, inr}
 use Rattle.std.specs.Prelude.{slice_range}
 use Rattle.std.proofs.lemmas.Bool.{cases_lt}
-use Rattle.std.proofs.lemmas.List.{get_or_past, ext_get_or, get_or-take, get_or-drop, length-take, length-drop}
+use Rattle.std.proofs.lemmas.List.{get_or_past, ext_get_or}
 use Rattle.hz_net.specs.Network.{Driver, External, Source, driver_at, bit_at}
+use Rattle.hz_net.proofs.PartLemmas.{length-part, at-part}
 
 -- what is driven by a node is a variable
 pub driver-inside : (net : List Driver) (i source : ℕ) → driver_at net i ≡ Source source → i < length net
@@ -11,17 +12,6 @@ driver-inside net i source drives = elim (cases_lt i (length net)) [
   | inl inside ↦ inside
   | inr past ↦ (let none : driver_at net i ≡ External 0 = get_or_past net i (External 0) past in cc)
 ]
-
--- a part of a list has as many elements as its places, if all of these are in the list
-pub length-part : {X : Type 0} (list : List X) (first count : ℕ) → ((k : ℕ) → k < count → first + k < length list) → length (slice_range list first (first + count)) ≡ count
-length-part list first zero inside = omega (arith, length-take (first + 0 - first) (drop first list))
-length-part list first (suc k) inside =
-    omega (arith, inside k (omega arith), length-take (first + suc k - first) (drop first list), length-drop first list)
-
--- its elements stand as many places on
-pub at-part : {X : Type 0} (list : List X) (first count k : ℕ) (none : X) → k < count → get_or (slice_range list first (first + count)) k none ≡ get_or list (first + k) none
-at-part list first count k none less =
-    get_or-take (first + count - first) (drop first list) k none (omega (arith, less)) ∙ get_or-drop first list k none
 
 -- a part of a state, bit by bit
 pub same-part : (state bits : List Bool) (first count : ℕ) → length bits ≡ count → ((k : ℕ) → k < count → first + k < length state) → ((k : ℕ) → k < count → bit_at state (first + k) ≡ bit_at bits k) → slice_range state first (first + count) ≡ bits

@@ -1,5 +1,5 @@
 -- The loop over the gates: what holds at each place of the order, and that a gate's turn leads to the next place.
-use Rattle.std.proofs.Common.{◌≡◌, ◌≢◌, ℕ, ◌+◌, ◌-◌, ◌<◌, ◌≤◌, Bool, true, false, not, ◌&&◌, List, [], ◌∷◌, length, get_or, refl, sym, ap, ◌∙◌, subst, arith, inl, inr, eqb, ltb}
+use Rattle.std.proofs.Common.{◌≡◌, ◌≢◌, ℕ, ◌+◌, ◌-◌, ◌<◌, Bool, true, false, not, ◌&&◌, List, [], ◌∷◌, length, get_or, refl, sym, ap, ◌∙◌, subst, arith, inl, inr, eqb, ltb}
 use Rattle.std.proofs.lemmas.Bool.{cases_Bool, cases_lt, both_ways, and_parts, and_from, not-true, not_from_false, eqb-false, ne_eqb, ltb-true, lt-ltb}
 use Rattle.std.proofs.lemmas.List.{get_or-map}
 use Rattle.hz_core.specs.declared.tri.Tri.{Tri}
@@ -7,17 +7,17 @@ use Rattle.hz_core.specs.declared.kind.Kind.{Kind}
 use Rattle.hz_core.specs.Netlist.{Netlist, IsCircuit, IsGateNumber, gate_at}
 use Rattle.hz_core.specs.Pattern.{differs, IsCandidate}
 use Rattle.hz_net.specs.Network.{External, Function, network_of, driver_at, bit_at}
-use Rattle.hz_net.specs.Variables.{first_wire}
-use Rattle.hz_net.proofs.Places.{length-network_of, driver_at-input, driver_at-gate, driver_at-wire, first_wire-bound}
+use Rattle.hz_net.specs.Variables.{first_wire, at_wires}
+use Rattle.hz_net.proofs.Places.{pins_of, length-network_of, driver_at-input, driver_at-gate, driver_at-wire}
+use Rattle.hz_net.proofs.Wires.{length-at_wires, get_or-at_wires}
 use Rattle.hz_gmw.specs.Runs.{is_listed, RepeatsNone, flipped, end_of}
 use Rattle.hz_gmw.specs.Recorded.{Recorded}
 use Rattle.hz_reach.specs.Order.{key_at, AreByKey}
 use Rattle.hz_reach.specs.Picked.{picked}
 use Rattle.hz_reach.specs.Room.{after, Spends}
 use Rattle.hz_reach.specs.Scratched.{Scratched}
-use Rattle.hz_reach.specs.Turn.{turned_inputs, pins_of, at_wires, free_pins, AreTurnedWires}
+use Rattle.hz_reach.specs.Turn.{turned_inputs, free_pins, AreTurnedWires}
 use Rattle.hz_reach.proofs.PickedLemmas.{picked-is, is-picked, picked-once, differs-true, true-differs}
-use Rattle.hz_reach.proofs.Parts.{length-part, at-part}
 use Rattle.hz_reach.proofs.Places.{listed-at}
 use Rattle.hz_reach.proofs.Turns.{IsWired, IsTurnedBy, AreTurns}
 use Rattle.hz_reach.proofs.Wired.{is_gate_of, wired-network_of}
@@ -67,23 +67,15 @@ module _ (netlist : Netlist) (circuit : IsCircuit netlist) (input start : List B
             ]
           ]
 
-  -- a gate's wires are variables
-  wires-inside : (gate : ℕ) → IsGateNumber netlist gate → first_wire netlist gate + pins_of netlist gate ≤ length (network_of netlist)
-  wires-inside gate is_gate = omega (arith, first_wire-bound netlist gate circuit is_gate, length-network_of netlist circuit)
-
-  length-at_wires : {X : Type 0} (gate : ℕ) (list : List X) → IsGateNumber netlist gate → length list ≡ length (network_of netlist) → length (at_wires netlist gate list) ≡ pins_of netlist gate
-  length-at_wires gate list is_gate same =
-      length-part list (first_wire netlist gate) (pins_of netlist gate) (λ k few. omega (arith, few, same, wires-inside gate is_gate))
-
   -- a pin is free where its wire has a rank that is below the gate's
   is_free : ℕ → ℕ → Bool
   is_free own rank = not (eqb rank 0) && ltb rank own
 
-  at-free_pins : (gate pin : ℕ) → IsGateNumber netlist gate → pin < pins_of netlist gate → get_or (free_pins (key_at ranks gate) (at_wires netlist gate ranks)) pin false ≡ is_free (key_at ranks gate) (key_at ranks (first_wire netlist gate + pin))
+  at-free_pins : (gate pin : ℕ) → IsGateNumber netlist gate → pin < pins_of (gate_at netlist gate) → get_or (free_pins (key_at ranks gate) (at_wires netlist gate ranks)) pin false ≡ is_free (key_at ranks gate) (key_at ranks (first_wire netlist gate + pin))
   unfolding is_free
   at-free_pins gate pin is_gate few =
-      get_or-map (λ rank. not (eqb rank 0) && ltb rank (key_at ranks gate)) (at_wires netlist gate ranks) pin 0 false (omega (arith, few, length-at_wires gate ranks is_gate long))
-      ∙ ap (λ (rank : ℕ). not (eqb rank 0) && ltb rank (key_at ranks gate)) (at-part ranks (first_wire netlist gate) (pins_of netlist gate) pin 0 few)
+      get_or-map (λ rank. not (eqb rank 0) && ltb rank (key_at ranks gate)) (at_wires netlist gate ranks) pin 0 false (omega (arith, few, length-at_wires netlist gate ranks circuit is_gate long))
+      ∙ ap (λ (rank : ℕ). not (eqb rank 0) && ltb rank (key_at ranks gate)) (get_or-at_wires netlist gate ranks pin 0 few)
 
   same-bit : (here there : Bool) → (here ≢ there → ⊥) → here ≡ there
   same-bit false false h = refl
@@ -96,17 +88,17 @@ module _ (netlist : Netlist) (circuit : IsCircuit netlist) (input start : List B
   unfolding is_free
   turn-possible gate is_gate some =
       let first = first_wire netlist gate in
-      let pins = pins_of netlist gate in
+      let pins = pins_of (gate_at netlist gate) in
       let turn = turns.gates gate (gate_at netlist gate).kind first pins (driver_at-gate netlist gate circuit is_gate) some in
       let by = turn.1 in
-      let lengths = length-at_wires gate start is_gate turns.long in (
+      let lengths = length-at_wires netlist gate start circuit is_gate turns.long in (
         turn.0,
         record {
           agrees = record {
             same_length = by.long ∙ sym lengths;
             kept = λ pin inside bound.
                 let few : pin < pins = omega (arith, inside, lengths) in
-                let here = at-part start first pins pin false few in
+                let here = get_or-at_wires netlist gate start pin false few in
                 same-bit (bit_at turn.0 pin) (bit_at start (first + pin)) (λ differ.
                 let free = by.free pin few differ in
                 both_ways _ (sym (at-free_pins gate pin is_gate few) ∙ bound) (and_from (not (eqb (key_at ranks (first + pin)) 0)) (ltb (key_at ranks (first + pin)) (key_at ranks gate)) (not_from_false _ (ne_eqb (key_at ranks (first + pin)) 0 free.0)) (lt-ltb (key_at ranks (first + pin)) (key_at ranks gate) free.1)))
@@ -117,12 +109,12 @@ module _ (netlist : Netlist) (circuit : IsCircuit netlist) (input start : List B
       )
 
   -- and a candidate turns it
-  candidate-turns : (gate : ℕ) (pattern : List Bool) → IsGateNumber netlist gate → IsCandidate (gate_at netlist gate).kind (at_wires netlist gate start) (free_pins (key_at ranks gate) (at_wires netlist gate ranks)) (not (bit_at start gate)) pattern → IsTurnedBy start ranks gate (gate_at netlist gate).kind (first_wire netlist gate) (pins_of netlist gate) pattern
+  candidate-turns : (gate : ℕ) (pattern : List Bool) → IsGateNumber netlist gate → IsCandidate (gate_at netlist gate).kind (at_wires netlist gate start) (free_pins (key_at ranks gate) (at_wires netlist gate ranks)) (not (bit_at start gate)) pattern → IsTurnedBy start ranks gate (gate_at netlist gate).kind (first_wire netlist gate) (pins_of (gate_at netlist gate)) pattern
   unfolding is_free
   candidate-turns gate pattern is_gate candidate =
       let first = first_wire netlist gate in
-      let pins = pins_of netlist gate in
-      let lengths = length-at_wires gate start is_gate turns.long in
+      let pins = pins_of (gate_at netlist gate) in
+      let lengths = length-at_wires netlist gate start circuit is_gate turns.long in
       record {
         long = candidate.agrees.same_length ∙ lengths;
         value = candidate.value;
@@ -131,7 +123,7 @@ module _ (netlist : Netlist) (circuit : IsCircuit netlist) (input start : List B
               let parts = and_parts _ _ (sym (at-free_pins gate pin is_gate few) ∙ yes_free) in
               (eqb-false (key_at ranks (first + pin)) 0 (not-true _ parts.0), ltb-true (key_at ranks (first + pin)) (key_at ranks gate) parts.1)
               )
-          | inr bound ↦ absurd (differ (candidate.agrees.kept pin (omega (arith, few, lengths)) bound ∙ at-part start first pins pin false few))
+          | inr bound ↦ absurd (differ (candidate.agrees.kept pin (omega (arith, few, lengths)) bound ∙ get_or-at_wires netlist gate start pin false few))
         ];
       }
 
@@ -161,48 +153,48 @@ module _ (netlist : Netlist) (circuit : IsCircuit netlist) (input start : List B
         }
 
     module _ (is_gate : IsGateNumber netlist (get_or scratch.sorted place 0)) (flips : List ℕ) (wires : AreTurnedWires netlist start ranks (get_or scratch.sorted place 0) flips) where
-      turned_by : IsTurnedBy start ranks (get_or scratch.sorted place 0) (gate_at netlist (get_or scratch.sorted place 0)).kind (first_wire netlist (get_or scratch.sorted place 0)) (pins_of netlist (get_or scratch.sorted place 0)) wires.pattern
+      turned_by : IsTurnedBy start ranks (get_or scratch.sorted place 0) (gate_at netlist (get_or scratch.sorted place 0)).kind (first_wire netlist (get_or scratch.sorted place 0)) (pins_of (gate_at netlist (get_or scratch.sorted place 0))) wires.pattern
       turned_by = candidate-turns (get_or scratch.sorted place 0) wires.pattern is_gate wires.canonical.candidate
 
       test : ℕ → Bool
       test i = differs (bit_at (at_wires netlist (get_or scratch.sorted place 0) start) (i - first_wire netlist (get_or scratch.sorted place 0))) (bit_at wires.pattern (i - first_wire netlist (get_or scratch.sorted place 0)))
 
-      count_is : length (at_wires netlist (get_or scratch.sorted place 0) start) ≡ pins_of netlist (get_or scratch.sorted place 0)
-      count_is = length-at_wires (get_or scratch.sorted place 0) start is_gate turns.long
+      count_is : length (at_wires netlist (get_or scratch.sorted place 0) start) ≡ pins_of (gate_at netlist (get_or scratch.sorted place 0))
+      count_is = length-at_wires netlist (get_or scratch.sorted place 0) start circuit is_gate turns.long
 
-      flips_are : flips ≡ picked test (first_wire netlist (get_or scratch.sorted place 0)) (pins_of netlist (get_or scratch.sorted place 0))
+      flips_are : flips ≡ picked test (first_wire netlist (get_or scratch.sorted place 0)) (pins_of (gate_at netlist (get_or scratch.sorted place 0)))
       unfolding test
       flips_are = wires.marks ∙ ap (picked (λ i. differs (bit_at (at_wires netlist (get_or scratch.sorted place 0) start) (i - first_wire netlist (get_or scratch.sorted place 0))) (bit_at wires.pattern (i - first_wire netlist (get_or scratch.sorted place 0)))) (first_wire netlist (get_or scratch.sorted place 0))) count_is
 
       distinct : RepeatsNone flips
-      distinct = subst RepeatsNone (sym flips_are) (picked-once test (first_wire netlist (get_or scratch.sorted place 0)) (pins_of netlist (get_or scratch.sorted place 0)))
+      distinct = subst RepeatsNone (sym flips_are) (picked-once test (first_wire netlist (get_or scratch.sorted place 0)) (pins_of (gate_at netlist (get_or scratch.sorted place 0))))
 
-      only : (i : ℕ) → is_listed flips i ≡ true → (pin : ℕ) × (pin < pins_of netlist (get_or scratch.sorted place 0)) × (i ≡ first_wire netlist (get_or scratch.sorted place 0) + pin) × (bit_at wires.pattern pin ≢ bit_at start (first_wire netlist (get_or scratch.sorted place 0) + pin))
+      only : (i : ℕ) → is_listed flips i ≡ true → (pin : ℕ) × (pin < pins_of (gate_at netlist (get_or scratch.sorted place 0))) × (i ≡ first_wire netlist (get_or scratch.sorted place 0) + pin) × (bit_at wires.pattern pin ≢ bit_at start (first_wire netlist (get_or scratch.sorted place 0) + pin))
       unfolding test
       only i there =
           let from = first_wire netlist (get_or scratch.sorted place 0) in
-          let pins = pins_of netlist (get_or scratch.sorted place 0) in
+          let pins = pins_of (gate_at netlist (get_or scratch.sorted place 0)) in
           let is = picked-is test from pins i (ap (λ (list : List ℕ). is_listed list i) (sym flips_are) ∙ there) in
           let here : i ≡ from + is.place = is.is in
           let pin : i - from ≡ is.place = omega arith in
           let differ = subst (λ (n : ℕ). bit_at (at_wires netlist (get_or scratch.sorted place 0) start) n ≢ bit_at wires.pattern n) pin (differs-true _ _ is.passes) in
-          (is.place, is.few, here, λ same. differ (at-part start from pins is.place false is.few ∙ sym same))
+          (is.place, is.few, here, λ same. differ (get_or-at_wires netlist (get_or scratch.sorted place 0) start is.place false is.few ∙ sym same))
 
-      all : (pin : ℕ) → pin < pins_of netlist (get_or scratch.sorted place 0) → bit_at wires.pattern pin ≢ bit_at start (first_wire netlist (get_or scratch.sorted place 0) + pin) → is_listed flips (first_wire netlist (get_or scratch.sorted place 0) + pin) ≡ true
+      all : (pin : ℕ) → pin < pins_of (gate_at netlist (get_or scratch.sorted place 0)) → bit_at wires.pattern pin ≢ bit_at start (first_wire netlist (get_or scratch.sorted place 0) + pin) → is_listed flips (first_wire netlist (get_or scratch.sorted place 0) + pin) ≡ true
       unfolding test
       all pin few differ =
           let from = first_wire netlist (get_or scratch.sorted place 0) in
-          let pins = pins_of netlist (get_or scratch.sorted place 0) in
+          let pins = pins_of (gate_at netlist (get_or scratch.sorted place 0)) in
           let back : from + pin - from ≡ pin = omega arith in
           ap (λ (list : List ℕ). is_listed list (from + pin)) flips_are
           ∙ is-picked test from pins pin few
           (subst (λ (n : ℕ). differs (bit_at (at_wires netlist (get_or scratch.sorted place 0) start) n) (bit_at wires.pattern n) ≡ true) (sym back)
-          (true-differs _ _ (λ same. differ (sym same ∙ at-part start from pins pin false few))))
+          (true-differs _ _ (λ same. differ (sym same ∙ get_or-at_wires netlist (get_or scratch.sorted place 0) start pin false few))))
 
       -- after its wires have changed
       pub wires-turned : HasTurned (network_of netlist) input start ranks (Also (Among place scratch.sorted) (get_or scratch.sorted place 0)) (Among place scratch.sorted) (after now.steps flips)
       wires-turned =
-          turned-wires (network_of netlist) input start ranks wired turns (Among place scratch.sorted) now.steps underway.turned (get_or scratch.sorted place 0) (gate_at netlist (get_or scratch.sorted place 0)).kind (first_wire netlist (get_or scratch.sorted place 0)) (pins_of netlist (get_or scratch.sorted place 0)) (driver_at-gate netlist (get_or scratch.sorted place 0) circuit is_gate) place-ranked
+          turned-wires (network_of netlist) input start ranks wired turns (Among place scratch.sorted) now.steps underway.turned (get_or scratch.sorted place 0) (gate_at netlist (get_or scratch.sorted place 0)).kind (first_wire netlist (get_or scratch.sorted place 0)) (pins_of (gate_at netlist (get_or scratch.sorted place 0))) (driver_at-gate netlist (get_or scratch.sorted place 0) circuit is_gate) place-ranked
           (not-among ranks scratch.sorted place underway.sorted inside)
           (λ i some less. among-earlier ranks scratch.sorted place i underway.sorted inside some less)
           wires.pattern turned_by flips distinct only all
@@ -210,7 +202,7 @@ module _ (netlist : Netlist) (circuit : IsCircuit netlist) (input start : List B
       -- after the gate has changed
       pub gate-turned : HasTurned (network_of netlist) input start ranks (Also (Among place scratch.sorted) (get_or scratch.sorted place 0)) (Also (Among place scratch.sorted) (get_or scratch.sorted place 0)) (after (after now.steps flips) (get_or scratch.sorted place 0 ∷ []))
       gate-turned =
-          turned-gate (network_of netlist) input start ranks wired turns (Among place scratch.sorted) now.steps underway.turned (get_or scratch.sorted place 0) (gate_at netlist (get_or scratch.sorted place 0)).kind (first_wire netlist (get_or scratch.sorted place 0)) (pins_of netlist (get_or scratch.sorted place 0)) (driver_at-gate netlist (get_or scratch.sorted place 0) circuit is_gate) place-ranked
+          turned-gate (network_of netlist) input start ranks wired turns (Among place scratch.sorted) now.steps underway.turned (get_or scratch.sorted place 0) (gate_at netlist (get_or scratch.sorted place 0)).kind (first_wire netlist (get_or scratch.sorted place 0)) (pins_of (gate_at netlist (get_or scratch.sorted place 0))) (driver_at-gate netlist (get_or scratch.sorted place 0) circuit is_gate) place-ranked
           (not-among ranks scratch.sorted place underway.sorted inside)
           (λ i some less. among-earlier ranks scratch.sorted place i underway.sorted inside some less)
           wires.pattern turned_by flips distinct only all

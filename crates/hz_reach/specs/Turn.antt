@@ -1,27 +1,17 @@
 -- Which variables change in each step of the spread run.
-use Rattle.std.specs.Prelude.{◌≡◌, ℕ, ◌+◌, ◌-◌, Bool, true, false, not, ◌&&◌, List, length, map, nat_lt, ◌==◌}
-use Rattle.std.specs.List.{slice_range}
+use Rattle.std.specs.Prelude.{◌≡◌, ℕ, ◌-◌, Bool, true, false, not, ◌&&◌, List, length, map, nat_lt, ◌==◌}
 use Rattle.hz_core.specs.declared.tri.Tri.{Tri}
 use Rattle.hz_core.specs.declared.tri.Tri.TheVariants.{Zero, One, Unknown}
 use Rattle.hz_core.specs.Netlist.{Netlist, gate_at}
 use Rattle.hz_core.specs.Pattern.{differs, IsPattern}
 use Rattle.hz_net.specs.Network.{bit_at, value_at, network_of}
-use Rattle.hz_net.specs.Variables.{first_wire}
+use Rattle.hz_net.specs.Variables.{first_wire, at_wires}
 use Rattle.hz_reach.specs.Order.{key_at}
 use Rattle.hz_reach.specs.Picked.{picked}
 
 -- the inputs that differ from the new input
 abbrev pub turned_inputs : Netlist → List Bool → List Bool → List ℕ
 turned_inputs netlist start input = picked (λ i. differs (bit_at start i) (bit_at input i)) 0 netlist.inputs
-
--- how many pins a gate has
-abbrev pub pins_of : Netlist → ℕ → ℕ
-pins_of netlist gate = length (gate_at netlist gate).sources
-
--- what stands in a list at the wires of a gate
-abbrev pub at_wires : {X : Type 0} → Netlist → ℕ → List X → List X
-at_wires netlist gate list =
-    slice_range list (first_wire netlist gate) (first_wire netlist gate + pins_of netlist gate)
 
 -- of the ranks of a gate's wires, which are not 0 and below the gate's own: these pins are free
 abbrev pub free_pins : ℕ → List ℕ → List Bool

@@ -5,12 +5,12 @@ ghost use Rattle.hz_core.specs.Netlist.{IsCircuit, IsWhole, IsGateNumber, gate_a
 ghost use Rattle.hz_core.specs.Pattern.{differs, IsCandidate, IsPattern};
 ghost use Rattle.hz_net.specs.Network.{network_of, bit_at, value_at, IsStable};
 ghost use Rattle.hz_net.specs.Passes.{algorithm_a, AreRounds, AreRanks};
-ghost use Rattle.hz_net.specs.Variables.{first_wire};
+ghost use Rattle.hz_net.specs.Variables.{first_wire, at_wires};
 ghost use Rattle.hz_gmw.specs.Runs.{end_of};
 ghost use Rattle.hz_reach.specs.Order.{key_at};
 ghost use Rattle.hz_reach.specs.Room.{Spends};
 ghost use Rattle.hz_reach.specs.Spread.{IsSpreadRun, IsSparingRun};
-ghost use Rattle.hz_reach.specs.Turn.{turned_inputs, at_wires, free_pins, changed_wires, AreTurnedWires, is_unknown, unchanged_wires};
+ghost use Rattle.hz_reach.specs.Turn.{turned_inputs, free_pins, changed_wires, AreTurnedWires, is_unknown, unchanged_wires};
 
 use crate::Scratch;
 use hz_core::{Kind, MAX_PINS, Tri};

@@ -3,7 +3,8 @@ use Rattle.hz_core.specs.Netlist.{Netlist}
 use Rattle.hz_net.specs.Variables.{fan_out_of}
 use Rattle.hz_net.specs.Inside.{HoldsNetwork}
 use Rattle.hz_net.specs.declared.net.Net.TheInside.{Inside}
-use Rattle.hz_net.proofs.Fields.{HoldsFanOut, starts_counted, fan_out_is}
+use Rattle.hz_net.proofs.Fields.{starts_counted, fan_out_is}
+use Rattle.hz_net.proofs.PartLemmas.{IsPart}
 use Rattle.hz_net.proofs.net.Net.fan_out.Goals as goal
 
 pub index-start-requires : goal.index-start-requires
@@ -19,9 +20,9 @@ held :
     (fields : Inside) (netlist : Netlist) (node start end : ℕ) (readers : List ℕ) → fields.circuit ≡ netlist → HoldsNetwork fields →
     node < length netlist.names → start ≡ get_or fields.fan_out.starts.items node start →
     end ≡ get_or fields.fan_out.starts.items (node + 1) end → readers ≡ fields.fan_out.readers.items →
-    HoldsFanOut readers (fan_out_of netlist node) start end
+    IsPart readers (fan_out_of netlist node) start end
 held fields netlist node start end readers same holds within read_start read_end is =
-    subst (λ list. HoldsFanOut list (fan_out_of netlist node) start end) (sym is)
+    subst (λ list. IsPart list (fan_out_of netlist node) start end) (sym is)
     (fan_out_is fields netlist same holds node start end within read_start read_end)
 
 pub part-requires-clause-ordered : goal.part-requires-clause-ordered

@@ -1,10 +1,38 @@
--- A list that is cut into parts: one part more, and the part with a number.
-use Rattle.std.proofs.Common.{◌≡◌, ◌∙◌, sym, ap, refl, zero, suc, ℕ, ◌+◌, ◌-◌, ◌<◌, ◌≤◌, List, [], ◌∷◌, ◌++◌, length, get_or, take, drop, arith}
+-- Parts of a list by their elements, and a list that is cut into parts: one part more, and the part with a number.
+use Rattle.std.proofs.Common.{◌≡◌, ◌∙◌, sym, ap, refl, Some, zero, suc, ℕ, ◌+◌, ◌-◌, ◌<◌, ◌≤◌, List, [], ◌∷◌, ◌++◌, length, get_or, take, drop, arith}
 use Rattle.std.specs.List.{slice_range}
-use Rattle.std.specs.Prelude.{sum_by}
-use Rattle.std.proofs.lemmas.List.{take-append-le, drop-append-le, drop_at, take_all, length-drop, length-take}
+use Rattle.std.specs.Prelude.{sum_by, slice_get}
+use Rattle.std.proofs.lemmas.List.{take-append-le, drop-append-le, drop_at, take_all, ext_get_or, get_or-take, get_or-drop, length-drop, length-take}
 use Rattle.std.proofs.lemmas.List.Sums.{sum_by-cons}
-use Rattle.hz_gmw.specs.Parts.{parts_from, EndsAt, start_of}
+use Rattle.hz_net.specs.Parts.{parts_from, EndsAt, start_of}
+
+-- a part of a list has as many elements as its places, if all of these are in the list
+pub length-part :
+    {X : Type 0} (list : List X) (first count : ℕ) → ((k : ℕ) → k < count → first + k < length list) →
+    length (slice_range list first (first + count)) ≡ count
+length-part list first zero inside = omega (arith, length-take (first + 0 - first) (drop first list))
+length-part list first (suc k) inside =
+    omega (arith, inside k (omega arith), length-take (first + suc k - first) (drop first list), length-drop first list)
+
+-- its elements stand as many places on
+pub at-part :
+    {X : Type 0} (list : List X) (first count k : ℕ) (none : X) → k < count →
+    get_or (slice_range list first (first + count)) k none ≡ get_or list (first + k) none
+at-part list first count k none less =
+    get_or-take (first + count - first) (drop first list) k none (omega (arith, less)) ∙ get_or-drop first list k none
+
+-- lists of one length with the same elements in a part have the same part
+pub same-parts :
+    {X : Type 0} (none : X) (left right : List X) (first count : ℕ) → length left ≡ length right →
+    ((k : ℕ) → k < count → get_or left (first + k) none ≡ get_or right (first + k) none) →
+    slice_range left first (first + count) ≡ slice_range right first (first + count)
+same-parts none left right first count long each =
+    let whole = length-take (first + count - first) (drop first left) in
+    ext_get_or none (slice_range left first (first + count)) (slice_range right first (first + count))
+    (omega (arith, long, whole, length-take (first + count - first) (drop first right), length-drop first left, length-drop first right))
+    (λ k few.
+    let less : k < count = omega (arith, few, whole) in
+    at-part left first count k none less ∙ each k less ∙ sym (at-part right first count k none less))
 
 -- where the parts end at a place, they begin no later
 pub EndsAt-within : (start : ℕ) (ends : List ℕ) (last : ℕ) → EndsAt start ends last → start ≤ last
@@ -59,20 +87,22 @@ sum_by-parts_from start (end ∷ ends) list cut =
       cut.0,
     )
 
--- a part of a list, by its number, its begin and its end
-pub record IsPart (list : List ℕ) (parts : List (List ℕ)) (number begin end : ℕ) : Type 0 where
+-- what stands in a list from a place up to another
+pub record IsPart {X : Type 0} (list part : List X) (begin end : ℕ) : Type 0 where
   pub ordered : begin ≤ end
   pub inside : end ≤ length list
-  pub same : slice_range list begin end ≡ get_or parts number []
+  pub same : slice_range list begin end ≡ part
 
+-- the part with a number
 pub is_part :
-    (start : ℕ) (ends list : List ℕ) (number : ℕ) → EndsAt start ends (length list) → number < length ends →
-    IsPart list (parts_from start ends list) number (start_of start ends number) (get_or ends number 0)
+    {X : Type 0} (start : ℕ) (ends : List ℕ) (list : List X) (number : ℕ) → EndsAt start ends (length list) → number < length ends →
+    IsPart list (get_or (parts_from start ends list) number []) (start_of start ends number) (get_or ends number 0)
 is_part start [] list number cut within = absurd (omega (arith, within))
 is_part start (end ∷ ends) list zero cut within = record { ordered = cut.0; inside = EndsAt-within end ends (length list) cut.1; same = refl }
-is_part start (end ∷ ends) list (suc zero) cut within =
-    let next = is_part end ends list zero cut.1 (omega (arith, within)) in
-    record { ordered = next.ordered; inside = next.inside; same = next.same }
-is_part start (end ∷ ends) list (suc (suc number)) cut within =
-    let next = is_part end ends list (suc number) cut.1 (omega (arith, within)) in
-    record { ordered = next.ordered; inside = next.inside; same = next.same }
+is_part start (end ∷ ends) list (suc number) cut within = is_part end ends list number cut.1 (omega (arith, within))
+
+-- the part with a number
+pub slice_get-parts : {X : Type 0} (start : ℕ) (ends : List ℕ) (items : List X) (k : ℕ) → k < length ends → slice_get (parts_from start ends items) k ≡ Some (slice_range items (get_or (start ∷ ends) k 0) (get_or ends k 0))
+slice_get-parts start [] items k h = absurd (omega arith)
+slice_get-parts start (end ∷ ends) items zero h = refl
+slice_get-parts start (end ∷ ends) items (suc k) h = slice_get-parts end ends items k (omega arith)

@@ -1,5 +1,5 @@
 -- A list that is cut into parts, by the places where they end.
-use Rattle.std.specs.Prelude.{◌≡◌, ℕ, zero, suc, ◌≤◌, List, [], ◌∷◌, slice_index}
+use Rattle.std.specs.Prelude.{◌≡◌, ℕ, ◌≤◌, List, [], ◌∷◌, slice_index}
 use Rattle.std.specs.List.{slice_range}
 
 -- the parts, each from where the one before it ends
@@ -14,5 +14,4 @@ EndsAt start (end ∷ ends) last = (start ≤ end) × EndsAt end ends last
 
 -- where the part with a number begins, when the first one begins at a start
 abbrev pub start_of : ℕ → List ℕ → ℕ → ℕ
-start_of start ends zero = start
-start_of start ends (suc number) = slice_index ends number
+start_of start ends number = slice_index (start ∷ ends) number
