@@ -1,5 +1,6 @@
 -- What holds of statements in which the check found no fault.
 use Rattle.std.proofs.Common.{◌≡◌, ◌∙◌, ℕ, ◌≤◌, ◌++◌, ◌||◌, Bool, true, false, not, cond, List, [], ◌∷◌, Option, Some, None, is_some, refl, ap, sym, subst, arith, append_assoc}
+use Rattle.std.specs.Option.{option_or}
 use Rattle.std.specs.Prelude.{nat_lt}
 use Rattle.std.specs.List.{list_any, AllByRecursion}
 use Rattle.std.specs.Str.{bytes_eq}
@@ -10,7 +11,7 @@ use Rattle.std.proofs.lemmas.Slice.Eq.{bytes_eq-Decides}
 use Rattle.hz_line.specs.Statement.{Numbered}
 use Rattle.hz_bench.specs.declared.fault.BenchFault.{BenchFault}
 use Rattle.hz_bench.specs.declared.fault.BenchFault.TheVariants as fault
-use Rattle.hz_bench.specs.Check.{has_unknown_kind, has_clocked_kind, has_wrong_pins, pin_count, uses_undefined, first_that, fault_or, first_or, too_many, first_fault}
+use Rattle.hz_bench.specs.Check.{has_unknown_kind, has_clocked_kind, has_wrong_pins, pin_count, uses_undefined, first_that, fault_or, too_many, first_fault}
 use Rattle.hz_bench.specs.Definition.{defines, definer, defined_names}
 use Rattle.hz_bench.specs.Netlist.{input_names, gate_names, node_names}
 use Rattle.hz_bench.specs.Statement.{Statement, Input, Output, Gate, defined_name, used_names, has_long_name}
@@ -202,9 +203,9 @@ fault_or-none : (kind : Numbered Statement → BenchFault) (answer : Option (Num
 fault_or-none kind None rest h = (refl, h)
 fault_or-none kind (Some found) rest h = cc
 
-first_or-none : (answer rest : Option BenchFault) → first_or answer rest ≡ None → (answer ≡ None) × (rest ≡ None)
-first_or-none None rest h = (refl, h)
-first_or-none (Some found) rest h = cc
+option_or-none : (answer rest : Option BenchFault) → option_or answer rest ≡ None → (answer ≡ None) × (rest ≡ None)
+option_or-none None rest h = (refl, h)
+option_or-none (Some found) rest h = cc
 
 few_enough : (variables : ℕ) → too_many variables ≡ None → variables ≤ 200000
 few_enough variables h = by_test (nat_lt 200000 variables) refl h
@@ -219,7 +220,7 @@ checked statements h =
     let a = fault_or-none (λ found. fault.Name found.line) (first_that has_long_name statements) _ h in
     let b = fault_or-none (λ found. fault.KindUnknown found.line) (first_that has_unknown_kind statements) _ a.1 in
     let c = fault_or-none (λ found. fault.Clocked found.line) (first_that has_clocked_kind statements) _ b.1 in
-    let d = first_or-none (twice_fault statements) _ c.1 in
+    let d = option_or-none (twice_fault statements) _ c.1 in
     let e = fault_or-none (λ found. fault.Pins found.line (pin_count found.statement)) (first_that has_wrong_pins statements) _ d.1 in
     let f = fault_or-none (λ found. fault.Undefined found.line) (first_that (uses_undefined statements) statements) _ e.1 in
     let apart = apart-from_twice [] statements d.0 in

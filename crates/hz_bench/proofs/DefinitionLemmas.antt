@@ -1,8 +1,9 @@
 -- The table of names, statement by statement.
 use Rattle.std.proofs.Common.{◌≡◌, ◌∙◌, ℕ, ◌+◌, ◌<◌, List, [], ◌∷◌, ◌++◌, ◌||◌, Bool, true, false, not, is_some, Option, Some, None, cond, length, map, take, drop, refl, sym, ap, subst, get_or}
+use Rattle.std.specs.Option.{option_or}
 use Rattle.std.proofs.lemmas.List.{take_more, at_drop_more}
 use Rattle.std.proofs.lemmas.Slice.Eq.{bytes_eq-Decides}
-use Rattle.std.specs.Borrow.{Bor}
+use Rattle.hz_core.specs.declared.name.Name.{Name as Key}
 use Rattle.std.specs.HashMap.{HashMap}
 use Rattle.std.specs.List.{list_any}
 use Rattle.std.specs.Str.{bytes_eq}
@@ -16,10 +17,6 @@ use Rattle.hz_bench.specs.Entry.{stated}
 use Rattle.hz_bench.specs.Twice.{twice_or, earlier_line, twice_after, twice_fault, IsFoundOrMemory}
 use Rattle.hz_bench.proofs.EntryLemmas.{entry-formed, entry-named}
 
-abbrev pub or_line : Option ℕ → Option ℕ → Option ℕ
-or_line None later = later
-or_line (Some line) later = Some line
-
 pub definer-cons : (first : Numbered Statement) (rest : List (Numbered Statement)) (name : List ℕ) → definer (first ∷ rest) name ≡ cond (defines name first.statement) (Some first.line) (definer rest name)
 definer-cons first rest name = by_test (defines name first.statement) refl
   where
@@ -27,38 +24,38 @@ definer-cons first rest name = by_test (defines name first.statement) refl
     by_test true t = rw t refl
     by_test false t = rw t refl
 
-pub definer-append : (front back : List (Numbered Statement)) (name : List ℕ) → definer (front ++ back) name ≡ or_line (definer front name) (definer back name)
+pub definer-append : (front back : List (Numbered Statement)) (name : List ℕ) → definer (front ++ back) name ≡ option_or (definer front name) (definer back name)
 definer-append [] back name = refl
 definer-append (first ∷ rest) back name =
     definer-cons first (rest ++ back) name ∙ ap (cond (defines name first.statement) (Some first.line)) (definer-append rest back name)
-    ∙ or_line-cond (defines name first.statement) first.line (definer rest name) (definer back name) ∙ sym (ap (λ line. or_line line (definer back name)) (definer-cons first rest name))
+    ∙ option_or-cond (defines name first.statement) first.line (definer rest name) (definer back name) ∙ sym (ap (λ line. option_or line (definer back name)) (definer-cons first rest name))
   where
-    or_line-cond : (test : Bool) (line : ℕ) (some later : Option ℕ) → cond test (Some line) (or_line some later) ≡ or_line (cond test (Some line) some) later
-    or_line-cond true line some later = refl
-    or_line-cond false line some later = refl
+    option_or-cond : (test : Bool) (line : ℕ) (some later : Option ℕ) → cond test (Some line) (option_or some later) ≡ option_or (cond test (Some line) some) later
+    option_or-cond true line some later = refl
+    option_or-cond false line some later = refl
 
-pub definer-push : (seen : List (Numbered Statement)) (next : Numbered Statement) (name : List ℕ) → definer (seen ++ next ∷ []) name ≡ or_line (definer seen name) (cond (is_that name (defined_name next.statement)) (Some next.line) None)
-definer-push seen next name = definer-append seen (next ∷ []) name ∙ ap (or_line (definer seen name)) (definer-cons next [] name)
+pub definer-push : (seen : List (Numbered Statement)) (next : Numbered Statement) (name : List ℕ) → definer (seen ++ next ∷ []) name ≡ option_or (definer seen name) (cond (is_that name (defined_name next.statement)) (Some next.line) None)
+definer-push seen next name = definer-append seen (next ∷ []) name ∙ ap (option_or (definer seen name)) (definer-cons next [] name)
 
-pub or_line-none : (line : Option ℕ) → or_line line None ≡ line
-or_line-none None = refl
-or_line-none (Some line) = refl
+pub option_or-none : (line : Option ℕ) → option_or line None ≡ line
+option_or-none None = refl
+option_or-none (Some line) = refl
 
-put_one : (defined name : List ℕ) (line : ℕ) (seen : List (Numbered Statement)) (test : Bool) → bytes_eq defined name ≡ test → definer seen defined ≡ None → cond test (Some line) (definer seen name) ≡ or_line (definer seen name) (cond test (Some line) None)
+put_one : (defined name : List ℕ) (line : ℕ) (seen : List (Numbered Statement)) (test : Bool) → bytes_eq defined name ≡ test → definer seen defined ≡ None → cond test (Some line) (definer seen name) ≡ option_or (definer seen name) (cond test (Some line) None)
 put_one defined name line seen true same none = let e = (bytes_eq-Decides defined name).0 same in rw (ap (definer seen) (sym e) ∙ none) refl
-put_one defined name line seen false same none = sym (or_line-none (definer seen name))
+put_one defined name line seen false same none = sym (option_or-none (definer seen name))
 
-put : {S : Type 0} (old new : HashMap (Bor (List ℕ)) ℕ S) (seen : List (Numbered Statement)) (next : Numbered Statement) (defined : Option (List ℕ)) → defined_name next.statement ≡ defined → IsPut old new next.line defined → IsTableOf seen old → IsTableOf (seen ++ next ∷ []) new
-put old new seen next None e added table = λ name. added name ∙ table name ∙ sym (definer-push seen next name ∙ ap (λ d. or_line (definer seen name) (cond (is_that name d) (Some next.line) None)) e ∙ or_line-none (definer seen name))
+put : {S : Type 0} (old new : HashMap Key ℕ S) (seen : List (Numbered Statement)) (next : Numbered Statement) (defined : Option (List ℕ)) → defined_name next.statement ≡ defined → IsPut old new next.line defined → IsTableOf seen old → IsTableOf (seen ++ next ∷ []) new
+put old new seen next None e added table = λ name. added name ∙ table name ∙ sym (definer-push seen next name ∙ ap (λ d. option_or (definer seen name) (cond (is_that name d) (Some next.line) None)) e ∙ option_or-none (definer seen name))
 put old new seen next (Some defined) e added table = λ name.
     added.1 name ∙ ap (cond (bytes_eq defined name) (Some next.line)) (table name) ∙ put_one defined name next.line seen (bytes_eq defined name) refl (sym (table defined) ∙ added.0)
-    ∙ sym (definer-push seen next name ∙ ap (λ d. or_line (definer seen name) (cond (is_that name d) (Some next.line) None)) e)
+    ∙ sym (definer-push seen next name ∙ ap (λ d. option_or (definer seen name) (cond (is_that name d) (Some next.line) None)) e)
 
-earlier_line-table : {S : Type 0} (lines : HashMap (Bor (List ℕ)) ℕ S) (seen : List (Numbered Statement)) (defined : Option (List ℕ)) → IsTableOf seen lines → line_for_defined lines defined ≡ earlier_line seen defined
+earlier_line-table : {S : Type 0} (lines : HashMap Key ℕ S) (seen : List (Numbered Statement)) (defined : Option (List ℕ)) → IsTableOf seen lines → line_for_defined lines defined ≡ earlier_line seen defined
 earlier_line-table lines seen None table = refl
 earlier_line-table lines seen (Some defined) table = table defined
 
-nothing_earlier : {S : Type 0} (old new : HashMap (Bor (List ℕ)) ℕ S) (line : ℕ) (defined : Option (List ℕ)) → IsPut old new line defined → line_for_defined old defined ≡ None
+nothing_earlier : {S : Type 0} (old new : HashMap Key ℕ S) (line : ℕ) (defined : Option (List ℕ)) → IsPut old new line defined → line_for_defined old defined ≡ None
 nothing_earlier old new line None added = refl
 nothing_earlier old new line (Some defined) added = added.0
 
@@ -76,7 +73,7 @@ defined_names-push (first ∷ seen) next = by_statement first.statement (defined
     by_statement (Gate name kind sources) ih = ap (λ rest. name ∷ rest) ih
 
 -- the statements so far are in the table, and the first of a name among the rest is the first of all
-pub record IsDefining {S : Type 0} (statements : List (Numbered Statement)) (index : ℕ) (lines : HashMap (Bor (List ℕ)) ℕ S) : Type 0 where
+pub record IsDefining {S : Type 0} (statements : List (Numbered Statement)) (index : ℕ) (lines : HashMap Key ℕ S) : Type 0 where
   pub table : IsTableOf (take index statements) lines
   pub rest : twice_after (take index statements) (drop index statements) ≡ twice_fault statements
   pub names : names_in lines ≡ defined_names (plain (take index statements))
@@ -85,7 +82,7 @@ twice_after-drop : (statements : List (Numbered Statement)) (index : ℕ) (next 
     → twice_after (take index statements) (drop index statements) ≡ twice_or next.line (earlier_line (take index statements) (defined_name next.statement)) (twice_after (take index statements ++ next ∷ []) (drop (index + 1) statements))
 twice_after-drop statements index next inside is = at_drop_more (twice_after (take index statements)) statements index next inside ∙ rw (sym is) refl
 
-pub IsDefining-step : {S : Type 0} (old new : HashMap (Bor (List ℕ)) ℕ S) (statements : List (Numbered Statement)) (index : ℕ) (next : Numbered Statement) → index < length statements → next ≡ get_or statements index next
+pub IsDefining-step : {S : Type 0} (old new : HashMap Key ℕ S) (statements : List (Numbered Statement)) (index : ℕ) (next : Numbered Statement) → index < length statements → next ≡ get_or statements index next
     → IsPut old new next.line (defined_name next.statement) × (names_in new ≡ names_in old ++ defined_names (next.statement ∷ [])) → IsDefining statements index old → IsDefining statements (index + 1) new
 IsDefining-step old new statements index next inside is added was =
     let more : take (index + 1) statements ≡ take index statements ++ next ∷ [] = take_more statements index next inside ∙ ap (λ (last : Numbered Statement). take index statements ++ last ∷ []) (sym is) in
@@ -108,7 +105,7 @@ IsFoundOrMemory-later line None later (Pins at count) h = cc
 IsFoundOrMemory-later line None later (Undefined at) h = cc
 IsFoundOrMemory-later line None later (TooMany variables) h = cc
 
-pub IsDefining-fault : {S : Type 0} (old : HashMap (Bor (List ℕ)) ℕ S) (statements : List (Numbered Statement)) (index : ℕ) (next : Numbered Statement) (fault : BenchFault) → index < length statements → next ≡ get_or statements index next
+pub IsDefining-fault : {S : Type 0} (old : HashMap Key ℕ S) (statements : List (Numbered Statement)) (index : ℕ) (next : Numbered Statement) (fault : BenchFault) → index < length statements → next ≡ get_or statements index next
     → IsFoundOrMemory (twice_or next.line (line_for_defined old (defined_name next.statement)) None) fault → IsDefining statements index old → IsFoundOrMemory (twice_fault statements) fault
 IsDefining-fault old statements index next fault inside is found was =
     let e = earlier_line-table old (take index statements) (defined_name next.statement) was.table in
@@ -122,7 +119,7 @@ any-same test other same [] = refl
 any-same test other same (name ∷ names) = ap (λ b. b || list_any test names) (same name) ∙ ap (λ b. other name || b) (any-same test other same names)
 
 -- a name that a table does not have is defined by no statement
-pub undefined-table : {S : Type 0} (lines : HashMap (Bor (List ℕ)) ℕ S) (statements : List (Numbered Statement)) (names : List (List ℕ)) → IsTableOf statements lines
+pub undefined-table : {S : Type 0} (lines : HashMap Key ℕ S) (statements : List (Numbered Statement)) (names : List (List ℕ)) → IsTableOf statements lines
     → list_any (λ name. not (is_some (line_for lines name))) names ≡ list_any (λ name. not (is_some (definer statements name))) names
 undefined-table lines statements names table = any-same (λ name. not (is_some (line_for lines name))) (λ name. not (is_some (definer statements name))) (λ name. ap (λ line. not (is_some line)) (table name)) names
 

@@ -1,5 +1,6 @@
 -- The first answer of the passes over a text is its least fault.
 use Rattle.std.proofs.Common.{◌≡◌, ◌∙◌, ℕ, ◌<◌, ◌≤◌, ◌++◌, Bool, true, false, not, cond, zero, suc, List, [], ◌∷◌, Option, Some, None, is_some, refl, ap, sym, subst, inl, inr, arith, lit≤, append_assoc}
+use Rattle.std.specs.Option.{option_or}
 use Rattle.std.specs.Prelude.{◌⊎◌, nat_lt, find, Contains, option_map, MatchOption}
 use Rattle.std.specs.List.{Any}
 use Rattle.std.proofs.lemmas.Bool.{cases_lt}
@@ -11,13 +12,13 @@ use Rattle.hz_line.specs.Statement.{Malformed, Numbered, first_malformed}
 use Rattle.hz_line.proofs.StatementLemmas.{Ascends, numbered_from-Ascends, meaning_at-first, meaning_at-none, find-Some, find-None, stated, stating, first_line-found, first_line-unfound, Ascends-front, Ascends-before}
 use Rattle.hz_bench.specs.declared.fault.BenchFault.{BenchFault}
 use Rattle.hz_bench.specs.declared.fault.BenchFault.TheVariants.{Form, Name, KindUnknown, Clocked, Twice, Pins, Undefined, TooMany, Memory}
-use Rattle.hz_bench.specs.Check.{has_unknown_kind, has_clocked_kind, has_wrong_pins, pin_count, uses_undefined, fault_or, first_or, too_many, first_fault}
+use Rattle.hz_bench.specs.Check.{has_unknown_kind, has_clocked_kind, has_wrong_pins, pin_count, uses_undefined, fault_or, too_many, first_fault}
 use Rattle.hz_bench.specs.Definition.{is_that, defines, definer}
 use Rattle.hz_bench.specs.Fault.{States, HasThat, Defines, Uses, IsSecond, Stands, number_of, line_of, ComesFirst, IsLeastFault, IsFaultless}
 use Rattle.hz_bench.specs.Statement.{Statement, statement_of, defined_name, used_names, has_long_name}
 use Rattle.hz_bench.specs.Text.{meaning_at, numbered_statements, statements_of, variables_of, variables_among}
 use Rattle.hz_bench.specs.Twice.{twice_or, earlier_line, twice_after, twice_fault}
-use Rattle.hz_bench.proofs.DefinitionLemmas.{or_line, definer-append, definer-cons}
+use Rattle.hz_bench.proofs.DefinitionLemmas.{definer-append, definer-cons}
 use Rattle.hz_bench.proofs.ParseLemmas.{variables_of-statements}
 
 ascending : (text : List ℕ) → Ascends 1 (numbered_statements text)
@@ -208,7 +209,7 @@ second_fault all one = Twice one.line (line_found (earlier_line all (defined_nam
 
 earlier_line-front : (seen back : List (Numbered Statement)) (defined : Option (List ℕ)) (first : ℕ) → earlier_line seen defined ≡ Some first → earlier_line (seen ++ back) defined ≡ Some first
 earlier_line-front seen back None first e = cc
-earlier_line-front seen back (Some name) first e = definer-append seen back name ∙ ap (λ line. or_line line (definer back name)) e
+earlier_line-front seen back (Some name) first e = definer-append seen back name ∙ ap (λ line. option_or line (definer back name)) e
 
 earlier_line-before : (seen back : List (Numbered Statement)) (next : Numbered Statement) (defined : Option (List ℕ)) (first : ℕ) → Ascends 1 (seen ++ next ∷ back) → earlier_line seen defined ≡ Some first → first < next.line
 earlier_line-before seen back next None first h e = cc
@@ -227,7 +228,7 @@ earlier_line-here : (seen back : List (Numbered Statement)) (next : Numbered Sta
 earlier_line-here seen back next None is e = refl
 earlier_line-here seen back next (Some name) is e =
     let here : definer (next ∷ back) name ≡ Some next.line = definer-cons next back name ∙ ap (λ b. cond b (Some next.line) (definer back name)) (defines-true name next.statement is) in
-    ap (λ line. is_before line next.line) (definer-append seen (next ∷ back) name ∙ ap (λ line. or_line line (definer (next ∷ back) name)) e ∙ here) ∙ not-itself next.line
+    ap (λ line. is_before line next.line) (definer-append seen (next ∷ back) name ∙ ap (λ line. option_or line (definer (next ∷ back) name)) e ∙ here) ∙ not-itself next.line
 
 -- the first that is second, among the rest, by all
 twice_after-find : (all seen rest : List (Numbered Statement)) → all ≡ seen ++ rest → Ascends 1 all → twice_after seen rest ≡ option_map (second_fault all) (find (is_second all) rest)
@@ -282,14 +283,14 @@ second-has text line (first, (name, second)) = by_statement second.here
         let at = second-first text line first name second in
         (statement, states, rw (is, at) less)
 
-first_or-map : (fault : Numbered Statement → BenchFault) (answer : Option (Numbered Statement)) (rest : Option BenchFault) → first_or (option_map fault answer) rest ≡ fault_or fault answer rest
-first_or-map fault None rest = refl
-first_or-map fault (Some found) rest = refl
+option_or-map : (fault : Numbered Statement → BenchFault) (answer : Option (Numbered Statement)) (rest : Option BenchFault) → option_or (option_map fault answer) rest ≡ fault_or fault answer rest
+option_or-map fault None rest = refl
+option_or-map fault (Some found) rest = refl
 
-twice-found : (text : List ℕ) (rest : Option BenchFault) → first_or (twice_fault (numbered_statements text)) rest ≡ fault_or (second_fault (numbered_statements text)) (find (is_second (numbered_statements text)) (numbered_statements text)) rest
+twice-found : (text : List ℕ) (rest : Option BenchFault) → option_or (twice_fault (numbered_statements text)) rest ≡ fault_or (second_fault (numbered_statements text)) (find (is_second (numbered_statements text)) (numbered_statements text)) rest
 twice-found text rest =
-    ap (λ answer. first_or answer rest) (twice_after-find (numbered_statements text) [] (numbered_statements text) refl (ascending text))
-    ∙ first_or-map (second_fault (numbered_statements text)) (find (is_second (numbered_statements text)) (numbered_statements text)) rest
+    ap (λ answer. option_or answer rest) (twice_after-find (numbered_statements text) [] (numbered_statements text) refl (ascending text))
+    ∙ option_or-map (second_fault (numbered_statements text)) (find (is_second (numbered_statements text)) (numbered_statements text)) rest
 
 -- what the passes answer over the statements of a text without a malformed line
 pub first_fault-outcome : (text : List ℕ) → NoneBelow text 2 → Outcome text (first_fault (numbered_statements text))

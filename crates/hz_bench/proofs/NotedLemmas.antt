@@ -1,14 +1,16 @@
 -- What is noted of statements, with one more.
-use Rattle.std.proofs.Common.{◌≡◌, ◌∙◌, ℕ, ◌+◌, Bool, true, false, List, [], ◌∷◌, ◌++◌, Option, Some, None, option_map, refl, ap, cond, arith}
+use Rattle.std.proofs.Common.{◌≡◌, ◌∙◌, ℕ, ◌+◌, ◌≤◌, length, length-append, map, Bool, true, false, List, [], ◌∷◌, ◌++◌, Option, Some, None, option_map, refl, ap, cond, arith}
 use Rattle.std.specs.Option.{option_or}
 use Rattle.std.proofs.lemmas.List.Folds.{find-append}
-use Rattle.std.proofs.lemmas.List.Sums.{sum_by-append}
+use Rattle.std.proofs.lemmas.List.Sums.{sum_by-append, sum_by-cons}
+use Rattle.std.proofs.lemmas.List.{map-append}
 use Rattle.hz_line.specs.Statement.{Numbered, first_line}
 use Rattle.hz_bench.specs.declared.notes.Notes.{Notes}
 use Rattle.hz_bench.specs.declared.notes.WrongPins.{WrongPins}
 use Rattle.hz_bench.specs.Check.{has_unknown_kind, has_clocked_kind, has_wrong_pins, first_that}
-use Rattle.hz_bench.specs.Noted.{notes_of, noted, first_of, wrong_or, wrong_pins_of}
-use Rattle.hz_bench.specs.Statement.{Statement, has_long_name, variables_in}
+use Rattle.hz_bench.specs.Noted.{inputs_among, notes_of, noted, first_of, wrong_or, wrong_pins_of}
+use Rattle.hz_bench.specs.Netlist.{input_names}
+use Rattle.hz_bench.specs.Statement.{Statement, Input, Output, Gate, has_long_name, variables_in}
 use Rattle.hz_bench.specs.Text.{variables_among}
 
 -- the line of what was found, or of one more where it passes
@@ -38,11 +40,35 @@ variables-push statements one =
     let e : variables_among (statements ++ one ∷ []) ≡ variables_among statements + variables_among (one ∷ []) = sum_by-append _ statements (one ∷ []) in
     omega arith
 
-notes_by_parts : {long unknown clocked long' unknown' clocked' : Option ℕ} {wrong wrong' : Option WrongPins} {variables variables' : ℕ} → long ≡ long' → unknown ≡ unknown' → clocked ≡ clocked' → wrong ≡ wrong' → variables ≡ variables'
-    → ◌≡◌ {A = Notes} (record { long_name = long; unknown_kind = unknown; clocked_kind = clocked; wrong_pins = wrong; variables = variables }) (record { long_name = long'; unknown_kind = unknown'; clocked_kind = clocked'; wrong_pins = wrong'; variables = variables' })
-notes_by_parts a b c d e = cc
+-- the inputs of statements with one more
+input_names-append : (statements more : List Statement) → input_names (statements ++ more) ≡ input_names statements ++ input_names more
+input_names-append [] more = refl
+input_names-append (Input name ∷ rest) more = ap (λ names. name ∷ names) (input_names-append rest more)
+input_names-append (Output name ∷ rest) more = input_names-append rest more
+input_names-append (Gate name kind sources ∷ rest) more = input_names-append rest more
+
+inputs-push : (statements : List (Numbered Statement)) (one : Numbered Statement) → inputs_among (statements ++ one ∷ []) ≡ inputs_among statements + inputs_among (one ∷ [])
+inputs-push statements one =
+    ap (λ (all : List Statement). length (input_names all)) (map-append (λ (numbered : Numbered Statement). numbered.statement) statements (one ∷ []))
+    ∙ ap length (input_names-append (map (λ (numbered : Numbered Statement). numbered.statement) statements) (one.statement ∷ []))
+    ∙ length-append (input_names (map (λ (numbered : Numbered Statement). numbered.statement) statements)) (input_names (one.statement ∷ []))
+
+-- each input is a variable
+pub inputs_few : (statements : List (Numbered Statement)) → inputs_among statements ≤ variables_among statements
+inputs_few [] = omega arith
+inputs_few (first ∷ rest) = by_statement first.statement (inputs_few rest) (sum_by-cons (λ (numbered : Numbered Statement). variables_in numbered.statement) first rest)
+  where
+    by_statement : (statement : Statement) → inputs_among rest ≤ variables_among rest → variables_among (first ∷ rest) ≡ variables_in statement + variables_among rest
+        → length (input_names (statement ∷ map (λ (numbered : Numbered Statement). numbered.statement) rest)) ≤ variables_among (first ∷ rest)
+    by_statement (Input name) h e = omega (arith, h, e)
+    by_statement (Output name) h e = omega (arith, h, e)
+    by_statement (Gate name kind sources) h e = omega (arith, h, e)
+
+notes_by_parts : {long unknown clocked long' unknown' clocked' : Option ℕ} {wrong wrong' : Option WrongPins} {inputs inputs' variables variables' : ℕ} → long ≡ long' → unknown ≡ unknown' → clocked ≡ clocked' → wrong ≡ wrong' → inputs ≡ inputs' → variables ≡ variables'
+    → ◌≡◌ {A = Notes} (record { long_name = long; unknown_kind = unknown; clocked_kind = clocked; wrong_pins = wrong; inputs = inputs; variables = variables }) (record { long_name = long'; unknown_kind = unknown'; clocked_kind = clocked'; wrong_pins = wrong'; inputs = inputs'; variables = variables' })
+notes_by_parts a b c d e f = cc
 
 -- the notes of statements with one more
 pub notes_of-push : (statements : List (Numbered Statement)) (one : Numbered Statement) → notes_of (statements ++ one ∷ []) ≡ noted (notes_of statements) one
 notes_of-push statements one =
-    notes_by_parts (first_line-push has_long_name statements one) (first_line-push has_unknown_kind statements one) (first_line-push has_clocked_kind statements one) (wrong_pins-push statements one) (variables-push statements one)
+    notes_by_parts (first_line-push has_long_name statements one) (first_line-push has_unknown_kind statements one) (first_line-push has_clocked_kind statements one) (wrong_pins-push statements one) (inputs-push statements one) (variables-push statements one)

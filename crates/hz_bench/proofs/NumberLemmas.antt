@@ -1,8 +1,8 @@
 -- The numbers of the nodes in the order of the text.
-use Rattle.std.proofs.Common.{◌≡◌, ◌∙◌, ℕ, suc, ◌+◌, ◌++◌, false, not, cond, List, [], ◌∷◌, None, length, map, refl, ap, sym, subst, arith, append_assoc, length-append}
+use Rattle.std.proofs.Common.{◌≡◌, ◌∙◌, ◌≤◌, ℕ, suc, ◌+◌, ◌++◌, false, not, cond, List, [], ◌∷◌, None, length, map, refl, ap, sym, subst, arith, append_assoc, length-append}
 use Rattle.std.specs.List.{list_any}
 use Rattle.std.specs.Str.{bytes_eq}
-use Rattle.std.proofs.lemmas.List.{append-nil}
+use Rattle.std.proofs.lemmas.List.{append-nil, length-map}
 use Rattle.std.proofs.lemmas.Slice.Eq.{bytes_eq-Decides}
 use Rattle.hz_bench.specs.declared.entry.Entry.{Entry}
 use Rattle.hz_bench.specs.declared.forms.Form.{Form}
@@ -20,13 +20,6 @@ use Rattle.hz_bench.proofs.NetlistLemmas.{statement_list-numbered}
 abbrev pub forms_of : List Entry → List Form
 forms_of entries = map (λ entry. entry.form) entries
 
--- how many are inputs
-abbrev pub inputs_in : List Form → ℕ
-inputs_in [] = 0
-inputs_in (form.Input ∷ rest) = suc (inputs_in rest)
-inputs_in (form.Output ∷ rest) = inputs_in rest
-inputs_in (form.Gate kind ∷ rest) = inputs_in rest
-
 -- the numbers of inputs and gates, of which the next have these
 abbrev pub numbers_from : ℕ → ℕ → List Form → List ℕ
 numbers_from input gate [] = []
@@ -38,14 +31,15 @@ forms-stated : (entries : List Entry) → forms_of entries ≡ map form_of (stat
 forms-stated [] = refl
 forms-stated (entry ∷ rest) = ap (λ one. one ∷ forms_of rest) (entry-formed entry) ∙ ap (λ forms. form_of (stated entry) ∷ forms) (forms-stated rest)
 
-inputs-named : (statements : List Statement) → inputs_in (map form_of statements) ≡ length (input_names statements)
-inputs-named [] = refl
-inputs-named (Input name ∷ rest) = ap suc (inputs-named rest)
-inputs-named (Output name ∷ rest) = inputs-named rest
-inputs-named (Gate name kind sources ∷ rest) = inputs-named rest
+-- there are no more inputs than statements
+inputs_within : (statements : List Statement) → length (input_names statements) ≤ length statements
+inputs_within [] = omega arith
+inputs_within (Input name ∷ rest) = let h = inputs_within rest in omega arith
+inputs_within (Output name ∷ rest) = let h = inputs_within rest in omega arith
+inputs_within (Gate name kind sources ∷ rest) = let h = inputs_within rest in omega arith
 
-pub inputs_in-names : (entries : List Entry) → inputs_in (forms_of entries) ≡ length (input_names (statement_list entries))
-inputs_in-names entries = ap inputs_in (forms-stated entries) ∙ inputs-named (statement_list entries)
+pub inputs_few : (entries : List Entry) → length (input_names (statement_list entries)) ≤ length entries
+inputs_few entries = omega (arith, inputs_within (statement_list entries), length-map entries stated)
 
 -- a name that is apart from all before it is absent there
 Apart-absent : (names front back : List (List ℕ)) (name : List ℕ) → Apart names (front ++ name ∷ back) → list_any (bytes_eq name) (names ++ front) ≡ false

@@ -9,18 +9,17 @@ use Rattle.hz_line.specs.Line.{lines_of, lines_of_rest, rest_length}
 use Rattle.hz_line.specs.Statement.{Nothing, Means, Numbered, with_meaning, meaning_by, meaning_of_tokens, numbered_from, malformed_before, first_malformed}
 use Rattle.hz_line.specs.Token.{TokenOf, WordOf, MarkOf, tokens_of}
 use Rattle.hz_line.proofs.TokenLemmas.{tokens_of-length}
-use Rattle.hz_bench.specs.declared.entry.Entry.{Entry}
 use Rattle.hz_bench.specs.declared.notes.Notes.{Notes}
 use Rattle.hz_bench.specs.declared.parse.Statements.{Statements}
 use Rattle.hz_bench.specs.declared.forms.Form.{Form}
 use Rattle.hz_bench.specs.declared.forms.Form.TheVariants as form
 use Rattle.hz_bench.specs.declared.forms.KindWord.{KindWord}
-use Rattle.hz_bench.specs.Entry.{stated, numbered_of, numbered_list, numbered_outputs}
+use Rattle.hz_bench.specs.Entry.{numbered_list, numbered_outputs}
 use Rattle.hz_bench.specs.Noted.{nothing_noted, noted, notes_of}
-use Rattle.hz_bench.specs.Pass.{IsLineRead, IsParsed, IsSorted}
+use Rattle.hz_bench.specs.Pass.{IsParsed, IsSorted}
 use Rattle.hz_bench.specs.Statement.{Statement, Input, Output, Gate, statement_of, names_of, port_form, port_of, kind_word_of, variables_in, words_of, is_node, is_output}
 use Rattle.hz_bench.specs.Text.{meaning_of, numbered_statements, nodes_among, outputs_among, variables_of, variables_among}
-use Rattle.hz_bench.proofs.NotedLemmas.{notes_of-push, variables-push}
+use Rattle.hz_bench.proofs.NotedLemmas.{inputs_few, notes_of-push, variables-push}
 use Rattle.hz_bench.proofs.StatementLemmas.{IsNameList-from_some}
 
 -- the nodes, the outputs and the notes are those of these statements
@@ -125,8 +124,8 @@ IsParsing-nothing text statements line first left whole was cut shorter meaning 
       variables = let v = was.variables in omega arith;
     }
 
-numbered_read : (line : ℕ) (first : List ℕ) (entry : Entry) → IsLineRead (line + 1) first (Some entry) → numbered_of entry ≡ record { line = suc line; statement = stated entry }
-numbered_read line first entry read = rw (read.0, add-one) refl
+numbered_read : (line : ℕ) (one : Numbered Statement) → one.line ≡ line + 1 → one ≡ record { line = suc line; statement = one.statement }
+numbered_read line one h = ap (λ place. record { line = place; statement = one.statement }) (h ∙ add-one line)
 
 pub variables_of-statements : (statements : List (Numbered Statement)) → variables_of (map (λ numbered. numbered.statement) statements) ≡ variables_among statements
 variables_of-statements [] = refl
@@ -146,36 +145,41 @@ IsParsed-end text statements line was =
     }
 
 -- the next statement is gathered too
-gathered-more : (done : List (Numbered Statement)) (one : Numbered Statement) (statements : Statements) (entry : Entry) (more : Statements)
-    → AreGathered done statements → numbered_of entry ≡ one → IsSorted statements entry more → AreGathered (done ++ one ∷ []) more
-gathered-more done one statements entry more was same sorted =
+gathered-more : (done : List (Numbered Statement)) (one : Numbered Statement) (statements more : Statements)
+    → AreGathered done statements → IsSorted statements one more → AreGathered (done ++ one ∷ []) more
+gathered-more done one statements more was sorted =
     record {
-      nodes = sorted.nodes ∙ ap (λ (list : List (Numbered Statement)). list ++ nodes_among (numbered_of entry ∷ [])) was.nodes ∙ ap (λ (last : Numbered Statement). nodes_among done ++ nodes_among (last ∷ [])) same ∙ sym (filter-append (λ (numbered : Numbered Statement). is_node numbered.statement) done (one ∷ []));
-      outputs = sorted.outputs ∙ ap (λ (list : List (Numbered Statement)). list ++ outputs_among (numbered_of entry ∷ [])) was.outputs ∙ ap (λ (last : Numbered Statement). outputs_among done ++ outputs_among (last ∷ [])) same ∙ sym (filter-append (λ (numbered : Numbered Statement). is_output numbered.statement) done (one ∷ []));
-      notes = sorted.notes ∙ ap (λ (notes : Notes). noted notes (numbered_of entry)) was.notes ∙ ap (noted (notes_of done)) same ∙ sym (notes_of-push done one);
+      nodes = sorted.nodes ∙ ap (λ (list : List (Numbered Statement)). list ++ nodes_among (one ∷ [])) was.nodes ∙ sym (filter-append (λ (numbered : Numbered Statement). is_node numbered.statement) done (one ∷ []));
+      outputs = sorted.outputs ∙ ap (λ (list : List (Numbered Statement)). list ++ outputs_among (one ∷ [])) was.outputs ∙ sym (filter-append (λ (numbered : Numbered Statement). is_output numbered.statement) done (one ∷ []));
+      notes = sorted.notes ∙ ap (λ (notes : Notes). noted notes one) was.notes ∙ sym (notes_of-push done one);
     }
 
 -- the statement of a line may be counted with those before it
-pub variables_fit : (text : List ℕ) (statements : Statements) (entry : Entry) (line : ℕ) (first : List ℕ) (left : Option (Bor (List ℕ))) (whole : Bor (List ℕ))
-    → IsParsing text statements line (Some whole) → length first + rest_length left ≤ length whole.now → IsLineRead (line + 1) first (Some entry) → statements.notes.variables + variables_in (stated entry) ≤ length text + 1
-variables_fit text statements entry line first left whole was shorter read =
-    let weight = line_weight first (stated entry) read.1 in
+pub variables_fit : (text : List ℕ) (statements : Statements) (statement : Statement) (line : ℕ) (first : List ℕ) (left : Option (Bor (List ℕ))) (whole : Bor (List ℕ))
+    → IsParsing text statements line (Some whole) → length first + rest_length left ≤ length whole.now → meaning_of first ≡ Means statement → statements.notes.variables + variables_in statement ≤ length text + 1
+variables_fit text statements statement line first left whole was shorter meaning =
+    let weight = line_weight first statement meaning in
     let counted : statements.notes.variables ≡ variables_among was.done = ap (λ (notes : Notes). notes.variables) was.gathered.notes in
     let v = was.variables in
     omega arith
 
+-- no more inputs were noted than variables
+pub inputs_noted : (text : List ℕ) (statements : Statements) (line : ℕ) (left : Option (Bor (List ℕ))) → IsParsing text statements line left → statements.notes.inputs ≤ statements.notes.variables
+inputs_noted text statements line left was = rw (was.gathered.notes) (inputs_few was.done)
+
 -- a line with a statement
-pub IsParsing-statement : (text : List ℕ) (statements : Statements) (entry : Entry) (more : Statements) (line : ℕ) (first : List ℕ) (left : Option (Bor (List ℕ))) (whole : Bor (List ℕ))
-    → IsParsing text statements line (Some whole) → lines_of whole.now ≡ first ∷ lines_of_rest left → length first + rest_length left ≤ length whole.now → IsLineRead (line + 1) first (Some entry) → IsSorted statements entry more → IsParsing text more (line + 1) left
-IsParsing-statement text statements entry more line first left whole was cut shorter read sorted =
-    let one : Numbered Statement = record { line = suc line; statement = stated entry } in
-    let meaning = read.1 in
-    let weight = line_weight first (stated entry) meaning in
+pub IsParsing-statement : (text : List ℕ) (statements : Statements) (one : Numbered Statement) (more : Statements) (line : ℕ) (first : List ℕ) (left : Option (Bor (List ℕ))) (whole : Bor (List ℕ))
+    → IsParsing text statements line (Some whole) → lines_of whole.now ≡ first ∷ lines_of_rest left → length first + rest_length left ≤ length whole.now → one.line ≡ line + 1 → meaning_of first ≡ Means one.statement → IsSorted statements one more → IsParsing text more (line + 1) left
+IsParsing-statement text statements one more line first left whole was cut shorter placed meaning sorted =
+    let weight = line_weight first one.statement meaning in
     let counted = variables-push was.done one in
+    let all : was.done ++ one ∷ numbered_from statement_of (suc (suc line)) (lines_of_rest left) ≡ numbered_statements text =
+    ap (λ (next : Numbered Statement). was.done ++ next ∷ numbered_from statement_of (suc (suc line)) (lines_of_rest left)) (numbered_read line one placed)
+    ∙ sym (ap (λ lines. was.done ++ numbered_from statement_of (suc line) lines) cut ∙ ap (λ means. was.done ++ with_meaning (suc line) means (numbered_from statement_of (suc (suc line)) (lines_of_rest left))) meaning) ∙ was.whole in
     record {
       done = was.done ++ one ∷ [];
-      gathered = gathered-more was.done one statements entry more was.gathered (numbered_read line first entry read) sorted;
-      whole = rw (append_assoc, add-one) (sym (ap (λ lines. was.done ++ numbered_from statement_of (suc line) lines) cut ∙ ap (λ means. was.done ++ with_meaning (suc line) means (numbered_from statement_of (suc (suc line)) (lines_of_rest left))) meaning) ∙ was.whole);
+      gathered = gathered-more was.done one statements more was.gathered sorted;
+      whole = rw (append_assoc, add-one) all;
       formed = rw (add-one) (sym (ap (first_malformed statement_of (suc line)) cut ∙ ap (λ means. malformed_before (suc line) means (first_malformed statement_of (suc (suc line)) (lines_of_rest left))) meaning) ∙ was.formed);
       lines = let l = was.lines in omega arith;
       variables = let v = was.variables in omega arith;

@@ -8,13 +8,13 @@ use Rattle.std.proofs.lemmas.List.Folds.{list_all-append}
 use Rattle.std.proofs.lemmas.List.Elements.{All-head, All-tail, All-take, All-map}
 use Rattle.hz_core.specs.declared.kind.Kind.{Kind}
 use Rattle.hz_core.specs.declared.kind.Kind.TheVariants.{And, Nand, Or, Nor, Xor, Xnor, Not, Buff}
-use Rattle.hz_core.specs.Netlist.{Netlist, Gate as GateOf, IsName, IsCircuit, IsGateAmong, IsWhole, is_name_byte}
+use Rattle.hz_core.specs.Netlist.{Netlist, Gate as GateOf, IsName, IsCircuit, IsGateAmong, IsWhole}
 use Rattle.hz_line.specs.declared.bytes.Mark.TheVariants.{Open, Close, Comma, Equals}
 use Rattle.hz_line.specs.Byte.{class_of, is_letter}
 use Rattle.hz_line.specs.Line.{lines_of}
 use Rattle.hz_line.specs.Token.{TokenOf, WordOf, MarkOf, tokens_of, with_token, begins_in_word}
 use Rattle.hz_line.specs.Statement.{Meaning, Nothing, Means, meaning_of_tokens}
-use Rattle.hz_line.proofs.WrittenLemmas.{tokens_of-open, tokens_of-close, tokens_of-comma, tokens_of-equals, tokens_of-space, is_letter-separators, both, tokens_of-word_before, is_inline, lines_of-written}
+use Rattle.hz_line.proofs.WrittenLemmas.{tokens_of-open, tokens_of-close, tokens_of-comma, tokens_of-equals, tokens_of-space, is_letter-separators, both, tokens_of-word_before, is_inline, word_bytes, lines_of-written}
 use Rattle.hz_bench.specs.declared.forms.KindWord.TheVariants.{Known}
 use Rattle.hz_bench.specs.declared.forms.Form.{Form}
 use Rattle.hz_bench.specs.declared.forms.Form.TheVariants as form
@@ -28,46 +28,9 @@ pub record IsWritten (word : List ℕ) : Type 0 where
   pub letters : list_all is_letter word ≡ true
   pub inline : list_all is_inline word ≡ true
 
-off : (a : Bool) → not a ≡ true → a ≡ false
-off true h = cc
-off false h = refl
-
-neither : (a b : Bool) → not (a || b) ≡ true → (not a ≡ true) × (b ≡ false)
-neither true b h = cc
-neither false true h = cc
-neither false false h = (refl, refl)
-
-far : (byte at : ℕ) → nat_le 33 byte ≡ true → nat_le at 32 ≡ true → (byte == at) ≡ false
-far byte at h l = grind (arith, nat_tests, h, l)
-
--- a byte of a name is a letter, and ends no line
-name_byte : (byte : ℕ) → is_name_byte byte ≡ true → (is_letter byte ≡ true) × (is_inline byte ≡ true)
-unfolding class_of
-name_byte byte h =
-    let parts = both (nat_le 33 byte && nat_le byte 126) _ h in
-    let range = both (nat_le 33 byte) (nat_le byte 126) parts.0 in
-    let hash = neither (byte == 40 || byte == 41 || byte == 44 || byte == 61) (byte == 35) parts.1 in
-    let equals = neither (byte == 40 || byte == 41 || byte == 44) (byte == 61) hash.0 in
-    let comma = neither (byte == 40 || byte == 41) (byte == 44) equals.0 in
-    let closing = neither (byte == 40) (byte == 41) comma.0 in
-    let opening = off (byte == 40) closing.0 in
-    let space = far byte 32 range.0 refl in
-    let tab = far byte 9 range.0 refl in
-    let feed = far byte 10 range.0 refl in
-    let back = far byte 13 range.0 refl in
-    (rw (space, tab, hash.1, opening, closing.1, comma.1, equals.1, range.0, range.1) refl, rw (feed, back) refl)
-
-name_bytes : (name : List ℕ) → list_all is_name_byte name ≡ true → (list_all is_letter name ≡ true) × (list_all is_inline name ≡ true)
-name_bytes [] h = (refl, refl)
-name_bytes (byte ∷ name) h =
-    let parts = both (is_name_byte byte) _ h in
-    let this = name_byte byte parts.0 in
-    let rest = name_bytes name parts.1 in
-    (rw (this.0, rest.0) refl, rw (this.1, rest.1) refl)
-
 IsWritten-name : (name : List ℕ) → IsName name → IsWritten name
 IsWritten-name name is =
-    let bytes = name_bytes name is.bytes in
+    let bytes = word_bytes name is.bytes in
     record { some = omega (arith, is.some); letters = bytes.0; inline = bytes.1 }
 
 IsWritten-kind : (kind : Kind) → IsWritten (kind_name kind)

@@ -1,5 +1,6 @@
 -- From all statements of a text to its nodes and its outputs, and back.
-use Rattle.std.proofs.Common.{◌≡◌, ◌∙◌, ℕ, ◌≤◌, ◌++◌, Bool, true, false, not, cond, suc, List, [], ◌∷◌, Option, Some, None, is_some, option_map, fold, refl, ap, sym, subst, arith}
+use Rattle.std.proofs.Common.{◌≡◌, ◌∙◌, ℕ, ◌≤◌, ◌++◌, Bool, true, false, not, cond, suc, List, [], ◌∷◌, Option, Some, None, is_some, option_map, length, fold, refl, ap, sym, subst, arith}
+use Rattle.std.specs.Option.{option_or}
 use Rattle.std.specs.Prelude.{filter}
 use Rattle.std.specs.List.{list_any}
 use Rattle.std.proofs.Math.Nat.{min-eq_left, min-eq_right}
@@ -9,19 +10,21 @@ use Rattle.hz_line.proofs.StatementLemmas.{Ascends, numbered_from-Ascends}
 use Rattle.hz_core.specs.Netlist.{Netlist, empty_netlist}
 use Rattle.hz_bench.specs.declared.fault.BenchFault.{BenchFault}
 use Rattle.hz_bench.specs.declared.fault.BenchFault.TheVariants as fault
+use Rattle.hz_bench.specs.declared.notes.Notes.{Notes}
 use Rattle.hz_bench.specs.declared.parse.Statements.{Statements}
 use Rattle.hz_bench.specs.Built.{Connecting, after_input, after_gate, after_pins, after_output, nodes_of, connected, built, MaySteps, MayInput, MayGate, MayPins, MayOutput, MayBuild}
-use Rattle.hz_bench.specs.Check.{has_unknown_kind, has_clocked_kind, has_wrong_pins, pin_count, reads_undefined, uses_undefined, first_that, fault_or, first_or, too_many, first_fault, earlier}
+use Rattle.hz_bench.specs.Check.{has_unknown_kind, has_clocked_kind, has_wrong_pins, pin_count, reads_undefined, uses_undefined, first_that, fault_or, too_many, first_fault, earlier}
 use Rattle.hz_bench.specs.Definition.{is_that, defines, definer}
 use Rattle.hz_bench.specs.Entry.{numbered_list, numbered_outputs, statement_list, output_list}
+use Rattle.hz_bench.specs.Netlist.{input_names}
 use Rattle.hz_bench.specs.Noted.{wrong_pins_of, notes_of}
 use Rattle.hz_bench.specs.Pass.{IsParsed}
 use Rattle.hz_bench.specs.Sorted.{undefined_line, pins_fault, sorted_fault}
 use Rattle.hz_bench.specs.Statement.{Statement, Input, Output, Gate, statement_of, is_node, is_output, defined_name, sources_of, used_names, has_long_name}
 use Rattle.hz_bench.specs.Text.{numbered_statements, statements_of, nodes_among, outputs_among, variables_among}
 use Rattle.hz_bench.specs.Twice.{twice_or, earlier_line, twice_after, twice_fault}
-use Rattle.hz_bench.proofs.DefinitionLemmas.{plain, any-same, or_line, or_line-none, definer-append, definer-push, undefined-from_form}
-use Rattle.hz_bench.proofs.NetlistLemmas.{statement_list-numbered, output_list-numbered}
+use Rattle.hz_bench.proofs.DefinitionLemmas.{plain, any-same, option_or-none, definer-append, definer-push, undefined-from_form}
+use Rattle.hz_bench.proofs.NetlistLemmas.{nodes_of-is, statement_list-numbered, output_list-numbered}
 
 -- the statements that pass a test, with their lines
 abbrev kept : (Statement → Bool) → List (Numbered Statement) → List (Numbered Statement)
@@ -111,6 +114,14 @@ built-sorted text statements nodes outputs =
     sym (ap (λ list. built list (output_list statements.outputs.items)) (nodes_read text statements nodes))
     ∙ sym (ap (built (plain (nodes_among (numbered_statements text)))) (outputs_read text statements outputs))
     ∙ built-kept (numbered_statements text)
+
+-- the inputs that were noted are those among the nodes
+pub inputs-sorted : (text : List ℕ) (statements : Statements) → IsParsed text statements → statements.notes.inputs ≡ length (input_names (statement_list statements.nodes.items))
+inputs-sorted text statements parsed =
+    let all = numbered_statements text in
+    ap (λ (notes : Notes). notes.inputs) parsed.notes
+    ∙ ap (λ (netlist : Netlist). netlist.inputs) (sym (nodes_of-is (plain all)).0 ∙ sym (inputs-kept all) ∙ (nodes_of-is (plain (nodes_among all))).0)
+    ∙ ap (λ list. length (input_names list)) (nodes_read text statements parsed.nodes)
 
 pub may_build-sorted : (text : List ℕ) (statements : Statements) → numbered_list statements.nodes.items ≡ nodes_among (numbered_statements text) → numbered_outputs statements.outputs.items ≡ outputs_among (numbered_statements text)
     → MayBuild (statements_of text) (statements_of text) → MayBuild (statement_list statements.nodes.items) (output_list statements.outputs.items)
@@ -217,10 +228,10 @@ twice_after-kept other seen (next ∷ rest) same = by_node (is_node next.stateme
     by_node true t ih =
         ap (λ line. twice_or next.line line (twice_after (other ++ next ∷ []) (nodes_among rest))) (earlier_line-same other seen (defined_name next.statement) same)
         ∙ ap (twice_or next.line (earlier_line seen (defined_name next.statement)))
-        (ih (other ++ next ∷ []) (λ name. definer-append other (next ∷ []) name ∙ ap (λ line. or_line line (definer (next ∷ []) name)) (same name) ∙ sym (definer-append seen (next ∷ []) name)))
+        (ih (other ++ next ∷ []) (λ name. definer-append other (next ∷ []) name ∙ ap (λ line. option_or line (definer (next ∷ []) name)) (same name) ∙ sym (definer-append seen (next ∷ []) name)))
     by_node false t ih =
         let none = undefined-output next.statement t in
-        ih other (λ name. same name ∙ sym (definer-push seen next name ∙ ap (λ defined. or_line (definer seen name) (cond (is_that name defined) (Some next.line) None)) none ∙ or_line-none (definer seen name)))
+        ih other (λ name. same name ∙ sym (definer-push seen next name ∙ ap (λ defined. option_or (definer seen name) (cond (is_that name defined) (Some next.line) None)) none ∙ option_or-none (definer seen name)))
         ∙ sym (ap (λ defined. twice_or next.line (earlier_line seen defined) (twice_after (seen ++ next ∷ []) rest)) none)
 
 undefined-kept : (statements : List (Numbered Statement)) (names : List (List ℕ)) → list_any (λ name. not (is_some (definer (nodes_among statements) name))) names ≡ list_any (λ name. not (is_some (definer statements name))) names
@@ -243,27 +254,27 @@ undefined_line-kept statements h =
     ∙ earlier-all (uses_undefined statements) 1 statements h
 
 -- a line that was noted, as the fault of what is found
-line-fault : (make : ℕ → BenchFault) (found : Option (Numbered Statement)) (later : Option BenchFault) → first_or (option_map make (option_map (λ (numbered : Numbered Statement). numbered.line) found)) later ≡ fault_or (λ one. make one.line) found later
+line-fault : (make : ℕ → BenchFault) (found : Option (Numbered Statement)) (later : Option BenchFault) → option_or (option_map make (option_map (λ (numbered : Numbered Statement). numbered.line) found)) later ≡ fault_or (λ one. make one.line) found later
 line-fault make None later = refl
 line-fault make (Some found) later = refl
 
-pins-fault : (found : Option (Numbered Statement)) (later : Option BenchFault) → first_or (option_map pins_fault (option_map wrong_pins_of found)) later ≡ fault_or (λ one. fault.Pins one.line (pin_count one.statement)) found later
+pins-fault : (found : Option (Numbered Statement)) (later : Option BenchFault) → option_or (option_map pins_fault (option_map wrong_pins_of found)) later ≡ fault_or (λ one. fault.Pins one.line (pin_count one.statement)) found later
 pins-fault None later = refl
 pins-fault (Some found) later = refl
 
-twice-fault : (statements : List (Numbered Statement)) (later other : Option BenchFault) → later ≡ other → first_or (twice_fault (nodes_among statements)) later ≡ first_or (twice_fault statements) other
-twice-fault statements later other e = ap (λ answer. first_or answer later) (twice_after-kept [] [] statements (λ name. refl)) ∙ ap (first_or (twice_fault statements)) e
+twice-fault : (statements : List (Numbered Statement)) (later other : Option BenchFault) → later ≡ other → option_or (twice_fault (nodes_among statements)) later ≡ option_or (twice_fault statements) other
+twice-fault statements later other e = ap (λ answer. option_or answer later) (twice_after-kept [] [] statements (λ name. refl)) ∙ ap (option_or (twice_fault statements)) e
 
 sorted_fault-kept : (statements : List (Numbered Statement)) → Ascends 1 statements → sorted_fault (nodes_among statements) (outputs_among statements) (notes_of statements) ≡ first_fault statements
 sorted_fault-kept statements h =
-    let undefined = ap (λ line. first_or (option_map fault.Undefined line) (too_many (variables_among statements))) (undefined_line-kept statements h)
+    let undefined = ap (λ line. option_or (option_map fault.Undefined line) (too_many (variables_among statements))) (undefined_line-kept statements h)
     ∙ line-fault fault.Undefined (first_that (uses_undefined statements) statements) (too_many (variables_among statements)) in
-    let pins = ap (first_or (option_map pins_fault (option_map wrong_pins_of (first_that has_wrong_pins statements)))) undefined
+    let pins = ap (option_or (option_map pins_fault (option_map wrong_pins_of (first_that has_wrong_pins statements)))) undefined
     ∙ pins-fault (first_that has_wrong_pins statements) _ in
     let twice = twice-fault statements _ _ pins in
-    let clocked = ap (first_or (option_map fault.Clocked (first_line has_clocked_kind statements))) twice ∙ line-fault fault.Clocked (first_that has_clocked_kind statements) _ in
-    let kinds = ap (first_or (option_map fault.KindUnknown (first_line has_unknown_kind statements))) clocked ∙ line-fault fault.KindUnknown (first_that has_unknown_kind statements) _ in
-    ap (first_or (option_map fault.Name (first_line has_long_name statements))) kinds ∙ line-fault fault.Name (first_that has_long_name statements) _
+    let clocked = ap (option_or (option_map fault.Clocked (first_line has_clocked_kind statements))) twice ∙ line-fault fault.Clocked (first_that has_clocked_kind statements) _ in
+    let kinds = ap (option_or (option_map fault.KindUnknown (first_line has_unknown_kind statements))) clocked ∙ line-fault fault.KindUnknown (first_that has_unknown_kind statements) _ in
+    ap (option_or (option_map fault.Name (first_line has_long_name statements))) kinds ∙ line-fault fault.Name (first_that has_long_name statements) _
 
 -- the fault of the statements that were read
 abbrev pub fault_in : Statements → Option BenchFault

@@ -12,7 +12,7 @@ use Rattle.hz_bench.specs.declared.forms.Form.TheVariants as form
 use Rattle.hz_bench.specs.declared.statement.Head.{Head}
 use Rattle.hz_bench.specs.declared.statement.NameList.{NameList}
 use Rattle.hz_bench.specs.Head.{is_bare, head_tokens, names_by, noted_names, no_names}
-use Rattle.hz_bench.specs.Statement.{Gate, statement_of, names_of, words_of, port_form, port_of, sources_of, kind_word_of, has_long_name, is_long, statement_with, words_by}
+use Rattle.hz_bench.specs.Statement.{Gate, statement_of, names_of, words_of, port_form, port_of, kind_word_of, has_long_name, is_long, statement_with, words_by}
 use Rattle.hz_bench.specs.Text.{meaning_of}
 
 -- a word before a name in parentheses makes an input or output of it, and no gate
@@ -29,21 +29,13 @@ pub port-made : (word name : List ℕ) (made : Form) → port_form word ≡ Some
 unfolding port_form
 port-made word name made h = port_form-step (is_keyword word (codes "INPUT")) (is_keyword word (codes "OUTPUT")) made h name
 
--- where no part of the line is left, no names are read
-pub no-sources : (name : List ℕ) (made : Form) → sources_of (statement_with name made []) ≡ []
-no-sources name form.Input = refl
-no-sources name form.Output = refl
-no-sources name (form.Gate kind) = refl
-
 or_false : (a : Bool) → (a || false) ≡ a
 or_false true = refl
 or_false false = refl
 
--- an input or output has one name
-pub port_long : (name : List ℕ) (made : Form) → has_long_name (statement_with name made []) ≡ is_long name
-port_long name form.Input = or_false (is_long name)
-port_long name form.Output = or_false (is_long name)
-port_long name (form.Gate kind) = or_false (is_long name)
+-- an input has one name
+pub port_long : (name : List ℕ) → has_long_name (statement_with name form.Input []) ≡ is_long name
+port_long name = or_false (is_long name)
 
 -- a list of names in words
 pub record IsNameList (tokens : List TokenOf) : Type 0 where

@@ -1,7 +1,6 @@
 -- A circuit that is built statement by statement: inputs, gates, pins, outputs.
 use Rattle.std.specs.Prelude.{◌≡◌, ℕ, suc, ◌<◌, Bool, true, false, nat_eq, List, [], ◌∷◌, length, fold, None, IsSome}
 use Rattle.std.specs.List.{list_any, slice_index_or}
-use Rattle.hz_core.specs.declared.circuit.TheConstants.{MAX_VARIABLES}
 use Rattle.hz_core.specs.Netlist.{Netlist, empty_netlist, with_input, with_gate, with_pin, with_output, node_named, variable_count, IsGateNumber, gate_at, most_pins}
 use Rattle.hz_bench.specs.Netlist.{kind_of_word, number_in}
 use Rattle.hz_bench.specs.Statement.{Statement, Input, Output, Gate, is_long}
@@ -64,7 +63,7 @@ MaySteps May step now (first ∷ rest) = May now first × MaySteps May step (ste
 pub record MayAdd (netlist : Netlist) (name : List ℕ) : Type 0 where
   pub short : is_long name ≡ false
   pub fresh : node_named netlist name ≡ None
-  pub room : variable_count netlist < MAX_VARIABLES
+  pub room : variable_count netlist < 200000
 
 -- the input of a statement may be added, if it is one: inputs come before gates
 abbrev pub MayInput : Netlist → Statement → Type 0
@@ -83,14 +82,14 @@ pub record MayPin (gate : ℕ) (netlist : Netlist) (source : List ℕ) : Type 0 
   pub gate_is : IsGateNumber netlist gate
   pub source_is : IsSome (node_named netlist source)
   pub pins : length (gate_at netlist gate).sources < most_pins (gate_at netlist gate).kind
-  pub room : variable_count netlist < MAX_VARIABLES
+  pub room : variable_count netlist < 200000
 
 -- the gate may have a pin more, which reads this node
 pub record MayRead (gate : ℕ) (netlist : Netlist) (node : ℕ) : Type 0 where
   pub gate_is : IsGateNumber netlist gate
   pub node_is : node < length netlist.names
   pub pins : length (gate_at netlist gate).sources < most_pins (gate_at netlist gate).kind
-  pub room : variable_count netlist < MAX_VARIABLES
+  pub room : variable_count netlist < 200000
 
 -- the circuit has this node
 abbrev pub IsNode : Netlist → ℕ → Type 0
@@ -106,7 +105,7 @@ abbrev pub MayPins : Connecting → Statement → Type 0
 MayPins now (Input name) = Unit {0}
 MayPins now (Output name) = Unit {0}
 MayPins now (Gate name kind sources) =
-    (now.gate < MAX_VARIABLES) × MaySteps (MayPin now.gate) (after_pin now.gate) now.netlist sources
+    (now.gate < 200000) × MaySteps (MayPin now.gate) (after_pin now.gate) now.netlist sources
 
 -- the output of a statement may be added, if it is one
 abbrev pub MayOutput : Netlist → Statement → Type 0

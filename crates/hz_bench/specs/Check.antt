@@ -1,12 +1,12 @@
 -- The checks of statements, and the first fault of all in the order of their numbers.
 use Rattle.std.specs.Prelude.{ℕ, min, Bool, not, nat_lt, List, length, find, Option, Some, None, is_some, if◌then◌else◌}
+use Rattle.std.specs.Option.{option_or}
 use Rattle.std.specs.List.{list_any}
 use Rattle.hz_line.specs.Statement.{Numbered}
 use Rattle.hz_bench.specs.Definition.{definer}
 use Rattle.hz_bench.specs.Statement.{Statement, form_of, sources_of, used_names, has_long_name, is_unknown, is_clocked, refuses_pins}
 use Rattle.hz_bench.specs.Text.{variables_among}
 use Rattle.hz_bench.specs.Twice.{twice_fault}
-use Rattle.hz_core.specs.declared.circuit.TheConstants.{MAX_VARIABLES}
 use Rattle.hz_bench.specs.declared.fault.BenchFault.{BenchFault}
 use Rattle.hz_bench.specs.declared.fault.BenchFault.TheVariants as fault
 
@@ -43,14 +43,9 @@ abbrev pub fault_or : (Numbered Statement → BenchFault) → Option (Numbered S
 fault_or fault None later = later
 fault_or fault (Some found) later = Some (fault found)
 
--- a fault before others
-abbrev pub first_or : Option BenchFault → Option BenchFault → Option BenchFault
-first_or None later = later
-first_or (Some fault) later = Some fault
-
 -- more inputs, gates and pins than a circuit has
 abbrev pub too_many : ℕ → Option BenchFault
-too_many variables = if nat_lt MAX_VARIABLES variables then Some (fault.TooMany variables) else None
+too_many variables = if nat_lt 200000 variables then Some (fault.TooMany variables) else None
 
 -- the fault of statements, none of which is malformed: the least number and, of this number, the first line
 abbrev pub first_fault : List (Numbered Statement) → Option BenchFault
@@ -58,7 +53,7 @@ first_fault statements =
     fault_or (λ found. fault.Name found.line) (first_that has_long_name statements)
     (fault_or (λ found. fault.KindUnknown found.line) (first_that has_unknown_kind statements)
     (fault_or (λ found. fault.Clocked found.line) (first_that has_clocked_kind statements)
-    (first_or (twice_fault statements)
+    (option_or (twice_fault statements)
     (fault_or (λ found. fault.Pins found.line (pin_count found.statement)) (first_that has_wrong_pins statements)
     (fault_or (λ found. fault.Undefined found.line) (first_that (uses_undefined statements) statements)
     (too_many (variables_among statements)))))))

@@ -1,8 +1,8 @@
 -- Which line defines a name.
 use Rattle.std.specs.Prelude.{◌≡◌, ℕ, Bool, false, List, [], ◌∷◌, map, Option, Some, None, if◌then◌else◌}
 use Rattle.std.specs.Str.{bytes_eq}
-use Rattle.std.specs.Borrow.{Bor}
 use Rattle.std.specs.HashMap.{HashMap, get_by}
+use Rattle.hz_core.specs.declared.name.Name.{Name}
 use Rattle.hz_line.specs.Statement.{Numbered, first_line}
 use Rattle.hz_bench.specs.Statement.{Statement, Input, Output, Gate, defined_name}
 
@@ -27,23 +27,23 @@ defined_names (Output name ∷ rest) = defined_names rest
 defined_names (Gate name kind sources ∷ rest) = name ∷ defined_names rest
 
 -- the names in a table, in order
-abbrev pub names_in : {S : Type 0} → HashMap (Bor (List ℕ)) ℕ S → List (List ℕ)
-names_in table = map (λ entry. entry.0.now) table.entries
+abbrev pub names_in : {S : Type 0} → HashMap Name ℕ S → List (List ℕ)
+names_in table = map (λ entry. entry.0.bytes.now) table.entries
 
 -- the line that a table has for a name
-abbrev pub line_for : {S : Type 0} → HashMap (Bor (List ℕ)) ℕ S → List ℕ → Option ℕ
-line_for table name = get_by (λ key. bytes_eq name key.now) table
+abbrev pub line_for : {S : Type 0} → HashMap Name ℕ S → List ℕ → Option ℕ
+line_for table name = get_by (λ key. bytes_eq name key.bytes.now) table
 
 -- the table has the line of each name that the statements define
-abbrev pub IsTableOf : {S : Type 0} → List (Numbered Statement) → HashMap (Bor (List ℕ)) ℕ S → Type 0
+abbrev pub IsTableOf : {S : Type 0} → List (Numbered Statement) → HashMap Name ℕ S → Type 0
 IsTableOf statements table = (name : List ℕ) → line_for table name ≡ definer statements name
 
 -- the line of the defined name is put into a table that has none for it; without a defined name the table stays
-abbrev pub IsPut : {S : Type 0} → HashMap (Bor (List ℕ)) ℕ S → HashMap (Bor (List ℕ)) ℕ S → ℕ → Option (List ℕ) → Type 0
+abbrev pub IsPut : {S : Type 0} → HashMap Name ℕ S → HashMap Name ℕ S → ℕ → Option (List ℕ) → Type 0
 IsPut old new line None = (name : List ℕ) → line_for new name ≡ line_for old name
 IsPut old new line (Some defined) = (line_for old defined ≡ None) × ((name : List ℕ) → line_for new name ≡ (if bytes_eq defined name then Some line else line_for old name))
 
 -- the line that a table has for the defined name, if one is defined
-abbrev pub line_for_defined : {S : Type 0} → HashMap (Bor (List ℕ)) ℕ S → Option (List ℕ) → Option ℕ
+abbrev pub line_for_defined : {S : Type 0} → HashMap Name ℕ S → Option (List ℕ) → Option ℕ
 line_for_defined table None = None
 line_for_defined table (Some defined) = line_for table defined

@@ -2,6 +2,8 @@
 use Rattle.std.specs.Prelude.{List, map}
 use Rattle.hz_line.specs.Statement.{Numbered}
 use Rattle.hz_bench.specs.declared.entry.Entry.{Entry}
+use Rattle.hz_bench.specs.declared.entry.Line.{Line}
+use Rattle.hz_bench.specs.declared.entry.Line.TheVariants as line
 use Rattle.hz_bench.specs.declared.entry.OutputLine.{OutputLine}
 use Rattle.hz_bench.specs.Statement.{Statement, Output, statement_with}
 
@@ -24,6 +26,11 @@ statement_list entries = map stated entries
 -- a line of an output as a statement with its line
 abbrev pub numbered_output : OutputLine → Numbered Statement
 numbered_output output = record { line = output.line; statement = Output output.name.now }
+
+-- a line that is a statement, as a statement with its line
+abbrev pub numbered_line : Line → Numbered Statement
+numbered_line (line.Node entry) = numbered_of entry
+numbered_line (line.Output output) = numbered_output output
 
 -- lines of outputs as statements with their lines
 abbrev pub numbered_outputs : List OutputLine → List (Numbered Statement)

@@ -5,11 +5,11 @@ use Rattle.std.specs.Borrow.{Bor}
 use Rattle.hz_line.specs.declared.bytes.Mark.{Mark}
 use Rattle.hz_line.specs.Statement.{Means}
 use Rattle.hz_line.specs.Token.{TokenOf, WordOf, MarkOf, tokens_of, with_token}
-use Rattle.hz_bench.specs.declared.entry.Entry.{Entry}
+use Rattle.hz_bench.specs.declared.entry.Line.{Line}
 use Rattle.hz_bench.specs.declared.statement.Head.{Head}
 use Rattle.hz_bench.specs.declared.statement.MarkedWord.{MarkedWord}
 use Rattle.hz_bench.specs.declared.statement.NameList.{NameList}
-use Rattle.hz_bench.specs.Entry.{stated}
+use Rattle.hz_bench.specs.Entry.{numbered_line}
 use Rattle.hz_bench.specs.Statement.{Statement, statement_of, names_of, is_long}
 use Rattle.hz_bench.specs.Text.{meaning_of}
 
@@ -60,10 +60,10 @@ abbrev pub statement_by : Option (List TokenOf) → Option Statement
 statement_by None = None
 statement_by (Some tokens) = statement_of tokens
 
--- what is read of a line: an entry that is its statement, or nothing where it has none
-abbrev pub IsRead : ℕ → List ℕ → Option Entry → Type 0
+-- what is read of a line: its statement, or nothing where it has none
+abbrev pub IsRead : ℕ → List ℕ → Option Line → Type 0
 IsRead line text None = statement_by (tokens_of text) ≡ None
-IsRead line text (Some entry) = (entry.line ≡ line) × (meaning_of text ≡ Means (stated entry))
+IsRead line text (Some found) = ((numbered_line found).line ≡ line) × (meaning_of text ≡ Means (numbered_line found).statement)
 
 -- the tokens of a head, and of the line after it
 abbrev pub head_tokens : Head → Option (List TokenOf)

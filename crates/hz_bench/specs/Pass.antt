@@ -1,42 +1,24 @@
 -- What the passes over a text find.
-use Rattle.std.specs.Prelude.{◌≡◌, ℕ, ◌+◌, ◌≤◌, List, [], ◌∷◌, ◌++◌, length, Option, Some, None}
+use Rattle.std.specs.Prelude.{◌≡◌, ℕ, ◌+◌, ◌≤◌, List, [], ◌∷◌, ◌++◌, length, Some, None}
 use Rattle.hz_line.specs.Line.{lines_of}
-use Rattle.hz_line.specs.Statement.{Nothing, Malformed, Means, first_malformed}
+use Rattle.hz_line.specs.Statement.{Numbered, first_malformed}
 use Rattle.hz_core.specs.Netlist.{IsWhole}
-use Rattle.hz_bench.specs.declared.entry.Entry.{Entry}
 use Rattle.hz_bench.specs.declared.parse.Statements.{Statements}
 use Rattle.hz_bench.specs.declared.fault.BenchFault.{BenchFault}
 use Rattle.hz_bench.specs.declared.fault.BenchFault.TheVariants.{Form, Name, KindUnknown, Clocked, Twice, Pins, Undefined, TooMany, Memory}
 use Rattle.hz_bench.specs.Built.{MayBuild}
-use Rattle.hz_bench.specs.Entry.{stated, numbered_of, numbered_list, numbered_outputs, statement_list, output_list}
+use Rattle.hz_bench.specs.Entry.{numbered_list, numbered_outputs, statement_list, output_list}
 use Rattle.hz_bench.specs.Noted.{noted, notes_of}
 use Rattle.hz_bench.specs.Fault.{IsFaultless}
 use Rattle.hz_bench.specs.Netlist.{netlist_of}
-use Rattle.hz_bench.specs.Statement.{statement_of}
-use Rattle.hz_bench.specs.Text.{meaning_of, numbered_statements, nodes_among, outputs_among, statements_of, variables_of}
-
--- what is read of a line: nothing, or an entry that is its statement
-abbrev pub IsLineRead : ℕ → List ℕ → Option Entry → Type 0
-IsLineRead line text None = meaning_of text ≡ Nothing
-IsLineRead line text (Some entry) = (entry.line ≡ line) × (meaning_of text ≡ Means (stated entry))
-
--- a fault in a line
-abbrev pub IsLineFault : ℕ → List ℕ → BenchFault → Type 0
-IsLineFault line text (Form at) = (at ≡ line) × (meaning_of text ≡ Malformed)
-IsLineFault line text (Name at) = ⊥
-IsLineFault line text (KindUnknown at) = ⊥
-IsLineFault line text (Clocked at) = ⊥
-IsLineFault line text (Twice at first) = ⊥
-IsLineFault line text (Pins at count) = ⊥
-IsLineFault line text (Undefined at) = ⊥
-IsLineFault line text (TooMany variables) = ⊥
-IsLineFault line text Memory = ⊥
+use Rattle.hz_bench.specs.Statement.{Statement, statement_of}
+use Rattle.hz_bench.specs.Text.{numbered_statements, nodes_among, outputs_among, statements_of, variables_of}
 
 -- the next statement was added to those before it: to the nodes or to the outputs, and to the notes
-pub record IsSorted (old : Statements) (entry : Entry) (new : Statements) : Type 0 where
-  pub nodes : numbered_list new.nodes.items ≡ numbered_list old.nodes.items ++ nodes_among (numbered_of entry ∷ [])
-  pub outputs : numbered_outputs new.outputs.items ≡ numbered_outputs old.outputs.items ++ outputs_among (numbered_of entry ∷ [])
-  pub notes : new.notes ≡ noted old.notes (numbered_of entry)
+pub record IsSorted (old : Statements) (next : Numbered Statement) (new : Statements) : Type 0 where
+  pub nodes : numbered_list new.nodes.items ≡ numbered_list old.nodes.items ++ nodes_among (next ∷ [])
+  pub outputs : numbered_outputs new.outputs.items ≡ numbered_outputs old.outputs.items ++ outputs_among (next ∷ [])
+  pub notes : new.notes ≡ noted old.notes next
 
 -- the statements are those of a text without a malformed line
 pub record IsParsed (text : List ℕ) (statements : Statements) : Type 0 where

@@ -1,11 +1,12 @@
 -- The fault of statements by their nodes, their outputs and what was noted of all of them.
 use Rattle.std.specs.Prelude.{ℕ, List, Option, option_map}
+use Rattle.std.specs.Option.{option_or}
 use Rattle.hz_line.specs.Statement.{Numbered, first_line}
 use Rattle.hz_bench.specs.declared.fault.BenchFault.{BenchFault}
 use Rattle.hz_bench.specs.declared.fault.BenchFault.TheVariants as fault
 use Rattle.hz_bench.specs.declared.notes.Notes.{Notes}
 use Rattle.hz_bench.specs.declared.notes.WrongPins.{WrongPins}
-use Rattle.hz_bench.specs.Check.{reads_undefined, uses_undefined, earlier, first_or, too_many}
+use Rattle.hz_bench.specs.Check.{reads_undefined, uses_undefined, earlier, too_many}
 use Rattle.hz_bench.specs.Statement.{Statement}
 use Rattle.hz_bench.specs.Twice.{twice_fault}
 
@@ -20,10 +21,10 @@ pins_fault wrong = fault.Pins wrong.line wrong.count
 -- the fault of nodes and outputs, of which this was noted: the least number and, of this number, the first line
 abbrev pub sorted_fault : List (Numbered Statement) → List (Numbered Statement) → Notes → Option BenchFault
 sorted_fault nodes outputs notes =
-    first_or (option_map fault.Name notes.long_name)
-    (first_or (option_map fault.KindUnknown notes.unknown_kind)
-    (first_or (option_map fault.Clocked notes.clocked_kind)
-    (first_or (twice_fault nodes)
-    (first_or (option_map pins_fault notes.wrong_pins)
-    (first_or (option_map fault.Undefined (undefined_line nodes outputs))
+    option_or (option_map fault.Name notes.long_name)
+    (option_or (option_map fault.KindUnknown notes.unknown_kind)
+    (option_or (option_map fault.Clocked notes.clocked_kind)
+    (option_or (twice_fault nodes)
+    (option_or (option_map pins_fault notes.wrong_pins)
+    (option_or (option_map fault.Undefined (undefined_line nodes outputs))
     (too_many notes.variables))))))

@@ -2,7 +2,6 @@
 use Rattle.std.specs.Prelude.{ℕ, Bool, true, false, not, nat_lt, ◌+◌, List, [], ◌∷◌, length, codes, Option, Some, None, option_map, if◌then◌else◌}
 use Rattle.std.specs.List.{list_any}
 use Rattle.hz_core.specs.declared.kind.Kind.TheVariants.{And, Nand, Or, Nor, Xor, Xnor, Not, Buff}
-use Rattle.hz_core.specs.declared.kind.TheConstants.{MAX_PINS}
 use Rattle.hz_core.specs.Gate.{takes}
 use Rattle.hz_line.specs.declared.bytes.Mark.TheVariants.{Open, Close, Comma, Equals}
 use Rattle.hz_line.specs.Keyword.{is_keyword}
@@ -131,8 +130,8 @@ abbrev pub refuses_pins : Form → ℕ → Bool
 refuses_pins form.Input pins = false
 refuses_pins form.Output pins = false
 refuses_pins (form.Gate (Known kind)) pins = not (takes kind pins)
-refuses_pins (form.Gate Clocked) pins = nat_lt MAX_PINS pins
-refuses_pins (form.Gate Unknown) pins = nat_lt MAX_PINS pins
+refuses_pins (form.Gate Clocked) pins = nat_lt 256 pins
+refuses_pins (form.Gate Unknown) pins = nat_lt 256 pins
 
 -- how many variables a statement brings: an input one, a gate one and one for each pin
 abbrev pub variables_in : Statement → ℕ

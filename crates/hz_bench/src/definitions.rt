@@ -10,11 +10,13 @@ ghost use Rattle.hz_bench.specs.Twice.{twice_or, twice_fault, IsFoundOrMemory};
 
 use crate::entry::Entry;
 use crate::fault::BenchFault;
+use hz_core::{Name, NameHasher};
 use indexmap::IndexMap;
 use std::alloc::Global;
+use std::hash::BuildHasherDefault;
 
 /// The line that defines each name. The names borrow the text.
-pub(crate) type Definitions<'a> = IndexMap<&'a [u8], u32>;
+pub(crate) type Definitions<'a> = IndexMap<Name<'a>, u32, BuildHasherDefault<NameHasher>>;
 
 /// The definitions of the statements, or the first that is not the first of its name.
 pub(crate) fn definitions<'a>(
@@ -25,7 +27,8 @@ pub(crate) fn definitions<'a>(
         (λ lines. (twice_fault (numbered_list entries.now) ≡ None) × IsTableOf (numbered_list entries.now) lines × (names_in lines ≡ defined_names (statement_list entries.now)))
         (λ fault. IsFoundOrMemory (twice_fault (numbered_list entries.now)) fault) }
 {
-    let Ok(mut lines) = Definitions::with_capacity(alloc, entries.len()) else {
+    let hashing = BuildHasherDefault::new();
+    let Ok(mut lines) = Definitions::with_capacity_and_hasher(alloc, entries.len(), hashing) else {
         return Err(BenchFault::Memory);
     };
     for entry in entries {
@@ -46,7 +49,7 @@ fn define<'a>(lines: &mut Definitions<'a>, entry: &Entry<'a>) -> Result<(), Benc
     if !entry.form.defines() {
         return Ok(());
     }
-    match lines.insert(entry.name, entry.line) {
+    match lines.insert(Name { bytes: entry.name }, entry.line) {
         Ok(None) => Ok(()),
         Ok(Some(first)) => Err(BenchFault::Twice {
             line: entry.line,
@@ -58,7 +61,7 @@ fn define<'a>(lines: &mut Definitions<'a>, entry: &Entry<'a>) -> Result<(), Benc
 
 /// The place of a name in the table.
 pub(crate) fn place_of(lines: &Definitions, name: &[u8]) -> Option<usize>
-    ensures { result ≡ index_of_by (λ key. bytes_eq name.now key.now) lines.now }
+    ensures { result ≡ index_of_by (λ key. bytes_eq name.now key.bytes.now) lines.now }
 {
-    lines.get_index_of(name)
+    lines.get_index_of(&Name { bytes: name })
 }

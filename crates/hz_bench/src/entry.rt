@@ -1,12 +1,12 @@
-// A statement of the text, as the passes over the statements read it.
+// The statements of a text, as the passes over them read them.
 
-ghost use Rattle.std.specs.Prelude.{◌≡◌, ◌<◌, ◌^◌, length, Some, option_map};
+ghost use Rattle.std.specs.Prelude.{◌≡◌, ◌<◌, ◌^◌, length, Some, option_map, true};
 ghost use Rattle.hz_line.specs.Token.{IsWord, tokens_of};
-ghost use Rattle.hz_bench.specs.Statement.{sources_of, has_long_name, words_of, statement_with};
+ghost use Rattle.hz_bench.specs.Statement.{sources_of, has_long_name, form_defines, words_of, statement_with};
 
 use crate::forms::Form;
 
-/// A statement, which borrows from its line. A gate's sources are read again from the line when they are needed,
+/// An input or a gate, which borrows from its line. A gate's sources are read again from the line when they are needed,
 /// so that a statement takes the same room however many pins its gate has.
 // Fields lie in this order: the small ones stand together, which makes 48 bytes.
 #[derive(Clone, Copy)]
@@ -16,12 +16,13 @@ pub struct Entry<'a> {
     pub form: Form,
     /// Whether some name of the statement is too long.
     pub long: bool,
-    /// The name that the statement begins with.
+    /// The name that the statement defines.
     pub name: &'a [u8],
-    /// The line from a gate's first source on; empty of an input or output.
+    /// The line from a gate's first source on; empty of an input.
     pub sources: &'a [u8],
     /// How many pins the gate has.
     pub pins: usize,
+    ghost node: { form_defines form ≡ true },
     ghost worded: { IsWord name.now },
     ghost sourced: { option_map words_of (tokens_of sources.now) ≡ Some (sources_of (statement_with name.now form sources.now)) },
     ghost counted: { pins ≡ length (sources_of (statement_with name.now form sources.now)) },
@@ -35,4 +36,12 @@ pub struct OutputLine<'a> {
     /// The number of the line, counted from 1.
     pub line: u32,
     pub name: &'a [u8],
+}
+
+/// A line that is a statement.
+#[derive(Clone, Copy)]
+pub enum Line<'a> {
+    /// An input or a gate.
+    Node(Entry<'a>),
+    Output(OutputLine<'a>),
 }

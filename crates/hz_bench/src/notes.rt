@@ -1,12 +1,13 @@
 // What is noted of statements while they are read.
 
-ghost use Rattle.std.specs.Prelude.{◌≡◌, ◌+◌, ◌<◌, ◌^◌, [], None, if◌then◌else◌, Some};
-ghost use Rattle.hz_bench.specs.Entry.{stated, numbered_of};
+ghost use Rattle.std.specs.Prelude.{◌≡◌, ◌+◌, ◌<◌, ◌≤◌, ◌^◌, [], None, if◌then◌else◌, Some};
+ghost use Rattle.hz_bench.specs.Entry.{stated, numbered_of, numbered_output};
 ghost use Rattle.hz_bench.specs.Noted.{noted, nothing_noted, first_of, wrong_or};
 ghost use Rattle.hz_bench.specs.Statement.{variables_in};
 
-use crate::entry::Entry;
+use crate::entry::{Entry, OutputLine};
 use crate::forms::Form;
+use crate::statement::is_long;
 
 /// A gate with so many pins as its kind does not take.
 #[derive(Clone, Copy, Debug)]
@@ -23,6 +24,7 @@ pub struct Notes {
     pub unknown_kind: Option<u32>,
     pub clocked_kind: Option<u32>,
     pub wrong_pins: Option<WrongPins>,
+    pub inputs: u32,
     pub variables: u32,
 }
 
@@ -36,63 +38,57 @@ impl Notes {
             unknown_kind: None,
             clocked_kind: None,
             wrong_pins: None,
+            inputs: 0,
             variables: 0,
         }
     }
 
-    // With one statement more.
-    pub(crate) fn add(self, entry: &Entry) -> Notes
-        requires { self.variables + variables_in (stated entry.now) < 2 ^ 32 }
-        ensures { result ≡ noted self (numbered_of entry.now) }
+    // Notes one input or gate more.
+    pub(crate) fn add(&mut self, entry: &Entry)
+        requires inputs { self.old.inputs ≤ self.old.variables }
+        requires variables { self.old.variables + variables_in (stated entry.now) < 2 ^ 32 }
+        ensures { self.new ≡ noted self.old (numbered_of entry.now) }
     {
         let form = entry.form;
-        Notes {
-            long_name: first_of(self.long_name, entry.long, entry.line),
-            unknown_kind: first_of(self.unknown_kind, form.is_unknown(), entry.line),
-            clocked_kind: first_of(self.clocked_kind, form.is_clocked(), entry.line),
-            wrong_pins: wrong_or(self.wrong_pins, entry),
-            variables: self.variables + variables_in(entry),
-        }
-    }
-}
-
-// The line that was noted first, or this one where it is the first to be noted.
-fn first_of(before: Option<u32>, here: bool, line: u32) -> Option<u32>
-    ensures { result ≡ first_of before here line }
-{
-    match before {
-        Some(first) => Some(first),
-        None => { if here { Some(line) } else { None } }
-    }
-}
-
-// The gate with wrong pins that was noted first, or this one where it is the first.
-fn wrong_or(before: Option<WrongPins>, entry: &Entry) -> Option<WrongPins>
-    ensures { result ≡ wrong_or before (numbered_of entry.now) }
-{
-    match before {
-        Some(gate) => Some(gate),
-        None => {
-            if entry.form.refuses_pins(entry.pins) {
-                Some(WrongPins {
-                    line: entry.line,
-                    count: entry.pins as u32,
-                })
-            } else {
-                None
+        note_line(&mut self.long_name, entry.long, entry.line);
+        note_line(&mut self.unknown_kind, form.is_unknown(), entry.line);
+        note_line(&mut self.clocked_kind, form.is_clocked(), entry.line);
+        note_pins(&mut self.wrong_pins, entry);
+        match form {
+            Form::Input => {
+                self.inputs += 1;
+                self.variables += 1;
             }
+            Form::Output => {}
+            Form::Gate(_) => self.variables += 1 + entry.pins as u32,
         }
+    }
+
+    // Notes one output more, which brings no variables and has nothing but its name.
+    pub(crate) fn add_output(&mut self, output: &OutputLine)
+        ensures { self.new ≡ noted self.old (numbered_output output.now) }
+    {
+        note_line(&mut self.long_name, is_long(output.name), output.line);
     }
 }
 
-// The variables that a statement brings.
-fn variables_in(entry: &Entry) -> u32
-    requires { variables_in (stated entry.now) < 2 ^ 32 }
-    ensures { result ≡ variables_in (stated entry.now) }
+// Notes the line, where it is the first to be noted.
+fn note_line(first: &mut Option<u32>, here: bool, line: u32)
+    ensures { first.new ≡ first_of first.old here line }
 {
-    match entry.form {
-        Form::Input => 1,
-        Form::Output => 0,
-        Form::Gate(_) => 1 + entry.pins as u32,
+    if here && first.is_none() {
+        *first = Some(line);
+    }
+}
+
+// Notes the pins of a gate, where they are the first that are wrong.
+fn note_pins(first: &mut Option<WrongPins>, entry: &Entry)
+    ensures { first.new ≡ wrong_or first.old (numbered_of entry.now) }
+{
+    if entry.form.refuses_pins(entry.pins) && first.is_none() {
+        *first = Some(WrongPins {
+            line: entry.line,
+            count: entry.pins as u32,
+        });
     }
 }

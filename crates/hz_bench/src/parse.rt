@@ -1,14 +1,14 @@
 // The statements of a text.
 
-ghost use Rattle.std.specs.Prelude.{◌≡◌, ◌+◌, ◌<◌, ◌≤◌, ◌^◌, length, MatchResult, OnOk};
-ghost use Rattle.hz_bench.specs.Entry.{stated};
+ghost use Rattle.std.specs.Prelude.{◌+◌, ◌<◌, ◌≤◌, ◌^◌, length, MatchResult, OnOk};
+ghost use Rattle.hz_bench.specs.Entry.{numbered_line};
 ghost use Rattle.hz_bench.specs.Statement.{variables_in};
-ghost use Rattle.hz_bench.specs.Pass.{IsLineRead, IsLineFault, IsParsed, IsParseFault, IsSorted};
+ghost use Rattle.hz_bench.specs.Pass.{IsParsed, IsParseFault, IsSorted};
 
-use crate::entry::{Entry, OutputLine};
+use crate::entry::{Entry, Line, OutputLine};
 use crate::fault::BenchFault;
 use crate::notes::Notes;
-use crate::statement::{entry_of, is_bare};
+use crate::statement::{is_bare, statement_of};
 use hz_core::Memory;
 use hz_line::cut_line;
 use std::alloc::Global;
@@ -40,10 +40,15 @@ pub(crate) fn parse<'a>(alloc: Global, text: &'a [u8]) -> Result<Statements<'a>,
         let cut = cut_line(rest);
         line += 1;
         left = cut.rest;
-        if let Some(entry) = read_line(line, cut.line)? {
-            match statements.add(entry) {
+        match statement_of(line, cut.line) {
+            Some(statement) => match statements.add(statement) {
                 Ok(()) => {}
                 Err(Memory) => return Err(BenchFault::Memory),
+            },
+            None => {
+                if !is_bare(cut.line) {
+                    return Err(BenchFault::Form { line });
+                }
             }
         }
     }
@@ -52,35 +57,21 @@ pub(crate) fn parse<'a>(alloc: Global, text: &'a [u8]) -> Result<Statements<'a>,
 
 impl<'a> Statements<'a> {
     // Adds the next statement of the text.
-    fn add(&mut self, entry: Entry<'a>) -> Result<(), Memory>
-        requires { self.old.notes.variables + variables_in (stated entry) < 2 ^ 32 }
-        ensures { OnOk result (IsSorted self.old entry.entry self.new) }
+    fn add(&mut self, line: Line<'a>) -> Result<(), Memory>
+        requires inputs { self.old.notes.inputs ≤ self.old.notes.variables }
+        requires variables { self.old.notes.variables + variables_in (numbered_line line).statement < 2 ^ 32 }
+        ensures { OnOk result (IsSorted self.old (numbered_line line.entry) self.new) }
     {
-        self.notes = self.notes.add(&entry);
-        let pushed = if entry.form.defines() {
-            self.nodes.push(entry).is_ok()
-        } else {
-            self.outputs
-                .push(OutputLine {
-                    line: entry.line,
-                    name: entry.name,
-                })
-                .is_ok()
+        let pushed = match line {
+            Line::Node(entry) => {
+                self.notes.add(&entry);
+                self.nodes.push(entry).is_ok()
+            }
+            Line::Output(output) => {
+                self.notes.add_output(&output);
+                self.outputs.push(output).is_ok()
+            }
         };
         if pushed { Ok(()) } else { Err(Memory) }
-    }
-}
-
-// The statement of a line, if it has tokens.
-fn read_line<'a>(line: u32, text: &'a [u8]) -> Result<Option<Entry<'a>>, BenchFault>
-    requires { length text.now < 2 ^ 32 }
-    ensures { MatchResult result
-        (λ found. IsLineRead line text.now found)
-        (λ fault. IsLineFault line text.now fault) }
-{
-    match entry_of(line, text) {
-        Some(entry) => Ok(Some(entry)),
-        None if is_bare(text) => Ok(None),
-        None => Err(BenchFault::Form { line }),
     }
 }

@@ -4,7 +4,7 @@ ghost use Rattle.std.specs.Prelude.{◌≡◌, ◌<◌, ◌≤◌, ◌^◌, ◌�
 ghost use Rattle.hz_core.specs.Netlist.{IsWhole};
 ghost use Rattle.hz_bench.specs.Entry.{numbered_list, numbered_outputs, statement_list, output_list};
 ghost use Rattle.hz_bench.specs.Fault.{IsAnswer, IsFaultless, IsLeastFault};
-ghost use Rattle.hz_bench.specs.Netlist.{netlist_of};
+ghost use Rattle.hz_bench.specs.Netlist.{input_names, netlist_of};
 ghost use Rattle.hz_bench.specs.Pass.{IsAccepted};
 ghost use Rattle.hz_bench.specs.Sorted.{sorted_fault};
 ghost use Rattle.hz_bench.specs.Text.{statements_of};
@@ -63,7 +63,8 @@ fn read_accepted<'a>(alloc: Global, text: &'a [u8]) -> Result<Accepted<'a>, Benc
 
 // Checks the statements, in the order of the faults, and answers the nodes that they use.
 fn check(alloc: Global, statements: &Statements) -> Result<Uses, BenchFault>
-    requires { length statements.now.nodes.items < 2 ^ 31 }
+    requires few { length statements.now.nodes.items < 2 ^ 31 }
+    requires inputs { statements.now.notes.inputs ≡ length (input_names (statement_list statements.now.nodes.items)) }
     ensures { MatchResult result
         (λ uses. (sorted_fault (numbered_list statements.now.nodes.items) (numbered_outputs statements.now.outputs.items) statements.now.notes ≡ None)
         × AreUses (statement_list statements.now.nodes.items) (output_list statements.now.outputs.items) uses)

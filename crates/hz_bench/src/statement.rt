@@ -3,21 +3,21 @@
 ghost use Rattle.std.specs.Prelude.{◌≡◌, ◌<◌, ◌≤◌, ◌^◌, ◌+◌, ◌||◌, [], ◌∷◌, None, Some, if◌then◌else◌, IfSome, length, option_map};
 ghost use Rattle.hz_line.specs.Token.{tokens_of};
 ghost use Rattle.hz_bench.specs.Head.{IsRead, IsWordFirst, IsMarkFirst, IsMarkedFirst, IsHeadOf, head_tokens, is_bare, names_by, noted_names, no_names};
-ghost use Rattle.hz_bench.specs.Statement.{port_form, is_long};
+ghost use Rattle.hz_bench.specs.Statement.{is_long};
 
-use crate::entry::Entry;
+use crate::entry::{Entry, Line, OutputLine};
 use crate::forms::{Form, kind_word};
 use hz_line::{Mark, Next, Token, is_keyword, next_token};
 
 /// The statement of a line, if it has one. It takes no memory.
-pub(crate) fn entry_of<'a>(line: u32, text: &'a [u8]) -> Option<Entry<'a>>
+pub(crate) fn statement_of<'a>(line: u32, text: &'a [u8]) -> Option<Line<'a>>
     requires { length text.now < 2 ^ 32 }
     ensures { IsRead line text.now result }
 {
     let head = head_of(text)?;
     match (head.mark, head.next) {
-        (Mark::Open, Mark::Close) => port_entry(line, text, &head),
-        (Mark::Equals, Mark::Open) => gate_entry(line, text, &head),
+        (Mark::Open, Mark::Close) => port(line, text, &head),
+        (Mark::Equals, Mark::Open) => gate(line, text, &head),
         _ => None,
     }
 }
@@ -111,7 +111,8 @@ pub(crate) fn is_bare(line: &[u8]) -> bool
 }
 
 // The input or output `WORD ( NAME )`.
-fn port_entry<'a>(line: u32, text: &'a [u8], head: &Head<'a>) -> Option<Entry<'a>>
+#[tactic(auto, unfolding(crate::specs::Statement::port_form))]
+fn port<'a>(line: u32, text: &'a [u8], head: &Head<'a>) -> Option<Line<'a>>
     requires tokens { tokens_of text.now ≡ head_tokens head.now }
     requires opened { head.now.mark ≡ Mark.Open }
     requires closed { head.now.next ≡ Mark.Close }
@@ -120,19 +121,27 @@ fn port_entry<'a>(line: u32, text: &'a [u8], head: &Head<'a>) -> Option<Entry<'a
     if !is_bare(head.rest) {
         return None;
     }
-    let form = port(head.first)?;
-    Some(Entry {
-        line,
-        form,
-        long: is_long(head.second),
-        name: head.second,
-        sources: &[],
-        pins: 0,
-    })
+    if is_keyword(head.first, b"INPUT") {
+        Some(Line::Node(Entry {
+            line,
+            form: Form::Input,
+            long: is_long(head.second),
+            name: head.second,
+            sources: &[],
+            pins: 0,
+        }))
+    } else if is_keyword(head.first, b"OUTPUT") {
+        Some(Line::Output(OutputLine {
+            line,
+            name: head.second,
+        }))
+    } else {
+        None
+    }
 }
 
 // The gate `NAME = KIND ( NAME , .. NAME )`.
-fn gate_entry<'a>(line: u32, text: &'a [u8], head: &Head<'a>) -> Option<Entry<'a>>
+fn gate<'a>(line: u32, text: &'a [u8], head: &Head<'a>) -> Option<Line<'a>>
     requires tokens { tokens_of text.now ≡ head_tokens head.now }
     requires equals { head.now.mark ≡ Mark.Equals }
     requires opened { head.now.next ≡ Mark.Open }
@@ -140,28 +149,14 @@ fn gate_entry<'a>(line: u32, text: &'a [u8], head: &Head<'a>) -> Option<Entry<'a
     ensures { IsRead line text.now result }
 {
     let names = names(head.rest)?;
-    Some(Entry {
+    Some(Line::Node(Entry {
         line,
         form: Form::Gate(kind_word(head.second)),
         long: names.has_long_after(head.first),
         name: head.first,
         sources: head.rest,
         pins: names.count,
-    })
-}
-
-// Whether a word before a name in parentheses makes it an input or an output.
-#[tactic(auto, unfolding(crate::specs::Statement::port_form))]
-fn port(word: &[u8]) -> Option<Form>
-    ensures { result ≡ port_form word.now }
-{
-    if is_keyword(word, b"INPUT") {
-        Some(Form::Input)
-    } else if is_keyword(word, b"OUTPUT") {
-        Some(Form::Output)
-    } else {
-        None
-    }
+    }))
 }
 
 // What is noted of the one or more names, separated by commas and closed by a parenthesis, that a line has.
@@ -214,8 +209,8 @@ impl NameList {
     }
 }
 
-// Whether a name has more than 255 bytes.
-fn is_long(name: &[u8]) -> bool
+/// Whether a name has more than 255 bytes.
+pub(crate) fn is_long(name: &[u8]) -> bool
     ensures { result ≡ is_long name.now }
 {
     name.len() > 255

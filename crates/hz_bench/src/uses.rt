@@ -39,6 +39,7 @@ pub(crate) fn resolve(
     lines: &Definitions,
 ) -> Result<Uses, BenchFault>
     requires few { length statements.now.nodes.items < 2 ^ 31 }
+    requires inputs { statements.now.notes.inputs ≡ length (input_names (statement_list statements.now.nodes.items)) }
     requires once { twice_fault (numbered_list statements.now.nodes.items) ≡ None }
     requires table { IsTableOf (numbered_list statements.now.nodes.items) lines.now }
     requires names { names_in lines.now ≡ defined_names (statement_list statements.now.nodes.items) }
@@ -48,7 +49,7 @@ pub(crate) fn resolve(
         (λ fault. IsFoundOrMemory (option_map BenchFault.Undefined (undefined_line (numbered_list statements.now.nodes.items) (numbered_outputs statements.now.outputs.items))) fault) }
 {
     let nodes = statements.nodes.as_slice();
-    let Ok(numbers) = number_nodes(alloc, nodes) else {
+    let Ok(numbers) = number_nodes(alloc, nodes, statements.notes.inputs) else {
         return Err(BenchFault::Memory);
     };
     let mut uses = Uses {
@@ -83,9 +84,10 @@ fn earlier(one: Option<u32>, other: Option<u32>) -> Option<u32>
     }
 }
 
-// The number of each node in the order of the text: inputs are numbered before gates.
-fn number_nodes(alloc: Global, nodes: &[Entry]) -> Result<Vec<u32>, Memory>
+// The number of each node in the order of the text: inputs, of which there are so many, are numbered before gates.
+fn number_nodes(alloc: Global, nodes: &[Entry], inputs: u32) -> Result<Vec<u32>, Memory>
     requires few { length nodes.now < 2 ^ 31 }
+    requires inputs { inputs ≡ length (input_names (statement_list nodes.now)) }
     requires once { twice_fault (numbered_list nodes.now) ≡ None }
     ensures { IfOk result (λ numbers. numbers.items ≡ map (number_in (node_names (statement_list nodes.now))) (defined_names (statement_list nodes.now))) }
 {
@@ -93,7 +95,7 @@ fn number_nodes(alloc: Global, nodes: &[Entry]) -> Result<Vec<u32>, Memory>
         return Err(Memory);
     };
     let mut input = 0u32;
-    let mut gate = count_inputs(nodes);
+    let mut gate = inputs;
     for entry in nodes {
         match entry.form {
             Form::Input => {
@@ -112,21 +114,6 @@ fn number_nodes(alloc: Global, nodes: &[Entry]) -> Result<Vec<u32>, Memory>
         }
     }
     Ok(numbers)
-}
-
-// How many of the nodes are inputs.
-fn count_inputs(nodes: &[Entry]) -> u32
-    requires { length nodes.now < 2 ^ 31 }
-    ensures inputs { result ≡ length (input_names (statement_list nodes.now)) }
-    ensures few { result ≤ length nodes.now }
-{
-    let mut inputs = 0u32;
-    for entry in nodes {
-        if let Form::Input = entry.form {
-            inputs += 1;
-        }
-    }
-    inputs
 }
 
 // The nodes that the pins read, or the line of the first gate with a source that the table does not have.

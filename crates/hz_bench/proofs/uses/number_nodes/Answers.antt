@@ -1,15 +1,15 @@
 use Rattle.std.proofs.Common.{◌∙◌, ◌++◌, sym, ap, arith}
 use Rattle.std.proofs.lemmas.List.{at_drop_all, append-nil}
-use Rattle.hz_bench.proofs.NumberLemmas.{forms_of, numbers_from, numbers-known}
+use Rattle.hz_bench.proofs.NumberLemmas.{forms_of, inputs_few, numbers_from, numbers-known}
 use Rattle.hz_bench.proofs.uses.number_nodes.Goals as goal
 
 pub loop-entry-init : goal.loop-entry-init
 loop-entry-init c =
     record {
-      rest = ap (λ numbers. numbers ++ numbers_from 0 c.count_inputs-gate.result (forms_of c.args.nodes.now)) c.in-Ok.ensures.items
-          ∙ ap (λ gate. numbers_from 0 gate (forms_of c.args.nodes.now)) c.count_inputs-gate.ensures.inputs;
+      rest = ap (λ numbers. numbers ++ numbers_from 0 c.args.inputs (forms_of c.args.nodes.now)) c.in-Ok.ensures.items
+          ∙ ap (λ gate. numbers_from 0 gate (forms_of c.args.nodes.now)) c.requires.inputs;
       input = omega arith;
-      gate = omega (arith, c.count_inputs-gate.ensures.few);
+      gate = omega (arith, c.requires.inputs, inputs_few c.args.nodes.now);
     }
 
 pub returns : goal.returns

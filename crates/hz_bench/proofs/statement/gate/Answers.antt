@@ -2,7 +2,7 @@ use Rattle.std.proofs.Common.{◌≡◌, ◌∙◌, ◌||◌, ap, sym, refl, ari
 use Rattle.hz_line.specs.Token.{tokens_of}
 use Rattle.hz_bench.specs.Statement.{is_long, words_in}
 use Rattle.hz_bench.proofs.StatementLemmas.{IsListed-from_noted, gate_meant, head_words, listed-some, words-known}
-use Rattle.hz_bench.proofs.statement.gate_entry.Goals as goal
+use Rattle.hz_bench.proofs.statement.gate.Goals as goal
 
 pub invariant_of-result : goal.invariant_of-result
 invariant_of-result c =
@@ -10,6 +10,7 @@ invariant_of-result c =
     let words = head_words c.args.text.now c.args.head.now c.requires.tokens (listed-some _ list.names list.listed) in
     let known : words_in c.args.head.now.rest.now ≡ list.names = words-known _ list.names list.words in
     record {
+      node = refl;
       worded = words.0;
       sourced = rw known list.words;
       counted = rw known list.count;
