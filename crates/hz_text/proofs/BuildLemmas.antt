@@ -10,7 +10,7 @@ use Rattle.std.proofs.lemmas.List.FromFn.{get_or-map-range_with_len, length-rang
 use Rattle.hz_text.specs.declared.assigned.Assigned.{Assigned}
 use Rattle.hz_text.specs.Assignment.{has_repeat}
 use Rattle.hz_line.specs.Statement.{Numbered}
-use Rattle.hz_text.specs.declared.entry.Entry.{Entry}
+use Rattle.hz_text.specs.declared.script.entry.Entry.{Entry}
 use Rattle.hz_text.specs.Lookup.{Looked, held_by, entered}
 use Rattle.hz_text.specs.ScriptValue.{IsChange, ScriptOf}
 use Rattle.hz_text.specs.ScriptText.{bit_at, bits_at, assignment_to, IsScriptBy, IsScriptOf}

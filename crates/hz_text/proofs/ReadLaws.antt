@@ -14,7 +14,7 @@ use Rattle.std.proofs.lemmas.Option.{none-some, slice_get-get_or}
 use Rattle.hz_core.specs.Netlist.{Netlist, IsCircuit, node_named}
 use Rattle.hz_line.specs.Statement.{Numbered, first_line}
 use Rattle.hz_text.specs.declared.assigned.Assigned.{Assigned}
-use Rattle.hz_text.specs.declared.entry.Entry.{Entry}
+use Rattle.hz_text.specs.declared.script.entry.Entry.{Entry}
 use Rattle.hz_text.specs.declared.keyword.Keyword.{Keyword}
 use Rattle.hz_text.specs.declared.keyword.Keyword.TheVariants.{Start, Change}
 use Rattle.hz_text.specs.declared.fault.TextFault.{TextFault}

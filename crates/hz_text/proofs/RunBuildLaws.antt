@@ -11,9 +11,9 @@ use Rattle.hz_core.specs.Netlist.{Netlist}
 use Rattle.hz_line.specs.Statement.{Numbered, first_line}
 use Rattle.hz_text.specs.declared.assigned.Assigned.{Assigned}
 use Rattle.hz_text.specs.declared.keyword.Keyword.TheVariants as keyword
-use Rattle.hz_text.specs.declared.run_entry.RunEntry.{RunEntry}
-use Rattle.hz_text.specs.declared.run_order.Place.{Place}
-use Rattle.hz_text.specs.declared.run_order.Place.TheVariants as place
+use Rattle.hz_text.specs.declared.run.entry.RunEntry.{RunEntry}
+use Rattle.hz_text.specs.declared.run.order.Place.{Place}
+use Rattle.hz_text.specs.declared.run.order.Place.TheVariants as place
 use Rattle.hz_text.specs.ScriptFault.{is_unknown}
 use Rattle.hz_text.specs.Pass.{AreBelow, least_unassigned, pair_of}
 use Rattle.hz_text.specs.ScriptText.{bit_at, bits_at, assignment_to}

@@ -10,7 +10,7 @@ use Rattle.hz_text.specs.declared.assigned.Assigned.{Assigned}
 use Rattle.hz_text.specs.declared.keyword.Keyword.TheVariants as keyword
 use Rattle.hz_text.specs.declared.fault.TextFault.{TextFault}
 use Rattle.hz_text.specs.declared.fault.TextFault.TheVariants.{Form, Unknown, Twice, Missing, Bit, Order, TooMany}
-use Rattle.hz_text.specs.declared.run_entry.RunEntry.{RunEntry}
+use Rattle.hz_text.specs.declared.run.entry.RunEntry.{RunEntry}
 use Rattle.hz_text.specs.Pass.{least_unassigned, AreBelow, IsAnswer}
 use Rattle.hz_text.specs.RunStatement.{Header, Start, Input, Run, Step, Cycle, End, RunStatement, run_statement_of, run_statements_of}
 use Rattle.hz_text.specs.RunLookup.{LookedRun, run_looked_of, run_looked_up, run_looked_by, run_entered, run_entered_all}

@@ -12,8 +12,8 @@ use Rattle.hz_gmw.specs.Recorded.{flip_count}
 use Rattle.hz_line.specs.Line.{lines_of}
 use Rattle.hz_line.specs.Statement.{Meaning, Nothing, Means, meaning_of, Numbered, with_meaning, numbered_from, first_line, malformed_before, first_malformed}
 use Rattle.hz_text.specs.declared.keyword.Keyword.TheVariants as keyword
-use Rattle.hz_text.specs.declared.run_order.Place.{Place}
-use Rattle.hz_text.specs.declared.run_order.Place.TheVariants as place
+use Rattle.hz_text.specs.declared.run.order.Place.{Place}
+use Rattle.hz_text.specs.declared.run.order.Place.TheVariants as place
 use Rattle.hz_text.specs.Assignment.{has_repeat}
 use Rattle.hz_text.specs.Pass.{nodes_of}
 use Rattle.hz_text.specs.ScriptText.{assignment_to}

@@ -15,8 +15,8 @@ use Rattle.hz_line.specs.Byte.{class_of, is_letter}
 use Rattle.hz_line.specs.Line.{lines_of}
 use Rattle.hz_line.specs.Token.{TokenOf, WordOf, MarkOf, tokens_of, with_token, begins_in_word}
 use Rattle.hz_line.specs.Statement.{Meaning, Nothing, Means, meaning_of, meaning_of_tokens}
-use Rattle.hz_line.proofs.WrittenLemmas.{tokens_of-open, tokens_of-close, tokens_of-space, is_letter-separators, tokens_of-word_before, is_inline, lines_of-written}
-use Rattle.hz_text.specs.declared.run_keyword.RunKeyword.TheVariants as keyword
+use Rattle.hz_line.proofs.WrittenLemmas.{word_bytes, tokens_of-open, tokens_of-close, tokens_of-space, is_letter-separators, tokens_of-word_before, is_inline, lines_of-written}
+use Rattle.hz_text.specs.declared.run.keyword.RunKeyword.TheVariants as keyword
 use Rattle.hz_text.specs.Printed.{assignment_text, statement_text}
 use Rattle.hz_text.specs.ScriptText.{assignment_to}
 use Rattle.hz_text.specs.RunStatement.{Variable, Node, Pin, Header, Start, Input, Run, Step, Cycle, End, with_first, variables_of, is_decimal, run_keyword_of}
@@ -24,7 +24,7 @@ use Rattle.hz_text.specs.RunLookup.{LookedRun, variable_named, run_looked_by}
 use Rattle.hz_text.specs.RunValue.{RunOf, RunTextOf, cycle_steps, all_steps}
 use Rattle.hz_text.specs.RunText.{step_of, cycle_statements, run_statements}
 use Rattle.hz_text.specs.RunPrinted.{wire_word, variable_word, spaced_word, step_text, cycle_text, run_text, all_listed, run_text_printed}
-use Rattle.hz_text.proofs.WordLaws.{AreNodes, name_bytes, no_word, name_at, pair_tokens, pairs_read, pairs_inline, assignments_read}
+use Rattle.hz_text.proofs.WordLaws.{AreNodes, no_word, name_at, pair_tokens, pairs_read, pairs_inline, assignments_read}
 use Rattle.hz_text.proofs.PrintLaws.{node_at, assigned_back}
 use Rattle.hz_text.proofs.DecimalLemmas.{decimal-digits, number_by-decimal, decimal-is_decimal, digits-name}
 use Rattle.hz_text.proofs.VariableWords.{wire_at, variable_word-node, variable_word-wire, wire_is_pin, pin-bound}
@@ -142,7 +142,7 @@ node_written : (netlist : Netlist) (var : ℕ) → IsCircuit netlist → var < l
 node_written netlist var circuit below =
     let name = get_or netlist.names var [] in
     let is = name_at netlist var circuit below in
-    let words = name_bytes name is.bytes in
+    let words = word_bytes name is.bytes in
     record {
       variable = Node name;
       tokens = λ rest later ends read. tokens_of-word_before name rest (omega (arith, is.some)) words.0 ends ∙ ap (with_token (WordOf name)) read;
@@ -164,8 +164,8 @@ pin_written netlist var circuit above below =
     let digits = decimal (pin + 1) in
     let small : pin + 1 < 2 ^ 64 = omega (arith, pin-bound netlist var gate pin circuit at) in
     let is = name_at netlist gate circuit is_gate.1 in
-    let words = name_bytes name is.bytes in
-    let numbers = name_bytes digits (digits-name digits (decimal-digits (pin + 1) small)) in
+    let words = word_bytes name is.bytes in
+    let numbers = word_bytes digits (digits-name digits (decimal-digits (pin + 1) small)) in
     let some : 0 < length digits = decimal_nonempty (pin + 1) small in
     let high : nat_le netlist.inputs gate ≡ true = grind (arith, nat_tests, is_gate) in
     let low : nat_le 1 (pin + 1) ≡ true = grind (arith, nat_tests) in

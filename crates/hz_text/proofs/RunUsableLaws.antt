@@ -15,7 +15,7 @@ use Rattle.hz_net.proofs.Places.{length-network_of, first_wire-bound}
 use Rattle.hz_gmw.specs.Recorded.{flip_count}
 use Rattle.hz_line.specs.Statement.{Numbered}
 use Rattle.hz_line.proofs.WrittenLemmas.{both}
-use Rattle.hz_text.specs.declared.run_entry.RunEntry.{RunEntry}
+use Rattle.hz_text.specs.declared.run.entry.RunEntry.{RunEntry}
 use Rattle.hz_text.specs.ScriptText.{bit_at}
 use Rattle.hz_text.specs.RunStatement.{Variable, Node, Pin, Header, Start, Input, Run, Step, Cycle, End, RunStatement, run_statements_of, number_by}
 use Rattle.hz_text.specs.RunLookup.{LookedRun, wire_into, variable_named, run_looked_of, run_looked_up, run_entered_all}

@@ -1,59 +1,21 @@
 -- The lines of a printed script are read as its statements.
-use Rattle.std.proofs.Common.{◌≡◌, ◌∙◌, ℕ, ◌<◌, Bool, true, false, not, ◌&&◌, ◌||◌, ◌==◌, nat_le, List, [], ◌∷◌, ◌++◌, Some, suc, length, map, codes, refl, ap, arith, append_assoc}
+use Rattle.std.proofs.Common.{◌≡◌, ◌∙◌, ℕ, ◌<◌, Bool, true, false, List, [], ◌∷◌, ◌++◌, Some, suc, length, map, codes, refl, ap, arith, append_assoc}
 use Rattle.std.specs.List.{list_all, flat_map, slice_index_or, All}
 use Rattle.std.specs.Option.{option_map}
-use Rattle.std.proofs.lemmas.Bool.Decides.{nat_tests}
 use Rattle.std.proofs.lemmas.List.Folds.{list_all-append}
 use Rattle.std.proofs.lemmas.List.Elements.{All-head, All-tail}
-use Rattle.hz_core.specs.Netlist.{Netlist, IsName, IsCircuit, is_name_byte}
+use Rattle.hz_core.specs.Netlist.{Netlist, IsName, IsCircuit}
 use Rattle.hz_line.specs.declared.bytes.Mark.TheVariants.{Equals}
 use Rattle.hz_line.specs.Byte.{class_of, is_letter}
 use Rattle.hz_line.specs.Line.{lines_of}
 use Rattle.hz_line.specs.Token.{TokenOf, WordOf, MarkOf, tokens_of, with_token, begins_in_word}
 use Rattle.hz_line.specs.Statement.{meaning_of, Means, numbered_from, with_meaning, first_malformed, malformed_before}
-use Rattle.hz_line.proofs.WrittenLemmas.{tokens_of-equals, tokens_of-space, is_letter-separators, both, tokens_of-word_before, is_inline, lines_of-written}
+use Rattle.hz_line.proofs.WrittenLemmas.{word_bytes, tokens_of-equals, tokens_of-space, is_letter-separators, tokens_of-word_before, is_inline, lines_of-written}
 use Rattle.hz_text.specs.declared.keyword.Keyword.{Keyword}
 use Rattle.hz_text.specs.declared.keyword.Keyword.TheVariants.{Start, Change}
 use Rattle.hz_text.specs.Assignment.{Assignment, assignments_of}
 use Rattle.hz_text.specs.Statement.{Statement, keyword_of, statement_of}
 use Rattle.hz_text.specs.Printed.{letter_of, assignment_text, statement_text}
-
-off : (a : Bool) → not a ≡ true → a ≡ false
-off true h = cc
-off false h = refl
-
-far : (byte at : ℕ) → nat_le 33 byte ≡ true → nat_le at 32 ≡ true → (byte == at) ≡ false
-far byte at h l = grind (arith, nat_tests, h, l)
-
--- a byte of a name is a letter, and ends no line
-pub name_byte : (byte : ℕ) → is_name_byte byte ≡ true → (is_letter byte ≡ true) × (is_inline byte ≡ true)
-unfolding class_of
-name_byte byte h =
-    let parts = both (nat_le 33 byte && nat_le byte 126) _ h in
-    let range = both (nat_le 33 byte) (nat_le byte 126) parts.0 in
-    let a = split_last (byte == 40 || byte == 41 || byte == 44 || byte == 61) (byte == 35) parts.1 in
-    let b = split_last (byte == 40 || byte == 41 || byte == 44) (byte == 61) a.0 in
-    let c = split_last (byte == 40 || byte == 41) (byte == 44) b.0 in
-    let d = split_last (byte == 40) (byte == 41) c.0 in
-    let space = far byte 32 range.0 refl in
-    let tab = far byte 9 range.0 refl in
-    let feed = far byte 10 range.0 refl in
-    let back = far byte 13 range.0 refl in
-    let open_mark = off (byte == 40) d.0 in
-    (rw (space, tab, a.1, open_mark, d.1, c.1, b.1, range.0, range.1) refl, rw (feed, back) refl)
-  where
-    split_last : (a b : Bool) → not (a || b) ≡ true → (not a ≡ true) × (b ≡ false)
-    split_last true b h = cc
-    split_last false true h = cc
-    split_last false false h = (refl, refl)
-
-pub name_bytes : (name : List ℕ) → list_all is_name_byte name ≡ true → (list_all is_letter name ≡ true) × (list_all is_inline name ≡ true)
-name_bytes [] h = (refl, refl)
-name_bytes (byte ∷ name) h =
-    let parts = both (is_name_byte byte) _ h in
-    let this = name_byte byte parts.0 in
-    let rest = name_bytes name parts.1 in
-    (rw (this.0, rest.0) refl, rw (this.1, rest.1) refl)
 
 letter_word : (bit : Bool) → (list_all is_letter (letter_of bit ∷ []) ≡ true) × (is_inline (letter_of bit) ≡ true)
 unfolding class_of
@@ -78,7 +40,7 @@ name_at netlist node whole l = whole.names node [] l
 
 one_assignment : (name : List ℕ) (bit : Bool) (rest : List ℕ) (tokens : List TokenOf) → IsName name → begins_in_word rest ≡ false → tokens_of rest ≡ Some tokens → tokens_of ((32 ∷ name ++ 61 ∷ letter_of bit ∷ []) ++ rest) ≡ Some (WordOf name ∷ MarkOf Equals ∷ WordOf (letter_of bit ∷ []) ∷ tokens)
 one_assignment name bit rest tokens is ends read =
-    let words = name_bytes name is.bytes in
+    let words = word_bytes name is.bytes in
     let letters = letter_word bit in
     tokens_of-space ((name ++ 61 ∷ letter_of bit ∷ []) ++ rest)
     ∙ ap tokens_of (append_assoc name (61 ∷ letter_of bit ∷ []) rest)
@@ -96,7 +58,7 @@ pairs_inline netlist [] whole h = refl
 pairs_inline netlist (pair ∷ pairs) whole h =
     let P : ℕ × Bool → Type 0 = λ pair. pair.0 < length netlist.names in
     let name = slice_index_or netlist.names pair.0 [] in
-    let words = name_bytes name (name_at netlist pair.0 whole (All-head P pair pairs h)).bytes in
+    let words = word_bytes name (name_at netlist pair.0 whole (All-head P pair pairs h)).bytes in
     let first : list_all is_inline (name ++ 61 ∷ letter_of pair.1 ∷ []) ≡ true = rw (list_all-append is_inline name (61 ∷ letter_of pair.1 ∷ []), words.1, (letter_word pair.1).1) refl in
     rw (list_all-append is_inline (name ++ 61 ∷ letter_of pair.1 ∷ []) (flat_map (assignment_text netlist) pairs), first, pairs_inline netlist pairs whole (All-tail P pair pairs h)) refl
 

@@ -8,8 +8,8 @@ use Rattle.hz_text.specs.declared.keyword.Keyword.{Keyword}
 use Rattle.hz_text.specs.declared.assigned.Assigned.{Assigned}
 use Rattle.hz_text.specs.declared.assigned.Unread.{Unread}
 use Rattle.hz_text.specs.declared.assigned.Unread.TheVariants.{Form, Memory}
-use Rattle.hz_text.specs.declared.statement.Held.{Held}
-use Rattle.hz_text.specs.declared.entry.Entry.{Entry}
+use Rattle.hz_text.specs.declared.script.statement.Held.{Held}
+use Rattle.hz_text.specs.declared.script.entry.Entry.{Entry}
 use Rattle.hz_text.specs.Assignment.{Assignment, assignments_of, bit_of}
 use Rattle.hz_text.specs.Statement.{Statement, statement_of}
 

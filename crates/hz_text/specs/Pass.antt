@@ -6,7 +6,7 @@ use Rattle.hz_line.specs.Statement.{Numbered, first_line}
 use Rattle.hz_text.specs.declared.assigned.Assigned.{Assigned}
 use Rattle.hz_text.specs.declared.fault.TextFault.{TextFault}
 use Rattle.hz_text.specs.declared.fault.TextFault.TheVariants.{Form, Unknown, Twice, Missing, Bit, Order, TooMany, Memory}
-use Rattle.hz_text.specs.declared.entry.Entry.{Entry}
+use Rattle.hz_text.specs.declared.script.entry.Entry.{Entry}
 use Rattle.hz_text.specs.Assignment.{has_repeat}
 use Rattle.hz_text.specs.Lookup.{Looked, entered}
 use Rattle.hz_text.specs.ScriptFault.{assigns, is_start, has_unknown, has_no_bit}

@@ -2,8 +2,8 @@
 use Rattle.std.specs.Prelude.{◌≡◌, ℕ, false, nat_eq, List, [], ◌∷◌, ◌++◌, All, Option, Some, None, is_none}
 use Rattle.std.specs.List.{flat_map, list_any}
 use Rattle.hz_text.specs.declared.assigned.Assigned.{Assigned}
-use Rattle.hz_text.specs.declared.run_order.Place.{Place}
-use Rattle.hz_text.specs.declared.run_order.Place.TheVariants.{Between, Lead, Cycle}
+use Rattle.hz_text.specs.declared.run.order.Place.{Place}
+use Rattle.hz_text.specs.declared.run.order.Place.TheVariants.{Between, Lead, Cycle}
 use Rattle.hz_text.specs.Assignment.{has_repeat}
 use Rattle.hz_text.specs.Pass.{IsPair, nodes_of, least_unassigned}
 use Rattle.hz_text.specs.RunLookup.{LookedRun}

@@ -9,8 +9,8 @@ use Rattle.hz_text.specs.declared.assigned.Assigned.{Assigned}
 use Rattle.hz_text.specs.declared.keyword.Keyword.TheVariants as keyword
 use Rattle.hz_text.specs.declared.fault.TextFault.{TextFault}
 use Rattle.hz_text.specs.declared.fault.TextFault.TheVariants as fault
-use Rattle.hz_text.specs.declared.run_order.Place.{Place}
-use Rattle.hz_text.specs.declared.run_order.Place.TheVariants as place
+use Rattle.hz_text.specs.declared.run.order.Place.{Place}
+use Rattle.hz_text.specs.declared.run.order.Place.TheVariants as place
 use Rattle.hz_text.specs.Assignment.{has_repeat}
 use Rattle.hz_text.specs.RunStatement.{StatementOf, Header, Start, Input, Run, Step, Cycle, End, RunStatement, run_statement_of, run_statements_of}
 use Rattle.hz_text.specs.RunLookup.{LookedRun, run_looked_up}

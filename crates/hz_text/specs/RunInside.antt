@@ -1,7 +1,7 @@
 -- What the fields of a run text stand for.
 use Rattle.std.specs.Option.{option_map}
 use Rattle.hz_text.specs.RunValue.{RunOf}
-use Rattle.hz_text.specs.declared.run_text.ToldRun.TheInside.{Inside}
+use Rattle.hz_text.specs.declared.run.text.ToldRun.TheInside.{Inside}
 
 -- the steps of the fields' runs
 abbrev pub told_of : Inside → RunOf

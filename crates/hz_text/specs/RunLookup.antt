@@ -6,10 +6,10 @@ use Rattle.hz_net.specs.Variables.{first_wire}
 use Rattle.hz_line.specs.Statement.{Numbered}
 use Rattle.hz_line.specs.Token.{TokenOf}
 use Rattle.hz_text.specs.declared.assigned.Assigned.{Assigned}
-use Rattle.hz_text.specs.declared.run_keyword.RunKeyword.{RunKeyword}
-use Rattle.hz_text.specs.declared.run_statement.RunHeld.{RunHeld}
-use Rattle.hz_text.specs.declared.run_statement.RunHeld.TheVariants as held
-use Rattle.hz_text.specs.declared.run_entry.RunEntry.{RunEntry}
+use Rattle.hz_text.specs.declared.run.keyword.RunKeyword.{RunKeyword}
+use Rattle.hz_text.specs.declared.run.statement.RunHeld.{RunHeld}
+use Rattle.hz_text.specs.declared.run.statement.RunHeld.TheVariants as held
+use Rattle.hz_text.specs.declared.run.entry.RunEntry.{RunEntry}
 use Rattle.hz_text.specs.Lookup.{assigned_of}
 use Rattle.hz_text.specs.RunStatement.{Variable, Node, Pin, StatementOf, Header, Start, Input, Run, Step, Cycle, End, RunStatement, run_statement_of, run_statement_with, variables_of, number_by}
 
@@ -61,7 +61,7 @@ run_held_by held.Header = Header
 run_held_by (held.Start assigned) = Start assigned.items
 run_held_by (held.Input assigned) = Input assigned.items
 run_held_by held.Run = Run
-run_held_by (held.Step variables) = Step variables.items
+run_held_by (held.Step variables) = Step variables.now
 run_held_by held.Cycle = Cycle
 run_held_by held.End = End
 

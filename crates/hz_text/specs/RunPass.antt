@@ -6,7 +6,7 @@ use Rattle.hz_line.specs.Statement.{Numbered, first_line}
 use Rattle.hz_text.specs.declared.assigned.Assigned.{Assigned}
 use Rattle.hz_text.specs.declared.fault.TextFault.{TextFault}
 use Rattle.hz_text.specs.declared.fault.TextFault.TheVariants.{Unknown, Twice, Missing, Bit, Order, TooMany}
-use Rattle.hz_text.specs.declared.run_entry.RunEntry.{RunEntry}
+use Rattle.hz_text.specs.declared.run.entry.RunEntry.{RunEntry}
 use Rattle.hz_text.specs.Assignment.{has_repeat}
 use Rattle.hz_text.specs.Pass.{nodes_of, least_unassigned, AreBelow}
 use Rattle.hz_text.specs.RunLookup.{LookedRun, run_held_by, run_entered_all}

@@ -7,8 +7,8 @@ use Rattle.hz_line.specs.declared.bytes.Mark.TheVariants.{Open, Close}
 use Rattle.hz_line.specs.Keyword.{is_keyword}
 use Rattle.hz_line.specs.Statement.{Numbered, numbered_statements}
 use Rattle.hz_line.specs.Token.{TokenOf, WordOf, MarkOf}
-use Rattle.hz_text.specs.declared.run_keyword.RunKeyword.{RunKeyword}
-use Rattle.hz_text.specs.declared.run_keyword.RunKeyword.TheVariants as keyword
+use Rattle.hz_text.specs.declared.run.keyword.RunKeyword.{RunKeyword}
+use Rattle.hz_text.specs.declared.run.keyword.RunKeyword.TheVariants as keyword
 use Rattle.hz_text.specs.Assignment.{Assignment, assignments_of}
 
 -- a variable as it is written: a node by its name, or a wire by the name of its gate and the number of its pin

@@ -1,7 +1,7 @@
 -- What the reader of scripts answers.
 use Rattle.std.specs.Prelude.{◌≡◌, ℕ, ◌<◌, ◌≤◌, List, length, All, map}
 use Rattle.hz_core.specs.Netlist.{Netlist}
-use Rattle.hz_text.specs.declared.entry.Entry.{Entry}
+use Rattle.hz_text.specs.declared.script.entry.Entry.{Entry}
 use Rattle.hz_text.specs.declared.fault.TextFault.{TextFault}
 use Rattle.hz_text.specs.Lookup.{held_by, entered}
 use Rattle.hz_text.specs.ScriptFault.{looked_statements, Stands, IsLeastFaultOrMemory, IsFaultless}

@@ -4,10 +4,10 @@ use Rattle.std.specs.List.{list_all}
 use Rattle.hz_core.specs.Netlist.{Netlist}
 use Rattle.hz_line.specs.declared.tokens.Token.{Token}
 use Rattle.hz_line.specs.Token.{WordOf, token_of}
-use Rattle.hz_text.specs.declared.variables.PinAfter.{PinAfter}
-use Rattle.hz_text.specs.declared.variables.PinAfter.TheVariants as pin
-use Rattle.hz_text.specs.declared.variables.First.{First}
-use Rattle.hz_text.specs.declared.variables.First.TheVariants as first
+use Rattle.hz_text.specs.declared.run.variables.PinAfter.{PinAfter}
+use Rattle.hz_text.specs.declared.run.variables.PinAfter.TheVariants as pin
+use Rattle.hz_text.specs.declared.run.variables.First.{First}
+use Rattle.hz_text.specs.declared.run.variables.First.TheVariants as first
 use Rattle.hz_text.specs.RunStatement.{Node, Pin, variables_of, is_digit, with_first}
 use Rattle.hz_text.specs.RunLookup.{variables_by}
 

@@ -3,36 +3,16 @@
 #![tactic(auto)]
 
 mod assigned;
-mod build;
-mod check;
-mod entry;
 mod fault;
 mod keyword;
-mod passes;
-mod print;
-mod read;
-mod run_build;
-mod run_check;
-mod run_entry;
-mod run_keyword;
-mod run_order;
-mod run_passes;
-mod run_print;
-mod run_read;
-mod run_statement;
-mod run_text;
+mod limit;
+mod run;
 mod script;
-mod statement;
-mod variables;
 
-pub use entry::MAX_TEXT;
 pub use fault::TextFault;
-pub use print::print_script;
-pub use read::read_script;
-pub use run_print::print_run;
-pub use run_read::read_run;
-pub use run_text::RunText;
-pub use script::{MAX_CHANGES, Script};
+pub use limit::MAX_TEXT;
+pub use run::{RunText, print_run, read_run};
+pub use script::{MAX_CHANGES, Script, print_script, read_script};
 
 #[cfg(test)]
 mod tests;

@@ -1,13 +1,23 @@
 //! Scripts: a start and changes of inputs.
 
-ghost use Rattle.std.specs.Prelude.{◌≡◌, ◌<◌, ◌≤◌, ◌++◌, ◌∷◌, [], length, replicate, slice_get, slice_index, slice_range, slice_set, Some, None, IfOk, OnOk, OnErr};
+ghost use Rattle.std.specs.Prelude.{◌≡◌, ◌<◌, ◌++◌, ◌∷◌, [], length, replicate, slice_get, slice_set, Some, None, IfOk, OnOk, OnErr};
 ghost use Rattle.hz_text.specs.ScriptValue.{IsChange, IsScript};
-ghost use Rattle.hz_gmw.specs.Parts.{EndsAt};
-ghost use Rattle.hz_gmw.specs.Parts.{parts_from};
 
 use hz_core::Memory;
+use hz_net::part_at;
 use std::alloc::Global;
 use std::marker::Model;
+
+pub(crate) mod build;
+mod check;
+mod entry;
+pub(crate) mod passes;
+pub(crate) mod print;
+mod read;
+mod statement;
+
+pub use print::print_script;
+pub use read::read_script;
 
 /// The most changes of a script.
 pub const MAX_CHANGES: usize = 10_000;
@@ -98,37 +108,6 @@ impl Script {
         ensures change { slice_get self.now.changes number ≡ Some result.now }
         ensures script { IsScript self.now }
     {
-        piece(self.assignments.as_slice(), self.ends.as_slice(), number)
+        part_at(self.assignments.as_slice(), self.ends.as_slice(), number)
     }
-}
-
-// The piece of a list that ends at the end with this number.
-fn piece<'a>(items: &'a [(u32, bool)], ends: &[usize], number: usize) -> &'a [(u32, bool)]
-    requires ends { EndsAt 0 ends.now (length items.now) }
-    requires number { number < length ends.now }
-    ensures { slice_get (parts_from 0 ends.now items.now) number ≡ Some result.now }
-{
-    let from = begin(ends, number);
-    let end = ends[number];
-    part(items, from, end)
-}
-
-// Where the piece with this number begins.
-fn begin(ends: &[usize], number: usize) -> usize
-    requires { number < length ends.now }
-    ensures { result ≡ slice_index (0 ∷ ends.now) number }
-{
-    match number {
-        0 => 0,
-        _ => ends[number - 1],
-    }
-}
-
-// A part of a list.
-fn part(items: &[(u32, bool)], from: usize, end: usize) -> &[(u32, bool)]
-    requires from { from ≤ end }
-    requires end { end ≤ length items.now }
-    ensures { result.now ≡ slice_range items.now from end }
-{
-    &items[from..end]
 }

@@ -1,9 +1,9 @@
 use Rattle.std.proofs.Common.{arith}
-use Rattle.hz_gmw.proofs.PartLemmas.{length-parts_from}
+use Rattle.hz_net.proofs.PartLemmas.{length-parts_from}
 use Rattle.hz_text.proofs.script.Script.change.Goals as goal
 
-pub piece-requires-clause-number : goal.piece-requires-clause-number
-piece-requires-clause-number c =
+pub part_at-requires-clause-number : goal.part_at-requires-clause-number
+part_at-requires-clause-number c =
     let inside = c.self.inside in
     let many = length-parts_from 0 inside.ends.items inside.assignments.items in
     let within = rw (← c.self.view_is) at c.requires in

@@ -1,0 +1,17 @@
+//! Run texts: read from a text and printed.
+
+mod build;
+mod check;
+mod entry;
+mod keyword;
+mod order;
+mod passes;
+mod print;
+mod read;
+mod statement;
+mod text;
+mod variables;
+
+pub use print::print_run;
+pub use read::read_run;
+pub use text::RunText;

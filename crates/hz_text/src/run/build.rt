@@ -1,0 +1,157 @@
+// The run text of statements without a fault.
+
+ghost use Rattle.std.specs.Prelude.{◌≡◌, ◌≤◌, ◌++◌, ◌∷◌, [], length, map, All, Some, None, IsSome, false, is_none, IfOk, OnOk};
+ghost use Rattle.std.specs.List.{flat_map, list_any, range_with_len};
+ghost use Rattle.hz_text.specs.declared.run.order.Place.TheVariants.{Between};
+ghost use Rattle.hz_text.specs.RunStatement.{Run, Step, Cycle, End};
+ghost use Rattle.hz_text.specs.RunLookup.{run_held_by, run_entered_all};
+ghost use Rattle.hz_text.specs.RunFault.{variables_in, place_after, runs_out_of_order};
+ghost use Rattle.hz_text.specs.RunPass.{AssignsBelow, first_run_fault};
+ghost use Rattle.hz_text.specs.RunText.{IsRunTextBy, step_of, run_statements, unnumbered};
+ghost use Rattle.hz_text.specs.RunBuilt.{IsWholeStart, last_place, IsRunAdded};
+ghost use Rattle.hz_text.specs.ScriptText.{bit_at};
+
+use crate::assigned::Assigned;
+use crate::run::entry::RunEntry;
+use crate::run::order::is_end;
+use crate::run::passes::assignments_in;
+use crate::run::statement::RunHeld;
+use crate::run::text::{RunText, ToldRun};
+use crate::script::Script;
+use crate::script::build::{list_all, read_pairs};
+use hz_core::{Circuit, Memory};
+use std::alloc::Global;
+
+// The run text of statements: the header, the start, the input, the runs and the end.
+pub(crate) fn build_runs(
+    alloc: Global,
+    circuit: &Circuit,
+    entries: &[RunEntry],
+) -> Result<RunText, Memory>
+    requires some { 3 ≤ length entries.now }
+    requires below { All (AssignsBelow (length circuit.now.names)) entries.now }
+    requires clear { first_run_fault circuit.now (run_entered_all entries.now) ≡ None }
+    ensures { IfOk result (IsRunTextBy circuit.now (unnumbered (run_entered_all entries.now))) }
+{
+    let [_, start, input, later @ ..] = entries else {
+        unreachable!();
+    };
+    let nodes = read_bits(alloc, assignments_in(&start.held), circuit.nodes())?;
+    let input = read_bits(alloc, assignments_in(&input.held), circuit.inputs())?;
+    let runs = read_runs(alloc, later)?;
+    Ok(RunText::of(nodes, input, runs))
+}
+
+// The bits that assignments give to so many nodes.
+fn read_bits(alloc: Global, all: &[Assigned], nodes: u32) -> Result<Vec<bool>, Memory>
+    requires { IsWholeStart nodes all.now }
+    ensures { IfOk result (λ bits. map Some bits.items ≡ map (bit_at all.now) (range_with_len 0 nodes)) }
+{
+    let mut listed = Script::new(alloc, nodes)?;
+    let mut pairs = Vec::new(alloc);
+    read_pairs(all, &mut pairs)?;
+    list_all(&mut listed, pairs.as_slice());
+    let mut bits = Vec::new(alloc);
+    read_known(listed.start(), &mut bits)?;
+    Ok(bits)
+}
+
+// The runs that statements before the end are.
+fn read_runs(alloc: Global, entries: &[RunEntry]) -> Result<Vec<ToldRun>, Memory>
+    requires ordered { runs_out_of_order Between (run_entered_all entries.now) ≡ None }
+    requires known { All (λ entry. list_any is_none (variables_in (run_held_by entry.held)) ≡ false) entries.now }
+    ensures { IfOk result (λ runs. unnumbered (run_entered_all entries.now) ≡ flat_map run_statements runs.items ++ End ∷ []) }
+{
+    let mut runs = Vec::new(alloc);
+    let mut flips = Vec::new(alloc);
+    for entry in entries {
+        if is_end(&entry.held) {
+            return Ok(runs);
+        }
+        add_statement(alloc, &mut runs, &entry.held, &mut flips)?;
+    }
+    Ok(runs)
+}
+
+// Adds a statement to the runs before it.
+fn add_statement(
+    alloc: Global,
+    runs: &mut Vec<ToldRun>,
+    held: &RunHeld,
+    flips: &mut Vec<u32>,
+) -> Result<(), Memory>
+    requires follows { IsSome (place_after (last_place runs.old.items) (run_held_by held.now)) }
+    requires known { list_any is_none (variables_in (run_held_by held.now)) ≡ false }
+    ensures { OnOk result (IsRunAdded runs.old.items (run_held_by held.now) runs.new.items) }
+{
+    match held {
+        RunHeld::Header => unreachable!(),
+        RunHeld::Start(_) => unreachable!(),
+        RunHeld::Input(_) => unreachable!(),
+        RunHeld::Run => begin_run(alloc, runs),
+        RunHeld::Step(variables) => add_step(runs, variables, flips),
+        RunHeld::Cycle => begin_cycle(alloc, runs),
+        RunHeld::End => unreachable!(),
+    }
+}
+
+// Begins a run.
+fn begin_run(alloc: Global, runs: &mut Vec<ToldRun>) -> Result<(), Memory>
+    ensures { OnOk result (IsRunAdded runs.old.items Run runs.new.items) }
+{
+    let Ok(_) = runs.push(ToldRun::new(alloc)) else {
+        return Err(Memory);
+    };
+    Ok(())
+}
+
+// Adds a step to the last run.
+fn add_step(
+    runs: &mut Vec<ToldRun>,
+    variables: &[Option<u32>],
+    flips: &mut Vec<u32>,
+) -> Result<(), Memory>
+    requires follows { IsSome (place_after (last_place runs.old.items) (Step variables.now)) }
+    requires known { list_any is_none variables.now ≡ false }
+    ensures { OnOk result (IsRunAdded runs.old.items (Step variables.now) runs.new.items) }
+{
+    read_known(variables, flips)?;
+    let last = runs.len() - 1;
+    let run = &mut runs[last];
+    run.push_step(flips.as_slice())
+}
+
+// Begins the cycle of the last run.
+fn begin_cycle(alloc: Global, runs: &mut Vec<ToldRun>) -> Result<(), Memory>
+    requires follows { IsSome (place_after (last_place runs.old.items) Cycle) }
+    ensures { OnOk result (IsRunAdded runs.old.items Cycle runs.new.items) }
+{
+    let last = runs.len() - 1;
+    let run = &mut runs[last];
+    run.begin_cycle(alloc)
+}
+
+// Values that are all there, in place of those that the vector had.
+fn read_known<T: Copy>(values: &[Option<T>], known: &mut Vec<T>) -> Result<(), Memory>
+    requires { All IsSome values.now }
+    ensures { OnOk result (map Some known.new.items ≡ values.now) }
+{
+    known.clear();
+    for value in values {
+        push_known(known, *value)?;
+    }
+    Ok(())
+}
+
+fn push_known<T: Copy>(known: &mut Vec<T>, value: Option<T>) -> Result<(), Memory>
+    requires { IsSome value }
+    ensures { OnOk result (map Some known.new.items ≡ map Some known.old.items ++ value ∷ []) }
+{
+    let Some(value) = value else {
+        unreachable!();
+    };
+    let Ok(_) = known.push(value) else {
+        return Err(Memory);
+    };
+    Ok(())
+}

@@ -1,0 +1,147 @@
+// The order of the statements of a run text.
+
+ghost use Rattle.std.specs.Prelude.{◌≡◌};
+ghost use Rattle.hz_text.specs.declared.run.order.Place.TheVariants.{Between};
+ghost use Rattle.hz_text.specs.RunLookup.{run_held_by, run_entered_all};
+ghost use Rattle.hz_text.specs.RunFault.{is_header, is_start_line, is_input_line, is_end, place_after_step, place_after_cycle, place_after, end_out_of_order, runs_out_of_order, input_out_of_order, start_out_of_order, run_out_of_order};
+
+use crate::run::entry::RunEntry;
+use crate::run::statement::RunHeld;
+
+/// Where one is among the runs of a text: before the first run, in a run's lead, in its cycle.
+#[derive(Clone, Copy, Debug)]
+pub(crate) enum Place {
+    Between,
+    Lead,
+    Cycle,
+}
+
+// The line that breaks the order of a text first. It is 0 where none does and the text stops before its end.
+pub(crate) fn first_out_of_order(entries: &[RunEntry]) -> Option<u32>
+    ensures { result ≡ run_out_of_order (run_entered_all entries.now) }
+{
+    let [first, later @ ..] = entries else {
+        return Some(0);
+    };
+    if is_header(&first.held) {
+        start_out_of_order(later)
+    } else {
+        Some(first.line)
+    }
+}
+
+// The same from the start on.
+fn start_out_of_order(entries: &[RunEntry]) -> Option<u32>
+    ensures { result ≡ start_out_of_order (run_entered_all entries.now) }
+{
+    let [first, later @ ..] = entries else {
+        return Some(0);
+    };
+    if is_start_line(&first.held) {
+        input_out_of_order(later)
+    } else {
+        Some(first.line)
+    }
+}
+
+// The same from the input line on.
+fn input_out_of_order(entries: &[RunEntry]) -> Option<u32>
+    ensures { result ≡ input_out_of_order (run_entered_all entries.now) }
+{
+    let [first, later @ ..] = entries else {
+        return Some(0);
+    };
+    if is_input_line(&first.held) {
+        runs_out_of_order(later)
+    } else {
+        Some(first.line)
+    }
+}
+
+// The same in the runs and the end.
+fn runs_out_of_order(entries: &[RunEntry]) -> Option<u32>
+    ensures { result ≡ runs_out_of_order Between (run_entered_all entries.now) }
+{
+    let mut place = Place::Between;
+    let mut rest = entries;
+    while let [entry, later @ ..] = rest {
+        if is_end(&entry.held) {
+            return end_out_of_order(later);
+        }
+        let Some(next) = place_after(place, &entry.held) else {
+            return Some(entry.line);
+        };
+        place = next;
+        rest = later;
+    }
+    Some(0)
+}
+
+// The same after the end.
+fn end_out_of_order(entries: &[RunEntry]) -> Option<u32>
+    ensures { result ≡ end_out_of_order (run_entered_all entries.now) }
+{
+    let [first, ..] = entries else {
+        return None;
+    };
+    Some(first.line)
+}
+
+// Where one is after a statement among the runs, if it may stand there.
+pub(crate) fn place_after(place: Place, held: &RunHeld) -> Option<Place>
+    ensures { result ≡ place_after place (run_held_by held.now) }
+{
+    match held {
+        RunHeld::Header => None,
+        RunHeld::Start(_) => None,
+        RunHeld::Input(_) => None,
+        RunHeld::Run => Some(Place::Lead),
+        RunHeld::Step(_) => place_after_step(place),
+        RunHeld::Cycle => place_after_cycle(place),
+        RunHeld::End => None,
+    }
+}
+
+fn place_after_step(place: Place) -> Option<Place>
+    ensures { result ≡ place_after_step place }
+{
+    match place {
+        Place::Between => None,
+        Place::Lead => Some(Place::Lead),
+        Place::Cycle => Some(Place::Cycle),
+    }
+}
+
+fn place_after_cycle(place: Place) -> Option<Place>
+    ensures { result ≡ place_after_cycle place }
+{
+    match place {
+        Place::Between => None,
+        Place::Lead => Some(Place::Cycle),
+        Place::Cycle => None,
+    }
+}
+
+fn is_header(held: &RunHeld) -> bool
+    ensures { result ≡ is_header (run_held_by held.now) }
+{
+    matches!(held, RunHeld::Header)
+}
+
+pub(crate) fn is_start_line(held: &RunHeld) -> bool
+    ensures { result ≡ is_start_line (run_held_by held.now) }
+{
+    matches!(held, RunHeld::Start(_))
+}
+
+pub(crate) fn is_input_line(held: &RunHeld) -> bool
+    ensures { result ≡ is_input_line (run_held_by held.now) }
+{
+    matches!(held, RunHeld::Input(_))
+}
+
+pub(crate) fn is_end(held: &RunHeld) -> bool
+    ensures { result ≡ is_end (run_held_by held.now) }
+{
+    matches!(held, RunHeld::End)
+}

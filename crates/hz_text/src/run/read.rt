@@ -1,0 +1,55 @@
+//! Reading run texts.
+
+ghost use Rattle.std.specs.Prelude.{◌≡◌, ◌≤◌, ◌⊎◌, length, None, IfOk, IfErr, OnOk, IsErrOf, MatchResult};
+ghost use Rattle.hz_text.specs.RunFault.{IsLeastRunFault, IsRunFaultless, IsRunRefusal};
+ghost use Rattle.hz_text.specs.RunPass.{IsAcceptedRun};
+ghost use Rattle.hz_text.specs.RunText.{IsRunValue, IsRunTextFor};
+
+use crate::fault::TextFault;
+use crate::run::build::build_runs;
+use crate::run::check::check_runs;
+use crate::run::entry::{RunEntry, read_run_entries};
+use crate::run::text::RunText;
+use bumpalo::Bump;
+use hz_net::Net;
+use std::alloc::Global;
+
+/// Reads a run text, version 1, of a network: the lines `runs 1`, `start` with a bit for each node, `input` with a bit for
+/// each input, runs, and `end`. A run is the line `run`, lines `step` with variables, and at most one line `cycle` with
+/// further steps. A wire is written as its gate and its pin, counted from 1, as in `g(2)`. Keywords may be in any letter
+/// case. That a step's variables are unstable and named once is no matter of the text.
+///
+/// It takes time linear in the text and the circuit.
+pub fn read_run(alloc: Global, net: &Net, text: &[u8]) -> Result<RunText, TextFault>
+    requires { length text.now ≤ 16777216 }
+    ensures value { IfOk result (IsRunValue net.now text.now) }
+    ensures usable { IfOk result (IsRunTextFor net.now) }
+    ensures faultless { OnOk result (IsRunFaultless net.now text.now) }
+    ensures fault { IfErr result (IsRunRefusal net.now text.now) }
+    ensures exact { (fault : TextFault) → IsLeastRunFault net.now text.now fault
+        → IsErrOf result fault ⊎ IsErrOf result TextFault.Memory }
+{
+    let arena = Bump::new(alloc);
+    let entries = read_accepted_runs(alloc, &arena, net, text)?;
+    let Ok(runs) = build_runs(alloc, net.circuit(), entries.as_slice()) else {
+        return Err(TextFault::Memory);
+    };
+    Ok(runs)
+}
+
+// The statements of a text in which no fault stands.
+fn read_accepted_runs<'a>(
+    alloc: Global,
+    arena: &'a Bump,
+    net: &Net,
+    text: &[u8],
+) -> Result<Vec<RunEntry<'a>>, TextFault>
+    requires { length text.now ≤ 16777216 }
+    ensures { MatchResult result
+        (λ entries. IsAcceptedRun net.now text.now entries.items)
+        (λ fault. IsRunRefusal net.now text.now fault) }
+{
+    let entries = read_run_entries(alloc, arena, net, text)?;
+    check_runs(alloc, entries.as_slice(), net.circuit())?;
+    Ok(entries)
+}

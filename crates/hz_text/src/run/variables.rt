@@ -1,0 +1,172 @@
+// The variables of a step, looked up in a network.
+
+ghost use Rattle.std.specs.Prelude.{◌≡◌, ◌≤◌, ◌<◌, ◌∷◌, length, map, Some, None, IsTrue, IfSome, MatchResult, MatchOption};
+ghost use Rattle.std.specs.List.{list_all};
+ghost use Rattle.hz_line.specs.declared.bytes.Mark.TheVariants.{Open};
+ghost use Rattle.hz_line.specs.declared.tokens.Token.TheVariants.{Sign};
+ghost use Rattle.hz_line.specs.Token.{token_of};
+ghost use Rattle.hz_text.specs.Lookup.{IsUnread};
+ghost use Rattle.hz_text.specs.RunStatement.{is_digit, is_decimal, number_by};
+ghost use Rattle.hz_text.specs.RunLookup.{wire_into, variables_by};
+ghost use Rattle.hz_text.specs.VariablesRead.{IsPinAfter, IsFirstVariable};
+
+use crate::assigned::Unread;
+use bumpalo::Bump;
+use hz_line::{Mark, Token};
+use hz_net::Net;
+
+// The most pins of a gate.
+const MAX_PIN: u32 = 256;
+
+// What stands after a name: no pin, what is none, or a pin with this number.
+#[derive(Clone, Copy)]
+enum PinAfter<'a> {
+    Absent,
+    Malformed,
+    Pin(&'a [u8]),
+}
+
+// How many tokens a pin is.
+const PIN_TOKENS: usize = 3;
+
+// What comes first in tokens: what is no variable, or a variable, looked up, of so many tokens.
+#[derive(Clone, Copy)]
+enum First {
+    Malformed,
+    Variable(Option<u32>, usize),
+}
+
+// The variables that tokens are, each looked up. They are gathered in the vector, in place of those that it had, and laid into
+// the arena.
+pub(crate) fn read_variables<'a>(
+    arena: &'a Bump,
+    net: &Net,
+    tokens: &[Token],
+    read: &mut Vec<Option<u32>>,
+) -> Result<&'a [Option<u32>], Unread>
+    ensures { MatchResult result
+        (λ laid. variables_by net.now (map token_of tokens.now) ≡ Some laid.now)
+        (λ why. IsUnread why (variables_by net.now (map token_of tokens.now))) }
+{
+    read.clear();
+    let mut place = 0;
+    while place < tokens.len() {
+        match first_variable(net, &tokens[place..]) {
+            First::Malformed => return Err(Unread::Form),
+            First::Variable(variable, taken) => {
+                let Ok(_) = read.push(variable) else {
+                    return Err(Unread::Memory);
+                };
+                place += taken;
+            }
+        }
+    }
+    let Ok(laid) = arena.try_alloc_slice_copy(read.as_slice()) else {
+        return Err(Unread::Memory);
+    };
+    Ok(laid)
+}
+
+// The first variable, looked up.
+fn first_variable(net: &Net, tokens: &[Token]) -> First
+    requires { 0 < length tokens.now }
+    ensures { IsFirstVariable net.now tokens.now result }
+{
+    let [first, after @ ..] = tokens else {
+        return First::Malformed;
+    };
+    let Token::Word(name) = first else {
+        return First::Malformed;
+    };
+    let node = net.circuit().find(name);
+    match pin_after(after) {
+        PinAfter::Absent => First::Variable(node, 1),
+        PinAfter::Malformed => First::Malformed,
+        PinAfter::Pin(number) => First::Variable(wire_into(net, node, number), 1 + PIN_TOKENS),
+    }
+}
+
+// The pin after a name.
+fn pin_after<'a>(tokens: &[Token<'a>]) -> PinAfter<'a>
+    ensures { IsPinAfter tokens.now result }
+{
+    let [Token::Sign(mark), after @ ..] = tokens else {
+        return PinAfter::Absent;
+    };
+    match mark {
+        Mark::Open => pin_within(after),
+        Mark::Close => PinAfter::Malformed,
+        Mark::Comma => PinAfter::Malformed,
+        Mark::Equals => PinAfter::Malformed,
+    }
+}
+
+// The pin whose opening sign stands before these tokens.
+fn pin_within<'a>(tokens: &[Token<'a>]) -> PinAfter<'a>
+    ensures { IsPinAfter (Sign Open ∷ tokens.now) result }
+{
+    let [Token::Word(number), after @ ..] = tokens else {
+        return PinAfter::Malformed;
+    };
+    let [Token::Sign(mark), ..] = after else {
+        return PinAfter::Malformed;
+    };
+    match mark {
+        Mark::Close if is_decimal(number) => PinAfter::Pin(number),
+        Mark::Close => PinAfter::Malformed,
+        Mark::Open => PinAfter::Malformed,
+        Mark::Comma => PinAfter::Malformed,
+        Mark::Equals => PinAfter::Malformed,
+    }
+}
+
+// Whether the word is a decimal number without leading zero.
+fn is_decimal(word: &[u8]) -> bool
+    ensures { result ≡ is_decimal word.now }
+{
+    let [first, later @ ..] = word else {
+        return false;
+    };
+    are_digits(word) && (*first != b'0' || later.is_empty())
+}
+
+// Whether the word has digits alone.
+fn are_digits(word: &[u8]) -> bool
+    ensures { result ≡ list_all is_digit word.now }
+{
+    word.iter().all(|byte| byte.is_ascii_digit())
+}
+
+// The wire into the pin with this number, counted from 1, of the node, if it is a gate with such a pin.
+fn wire_into(net: &Net, node: Option<u32>, digits: &[u8]) -> Option<u32>
+    requires node { IfSome node (λ node. node < length net.now.names) }
+    requires digits { IsTrue (list_all is_digit digits.now) }
+    ensures { result ≡ wire_into net.now node (number_by digits.now) }
+{
+    let node = node?;
+    if node < net.circuit().inputs() {
+        return None;
+    }
+    let pin = small_number(digits)?;
+    let (first, pins) = net.wires_in(node);
+    if 1 <= pin && pin <= pins {
+        Some(first + (pin - 1))
+    } else {
+        None
+    }
+}
+
+// The number that digits stand for, if it is not above the most pins of a gate.
+fn small_number(digits: &[u8]) -> Option<u32>
+    requires { IsTrue (list_all is_digit digits.now) }
+    ensures { MatchOption result (256 < number_by digits.now) (λ number. number ≡ number_by digits.now) }
+{
+    let mut number = 0;
+    for digit in digits {
+        number = 10 * number + (*digit - b'0') as u32;
+        if number > MAX_PIN {
+            return None;
+        }
+    }
+    Some(number)
+}

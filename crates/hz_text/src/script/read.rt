@@ -1,0 +1,46 @@
+//! Reading scripts.
+
+ghost use Rattle.std.specs.Prelude.{◌≡◌, ◌≤◌, ◌⊎◌, length, IfOk, IfErr, OnOk, IsErrOf, MatchResult};
+ghost use Rattle.hz_text.specs.ScriptFault.{IsLeastFault, IsFaultless};
+ghost use Rattle.hz_text.specs.ScriptReading.{IsAccepted, IsRefusal};
+ghost use Rattle.hz_text.specs.ScriptText.{IsValue, IsScriptFor};
+
+use crate::fault::TextFault;
+use crate::script::Script;
+use crate::script::build::build;
+use crate::script::check::check;
+use crate::script::entry::{Entry, read_entries};
+use hz_core::Circuit;
+use std::alloc::Global;
+
+/// Reads a script of a circuit: a line `start`, then lines `change`, each with assignments `name = bit`. The start lists
+/// every input and may list gates; a change lists inputs. Keywords may be in any letter case.
+///
+/// It takes time linear in the text and the circuit.
+pub fn read_script(alloc: Global, circuit: &Circuit, text: &[u8]) -> Result<Script, TextFault>
+    requires { length text.now ≤ 16777216 }
+    ensures value { IfOk result (IsValue circuit.now text.now) }
+    ensures usable { IfOk result (IsScriptFor circuit.now) }
+    ensures faultless { OnOk result (IsFaultless circuit.now text.now) }
+    ensures fault { IfErr result (IsRefusal circuit.now text.now) }
+    ensures exact { (fault : TextFault) → IsLeastFault circuit.now text.now fault
+        → IsErrOf result fault ⊎ IsErrOf result TextFault.Memory }
+{
+    let entries = read_accepted(alloc, circuit, text)?;
+    let Ok(script) = build(alloc, circuit.nodes(), entries.as_slice()) else {
+        return Err(TextFault::Memory);
+    };
+    Ok(script)
+}
+
+// The statements of a text in which no fault stands.
+fn read_accepted(alloc: Global, circuit: &Circuit, text: &[u8]) -> Result<Vec<Entry>, TextFault>
+    requires { length text.now ≤ 16777216 }
+    ensures { MatchResult result
+        (λ entries. IsAccepted circuit.now text.now entries.items)
+        (λ fault. IsRefusal circuit.now text.now fault) }
+{
+    let entries = read_entries(alloc, circuit, text)?;
+    check(alloc, entries.as_slice(), circuit.inputs(), circuit.nodes())?;
+    Ok(entries)
+}
