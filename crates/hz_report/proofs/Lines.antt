@@ -13,7 +13,7 @@ use Rattle.hz_write.proofs.Writing.{Waits-append, Stops-waiting, Waits-more, Sto
 use Rattle.hz_text.specs.Printed.{letter_of, assignment_text, statement_text, listed_from}
 use Rattle.hz_text.specs.RunPrinted.{all_listed, run_text, run_text_printed}
 use Rattle.hz_report.specs.Words.{bit_letter}
-use Rattle.hz_report.proofs.Names.{node_named}
+use Rattle.hz_report.proofs.Names.{node_name-there}
 use Rattle.hz_report.specs.Report.{nodes_of, netlist_line, runs_text}
 
 -- a piece in front of others
@@ -42,7 +42,7 @@ pub assignment-pieces :
     (netlist : Netlist) (node : ℕ) (name : List ℕ) (bit : Bool) → slice_get netlist.names node ≡ Some name →
     joined (codes " " ∷ name ∷ []) ++ joined (codes "=" ∷ bit_letter bit ∷ []) ≡ assignment_text netlist (node, bit)
 assignment-pieces netlist node name bit named =
-    assigned_pieces name bit ∙ ap (λ (text : List ℕ). 32 ∷ (text ++ (61 ∷ letter_of bit ∷ []))) (sym (node_named netlist node name named))
+    assigned_pieces name bit ∙ ap (λ (text : List ℕ). 32 ∷ (text ++ (61 ∷ letter_of bit ∷ []))) (sym (node_name-there netlist node name named))
 
 -- bits that are listed from a number on
 length-listed_from : (from : ℕ) (bits : List Bool) → length (listed_from from (map Some bits)) ≡ length bits

@@ -169,8 +169,8 @@ wire_goes_into netlist var gate pin source circuit seen =
     (omega (arith, into.0), omega (arith, into.1))
 
 -- a node's name among the names of all nodes
-pub node_named : (netlist : Netlist) (node : ℕ) (name : List ℕ) → slice_get netlist.names node ≡ Some name → node_name netlist node ≡ name
-node_named netlist node name there = get_or_from_slice_get netlist.names node name [] there
+pub node_name-there : (netlist : Netlist) (node : ℕ) (name : List ℕ) → slice_get netlist.names node ≡ Some name → node_name netlist node ≡ name
+node_name-there netlist node name there = get_or_from_slice_get netlist.names node name [] there
 
 -- the word of a node
 pub variable_word-node :
@@ -178,7 +178,7 @@ pub variable_word-node :
 unfolding variable_word
 variable_word-node netlist node name there =
     get_or_append_left netlist.names (map (wire_word netlist) (wires_of netlist)) [] node (slice_get_within netlist.names node name there)
-    ∙ node_named netlist node name there
+    ∙ node_name-there netlist node name there
 
 -- the word of a wire, in pieces
 wire_pieces : (name digits : List ℕ) → (name ++ (40 ∷ digits)) ++ (41 ∷ []) ≡ joined (name ∷ codes "(" ∷ digits ∷ codes ")" ∷ [])
@@ -204,4 +204,4 @@ variable_word-wire netlist var gate pin source name circuit seen named =
     ∙ wire_pieces (node_name netlist wire.gate) (decimal (wire.pin + 1))
     ∙ ap (λ (number : ℕ). joined (node_name netlist number ∷ codes "(" ∷ decimal (wire.pin + 1) ∷ codes ")" ∷ [])) same_gate
     ∙ ap (λ (number : ℕ). joined (node_name netlist gate ∷ codes "(" ∷ decimal (number + 1) ∷ codes ")" ∷ [])) same_pin
-    ∙ ap (λ (text : List ℕ). joined (text ∷ codes "(" ∷ decimal (pin + 1) ∷ codes ")" ∷ [])) (node_named netlist gate name named)
+    ∙ ap (λ (text : List ℕ). joined (text ∷ codes "(" ∷ decimal (pin + 1) ∷ codes ")" ∷ [])) (node_name-there netlist gate name named)

@@ -19,9 +19,7 @@ use Rattle.hz_bench.specs.declared.fault.BenchFault.TheVariants as bench
 use Rattle.hz_bench.specs.Fault as netlist_fault
 use Rattle.hz_text.specs.declared.fault.TextFault.{TextFault}
 use Rattle.hz_text.specs.declared.fault.TextFault.TheVariants as reading
-use Rattle.hz_text.specs.ScriptFault.{IsLeastFault}
-use Rattle.hz_text.specs.ScriptReading.{IsRefusal}
-use Rattle.hz_text.specs.RunFault.{IsLeastRunFault, IsRunRefusal}
+use Rattle.hz_text.specs.ScriptFault.{IsLeastFaultOf, IsLeastFaultOrMemory}
 use Rattle.hz_top.specs.declared.order.SecondText.{SecondText}
 use Rattle.hz_top.specs.declared.status.Status.{Status}
 use Rattle.hz_top.specs.declared.status.Status.TheVariants as status
@@ -93,24 +91,13 @@ netlist-refused text (bench.Undefined line) least other = least
 netlist-refused text (bench.TooMany variables) least other = least
 netlist-refused text bench.Memory least other = absurd (other refl)
 
--- a refusal of a script that is not for want of memory is the least fault of its text
-pub script-refused : (netlist : Netlist) (text : List ℕ) (fault : TextFault) → IsRefusal netlist text fault → fault ≢ reading.Memory → IsLeastFault netlist text fault
-script-refused netlist text (reading.Form line) least other = least
-script-refused netlist text (reading.Unknown line) least other = least
-script-refused netlist text (reading.Twice line) least other = least
-script-refused netlist text (reading.Missing node) least other = least
-script-refused netlist text (reading.Bit line) least other = least
-script-refused netlist text (reading.Order line) least other = least
-script-refused netlist text (reading.TooMany line) least other = least
-script-refused netlist text reading.Memory least other = absurd (other refl)
-
--- a refusal of a run text that is not for want of memory is the least fault of its text
-pub runs-refused : (netlist : Netlist) (text : List ℕ) (fault : TextFault) → IsRunRefusal netlist text fault → fault ≢ reading.Memory → IsLeastRunFault netlist text fault
-runs-refused netlist text (reading.Form line) least other = least
-runs-refused netlist text (reading.Unknown line) least other = least
-runs-refused netlist text (reading.Twice line) least other = least
-runs-refused netlist text (reading.Missing node) least other = least
-runs-refused netlist text (reading.Bit line) least other = least
-runs-refused netlist text (reading.Order line) least other = least
-runs-refused netlist text (reading.TooMany line) least other = least
-runs-refused netlist text reading.Memory least other = absurd (other refl)
+-- a refusal of a text that is not for want of memory is the least of the faults that hold
+pub text-refused : (holds : TextFault → Type 0) (fault : TextFault) → IsLeastFaultOrMemory holds fault → fault ≢ reading.Memory → IsLeastFaultOf holds fault
+text-refused holds (reading.Form line) least other = least
+text-refused holds (reading.Unknown line) least other = least
+text-refused holds (reading.Twice line) least other = least
+text-refused holds (reading.Missing node) least other = least
+text-refused holds (reading.Bit line) least other = least
+text-refused holds (reading.Order line) least other = least
+text-refused holds (reading.TooMany line) least other = least
+text-refused holds reading.Memory least other = absurd (other refl)

@@ -4,6 +4,7 @@ pub mod Comings
 pub mod Steps
 pub mod RunSteps
 pub mod Refusals
+pub mod NamedNodes
 pub mod NamedVariables
 pub mod Decided
 pub mod Lines

@@ -28,7 +28,7 @@ use Rattle.hz_top.specs.Verdict.{ReplayComes}
 use Rattle.hz_top.specs.Job.{JobOf, Analyse, Replay}
 use Rattle.hz_top.specs.declared.order.SecondText.{SecondText}
 use Rattle.hz_top.specs.declared.order.SecondText.TheVariants.{Script, Runs}
-use Rattle.hz_top.specs.Refusal.{words_line, unread_line, long_line, netlist_line, text_line, sequence_line, open_line, unstable_line}
+use Rattle.hz_top.specs.Refusal.{words_line, unread_line, long_line, netlist_fault_line, text_fault_line, sequence_line, open_line, unstable_line}
 
 -- the most bytes of a file
 abbrev pub most_bytes : ℕ
@@ -51,13 +51,13 @@ ScriptComes netlist script own text =
 -- what the text of a script comes to, on a circuit
 abbrev pub ScriptTextComes : Netlist → List ℕ → Status → List ℕ → Type 0
 ScriptTextComes netlist bytes own text =
-    ((fault : TextFault) × script.IsLeastFault netlist bytes fault × Says status.Text (text_line (codes "script") netlist fault) own text)
+    ((fault : TextFault) × script.IsLeastFault netlist bytes fault × Says status.Text (text_fault_line (codes "script") netlist fault) own text)
     ⊎ ((value : ScriptOf) × script.IsFaultless netlist bytes × IsValue netlist bytes value × ScriptComes netlist value own text)
 
 -- what a run text comes to, on a circuit
 abbrev pub RunTextComes : Netlist → List ℕ → Status → List ℕ → Type 0
 RunTextComes netlist bytes own text =
-    ((fault : TextFault) × IsLeastRunFault netlist bytes fault × Says status.Text (text_line (codes "runs") netlist fault) own text)
+    ((fault : TextFault) × IsLeastRunFault netlist bytes fault × Says status.Text (text_fault_line (codes "runs") netlist fault) own text)
     ⊎ ((value : RunTextOf) × IsRunFaultless netlist bytes × IsRunValue netlist bytes value × ReplayComes netlist value own text)
 
 -- what the second text comes to, by what it is
@@ -94,11 +94,11 @@ LoadSays place load.Memory own text = ⊥
 
 -- what is written of a fault of a netlist's text: for want of memory nothing
 abbrev pub NetlistSays : BenchFault → Status → List ℕ → Type 0
-NetlistSays fault own text = (fault ≢ bench.Memory) × Says status.Netlist (netlist_line fault) own text
+NetlistSays fault own text = (fault ≢ bench.Memory) × Says status.Netlist (netlist_fault_line fault) own text
 
 -- what is written of a fault of a text that is called so: for want of memory nothing
 abbrev pub TextSays : List ℕ → Netlist → TextFault → Status → List ℕ → Type 0
-TextSays called netlist fault own text = (fault ≢ reading.Memory) × Says status.Text (text_line called netlist fault) own text
+TextSays called netlist fault own text = (fault ≢ reading.Memory) × Says status.Text (text_fault_line called netlist fault) own text
 
 -- the bytes are those of the file, where they are told, and not too many
 abbrev pub IsFile : Told → List ℕ → List ℕ → Type 0
@@ -113,7 +113,7 @@ SecondComes told second_is netlist name own text =
 -- what the first text comes to, and then the second file
 abbrev pub FirstTextComes : Told → SecondText → List ℕ → List ℕ → Status → List ℕ → Type 0
 FirstTextComes told second_is bytes second own text =
-    ((fault : BenchFault) × IsLeastFault bytes fault × Says status.Netlist (netlist_line fault) own text)
+    ((fault : BenchFault) × IsLeastFault bytes fault × Says status.Netlist (netlist_fault_line fault) own text)
     ⊎ (IsFaultless bytes × SecondComes told second_is (netlist_of (statements_of bytes)) second own text)
 
 -- what the two files come to

@@ -1,5 +1,5 @@
 -- The lines of refusals.
-use Rattle.std.specs.Prelude.{ℕ, List, [], ◌∷◌, codes, decimal}
+use Rattle.std.specs.Prelude.{ℕ, ◌<◌, List, [], ◌∷◌, length, codes, decimal, Option, Some, None, IfSome}
 use Rattle.hz_outside.specs.declared.fault.Place.{Place}
 use Rattle.hz_outside.specs.declared.fault.Place.TheVariants.{First, Second}
 use Rattle.hz_write.specs.Writes.{line_of}
@@ -27,9 +27,9 @@ unread_line place = line_of (codes "refused: " ∷ place_word place ∷ codes " 
 unfoldable pub long_line : Place → List ℕ
 long_line place = line_of (codes "refused: " ∷ place_word place ∷ codes " file too long" ∷ [])
 
--- a fault at a line of a text
+-- a fault at a line of a text, by what the text is called
 unfoldable pub fault_line : List ℕ → ℕ → List ℕ → List ℕ
-fault_line text line fault = line_of (codes "refused: " ∷ text ∷ codes " line " ∷ decimal line ∷ fault ∷ [])
+fault_line called line fault = line_of (codes "refused: " ∷ called ∷ codes " line " ∷ decimal line ∷ fault ∷ [])
 
 -- a fault at a line of a netlist, with a number
 unfoldable pub counted_line : ℕ → List ℕ → ℕ → List ℕ
@@ -42,31 +42,46 @@ variables_line variables = line_of (codes "refused: netlist: variables " ∷ dec
 
 -- a node for which a text has no value
 unfoldable pub missing_line : List ℕ → Netlist → ℕ → List ℕ
-missing_line text netlist node =
-    line_of (codes "refused: " ∷ text ∷ codes ": no value for " ∷ node_name netlist node ∷ [])
+missing_line called netlist node =
+    line_of (codes "refused: " ∷ called ∷ codes ": no value for " ∷ node_name netlist node ∷ [])
 
 -- a fault of a netlist's text; for want of memory there is no line
-abbrev pub netlist_line : BenchFault → List ℕ
-netlist_line (bench.Form line) = fault_line (codes "netlist") line (codes ": form")
-netlist_line (bench.Name line) = fault_line (codes "netlist") line (codes ": name too long")
-netlist_line (bench.KindUnknown line) = fault_line (codes "netlist") line (codes ": unknown kind")
-netlist_line (bench.Clocked line) = fault_line (codes "netlist") line (codes ": clocked")
-netlist_line (bench.Twice line first) = counted_line line (codes ": defined twice, first on line ") first
-netlist_line (bench.Pins line count) = counted_line line (codes ": pins ") count
-netlist_line (bench.Undefined line) = fault_line (codes "netlist") line (codes ": undefined name")
-netlist_line (bench.TooMany variables) = variables_line variables
-netlist_line bench.Memory = []
+abbrev pub netlist_fault_line : BenchFault → List ℕ
+netlist_fault_line (bench.Form line) = fault_line (codes "netlist") line (codes ": form")
+netlist_fault_line (bench.Name line) = fault_line (codes "netlist") line (codes ": name too long")
+netlist_fault_line (bench.KindUnknown line) = fault_line (codes "netlist") line (codes ": unknown kind")
+netlist_fault_line (bench.Clocked line) = fault_line (codes "netlist") line (codes ": clocked")
+netlist_fault_line (bench.Twice line first) = counted_line line (codes ": defined twice, first on line ") first
+netlist_fault_line (bench.Pins line count) = counted_line line (codes ": pins ") count
+netlist_fault_line (bench.Undefined line) = fault_line (codes "netlist") line (codes ": undefined name")
+netlist_fault_line (bench.TooMany variables) = variables_line variables
+netlist_fault_line bench.Memory = []
 
 -- a fault of a text that is called so, on a circuit; for want of memory there is no line
-abbrev pub text_line : List ℕ → Netlist → TextFault → List ℕ
-text_line text netlist (fault.Form line) = fault_line text line (codes ": form")
-text_line text netlist (fault.Unknown line) = fault_line text line (codes ": unknown name")
-text_line text netlist (fault.Twice line) = fault_line text line (codes ": assigned twice")
-text_line text netlist (fault.Missing node) = missing_line text netlist node
-text_line text netlist (fault.Bit line) = fault_line text line (codes ": bit")
-text_line text netlist (fault.Order line) = fault_line text line (codes ": order")
-text_line text netlist (fault.TooMany line) = fault_line text line (codes ": too many")
-text_line text netlist fault.Memory = []
+abbrev pub text_fault_line : List ℕ → Netlist → TextFault → List ℕ
+text_fault_line called netlist (fault.Form line) = fault_line called line (codes ": form")
+text_fault_line called netlist (fault.Unknown line) = fault_line called line (codes ": unknown name")
+text_fault_line called netlist (fault.Twice line) = fault_line called line (codes ": assigned twice")
+text_fault_line called netlist (fault.Missing node) = missing_line called netlist node
+text_fault_line called netlist (fault.Bit line) = fault_line called line (codes ": bit")
+text_fault_line called netlist (fault.Order line) = fault_line called line (codes ": order")
+text_fault_line called netlist (fault.TooMany line) = fault_line called line (codes ": too many")
+text_fault_line called netlist fault.Memory = []
+
+-- the node that a fault of a text names, if it names one
+abbrev pub named_node : TextFault → Option ℕ
+named_node (fault.Form line) = None
+named_node (fault.Unknown line) = None
+named_node (fault.Twice line) = None
+named_node (fault.Missing node) = Some node
+named_node (fault.Bit line) = None
+named_node (fault.Order line) = None
+named_node (fault.TooMany line) = None
+named_node fault.Memory = None
+
+-- what is named, if anything is, is a node of the circuit
+abbrev pub NamesNode : Netlist → Option ℕ → Type 0
+NamesNode netlist named = IfSome named (λ node. node < length netlist.names)
 
 -- a script with more than one change, until sequences of changes are analysed
 unfoldable pub sequence_line : List ℕ

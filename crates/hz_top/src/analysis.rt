@@ -1,4 +1,4 @@
-//! The job `analyse`: the text of a script, its start, and what its changes may do.
+//! The job `analyse`: the text of a script, and its start.
 ghost use Rattle.std.specs.Prelude.{◌≡◌, ◌≤◌, length};
 ghost use Rattle.hz_core.specs.Netlist.{IsCircuit};
 ghost use Rattle.hz_text.specs.ScriptText.{IsScriptFor};
@@ -19,9 +19,10 @@ pub(crate) fn analyse_text<K: Sink>(alloc: Global, net: &Net, text: &[u8], out: 
     requires { length text.now ≤ most_bytes }
     ensures { Answers K.written K.faults (ScriptTextComes net.now text.now) out.old out.new result }
 {
-    match read_script(alloc, net.circuit(), text) {
+    let circuit = net.circuit();
+    match read_script(alloc, circuit, text) {
         Ok(script) => analyse_script(alloc, net, &script, out),
-        Err(fault) => refuse_text(out, b"script", net, fault),
+        Err(fault) => refuse_text(out, b"script", circuit, fault),
     }
 }
 
@@ -36,9 +37,11 @@ fn analyse_script<K: Sink>(alloc: Global, net: &Net, script: &Script, out: &mut 
     }
     match complete(alloc, net, script.start()) {
         Ok(start) => report(alloc, net, script, start.as_slice(), out),
-        Err(StartFault::Open { gate }) => status_after(put_open(out, net, gate), Status::Start),
+        Err(StartFault::Open { gate }) => {
+            status_after(put_open(out, net.circuit(), gate), Status::Start)
+        }
         Err(StartFault::Unstable { gate }) => {
-            status_after(put_unstable(out, net, gate), Status::Start)
+            status_after(put_unstable(out, net.circuit(), gate), Status::Start)
         }
         Err(StartFault::Memory) => Status::Memory,
     }

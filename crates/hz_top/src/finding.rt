@@ -72,8 +72,8 @@ fn find_reached(alloc: Global, net: &Net, start: &[bool], input: &[bool]) -> Res
     let variables = net.len() as usize;
     let mut scratch = Scratch::new(alloc, net)?;
     let mut run = Run::with_room(alloc, variables, variables)?;
-    let mut a = unknown(alloc, variables)?;
-    let mut work = unknown(alloc, variables)?;
+    let mut a = all_unknown(alloc, variables)?;
+    let mut work = all_unknown(alloc, variables)?;
     let Ok(mut ranks) = vec![in alloc; 0u32; variables] else {
         return Err(Memory);
     };
@@ -138,8 +138,8 @@ fn find_lasting(alloc: Global, net: &Net, input: &[bool], a: &[Tri]) -> Result<L
     ensures bound { IfOk result (λ found. found.rounds ≤ length (network_of net.now) + 1) }
 {
     let variables = net.len() as usize;
-    let mut b = unknown(alloc, variables)?;
-    let mut work = unknown(alloc, variables)?;
+    let mut b = all_unknown(alloc, variables)?;
+    let mut work = all_unknown(alloc, variables)?;
     let Ok(mut when) = vec![in alloc; 0u32; variables] else {
         return Err(Memory);
     };
@@ -171,7 +171,7 @@ fn settle_from(
 }
 
 // As many values, all X.
-fn unknown(alloc: Global, variables: usize) -> Result<Vec<Tri>, Memory>
+fn all_unknown(alloc: Global, variables: usize) -> Result<Vec<Tri>, Memory>
     ensures { IfOk result (λ values. length values.items ≡ variables) }
 {
     let Ok(values) = vec![in alloc; Tri::Unknown; variables] else {

@@ -1,14 +1,13 @@
 //! Refusals: their lines and their statuses.
-ghost use Rattle.std.specs.Prelude.{◌≡◌};
+ghost use Rattle.std.specs.Prelude.{◌≡◌, ◌<◌, length};
 ghost use Rattle.hz_write.specs.Writes.{Wrote};
-ghost use Rattle.hz_report.specs.Words.{node_name};
 ghost use Rattle.hz_top.specs.Answer.{Answers};
 ghost use Rattle.hz_top.specs.Outcome.{LoadSays, NetlistSays, TextSays};
-ghost use Rattle.hz_top.specs.Refusal.{words_line, unread_line, long_line, place_word, fault_line, counted_line, variables_line, missing_line, netlist_line, text_line, sequence_line, open_line, unstable_line};
+ghost use Rattle.hz_top.specs.Refusal.{words_line, unread_line, long_line, place_word, fault_line, counted_line, variables_line, missing_line, netlist_fault_line, text_fault_line, named_node, NamesNode, sequence_line, open_line, unstable_line};
 
 use crate::status::{Status, status_after};
 use hz_bench::BenchFault;
-use hz_net::Net;
+use hz_core::Circuit;
 use hz_outside::{LoadFault, Place, PutFault, Sink};
 use hz_text::TextFault;
 use hz_write::put_line;
@@ -51,14 +50,14 @@ fn put_long<K: Sink>(out: &mut K, place: Place) -> Result<(), PutFault>
     put_line(out, &[b"refused: ", place_word(place), b" file too long"])
 }
 
-// A fault at a line of a text.
+// A fault at a line of a text, by what the text is called.
 #[tactic(auto, unfolding(crate::specs::Refusal::fault_line))]
-fn put_at<K: Sink>(out: &mut K, text: &[u8], line: u32, fault: &[u8]) -> Result<(), PutFault>
-    ensures { Wrote K.written K.faults (fault_line text.now line fault.now) out.old out.new result }
+fn put_at<K: Sink>(out: &mut K, called: &[u8], line: u32, fault: &[u8]) -> Result<(), PutFault>
+    ensures { Wrote K.written K.faults (fault_line called.now line fault.now) out.old out.new result }
 {
     let mut of_line = Buffer::new();
     let line = of_line.format(line).as_bytes();
-    put_line(out, &[b"refused: ", text, b" line ", line, fault])
+    put_line(out, &[b"refused: ", called, b" line ", line, fault])
 }
 
 // A fault at a line of a netlist, with a number.
@@ -85,7 +84,7 @@ fn put_variables<K: Sink>(out: &mut K, variables: u32) -> Result<(), PutFault>
 
 // A fault of a netlist's text. For want of memory there is no line.
 fn put_netlist_fault<K: Sink>(out: &mut K, fault: BenchFault) -> Result<(), PutFault>
-    ensures { Wrote K.written K.faults (netlist_line fault) out.old out.new result }
+    ensures { Wrote K.written K.faults (netlist_fault_line fault) out.old out.new result }
 {
     match fault {
         BenchFault::Form { line } => put_at(out, b"netlist", line, b": form"),
@@ -102,46 +101,41 @@ fn put_netlist_fault<K: Sink>(out: &mut K, fault: BenchFault) -> Result<(), PutF
     }
 }
 
-// The name of a node; of no node the empty name.
-fn node_name(net: &Net, node: u32) -> &[u8]
-    ensures { result.now ≡ node_name net.now node }
-{
-    let circuit = net.circuit();
-    if node < circuit.nodes() {
-        circuit.name(node)
-    } else {
-        b""
-    }
-}
-
 // A node for which a text has no value.
 #[tactic(auto, unfolding(crate::specs::Refusal::missing_line))]
-fn put_missing<K: Sink>(out: &mut K, text: &[u8], net: &Net, node: u32) -> Result<(), PutFault>
-    ensures { Wrote K.written K.faults (missing_line text.now net.now node) out.old out.new result }
+fn put_missing<K: Sink>(
+    out: &mut K,
+    called: &[u8],
+    circuit: &Circuit,
+    node: u32,
+) -> Result<(), PutFault>
+    requires { node < length circuit.now.names }
+    ensures { Wrote K.written K.faults (missing_line called.now circuit.now node) out.old out.new result }
 {
     put_line(
         out,
-        &[b"refused: ", text, b": no value for ", node_name(net, node)],
+        &[b"refused: ", called, b": no value for ", circuit.name(node)],
     )
 }
 
 // A fault of a text that is called so. For want of memory there is no line.
 fn put_text_fault<K: Sink>(
     out: &mut K,
-    text: &[u8],
-    net: &Net,
+    called: &[u8],
+    circuit: &Circuit,
     fault: TextFault,
 ) -> Result<(), PutFault>
-    ensures { Wrote K.written K.faults (text_line text.now net.now fault) out.old out.new result }
+    requires { NamesNode circuit.now (named_node fault) }
+    ensures { Wrote K.written K.faults (text_fault_line called.now circuit.now fault) out.old out.new result }
 {
     match fault {
-        TextFault::Form { line } => put_at(out, text, line, b": form"),
-        TextFault::Unknown { line } => put_at(out, text, line, b": unknown name"),
-        TextFault::Twice { line } => put_at(out, text, line, b": assigned twice"),
-        TextFault::Missing { node } => put_missing(out, text, net, node),
-        TextFault::Bit { line } => put_at(out, text, line, b": bit"),
-        TextFault::Order { line } => put_at(out, text, line, b": order"),
-        TextFault::TooMany { line } => put_at(out, text, line, b": too many"),
+        TextFault::Form { line } => put_at(out, called, line, b": form"),
+        TextFault::Unknown { line } => put_at(out, called, line, b": unknown name"),
+        TextFault::Twice { line } => put_at(out, called, line, b": assigned twice"),
+        TextFault::Missing { node } => put_missing(out, called, circuit, node),
+        TextFault::Bit { line } => put_at(out, called, line, b": bit"),
+        TextFault::Order { line } => put_at(out, called, line, b": order"),
+        TextFault::TooMany { line } => put_at(out, called, line, b": too many"),
         TextFault::Memory => Ok(()),
     }
 }
@@ -156,18 +150,24 @@ pub(crate) fn put_sequence<K: Sink>(out: &mut K) -> Result<(), PutFault>
 
 // A gate that the start leaves open.
 #[tactic(auto, unfolding(crate::specs::Refusal::open_line))]
-pub(crate) fn put_open<K: Sink>(out: &mut K, net: &Net, gate: u32) -> Result<(), PutFault>
-    ensures { Wrote K.written K.faults (open_line net.now gate) out.old out.new result }
+pub(crate) fn put_open<K: Sink>(out: &mut K, circuit: &Circuit, gate: u32) -> Result<(), PutFault>
+    requires { gate < length circuit.now.names }
+    ensures { Wrote K.written K.faults (open_line circuit.now gate) out.old out.new result }
 {
-    put_line(out, &[b"refused: start: open ", node_name(net, gate)])
+    put_line(out, &[b"refused: start: open ", circuit.name(gate)])
 }
 
 // A gate that is unstable at the start.
 #[tactic(auto, unfolding(crate::specs::Refusal::unstable_line))]
-pub(crate) fn put_unstable<K: Sink>(out: &mut K, net: &Net, gate: u32) -> Result<(), PutFault>
-    ensures { Wrote K.written K.faults (unstable_line net.now gate) out.old out.new result }
+pub(crate) fn put_unstable<K: Sink>(
+    out: &mut K,
+    circuit: &Circuit,
+    gate: u32,
+) -> Result<(), PutFault>
+    requires { gate < length circuit.now.names }
+    ensures { Wrote K.written K.faults (unstable_line circuit.now gate) out.old out.new result }
 {
-    put_line(out, &[b"refused: start: unstable ", node_name(net, gate)])
+    put_line(out, &[b"refused: start: unstable ", circuit.name(gate)])
 }
 
 // Writes why a file was not loaded.
@@ -191,12 +191,18 @@ pub(crate) fn refuse_netlist<K: Sink>(out: &mut K, fault: BenchFault) -> Status
     }
 }
 
-// Writes why a text that is called so can't be read on a network.
-pub(crate) fn refuse_text<K: Sink>(out: &mut K, text: &[u8], net: &Net, fault: TextFault) -> Status
-    ensures { Answers K.written K.faults (TextSays text.now net.now fault) out.old out.new result }
+// Writes why a text that is called so can't be read on a circuit.
+pub(crate) fn refuse_text<K: Sink>(
+    out: &mut K,
+    called: &[u8],
+    circuit: &Circuit,
+    fault: TextFault,
+) -> Status
+    requires { NamesNode circuit.now (named_node fault) }
+    ensures { Answers K.written K.faults (TextSays called.now circuit.now fault) out.old out.new result }
 {
     match fault {
         TextFault::Memory => Status::Memory,
-        _ => status_after(put_text_fault(out, text, net, fault), Status::Text),
+        _ => status_after(put_text_fault(out, called, circuit, fault), Status::Text),
     }
 }

@@ -36,9 +36,9 @@ pub(crate) struct RefusedStep {
     pub fault: StepFault,
 }
 
-/// The first run of a text that is refused. Runs are counted from 1.
+/// The first refusal of a text, that of the run with this number. Runs are counted from 1.
 #[derive(Clone, Copy, Debug)]
-pub(crate) struct RefusedRun {
+pub(crate) struct FirstRefusal {
     pub run: usize,
     pub why: Refused,
 }
@@ -50,7 +50,7 @@ pub(crate) fn replay_text<K: Sink>(alloc: Global, net: &Net, text: &[u8], out: &
 {
     match read_run(alloc, net, text) {
         Ok(runs) => replay(alloc, net, &runs, out),
-        Err(fault) => refuse_text(out, b"runs", net, fault),
+        Err(fault) => refuse_text(out, b"runs", net.circuit(), fault),
     }
 }
 
@@ -84,7 +84,7 @@ fn expand_start(alloc: Global, net: &Net, nodes: &[bool]) -> Result<Vec<bool>, A
 
 // Replays the runs of a text, each from the start. The first begins there, and each goes back over what the one before it
 // changed.
-fn replay_runs(replay: &mut Replay, text: &RunText, start: &[bool]) -> Result<(), RefusedRun>
+fn replay_runs(replay: &mut Replay, text: &RunText, start: &[bool]) -> Result<(), FirstRefusal>
     requires text { IsRunTextFor replay.old.circuit text.now }
     requires start { length start.now ≡ length (network_of replay.old.circuit) }
     ensures { MatchResult result
@@ -97,7 +97,7 @@ fn replay_runs(replay: &mut Replay, text: &RunText, start: &[bool]) -> Result<()
         match replay_run(replay, text.lead(number), text.cycle(number)) {
             Ok(()) => {}
             Err(why) => {
-                return Err(RefusedRun {
+                return Err(FirstRefusal {
                     run: number + 1,
                     why,
                 });

@@ -14,18 +14,18 @@ fn words_of(alloc: Global, words: &[&str]) -> Result<Vec<String>, AllocError> {
     Ok(all)
 }
 
-// Runs a job over two texts. The load and the put of these numbers fail, and of number 0 none does.
-fn told(
+// Runs a job over a netlist and a second text. The load and the put of these numbers fail, and of number 0 none does.
+fn run_job(
     alloc: Global,
     job: &str,
     netlist: &str,
-    script: &str,
+    second: &str,
     load: u64,
     put: u64,
 ) -> Result<(Status, MemSink), Fail> {
     let mut files = MemFiles::new(alloc);
     files.add("n", netlist.as_bytes())?;
-    files.add("s", script.as_bytes())?;
+    files.add("s", second.as_bytes())?;
     files.fail(load)?;
     let mut out = MemSink::new(alloc);
     out.fail(put, 3)?;
@@ -173,7 +173,7 @@ const REPORTS: [(&str, &str, &str); 6] = [
 #[test]
 fn reports(rt: HostRuntime) -> Result<(), Fail> {
     for (netlist, script, text) in REPORTS {
-        let (status, out) = told(rt.alloc(), "analyse", netlist, script, 0, 0)?;
+        let (status, out) = run_job(rt.alloc(), "analyse", netlist, script, 0, 0)?;
         assert_eq!(rt; status, Status::Done);
         assert_eq!(rt; out.bytes(), text.as_bytes());
     }
@@ -215,7 +215,7 @@ fn refusals(rt: HostRuntime) -> Result<(), Fail> {
         ),
     ];
     for (netlist, script, code, text) in rows {
-        let (status, out) = told(rt.alloc(), "analyse", netlist, script, 0, 0)?;
+        let (status, out) = run_job(rt.alloc(), "analyse", netlist, script, 0, 0)?;
         assert_eq!(rt; status.code(), code);
         assert_eq!(rt; out.bytes(), text.as_bytes());
     }
@@ -258,7 +258,7 @@ fn replays(rt: HostRuntime) -> Result<(), Fail> {
             "runs 1\nstart r=1 s=1 q=0 qb=0\ninput r=0 s=0\n",
         )?;
         whole.push_str(runs)?;
-        let (status, out) = told(rt.alloc(), "replay", LATCH, whole.as_str(), 0, 0)?;
+        let (status, out) = run_job(rt.alloc(), "replay", LATCH, whole.as_str(), 0, 0)?;
         assert_eq!(rt; status.code(), code);
         assert_eq!(rt; out.bytes(), text.as_bytes());
     }
@@ -295,7 +295,7 @@ fn failures(rt: HostRuntime) -> Result<(), Fail> {
         ),
     ];
     for (job, load, put, code, text) in rows {
-        let (status, out) = told(
+        let (status, out) = run_job(
             rt.alloc(),
             job,
             "INPUT(a)\n",

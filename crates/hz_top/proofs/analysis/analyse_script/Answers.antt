@@ -33,7 +33,7 @@ returns-in-Err-Open g c =
     let least = start-open c.args.net.now c.start.result.now c.args.script.now.start c.in-Err-Open.field-0 c.in-Err-Open.gate c.start.ensures.start c.in-Err-Open.field-0-is c.in-Err-Open.ensures.start in
     Answers-put g.K.Sink.written g.K.Sink.faults (ScriptComes c.args.net.now c.args.script.now) c.args.out.now c.put_open.new.out status.Start (open_line c.args.net.now c.in-Err-Open.gate)
     c.put_open.result c.status_after-in-Err-Open.result tt (inr (inl (few, refl, inl (c.in-Err-Open.gate, least, refl))))
-    (rw c.in-Err-Open.gate-is at c.put_open.ensures) c.status_after-in-Err-Open.ensures
+    (rw (c.in-Err-Open.gate-is, c.circuit.ensures.same) at c.put_open.ensures) c.status_after-in-Err-Open.ensures
 
 pub returns-in-Err-Unstable : goal.returns-in-Err-Unstable
 returns-in-Err-Unstable g c =
@@ -41,4 +41,4 @@ returns-in-Err-Unstable g c =
     let least = start-unstable c.args.net.now c.start.result.now c.args.script.now.start c.in-Err-Unstable.field-0 c.in-Err-Unstable.gate c.start.ensures.start c.in-Err-Unstable.field-0-is c.in-Err-Unstable.ensures.start in
     Answers-put g.K.Sink.written g.K.Sink.faults (ScriptComes c.args.net.now c.args.script.now) c.args.out.now c.put_unstable.new.out status.Start (unstable_line c.args.net.now c.in-Err-Unstable.gate)
     c.put_unstable.result c.status_after-in-Err-Unstable.result tt (inr (inl (few, refl, inr (c.in-Err-Unstable.gate, least, refl))))
-    (rw c.in-Err-Unstable.gate-is at c.put_unstable.ensures) c.status_after-in-Err-Unstable.ensures
+    (rw (c.in-Err-Unstable.gate-is, c.circuit-in-Err-Unstable.ensures.same) at c.put_unstable.ensures) c.status_after-in-Err-Unstable.ensures
