@@ -66,9 +66,9 @@ second-ends told second_is first second wanted good own said (inr (bytes, (is, s
 
 -- the two files come to their end
 files-end : (told : Told) (second_is : SecondText) (first second : List ℕ) (wanted : Status) (good : AreFaultless told second_is first second wanted) (own : Status) (said : List ℕ) → FilesCome told second_is first second own said → own ≡ wanted
-files-end told second_is first second wanted good own said (inl (inl (rose, says))) = absurd (good.none_failed First rose)
-files-end told second_is first second wanted good own said (inl (inr (rose, over, says))) = absurd (good.none_long First rose)
-files-end told second_is first second wanted good own said (inr (bytes, (is, short), inl (fault, least, says))) =
+files-end told second_is first second wanted good own said (inl (stay, inl (rose, says))) = absurd (good.none_failed First rose)
+files-end told second_is first second wanted good own said (inl (stay, inr (rose, over, says))) = absurd (good.none_long First rose)
+files-end told second_is first second wanted good own said (inr (bytes, (is, short), inl (fault, least, stay, says))) =
     let here = subst (λ (text : List ℕ). IsLeastFault text fault) (told-bytes told good.bytes_of first bytes good.is_told is) least in
     absurd (good.netlist fault here.stands)
 files-end told second_is first second wanted good own said (inr (bytes, (is, short), inr (none, comes))) =

@@ -74,6 +74,10 @@ pub record Told : Type 0 where
   pub longs : Place → ℕ
   pub longs_after : Place → ℕ
 
+-- the counts of a place stay, as where its file is not asked for
+abbrev pub CountsStay : Told → Place → Type 0
+CountsStay told place = (told.faults_after place ≡ told.faults place) × (told.longs_after place ≡ told.longs place)
+
 -- the file at a place was not read, or was too long: its count shows it
 abbrev pub Unread : Told → Place → List ℕ → Status → List ℕ → Type 0
 Unread told place name own text =
@@ -110,23 +114,22 @@ SecondComes told second_is netlist name own text =
     Unread told Second name own text
     ⊎ ((bytes : List ℕ) × IsFile told name bytes × SecondTextComes second_is netlist bytes own text)
 
--- what the first text comes to, and then the second file
+-- what the first text comes to, and then the second file, which is not asked for where the first text has a fault
 abbrev pub FirstTextComes : Told → SecondText → List ℕ → List ℕ → Status → List ℕ → Type 0
 FirstTextComes told second_is bytes second own text =
-    ((fault : BenchFault) × IsLeastFault bytes fault × Says status.Netlist (netlist_fault_line fault) own text)
+    ((fault : BenchFault) × IsLeastFault bytes fault × CountsStay told Second × Says status.Netlist (netlist_fault_line fault) own text)
     ⊎ (IsFaultless bytes × SecondComes told second_is (netlist_of (statements_of bytes)) second own text)
 
--- what the two files come to
+-- what the two files come to: the second is not asked for where the first is not read
 abbrev pub FilesCome : Told → SecondText → List ℕ → List ℕ → Status → List ℕ → Type 0
 FilesCome told second_is first second own text =
-    Unread told First first own text
+    (CountsStay told Second × Unread told First first own text)
     ⊎ ((bytes : List ℕ) × IsFile told first bytes × FirstTextComes told second_is bytes second own text)
 
 -- what a job comes to; without a job the words are refused, and no file is loaded
 abbrev pub JobComes : Told → Option JobOf → Status → List ℕ → Type 0
 JobComes told None own text =
-    ((place : Place) → (told.faults_after place ≡ told.faults place) × (told.longs_after place ≡ told.longs place))
-    × Says status.Words words_line own text
+    ((place : Place) → CountsStay told place) × Says status.Words words_line own text
 JobComes told (Some (Analyse first second)) own text = FilesCome told Script first second own text
 JobComes told (Some (Replay first second)) own text = FilesCome told Runs first second own text
 

@@ -10,8 +10,11 @@ pub returns-in-Err : goal.returns-in-Err
 returns-in-Err g c =
     let told = told_by g.F.Files.held g.F.Files.faults g.F.Files.longs c.args.files.now c.load.new.self in
     Answers-more g.K.Sink.written g.K.Sink.faults (LoadSays First c.in-Err.fault) (FilesCome told c.args.second_is c.args.first.now c.args.second.now) c.args.out.now c.refuse_load.new.out c.refuse_load.result
-    (λ own text says. inl (Unread-load told First c.args.first.now c.in-Err.fault
-    (λ is. c.load.ensures.failed (c.in-Err.is ∙ ap Err is)) (λ is. c.load.ensures.too_long (c.in-Err.is ∙ ap Err is)) (λ is. c.load.ensures.over (c.in-Err.is ∙ ap Err is)) own text says)) c.refuse_load.ensures
+    (λ own text says. inl (
+      (c.load.ensures.other_faults, c.load.ensures.other_longs),
+      Unread-load told First c.args.first.now c.in-Err.fault
+          (λ is. c.load.ensures.failed (c.in-Err.is ∙ ap Err is)) (λ is. c.load.ensures.too_long (c.in-Err.is ∙ ap Err is)) (λ is. c.load.ensures.over (c.in-Err.is ∙ ap Err is)) own text says,
+    )) c.refuse_load.ensures
 
 pub returns-in-Err-read : goal.returns-in-Err-read
 returns-in-Err-read g c =
@@ -20,7 +23,12 @@ returns-in-Err-read g c =
     (λ own text says. inr (
       c.as_slice.result.now,
       (rw c.as_slice.ensures.value c.in-Ok.ensures.bytes, rw c.as_slice.ensures.len c.in-Ok.ensures.short),
-      inl (c.in-Err-read.fault, netlist-refused c.as_slice.result.now c.in-Err-read.fault c.in-Err-read.ensures.fault says.0, says.1),
+      inl (
+        c.in-Err-read.fault,
+        netlist-refused c.as_slice.result.now c.in-Err-read.fault c.in-Err-read.ensures.fault says.0,
+        (c.load.ensures.other_faults, c.load.ensures.other_longs),
+        says.1,
+      ),
     )) c.refuse_netlist.ensures
 
 pub returns : goal.returns
