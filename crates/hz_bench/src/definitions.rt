@@ -46,9 +46,6 @@ fn define<'a>(lines: &mut Definitions<'a>, entry: &Entry<'a>) -> Result<(), Benc
         (λ _. IsPut lines.old lines.new entry.now.line (defined_name (stated entry.now)) × (names_in lines.new ≡ names_in lines.old ++ defined_names (stated entry.now ∷ [])))
         (λ fault. IsFoundOrMemory (twice_or entry.now.line (line_for_defined lines.old (defined_name (stated entry.now))) None) fault) }
 {
-    if !entry.form.defines() {
-        return Ok(());
-    }
     match lines.insert(Name { bytes: entry.name }, entry.line) {
         Ok(None) => Ok(()),
         Ok(Some(first)) => Err(BenchFault::Twice {

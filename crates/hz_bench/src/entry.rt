@@ -8,7 +8,7 @@ use crate::forms::Form;
 
 /// An input or a gate, which borrows from its line. A gate's sources are read again from the line when they are needed,
 /// so that a statement takes the same room however many pins its gate has.
-// Fields lie in this order: the small ones stand together, which makes 48 bytes.
+// Fields lie in this order: the small ones stand together.
 #[derive(Clone, Copy)]
 pub struct Entry<'a> {
     /// The number of the line, counted from 1.
@@ -29,6 +29,11 @@ pub struct Entry<'a> {
     ghost small: { pins < 2 ^ 32 },
     ghost measured: { long ≡ has_long_name (statement_with name.now form sources.now) },
 }
+
+// A million statements are held at once, so their size is the memory and a good part of the time that a text takes.
+const ENTRY_SIZE: usize = std::mem::size_of::<Entry>();
+
+const _: () = prove!(ENTRY_SIZE == 48);
 
 /// A line `OUTPUT(name)`, which borrows its name.
 #[derive(Clone, Copy)]

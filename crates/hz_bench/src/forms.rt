@@ -1,7 +1,7 @@
 // What a statement is, without its names.
 
 ghost use Rattle.std.specs.Prelude.{◌≡◌};
-ghost use Rattle.hz_bench.specs.Statement.{form_defines, kind_word_of, is_unknown, is_clocked, refuses_pins};
+ghost use Rattle.hz_bench.specs.Statement.{kind_word_of, is_unknown, is_clocked, refuses_pins};
 
 use hz_core::Kind;
 use hz_line::is_keyword;
@@ -54,16 +54,6 @@ pub(crate) fn kind_word(word: &[u8]) -> KindWord
 }
 
 impl Form {
-    // Whether the statement defines its name.
-    pub(crate) fn defines(self) -> bool
-        ensures { result ≡ form_defines self }
-    {
-        match self {
-            Form::Output => false,
-            Form::Input | Form::Gate(_) => true,
-        }
-    }
-
     pub(crate) fn is_unknown(self) -> bool
         ensures { result ≡ is_unknown self }
     {

@@ -15,7 +15,7 @@ name_of bytes = record { bytes = bytes }
 
 pub returns-in-Ok-None : goal.returns-in-Ok-None
 returns-in-Ok-None c =
-    let defined = entry-defines c.args.entry.now (sym c.defines.ensures ∙ c.if-not-defines.false) in
+    let defined = entry-defines c.args.entry.now c.args.entry.now.node in
     let new = sym c.in-Ok-None.ensures.old ∙ c.in-Ok-None.field-0-is in
     let entries = c.in-Ok-None.ensures.entries ∙ insert_entry-new (λ x y. bytes_eq x.bytes.now y.bytes.now) c.args.lines.now (name_of c.args.entry.now.name) c.args.entry.now.line new in (
       rw defined (new, λ name. c.in-Ok-None.ensures.updates.0 (name_of (record c.args.entry.now.name { now = name }))),
