@@ -18,7 +18,7 @@ use Rattle.hz_bench.specs.Statement.{Statement, Input, Output, Gate, defined_nam
 use Rattle.hz_bench.specs.Text.{variables_of, variables_among}
 use Rattle.hz_bench.specs.Twice.{twice_or, earlier_line, twice_after, twice_fault}
 use Rattle.hz_bench.proofs.DefinitionLemmas.{plain, definer-cons, defined_names-push}
-use Rattle.hz_bench.proofs.ParseLemmas.{variables_of-statements}
+use Rattle.hz_bench.proofs.NotedLemmas.{variables_of-statements}
 
 -- the names are new where they come: none is among these or among those before it
 abbrev pub Apart : List (List ℕ) → List (List ℕ) → Type 0
@@ -53,7 +53,7 @@ pub either : (a b : Bool) → (a || b) ≡ false → (a ≡ false) × (b ≡ fal
 either true b h = cc
 either false b h = (refl, h)
 
-neither : (a b : Bool) → a ≡ false → b ≡ false → (a || b) ≡ false
+pub neither : (a b : Bool) → a ≡ false → b ≡ false → (a || b) ≡ false
 neither true b ha hb = cc
 neither false b ha hb = hb
 

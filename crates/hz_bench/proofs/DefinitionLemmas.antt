@@ -1,7 +1,7 @@
 -- The table of names, statement by statement.
-use Rattle.std.proofs.Common.{◌≡◌, ◌∙◌, ℕ, ◌+◌, ◌<◌, List, [], ◌∷◌, ◌++◌, ◌||◌, Bool, true, false, not, is_some, Option, Some, None, cond, length, map, take, drop, refl, sym, ap, subst, get_or}
+use Rattle.std.proofs.Common.{◌≡◌, ◌∙◌, ℕ, List, [], ◌∷◌, ◌++◌, ◌||◌, Bool, true, false, not, is_some, Option, Some, None, cond, map, refl, sym, ap, append_assoc}
 use Rattle.std.specs.Option.{option_or}
-use Rattle.std.proofs.lemmas.List.{take_more, at_drop_more}
+use Rattle.std.proofs.lemmas.List.{append-nil}
 use Rattle.std.proofs.lemmas.Slice.Eq.{bytes_eq-Decides}
 use Rattle.hz_core.specs.declared.name.Name.{Name as Key}
 use Rattle.std.specs.HashMap.{HashMap}
@@ -9,12 +9,10 @@ use Rattle.std.specs.List.{list_any}
 use Rattle.std.specs.Str.{bytes_eq}
 use Rattle.hz_line.specs.Statement.{Numbered}
 use Rattle.hz_bench.specs.declared.entry.Entry.{Entry}
-use Rattle.hz_bench.specs.declared.fault.BenchFault.{BenchFault}
-use Rattle.hz_bench.specs.declared.fault.BenchFault.TheVariants.{Form, Name, KindUnknown, Clocked, Twice, Pins, Undefined, TooMany, Memory}
 use Rattle.hz_bench.specs.Definition.{is_that, defines, definer, defined_names, names_in, line_for, line_for_defined, IsPut, IsTableOf}
 use Rattle.hz_bench.specs.Statement.{Statement, Input, Output, Gate, defined_name, name_of, form_of, form_defines}
 use Rattle.hz_bench.specs.Entry.{stated}
-use Rattle.hz_bench.specs.Twice.{twice_or, earlier_line, twice_after, twice_fault, IsFoundOrMemory}
+use Rattle.hz_bench.specs.Twice.{twice_or, earlier_line, twice_after, twice_fault}
 use Rattle.hz_bench.proofs.EntryLemmas.{entry-formed, entry-named}
 
 pub definer-cons : (first : Numbered Statement) (rest : List (Numbered Statement)) (name : List ℕ) → definer (first ∷ rest) name ≡ cond (defines name first.statement) (Some first.line) (definer rest name)
@@ -45,19 +43,15 @@ put_one : (defined name : List ℕ) (line : ℕ) (seen : List (Numbered Statemen
 put_one defined name line seen true same none = let e = (bytes_eq-Decides defined name).0 same in rw (ap (definer seen) (sym e) ∙ none) refl
 put_one defined name line seen false same none = sym (option_or-none (definer seen name))
 
-put : {S : Type 0} (old new : HashMap Key ℕ S) (seen : List (Numbered Statement)) (next : Numbered Statement) (defined : Option (List ℕ)) → defined_name next.statement ≡ defined → IsPut old new next.line defined → IsTableOf seen old → IsTableOf (seen ++ next ∷ []) new
+pub put : {S : Type 0} (old new : HashMap Key ℕ S) (seen : List (Numbered Statement)) (next : Numbered Statement) (defined : Option (List ℕ)) → defined_name next.statement ≡ defined → IsPut old new next.line defined → IsTableOf seen old → IsTableOf (seen ++ next ∷ []) new
 put old new seen next None e added table = λ name. added name ∙ table name ∙ sym (definer-push seen next name ∙ ap (λ d. option_or (definer seen name) (cond (is_that name d) (Some next.line) None)) e ∙ option_or-none (definer seen name))
 put old new seen next (Some defined) e added table = λ name.
     added.1 name ∙ ap (cond (bytes_eq defined name) (Some next.line)) (table name) ∙ put_one defined name next.line seen (bytes_eq defined name) refl (sym (table defined) ∙ added.0)
     ∙ sym (definer-push seen next name ∙ ap (λ d. option_or (definer seen name) (cond (is_that name d) (Some next.line) None)) e)
 
-earlier_line-table : {S : Type 0} (lines : HashMap Key ℕ S) (seen : List (Numbered Statement)) (defined : Option (List ℕ)) → IsTableOf seen lines → line_for_defined lines defined ≡ earlier_line seen defined
+pub earlier_line-table : {S : Type 0} (lines : HashMap Key ℕ S) (seen : List (Numbered Statement)) (defined : Option (List ℕ)) → IsTableOf seen lines → line_for_defined lines defined ≡ earlier_line seen defined
 earlier_line-table lines seen None table = refl
 earlier_line-table lines seen (Some defined) table = table defined
-
-nothing_earlier : {S : Type 0} (old new : HashMap Key ℕ S) (line : ℕ) (defined : Option (List ℕ)) → IsPut old new line defined → line_for_defined old defined ≡ None
-nothing_earlier old new line None added = refl
-nothing_earlier old new line (Some defined) added = added.0
 
 -- the statements without their lines
 abbrev pub plain : List (Numbered Statement) → List Statement
@@ -72,46 +66,20 @@ defined_names-push (first ∷ seen) next = by_statement first.statement (defined
     by_statement (Output name) ih = ih
     by_statement (Gate name kind sources) ih = ap (λ rest. name ∷ rest) ih
 
--- the statements so far are in the table, and the first of a name among the rest is the first of all
-pub record IsDefining {S : Type 0} (statements : List (Numbered Statement)) (index : ℕ) (lines : HashMap Key ℕ S) : Type 0 where
-  pub table : IsTableOf (take index statements) lines
-  pub rest : twice_after (take index statements) (drop index statements) ≡ twice_fault statements
-  pub names : names_in lines ≡ defined_names (plain (take index statements))
+-- the first line that defines a name again, with one statement more
+twice_after-push : (seen rest : List (Numbered Statement)) (one : Numbered Statement) → twice_after seen (rest ++ one ∷ []) ≡ option_or (twice_after seen rest) (twice_or one.line (earlier_line (seen ++ rest) (defined_name one.statement)) None)
+twice_after-push seen [] one = ap (λ all. twice_or one.line (earlier_line all (defined_name one.statement)) None) (sym (append-nil seen))
+twice_after-push seen (first ∷ rest) one =
+    by_line (earlier_line seen (defined_name first.statement))
+    (twice_after-push (seen ++ first ∷ []) rest one ∙ ap (λ all. option_or (twice_after (seen ++ first ∷ []) rest) (twice_or one.line (earlier_line all (defined_name one.statement)) None)) (append_assoc seen (first ∷ []) rest))
+  where
+    by_line : (line : Option ℕ) → twice_after (seen ++ first ∷ []) (rest ++ one ∷ []) ≡ option_or (twice_after (seen ++ first ∷ []) rest) (twice_or one.line (earlier_line (seen ++ first ∷ rest) (defined_name one.statement)) None)
+        → twice_or first.line line (twice_after (seen ++ first ∷ []) (rest ++ one ∷ [])) ≡ option_or (twice_or first.line line (twice_after (seen ++ first ∷ []) rest)) (twice_or one.line (earlier_line (seen ++ first ∷ rest) (defined_name one.statement)) None)
+    by_line None ih = ih
+    by_line (Some line) ih = refl
 
-twice_after-drop : (statements : List (Numbered Statement)) (index : ℕ) (next : Numbered Statement) → index < length statements → next ≡ get_or statements index next
-    → twice_after (take index statements) (drop index statements) ≡ twice_or next.line (earlier_line (take index statements) (defined_name next.statement)) (twice_after (take index statements ++ next ∷ []) (drop (index + 1) statements))
-twice_after-drop statements index next inside is = at_drop_more (twice_after (take index statements)) statements index next inside ∙ rw (sym is) refl
-
-pub IsDefining-step : {S : Type 0} (old new : HashMap Key ℕ S) (statements : List (Numbered Statement)) (index : ℕ) (next : Numbered Statement) → index < length statements → next ≡ get_or statements index next
-    → IsPut old new next.line (defined_name next.statement) × (names_in new ≡ names_in old ++ defined_names (next.statement ∷ [])) → IsDefining statements index old → IsDefining statements (index + 1) new
-IsDefining-step old new statements index next inside is added was =
-    let more : take (index + 1) statements ≡ take index statements ++ next ∷ [] = take_more statements index next inside ∙ ap (λ (last : Numbered Statement). take index statements ++ last ∷ []) (sym is) in
-    let none = sym (earlier_line-table old (take index statements) (defined_name next.statement) was.table) ∙ nothing_earlier old new next.line (defined_name next.statement) added.0 in
-    record {
-      table = rw more (put old new (take index statements) next (defined_name next.statement) refl added.0 was.table);
-      rest = rw more (sym (twice_after-drop statements index next inside is ∙ ap (λ earlier. twice_or next.line earlier (twice_after (take index statements ++ next ∷ []) (drop (index + 1) statements))) none) ∙ was.rest);
-      names = added.1 ∙ ap (λ names. names ++ defined_names (next.statement ∷ [])) was.names ∙ sym (ap (λ all. defined_names (plain all)) more ∙ defined_names-push (take index statements) next);
-    }
-
-IsFoundOrMemory-later : (line : ℕ) (earlier : Option ℕ) (later : Option BenchFault) (fault : BenchFault) → IsFoundOrMemory (twice_or line earlier None) fault → IsFoundOrMemory (twice_or line earlier later) fault
-IsFoundOrMemory-later line (Some first) later fault h = h
-IsFoundOrMemory-later line None later Memory h = tt
-IsFoundOrMemory-later line None later (Form at) h = cc
-IsFoundOrMemory-later line None later (Name at) h = cc
-IsFoundOrMemory-later line None later (KindUnknown at) h = cc
-IsFoundOrMemory-later line None later (Clocked at) h = cc
-IsFoundOrMemory-later line None later (Twice at first) h = cc
-IsFoundOrMemory-later line None later (Pins at count) h = cc
-IsFoundOrMemory-later line None later (Undefined at) h = cc
-IsFoundOrMemory-later line None later (TooMany variables) h = cc
-
-pub IsDefining-fault : {S : Type 0} (old : HashMap Key ℕ S) (statements : List (Numbered Statement)) (index : ℕ) (next : Numbered Statement) (fault : BenchFault) → index < length statements → next ≡ get_or statements index next
-    → IsFoundOrMemory (twice_or next.line (line_for_defined old (defined_name next.statement)) None) fault → IsDefining statements index old → IsFoundOrMemory (twice_fault statements) fault
-IsDefining-fault old statements index next fault inside is found was =
-    let e = earlier_line-table old (take index statements) (defined_name next.statement) was.table in
-    let all = sym was.rest ∙ twice_after-drop statements index next inside is in
-    let found' = subst (λ earlier. IsFoundOrMemory (twice_or next.line earlier None) fault) e found in
-    subst (λ all. IsFoundOrMemory all fault) (sym all) (IsFoundOrMemory-later next.line _ _ fault found')
+pub twice_fault-push : (done : List (Numbered Statement)) (one : Numbered Statement) → twice_fault (done ++ one ∷ []) ≡ option_or (twice_fault done) (twice_or one.line (earlier_line done (defined_name one.statement)) None)
+twice_fault-push done one = twice_after-push [] done one
 
 -- tests that agree on each name
 pub any-same : (test other : List ℕ → Bool) → ((name : List ℕ) → test name ≡ other name) → (names : List (List ℕ)) → list_any test names ≡ list_any other names

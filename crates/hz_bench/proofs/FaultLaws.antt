@@ -19,7 +19,7 @@ use Rattle.hz_bench.specs.Statement.{Statement, statement_of, defined_name, used
 use Rattle.hz_bench.specs.Text.{meaning_at, numbered_statements, statements_of, variables_of, variables_among}
 use Rattle.hz_bench.specs.Twice.{twice_or, earlier_line, twice_after, twice_fault}
 use Rattle.hz_bench.proofs.DefinitionLemmas.{definer-append, definer-cons}
-use Rattle.hz_bench.proofs.ParseLemmas.{variables_of-statements}
+use Rattle.hz_bench.proofs.NotedLemmas.{variables_of-statements}
 
 ascending : (text : List ℕ) → Ascends 1 (numbered_statements text)
 ascending text = numbered_from-Ascends statement_of 1 (lines_of text)

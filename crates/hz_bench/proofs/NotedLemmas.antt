@@ -1,5 +1,5 @@
 -- What is noted of statements, with one more.
-use Rattle.std.proofs.Common.{◌≡◌, ◌∙◌, ℕ, ◌+◌, ◌≤◌, length, length-append, map, Bool, true, false, List, [], ◌∷◌, ◌++◌, Option, Some, None, option_map, refl, ap, cond, arith}
+use Rattle.std.proofs.Common.{◌≡◌, ◌∙◌, ℕ, ◌+◌, ◌≤◌, length, length-append, map, Bool, true, false, List, [], ◌∷◌, ◌++◌, Option, Some, None, option_map, refl, sym, ap, cond, arith}
 use Rattle.std.specs.Option.{option_or}
 use Rattle.std.proofs.lemmas.List.Folds.{find-append}
 use Rattle.std.proofs.lemmas.List.Sums.{sum_by-append, sum_by-cons}
@@ -11,7 +11,7 @@ use Rattle.hz_bench.specs.Check.{has_unknown_kind, has_clocked_kind, has_wrong_p
 use Rattle.hz_bench.specs.Noted.{inputs_among, notes_of, noted, first_of, wrong_or, wrong_pins_of}
 use Rattle.hz_bench.specs.Netlist.{input_names}
 use Rattle.hz_bench.specs.Statement.{Statement, Input, Output, Gate, has_long_name, variables_in}
-use Rattle.hz_bench.specs.Text.{variables_among}
+use Rattle.hz_bench.specs.Text.{variables_among, variables_of}
 
 -- the line of what was found, or of one more where it passes
 line_of_first : (found : Option (Numbered Statement)) (here : Bool) (one : Numbered Statement) → option_map (λ (numbered : Numbered Statement). numbered.line) (option_or found (cond here (Some one) None)) ≡ first_of (option_map (λ (numbered : Numbered Statement). numbered.line) found) here one.line
@@ -33,6 +33,12 @@ wrong_of_first (Some first) here one h = refl
 wrong_pins-push : (statements : List (Numbered Statement)) (one : Numbered Statement) → option_map wrong_pins_of (first_that has_wrong_pins (statements ++ one ∷ [])) ≡ wrong_or (option_map wrong_pins_of (first_that has_wrong_pins statements)) one
 wrong_pins-push statements one =
     ap (option_map wrong_pins_of) (find-append (λ (numbered : Numbered Statement). has_wrong_pins numbered.statement) statements (one ∷ [])) ∙ wrong_of_first (first_that has_wrong_pins statements) (has_wrong_pins one.statement) one refl
+
+-- the variables of statements do not depend on their lines
+pub variables_of-statements : (statements : List (Numbered Statement)) → variables_of (map (λ numbered. numbered.statement) statements) ≡ variables_among statements
+variables_of-statements [] = refl
+variables_of-statements (first ∷ rest) =
+    sum_by-cons variables_in first.statement (map (λ (numbered : Numbered Statement). numbered.statement) rest) ∙ ap (λ n. variables_in first.statement + n) (variables_of-statements rest) ∙ sym (sum_by-cons (λ (numbered : Numbered Statement). variables_in numbered.statement) first rest)
 
 -- the variables of statements with one more
 pub variables-push : (statements : List (Numbered Statement)) (one : Numbered Statement) → variables_among (statements ++ one ∷ []) ≡ variables_among statements + variables_in one.statement

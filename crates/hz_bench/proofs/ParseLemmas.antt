@@ -1,12 +1,14 @@
 -- Reading the statements of a text line by line.
-use Rattle.std.proofs.Common.{◌≡◌, ◌∙◌, ℕ, ◌+◌, ◌≤◌, suc, List, [], ◌∷◌, ◌++◌, Option, Some, None, option_map, length, map, refl, sym, ap, arith, add-one, append_assoc, IfSome, is_some, lit≤}
+use Rattle.std.proofs.Common.{◌≡◌, ◌∙◌, ℕ, ◌+◌, ◌≤◌, suc, List, [], ◌∷◌, ◌++◌, Option, Some, None, option_map, length, map, refl, sym, ap, arith, add-one, append_assoc, IfSome, is_some, lit≤, subst, find}
 use Rattle.std.specs.Borrow.{Bor}
+use Rattle.std.specs.Map.{lookup}
+use Rattle.std.specs.Str.{bytes_eq}
+use Rattle.hz_core.specs.declared.name.Name.{Name as Key}
 use Rattle.std.proofs.lemmas.List.{append-nil}
-use Rattle.std.proofs.lemmas.List.Elements.{filter-append}
 use Rattle.std.proofs.lemmas.List.Sums.{sum_by-cons}
 use Rattle.hz_line.specs.declared.bytes.Mark.TheVariants.{Open, Close, Comma, Equals}
 use Rattle.hz_line.specs.Line.{lines_of, lines_of_rest, rest_length}
-use Rattle.hz_line.specs.Statement.{Nothing, Means, Numbered, with_meaning, meaning_by, meaning_of_tokens, numbered_from, malformed_before, first_malformed}
+use Rattle.hz_line.specs.Statement.{Nothing, Means, Numbered, with_meaning, meaning_by, meaning_of_tokens, numbered_from, malformed_before, first_malformed, first_line}
 use Rattle.hz_line.specs.Token.{TokenOf, WordOf, MarkOf, tokens_of}
 use Rattle.hz_line.proofs.TokenLemmas.{tokens_of-length}
 use Rattle.hz_bench.specs.declared.notes.Notes.{Notes}
@@ -16,17 +18,13 @@ use Rattle.hz_bench.specs.declared.forms.Form.TheVariants as form
 use Rattle.hz_bench.specs.declared.forms.KindWord.{KindWord}
 use Rattle.hz_bench.specs.Entry.{numbered_list, numbered_outputs}
 use Rattle.hz_bench.specs.Noted.{nothing_noted, noted, notes_of}
-use Rattle.hz_bench.specs.Pass.{IsParsed, IsSorted}
+use Rattle.hz_bench.specs.Pass.{AreGathered, IsNothingRead, IsParsed, IsSorted}
+use Rattle.hz_bench.specs.Sorted.{again_fault}
 use Rattle.hz_bench.specs.Statement.{Statement, Input, Output, Gate, statement_of, names_of, port_form, port_of, kind_word_of, variables_in, words_of, is_node, is_output}
 use Rattle.hz_bench.specs.Text.{meaning_of, numbered_statements, nodes_among, outputs_among, variables_of, variables_among}
-use Rattle.hz_bench.proofs.NotedLemmas.{inputs_few, notes_of-push, variables-push}
+use Rattle.hz_bench.proofs.GatheredLemmas.{gathered-more}
+use Rattle.hz_bench.proofs.NotedLemmas.{inputs_few, variables_of-statements, variables-push}
 use Rattle.hz_bench.proofs.StatementLemmas.{IsNameList-from_some}
-
--- the nodes, the outputs and the notes are those of these statements
-pub record AreGathered (done : List (Numbered Statement)) (statements : Statements) : Type 0 where
-  pub nodes : numbered_list statements.nodes.items ≡ nodes_among done
-  pub outputs : numbered_outputs statements.outputs.items ≡ outputs_among done
-  pub notes : statements.notes ≡ notes_of done
 
 -- what was read so far, before the rest of the text
 pub record IsParsing (text : List ℕ) (statements : Statements) (line : ℕ) (left : Option (Bor (List ℕ))) : Type 0 where
@@ -37,10 +35,22 @@ pub record IsParsing (text : List ℕ) (statements : Statements) (line : ℕ) (l
   pub lines : line + rest_length left ≤ length text + 1
   pub variables : variables_among done + rest_length left ≤ length text + 1
 
-pub IsParsing-begin : (text : Bor (List ℕ)) (statements : Statements) → statements.nodes.items ≡ [] → statements.outputs.items ≡ [] → statements.notes ≡ nothing_noted → IsParsing text.now statements 0 (Some text)
-IsParsing-begin text statements nodes outputs notes = record {
+-- of no statement
+gathered-nothing : (statements : Statements) → IsNothingRead statements → AreGathered [] statements
+gathered-nothing statements nothing = record {
+  outputs = ap numbered_outputs nothing.outputs;
+  notes = nothing.notes;
+  again = ap (option_map again_fault) nothing.again;
+  table = λ once. λ name. ap (lookup (λ (key : Key). bytes_eq name key.bytes.now)) nothing.table;
+  names = λ once. ap (map (λ (entry : Key × ℕ). entry.0.bytes.now)) nothing.table;
+  telling = λ once. λ test. λ fails. ap (λ nodes. first_line test (numbered_list nodes)) nothing.nodes;
+  nodes = λ few. ap numbered_list nothing.nodes;
+}
+
+pub IsParsing-begin : (text : Bor (List ℕ)) (statements : Statements) → IsNothingRead statements → IsParsing text.now statements 0 (Some text)
+IsParsing-begin text statements nothing = record {
   done = [];
-  gathered = record { nodes = ap numbered_list nodes; outputs = ap numbered_outputs outputs; notes = notes };
+  gathered = gathered-nothing statements nothing;
   whole = refl;
   formed = refl;
   lines = omega arith;
@@ -127,31 +137,14 @@ IsParsing-nothing text statements line first left whole was cut shorter meaning 
 numbered_read : (line : ℕ) (one : Numbered Statement) → one.line ≡ line + 1 → one ≡ record { line = suc line; statement = one.statement }
 numbered_read line one h = ap (λ place. record { line = place; statement = one.statement }) (h ∙ add-one line)
 
-pub variables_of-statements : (statements : List (Numbered Statement)) → variables_of (map (λ numbered. numbered.statement) statements) ≡ variables_among statements
-variables_of-statements [] = refl
-variables_of-statements (first ∷ rest) =
-    sum_by-cons variables_in first.statement (map (λ (numbered : Numbered Statement). numbered.statement) rest) ∙ ap (λ n. variables_in first.statement + n) (variables_of-statements rest) ∙ sym (sum_by-cons (λ (numbered : Numbered Statement). variables_in numbered.statement) first rest)
-
 -- the whole text was read
 pub IsParsed-end : (text : List ℕ) (statements : Statements) (line : ℕ) → IsParsing text statements line None → IsParsed text statements
 IsParsed-end text statements line was =
     let all : was.done ≡ numbered_statements text = sym (append-nil was.done) ∙ was.whole in
     record {
-      nodes = was.gathered.nodes ∙ ap nodes_among all;
-      outputs = was.gathered.outputs ∙ ap outputs_among all;
-      notes = was.gathered.notes ∙ ap notes_of all;
+      gathered = subst (λ done. AreGathered done statements) all was.gathered;
       formed = sym was.formed;
       fits = let v = was.variables in let e = variables_of-statements (numbered_statements text) in let e' = ap variables_among all in omega arith;
-    }
-
--- the next statement is gathered too
-gathered-more : (done : List (Numbered Statement)) (one : Numbered Statement) (statements more : Statements)
-    → AreGathered done statements → IsSorted statements one more → AreGathered (done ++ one ∷ []) more
-gathered-more done one statements more was sorted =
-    record {
-      nodes = sorted.nodes ∙ ap (λ (list : List (Numbered Statement)). list ++ nodes_among (one ∷ [])) was.nodes ∙ sym (filter-append (λ (numbered : Numbered Statement). is_node numbered.statement) done (one ∷ []));
-      outputs = sorted.outputs ∙ ap (λ (list : List (Numbered Statement)). list ++ outputs_among (one ∷ [])) was.outputs ∙ sym (filter-append (λ (numbered : Numbered Statement). is_output numbered.statement) done (one ∷ []));
-      notes = sorted.notes ∙ ap (λ (notes : Notes). noted notes one) was.notes ∙ sym (notes_of-push done one);
     }
 
 -- the statement of a line may be counted with those before it

@@ -3,6 +3,7 @@ use Rattle.std.proofs.Common.{◌≡◌, ◌∙◌, ℕ, ◌+◌, ◌^◌, ◌<�
 use Rattle.std.proofs.lemmas.List.{length-map}
 use Rattle.std.proofs.lemmas.List.Sums.{sum_by-cons}
 use Rattle.std.specs.Prelude.{◌⊎◌}
+use Rattle.hz_bench.specs.declared.notes.Notes.{Notes}
 use Rattle.hz_bench.specs.declared.parse.Statements.{Statements}
 use Rattle.hz_bench.specs.declared.fault.BenchFault.{BenchFault}
 use Rattle.hz_bench.specs.declared.fault.BenchFault.TheVariants.{Form, Name, KindUnknown, Clocked, Twice, Pins, Undefined, TooMany, Memory}
@@ -17,8 +18,9 @@ use Rattle.hz_bench.specs.Twice.{IsFoundOrMemory, earlier_line}
 use Rattle.hz_bench.proofs.CheckedLemmas.{checked}
 use Rattle.hz_bench.proofs.FaultLaws.{Outcome, form-least, form-none, first_fault-outcome, second-first, line_found}
 use Rattle.hz_bench.proofs.MayLemmas.{may_build, whole}
-use Rattle.hz_bench.proofs.ParseLemmas.{variables_of-statements}
-use Rattle.hz_bench.proofs.Sorted.{fault_in, fault_in-first, may_build-sorted}
+use Rattle.hz_bench.proofs.NotedLemmas.{variables_of-statements}
+use Rattle.hz_bench.specs.Sorted.{fault_in}
+use Rattle.hz_bench.proofs.Sorted.{fault_in-first, may_build-sorted}
 
 -- why a text was not parsed
 pub parse-answer : (text : List ℕ) (fault : BenchFault) → IsParseFault text fault → IsAnswer text fault
@@ -51,11 +53,14 @@ check-answer text statements Memory parsed h = tt
 pub accepted : (text : List ℕ) (statements : Statements) → IsParsed text statements → fault_in statements ≡ None → IsAccepted text statements
 accepted text statements parsed e =
     let fine = checked (numbered_statements text) (sym (fault_in-first text statements parsed) ∙ e) in
+    let few = fine.few in
+    let gathered = parsed.gathered in
+    let nodes = gathered.nodes (omega (arith, ap (λ (notes : Notes). notes.variables) gathered.notes, variables_of-statements (numbered_statements text), few)) in
     record {
-      nodes = parsed.nodes;
-      outputs = parsed.outputs;
+      nodes = nodes;
+      outputs = gathered.outputs;
       faultless = check-outcome text statements None parsed e;
-      may = may_build-sorted text statements parsed.nodes parsed.outputs (may_build (statements_of text) fine);
+      may = may_build-sorted text statements nodes gathered.outputs (may_build (statements_of text) fine);
       whole = whole (statements_of text) fine;
     }
 
@@ -110,22 +115,3 @@ answer-exact text (Pins line count) other h l = inl (least-unique text (Pins lin
 answer-exact text (Undefined line) other h l = inl (least-unique text (Undefined line) other h l)
 answer-exact text (TooMany variables) other h l = inl (least-unique text (TooMany variables) other h l)
 answer-exact text Memory other h l = inr refl
-
--- there are no more nodes than variables
-nodes_few : (statements : List (Numbered Statement)) → length (nodes_among statements) ≤ variables_among statements
-nodes_few [] = omega arith
-nodes_few (first ∷ rest) = by_statement first.statement (nodes_few rest) (sum_by-cons (λ (numbered : Numbered Statement). variables_in numbered.statement) first rest)
-  where
-    by_statement : (statement : Statement) → length (nodes_among rest) ≤ variables_among rest → variables_among (first ∷ rest) ≡ variables_in statement + variables_among rest
-        → length (cond (is_node statement) (first ∷ nodes_among rest) (nodes_among rest)) ≤ variables_among (first ∷ rest)
-    by_statement (Input name) h e = omega (arith, h, e)
-    by_statement (Output name) h e = omega (arith, h, e)
-    by_statement (Gate name kind sources) h e = omega (arith, h, e)
-
--- so the nodes of a text that is not too long are few
-pub few_read : (text : List ℕ) (statements : Statements) → length text ≤ 16777216 → IsParsed text statements → length statements.nodes.items < 2 ^ 31
-few_read text statements short parsed =
-    let listed : length (numbered_list statements.nodes.items) ≡ length statements.nodes.items = length-map statements.nodes.items numbered_of in
-    let same : length (numbered_list statements.nodes.items) ≡ length (nodes_among (numbered_statements text)) = ap length parsed.nodes in
-    let fits = parsed.fits in
-    omega (arith, listed, same, nodes_few (numbered_statements text), variables_of-statements (numbered_statements text), fits, short)

@@ -1,9 +1,11 @@
 -- From all statements of a text to its nodes and its outputs, and back.
-use Rattle.std.proofs.Common.{◌≡◌, ◌∙◌, ℕ, ◌≤◌, ◌++◌, Bool, true, false, not, cond, suc, List, [], ◌∷◌, Option, Some, None, is_some, option_map, length, fold, refl, ap, sym, subst, arith}
+use Rattle.std.proofs.Common.{◌≡◌, ◌∙◌, ℕ, ◌+◌, ◌^◌, ◌<◌, ◌≤◌, ◌++◌, Bool, true, false, not, cond, suc, List, [], ◌∷◌, Option, Some, None, is_some, option_map, length, fold, refl, ap, sym, subst, arith}
 use Rattle.std.specs.Option.{option_or}
 use Rattle.std.specs.Prelude.{filter}
 use Rattle.std.specs.List.{list_any}
 use Rattle.std.proofs.Math.Nat.{min-eq_left, min-eq_right}
+use Rattle.std.proofs.lemmas.List.{length-map}
+use Rattle.std.proofs.lemmas.List.Sums.{sum_by-cons}
 use Rattle.hz_line.specs.Line.{lines_of}
 use Rattle.hz_line.specs.Statement.{Numbered, first_line}
 use Rattle.hz_line.proofs.StatementLemmas.{Ascends, numbered_from-Ascends}
@@ -11,16 +13,17 @@ use Rattle.hz_core.specs.Netlist.{Netlist, empty_netlist}
 use Rattle.hz_bench.specs.declared.fault.BenchFault.{BenchFault}
 use Rattle.hz_bench.specs.declared.fault.BenchFault.TheVariants as fault
 use Rattle.hz_bench.specs.declared.notes.Notes.{Notes}
+use Rattle.hz_bench.specs.declared.notes.Redefinition.{Redefinition}
 use Rattle.hz_bench.specs.declared.parse.Statements.{Statements}
 use Rattle.hz_bench.specs.Built.{Connecting, after_input, after_gate, after_pins, after_output, nodes_of, connected, built, MaySteps, MayInput, MayGate, MayPins, MayOutput, MayBuild}
 use Rattle.hz_bench.specs.Check.{has_unknown_kind, has_clocked_kind, has_wrong_pins, pin_count, reads_undefined, uses_undefined, first_that, fault_or, too_many, first_fault, earlier}
-use Rattle.hz_bench.specs.Definition.{is_that, defines, definer}
-use Rattle.hz_bench.specs.Entry.{numbered_list, numbered_outputs, statement_list, output_list}
+use Rattle.hz_bench.specs.Definition.{is_that, is_missing, defines, definer, defined_names, IsTableOf}
+use Rattle.hz_bench.specs.Entry.{numbered_of, numbered_list, numbered_outputs, statement_list, output_list}
 use Rattle.hz_bench.specs.Netlist.{input_names}
 use Rattle.hz_bench.specs.Noted.{wrong_pins_of, notes_of}
-use Rattle.hz_bench.specs.Pass.{IsParsed}
-use Rattle.hz_bench.specs.Sorted.{undefined_line, pins_fault, sorted_fault}
-use Rattle.hz_bench.specs.Statement.{Statement, Input, Output, Gate, statement_of, is_node, is_output, defined_name, sources_of, used_names, has_long_name}
+use Rattle.hz_bench.specs.Pass.{AreGathered, IsListed, IsParsed}
+use Rattle.hz_bench.specs.Sorted.{again_fault, fault_in, last_fault, pins_fault, sorted_fault, undefined_line, unknown_line, uses_missing}
+use Rattle.hz_bench.specs.Statement.{Statement, Input, Output, Gate, statement_of, is_node, is_output, defined_name, sources_of, used_names, has_long_name, variables_in}
 use Rattle.hz_bench.specs.Text.{numbered_statements, statements_of, nodes_among, outputs_among, variables_among}
 use Rattle.hz_bench.specs.Twice.{twice_or, earlier_line, twice_after, twice_fault}
 use Rattle.hz_bench.proofs.DefinitionLemmas.{plain, any-same, option_or-none, definer-append, definer-push, undefined-from_form}
@@ -116,12 +119,12 @@ built-sorted text statements nodes outputs =
     ∙ built-kept (numbered_statements text)
 
 -- the inputs that were noted are those among the nodes
-pub inputs-sorted : (text : List ℕ) (statements : Statements) → IsParsed text statements → statements.notes.inputs ≡ length (input_names (statement_list statements.nodes.items))
-inputs-sorted text statements parsed =
+inputs-sorted : (text : List ℕ) (statements : Statements) → IsParsed text statements → numbered_list statements.nodes.items ≡ nodes_among (numbered_statements text) → statements.notes.inputs ≡ length (input_names (statement_list statements.nodes.items))
+inputs-sorted text statements parsed nodes =
     let all = numbered_statements text in
-    ap (λ (notes : Notes). notes.inputs) parsed.notes
+    ap (λ (notes : Notes). notes.inputs) parsed.gathered.notes
     ∙ ap (λ (netlist : Netlist). netlist.inputs) (sym (nodes_of-is (plain all)).0 ∙ sym (inputs-kept all) ∙ (nodes_of-is (plain (nodes_among all))).0)
-    ∙ ap (λ list. length (input_names list)) (nodes_read text statements parsed.nodes)
+    ∙ ap (λ list. length (input_names list)) (nodes_read text statements nodes)
 
 pub may_build-sorted : (text : List ℕ) (statements : Statements) → numbered_list statements.nodes.items ≡ nodes_among (numbered_statements text) → numbered_outputs statements.outputs.items ≡ outputs_among (numbered_statements text)
     → MayBuild (statements_of text) (statements_of text) → MayBuild (statement_list statements.nodes.items) (output_list statements.outputs.items)
@@ -253,6 +256,45 @@ undefined_line-kept statements h =
     ∙ ap (earlier (first_line (uses_undefined statements) (nodes_among statements))) outputs
     ∙ earlier-all (uses_undefined statements) 1 statements h
 
+-- the names that nodes define are all names that are defined
+defined_names-kept : (statements : List (Numbered Statement)) → defined_names (plain (nodes_among statements)) ≡ defined_names (plain statements)
+defined_names-kept [] = refl
+defined_names-kept (first ∷ rest) = by_statement first.statement (defined_names-kept rest)
+  where
+    by_statement : (statement : Statement) → defined_names (plain (nodes_among rest)) ≡ defined_names (plain rest)
+        → defined_names (plain (cond (is_node statement) (record { line = first.line; statement = statement } ∷ nodes_among rest) (nodes_among rest))) ≡ defined_names (statement ∷ plain rest)
+    by_statement (Input name) ih = ap (λ names. name ∷ names) ih
+    by_statement (Output name) ih = ih
+    by_statement (Gate name kind sources) ih = ap (λ names. name ∷ names) ih
+
+-- there are no more nodes than variables
+nodes_few : (statements : List (Numbered Statement)) → length (nodes_among statements) ≤ variables_among statements
+nodes_few [] = omega arith
+nodes_few (first ∷ rest) = by_statement first.statement (nodes_few rest) (sum_by-cons (λ (numbered : Numbered Statement). variables_in numbered.statement) first rest)
+  where
+    by_statement : (statement : Statement) → length (nodes_among rest) ≤ variables_among rest → variables_among (first ∷ rest) ≡ variables_in statement + variables_among rest
+        → length (cond (is_node statement) (first ∷ nodes_among rest) (nodes_among rest)) ≤ variables_among (first ∷ rest)
+    by_statement (Input name) h e = omega (arith, h, e)
+    by_statement (Output name) h e = omega (arith, h, e)
+    by_statement (Gate name kind sources) h e = omega (arith, h, e)
+
+-- where there are not too many variables, and no name is defined again, the nodes that were read are all, with a table of their names
+pub listed : (text : List ℕ) (statements : Statements) → IsParsed text statements → statements.again ≡ None → statements.notes.variables ≤ 200000 → IsListed statements
+listed text statements parsed once few =
+    let all = numbered_statements text in
+    let gathered = parsed.gathered in
+    let nodes = gathered.nodes few in
+    let counted : length (numbered_list statements.nodes.items) ≡ length statements.nodes.items = length-map statements.nodes.items numbered_of in
+    let same : length (numbered_list statements.nodes.items) ≡ length (nodes_among all) = ap length nodes in
+    let variables = ap (λ (notes : Notes). notes.variables) gathered.notes in
+    record {
+      few = omega (arith, counted, same, nodes_few all, variables, few);
+      inputs = inputs-sorted text statements parsed nodes;
+      once = ap twice_fault nodes ∙ twice_after-kept [] [] all (λ name. refl) ∙ sym gathered.again ∙ ap (option_map again_fault) once;
+      table = λ name. gathered.table once name ∙ sym (definer-kept all name) ∙ sym (ap (λ list. definer list name) nodes);
+      names = gathered.names once ∙ sym (defined_names-kept all) ∙ ap defined_names (nodes_read text statements nodes);
+    }
+
 -- a line that was noted, as the fault of what is found
 line-fault : (make : ℕ → BenchFault) (found : Option (Numbered Statement)) (later : Option BenchFault) → option_or (option_map make (option_map (λ (numbered : Numbered Statement). numbered.line) found)) later ≡ fault_or (λ one. make one.line) found later
 line-fault make None later = refl
@@ -276,15 +318,42 @@ sorted_fault-kept statements h =
     let kinds = ap (option_or (option_map fault.KindUnknown (first_line has_unknown_kind statements))) clocked ∙ line-fault fault.KindUnknown (first_that has_unknown_kind statements) _ in
     ap (option_or (option_map fault.Name (first_line has_long_name statements))) kinds ∙ line-fault fault.Name (first_that has_long_name statements) _
 
--- the fault of the statements that were read
-abbrev pub fault_in : Statements → Option BenchFault
-fault_in statements = sorted_fault (numbered_list statements.nodes.items) (numbered_outputs statements.outputs.items) statements.notes
+-- a name is missing in the table of all names where no node defines it
+missing-undefined : (all : List (Numbered Statement)) (statements : Statements) → IsTableOf all statements.lines → is_missing statements.lines ≡ (λ name. not (is_some (definer (nodes_among all) name)))
+missing-undefined all statements table = λ j name. (ap (λ line. not (is_some line)) (table name ∙ sym (definer-kept all name))) j
 
--- is that of all statements of the text
+-- so the first line that uses a missing name is the first that uses an undefined one
+unknown-undefined : (all : List (Numbered Statement)) (statements : Statements) → AreGathered all statements → statements.again ≡ None → unknown_line statements ≡ undefined_line (nodes_among all) (outputs_among all)
+unknown-undefined all statements gathered once =
+    let same = missing-undefined all statements (gathered.table once) in
+    let sources = ap (λ (test : List ℕ → Bool). first_line (λ statement. list_any test (sources_of statement)) (numbered_list statements.nodes.items)) same
+    ∙ gathered.telling once (reads_undefined (nodes_among all)) (λ statement known. undefined-kept all (sources_of statement) ∙ known) in
+    let outputs = ap (λ (test : List ℕ → Bool). first_line (λ statement. list_any test (used_names statement)) (numbered_outputs statements.outputs.items)) same
+    ∙ ap (first_line (uses_undefined (nodes_among all))) gathered.outputs in
+    ap (λ line. earlier line (first_line (uses_missing statements.lines) (numbered_outputs statements.outputs.items))) sources
+    ∙ ap (earlier (first_line (reads_undefined (nodes_among all)) (nodes_among all))) outputs
+
+-- what is left of a fault behind a name that is defined again
+behind-again : (all : List (Numbered Statement)) (statements : Statements) (front : Option BenchFault) → AreGathered all statements
+    → option_or (option_map again_fault statements.again) (option_or front (last_fault statements))
+    ≡ option_or (twice_fault (nodes_among all)) (option_or front (option_or (option_map fault.Undefined (undefined_line (nodes_among all) (outputs_among all))) (too_many statements.notes.variables)))
+behind-again all statements front gathered =
+    by_again statements.again refl
+    ∙ ap (λ answer. option_or answer rest) (gathered.again ∙ sym (twice_after-kept [] [] all (λ name. refl)))
+  where
+    rest : Option BenchFault
+    rest = option_or front (option_or (option_map fault.Undefined (undefined_line (nodes_among all) (outputs_among all))) (too_many statements.notes.variables))
+
+    by_again : (again : Option Redefinition) → statements.again ≡ again → option_or (option_map again_fault again) (option_or front (last_fault statements)) ≡ option_or (option_map again_fault again) rest
+    by_again (Some again) is = refl
+    by_again None is = ap (λ line. option_or front (option_or (option_map fault.Undefined line) (too_many statements.notes.variables))) (unknown-undefined all statements gathered is)
+
+-- the fault of the statements that were read is that of all statements of the text
 pub fault_in-first : (text : List ℕ) (statements : Statements) → IsParsed text statements → fault_in statements ≡ first_fault (numbered_statements text)
 fault_in-first text statements parsed =
     let all = numbered_statements text in
-    ap (λ nodes. sorted_fault nodes (numbered_outputs statements.outputs.items) statements.notes) parsed.nodes
-    ∙ ap (λ outputs. sorted_fault (nodes_among all) outputs statements.notes) parsed.outputs
-    ∙ ap (sorted_fault (nodes_among all) (outputs_among all)) parsed.notes
+    let notes = statements.notes in
+    ap (option_or (option_map fault.Name notes.long_name)) (ap (option_or (option_map fault.KindUnknown notes.unknown_kind)) (ap (option_or (option_map fault.Clocked notes.clocked_kind))
+    (behind-again all statements (option_map pins_fault notes.wrong_pins) parsed.gathered)))
+    ∙ ap (sorted_fault (nodes_among all) (outputs_among all)) parsed.gathered.notes
     ∙ sorted_fault-kept all (numbered_from-Ascends statement_of 1 (lines_of text))

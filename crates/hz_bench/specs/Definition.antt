@@ -1,9 +1,11 @@
 -- Which line defines a name.
-use Rattle.std.specs.Prelude.{◌≡◌, ℕ, Bool, false, List, [], ◌∷◌, map, Option, Some, None, if◌then◌else◌}
+use Rattle.std.specs.Prelude.{◌≡◌, ℕ, Bool, false, not, is_some, List, [], ◌∷◌, ◌++◌, map, Option, Some, None, if◌then◌else◌}
 use Rattle.std.specs.Str.{bytes_eq}
 use Rattle.std.specs.HashMap.{HashMap, get_by}
+use Rattle.hz_bench.specs.declared.entry.Entry.{Entry}
 use Rattle.hz_core.specs.declared.name.Name.{Name}
 use Rattle.hz_line.specs.Statement.{Numbered, first_line}
+use Rattle.hz_bench.specs.Entry.{stated}
 use Rattle.hz_bench.specs.Statement.{Statement, Input, Output, Gate, defined_name}
 
 -- the name is the one that is defined, if one is
@@ -47,3 +49,16 @@ IsPut old new line (Some defined) = (line_for old defined ≡ None) × ((name : 
 abbrev pub line_for_defined : {S : Type 0} → HashMap Name ℕ S → Option (List ℕ) → Option ℕ
 line_for_defined table None = None
 line_for_defined table (Some defined) = line_for table defined
+
+-- a table has no line for any name
+abbrev pub IsEmptyTable : {S : Type 0} → HashMap Name ℕ S → Type 0
+IsEmptyTable table = table.entries ≡ []
+
+-- a statement came to the table: its name is new there, and is put after the others, or a first line defines it already
+abbrev pub IsDefinedIn : {S : Type 0} → HashMap Name ℕ S → HashMap Name ℕ S → Entry → Option ℕ → Type 0
+IsDefinedIn old new entry None = IsPut old new entry.line (defined_name (stated entry)) × (names_in new ≡ names_in old ++ defined_names (stated entry ∷ []))
+IsDefinedIn old new entry (Some first) = line_for_defined old (defined_name (stated entry)) ≡ Some first
+
+-- a table does not have the name
+abbrev pub is_missing : {S : Type 0} → HashMap Name ℕ S → List ℕ → Bool
+is_missing table name = not (is_some (line_for table name))

@@ -1,13 +1,20 @@
 -- The fault of statements by their nodes, their outputs and what was noted of all of them.
-use Rattle.std.specs.Prelude.{ℕ, List, Option, option_map}
+use Rattle.std.specs.Prelude.{ℕ, Bool, List, Option, Some, option_map}
+use Rattle.std.specs.HashMap.{HashMap}
+use Rattle.std.specs.List.{list_any}
 use Rattle.std.specs.Option.{option_or}
+use Rattle.hz_core.specs.declared.name.Name.{Name}
 use Rattle.hz_line.specs.Statement.{Numbered, first_line}
 use Rattle.hz_bench.specs.declared.fault.BenchFault.{BenchFault}
 use Rattle.hz_bench.specs.declared.fault.BenchFault.TheVariants as fault
 use Rattle.hz_bench.specs.declared.notes.Notes.{Notes}
+use Rattle.hz_bench.specs.declared.notes.Redefinition.{Redefinition}
 use Rattle.hz_bench.specs.declared.notes.WrongPins.{WrongPins}
+use Rattle.hz_bench.specs.declared.parse.Statements.{Statements}
 use Rattle.hz_bench.specs.Check.{reads_undefined, uses_undefined, earlier, too_many}
-use Rattle.hz_bench.specs.Statement.{Statement}
+use Rattle.hz_bench.specs.Definition.{is_missing}
+use Rattle.hz_bench.specs.Entry.{numbered_list, numbered_outputs}
+use Rattle.hz_bench.specs.Statement.{Statement, sources_of, used_names}
 use Rattle.hz_bench.specs.Twice.{twice_fault}
 
 -- the first line that uses a name which no node defines
@@ -28,3 +35,38 @@ sorted_fault nodes outputs notes =
     (option_or (option_map pins_fault notes.wrong_pins)
     (option_or (option_map fault.Undefined (undefined_line nodes outputs))
     (too_many notes.variables))))))
+
+-- a name that is defined again, as a fault
+abbrev pub again_fault : Redefinition → BenchFault
+again_fault again = fault.Twice again.line again.first
+
+-- the pins of the statement read a name that a table does not have
+abbrev pub reads_missing : {S : Type 0} → HashMap Name ℕ S → Statement → Bool
+reads_missing table statement = list_any (is_missing table) (sources_of statement)
+
+-- the statement uses a name that a table does not have
+abbrev pub uses_missing : {S : Type 0} → HashMap Name ℕ S → Statement → Bool
+uses_missing table statement = list_any (is_missing table) (used_names statement)
+
+-- the first line, of those that were read, that uses a name which their table does not have
+abbrev pub unknown_line : Statements → Option ℕ
+unknown_line statements =
+    earlier (first_line (reads_missing statements.lines) (numbered_list statements.nodes.items))
+    (first_line (uses_missing statements.lines) (numbered_outputs statements.outputs.items))
+
+-- the fault of statements that have no other: an unknown name, or more variables than a circuit has
+abbrev pub last_fault : Statements → Option BenchFault
+last_fault statements = option_or (option_map fault.Undefined (unknown_line statements)) (too_many statements.notes.variables)
+
+-- the same of statements with too many variables
+abbrev pub many_fault : Statements → Option BenchFault
+many_fault statements = option_or (option_map fault.Undefined (unknown_line statements)) (Some (fault.TooMany statements.notes.variables))
+
+-- the fault of statements as they were read: the least number and, of this number, the first line
+abbrev pub fault_in : Statements → Option BenchFault
+fault_in statements =
+    option_or (option_map fault.Name statements.notes.long_name)
+    (option_or (option_map fault.KindUnknown statements.notes.unknown_kind)
+    (option_or (option_map fault.Clocked statements.notes.clocked_kind)
+    (option_or (option_map again_fault statements.again)
+    (option_or (option_map pins_fault statements.notes.wrong_pins) (last_fault statements)))))

@@ -1,59 +1,49 @@
 // The names that statements define.
 
-ghost use Rattle.std.specs.Prelude.{◌≡◌, ◌++◌, ◌∷◌, [], MatchResult, None};
+ghost use Rattle.std.specs.Prelude.{◌≡◌, IfOk, OnErr, is_some};
 ghost use Rattle.std.specs.Str.{bytes_eq};
 ghost use Rattle.indexmap.specs.IndexMap.{index_of_by};
-ghost use Rattle.hz_bench.specs.Definition.{line_for_defined, names_in, defined_names, IsPut, IsTableOf};
-ghost use Rattle.hz_bench.specs.Entry.{stated, numbered_list, statement_list};
-ghost use Rattle.hz_bench.specs.Statement.{defined_name};
-ghost use Rattle.hz_bench.specs.Twice.{twice_or, twice_fault, IsFoundOrMemory};
+ghost use Rattle.hz_bench.specs.Definition.{line_for, IsDefinedIn, IsEmptyTable};
 
 use crate::entry::Entry;
-use crate::fault::BenchFault;
-use hz_core::{Name, NameHasher};
+use hz_core::{Memory, Name, NameHasher};
 use indexmap::IndexMap;
 use std::alloc::Global;
 use std::hash::BuildHasherDefault;
 
-/// The line that defines each name. The names borrow the text.
+/// The line that defines each name, in the order of the lines. The names borrow the text.
 pub(crate) type Definitions<'a> = IndexMap<Name<'a>, u32, BuildHasherDefault<NameHasher>>;
 
-/// The definitions of the statements, or the first that is not the first of its name.
-pub(crate) fn definitions<'a>(
-    alloc: Global,
-    entries: &[Entry<'a>],
-) -> Result<Definitions<'a>, BenchFault>
-    ensures { MatchResult result
-        (λ lines. (twice_fault (numbered_list entries.now) ≡ None) × IsTableOf (numbered_list entries.now) lines × (names_in lines ≡ defined_names (statement_list entries.now)))
-        (λ fault. IsFoundOrMemory (twice_fault (numbered_list entries.now)) fault) }
+// A line that defines a name has seldom fewer bytes.
+const BYTES_A_NAME: usize = 16;
+
+/// A table without names, with room for those of a text of so many bytes. The table grows where it has too little.
+pub(crate) fn no_definitions<'a>(alloc: Global, bytes: usize) -> Result<Definitions<'a>, Memory>
+    ensures { IfOk result (λ lines. IsEmptyTable lines) }
 {
+    let names = bytes / BYTES_A_NAME;
     let hashing = BuildHasherDefault::new();
-    let Ok(mut lines) = Definitions::with_capacity_and_hasher(alloc, entries.len(), hashing) else {
-        return Err(BenchFault::Memory);
+    let Ok(lines) = Definitions::with_capacity_and_hasher(alloc, names, hashing) else {
+        return Err(Memory);
     };
-    for entry in entries {
-        match define(&mut lines, entry) {
-            Ok(()) => {}
-            Err(fault) => return Err(fault),
-        }
-    }
     Ok(lines)
 }
 
-// Puts the name that a statement defines into the table, if it is new there.
-fn define<'a>(lines: &mut Definitions<'a>, entry: &Entry<'a>) -> Result<(), BenchFault>
-    ensures { MatchResult result
-        (λ _. IsPut lines.old lines.new entry.now.line (defined_name (stated entry.now)) × (names_in lines.new ≡ names_in lines.old ++ defined_names (stated entry.now ∷ [])))
-        (λ fault. IsFoundOrMemory (twice_or entry.now.line (line_for_defined lines.old (defined_name (stated entry.now))) None) fault) }
+/// Puts the name that a statement defines into the table, or answers the line that defines it there.
+pub(crate) fn define<'a>(lines: &mut Definitions<'a>, entry: &Entry<'a>) -> Result<Option<u32>, Memory>
+    ensures { IfOk result (λ first. IsDefinedIn lines.old lines.new entry.now first) }
 {
     match lines.insert(Name { bytes: entry.name }, entry.line) {
-        Ok(None) => Ok(()),
-        Ok(Some(first)) => Err(BenchFault::Twice {
-            line: entry.line,
-            first,
-        }),
-        Err(_) => Err(BenchFault::Memory),
+        Ok(first) => Ok(first),
+        Err(_) => Err(Memory),
     }
+}
+
+/// Whether the table has a name.
+pub(crate) fn is_defined(lines: &Definitions, name: &[u8]) -> bool
+    ensures { result ≡ is_some (line_for lines.now name.now) }
+{
+    lines.contains_key(&Name { bytes: name })
 }
 
 /// The place of a name in the table.

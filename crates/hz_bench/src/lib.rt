@@ -11,6 +11,7 @@ mod parse;
 mod printing;
 mod reading;
 mod statement;
+mod unknown;
 mod uses;
 
 pub use fault::BenchFault;

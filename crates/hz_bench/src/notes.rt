@@ -16,6 +16,13 @@ pub struct WrongPins {
     pub count: u32,
 }
 
+/// A line that defines a name which an earlier line defines, and the first line that does.
+#[derive(Clone, Copy, Debug)]
+pub struct Redefinition {
+    pub line: u32,
+    pub first: u32,
+}
+
 /// What is known of the statements of a text once they are read: the first line with each fault of a single statement,
 /// and how many inputs, gates and pins they bring.
 #[derive(Clone, Copy, Debug)]

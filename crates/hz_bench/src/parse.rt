@@ -1,25 +1,35 @@
 // The statements of a text.
 
-ghost use Rattle.std.specs.Prelude.{◌+◌, ◌<◌, ◌≤◌, ◌^◌, length, MatchResult, OnOk};
-ghost use Rattle.hz_bench.specs.Entry.{numbered_line};
+ghost use Rattle.std.specs.Prelude.{◌≡◌, ◌+◌, ◌<◌, ◌≤◌, ◌^◌, IfOk, length, MatchResult, OnOk};
+ghost use Rattle.hz_bench.specs.Entry.{stated, numbered_line, numbered_of, numbered_output};
 ghost use Rattle.hz_bench.specs.Statement.{variables_in};
-ghost use Rattle.hz_bench.specs.Pass.{IsParsed, IsParseFault, IsSorted};
+ghost use Rattle.hz_bench.specs.Pass.{is_kept, IsDefining, IsNothingRead, IsParsed, IsParseFault, IsSorted};
 
+use crate::definitions::{Definitions, define, no_definitions};
 use crate::entry::{Entry, Line, OutputLine};
 use crate::fault::BenchFault;
-use crate::notes::Notes;
+use crate::notes::{Notes, Redefinition};
 use crate::statement::{is_bare, statement_of};
-use hz_core::Memory;
-use hz_line::cut_line;
+use crate::unknown::reads_unknown;
+use hz_core::{MAX_VARIABLES, Memory};
+use hz_line::{Token, cut_line};
 use std::alloc::Global;
 
-/// The statements of a text, each kind in the order of the text: those that define a name and the outputs; and what was
-/// noted of all of them.
+/// What was read of the statements of a text.
 #[derive(Drop)]
 pub struct Statements<'a> {
+    /// The inputs and gates, in the order of the text. Where the text has more variables than a circuit, these are no more
+    /// than are needed to tell which names are undefined: beyond the most variables, a gate whose sources are all defined
+    /// before it is left out.
     pub nodes: Vec<Entry<'a>>,
+    /// The lines of the outputs, in the order of the text.
     pub outputs: Vec<OutputLine<'a>>,
+    /// What was noted of all statements.
     pub notes: Notes,
+    /// The first line that defines a name again. Names are not put into the table from there on.
+    pub again: Option<Redefinition>,
+    /// The names that inputs and gates define, in the order of the text.
+    pub lines: Definitions<'a>,
 }
 
 /// The statements of a text, or the first line that is malformed.
@@ -29,11 +39,10 @@ pub(crate) fn parse<'a>(alloc: Global, text: &'a [u8]) -> Result<Statements<'a>,
         (λ statements. IsParsed text.now statements)
         (λ fault. IsParseFault text.now fault) }
 {
-    let mut statements = Statements {
-        nodes: Vec::new(alloc),
-        outputs: Vec::new(alloc),
-        notes: Notes::new(),
+    let Ok(mut statements) = Statements::new(alloc, text.len()) else {
+        return Err(BenchFault::Memory);
     };
+    let mut tokens = Vec::new(alloc);
     let mut line = 0u32;
     let mut left = Some(text);
     while let Some(rest) = left {
@@ -41,7 +50,7 @@ pub(crate) fn parse<'a>(alloc: Global, text: &'a [u8]) -> Result<Statements<'a>,
         line += 1;
         left = cut.rest;
         match statement_of(line, cut.line) {
-            Some(statement) => match statements.add(statement) {
+            Some(statement) => match statements.add(statement, &mut tokens) {
                 Ok(()) => {}
                 Err(Memory) => return Err(BenchFault::Memory),
             },
@@ -56,22 +65,81 @@ pub(crate) fn parse<'a>(alloc: Global, text: &'a [u8]) -> Result<Statements<'a>,
 }
 
 impl<'a> Statements<'a> {
+    // Those of no text, with room for the names of one of so many bytes.
+    fn new(alloc: Global, bytes: usize) -> Result<Statements<'a>, Memory>
+        ensures { IfOk result (λ statements. IsNothingRead statements) }
+    {
+        let lines = no_definitions(alloc, bytes)?;
+        Ok(Statements {
+            nodes: Vec::new(alloc),
+            outputs: Vec::new(alloc),
+            notes: Notes::new(),
+            again: None,
+            lines,
+        })
+    }
+
     // Adds the next statement of the text.
-    fn add(&mut self, line: Line<'a>) -> Result<(), Memory>
+    fn add(&mut self, line: Line<'a>, tokens: &mut Vec<Token<'a>>) -> Result<(), Memory>
         requires inputs { self.old.notes.inputs ≤ self.old.notes.variables }
         requires variables { self.old.notes.variables + variables_in (numbered_line line).statement < 2 ^ 32 }
         ensures { OnOk result (IsSorted self.old (numbered_line line.entry) self.new) }
     {
-        let pushed = match line {
-            Line::Node(entry) => {
-                self.notes.add(&entry);
-                self.nodes.push(entry).is_ok()
-            }
-            Line::Output(output) => {
-                self.notes.add_output(&output);
-                self.outputs.push(output).is_ok()
-            }
+        match line {
+            Line::Node(entry) => self.add_node(entry, tokens),
+            Line::Output(output) => self.add_output(output),
+        }
+    }
+
+    // Adds an input or a gate.
+    fn add_node(&mut self, entry: Entry<'a>, tokens: &mut Vec<Token<'a>>) -> Result<(), Memory>
+        requires inputs { self.old.notes.inputs ≤ self.old.notes.variables }
+        requires variables { self.old.notes.variables + variables_in (stated entry) < 2 ^ 32 }
+        ensures { OnOk result (IsSorted self.old (numbered_of entry.entry) self.new) }
+    {
+        self.notes.add(&entry);
+        self.define(&entry)?;
+        if self.keeps(&entry, tokens)? {
+            let Ok(()) = self.nodes.push(entry) else {
+                return Err(Memory);
+            };
+        }
+        Ok(())
+    }
+
+    // Adds an output.
+    fn add_output(&mut self, output: OutputLine<'a>) -> Result<(), Memory>
+        ensures { OnOk result (IsSorted self.old (numbered_output output.entry) self.new) }
+    {
+        self.notes.add_output(&output);
+        let Ok(()) = self.outputs.push(output) else {
+            return Err(Memory);
         };
-        if pushed { Ok(()) } else { Err(Memory) }
+        Ok(())
+    }
+
+    // Puts the name that a statement defines into the table, or notes that a line defines it already.
+    fn define(&mut self, entry: &Entry<'a>) -> Result<(), Memory>
+        ensures { OnOk result (IsDefining self.old entry.now self.new) }
+    {
+        if self.again.is_some() {
+            return Ok(());
+        }
+        if let Some(first) = define(&mut self.lines, entry)? {
+            let line = entry.line;
+            self.again = Some(Redefinition { line, first });
+        }
+        Ok(())
+    }
+
+    // Whether a statement is needed once it is read: the text may have a circuit, or it reads a name that no line so far
+    // defines.
+    fn keeps(&self, entry: &Entry<'a>, tokens: &mut Vec<Token<'a>>) -> Result<bool, Memory>
+        ensures { IfOk result (λ keeps. keeps ≡ is_kept self.now entry.now) }
+    {
+        if self.notes.variables <= MAX_VARIABLES {
+            return Ok(true);
+        }
+        reads_unknown(entry, &self.lines, tokens)
     }
 }

@@ -2,22 +2,22 @@
 
 ghost use Rattle.std.specs.Prelude.{◌≡◌, ◌<◌, ◌≤◌, ◌^◌, ◌⊎◌, IfOk, IfErr, OnOk, IsErrOf, MatchResult, None, length};
 ghost use Rattle.hz_core.specs.Netlist.{IsWhole};
-ghost use Rattle.hz_bench.specs.Entry.{numbered_list, numbered_outputs, statement_list, output_list};
+ghost use Rattle.hz_bench.specs.Entry.{statement_list, output_list};
 ghost use Rattle.hz_bench.specs.Fault.{IsAnswer, IsFaultless, IsLeastFault};
-ghost use Rattle.hz_bench.specs.Netlist.{input_names, netlist_of};
-ghost use Rattle.hz_bench.specs.Pass.{IsAccepted};
-ghost use Rattle.hz_bench.specs.Sorted.{sorted_fault};
+ghost use Rattle.hz_bench.specs.Netlist.{netlist_of};
+ghost use Rattle.hz_bench.specs.Pass.{IsAccepted, IsListed};
+ghost use Rattle.hz_bench.specs.Sorted.{fault_in, many_fault};
 ghost use Rattle.hz_bench.specs.Text.{statements_of};
 ghost use Rattle.hz_bench.specs.Twice.{IsFoundOrMemory};
 ghost use Rattle.hz_bench.specs.Uses.{AreUses};
 
 use crate::build::build;
-use crate::definitions::definitions;
 use crate::fault::BenchFault;
-use crate::notes::WrongPins;
+use crate::notes::{Redefinition, WrongPins};
 use crate::parse::{Statements, parse};
+use crate::unknown::first_unknown;
 use crate::uses::{Uses, resolve};
-use hz_core::{Circuit, MAX_VARIABLES};
+use hz_core::{Circuit, MAX_VARIABLES, Memory};
 use std::alloc::Global;
 
 /// Reads a netlist in the .bench format.
@@ -63,12 +63,10 @@ fn read_accepted<'a>(alloc: Global, text: &'a [u8]) -> Result<Accepted<'a>, Benc
 
 // Checks the statements, in the order of the faults, and answers the nodes that they use.
 fn check(alloc: Global, statements: &Statements) -> Result<Uses, BenchFault>
-    requires few { length statements.now.nodes.items < 2 ^ 31 }
-    requires inputs { statements.now.notes.inputs ≡ length (input_names (statement_list statements.now.nodes.items)) }
+    requires { statements.now.again ≡ None → statements.now.notes.variables ≤ 200000 → IsListed statements.now }
     ensures { MatchResult result
-        (λ uses. (sorted_fault (numbered_list statements.now.nodes.items) (numbered_outputs statements.now.outputs.items) statements.now.notes ≡ None)
-        × AreUses (statement_list statements.now.nodes.items) (output_list statements.now.outputs.items) uses)
-        (λ fault. IsFoundOrMemory (sorted_fault (numbered_list statements.now.nodes.items) (numbered_outputs statements.now.outputs.items) statements.now.notes) fault) }
+        (λ uses. (fault_in statements.now ≡ None) × AreUses (statement_list statements.now.nodes.items) (output_list statements.now.outputs.items) uses)
+        (λ fault. IsFoundOrMemory (fault_in statements.now) fault) }
 {
     let notes = statements.notes;
     if let Some(line) = notes.long_name {
@@ -80,20 +78,27 @@ fn check(alloc: Global, statements: &Statements) -> Result<Uses, BenchFault>
     if let Some(line) = notes.clocked_kind {
         return Err(BenchFault::Clocked { line });
     }
-    let lines = match definitions(alloc, statements.nodes.as_slice()) {
-        Ok(lines) => lines,
-        Err(fault) => return Err(fault),
-    };
+    if let Some(Redefinition { line, first }) = statements.again {
+        return Err(BenchFault::Twice { line, first });
+    }
     if let Some(WrongPins { line, count }) = notes.wrong_pins {
         return Err(BenchFault::Pins { line, count });
     }
-    let uses = match resolve(alloc, statements, &lines) {
-        Ok(uses) => uses,
-        Err(fault) => return Err(fault),
-    };
-    let variables = notes.variables;
-    if variables > MAX_VARIABLES {
-        return Err(BenchFault::TooMany { variables });
+    if notes.variables > MAX_VARIABLES {
+        return Err(refuse_many(alloc, statements));
     }
-    Ok(uses)
+    resolve(alloc, statements)
+}
+
+// Why statements with too many variables have no circuit: a name that they use may be undefined, which comes first.
+fn refuse_many(alloc: Global, statements: &Statements) -> BenchFault
+    ensures { IsFoundOrMemory (many_fault statements.now) result }
+{
+    match first_unknown(alloc, statements) {
+        Ok(Some(line)) => BenchFault::Undefined { line },
+        Ok(None) => BenchFault::TooMany {
+            variables: statements.notes.variables,
+        },
+        Err(Memory) => BenchFault::Memory,
+    }
 }

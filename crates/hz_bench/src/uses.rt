@@ -6,10 +6,11 @@ ghost use Rattle.hz_line.specs.Statement.{first_line};
 ghost use Rattle.hz_line.specs.Token.{token_of};
 ghost use Rattle.indexmap.specs.IndexMap.{index_map_len};
 ghost use Rattle.hz_bench.specs.Check.{earlier};
-ghost use Rattle.hz_bench.specs.Definition.{defined_names, names_in, IsTableOf};
+ghost use Rattle.hz_bench.specs.Definition.{defined_names};
 ghost use Rattle.hz_bench.specs.Entry.{stated, numbered_list, numbered_outputs, statement_list, output_list};
 ghost use Rattle.hz_bench.specs.Netlist.{input_names, node_names, output_names, number_in};
-ghost use Rattle.hz_bench.specs.Sorted.{undefined_line};
+ghost use Rattle.hz_bench.specs.Pass.{IsListed};
+ghost use Rattle.hz_bench.specs.Sorted.{unknown_line};
 ghost use Rattle.hz_bench.specs.Statement.{sources_of, used_names, words_of};
 ghost use Rattle.hz_bench.specs.Twice.{twice_fault, IsFoundOrMemory};
 ghost use Rattle.hz_bench.specs.Uses.{is_unnumbered, number_for, numbers_of, pin_numbers, AreUses};
@@ -33,22 +34,14 @@ pub struct Uses {
 }
 
 /// The nodes that the statements use, or the first line that uses a name which no statement defines.
-pub(crate) fn resolve(
-    alloc: Global,
-    statements: &Statements,
-    lines: &Definitions,
-) -> Result<Uses, BenchFault>
-    requires few { length statements.now.nodes.items < 2 ^ 31 }
-    requires inputs { statements.now.notes.inputs ≡ length (input_names (statement_list statements.now.nodes.items)) }
-    requires once { twice_fault (numbered_list statements.now.nodes.items) ≡ None }
-    requires table { IsTableOf (numbered_list statements.now.nodes.items) lines.now }
-    requires names { names_in lines.now ≡ defined_names (statement_list statements.now.nodes.items) }
+pub(crate) fn resolve(alloc: Global, statements: &Statements) -> Result<Uses, BenchFault>
+    requires { IsListed statements.now }
     ensures { MatchResult result
-        (λ uses. (undefined_line (numbered_list statements.now.nodes.items) (numbered_outputs statements.now.outputs.items) ≡ None)
-        × AreUses (statement_list statements.now.nodes.items) (output_list statements.now.outputs.items) uses)
-        (λ fault. IsFoundOrMemory (option_map BenchFault.Undefined (undefined_line (numbered_list statements.now.nodes.items) (numbered_outputs statements.now.outputs.items))) fault) }
+        (λ uses. (unknown_line statements.now ≡ None) × AreUses (statement_list statements.now.nodes.items) (output_list statements.now.outputs.items) uses)
+        (λ fault. IsFoundOrMemory (option_map BenchFault.Undefined (unknown_line statements.now)) fault) }
 {
     let nodes = statements.nodes.as_slice();
+    let lines = &statements.lines;
     let Ok(numbers) = number_nodes(alloc, nodes, statements.notes.inputs) else {
         return Err(BenchFault::Memory);
     };
@@ -73,8 +66,8 @@ pub(crate) fn resolve(
     }
 }
 
-// The earlier of two lines, where both are there.
-fn earlier(one: Option<u32>, other: Option<u32>) -> Option<u32>
+/// The earlier of two lines, where both are there.
+pub(crate) fn earlier(one: Option<u32>, other: Option<u32>) -> Option<u32>
     ensures { result ≡ earlier one other }
 {
     match (one, other) {

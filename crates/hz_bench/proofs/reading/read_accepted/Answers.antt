@@ -1,6 +1,6 @@
 use Rattle.std.proofs.lemmas.Result.{err_from_is_err_and}
-use Rattle.hz_bench.proofs.ReadLaws.{parse-answer, check-answer, accepted, few_read}
-use Rattle.hz_bench.proofs.Sorted.{inputs-sorted}
+use Rattle.hz_bench.proofs.ReadLaws.{parse-answer, check-answer, accepted}
+use Rattle.hz_bench.proofs.Sorted.{listed}
 use Rattle.hz_bench.proofs.reading.read_accepted.Goals as goal
 
 pub returns-in_err-statements : goal.returns-in_err-statements
@@ -16,8 +16,5 @@ returns-in_err-uses c =
 pub returns : goal.returns
 returns c = (accepted c.args.text.now c.in_ok-statements.statements c.in_ok-statements.ensures c.in_ok-uses.ensures.0, c.in_ok-uses.ensures.1)
 
-pub check-requires-clause-inputs : goal.check-requires-clause-inputs
-check-requires-clause-inputs c = inputs-sorted c.args.text.now c.in_ok-statements.statements c.in_ok-statements.ensures
-
-pub check-requires-clause-few : goal.check-requires-clause-few
-check-requires-clause-few c = few_read c.args.text.now c.in_ok-statements.statements c.requires c.in_ok-statements.ensures
+pub check-requires : goal.check-requires
+check-requires c = λ once few. listed c.args.text.now c.in_ok-statements.statements c.in_ok-statements.ensures once few

@@ -1,0 +1,125 @@
+-- What is gathered of statements, with one more.
+use Rattle.std.proofs.Common.{◌≡◌, ◌∙◌, ℕ, ◌+◌, ◌<◌, ◌≤◌, ◌++◌, ◌||◌, Bool, true, false, not, cond, List, [], ◌∷◌, Option, Some, None, is_some, option_map, refl, sym, ap, subst, arith, inl, inr}
+use Rattle.std.specs.List.{list_any}
+use Rattle.std.specs.Option.{option_or}
+use Rattle.std.specs.Prelude.{◌⊎◌}
+use Rattle.std.proofs.lemmas.List.Elements.{filter-append}
+use Rattle.std.proofs.lemmas.List.Folds.{find-append}
+use Rattle.hz_line.specs.Statement.{Numbered, first_line}
+use Rattle.hz_bench.specs.declared.fault.BenchFault.{BenchFault}
+use Rattle.hz_bench.specs.declared.notes.Notes.{Notes}
+use Rattle.hz_bench.specs.declared.notes.Redefinition.{Redefinition}
+use Rattle.hz_bench.specs.declared.parse.Statements.{Statements}
+use Rattle.hz_bench.specs.Check.{reads_undefined, first_that}
+use Rattle.hz_bench.specs.Definition.{definer, defined_names, line_for_defined, names_in, IsTableOf}
+use Rattle.hz_bench.specs.Entry.{numbered_list, numbered_outputs}
+use Rattle.hz_bench.specs.Noted.{noted}
+use Rattle.hz_bench.specs.Pass.{noted_again, AreGathered, IsLeftOut, IsNamed, IsSorted, TellUndefined}
+use Rattle.hz_bench.specs.Sorted.{again_fault}
+use Rattle.hz_bench.specs.Statement.{Statement, defined_name, is_node, is_output, sources_of}
+use Rattle.hz_bench.specs.Text.{nodes_among, outputs_among}
+use Rattle.hz_bench.specs.Twice.{twice_or, earlier_line, twice_fault}
+use Rattle.hz_bench.proofs.CheckedLemmas.{either, neither}
+use Rattle.hz_bench.proofs.DefinitionLemmas.{plain, defined_names-push, definer-push, earlier_line-table, put, twice_fault-push, undefined-table}
+use Rattle.hz_bench.proofs.NotedLemmas.{notes_of-push}
+
+-- what is noted is the fault of the first line that defines a name again
+noted_fault : (again : Option Redefinition) (line : ℕ) (first : Option ℕ) → option_map again_fault (noted_again again line first) ≡ option_or (option_map again_fault again) (twice_or line first None)
+noted_fault (Some again) line first = refl
+noted_fault None line None = refl
+noted_fault None line (Some first) = refl
+
+-- where nothing is noted, nothing was noted before
+nothing_before : (again : Option Redefinition) (line : ℕ) (first : Option ℕ) → noted_again again line first ≡ None → again ≡ None
+nothing_before None line first h = refl
+nothing_before (Some again) line first h = cc
+
+again-more : (done : List (Numbered Statement)) (one : Numbered Statement) (statements more : Statements) → AreGathered done statements → IsNamed statements one more → option_map again_fault more.again ≡ twice_fault (done ++ one ∷ [])
+again-more done one statements more was named =
+    ap (option_map again_fault) named.again
+    ∙ noted_fault statements.again one.line (line_for_defined statements.lines (defined_name one.statement))
+    ∙ by_again statements.again refl
+    ∙ ap (λ fault. option_or fault (twice_or one.line (earlier_line done (defined_name one.statement)) None)) was.again
+    ∙ sym (twice_fault-push done one)
+  where
+    by_again : (again : Option Redefinition) → statements.again ≡ again
+        → option_or (option_map again_fault again) (twice_or one.line (line_for_defined statements.lines (defined_name one.statement)) None)
+        ≡ option_or (option_map again_fault again) (twice_or one.line (earlier_line done (defined_name one.statement)) None)
+    by_again (Some again) is = refl
+    by_again None is = ap (λ line. twice_or one.line line None) (earlier_line-table statements.lines done (defined_name one.statement) (was.table is))
+
+-- the first line of two lists that passes a test
+first_line-append : (test : Statement → Bool) (front back : List (Numbered Statement)) → first_line test (front ++ back) ≡ option_or (first_line test front) (first_line test back)
+first_line-append test front back =
+    ap (option_map (λ (numbered : Numbered Statement). numbered.line)) (find-append (λ (numbered : Numbered Statement). test numbered.statement) front back)
+    ∙ either_line (first_that test front) (first_that test back)
+  where
+    either_line : (one other : Option (Numbered Statement)) → option_map (λ (numbered : Numbered Statement). numbered.line) (option_or one other) ≡ option_or (option_map (λ (numbered : Numbered Statement). numbered.line) one) (option_map (λ (numbered : Numbered Statement). numbered.line) other)
+    either_line None other = refl
+    either_line (Some one) other = refl
+
+nodes_among-push : (done : List (Numbered Statement)) (one : Numbered Statement) → nodes_among (done ++ one ∷ []) ≡ nodes_among done ++ nodes_among (one ∷ [])
+nodes_among-push done one = filter-append (λ (numbered : Numbered Statement). is_node numbered.statement) done (one ∷ [])
+
+-- a name that is defined stays defined
+known-more : (done : List (Numbered Statement)) (one : Numbered Statement) (names : List (List ℕ))
+    → list_any (λ name. not (is_some (definer done name))) names ≡ false → list_any (λ name. not (is_some (definer (done ++ one ∷ []) name))) names ≡ false
+known-more done one [] h = refl
+known-more done one (name ∷ names) h =
+    let parts = either (not (is_some (definer done name))) (list_any (λ name. not (is_some (definer done name))) names) h in
+    neither (not (is_some (definer (done ++ one ∷ []) name))) _ (ap (λ line. not (is_some line)) (definer-push done one name) ∙ still (definer done name) _ parts.0) (known-more done one names parts.1)
+  where
+    still : (line later : Option ℕ) → not (is_some line) ≡ false → not (is_some (option_or line later)) ≡ false
+    still None later h = cc
+    still (Some line) later h = refl
+
+-- a statement that fails a test is not found among the nodes
+none_among : (test : Statement → Bool) (one : Numbered Statement) → test one.statement ≡ false → first_line test (nodes_among (one ∷ [])) ≡ None
+none_among test one h = by_node (is_node one.statement)
+  where
+    by_node : (b : Bool) → first_line test (cond b (one ∷ []) []) ≡ None
+    by_node true = rw h refl
+    by_node false = refl
+
+option_or-nothing : (line : Option ℕ) → line ≡ option_or line None
+option_or-nothing None = refl
+option_or-nothing (Some line) = refl
+
+telling-more : (done : List (Numbered Statement)) (one : Numbered Statement) (statements more : Statements) → IsTableOf (done ++ one ∷ []) more.lines
+    → TellUndefined done (numbered_list statements.nodes.items) → (numbered_list more.nodes.items ≡ numbered_list statements.nodes.items ++ nodes_among (one ∷ [])) ⊎ IsLeftOut statements one more
+    → TellUndefined (done ++ one ∷ []) (numbered_list more.nodes.items)
+telling-more done one statements more table was (inl kept) = λ test fails.
+    let before = was test (λ statement known. fails statement (known-more done one (sources_of statement) known)) in
+    ap (first_line test) kept ∙ first_line-append test (numbered_list statements.nodes.items) (nodes_among (one ∷ []))
+    ∙ ap (λ line. option_or line (first_line test (nodes_among (one ∷ [])))) before
+    ∙ sym (first_line-append test (nodes_among done) (nodes_among (one ∷ []))) ∙ sym (ap (first_line test) (nodes_among-push done one))
+telling-more done one statements more table was (inr left) = λ test fails.
+    let before = was test (λ statement known. fails statement (known-more done one (sources_of statement) known)) in
+    let fails_here = fails one.statement (sym (undefined-table more.lines (done ++ one ∷ []) (sources_of one.statement) table) ∙ left.known) in
+    ap (first_line test) left.nodes ∙ before ∙ option_or-nothing (first_line test (nodes_among done))
+    ∙ sym (ap (option_or (first_line test (nodes_among done))) (none_among test one fails_here))
+    ∙ sym (first_line-append test (nodes_among done) (nodes_among (one ∷ []))) ∙ sym (ap (first_line test) (nodes_among-push done one))
+
+nodes-more : (done : List (Numbered Statement)) (one : Numbered Statement) (statements more : Statements) → AreGathered done statements → more.notes ≡ noted statements.notes one
+    → (numbered_list more.nodes.items ≡ numbered_list statements.nodes.items ++ nodes_among (one ∷ [])) ⊎ IsLeftOut statements one more
+    → more.notes.variables ≤ 200000 → numbered_list more.nodes.items ≡ nodes_among (done ++ one ∷ [])
+nodes-more done one statements more was notes (inl kept) few =
+    let sum = ap (λ (notes : Notes). notes.variables) notes in
+    kept ∙ ap (λ (list : List (Numbered Statement)). list ++ nodes_among (one ∷ [])) (was.nodes (omega (arith, sum, few))) ∙ sym (nodes_among-push done one)
+nodes-more done one statements more was notes (inr left) few = absurd (omega (arith, left.many, few))
+
+-- the next statement is gathered too
+pub gathered-more : (done : List (Numbered Statement)) (one : Numbered Statement) (statements more : Statements)
+    → AreGathered done statements → IsSorted statements one more → AreGathered (done ++ one ∷ []) more
+gathered-more done one statements more was sorted =
+    let before : more.again ≡ None → statements.again ≡ None = λ none. nothing_before statements.again one.line _ (sym sorted.named.again ∙ none) in
+    let table : more.again ≡ None → IsTableOf (done ++ one ∷ []) more.lines = λ none. put statements.lines more.lines done one (defined_name one.statement) refl (sorted.named.put none).0 (was.table (before none)) in
+    record {
+      outputs = sorted.outputs ∙ ap (λ (list : List (Numbered Statement)). list ++ outputs_among (one ∷ [])) was.outputs ∙ sym (filter-append (λ (numbered : Numbered Statement). is_output numbered.statement) done (one ∷ []));
+      notes = sorted.notes ∙ ap (λ (notes : Notes). noted notes one) was.notes ∙ sym (notes_of-push done one);
+      again = again-more done one statements more was sorted.named;
+      table = table;
+      names = λ none. (sorted.named.put none).1 ∙ ap (λ names. names ++ defined_names (one.statement ∷ [])) (was.names (before none)) ∙ sym (defined_names-push done one);
+      telling = λ none. telling-more done one statements more (table none) (was.telling (before none)) sorted.nodes;
+      nodes = nodes-more done one statements more was sorted.notes sorted.nodes;
+    }
