@@ -57,6 +57,28 @@ IsParsing-begin text statements nothing = record {
   variables = omega arith;
 }
 
+-- what was read stays where the table takes more room
+pub IsParsing-roomier : (text : List ℕ) (statements more : Statements) (line : ℕ) (left : Option (Bor (List ℕ))) → more.nodes ≡ statements.nodes → more.outputs ≡ statements.outputs → more.notes ≡ statements.notes → more.again ≡ statements.again
+    → more.lines.entries ≡ statements.lines.entries → IsParsing text statements line left → IsParsing text more line left
+IsParsing-roomier text statements more line left nodes outputs notes again entries was =
+    let gathered = was.gathered in
+    record {
+      done = was.done;
+      gathered = record {
+        outputs = rw outputs gathered.outputs;
+        notes = notes ∙ gathered.notes;
+        again = rw again gathered.again;
+        table = λ once. λ name. ap (lookup (λ (key : Key). bytes_eq name key.bytes.now)) entries ∙ gathered.table (sym again ∙ once) name;
+        names = λ once. ap (map (λ (entry : Key × ℕ). entry.0.bytes.now)) entries ∙ gathered.names (sym again ∙ once);
+        telling = λ once. rw nodes (gathered.telling (sym again ∙ once));
+        nodes = λ few. rw nodes (gathered.nodes (rw (sym notes) few));
+      };
+      whole = was.whole;
+      formed = was.formed;
+      lines = was.lines;
+      variables = was.variables;
+    }
+
 -- a statement has no more variables than its line has tokens
 port_weight : (name : List ℕ) (made : Option Form) (statement : Statement) → option_map (port_of name) made ≡ Some statement → variables_in statement ≤ 4
 port_weight name None statement h = cc

@@ -5,7 +5,7 @@ ghost use Rattle.hz_bench.specs.Entry.{stated, numbered_line, numbered_of, numbe
 ghost use Rattle.hz_bench.specs.Statement.{variables_in};
 ghost use Rattle.hz_bench.specs.Pass.{is_kept, IsDefining, IsNothingRead, IsParsed, IsParseFault, IsSorted};
 
-use crate::definitions::{Definitions, define, no_definitions};
+use crate::definitions::{Definitions, define, make_room, no_definitions};
 use crate::entry::{Entry, Line, OutputLine};
 use crate::fault::BenchFault;
 use crate::notes::{Notes, Redefinition};
@@ -39,7 +39,7 @@ pub(crate) fn parse<'a>(alloc: Global, text: &'a [u8]) -> Result<Statements<'a>,
         (λ statements. IsParsed text.now statements)
         (λ fault. IsParseFault text.now fault) }
 {
-    let Ok(mut statements) = Statements::new(alloc, text.len()) else {
+    let Ok(mut statements) = Statements::new(alloc) else {
         return Err(BenchFault::Memory);
     };
     let mut tokens = Vec::new(alloc);
@@ -49,6 +49,9 @@ pub(crate) fn parse<'a>(alloc: Global, text: &'a [u8]) -> Result<Statements<'a>,
         let cut = cut_line(rest);
         line += 1;
         left = cut.rest;
+        let Ok(()) = make_room(&mut statements.lines, text.len() - rest.len(), rest.len()) else {
+            return Err(BenchFault::Memory);
+        };
         match statement_of(line, cut.line) {
             Some(statement) => match statements.add(statement, &mut tokens) {
                 Ok(()) => {}
@@ -65,11 +68,11 @@ pub(crate) fn parse<'a>(alloc: Global, text: &'a [u8]) -> Result<Statements<'a>,
 }
 
 impl<'a> Statements<'a> {
-    // Those of no text, with room for the names of one of so many bytes.
-    fn new(alloc: Global, bytes: usize) -> Result<Statements<'a>, Memory>
+    // Those of no text.
+    fn new(alloc: Global) -> Result<Statements<'a>, Memory>
         ensures { IfOk result (λ statements. IsNothingRead statements) }
     {
-        let lines = no_definitions(alloc, bytes)?;
+        let lines = no_definitions(alloc)?;
         Ok(Statements {
             nodes: Vec::new(alloc),
             outputs: Vec::new(alloc),
