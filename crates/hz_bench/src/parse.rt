@@ -8,9 +8,9 @@ ghost use Rattle.hz_bench.specs.Pass.{IsParsed, IsParseFault, IsSorted};
 use crate::entry::{Entry, Line, OutputLine};
 use crate::fault::BenchFault;
 use crate::notes::Notes;
-use crate::statement::{is_bare, statement_of};
+use crate::statement::statement_of;
 use hz_core::Memory;
-use hz_line::cut_line;
+use hz_line::{cut_line, is_bare};
 use std::alloc::Global;
 
 /// The statements of a text, each kind in the order of the text: those that define a name and the outputs; and what was
