@@ -5,13 +5,13 @@ use Rattle.hz_line.specs.declared.bytes.Mark.{Mark}
 use Rattle.hz_line.specs.declared.bytes.Mark.TheVariants.{Open, Close, Comma, Equals}
 use Rattle.hz_line.specs.Keyword.{is_keyword}
 use Rattle.hz_line.specs.Statement.{Means, meaning_of_tokens}
-use Rattle.hz_line.specs.Token.{TokenOf, WordOf, MarkOf, tokens_of, with_token, IsWord, AreWords}
+use Rattle.hz_line.specs.Token.{TokenOf, WordOf, MarkOf, tokens_of, with_token, is_bare, IsWord, AreWords}
 use Rattle.hz_line.proofs.TokenLemmas.{tokens_of-AreWords}
 use Rattle.hz_bench.specs.declared.forms.Form.{Form}
 use Rattle.hz_bench.specs.declared.forms.Form.TheVariants as form
 use Rattle.hz_bench.specs.declared.statement.Head.{Head}
 use Rattle.hz_bench.specs.declared.statement.NameList.{NameList}
-use Rattle.hz_bench.specs.Head.{is_bare, head_tokens, names_by, noted_names, no_names}
+use Rattle.hz_bench.specs.Head.{head_tokens, names_by, noted_names, no_names}
 use Rattle.hz_bench.specs.Statement.{Gate, statement_of, names_of, words_of, port_form, port_of, kind_word_of, has_long_name, is_long, statement_with, words_by}
 use Rattle.hz_bench.specs.Text.{meaning_of}
 

@@ -1,10 +1,8 @@
 -- How a statement is read from the front of its line.
-use Rattle.std.specs.Prelude.{◌≡◌, ◌<◌, ◌≤◌, ◌+◌, ◌||◌, ℕ, Bool, true, false, List, [], ◌∷◌, length, Option, None, Some}
+use Rattle.std.specs.Prelude.{◌≡◌, ◌<◌, ◌≤◌, ◌+◌, ◌||◌, ℕ, Bool, false, List, [], ◌∷◌, length, Option, None, Some}
 use Rattle.std.specs.List.{list_any}
-use Rattle.std.specs.Borrow.{Bor}
-use Rattle.hz_line.specs.declared.bytes.Mark.{Mark}
 use Rattle.hz_line.specs.Statement.{Means}
-use Rattle.hz_line.specs.Token.{TokenOf, WordOf, MarkOf, tokens_of, with_token}
+use Rattle.hz_line.specs.Token.{TokenOf, WordOf, MarkOf, tokens_of, with_token, has_mark_first}
 use Rattle.hz_bench.specs.declared.entry.Line.{Line}
 use Rattle.hz_bench.specs.declared.statement.Head.{Head}
 use Rattle.hz_bench.specs.declared.statement.MarkedWord.{MarkedWord}
@@ -13,42 +11,12 @@ use Rattle.hz_bench.specs.Entry.{numbered_line}
 use Rattle.hz_bench.specs.Statement.{Statement, statement_of, names_of, is_long}
 use Rattle.hz_bench.specs.Text.{meaning_of}
 
--- a line has a list of tokens, and it is empty
-abbrev pub is_bare : Option (List TokenOf) → Bool
-is_bare None = false
-is_bare (Some []) = true
-is_bare (Some (token ∷ tokens)) = false
-
--- the first token is a word
-abbrev pub has_word_first : Option (List TokenOf) → Bool
-has_word_first None = false
-has_word_first (Some []) = false
-has_word_first (Some (WordOf word ∷ tokens)) = true
-has_word_first (Some (MarkOf mark ∷ tokens)) = false
-
--- the first token is a mark
-abbrev pub has_mark_first : Option (List TokenOf) → Bool
-has_mark_first None = false
-has_mark_first (Some []) = false
-has_mark_first (Some (WordOf word ∷ tokens)) = false
-has_mark_first (Some (MarkOf mark ∷ tokens)) = true
-
 -- the first tokens are a word and a mark
 abbrev pub has_marked_first : Option (List TokenOf) → Bool
 has_marked_first None = false
 has_marked_first (Some []) = false
 has_marked_first (Some (MarkOf mark ∷ tokens)) = false
 has_marked_first (Some (WordOf word ∷ tokens)) = has_mark_first (Some tokens)
-
--- a line begins with this word, before a shorter line; or with none
-abbrev pub IsWordFirst : List ℕ → Option (Bor (List ℕ) × Bor (List ℕ)) → Type 0
-IsWordFirst line None = has_word_first (tokens_of line) ≡ false
-IsWordFirst line (Some found) = (tokens_of line ≡ with_token (WordOf found.0.now) (tokens_of found.1.now)) × (length found.1.now < length line)
-
--- a line begins with this mark, before a shorter line; or with none
-abbrev pub IsMarkFirst : List ℕ → Option (Mark × Bor (List ℕ)) → Type 0
-IsMarkFirst line None = has_mark_first (tokens_of line) ≡ false
-IsMarkFirst line (Some found) = (tokens_of line ≡ with_token (MarkOf found.0) (tokens_of found.1.now)) × (length found.1.now < length line)
 
 -- a line begins with this word and this mark, before a shorter line; or with no word that has a mark after it
 abbrev pub IsMarkedFirst : List ℕ → Option MarkedWord → Type 0

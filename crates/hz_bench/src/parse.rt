@@ -9,10 +9,10 @@ use crate::definitions::{Definitions, define, make_room, no_definitions};
 use crate::entry::{Entry, Line, OutputLine};
 use crate::fault::BenchFault;
 use crate::notes::{Notes, Redefinition};
-use crate::statement::{is_bare, statement_of};
+use crate::statement::statement_of;
 use crate::unknown::reads_unknown;
 use hz_core::{MAX_VARIABLES, Memory};
-use hz_line::{Token, cut_line};
+use hz_line::{Token, cut_line, is_bare};
 use std::alloc::Global;
 
 /// What was read of the statements of a text.

@@ -1,13 +1,13 @@
 // The statement of a line.
 
 ghost use Rattle.std.specs.Prelude.{◌≡◌, ◌<◌, ◌≤◌, ◌^◌, ◌+◌, ◌||◌, [], ◌∷◌, None, Some, if◌then◌else◌, IfSome, length, option_map};
-ghost use Rattle.hz_line.specs.Token.{tokens_of};
-ghost use Rattle.hz_bench.specs.Head.{IsRead, IsWordFirst, IsMarkFirst, IsMarkedFirst, IsHeadOf, head_tokens, is_bare, names_by, noted_names, no_names};
+ghost use Rattle.hz_line.specs.Token.{tokens_of, is_bare};
+ghost use Rattle.hz_bench.specs.Head.{IsRead, IsMarkedFirst, IsHeadOf, head_tokens, names_by, noted_names, no_names};
 ghost use Rattle.hz_bench.specs.Statement.{is_long};
 
 use crate::entry::{Entry, Line, OutputLine};
 use crate::forms::{Form, kind_word};
-use hz_line::{Mark, Next, Token, is_keyword, next_token};
+use hz_line::{Mark, first_mark, first_word, is_bare, is_keyword};
 
 /// The statement of a line, if it has one. It takes no memory.
 pub(crate) fn statement_of<'a>(line: u32, text: &'a [u8]) -> Option<Line<'a>>
@@ -66,48 +66,9 @@ fn head_of<'a>(line: &'a [u8]) -> Option<Head<'a>>
 fn marked<'a>(line: &'a [u8]) -> Option<MarkedWord<'a>>
     ensures { IsMarkedFirst line.now result }
 {
-    let (word, after) = word(line)?;
-    let (mark, rest) = mark(after)?;
+    let (word, after) = first_word(line)?;
+    let (mark, rest) = first_mark(after)?;
     Some(MarkedWord { word, mark, rest })
-}
-
-// The word that a line begins with, and the line after it.
-fn word<'a>(line: &'a [u8]) -> Option<(&'a [u8], &'a [u8])>
-    ensures { IsWordFirst line.now result }
-{
-    match next_token(line) {
-        Next::End => None,
-        Next::Forbidden => None,
-        Next::Token(token, rest) => match token {
-            Token::Word(word) => Some((word, rest)),
-            Token::Sign(_) => None,
-        },
-    }
-}
-
-// The mark that a line begins with, and the line after it.
-fn mark<'a>(line: &'a [u8]) -> Option<(Mark, &'a [u8])>
-    ensures { IsMarkFirst line.now result }
-{
-    match next_token(line) {
-        Next::End => None,
-        Next::Forbidden => None,
-        Next::Token(token, rest) => match token {
-            Token::Word(_) => None,
-            Token::Sign(mark) => Some((mark, rest)),
-        },
-    }
-}
-
-/// Whether a line has no tokens: it is empty, or has blanks and a comment alone.
-pub(crate) fn is_bare(line: &[u8]) -> bool
-    ensures { result ≡ is_bare (tokens_of line.now) }
-{
-    match next_token(line) {
-        Next::End => true,
-        Next::Forbidden => false,
-        Next::Token(_, _) => false,
-    }
 }
 
 // The input or output `WORD ( NAME )`.

@@ -5,10 +5,11 @@ use Rattle.std.specs.List.{take_while, list_all}
 use Rattle.std.proofs.lemmas.List.{take-append-drop, append_assoc}
 use Rattle.std.proofs.lemmas.List.Folds.{list_all-append}
 use Rattle.std.proofs.lemmas.List.Sums.{take_while-cons}
-use Rattle.hz_line.specs.Byte.{class_of, is_letter, is_letter_class, is_blank, is_blank_class}
+use Rattle.hz_line.specs.Byte.{class_of, is_letter, is_letter_class, is_blank, is_blank_class, is_mark_class}
+use Rattle.hz_line.specs.declared.bytes.Mark.{Mark}
 use Rattle.hz_line.specs.declared.bytes.Class.{Class}
 use Rattle.hz_line.specs.declared.bytes.Class.TheVariants.{Blank, Hash, Sign, Letter, Forbidden}
-use Rattle.hz_line.specs.Token.{TokenOf, WordOf, MarkOf, tokens_of, tokens_with, with_token, lengthen, begins_in_word, IsWord, AreWords, PastBlanks, IsSplit, BeginsWithToken, BeginsWithTokens}
+use Rattle.hz_line.specs.Token.{TokenOf, WordOf, MarkOf, tokens_of, tokens_with, with_token, lengthen, begins_in_word, begins_in_blank, begins_in_mark, is_bare, has_mark_first, IsWord, AreWords, PastBlanks, IsSplit, BeginsWithToken, BeginsWithTokens}
 
 -- these tokens before others
 abbrev pub with_tokens : List TokenOf → Option (List TokenOf) → Option (List TokenOf)
@@ -95,6 +96,63 @@ IsSplit-word (byte ∷ rest) more e =
       sym (take-append-drop (prefix_len is_letter (byte ∷ rest)) (byte ∷ rest)),
       ends (byte ∷ rest),
     )
+
+-- a line of which some bytes are a word begins in a word
+prefix-at : (byte : ℕ) (rest : List ℕ) (letter : Bool) → is_letter byte ≡ letter → 0 < prefix_len is_letter (byte ∷ rest) → is_letter byte ≡ true
+prefix-at byte rest true e some = e
+prefix-at byte rest false e some = let none = prefix_len-no_word (byte ∷ rest) e in absurd (omega (arith, none, some))
+
+pub begins_in_word-prefix : (line : List ℕ) → 0 < prefix_len is_letter line → begins_in_word line ≡ true
+begins_in_word-prefix [] some = absurd (omega arith)
+begins_in_word-prefix (byte ∷ rest) some = prefix-at byte rest (is_letter byte) refl some
+
+pub IsSplit-begins_in_word : (line : List ℕ) → begins_in_word line ≡ true → IsSplit (WordOf (take_while is_letter line)) (drop (prefix_len is_letter line) line) line
+IsSplit-begins_in_word [] h = cc
+IsSplit-begins_in_word (byte ∷ rest) h = IsSplit-word (byte ∷ rest) (omega arith) (Letter-from_is_letter (class_of byte) h)
+
+-- a line whose first byte is no mark begins in none
+no_sign : (class : Class) → ((mark : Mark) → class ≡ Sign mark → ⊥) → is_mark_class class ≡ false
+no_sign Blank none = refl
+no_sign Hash none = refl
+no_sign (Sign mark) none = absurd (none mark refl)
+no_sign Letter none = refl
+no_sign Forbidden none = refl
+
+pub begins_in_mark-no_sign : (line : List ℕ) → 0 < length line → ((mark : Mark) → class_of (get_or line 0 0) ≡ Sign mark → ⊥) → begins_in_mark line ≡ false
+begins_in_mark-no_sign [] more none = refl
+begins_in_mark-no_sign (byte ∷ rest) more none = no_sign (class_of byte) none
+
+-- a line whose first byte is no blank and no mark has no mark first
+mark_first-word : (word : List ℕ) (tokens : Option (List TokenOf)) → has_mark_first (with_token (WordOf word) tokens) ≡ false
+mark_first-word word None = refl
+mark_first-word word (Some tokens) = refl
+
+mark_first-at : (byte : ℕ) (rest : List ℕ) (class : Class) → class_of byte ≡ class → is_blank_class class ≡ false → is_mark_class class ≡ false → has_mark_first (tokens_of (byte ∷ rest)) ≡ false
+mark_first-at byte rest Blank e blank mark = cc
+mark_first-at byte rest Hash e blank mark = rw e refl
+mark_first-at byte rest (Sign sign) e blank mark = cc
+mark_first-at byte rest Letter e blank mark = ap has_mark_first (tokens_of-word (byte ∷ rest) (ap is_letter_class e)) ∙ mark_first-word _ _
+mark_first-at byte rest Forbidden e blank mark = rw e refl
+
+pub has_mark_first-no_mark : (line : List ℕ) → begins_in_blank line ≡ false → begins_in_mark line ≡ false → has_mark_first (tokens_of line) ≡ false
+has_mark_first-no_mark [] blank mark = refl
+has_mark_first-no_mark (byte ∷ rest) blank mark = mark_first-at byte rest (class_of byte) refl blank mark
+
+-- a line whose first byte is no blank and no comment's has a token, or none for a forbidden byte
+bare-token : (token : TokenOf) (tokens : Option (List TokenOf)) → is_bare (with_token token tokens) ≡ false
+bare-token token None = refl
+bare-token token (Some tokens) = refl
+
+bare-at : (byte : ℕ) (rest : List ℕ) (class : Class) → class_of byte ≡ class → is_blank_class class ≡ false → (class ≡ Hash → ⊥) → is_bare (tokens_of (byte ∷ rest)) ≡ false
+bare-at byte rest Blank e blank hash = cc
+bare-at byte rest Hash e blank hash = absurd (hash refl)
+bare-at byte rest (Sign sign) e blank hash = rw e (bare-token (MarkOf sign) (tokens_of rest))
+bare-at byte rest Letter e blank hash = ap is_bare (tokens_of-word (byte ∷ rest) (ap is_letter_class e)) ∙ bare-token _ _
+bare-at byte rest Forbidden e blank hash = rw e refl
+
+pub is_bare-no_hash : (line : List ℕ) → 0 < length line → begins_in_blank line ≡ false → (class_of (get_or line 0 0) ≡ Hash → ⊥) → is_bare (tokens_of line) ≡ false
+is_bare-no_hash [] more blank hash = absurd (omega arith)
+is_bare-no_hash (byte ∷ rest) more blank hash = bare-at byte rest (class_of byte) refl blank hash
 
 -- one more blank
 pub PastBlanks-more : (line rest : List ℕ) → 0 < length rest → class_of (get_or rest 0 0) ≡ Blank → PastBlanks (λ after. after ≡ rest) line → PastBlanks (λ after. after ≡ drop 1 rest) line

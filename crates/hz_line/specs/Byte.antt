@@ -38,3 +38,15 @@ is_blank_class Forbidden = false
 -- the byte is a blank
 abbrev pub is_blank : ℕ → Bool
 is_blank byte = is_blank_class (class_of byte)
+
+-- the class is that of marks
+abbrev pub is_mark_class : Class → Bool
+is_mark_class Blank = false
+is_mark_class Hash = false
+is_mark_class (Sign mark) = true
+is_mark_class Letter = false
+is_mark_class Forbidden = false
+
+-- the byte is a mark
+abbrev pub is_mark : ℕ → Bool
+is_mark byte = is_mark_class (class_of byte)

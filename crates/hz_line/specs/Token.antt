@@ -1,7 +1,8 @@
 -- The tokens of a line.
 use Rattle.std.specs.Prelude.{◌≡◌, ◌<◌, ℕ, length, Bool, true, false, List, [], ◌∷◌, ◌++◌, Option, Some, None, if◌then◌else◌}
+use Rattle.std.specs.Borrow.{Bor}
 use Rattle.std.specs.List.{list_all}
-use Rattle.hz_line.specs.Byte.{class_of, is_letter, is_blank}
+use Rattle.hz_line.specs.Byte.{class_of, is_letter, is_blank, is_mark}
 use Rattle.hz_line.specs.declared.bytes.Mark.{Mark}
 use Rattle.hz_line.specs.declared.bytes.Class.{Class}
 use Rattle.hz_line.specs.declared.bytes.Class.TheVariants.{Blank, Hash, Sign, Letter, Forbidden}
@@ -34,6 +35,16 @@ abbrev pub begins_in_word : List ℕ → Bool
 begins_in_word [] = false
 begins_in_word (byte ∷ rest) = is_letter byte
 
+-- the line begins with a blank
+abbrev pub begins_in_blank : List ℕ → Bool
+begins_in_blank [] = false
+begins_in_blank (byte ∷ rest) = is_blank byte
+
+-- the line begins with a mark
+abbrev pub begins_in_mark : List ℕ → Bool
+begins_in_mark [] = false
+begins_in_mark (byte ∷ rest) = is_mark byte
+
 -- the tokens of a byte of this class and a rest of the line, given the tokens of the rest:
 -- a letter lengthens the word that the rest begins with, or is a word of its own
 abbrev pub tokens_with : ℕ → Class → List ℕ → Option (List TokenOf) → Option (List TokenOf)
@@ -58,6 +69,36 @@ abbrev pub IsNext : List ℕ → Next → Type 0
 IsNext line next.End = tokens_of line ≡ Some []
 IsNext line next.Forbidden = tokens_of line ≡ None
 IsNext line (next.Token token rest) = (tokens_of line ≡ with_token (token_of token) (tokens_of rest.now)) × (length rest.now < length line)
+
+-- a line has a list of tokens, and it is empty
+abbrev pub is_bare : Option (List TokenOf) → Bool
+is_bare None = false
+is_bare (Some []) = true
+is_bare (Some (token ∷ tokens)) = false
+
+-- the first token is a word
+abbrev pub has_word_first : Option (List TokenOf) → Bool
+has_word_first None = false
+has_word_first (Some []) = false
+has_word_first (Some (WordOf word ∷ tokens)) = true
+has_word_first (Some (MarkOf mark ∷ tokens)) = false
+
+-- the first token is a mark
+abbrev pub has_mark_first : Option (List TokenOf) → Bool
+has_mark_first None = false
+has_mark_first (Some []) = false
+has_mark_first (Some (WordOf word ∷ tokens)) = false
+has_mark_first (Some (MarkOf mark ∷ tokens)) = true
+
+-- the tokens of a line are this word before those of a shorter line; or no word is the first of them
+abbrev pub IsWordFirst : List ℕ → Option (Bor (List ℕ) × Bor (List ℕ)) → Type 0
+IsWordFirst line None = has_word_first (tokens_of line) ≡ false
+IsWordFirst line (Some found) = (tokens_of line ≡ with_token (WordOf found.0.now) (tokens_of found.1.now)) × (length found.1.now < length line)
+
+-- the tokens of a line are this mark before those of a shorter line; or no mark is the first of them
+abbrev pub IsMarkFirst : List ℕ → Option (Mark × Bor (List ℕ)) → Type 0
+IsMarkFirst line None = has_mark_first (tokens_of line) ≡ false
+IsMarkFirst line (Some found) = (tokens_of line ≡ with_token (MarkOf found.0) (tokens_of found.1.now)) × (length found.1.now < length line)
 
 -- a fault stands in a line: a forbidden byte exactly where the line has no tokens; memory may always run out
 abbrev pub StandsInLine : LineFault → List ℕ → Type 0
@@ -107,6 +148,26 @@ abbrev pub BeginsWith : List ℕ → Next → Type 0
 BeginsWith line next.End = PastBlanks IsOver line
 BeginsWith line next.Forbidden = PastBlanks BeginsForbidden line
 BeginsWith line (next.Token token rest) = BeginsWithToken line (token_of token) rest.now
+
+-- the line begins with no blank and no letter
+pub record NeitherBlankNorLetter (line : List ℕ) : Type 0 where
+  pub no_blank : begins_in_blank line ≡ false
+  pub no_letter : begins_in_word line ≡ false
+
+-- the line begins with no blank and no mark
+pub record NeitherBlankNorMark (line : List ℕ) : Type 0 where
+  pub no_blank : begins_in_blank line ≡ false
+  pub no_mark : begins_in_mark line ≡ false
+
+-- the line begins with this word, and this rest comes after it; or past its blanks no letter stands
+abbrev pub BeginsWithWord : List ℕ → Option (Bor (List ℕ) × Bor (List ℕ)) → Type 0
+BeginsWithWord line None = PastBlanks NeitherBlankNorLetter line
+BeginsWithWord line (Some found) = BeginsWithToken line (WordOf found.0.now) found.1.now
+
+-- the line begins with this mark, and this rest comes after it; or past its blanks no mark stands
+abbrev pub BeginsWithMark : List ℕ → Option (Mark × Bor (List ℕ)) → Type 0
+BeginsWithMark line None = PastBlanks NeitherBlankNorMark line
+BeginsWithMark line (Some found) = BeginsWithToken line (MarkOf found.0) found.1.now
 
 -- the line begins with these tokens, one after the other, and this rest comes after them
 abbrev pub BeginsWithTokens : List ℕ → List TokenOf → List ℕ → Type 0

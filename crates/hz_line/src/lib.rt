@@ -3,8 +3,9 @@
 //! The texts of this project (netlists, scripts, patterns and runs) share one lexical form: lines end at a
 //! line feed, `#` starts a comment, blanks separate tokens, and a token is a word or one of the marks
 //! `( ) , =`. [`cut_line`] takes one line off a text, [`read_tokens`] gives the tokens of a line, [`next_token`]
-//! one after the other, and [`is_keyword`] compares a word with a keyword in any letter case. Lines and tokens
-//! borrow the text.
+//! one after the other, and [`is_keyword`] compares a word with a keyword in any letter case. A reader that knows
+//! what has to come next asks [`first_word`], [`first_mark`] or [`is_bare`], which is quicker. Lines and tokens borrow
+//! the text.
 #![tactic(auto)]
 
 mod bytes;
@@ -15,7 +16,9 @@ mod tokens;
 pub use bytes::{Class, Mark, class_of};
 pub use keywords::is_keyword;
 pub use lines::{Cut, cut_line};
-pub use tokens::{LineFault, Next, Token, next_token, read_tokens};
+pub use tokens::{
+    LineFault, Next, Token, first_mark, first_word, is_bare, next_token, read_tokens,
+};
 
 #[cfg(test)]
 mod tests;

@@ -1,6 +1,9 @@
 // Each public function once, with ample memory.
 
-use crate::{Cut, LineFault, Mark, Next, Token, cut_line, is_keyword, next_token, read_tokens};
+use crate::{
+    Cut, LineFault, Mark, Next, Token, cut_line, first_mark, first_word, is_bare, is_keyword,
+    next_token, read_tokens,
+};
 use std::test::Fail;
 
 // The bytes of a token.
@@ -47,5 +50,16 @@ fn reads_lines(rt: HostRuntime) -> Result<(), Fail> {
         _ => assert!(rt; false),
     }
     assert!(rt; is_keyword(b"Buf", b"BUF"));
+    Ok(())
+}
+
+#[test]
+fn takes_what_comes_first(rt: HostRuntime) -> Result<(), Fail> {
+    let (word, behind) = first_word(b"\tg1 = x").unwrap_or((b"", b""));
+    assert_eq!(rt; word, b"g1".as_slice());
+    let (mark, rest) = first_mark(behind).unwrap_or((Mark::Open, b""));
+    assert_eq!(rt; mark, Mark::Equals);
+    assert_eq!(rt; rest, b" x".as_slice());
+    assert!(rt; is_bare(b" # x"));
     Ok(())
 }

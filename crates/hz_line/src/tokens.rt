@@ -1,9 +1,9 @@
 // Tokens of a line.
 
-ghost use Rattle.std.specs.Prelude.{◌≡◌, ◌≤◌, length, IfErr, MatchResult, map, Some};
+ghost use Rattle.std.specs.Prelude.{◌≡◌, ◌≤◌, false, length, IfErr, MatchResult, map, Some};
 ghost use Rattle.std.specs.List.{prefix_len};
 ghost use Rattle.hz_line.specs.Byte.{is_letter};
-ghost use Rattle.hz_line.specs.Token.{token_of, tokens_of, BeginsWith, IsNext, StandBefore, StandsInLine};
+ghost use Rattle.hz_line.specs.Token.{token_of, tokens_of, begins_in_blank, is_bare, BeginsWith, BeginsWithMark, BeginsWithWord, IsMarkFirst, IsNext, IsWordFirst, PastBlanks, StandBefore, StandsInLine};
 
 use crate::bytes::{Class, Mark, class_of, is_letter};
 
@@ -66,20 +66,83 @@ pub fn next_token<'a>(line: &'a [u8]) -> Next<'a>
     ensures first { BeginsWith line.now result }
     ensures tokens { IsNext line.now result }
 {
+    let rest = past_blanks(line);
+    let [first, others @ ..] = rest else {
+        return Next::End;
+    };
+    match class_of(*first) {
+        Class::Blank => unreachable!(),
+        Class::Hash => Next::End,
+        Class::Sign(mark) => Next::Token(Token::Sign(mark), others),
+        Class::Letter => {
+            let (word, after) = rest.split_at(word_len(rest));
+            Next::Token(Token::Word(word), after)
+        }
+        Class::Forbidden => Next::Forbidden,
+    }
+}
+
+/// The word that a line begins with, and what comes after it; none where something else comes first. It answers what
+/// [`next_token`] does, and is quicker where a word is wanted.
+#[inline]
+pub fn first_word<'a>(line: &'a [u8]) -> Option<(&'a [u8], &'a [u8])>
+    ensures first { BeginsWithWord line.now result }
+    ensures tokens { IsWordFirst line.now result }
+{
+    let rest = past_blanks(line);
+    let len = word_len(rest);
+    if len == 0 {
+        None
+    } else {
+        Some(rest.split_at(len))
+    }
+}
+
+/// The mark that a line begins with, and what comes after it; none where something else comes first.
+#[inline]
+pub fn first_mark<'a>(line: &'a [u8]) -> Option<(Mark, &'a [u8])>
+    ensures first { BeginsWithMark line.now result }
+    ensures tokens { IsMarkFirst line.now result }
+{
+    let [first, rest @ ..] = past_blanks(line) else {
+        return None;
+    };
+    match class_of(*first) {
+        Class::Sign(mark) => Some((mark, rest)),
+        _ => None,
+    }
+}
+
+/// Whether a line has no tokens: it is empty, or has blanks and a comment alone.
+#[inline]
+pub fn is_bare(line: &[u8]) -> bool
+    ensures { result ≡ is_bare (tokens_of line.now) }
+{
+    let [first, ..] = past_blanks(line) else {
+        return true;
+    };
+    match class_of(*first) {
+        Class::Hash => true,
+        _ => false,
+    }
+}
+
+// A line without the blanks at its front.
+#[inline]
+fn past_blanks<'a>(line: &'a [u8]) -> &'a [u8]
+    ensures front { PastBlanks (λ after. after ≡ result.now) line.now }
+    ensures all { begins_in_blank result.now ≡ false }
+    ensures same { tokens_of line.now ≡ tokens_of result.now }
+    ensures within { length result.now ≤ length line.now }
+{
     let mut rest = line;
     while let [first, others @ ..] = rest {
         match class_of(*first) {
             Class::Blank => rest = others,
-            Class::Hash => return Next::End,
-            Class::Sign(mark) => return Next::Token(Token::Sign(mark), others),
-            Class::Letter => {
-                let (word, after) = rest.split_at(word_len(rest));
-                return Next::Token(Token::Word(word), after);
-            }
-            Class::Forbidden => return Next::Forbidden,
+            _ => return rest,
         }
     }
-    Next::End
+    rest
 }
 
 // How many letters a line begins with.

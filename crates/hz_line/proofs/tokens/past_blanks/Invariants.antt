@@ -1,6 +1,6 @@
 use Rattle.std.proofs.Common.{◌≡◌, ◌≤◌, length}
 use Rattle.hz_line.specs.Token.{tokens_of, PastBlanks}
-use Rattle.hz_line.proofs.tokens.next_token.Given as goal
+use Rattle.hz_line.proofs.tokens.past_blanks.Given as goal
 
 abbrev pub invariant-loop-rest : goal.invariant-loop-rest
 invariant-loop-rest l = record {
