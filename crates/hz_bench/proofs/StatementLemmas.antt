@@ -1,5 +1,5 @@
 -- The statement that a line means, from the head of its tokens.
-use Rattle.std.proofs.Common.{◌≡◌, ◌∙◌, ℕ, ◌*◌, ◌||◌, List, [], ◌∷◌, Bool, true, false, Option, Some, None, option_map, is_some, length, cond, refl, sym, ap, subst, arith, codes, IfSome}
+use Rattle.std.proofs.Common.{◌≡◌, ◌∙◌, ℕ, ◌*◌, ◌||◌, List, [], ◌∷◌, Bool, true, false, Option, Some, None, option_map, is_some, length, cond, refl, sym, ap, subst, arith, codes, IfSome, true≢false}
 use Rattle.std.specs.List.{list_any}
 use Rattle.hz_line.specs.declared.bytes.Mark.{Mark}
 use Rattle.hz_line.specs.declared.bytes.Mark.TheVariants.{Open, Close, Comma, Equals}
@@ -11,8 +11,8 @@ use Rattle.hz_bench.specs.declared.forms.Form.{Form}
 use Rattle.hz_bench.specs.declared.forms.Form.TheVariants as form
 use Rattle.hz_bench.specs.declared.statement.Head.{Head}
 use Rattle.hz_bench.specs.declared.statement.NameList.{NameList}
-use Rattle.hz_bench.specs.Head.{head_tokens, names_by, noted_names, no_names}
-use Rattle.hz_bench.specs.Statement.{Gate, statement_of, names_of, words_of, port_form, port_of, kind_word_of, has_long_name, is_long, statement_with, words_by}
+use Rattle.hz_bench.specs.Head.{has_marked_first, head_tokens, names_by, noted_names, no_names}
+use Rattle.hz_bench.specs.Statement.{Gate, statement_of, names_of, words_of, port_form, port_of, kind_word_of, has_long_name, is_long, statement_with, words_by, are_marked, are_marked_words}
 use Rattle.hz_bench.specs.Text.{meaning_of}
 
 -- a word before a name in parentheses makes an input or output of it, and no gate
@@ -127,3 +127,33 @@ words-known (Some tokens) names h = cc h
 pub listed-some : (tokens : Option (List TokenOf)) (names : List (List ℕ)) → names_by tokens ≡ Some names → is_some tokens ≡ true
 listed-some None names h = cc
 listed-some (Some tokens) names h = refl
+
+-- a list of names is words, each with a mark after it
+names_marked : (tokens : List TokenOf) → is_some (names_of tokens) ≡ true → are_marked_words tokens ≡ true
+names_marked [] h = cc
+names_marked (MarkOf mark ∷ rest) h = cc
+names_marked (WordOf name ∷ []) h = cc
+names_marked (WordOf name ∷ WordOf next ∷ rest) h = cc
+names_marked (WordOf name ∷ MarkOf Open ∷ rest) h = cc
+names_marked (WordOf name ∷ MarkOf Equals ∷ rest) h = cc
+names_marked (WordOf name ∷ MarkOf Close ∷ []) h = refl
+names_marked (WordOf name ∷ MarkOf Close ∷ token ∷ rest) h = cc
+names_marked (WordOf name ∷ MarkOf Comma ∷ rest) h = names_marked rest (more_names name (names_of rest) h)
+
+pub listed_marked : (tokens : Option (List TokenOf)) (names : List (List ℕ)) → names_by tokens ≡ Some names → are_marked tokens ≡ true
+listed_marked None names h = cc
+listed_marked (Some tokens) names h = names_marked tokens (ap is_some h)
+
+-- the first of these words is one of them, and the others come after its mark
+pub first_marked : (tokens rest : Option (List TokenOf)) (word : List ℕ) (mark : Mark) → tokens ≡ with_token (WordOf word) (with_token (MarkOf mark) rest) → are_marked tokens ≡ true → (words_by tokens ≡ word ∷ words_by rest) × (are_marked rest ≡ true)
+first_marked tokens None word mark e h = absurd (true≢false (sym h ∙ ap are_marked e))
+first_marked tokens (Some rest) word mark e h = (ap words_by e, sym (ap are_marked e) ∙ h)
+
+-- where no word with a mark comes first, there is none
+pub none_marked : (tokens : Option (List TokenOf)) → has_marked_first tokens ≡ false → are_marked tokens ≡ true → words_by tokens ≡ []
+none_marked None e h = cc
+none_marked (Some []) e h = refl
+none_marked (Some (MarkOf mark ∷ rest)) e h = cc
+none_marked (Some (WordOf word ∷ [])) e h = cc
+none_marked (Some (WordOf word ∷ WordOf next ∷ rest)) e h = cc
+none_marked (Some (WordOf word ∷ MarkOf mark ∷ rest)) e h = cc

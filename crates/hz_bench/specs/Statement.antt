@@ -154,6 +154,17 @@ words_by (Some tokens) = words_of tokens
 abbrev pub words_in : List ℕ → List (List ℕ)
 words_in part = words_by (tokens_of part)
 
+-- words, each with a mark after it
+abbrev pub are_marked_words : List TokenOf → Bool
+are_marked_words [] = true
+are_marked_words (WordOf word ∷ MarkOf mark ∷ tokens) = are_marked_words tokens
+are_marked_words _ = false
+
+-- a part of a line has tokens, and they are words, each with a mark after it
+abbrev pub are_marked : Option (List TokenOf) → Bool
+are_marked None = false
+are_marked (Some tokens) = are_marked_words tokens
+
 -- the statement of this form, with this name; a gate's pins read the words of the part of its line where they begin
 abbrev pub statement_with : List ℕ → Form → List ℕ → Statement
 statement_with name form.Input part = Input name

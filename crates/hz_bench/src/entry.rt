@@ -1,8 +1,8 @@
 // The statements of a text, as the passes over them read them.
 
-ghost use Rattle.std.specs.Prelude.{◌≡◌, ◌<◌, ◌^◌, length, Some, option_map, true};
+ghost use Rattle.std.specs.Prelude.{◌≡◌, ◌<◌, ◌^◌, length, true};
 ghost use Rattle.hz_line.specs.Token.{IsWord, tokens_of};
-ghost use Rattle.hz_bench.specs.Statement.{sources_of, has_long_name, form_defines, words_of, statement_with};
+ghost use Rattle.hz_bench.specs.Statement.{sources_of, has_long_name, form_defines, words_in, are_marked, statement_with};
 
 use crate::forms::Form;
 
@@ -24,7 +24,8 @@ pub struct Entry<'a> {
     pub pins: usize,
     ghost node: { form_defines form ≡ true },
     ghost worded: { IsWord name.now },
-    ghost sourced: { option_map words_of (tokens_of sources.now) ≡ Some (sources_of (statement_with name.now form sources.now)) },
+    ghost sourced: { words_in sources.now ≡ sources_of (statement_with name.now form sources.now) },
+    ghost listed: { are_marked (tokens_of sources.now) ≡ true },
     ghost counted: { pins ≡ length (sources_of (statement_with name.now form sources.now)) },
     ghost small: { pins < 2 ^ 32 },
     ghost measured: { long ≡ has_long_name (statement_with name.now form sources.now) },

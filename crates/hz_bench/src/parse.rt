@@ -12,7 +12,7 @@ use crate::notes::{Notes, Redefinition};
 use crate::statement::statement_of;
 use crate::unknown::reads_unknown;
 use hz_core::{MAX_VARIABLES, Memory};
-use hz_line::{Token, cut_line, is_bare};
+use hz_line::{cut_line, is_bare};
 use std::alloc::Global;
 
 /// What was read of the statements of a text.
@@ -42,7 +42,6 @@ pub(crate) fn parse<'a>(alloc: Global, text: &'a [u8]) -> Result<Statements<'a>,
     let Ok(mut statements) = Statements::new(alloc) else {
         return Err(BenchFault::Memory);
     };
-    let mut tokens = Vec::new(alloc);
     let mut line = 0u32;
     let mut left = Some(text);
     while let Some(rest) = left {
@@ -53,7 +52,7 @@ pub(crate) fn parse<'a>(alloc: Global, text: &'a [u8]) -> Result<Statements<'a>,
             return Err(BenchFault::Memory);
         };
         match statement_of(line, cut.line) {
-            Some(statement) => match statements.add(statement, &mut tokens) {
+            Some(statement) => match statements.add(statement) {
                 Ok(()) => {}
                 Err(Memory) => return Err(BenchFault::Memory),
             },
@@ -83,26 +82,26 @@ impl<'a> Statements<'a> {
     }
 
     // Adds the next statement of the text.
-    fn add(&mut self, line: Line<'a>, tokens: &mut Vec<Token<'a>>) -> Result<(), Memory>
+    fn add(&mut self, line: Line<'a>) -> Result<(), Memory>
         requires inputs { self.old.notes.inputs ≤ self.old.notes.variables }
         requires variables { self.old.notes.variables + variables_in (numbered_line line).statement < 2 ^ 32 }
         ensures { OnOk result (IsSorted self.old (numbered_line line.entry) self.new) }
     {
         match line {
-            Line::Node(entry) => self.add_node(entry, tokens),
+            Line::Node(entry) => self.add_node(entry),
             Line::Output(output) => self.add_output(output),
         }
     }
 
     // Adds an input or a gate.
-    fn add_node(&mut self, entry: Entry<'a>, tokens: &mut Vec<Token<'a>>) -> Result<(), Memory>
+    fn add_node(&mut self, entry: Entry<'a>) -> Result<(), Memory>
         requires inputs { self.old.notes.inputs ≤ self.old.notes.variables }
         requires variables { self.old.notes.variables + variables_in (stated entry) < 2 ^ 32 }
         ensures { OnOk result (IsSorted self.old (numbered_of entry.entry) self.new) }
     {
         self.notes.add(&entry);
         self.define(&entry)?;
-        if self.keeps(&entry, tokens)? {
+        if self.keeps(&entry) {
             let Ok(()) = self.nodes.push(entry) else {
                 return Err(Memory);
             };
@@ -137,12 +136,9 @@ impl<'a> Statements<'a> {
 
     // Whether a statement is needed once it is read: the text may have a circuit, or it reads a name that no line so far
     // defines.
-    fn keeps(&self, entry: &Entry<'a>, tokens: &mut Vec<Token<'a>>) -> Result<bool, Memory>
-        ensures { IfOk result (λ keeps. keeps ≡ is_kept self.now entry.now) }
+    fn keeps(&self, entry: &Entry<'a>) -> bool
+        ensures { result ≡ is_kept self.now entry.now }
     {
-        if self.notes.variables <= MAX_VARIABLES {
-            return Ok(true);
-        }
-        reads_unknown(entry, &self.lines, tokens)
+        self.notes.variables <= MAX_VARIABLES || reads_unknown(entry, &self.lines)
     }
 }

@@ -1,6 +1,6 @@
 // Reading a netlist.
 
-ghost use Rattle.std.specs.Prelude.{◌≡◌, ◌<◌, ◌≤◌, ◌^◌, ◌⊎◌, IfOk, IfErr, OnOk, IsErrOf, MatchResult, None, length};
+ghost use Rattle.std.specs.Prelude.{◌≡◌, ◌<◌, ◌≤◌, ◌^◌, ◌⊎◌, IfOk, IfErr, OnOk, IsErrOf, MatchResult, None, Some, length};
 ghost use Rattle.hz_core.specs.Netlist.{IsWhole};
 ghost use Rattle.hz_bench.specs.Entry.{statement_list, output_list};
 ghost use Rattle.hz_bench.specs.Fault.{IsAnswer, IsFaultless, IsLeastFault};
@@ -17,7 +17,7 @@ use crate::notes::{Redefinition, WrongPins};
 use crate::parse::{Statements, parse};
 use crate::unknown::first_unknown;
 use crate::uses::{Uses, resolve};
-use hz_core::{Circuit, MAX_VARIABLES, Memory};
+use hz_core::{Circuit, MAX_VARIABLES};
 use std::alloc::Global;
 
 /// Reads a netlist in the .bench format.
@@ -85,20 +85,19 @@ fn check(alloc: Global, statements: &Statements) -> Result<Uses, BenchFault>
         return Err(BenchFault::Pins { line, count });
     }
     if notes.variables > MAX_VARIABLES {
-        return Err(refuse_many(alloc, statements));
+        return Err(refuse_many(statements));
     }
     resolve(alloc, statements)
 }
 
 // Why statements with too many variables have no circuit: a name that they use may be undefined, which comes first.
-fn refuse_many(alloc: Global, statements: &Statements) -> BenchFault
-    ensures { IsFoundOrMemory (many_fault statements.now) result }
+fn refuse_many(statements: &Statements) -> BenchFault
+    ensures { Some result ≡ many_fault statements.now }
 {
-    match first_unknown(alloc, statements) {
-        Ok(Some(line)) => BenchFault::Undefined { line },
-        Ok(None) => BenchFault::TooMany {
+    match first_unknown(statements) {
+        Some(line) => BenchFault::Undefined { line },
+        None => BenchFault::TooMany {
             variables: statements.notes.variables,
         },
-        Err(Memory) => BenchFault::Memory,
     }
 }

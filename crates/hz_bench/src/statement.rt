@@ -32,12 +32,12 @@ struct Head<'a> {
     rest: &'a [u8],
 }
 
-// A word with a mark after it, and the line after both.
+/// A word with a mark after it, and the line after both.
 #[derive(Clone, Copy)]
-struct MarkedWord<'a> {
-    word: &'a [u8],
-    mark: Mark,
-    rest: &'a [u8],
+pub(crate) struct MarkedWord<'a> {
+    pub(crate) word: &'a [u8],
+    pub(crate) mark: Mark,
+    pub(crate) rest: &'a [u8],
 }
 
 // What is noted of a list of names: how many there are, and whether some name is too long.
@@ -51,8 +51,8 @@ struct NameList {
 fn head_of<'a>(line: &'a [u8]) -> Option<Head<'a>>
     ensures { IsHeadOf line.now result }
 {
-    let first = marked(line)?;
-    let second = marked(first.rest)?;
+    let first = marked_word(line)?;
+    let second = marked_word(first.rest)?;
     Some(Head {
         first: first.word,
         mark: first.mark,
@@ -62,8 +62,9 @@ fn head_of<'a>(line: &'a [u8]) -> Option<Head<'a>>
     })
 }
 
-// The word and the mark that a line begins with.
-fn marked<'a>(line: &'a [u8]) -> Option<MarkedWord<'a>>
+/// The word and the mark that a line begins with. A gate's sources are read by it one after the other: a comma follows each
+/// but the last, which a parenthesis follows.
+pub(crate) fn marked_word<'a>(line: &'a [u8]) -> Option<MarkedWord<'a>>
     ensures { IsMarkedFirst line.now result }
 {
     let (word, after) = first_word(line)?;
@@ -131,7 +132,7 @@ fn names(line: &[u8]) -> Option<NameList>
     };
     let mut left = line;
     loop {
-        let Some(name) = marked(left) else {
+        let Some(name) = marked_word(left) else {
             return None;
         };
         names = names.add(name.word);

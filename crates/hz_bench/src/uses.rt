@@ -3,7 +3,6 @@
 ghost use Rattle.std.specs.Prelude.{◌≡◌, ◌<◌, ◌≤◌, ◌^◌, ◌++◌, ◌∷◌, [], false, IfOk, MatchResult, None, length, map, option_map};
 ghost use Rattle.std.specs.List.{list_any};
 ghost use Rattle.hz_line.specs.Statement.{first_line};
-ghost use Rattle.hz_line.specs.Token.{token_of};
 ghost use Rattle.indexmap.specs.IndexMap.{index_map_len};
 ghost use Rattle.hz_bench.specs.Check.{earlier};
 ghost use Rattle.hz_bench.specs.Definition.{defined_names};
@@ -11,7 +10,7 @@ ghost use Rattle.hz_bench.specs.Entry.{stated, numbered_list, numbered_outputs, 
 ghost use Rattle.hz_bench.specs.Netlist.{input_names, node_names, output_names, number_in};
 ghost use Rattle.hz_bench.specs.Pass.{IsListed};
 ghost use Rattle.hz_bench.specs.Sorted.{unknown_line};
-ghost use Rattle.hz_bench.specs.Statement.{sources_of, used_names, words_of};
+ghost use Rattle.hz_bench.specs.Statement.{sources_of, used_names};
 ghost use Rattle.hz_bench.specs.Twice.{twice_fault, IsFoundOrMemory};
 ghost use Rattle.hz_bench.specs.Uses.{is_unnumbered, number_for, numbers_of, pin_numbers, AreUses};
 
@@ -20,8 +19,8 @@ use crate::entry::{Entry, OutputLine};
 use crate::fault::BenchFault;
 use crate::forms::Form;
 use crate::parse::Statements;
+use crate::statement::marked_word;
 use hz_core::Memory;
-use hz_line::{LineFault, Token, read_tokens};
 use std::alloc::Global;
 
 /// The nodes that statements use, by their numbers.
@@ -49,7 +48,7 @@ pub(crate) fn resolve(alloc: Global, statements: &Statements) -> Result<Uses, Be
         pins: Vec::new(alloc),
         outputs: Vec::new(alloc),
     };
-    let Ok(source) = resolve_pins(alloc, nodes, lines, numbers.as_slice(), &mut uses.pins) else {
+    let Ok(source) = resolve_pins(nodes, lines, numbers.as_slice(), &mut uses.pins) else {
         return Err(BenchFault::Memory);
     };
     let Ok(output) = resolve_outputs(
@@ -111,7 +110,6 @@ fn number_nodes(alloc: Global, nodes: &[Entry], inputs: u32) -> Result<Vec<u32>,
 
 // The nodes that the pins read, or the line of the first gate with a source that the table does not have.
 fn resolve_pins(
-    alloc: Global,
     nodes: &[Entry],
     lines: &Definitions,
     numbers: &[u32],
@@ -121,9 +119,8 @@ fn resolve_pins(
     ensures line { IfOk result (λ line. line ≡ first_line (λ statement. list_any (is_unnumbered (number_for lines.now numbers.now)) (sources_of statement)) (numbered_list nodes.now)) }
     ensures pins { IfOk result (λ line. line ≡ None → pins.new.items ≡ pins.old.items ++ pin_numbers (number_for lines.now numbers.now) (statement_list nodes.now)) }
 {
-    let mut tokens = Vec::new(alloc);
     for entry in nodes {
-        match resolve_sources(entry, lines, numbers, &mut tokens, pins) {
+        match resolve_sources(entry, lines, numbers, pins) {
             Ok(false) => {}
             Ok(true) => return Ok(Some(entry.line)),
             Err(Memory) => return Err(Memory),
@@ -133,44 +130,22 @@ fn resolve_pins(
 }
 
 // The nodes that the pins of a statement read; whether the table does not have some source.
-fn resolve_sources<'a>(
-    entry: &Entry<'a>,
+fn resolve_sources(
+    entry: &Entry,
     lines: &Definitions,
     numbers: &[u32],
-    tokens: &mut Vec<Token<'a>>,
     pins: &mut Vec<u32>,
 ) -> Result<bool, Memory>
     requires { index_map_len lines.now ≡ length numbers.now }
     ensures unnumbered { IfOk result (λ unnumbered. unnumbered ≡ list_any (is_unnumbered (number_for lines.now numbers.now)) (sources_of (stated entry.now))) }
     ensures pins { IfOk result (λ unnumbered. unnumbered ≡ false → pins.new.items ≡ pins.old.items ++ numbers_of (number_for lines.now numbers.now) (sources_of (stated entry.now))) }
 {
-    match entry.form {
-        Form::Gate(_) => {
-            let sources = read_sources(entry, tokens)?;
-            resolve_words(sources, lines, numbers, pins)
-        }
-        Form::Input | Form::Output => Ok(false),
-    }
-}
-
-// The nodes with the names among the tokens; whether the table does not have some name.
-fn resolve_words(
-    tokens: &[Token],
-    lines: &Definitions,
-    numbers: &[u32],
-    found: &mut Vec<u32>,
-) -> Result<bool, Memory>
-    requires { index_map_len lines.now ≡ length numbers.now }
-    ensures unnumbered { IfOk result (λ unnumbered. unnumbered ≡ list_any (is_unnumbered (number_for lines.now numbers.now)) (words_of (map token_of tokens.now))) }
-    ensures found { IfOk result (λ unnumbered. unnumbered ≡ false → found.new.items ≡ found.old.items ++ numbers_of (number_for lines.now numbers.now) (words_of (map token_of tokens.now))) }
-{
-    for token in tokens {
-        if let Token::Word(name) = token {
-            match resolve_name(name, lines, numbers, found) {
-                Ok(false) => {}
-                Ok(true) => return Ok(true),
-                Err(Memory) => return Err(Memory),
-            }
+    let mut left = entry.sources;
+    while let Some(source) = marked_word(left) {
+        match resolve_name(source.word, lines, numbers, pins) {
+            Ok(false) => left = source.rest,
+            Ok(true) => return Ok(true),
+            Err(Memory) => return Err(Memory),
         }
     }
     Ok(false)
@@ -217,19 +192,4 @@ fn resolve_name(
         }
         None => Ok(true),
     }
-}
-
-/// The tokens of a gate's sources, read again from its line.
-pub(crate) fn read_sources<'t, 'a>(
-    entry: &Entry<'a>,
-    tokens: &'t mut Vec<Token<'a>>,
-) -> Result<&'t [Token<'a>], Memory>
-    ensures { IfOk result (λ sources. words_of (map token_of sources.now) ≡ sources_of (stated entry.now)) }
-{
-    match read_tokens(entry.sources, tokens) {
-        Ok(()) => {}
-        Err(LineFault::Forbidden) => unreachable!(),
-        Err(LineFault::Memory) => return Err(Memory),
-    }
-    Ok(tokens)
 }

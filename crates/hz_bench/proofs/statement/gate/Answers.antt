@@ -1,7 +1,7 @@
 use Rattle.std.proofs.Common.{◌≡◌, ◌∙◌, ◌||◌, ap, sym, refl, arith}
 use Rattle.hz_line.specs.Token.{tokens_of}
 use Rattle.hz_bench.specs.Statement.{is_long, words_in}
-use Rattle.hz_bench.proofs.StatementLemmas.{IsListed-from_noted, gate_meant, head_words, listed-some, words-known}
+use Rattle.hz_bench.proofs.StatementLemmas.{IsListed-from_noted, gate_meant, head_words, listed-some, listed_marked, words-known}
 use Rattle.hz_bench.proofs.statement.gate.Goals as goal
 
 pub invariant_of-result : goal.invariant_of-result
@@ -12,7 +12,8 @@ invariant_of-result c =
     record {
       node = refl;
       worded = words.0;
-      sourced = rw known list.words;
+      sourced = rw known refl;
+      listed = listed_marked (tokens_of c.args.head.now.rest.now) list.names list.listed;
       counted = rw known list.count;
       small = let few = c.in_ok-names.ensures.few in let short = c.requires.few in omega arith;
       measured = rw known (c.has_long_after.ensures ∙ ap (λ b. is_long c.args.head.now.first.now || b) list.long);

@@ -10,6 +10,7 @@ invariant_of-result c =
       node = refl;
       worded = words.1;
       sourced = refl;
+      listed = refl;
       counted = refl;
       small = lit< tt;
       measured = c.is_long.ensures ∙ sym (port_long c.args.head.now.second.now);
