@@ -1,22 +1,23 @@
 -- What is gathered of statements, with one more.
-use Rattle.std.proofs.Common.{◌≡◌, ◌∙◌, ℕ, ◌+◌, ◌<◌, ◌≤◌, ◌++◌, ◌||◌, Bool, true, false, not, cond, List, [], ◌∷◌, Option, Some, None, is_some, option_map, refl, sym, ap, subst, arith, inl, inr}
+use Rattle.std.proofs.Common.{◌≡◌, ◌∙◌, ℕ, ◌+◌, ◌<◌, ◌≤◌, ◌++◌, ◌||◌, Bool, true, false, not, cond, List, [], ◌∷◌, Option, Some, None, is_some, option_map, refl, sym, ap, arith, append_assoc, inl, inr}
 use Rattle.std.specs.List.{list_any}
 use Rattle.std.specs.Option.{option_or}
 use Rattle.std.specs.Prelude.{◌⊎◌}
+use Rattle.std.proofs.lemmas.List.{append-nil}
 use Rattle.std.proofs.lemmas.List.Elements.{filter-append}
 use Rattle.std.proofs.lemmas.List.Folds.{find-append}
 use Rattle.hz_line.specs.Statement.{Numbered, first_line}
-use Rattle.hz_bench.specs.declared.fault.BenchFault.{BenchFault}
+use Rattle.hz_bench.specs.declared.forms.KindWord.TheVariants.{Unknown}
 use Rattle.hz_bench.specs.declared.notes.Notes.{Notes}
 use Rattle.hz_bench.specs.declared.notes.Redefinition.{Redefinition}
 use Rattle.hz_bench.specs.declared.parse.Statements.{Statements}
-use Rattle.hz_bench.specs.Check.{reads_undefined, first_that}
+use Rattle.hz_bench.specs.Check.{first_that}
 use Rattle.hz_bench.specs.Definition.{definer, defined_names, line_for_defined, names_in, IsTableOf}
-use Rattle.hz_bench.specs.Entry.{numbered_list, numbered_outputs}
+use Rattle.hz_bench.specs.Entry.{numbered_list, numbered_outputs, waiting_list}
 use Rattle.hz_bench.specs.Noted.{noted}
-use Rattle.hz_bench.specs.Pass.{noted_again, AreGathered, IsLeftOut, IsNamed, IsSorted, TellUndefined}
-use Rattle.hz_bench.specs.Sorted.{again_fault}
-use Rattle.hz_bench.specs.Statement.{Statement, defined_name, is_node, is_output, sources_of}
+use Rattle.hz_bench.specs.Pass.{noted_again, AreGathered, IsLeftOut, IsNamed, IsPlaced, IsSorted, TellUndefined}
+use Rattle.hz_bench.specs.Sorted.{again_fault, asked}
+use Rattle.hz_bench.specs.Statement.{Statement, Gate, defined_name, is_node, is_output, sources_of}
 use Rattle.hz_bench.specs.Text.{nodes_among, outputs_among}
 use Rattle.hz_bench.specs.Twice.{twice_or, earlier_line, twice_fault}
 use Rattle.hz_bench.proofs.CheckedLemmas.{either, neither}
@@ -49,8 +50,8 @@ again-more done one statements more was named =
     by_again None is = ap (λ line. twice_or one.line line None) (earlier_line-table statements.lines done (defined_name one.statement) (was.table is))
 
 -- the first line of two lists that passes a test
-first_line-append : (test : Statement → Bool) (front back : List (Numbered Statement)) → first_line test (front ++ back) ≡ option_or (first_line test front) (first_line test back)
-first_line-append test front back =
+pub first_line_append : (test : Statement → Bool) (front back : List (Numbered Statement)) → first_line test (front ++ back) ≡ option_or (first_line test front) (first_line test back)
+first_line_append test front back =
     ap (option_map (λ (numbered : Numbered Statement). numbered.line)) (find-append (λ (numbered : Numbered Statement). test numbered.statement) front back)
     ∙ either_line (first_that test front) (first_that test back)
   where
@@ -73,40 +74,93 @@ known-more done one (name ∷ names) h =
     still None later h = cc
     still (Some line) later h = refl
 
--- a statement that fails a test is not found among the nodes
-none_among : (test : Statement → Bool) (one : Numbered Statement) → test one.statement ≡ false → first_line test (nodes_among (one ∷ [])) ≡ None
-none_among test one h = by_node (is_node one.statement)
-  where
-    by_node : (b : Bool) → first_line test (cond b (one ∷ []) []) ≡ None
-    by_node true = rw h refl
-    by_node false = refl
-
 option_or-nothing : (line : Option ℕ) → line ≡ option_or line None
 option_or-nothing None = refl
 option_or-nothing (Some line) = refl
 
-telling-more : (done : List (Numbered Statement)) (one : Numbered Statement) (statements more : Statements) → IsTableOf (done ++ one ∷ []) more.lines
-    → TellUndefined done (numbered_list statements.nodes.items) → (numbered_list more.nodes.items ≡ numbered_list statements.nodes.items ++ nodes_among (one ∷ [])) ⊎ IsLeftOut statements one more
-    → TellUndefined (done ++ one ∷ []) (numbered_list more.nodes.items)
-telling-more done one statements more table was (inl kept) = λ test fails.
-    let before = was test (λ statement known. fails statement (known-more done one (sources_of statement) known)) in
-    ap (first_line test) kept ∙ first_line-append test (numbered_list statements.nodes.items) (nodes_among (one ∷ []))
-    ∙ ap (λ line. option_or line (first_line test (nodes_among (one ∷ [])))) before
-    ∙ sym (first_line-append test (nodes_among done) (nodes_among (one ∷ []))) ∙ sym (ap (first_line test) (nodes_among-push done one))
-telling-more done one statements more table was (inr left) = λ test fails.
-    let before = was test (λ statement known. fails statement (known-more done one (sources_of statement) known)) in
-    let fails_here = fails one.statement (sym (undefined-table more.lines (done ++ one ∷ []) (sources_of one.statement) table) ∙ left.known) in
-    ap (first_line test) left.nodes ∙ before ∙ option_or-nothing (first_line test (nodes_among done))
-    ∙ sym (ap (option_or (first_line test (nodes_among done))) (none_among test one fails_here))
-    ∙ sym (first_line-append test (nodes_among done) (nodes_among (one ∷ []))) ∙ sym (ap (first_line test) (nodes_among-push done one))
+-- what is asked is the same where the nodes and the gates that wait are
+asked-same : (statements more : Statements) → more.nodes.items ≡ statements.nodes.items → more.waiting.items ≡ statements.waiting.items → asked more ≡ asked statements
+asked-same statements more nodes waiting =
+    ap (λ list. numbered_list list ++ waiting_list more.waiting.items) nodes ∙ ap (λ list. numbered_list statements.nodes.items ++ waiting_list list) waiting
+
+module _ (test : List (List ℕ) → Bool) where
+  -- the first line whose sources pass the test
+  abbrev first_source : List (Numbered Statement) → Option ℕ
+  first_source statements = first_line (λ statement. test (sources_of statement)) statements
+
+  -- sources that fail it are not found among the nodes
+  none_among : (one : Numbered Statement) → test (sources_of one.statement) ≡ false → first_source (nodes_among (one ∷ [])) ≡ None
+  none_among one h = by_node (is_node one.statement)
+    where
+      by_node : (b : Bool) → first_source (cond b (one ∷ []) []) ≡ None
+      by_node true = rw h refl
+      by_node false = refl
+
+  -- nothing but its line and its sources matter of a gate
+  same_sources : (line : ℕ) (statement other : Statement) → sources_of statement ≡ sources_of other → first_source (record { line = line; statement = statement } ∷ []) ≡ first_source (record { line = line; statement = other } ∷ [])
+  same_sources line statement other same = by_test (test (sources_of statement)) refl
+    where
+      by_test : (b : Bool) → test (sources_of statement) ≡ b → first_source (record { line = line; statement = statement } ∷ []) ≡ first_source (record { line = line; statement = other } ∷ [])
+      by_test true h = let also = ap test (sym same) ∙ h in rw (h, also) refl
+      by_test false h = let also = ap test (sym same) ∙ h in rw (h, also) refl
+
+  -- with one statement more, the first line is the one so far, or that of the statement
+  placed-line : (one : Numbered Statement) (statements more : Statements) → (statements.notes.variables ≤ more.notes.variables) → (statements.notes.variables ≤ 200000 → statements.waiting.items ≡ [])
+      → (IsLeftOut statements one more → test (sources_of one.statement) ≡ false) → IsPlaced statements one more
+      → first_source (asked more) ≡ option_or (first_source (asked statements)) (first_source (nodes_among (one ∷ [])))
+  placed-line one statements more grows none fails (inl kept) =
+      let few = kept.few in
+      let empty : waiting_list statements.waiting.items ≡ [] = ap waiting_list (none (omega (arith, grows, few))) in
+      let before : asked statements ≡ numbered_list statements.nodes.items = ap (λ behind. numbered_list statements.nodes.items ++ behind) empty ∙ append-nil _ in
+      let after : asked more ≡ numbered_list statements.nodes.items ++ nodes_among (one ∷ []) =
+      ap (λ waiting. numbered_list more.nodes.items ++ waiting_list waiting) kept.waiting
+      ∙ ap (λ behind. numbered_list more.nodes.items ++ behind) empty ∙ append-nil _ ∙ kept.nodes in
+      ap first_source after ∙ first_line_append (λ statement. test (sources_of statement)) (numbered_list statements.nodes.items) (nodes_among (one ∷ []))
+      ∙ sym (ap (λ list. option_or (first_source list) (first_source (nodes_among (one ∷ [])))) before)
+  placed-line one statements more grows none fails (inr (inl aside)) =
+      ap first_source (asked-same statements more aside.nodes aside.waiting) ∙ option_or-nothing (first_source (asked statements))
+      ∙ sym (ap (λ list. option_or (first_source (asked statements)) (first_source list)) aside.none)
+  placed-line one statements more grows none fails (inr (inr (inl waits))) =
+      let last : Numbered Statement = record { line = one.line; statement = Gate [] Unknown (sources_of one.statement) } in
+      let after : asked more ≡ asked statements ++ last ∷ [] =
+      ap (λ nodes. numbered_list nodes ++ waiting_list more.waiting.items) waits.nodes
+      ∙ ap (λ behind. numbered_list statements.nodes.items ++ behind) waits.waiting
+      ∙ sym (append_assoc (numbered_list statements.nodes.items) (waiting_list statements.waiting.items) (last ∷ [])) in
+      ap first_source after ∙ first_line_append (λ statement. test (sources_of statement)) (asked statements) (last ∷ [])
+      ∙ ap (option_or (first_source (asked statements))) (same_sources one.line last.statement one.statement refl ∙ sym (ap first_source waits.node))
+  placed-line one statements more grows none fails (inr (inr (inr left))) =
+      ap first_source (asked-same statements more left.nodes left.waiting) ∙ option_or-nothing (first_source (asked statements))
+      ∙ sym (ap (option_or (first_source (asked statements))) (none_among one (fails left)))
+
+telling-more : (done : List (Numbered Statement)) (one : Numbered Statement) (statements more : Statements) → more.again ≡ None → IsTableOf (done ++ one ∷ []) more.lines
+    → AreGathered done statements → TellUndefined done (asked statements) → IsSorted statements one more → TellUndefined (done ++ one ∷ []) (asked more)
+telling-more done one statements more once table was telling sorted = λ test fails.
+    let before = telling test (λ names known. fails names (known-more done one names known)) in
+    let sum = ap (λ (notes : Notes). notes.variables) sorted.notes in
+    let here : IsLeftOut statements one more → test (sources_of one.statement) ≡ false = λ left.
+    fails (sources_of one.statement) (sym (undefined-table more.lines (done ++ one ∷ []) (sources_of one.statement) table) ∙ left.known once) in
+    placed-line test one statements more (omega (arith, sum)) was.none_waits here sorted.placed
+    ∙ ap (λ line. option_or line (first_source test (nodes_among (one ∷ [])))) before
+    ∙ sym (first_line_append (λ statement. test (sources_of statement)) (nodes_among done) (nodes_among (one ∷ [])))
+    ∙ sym (ap (first_source test) (nodes_among-push done one))
 
 nodes-more : (done : List (Numbered Statement)) (one : Numbered Statement) (statements more : Statements) → AreGathered done statements → more.notes ≡ noted statements.notes one
-    → (numbered_list more.nodes.items ≡ numbered_list statements.nodes.items ++ nodes_among (one ∷ [])) ⊎ IsLeftOut statements one more
-    → more.notes.variables ≤ 200000 → numbered_list more.nodes.items ≡ nodes_among (done ++ one ∷ [])
+    → IsPlaced statements one more → more.notes.variables ≤ 200000 → (numbered_list more.nodes.items ≡ nodes_among (done ++ one ∷ [])) × (more.waiting.items ≡ [])
 nodes-more done one statements more was notes (inl kept) few =
     let sum = ap (λ (notes : Notes). notes.variables) notes in
-    kept ∙ ap (λ (list : List (Numbered Statement)). list ++ nodes_among (one ∷ [])) (was.nodes (omega (arith, sum, few))) ∙ sym (nodes_among-push done one)
-nodes-more done one statements more was notes (inr left) few = absurd (omega (arith, left.many, few))
+    let few_before : statements.notes.variables ≤ 200000 = omega (arith, sum, few) in (
+      kept.nodes ∙ ap (λ (list : List (Numbered Statement)). list ++ nodes_among (one ∷ [])) (was.nodes few_before) ∙ sym (nodes_among-push done one),
+      kept.waiting ∙ was.none_waits few_before,
+    )
+nodes-more done one statements more was notes (inr (inl aside)) few =
+    let sum = ap (λ (notes : Notes). notes.variables) notes in
+    let few_before : statements.notes.variables ≤ 200000 = omega (arith, sum, few) in (
+      ap numbered_list aside.nodes ∙ was.nodes few_before
+          ∙ sym (nodes_among-push done one ∙ ap (λ list. nodes_among done ++ list) aside.none ∙ append-nil (nodes_among done)),
+      aside.waiting ∙ was.none_waits few_before,
+    )
+nodes-more done one statements more was notes (inr (inr (inl waits))) few = absurd (omega (arith, waits.many, few))
+nodes-more done one statements more was notes (inr (inr (inr left))) few = absurd (omega (arith, left.many, few))
 
 -- the next statement is gathered too
 pub gathered-more : (done : List (Numbered Statement)) (one : Numbered Statement) (statements more : Statements)
@@ -120,6 +174,7 @@ gathered-more done one statements more was sorted =
       again = again-more done one statements more was sorted.named;
       table = table;
       names = λ none. (sorted.named.put none).1 ∙ ap (λ names. names ++ defined_names (one.statement ∷ [])) (was.names (before none)) ∙ sym (defined_names-push done one);
-      telling = λ none. telling-more done one statements more (table none) (was.telling (before none)) sorted.nodes;
-      nodes = nodes-more done one statements more was sorted.notes sorted.nodes;
+      telling = λ none. telling-more done one statements more none (table none) was (was.telling (before none)) sorted;
+      nodes = λ few. (nodes-more done one statements more was sorted.notes sorted.placed few).0;
+      none_waits = λ few. (nodes-more done one statements more was sorted.notes sorted.placed few).1;
     }

@@ -16,11 +16,11 @@ use Rattle.hz_bench.specs.declared.parse.Statements.{Statements}
 use Rattle.hz_bench.specs.declared.forms.Form.{Form}
 use Rattle.hz_bench.specs.declared.forms.Form.TheVariants as form
 use Rattle.hz_bench.specs.declared.forms.KindWord.{KindWord}
-use Rattle.hz_bench.specs.Entry.{numbered_list, numbered_outputs}
+use Rattle.hz_bench.specs.Entry.{numbered_list, numbered_outputs, waiting_list}
 use Rattle.hz_bench.specs.Noted.{nothing_noted, noted, notes_of}
 use Rattle.hz_bench.specs.Pass.{AreGathered, IsNothingRead, IsParsed, IsSorted}
 use Rattle.hz_bench.specs.Sorted.{again_fault}
-use Rattle.hz_bench.specs.Statement.{Statement, Input, Output, Gate, statement_of, names_of, port_form, port_of, kind_word_of, variables_in, words_of, is_node, is_output}
+use Rattle.hz_bench.specs.Statement.{Statement, Input, Output, Gate, statement_of, names_of, port_form, port_of, kind_word_of, variables_in, words_of, sources_of}
 use Rattle.hz_bench.specs.Text.{meaning_of, numbered_statements, nodes_among, outputs_among, variables_of, variables_among}
 use Rattle.hz_bench.proofs.GatheredLemmas.{gathered-more}
 use Rattle.hz_bench.proofs.NotedLemmas.{inputs_few, variables_of-statements, variables-push}
@@ -43,8 +43,9 @@ gathered-nothing statements nothing = record {
   again = ap (option_map again_fault) nothing.again;
   table = λ once. λ name. ap (lookup (λ (key : Key). bytes_eq name key.bytes.now)) nothing.table;
   names = λ once. ap (map (λ (entry : Key × ℕ). entry.0.bytes.now)) nothing.table;
-  telling = λ once. λ test. λ fails. ap (λ nodes. first_line test (numbered_list nodes)) nothing.nodes;
+  telling = λ once. λ test. λ fails. ap (first_line (λ statement. test (sources_of statement))) (ap (λ nodes. numbered_list nodes ++ waiting_list statements.waiting.items) nothing.nodes ∙ ap waiting_list nothing.waiting);
   nodes = λ few. ap numbered_list nothing.nodes;
+  none_waits = λ few. nothing.waiting;
 }
 
 pub IsParsing-begin : (text : Bor (List ℕ)) (statements : Statements) → IsNothingRead statements → IsParsing text.now statements 0 (Some text)
@@ -58,9 +59,9 @@ IsParsing-begin text statements nothing = record {
 }
 
 -- what was read stays where the table takes more room
-pub IsParsing-roomier : (text : List ℕ) (statements more : Statements) (line : ℕ) (left : Option (Bor (List ℕ))) → more.nodes ≡ statements.nodes → more.outputs ≡ statements.outputs → more.notes ≡ statements.notes → more.again ≡ statements.again
+pub IsParsing-roomier : (text : List ℕ) (statements more : Statements) (line : ℕ) (left : Option (Bor (List ℕ))) → more.nodes ≡ statements.nodes → more.waiting ≡ statements.waiting → more.outputs ≡ statements.outputs → more.notes ≡ statements.notes → more.again ≡ statements.again
     → more.lines.entries ≡ statements.lines.entries → IsParsing text statements line left → IsParsing text more line left
-IsParsing-roomier text statements more line left nodes outputs notes again entries was =
+IsParsing-roomier text statements more line left nodes waiting outputs notes again entries was =
     let gathered = was.gathered in
     record {
       done = was.done;
@@ -70,8 +71,9 @@ IsParsing-roomier text statements more line left nodes outputs notes again entri
         again = rw again gathered.again;
         table = λ once. λ name. ap (lookup (λ (key : Key). bytes_eq name key.bytes.now)) entries ∙ gathered.table (sym again ∙ once) name;
         names = λ once. ap (map (λ (entry : Key × ℕ). entry.0.bytes.now)) entries ∙ gathered.names (sym again ∙ once);
-        telling = λ once. rw nodes (gathered.telling (sym again ∙ once));
+        telling = λ once. rw (nodes, waiting) (gathered.telling (sym again ∙ once));
         nodes = λ few. rw nodes (gathered.nodes (rw (sym notes) few));
+        none_waits = λ few. rw waiting (gathered.none_waits (rw (sym notes) few));
       };
       whole = was.whole;
       formed = was.formed;

@@ -22,7 +22,7 @@ use Rattle.hz_bench.specs.Entry.{numbered_of, numbered_list, numbered_outputs, s
 use Rattle.hz_bench.specs.Netlist.{input_names}
 use Rattle.hz_bench.specs.Noted.{wrong_pins_of, notes_of}
 use Rattle.hz_bench.specs.Pass.{AreGathered, IsListed, IsParsed}
-use Rattle.hz_bench.specs.Sorted.{again_fault, fault_in, last_fault, pins_fault, sorted_fault, undefined_line, unknown_line, uses_missing}
+use Rattle.hz_bench.specs.Sorted.{again_fault, asked, fault_in, last_fault, pins_fault, sorted_fault, undefined_line, unknown_line, uses_missing}
 use Rattle.hz_bench.specs.Statement.{Statement, Input, Output, Gate, statement_of, is_node, is_output, defined_name, sources_of, used_names, has_long_name, variables_in}
 use Rattle.hz_bench.specs.Text.{numbered_statements, statements_of, nodes_among, outputs_among, variables_among}
 use Rattle.hz_bench.specs.Twice.{twice_or, earlier_line, twice_after, twice_fault}
@@ -289,6 +289,7 @@ listed text statements parsed once few =
     let variables = ap (λ (notes : Notes). notes.variables) gathered.notes in
     record {
       few = omega (arith, counted, same, nodes_few all, variables, few);
+      none_waits = gathered.none_waits few;
       inputs = inputs-sorted text statements parsed nodes;
       once = ap twice_fault nodes ∙ twice_after-kept [] [] all (λ name. refl) ∙ sym gathered.again ∙ ap (option_map again_fault) once;
       table = λ name. gathered.table once name ∙ sym (definer-kept all name) ∙ sym (ap (λ list. definer list name) nodes);
@@ -326,8 +327,8 @@ missing-undefined all statements table = λ j name. (ap (λ line. not (is_some l
 unknown-undefined : (all : List (Numbered Statement)) (statements : Statements) → AreGathered all statements → statements.again ≡ None → unknown_line statements ≡ undefined_line (nodes_among all) (outputs_among all)
 unknown-undefined all statements gathered once =
     let same = missing-undefined all statements (gathered.table once) in
-    let sources = ap (λ (test : List ℕ → Bool). first_line (λ statement. list_any test (sources_of statement)) (numbered_list statements.nodes.items)) same
-    ∙ gathered.telling once (reads_undefined (nodes_among all)) (λ statement known. undefined-kept all (sources_of statement) ∙ known) in
+    let sources = ap (λ (test : List ℕ → Bool). first_line (λ statement. list_any test (sources_of statement)) (asked statements)) same
+    ∙ gathered.telling once (list_any (λ name. not (is_some (definer (nodes_among all) name)))) (λ names known. undefined-kept all names ∙ known) in
     let outputs = ap (λ (test : List ℕ → Bool). first_line (λ statement. list_any test (used_names statement)) (numbered_outputs statements.outputs.items)) same
     ∙ ap (first_line (uses_undefined (nodes_among all))) gathered.outputs in
     ap (λ line. earlier line (first_line (uses_missing statements.lines) (numbered_outputs statements.outputs.items))) sources

@@ -6,7 +6,7 @@ use Rattle.std.specs.Option.{unwrap_or}
 use Rattle.std.specs.Str.{bytes_eq}
 use Rattle.hz_core.specs.declared.name.Name.{Name as Key}
 use Rattle.std.specs.HashMap.{HashMap, keys}
-use Rattle.std.proofs.lemmas.List.{at_drop_more, get_or-map, length-map}
+use Rattle.std.proofs.lemmas.List.{append-nil, at_drop_more, get_or-map, length-map}
 use Rattle.std.proofs.lemmas.List.Quantifiers.{position-Some}
 use Rattle.std.proofs.lemmas.Slice.Eq.{bytes_eq-Decides}
 use Rattle.indexmap.proofs.MapLemmas.{some_index}
@@ -14,11 +14,11 @@ use Rattle.hz_line.specs.Statement.{Numbered, first_line}
 use Rattle.hz_bench.specs.declared.entry.Entry.{Entry}
 use Rattle.hz_bench.specs.declared.entry.OutputLine.{OutputLine}
 use Rattle.hz_bench.specs.declared.parse.Statements.{Statements}
-use Rattle.hz_bench.specs.Check.{reads_undefined, earlier, first_that}
+use Rattle.hz_bench.specs.Check.{reads_undefined, uses_undefined, earlier, first_that}
 use Rattle.hz_bench.specs.Definition.{definer, defined_names, names_in, IsTableOf}
-use Rattle.hz_bench.specs.Entry.{numbered_list, numbered_output, numbered_outputs, statement_list, output_list}
+use Rattle.hz_bench.specs.Entry.{numbered_list, numbered_output, numbered_outputs, statement_list, output_list, waiting_list}
 use Rattle.hz_bench.specs.Netlist.{node_names, output_names, number_in}
-use Rattle.hz_bench.specs.Sorted.{undefined_line, unknown_line}
+use Rattle.hz_bench.specs.Sorted.{asked, undefined_line, unknown_line}
 use Rattle.hz_bench.specs.Statement.{Statement, Input, Output, Gate, sources_of, used_names}
 use Rattle.hz_bench.specs.Uses.{pins_in, number_for, is_unnumbered, numbers_of, pin_numbers}
 use Rattle.hz_bench.proofs.CheckedLemmas.{either, each_fails}
@@ -181,9 +181,11 @@ resolved entries outputs lines numbers pins found source output tells first seco
           ∙ ap (λ all. map (number_in (node_names all)) (output_names (plain list))) same ∙ ap (λ all. map (number_in (node_names (statement_list entries))) (output_names all)) same_outputs,
     )
 
--- in a table of all nodes a name is missing where it is undefined
-pub unknown-listed : (statements : Statements) → IsTableOf (numbered_list statements.nodes.items) statements.lines
+-- in a table of all nodes, where no gate waits, a name is missing where it is undefined
+pub unknown-listed : (statements : Statements) → IsTableOf (numbered_list statements.nodes.items) statements.lines → statements.waiting.items ≡ []
     → unknown_line statements ≡ undefined_line (numbered_list statements.nodes.items) (numbered_outputs statements.outputs.items)
-unknown-listed statements table =
-    ap (λ (missing : List ℕ → Bool). earlier (first_line (λ statement. list_any missing (sources_of statement)) (numbered_list statements.nodes.items)) (first_line (λ statement. list_any missing (used_names statement)) (numbered_outputs statements.outputs.items)))
+unknown-listed statements table none_waits =
+    ap (λ (missing : List ℕ → Bool). earlier (first_line (λ statement. list_any missing (sources_of statement)) (asked statements)) (first_line (λ statement. list_any missing (used_names statement)) (numbered_outputs statements.outputs.items)))
     (λ j name. (ap (λ line. not (is_some line)) (table name)) j)
+    ∙ ap (λ list. earlier (first_line (reads_undefined (numbered_list statements.nodes.items)) list) (first_line (uses_undefined (numbered_list statements.nodes.items)) (numbered_outputs statements.outputs.items)))
+    (ap (λ waiting. numbered_list statements.nodes.items ++ waiting_list waiting) none_waits ∙ append-nil (numbered_list statements.nodes.items))

@@ -1,5 +1,5 @@
 -- The fault of statements by their nodes, their outputs and what was noted of all of them.
-use Rattle.std.specs.Prelude.{ℕ, Bool, List, Option, Some, option_map}
+use Rattle.std.specs.Prelude.{ℕ, ◌++◌, Bool, List, Option, Some, option_map}
 use Rattle.std.specs.HashMap.{HashMap}
 use Rattle.std.specs.List.{list_any}
 use Rattle.std.specs.Option.{option_or}
@@ -13,7 +13,7 @@ use Rattle.hz_bench.specs.declared.notes.WrongPins.{WrongPins}
 use Rattle.hz_bench.specs.declared.parse.Statements.{Statements}
 use Rattle.hz_bench.specs.Check.{reads_undefined, uses_undefined, earlier, too_many}
 use Rattle.hz_bench.specs.Definition.{is_missing}
-use Rattle.hz_bench.specs.Entry.{numbered_list, numbered_outputs}
+use Rattle.hz_bench.specs.Entry.{numbered_list, numbered_outputs, waiting_list}
 use Rattle.hz_bench.specs.Statement.{Statement, sources_of, used_names}
 use Rattle.hz_bench.specs.Twice.{twice_fault}
 
@@ -48,11 +48,17 @@ reads_missing table statement = list_any (is_missing table) (sources_of statemen
 abbrev pub uses_missing : {S : Type 0} → HashMap Name ℕ S → Statement → Bool
 uses_missing table statement = list_any (is_missing table) (used_names statement)
 
+-- the statements whose sources may be undefined: the nodes, and behind them the gates that wait
+abbrev pub asked : Statements → List (Numbered Statement)
+asked statements = numbered_list statements.nodes.items ++ waiting_list statements.waiting.items
+
+-- the first line, of those that were read, whose pins read a name which their table does not have
+abbrev pub unknown_source : Statements → Option ℕ
+unknown_source statements = first_line (reads_missing statements.lines) (asked statements)
+
 -- the first line, of those that were read, that uses a name which their table does not have
 abbrev pub unknown_line : Statements → Option ℕ
-unknown_line statements =
-    earlier (first_line (reads_missing statements.lines) (numbered_list statements.nodes.items))
-    (first_line (uses_missing statements.lines) (numbered_outputs statements.outputs.items))
+unknown_line statements = earlier (unknown_source statements) (first_line (uses_missing statements.lines) (numbered_outputs statements.outputs.items))
 
 -- the fault of statements that have no other: an unknown name, or more variables than a circuit has
 abbrev pub last_fault : Statements → Option BenchFault

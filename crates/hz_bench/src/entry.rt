@@ -36,6 +36,17 @@ const ENTRY_SIZE: usize = std::mem::size_of::<Entry>();
 
 const _: () = prove!(ENTRY_SIZE == 48);
 
+/// A gate of a text with too many variables, which reads a name that no line before it defines. It waits for the names of the
+/// lines after it.
+#[derive(Clone, Copy)]
+pub struct Waiting<'a> {
+    /// The number of the line, counted from 1.
+    pub line: u32,
+    /// The line from the gate's first source on.
+    pub sources: &'a [u8],
+    ghost listed: { are_marked (tokens_of sources.now) ≡ true },
+}
+
 /// A line `OUTPUT(name)`, which borrows its name.
 #[derive(Clone, Copy)]
 pub struct OutputLine<'a> {

@@ -3,10 +3,10 @@
 ghost use Rattle.std.specs.Prelude.{◌≡◌, ◌+◌, ◌<◌, ◌≤◌, ◌^◌, IfOk, length, MatchResult, OnOk};
 ghost use Rattle.hz_bench.specs.Entry.{stated, numbered_line, numbered_of, numbered_output};
 ghost use Rattle.hz_bench.specs.Statement.{variables_in};
-ghost use Rattle.hz_bench.specs.Pass.{is_kept, IsDefining, IsNothingRead, IsParsed, IsParseFault, IsSorted};
+ghost use Rattle.hz_bench.specs.Pass.{IsDefining, IsNothingRead, IsParsed, IsParseFault, IsSorted};
 
 use crate::definitions::{Definitions, define, make_room, no_definitions};
-use crate::entry::{Entry, Line, OutputLine};
+use crate::entry::{Entry, Line, OutputLine, Waiting};
 use crate::fault::BenchFault;
 use crate::notes::{Notes, Redefinition};
 use crate::statement::statement_of;
@@ -18,10 +18,11 @@ use std::alloc::Global;
 /// What was read of the statements of a text.
 #[derive(Drop)]
 pub struct Statements<'a> {
-    /// The inputs and gates, in the order of the text. Where the text has more variables than a circuit, these are no more
-    /// than are needed to tell which names are undefined: beyond the most variables, a gate whose sources are all defined
-    /// before it is left out.
+    /// The inputs and gates, in the order of the text, up to the most variables that a circuit has.
     pub nodes: Vec<Entry<'a>>,
+    /// Beyond the most variables, the gates that read a name which no line before them defines. The others are left out, since
+    /// all that can be wrong with their names is known.
+    pub waiting: Vec<Waiting<'a>>,
     /// The lines of the outputs, in the order of the text.
     pub outputs: Vec<OutputLine<'a>>,
     /// What was noted of all statements.
@@ -74,6 +75,7 @@ impl<'a> Statements<'a> {
         let lines = no_definitions(alloc)?;
         Ok(Statements {
             nodes: Vec::new(alloc),
+            waiting: Vec::new(alloc),
             outputs: Vec::new(alloc),
             notes: Notes::new(),
             again: None,
@@ -101,8 +103,15 @@ impl<'a> Statements<'a> {
     {
         self.notes.add(&entry);
         self.define(&entry)?;
-        if self.keeps(&entry) {
+        if self.notes.variables <= MAX_VARIABLES {
             let Ok(()) = self.nodes.push(entry) else {
+                return Err(Memory);
+            };
+        } else if self.again.is_none() && reads_unknown(entry.sources, &self.lines) {
+            let Ok(()) = self.waiting.push(Waiting {
+                line: entry.line,
+                sources: entry.sources,
+            }) else {
                 return Err(Memory);
             };
         }
@@ -132,13 +141,5 @@ impl<'a> Statements<'a> {
             self.again = Some(Redefinition { line, first });
         }
         Ok(())
-    }
-
-    // Whether a statement is needed once it is read: the text may have a circuit, or it reads a name that no line so far
-    // defines.
-    fn keeps(&self, entry: &Entry<'a>) -> bool
-        ensures { result ≡ is_kept self.now entry.now }
-    {
-        self.notes.variables <= MAX_VARIABLES || reads_unknown(entry, &self.lines)
     }
 }

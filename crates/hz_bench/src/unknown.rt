@@ -1,12 +1,16 @@
 // Names that statements use and no statement defines.
 
-ghost use Rattle.std.specs.Prelude.{◌≡◌};
+ghost use Rattle.std.specs.Prelude.{◌≡◌, true};
+ghost use Rattle.std.specs.List.{list_any};
 ghost use Rattle.hz_line.specs.Statement.{first_line};
-ghost use Rattle.hz_bench.specs.Entry.{stated, numbered_list, numbered_outputs};
-ghost use Rattle.hz_bench.specs.Sorted.{unknown_line, reads_missing, uses_missing};
+ghost use Rattle.hz_line.specs.Token.{tokens_of};
+ghost use Rattle.hz_bench.specs.Definition.{is_missing};
+ghost use Rattle.hz_bench.specs.Entry.{numbered_list, numbered_outputs, waiting_list};
+ghost use Rattle.hz_bench.specs.Sorted.{unknown_line, unknown_source, reads_missing, uses_missing};
+ghost use Rattle.hz_bench.specs.Statement.{are_marked, words_in};
 
 use crate::definitions::{Definitions, is_defined};
-use crate::entry::{Entry, OutputLine};
+use crate::entry::{Entry, OutputLine, Waiting};
 use crate::parse::Statements;
 use crate::statement::marked_word;
 use crate::uses::earlier;
@@ -15,18 +19,41 @@ use crate::uses::earlier;
 pub(crate) fn first_unknown(statements: &Statements) -> Option<u32>
     ensures { result ≡ unknown_line statements.now }
 {
-    let source = first_unknown_source(statements.nodes.as_slice(), &statements.lines);
+    let source = first_unknown_source(statements);
     let output = first_unknown_output(statements.outputs.as_slice(), &statements.lines);
     earlier(source, output)
 }
 
-// The line of the first gate with a source that the table does not have.
-fn first_unknown_source(nodes: &[Entry], lines: &Definitions) -> Option<u32>
+// The line of the first gate with a source that the table does not have. Those that wait come after all others.
+#[tactic(auto, using(crate::proofs::GatheredLemmas::first_line_append))]
+fn first_unknown_source(statements: &Statements) -> Option<u32>
+    ensures { result ≡ unknown_source statements.now }
+{
+    match first_unknown_entry(statements.nodes.as_slice(), &statements.lines) {
+        Some(line) => Some(line),
+        None => first_unknown_waiting(statements.waiting.as_slice(), &statements.lines),
+    }
+}
+
+// The same of entries.
+fn first_unknown_entry(nodes: &[Entry], lines: &Definitions) -> Option<u32>
     ensures { result ≡ first_line (reads_missing lines.now) (numbered_list nodes.now) }
 {
     for entry in nodes {
-        if reads_unknown(entry, lines) {
+        if reads_unknown(entry.sources, lines) {
             return Some(entry.line);
+        }
+    }
+    None
+}
+
+// The same of gates that wait.
+fn first_unknown_waiting(waiting: &[Waiting], lines: &Definitions) -> Option<u32>
+    ensures { result ≡ first_line (reads_missing lines.now) (waiting_list waiting.now) }
+{
+    for gate in waiting {
+        if reads_unknown(gate.sources, lines) {
+            return Some(gate.line);
         }
     }
     None
@@ -44,11 +71,12 @@ fn first_unknown_output(outputs: &[OutputLine], lines: &Definitions) -> Option<u
     None
 }
 
-/// Whether a statement has a source that the table does not have.
-pub(crate) fn reads_unknown(entry: &Entry, lines: &Definitions) -> bool
-    ensures { result ≡ reads_missing lines.now (stated entry.now) }
+/// Whether the table does not have some of the sources that are listed in a part of a line.
+pub(crate) fn reads_unknown(sources: &[u8], lines: &Definitions) -> bool
+    requires { are_marked (tokens_of sources.now) ≡ true }
+    ensures { result ≡ list_any (is_missing lines.now) (words_in sources.now) }
 {
-    let mut left = entry.sources;
+    let mut left = sources;
     while let Some(source) = marked_word(left) {
         if !is_defined(lines, source.word) {
             return true;

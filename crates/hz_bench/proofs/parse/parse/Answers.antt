@@ -23,5 +23,5 @@ loop-left-preserved-in-Ok-add c =
     let read = c.in-Some-statement_of.ensures in
     let roomy = record c.loop-left.statements { lines = c.make_room.new.lines } in
     IsParsing-statement c.args.text.now roomy (numbered_line c.in-Some-statement_of.statement) c.add.new.self c.loop-left.line c.cut_line-cut.result.line.now c.cut_line-cut.result.rest c.in-Some.rest
-    (IsParsing-roomier c.args.text.now c.loop-left.statements roomy c.loop-left.line (Some c.in-Some.rest) refl refl refl refl c.in-Ok-make_room.ensures was)
+    (IsParsing-roomier c.args.text.now c.loop-left.statements roomy c.loop-left.line (Some c.in-Some.rest) refl refl refl refl refl c.in-Ok-make_room.ensures was)
     c.cut_line-cut.ensures.lines c.cut_line-cut.ensures.within read.0 read.1 c.in-Ok-add.ensures

@@ -7,7 +7,7 @@ use Rattle.hz_bench.proofs.unknown.reads_unknown.Given as goal
 
 abbrev pub invariant-loop-source : goal.invariant-loop-source
 invariant-loop-source l = record {
-  same : list_any (is_missing l.lines) (words_in l.left) ≡ list_any (is_missing l.lines) (words_in l.entry.sources.now);
+  same : list_any (is_missing l.lines) (words_in l.left) ≡ list_any (is_missing l.lines) (words_in l.sources);
   listed : are_marked (tokens_of l.left) ≡ true;
 }
 
