@@ -63,6 +63,7 @@ fn head_of<'a>(line: &'a [u8]) -> Option<Head<'a>>
 }
 
 // The word and the mark that a line begins with.
+#[inline(always)]
 fn marked<'a>(line: &'a [u8]) -> Option<MarkedWord<'a>>
     ensures { IsMarkedFirst line.now result }
 {
