@@ -64,6 +64,7 @@ fn head_of<'a>(line: &'a [u8]) -> Option<Head<'a>>
 
 /// The word and the mark that a line begins with. A gate's sources are read by it one after the other: a comma follows each
 /// but the last, which a parenthesis follows.
+#[inline(always)]
 pub(crate) fn marked_word<'a>(line: &'a [u8]) -> Option<MarkedWord<'a>>
     ensures { IsMarkedFirst line.now result }
 {
