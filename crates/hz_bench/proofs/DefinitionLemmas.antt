@@ -9,7 +9,7 @@ use Rattle.std.specs.List.{list_any}
 use Rattle.std.specs.Str.{bytes_eq}
 use Rattle.hz_line.specs.Statement.{Numbered}
 use Rattle.hz_bench.specs.declared.entry.Entry.{Entry}
-use Rattle.hz_bench.specs.Definition.{is_that, defines, definer, defined_names, names_in, line_for, line_for_defined, IsPut, IsTableOf}
+use Rattle.hz_bench.specs.Definition.{is_that, defines, definer, defined_names, line_for, line_for_defined, IsPut, IsTableOf}
 use Rattle.hz_bench.specs.Statement.{Statement, Input, Output, Gate, defined_name, name_of, form_of, form_defines}
 use Rattle.hz_bench.specs.Entry.{stated}
 use Rattle.hz_bench.specs.Twice.{twice_or, earlier_line, twice_after, twice_fault}

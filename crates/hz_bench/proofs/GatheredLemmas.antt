@@ -1,8 +1,7 @@
 -- What is gathered of statements, with one more.
-use Rattle.std.proofs.Common.{◌≡◌, ◌∙◌, ℕ, ◌+◌, ◌<◌, ◌≤◌, ◌++◌, ◌||◌, Bool, true, false, not, cond, List, [], ◌∷◌, Option, Some, None, is_some, option_map, refl, sym, ap, arith, append_assoc, inl, inr}
+use Rattle.std.proofs.Common.{◌≡◌, ◌∙◌, ℕ, ◌≤◌, ◌++◌, Bool, true, false, not, cond, List, [], ◌∷◌, Option, Some, None, is_some, option_map, refl, sym, ap, arith, append_assoc, inl, inr}
 use Rattle.std.specs.List.{list_any}
 use Rattle.std.specs.Option.{option_or}
-use Rattle.std.specs.Prelude.{◌⊎◌}
 use Rattle.std.proofs.lemmas.List.{append-nil}
 use Rattle.std.proofs.lemmas.List.Elements.{filter-append}
 use Rattle.std.proofs.lemmas.List.Folds.{find-append}
@@ -12,8 +11,8 @@ use Rattle.hz_bench.specs.declared.notes.Notes.{Notes}
 use Rattle.hz_bench.specs.declared.notes.Redefinition.{Redefinition}
 use Rattle.hz_bench.specs.declared.parse.Statements.{Statements}
 use Rattle.hz_bench.specs.Check.{first_that}
-use Rattle.hz_bench.specs.Definition.{definer, defined_names, line_for_defined, names_in, IsTableOf}
-use Rattle.hz_bench.specs.Entry.{numbered_list, numbered_outputs, waiting_list}
+use Rattle.hz_bench.specs.Definition.{definer, defined_names, line_for_defined, IsTableOf}
+use Rattle.hz_bench.specs.Entry.{numbered_list, waiting_list}
 use Rattle.hz_bench.specs.Noted.{noted}
 use Rattle.hz_bench.specs.Pass.{noted_again, AreGathered, IsLeftOut, IsNamed, IsPlaced, IsSorted, TellUndefined}
 use Rattle.hz_bench.specs.Sorted.{again_fault, asked}
@@ -21,7 +20,7 @@ use Rattle.hz_bench.specs.Statement.{Statement, Gate, defined_name, is_node, is_
 use Rattle.hz_bench.specs.Text.{nodes_among, outputs_among}
 use Rattle.hz_bench.specs.Twice.{twice_or, earlier_line, twice_fault}
 use Rattle.hz_bench.proofs.CheckedLemmas.{either, neither}
-use Rattle.hz_bench.proofs.DefinitionLemmas.{plain, defined_names-push, definer-push, earlier_line-table, put, twice_fault-push, undefined-table}
+use Rattle.hz_bench.proofs.DefinitionLemmas.{defined_names-push, definer-push, earlier_line-table, put, twice_fault-push, undefined-table}
 use Rattle.hz_bench.proofs.NotedLemmas.{notes_of-push}
 
 -- what is noted is the fault of the first line that defines a name again

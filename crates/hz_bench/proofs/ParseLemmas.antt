@@ -1,11 +1,10 @@
 -- Reading the statements of a text line by line.
-use Rattle.std.proofs.Common.{◌≡◌, ◌∙◌, ℕ, ◌+◌, ◌≤◌, suc, List, [], ◌∷◌, ◌++◌, Option, Some, None, option_map, length, map, refl, sym, ap, arith, add-one, append_assoc, IfSome, is_some, lit≤, subst, find}
+use Rattle.std.proofs.Common.{◌≡◌, ◌∙◌, ℕ, ◌+◌, ◌≤◌, suc, List, [], ◌∷◌, ◌++◌, Option, Some, None, option_map, length, map, refl, sym, ap, arith, add-one, append_assoc, IfSome, is_some, lit≤, subst}
 use Rattle.std.specs.Borrow.{Bor}
 use Rattle.std.specs.Map.{lookup}
 use Rattle.std.specs.Str.{bytes_eq}
 use Rattle.hz_core.specs.declared.name.Name.{Name as Key}
 use Rattle.std.proofs.lemmas.List.{append-nil}
-use Rattle.std.proofs.lemmas.List.Sums.{sum_by-cons}
 use Rattle.hz_line.specs.declared.bytes.Mark.TheVariants.{Open, Close, Comma, Equals}
 use Rattle.hz_line.specs.Line.{lines_of, lines_of_rest, rest_length}
 use Rattle.hz_line.specs.Statement.{Nothing, Means, Numbered, with_meaning, meaning_by, meaning_of_tokens, numbered_from, malformed_before, first_malformed, first_line}
@@ -17,11 +16,10 @@ use Rattle.hz_bench.specs.declared.forms.Form.{Form}
 use Rattle.hz_bench.specs.declared.forms.Form.TheVariants as form
 use Rattle.hz_bench.specs.declared.forms.KindWord.{KindWord}
 use Rattle.hz_bench.specs.Entry.{numbered_list, numbered_outputs, waiting_list}
-use Rattle.hz_bench.specs.Noted.{nothing_noted, noted, notes_of}
 use Rattle.hz_bench.specs.Pass.{AreGathered, IsNothingRead, IsParsed, IsSorted}
 use Rattle.hz_bench.specs.Sorted.{again_fault}
 use Rattle.hz_bench.specs.Statement.{Statement, Input, Output, Gate, statement_of, names_of, port_form, port_of, kind_word_of, variables_in, words_of, sources_of}
-use Rattle.hz_bench.specs.Text.{meaning_of, numbered_statements, nodes_among, outputs_among, variables_of, variables_among}
+use Rattle.hz_bench.specs.Text.{meaning_of, numbered_statements, variables_among}
 use Rattle.hz_bench.proofs.GatheredLemmas.{gathered-more}
 use Rattle.hz_bench.proofs.NotedLemmas.{inputs_few, variables_of-statements, variables-push}
 use Rattle.hz_bench.proofs.StatementLemmas.{IsNameList-from_some}

@@ -1,7 +1,5 @@
 -- What the reader answers, by the law of faults.
-use Rattle.std.proofs.Common.{◌≡◌, ◌∙◌, ℕ, ◌+◌, ◌^◌, ◌<◌, ◌≤◌, List, [], ◌∷◌, length, Option, Some, None, cond, refl, ap, sym, subst, inl, inr, arith, if◌then◌else◌, ◌==◌}
-use Rattle.std.proofs.lemmas.List.{length-map}
-use Rattle.std.proofs.lemmas.List.Sums.{sum_by-cons}
+use Rattle.std.proofs.Common.{◌≡◌, ◌∙◌, ℕ, List, Option, Some, None, refl, ap, sym, subst, inl, inr, arith, if◌then◌else◌, ◌==◌}
 use Rattle.std.specs.Prelude.{◌⊎◌}
 use Rattle.hz_bench.specs.declared.notes.Notes.{Notes}
 use Rattle.hz_bench.specs.declared.parse.Statements.{Statements}
@@ -10,10 +8,8 @@ use Rattle.hz_bench.specs.declared.fault.BenchFault.TheVariants.{Form, Name, Kin
 use Rattle.hz_bench.specs.Check.{pin_count}
 use Rattle.hz_bench.specs.Fault.{Defines, Stands, number_of, line_of, ComesFirst, IsLeastFault, IsAnswer}
 use Rattle.hz_bench.specs.Pass.{IsParsed, IsParseFault, IsAccepted}
-use Rattle.hz_bench.specs.Statement.{Statement, Input, Output, Gate, defined_name, is_node, variables_in}
-use Rattle.hz_bench.specs.Text.{meaning_at, statement_meant, numbered_statements, statements_of, nodes_among, variables_of, variables_among}
-use Rattle.hz_line.specs.Statement.{Numbered}
-use Rattle.hz_bench.specs.Entry.{numbered_of, numbered_list}
+use Rattle.hz_bench.specs.Statement.{defined_name}
+use Rattle.hz_bench.specs.Text.{meaning_at, statement_meant, numbered_statements, statements_of, variables_of}
 use Rattle.hz_bench.specs.Twice.{IsFoundOrMemory, earlier_line}
 use Rattle.hz_bench.proofs.CheckedLemmas.{checked}
 use Rattle.hz_bench.proofs.FaultLaws.{Outcome, form-least, form-none, first_fault-outcome, second-first, line_found}

@@ -1,5 +1,5 @@
 -- From all statements of a text to its nodes and its outputs, and back.
-use Rattle.std.proofs.Common.{◌≡◌, ◌∙◌, ℕ, ◌+◌, ◌^◌, ◌<◌, ◌≤◌, ◌++◌, Bool, true, false, not, cond, suc, List, [], ◌∷◌, Option, Some, None, is_some, option_map, length, fold, refl, ap, sym, subst, arith}
+use Rattle.std.proofs.Common.{◌≡◌, ◌∙◌, ℕ, ◌+◌, ◌≤◌, ◌++◌, Bool, true, false, not, cond, suc, List, [], ◌∷◌, Option, Some, None, is_some, option_map, length, fold, refl, ap, sym, subst, arith}
 use Rattle.std.specs.Option.{option_or}
 use Rattle.std.specs.Prelude.{filter}
 use Rattle.std.specs.List.{list_any}

@@ -45,7 +45,10 @@ pub(crate) fn make_room(lines: &mut Definitions, read: usize, left: usize) -> Re
 }
 
 /// Puts the name that a statement defines into the table, or answers the line that defines it there.
-pub(crate) fn define<'a>(lines: &mut Definitions<'a>, entry: &Entry<'a>) -> Result<Option<u32>, Memory>
+pub(crate) fn define<'a>(
+    lines: &mut Definitions<'a>,
+    entry: &Entry<'a>,
+) -> Result<Option<u32>, Memory>
     ensures { IfOk result (λ first. IsDefinedIn lines.old lines.new entry.now first) }
 {
     match lines.insert(Name { bytes: entry.name }, entry.line) {

@@ -8,7 +8,6 @@ use crate::forms::Form;
 
 /// An input or a gate, which borrows from its line. A gate's sources are read again from the line when they are needed,
 /// so that a statement takes the same room however many pins its gate has.
-// Fields lie in this order: the small ones stand together.
 #[derive(Clone, Copy)]
 pub struct Entry<'a> {
     /// The number of the line, counted from 1.
@@ -31,12 +30,7 @@ pub struct Entry<'a> {
     ghost measured: { long ≡ has_long_name (statement_with name.now form sources.now) },
 }
 
-// A million statements are held at once, so their size is the memory and a good part of the time that a text takes.
-const ENTRY_SIZE: usize = std::mem::size_of::<Entry>();
-
-const _: () = prove!(ENTRY_SIZE == 48);
-
-/// A gate of a text with too many variables, which reads a name that no line before it defines. It waits for the names of the
+/// A gate of a text with too many variables, which reads a name that no line up to it defines. It waits for the names of the
 /// lines after it.
 #[derive(Clone, Copy)]
 pub struct Waiting<'a> {
@@ -46,6 +40,11 @@ pub struct Waiting<'a> {
     pub sources: &'a [u8],
     ghost listed: { are_marked (tokens_of sources.now) ≡ true },
 }
+
+// A million gates may wait at once, so their size is memory and time.
+const WAITING_SIZE: usize = std::mem::size_of::<Waiting>();
+
+const _: () = prove!(WAITING_SIZE == 24);
 
 /// A line `OUTPUT(name)`, which borrows its name.
 #[derive(Clone, Copy)]

@@ -20,7 +20,7 @@ use std::alloc::Global;
 pub struct Statements<'a> {
     /// The inputs and gates, in the order of the text, up to the most variables that a circuit has.
     pub nodes: Vec<Entry<'a>>,
-    /// Beyond the most variables, the gates that read a name which no line before them defines. The others are left out, since
+    /// Beyond the most variables, the gates that read a name which no line up to them defines. The others are left out, since
     /// all that can be wrong with their names is known.
     pub waiting: Vec<Waiting<'a>>,
     /// The lines of the outputs, in the order of the text.
@@ -108,10 +108,11 @@ impl<'a> Statements<'a> {
                 return Err(Memory);
             };
         } else if self.again.is_none() && reads_unknown(entry.sources, &self.lines) {
-            let Ok(()) = self.waiting.push(Waiting {
+            let gate = Waiting {
                 line: entry.line,
                 sources: entry.sources,
-            }) else {
+            };
+            let Ok(()) = self.waiting.push(gate) else {
                 return Err(Memory);
             };
         }

@@ -9,7 +9,7 @@ use Rattle.hz_line.specs.Byte.{class_of, is_letter, is_letter_class, is_blank, i
 use Rattle.hz_line.specs.declared.bytes.Mark.{Mark}
 use Rattle.hz_line.specs.declared.bytes.Class.{Class}
 use Rattle.hz_line.specs.declared.bytes.Class.TheVariants.{Blank, Hash, Sign, Letter, Forbidden}
-use Rattle.hz_line.specs.Token.{TokenOf, WordOf, MarkOf, tokens_of, tokens_with, with_token, lengthen, begins_in_word, begins_in_blank, begins_in_mark, is_bare, has_mark_first, IsWord, AreWords, PastBlanks, IsSplit, BeginsWithToken, BeginsWithTokens}
+use Rattle.hz_line.specs.Token.{TokenOf, WordOf, MarkOf, tokens_of, tokens_with, with_token, lengthen, begins_in_word, begins_in_blank, begins_in_mark, is_bare, has_mark_first, IsWord, AreWords, PastBlanks, IsTokenAndRest, BeginsWithToken, BeginsWithTokens}
 
 -- these tokens before others
 abbrev pub with_tokens : List TokenOf → Option (List TokenOf) → Option (List TokenOf)
@@ -88,9 +88,9 @@ ends [] = refl
 ends (byte ∷ rest) = ends_at byte rest (is_letter byte) refl (ends rest)
 
 -- a line that begins with a letter is its longest word and what comes after it
-pub IsSplit-word : (line : List ℕ) → 0 < length line → class_of (get_or line 0 0) ≡ Letter → IsSplit (WordOf (take_while is_letter line)) (drop (prefix_len is_letter line) line) line
-IsSplit-word [] more e = absurd (omega arith)
-IsSplit-word (byte ∷ rest) more e =
+pub IsTokenAndRest-word : (line : List ℕ) → 0 < length line → class_of (get_or line 0 0) ≡ Letter → IsTokenAndRest (WordOf (take_while is_letter line)) (drop (prefix_len is_letter line) line) line
+IsTokenAndRest-word [] more e = absurd (omega arith)
+IsTokenAndRest-word (byte ∷ rest) more e =
     let some : 0 < length (take_while is_letter (byte ∷ rest)) = rw (front byte rest e) (omega arith) in (
       record { some = some; letters = letters (byte ∷ rest) },
       sym (take-append-drop (prefix_len is_letter (byte ∷ rest)) (byte ∷ rest)),
@@ -106,9 +106,9 @@ pub begins_in_word-prefix : (line : List ℕ) → 0 < prefix_len is_letter line 
 begins_in_word-prefix [] some = absurd (omega arith)
 begins_in_word-prefix (byte ∷ rest) some = prefix-at byte rest (is_letter byte) refl some
 
-pub IsSplit-begins_in_word : (line : List ℕ) → begins_in_word line ≡ true → IsSplit (WordOf (take_while is_letter line)) (drop (prefix_len is_letter line) line) line
-IsSplit-begins_in_word [] h = cc
-IsSplit-begins_in_word (byte ∷ rest) h = IsSplit-word (byte ∷ rest) (omega arith) (Letter-from_is_letter (class_of byte) h)
+pub IsTokenAndRest-begins_in_word : (line : List ℕ) → begins_in_word line ≡ true → IsTokenAndRest (WordOf (take_while is_letter line)) (drop (prefix_len is_letter line) line) line
+IsTokenAndRest-begins_in_word [] h = cc
+IsTokenAndRest-begins_in_word (byte ∷ rest) h = IsTokenAndRest-word (byte ∷ rest) (omega arith) (Letter-from_is_letter (class_of byte) h)
 
 -- a line whose first byte is no mark begins in none
 no_sign : (class : Class) → ((mark : Mark) → class ≡ Sign mark → ⊥) → is_mark_class class ≡ false

@@ -135,13 +135,13 @@ BeginsForbidden [] = ⊥
 BeginsForbidden (byte ∷ rest) = class_of byte ≡ Forbidden
 
 -- the line is the token and then this rest: a word has all the letters that stand there, a mark is one byte
-abbrev pub IsSplit : TokenOf → List ℕ → List ℕ → Type 0
-IsSplit (WordOf word) rest line = IsWord word × (line ≡ word ++ rest) × (begins_in_word rest ≡ false)
-IsSplit (MarkOf mark) rest line = (byte : ℕ) × (class_of byte ≡ Sign mark) × (line ≡ byte ∷ rest)
+abbrev pub IsTokenAndRest : TokenOf → List ℕ → List ℕ → Type 0
+IsTokenAndRest (WordOf word) rest line = IsWord word × (line ≡ word ++ rest) × (begins_in_word rest ≡ false)
+IsTokenAndRest (MarkOf mark) rest line = (byte : ℕ) × (class_of byte ≡ Sign mark) × (line ≡ byte ∷ rest)
 
 -- the line begins with the token, and this rest comes after it
 abbrev pub BeginsWithToken : List ℕ → TokenOf → List ℕ → Type 0
-BeginsWithToken line token rest = PastBlanks (IsSplit token rest) line
+BeginsWithToken line token rest = PastBlanks (IsTokenAndRest token rest) line
 
 -- what a line begins with, whatever comes behind: the end, a forbidden byte, or a token and then this rest
 abbrev pub BeginsWith : List ℕ → Next → Type 0

@@ -25,7 +25,7 @@ use Rattle.hz_text.specs.RunText.{IsRunTextFor}
 use Rattle.hz_text.specs.RunValue.{RunOf, RunTextOf, cycle_steps, all_steps}
 use Rattle.hz_top.specs.declared.replaying.Refused.{Refused}
 use Rattle.hz_top.specs.declared.replaying.Refused.TheVariants.{Step, Cycle}
-use Rattle.hz_top.specs.Replaying.{steps_of, IsAcceptedRun, IsRefusedStep, IsRefusedRun, IsFirstRefusal, start_of, AreAccepted, IsFirstRefused}
+use Rattle.hz_top.specs.Replaying.{steps_of, IsAcceptedRun, IsRefusedStep, IsRefusedRun, IsFirstRefusal, start_of, AreAccepted, IsRefusalOfText}
 use Rattle.hz_top.specs.Made.{AreVariables, run_of}
 use Rattle.hz_gmw.proofs.Rechecks.{beq-same, beq-refl}
 use Rattle.hz_gmw.proofs.LeastLemmas.{IsLeastOf-same, least-listed, least-repeated}
@@ -256,6 +256,6 @@ runs-decided netlist input start (run ∷ runs) long all =
     P flips = All (λ var. var < length (network_of netlist)) flips
 
 -- a run text of a network is accepted, or has a first refusal
-pub text-decided : (netlist : Netlist) (value : RunTextOf) → IsCircuit netlist → IsRunTextFor netlist value → AreAccepted netlist value ⊎ ((number : ℕ) × (why : Refused) × IsFirstRefused netlist value number why)
+pub text-decided : (netlist : Netlist) (value : RunTextOf) → IsCircuit netlist → IsRunTextFor netlist value → AreAccepted netlist value ⊎ ((number : ℕ) × (why : Refused) × IsRefusalOfText netlist value number why)
 text-decided netlist value circuit usable =
     runs-decided netlist value.input (start_of netlist value) value.runs (length-expanded netlist value.nodes circuit usable.nodes) usable.variables

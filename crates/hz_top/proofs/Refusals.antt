@@ -11,7 +11,7 @@ use Rattle.hz_gmw.proofs.ReplayLemmas.{step-or-fault, cycle-or-fault}
 use Rattle.hz_text.specs.RunValue.{RunOf, RunTextOf, cycle_steps}
 use Rattle.hz_top.specs.declared.replaying.Refused.{Refused}
 use Rattle.hz_top.specs.declared.replaying.Refused.TheVariants.{Step, Cycle}
-use Rattle.hz_top.specs.Replaying.{steps_of, IsAcceptedRun, IsRefusedStep, IsRefusedRun, start_of, AreAccepted, IsFirstRefused}
+use Rattle.hz_top.specs.Replaying.{steps_of, IsAcceptedRun, IsRefusedStep, IsRefusedRun, start_of, AreAccepted, IsRefusalOfText}
 
 -- no step of a run is refused
 run-or-refused : (net : List Driver) (input start : List Bool) (steps : List (List ℕ)) (number : ℕ) (fault : StepFault) → IsRun net input start steps → IsRefusedStep net input start steps number fault → ⊥
@@ -43,7 +43,7 @@ All-middle P before after x all =
     subst P (middle before after x x) (all (length before) x (omega (arith, length-append before (x ∷ after))))
 
 -- no text is both
-pub accepted-or-refused : (netlist : Netlist) (value : RunTextOf) (number : ℕ) (why : Refused) → AreAccepted netlist value → IsFirstRefused netlist value number why → ⊥
+pub accepted-or-refused : (netlist : Netlist) (value : RunTextOf) (number : ℕ) (why : Refused) → AreAccepted netlist value → IsRefusalOfText netlist value number why → ⊥
 accepted-or-refused netlist value number why accepted first =
     let net = network_of netlist in
     let start = start_of netlist value in

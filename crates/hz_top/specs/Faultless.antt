@@ -20,7 +20,7 @@ use Rattle.hz_top.specs.declared.order.SecondText.TheVariants.{Script, Runs}
 use Rattle.hz_top.specs.declared.replaying.Refused.{Refused}
 use Rattle.hz_top.specs.Job.{JobOf, Analyse, Replay}
 use Rattle.hz_top.specs.Outcome.{Told}
-use Rattle.hz_top.specs.Replaying.{AreAccepted, IsFirstRefused}
+use Rattle.hz_top.specs.Replaying.{AreAccepted, IsRefusalOfText}
 
 -- the text is that of a script with at most one change, the start of which leaves no gate open or unstable
 pub record IsFaultlessScript (netlist : Netlist) (text : List ℕ) : Type 0 where
@@ -33,7 +33,7 @@ pub record IsFaultlessScript (netlist : Netlist) (text : List ℕ) : Type 0 wher
 abbrev pub EndsReplay : Netlist → RunTextOf → Status → Type 0
 EndsReplay netlist runs own =
     (AreAccepted netlist runs × (own ≡ Done))
-    ⊎ ((number : ℕ) × (why : Refused) × IsFirstRefused netlist runs number why × (own ≡ No))
+    ⊎ ((number : ℕ) × (why : Refused) × IsRefusalOfText netlist runs number why × (own ≡ No))
 
 -- the text is a run text, the replay of which ends with this status
 pub record IsFaultlessRuns (netlist : Netlist) (text : List ℕ) (own : Status) : Type 0 where

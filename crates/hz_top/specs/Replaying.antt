@@ -77,6 +77,6 @@ abbrev pub AreAccepted : Netlist → RunTextOf → Type 0
 AreAccepted netlist text = All (IsAcceptedRun (network_of netlist) text.input (start_of netlist text)) text.runs
 
 -- this is the first refusal of a text
-abbrev pub IsFirstRefused : Netlist → RunTextOf → ℕ → Refused → Type 0
-IsFirstRefused netlist text number refused =
+abbrev pub IsRefusalOfText : Netlist → RunTextOf → ℕ → Refused → Type 0
+IsRefusalOfText netlist text number refused =
     IsFirstRefusal (network_of netlist) text.input (start_of netlist text) text.runs number refused

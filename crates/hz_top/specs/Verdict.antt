@@ -14,7 +14,7 @@ use Rattle.hz_top.specs.declared.status.Status.TheVariants as status
 use Rattle.hz_top.specs.declared.replaying.Refused.{Refused}
 use Rattle.hz_top.specs.declared.replaying.Refused.TheVariants as refused
 use Rattle.hz_top.specs.Answer.{Says}
-use Rattle.hz_top.specs.Replaying.{step_count, cycle_count, AreAccepted, IsFirstRefused}
+use Rattle.hz_top.specs.Replaying.{step_count, cycle_count, AreAccepted, IsRefusalOfText}
 
 -- how many runs there are, and how many steps and cycles they have
 unfoldable pub yes_line : ℕ → ℕ → ℕ → List ℕ
@@ -83,4 +83,4 @@ accepted_line runs = yes_line (length runs) (step_count runs) (cycle_count runs)
 abbrev pub ReplayComes : Netlist → RunTextOf → Status → List ℕ → Type 0
 ReplayComes netlist runs own text =
     (AreAccepted netlist runs × Says status.Done (accepted_line runs.runs) own text)
-    ⊎ ((number : ℕ) × (why : Refused) × IsFirstRefused netlist runs number why × Says status.No (no_line netlist number why) own text)
+    ⊎ ((number : ℕ) × (why : Refused) × IsRefusalOfText netlist runs number why × Says status.No (no_line netlist number why) own text)
