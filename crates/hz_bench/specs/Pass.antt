@@ -69,7 +69,8 @@ pub record IsWaiting (old : Statements) (next : Numbered Statement) (new : State
   pub nodes : new.nodes.items ≡ old.nodes.items
   pub waiting : waiting_list new.waiting.items ≡ waiting_list old.waiting.items ++ record { line = next.line; statement = Gate [] Unknown (sources_of next.statement) } ∷ []
 
--- there are too many variables, and the next statement was left out, since the table has all names that it reads
+-- there are too many variables, and the next statement was left out: the table has all names that it reads, or a name is defined
+-- again, and it does not matter any more which are not
 pub record IsLeftOut (old : Statements) (next : Numbered Statement) (new : Statements) : Type 0 where
   pub many : 200000 < new.notes.variables
   pub nodes : new.nodes.items ≡ old.nodes.items
