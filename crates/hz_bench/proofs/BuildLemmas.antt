@@ -1,5 +1,5 @@
 -- When a node or a pin may be added.
-use Rattle.std.proofs.Common.{◌≡◌, ◌∙◌, ℕ, ◌+◌, ◌<◌, List, [], ◌∷◌, Bool, true, false, ◌++◌, ◌||◌, ◌&&◌, ◌==◌, cond, nat_le, None, length, map, take, drop, fold, get_or, refl, sym, ap, subst, arith}
+use Rattle.std.proofs.Common.{Some, ◌≡◌, ◌∙◌, ℕ, ◌+◌, ◌<◌, List, [], ◌∷◌, Bool, true, false, ◌++◌, ◌||◌, ◌&&◌, ◌==◌, cond, nat_le, None, length, map, take, drop, fold, get_or, refl, sym, ap, subst, arith}
 use Rattle.std.specs.List.{list_all}
 use Rattle.std.proofs.lemmas.Bool.Decides.{nat_tests}
 use Rattle.hz_core.specs.Netlist.{Netlist, IsName, is_name_byte, node_named, variable_count}
@@ -61,21 +61,21 @@ addable netlist entry name is may =
     let may' = subst (MayAdd netlist) (sym is) may in
     record { name_is = IsName-from_entry entry may'.short; fresh = may'.fresh; room = may'.room }
 
-input_addable : (netlist : Netlist) (entry : Entry) (statement : Statement) → entry.name.now ≡ name_of statement → form_of statement ≡ form.Input → MayInput netlist statement → IsAddable netlist entry.name.now × (netlist.gates ≡ [])
+input_addable : (netlist : Netlist) (entry : Entry) (statement : Statement) → entry.name.now ≡ name_of statement → form_of statement ≡ Some form.Input → MayInput netlist statement → IsAddable netlist entry.name.now × (netlist.gates ≡ [])
 input_addable netlist entry (Input name) is h may = (addable netlist entry name is may.0, may.1)
 input_addable netlist entry (Output name) is h may = cc
 input_addable netlist entry (Gate name kind sources) is h may = cc
 
 pub entry-input : (netlist : Netlist) (entry : Entry) → entry.form ≡ form.Input → MayInput netlist (stated entry) → IsAddable netlist entry.name.now × (netlist.gates ≡ [])
-entry-input netlist entry h may = input_addable netlist entry (stated entry) (entry-named entry) (sym (entry-formed entry) ∙ h) may
+entry-input netlist entry h may = input_addable netlist entry (stated entry) (entry-named entry) (sym (entry-formed entry) ∙ ap Some h) may
 
-gate_addable : (netlist : Netlist) (entry : Entry) (word : KindWord) (statement : Statement) → entry.name.now ≡ name_of statement → form_of statement ≡ form.Gate word → MayGate netlist statement → IsAddable netlist entry.name.now
+gate_addable : (netlist : Netlist) (entry : Entry) (word : KindWord) (statement : Statement) → entry.name.now ≡ name_of statement → form_of statement ≡ Some (form.Gate word) → MayGate netlist statement → IsAddable netlist entry.name.now
 gate_addable netlist entry word (Input name) is h may = cc
 gate_addable netlist entry word (Output name) is h may = cc
 gate_addable netlist entry word (Gate name kind sources) is h may = addable netlist entry name is may
 
 pub entry-gate : (netlist : Netlist) (entry : Entry) (word : KindWord) → entry.form ≡ form.Gate word → MayGate netlist (stated entry) → IsAddable netlist entry.name.now
-entry-gate netlist entry word h may = gate_addable netlist entry word (stated entry) (entry-named entry) (sym (entry-formed entry) ∙ h) may
+entry-gate netlist entry word h may = gate_addable netlist entry word (stated entry) (entry-named entry) (sym (entry-formed entry) ∙ ap Some h) may
 
 fold-append : {A B : Type 0} (step : A → B → A) (start : A) (front back : List B) → fold step start (front ++ back) ≡ fold step (fold step start front) back
 fold-append step start [] back = refl

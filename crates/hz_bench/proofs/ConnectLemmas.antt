@@ -12,9 +12,9 @@ use Rattle.hz_bench.specs.declared.forms.KindWord.{KindWord}
 use Rattle.hz_bench.specs.Built.{Connecting, IsNode, MayOutput, MayPin, MayPins, MayRead, MaySteps, after_output, after_pin, after_pins, after_read, built, connected, nodes_of}
 use Rattle.hz_bench.specs.Entry.{stated, statement_list}
 use Rattle.hz_bench.specs.Netlist.{node_names, number_in, output_names}
-use Rattle.hz_bench.specs.Statement.{Statement, Input, Output, Gate, form_of, sources_of}
+use Rattle.hz_bench.specs.Statement.{Statement, Input, Output, Gate, form_of, has_form, sources_of}
 use Rattle.hz_bench.specs.Uses.{pins_in}
-use Rattle.hz_bench.proofs.EntryLemmas.{entry-formed}
+use Rattle.hz_bench.proofs.EntryLemmas.{entry-formed, entry-has_form}
 use Rattle.hz_bench.proofs.BuildLemmas.{entries_may}
 use Rattle.hz_bench.proofs.NetlistLemmas.{nodes_of-is, connected-is}
 
@@ -51,7 +51,7 @@ record IsGateNow (now : Connecting) (pins : ℕ) (left : List ℕ) (statement : 
   next : after_pins now statement ≡ record { netlist = fold (after_read now.gate) now.netlist (take pins left); gate = suc now.gate }
   left_next : drop pins left ≡ pins_in now.netlist.names rest
 
-gate_now : (now : Connecting) (pins : ℕ) (left : List ℕ) (word : KindWord) (statement : Statement) (rest : List Statement) → form_of statement ≡ form.Gate word → pins ≡ length (sources_of statement) → MayPins now statement
+gate_now : (now : Connecting) (pins : ℕ) (left : List ℕ) (word : KindWord) (statement : Statement) (rest : List Statement) → form_of statement ≡ Some (form.Gate word) → pins ≡ length (sources_of statement) → MayPins now statement
     → left ≡ pins_in now.netlist.names (statement ∷ rest) → IsGateNow now pins left statement rest
 gate_now now pins left word (Input name) rest h count may is = cc
 gate_now now pins left word (Output name) rest h count may is = cc
@@ -71,11 +71,10 @@ gate_now now pins left word (Gate name kind sources) rest h count may is =
 -- gates have pins
 abbrev pub is_gate : Form → Bool
 is_gate form.Input = false
-is_gate form.Output = false
 is_gate (form.Gate word) = true
 
 -- a statement without pins
-no_pins : (now : Connecting) (statement : Statement) → is_gate (form_of statement) ≡ false → (after_pins now statement ≡ now) × (sources_of statement ≡ [])
+no_pins : (now : Connecting) (statement : Statement) → has_form is_gate statement ≡ false → (after_pins now statement ≡ now) × (sources_of statement ≡ [])
 no_pins now (Input name) h = (refl, refl)
 no_pins now (Output name) h = (refl, refl)
 no_pins now (Gate name kind sources) h = cc
@@ -95,7 +94,7 @@ module _ (whole : Netlist) (entries : List Entry) (index : ℕ) (circuit : Netli
 
   gate_of : (word : KindWord) → entry.form ≡ form.Gate word → IsConnecting whole entries index circuit gate left → IsGateNow (record { netlist = circuit; gate = gate }) entry.pins left (stated entry) (statement_list (drop (index + 1) entries))
   gate_of word h was =
-      gate_now (record { netlist = circuit; gate = gate }) entry.pins left word (stated entry) (statement_list (drop (index + 1) entries)) (sym (entry-formed entry) ∙ h) entry.counted (next_may was).0
+      gate_now (record { netlist = circuit; gate = gate }) entry.pins left word (stated entry) (statement_list (drop (index + 1) entries)) (sym (entry-formed entry) ∙ ap Some h) entry.counted (next_may was).0
       (was.left_is ∙ next_is (pins_in circuit.names))
 
   pub gate-enough : (word : KindWord) → entry.form ≡ form.Gate word → IsConnecting whole entries index circuit gate left → entry.pins ≤ length left
@@ -122,7 +121,7 @@ module _ (whole : Netlist) (entries : List Entry) (index : ℕ) (circuit : Netli
 
   pub nothing-connected : is_gate entry.form ≡ false → IsConnecting whole entries index circuit gate left → IsConnecting whole entries (index + 1) circuit gate left
   nothing-connected h was =
-      let same = no_pins (record { netlist = circuit; gate = gate }) (stated entry) (ap is_gate (sym (entry-formed entry)) ∙ h) in
+      let same = no_pins (record { netlist = circuit; gate = gate }) (stated entry) (entry-has_form is_gate entry ∙ h) in
       record {
         rest = sym (next_is (λ all. (fold after_pins (record { netlist = circuit; gate = gate }) all).netlist) ∙ ap (λ (now : Connecting). (fold after_pins now (statement_list (drop (index + 1) entries))).netlist) same.0) ∙ was.rest;
         may = subst (λ (now : Connecting). MaySteps MayPins after_pins now (statement_list (drop (index + 1) entries))) same.0 (next_may was).1;
@@ -151,7 +150,6 @@ connected-named statements = ap (λ (netlist : Netlist). netlist.names) (connect
 
 pub not-gate : (one : Form) → ((word : KindWord) → one ≡ form.Gate word → ⊥) → is_gate one ≡ false
 not-gate form.Input h = refl
-not-gate form.Output h = refl
 not-gate (form.Gate word) h = absurd (h word refl)
 
 -- the outputs that are used may be added, and they are those of the circuit

@@ -8,12 +8,9 @@ use Rattle.std.specs.HashMap.{HashMap}
 use Rattle.std.specs.List.{list_any}
 use Rattle.std.specs.Str.{bytes_eq}
 use Rattle.hz_line.specs.Statement.{Numbered}
-use Rattle.hz_bench.specs.declared.entry.Entry.{Entry}
 use Rattle.hz_bench.specs.Definition.{is_that, defines, definer, defined_names, line_for, line_for_defined, IsPut, IsTableOf}
-use Rattle.hz_bench.specs.Statement.{Statement, Input, Output, Gate, defined_name, name_of, form_of, form_defines}
-use Rattle.hz_bench.specs.Entry.{stated}
+use Rattle.hz_bench.specs.Statement.{Statement, Input, Output, Gate, defined_name, is_node}
 use Rattle.hz_bench.specs.Twice.{twice_or, earlier_line, twice_after, twice_fault}
-use Rattle.hz_bench.proofs.EntryLemmas.{entry-formed, entry-named}
 
 pub definer-cons : (first : Numbered Statement) (rest : List (Numbered Statement)) (name : List ℕ) → definer (first ∷ rest) name ≡ cond (defines name first.statement) (Some first.line) (definer rest name)
 definer-cons first rest name = by_test (defines name first.statement) refl
@@ -91,22 +88,11 @@ pub undefined-table : {S : Type 0} (lines : HashMap Key ℕ S) (statements : Lis
     → list_any (λ name. not (is_some (line_for lines name))) names ≡ list_any (λ name. not (is_some (definer statements name))) names
 undefined-table lines statements names table = any-same (λ name. not (is_some (line_for lines name))) (λ name. not (is_some (definer statements name))) (λ name. ap (λ line. not (is_some line)) (table name)) names
 
--- a statement whose form defines its name
-defined-from_form : (statement : Statement) → form_defines (form_of statement) ≡ true → defined_name statement ≡ Some (name_of statement)
-defined-from_form (Input name) h = refl
-defined-from_form (Output name) h = cc
-defined-from_form (Gate name kind sources) h = refl
-
-pub undefined-from_form : (statement : Statement) → form_defines (form_of statement) ≡ false → defined_name statement ≡ None
-undefined-from_form (Input name) h = cc
-undefined-from_form (Output name) h = refl
-undefined-from_form (Gate name kind sources) h = cc
-
-pub entry-defines : (entry : Entry) → form_defines entry.form ≡ true → defined_name (stated entry) ≡ Some entry.name.now
-entry-defines entry h = defined-from_form _ (sym (ap form_defines (entry-formed entry)) ∙ h) ∙ ap Some (sym (entry-named entry))
-
-pub entry-uses : (entry : Entry) → form_defines entry.form ≡ false → defined_name (stated entry) ≡ None
-entry-uses entry h = undefined-from_form _ (sym (ap form_defines (entry-formed entry)) ∙ h)
+-- a statement that is no node defines no name
+pub undefined-no_node : (statement : Statement) → is_node statement ≡ false → defined_name statement ≡ None
+undefined-no_node (Input name) h = cc
+undefined-no_node (Output name) h = refl
+undefined-no_node (Gate name kind sources) h = cc
 
 -- a name as a list, if there is one
 abbrev option_or_list : Option (List ℕ) → List (List ℕ)

@@ -1,5 +1,5 @@
 -- The numbers of the nodes in the order of the text.
-use Rattle.std.proofs.Common.{◌≡◌, ◌∙◌, ◌≤◌, ℕ, suc, ◌+◌, ◌++◌, false, not, cond, List, [], ◌∷◌, None, length, map, refl, ap, sym, subst, arith, append_assoc, length-append}
+use Rattle.std.proofs.Common.{◌≡◌, ◌∙◌, ◌≤◌, ℕ, suc, ◌+◌, ◌++◌, false, not, cond, List, [], ◌∷◌, Option, None, Some, length, map, refl, ap, sym, subst, arith, append_assoc, length-append}
 use Rattle.std.specs.List.{list_any}
 use Rattle.std.specs.Str.{bytes_eq}
 use Rattle.std.proofs.lemmas.List.{append-nil, length-map}
@@ -17,15 +17,15 @@ use Rattle.hz_bench.proofs.CheckedLemmas.{Apart, either, nodes_apart}
 use Rattle.hz_bench.proofs.NetlistLemmas.{statement_list-numbered}
 
 -- the forms of entries
-abbrev pub forms_of : List Entry → List Form
-forms_of entries = map (λ entry. entry.form) entries
+abbrev pub forms_of : List Entry → List (Option Form)
+forms_of entries = map (λ entry. Some entry.form) entries
 
 -- the numbers of inputs and gates, of which the next have these
-abbrev pub numbers_from : ℕ → ℕ → List Form → List ℕ
+abbrev pub numbers_from : ℕ → ℕ → List (Option Form) → List ℕ
 numbers_from input gate [] = []
-numbers_from input gate (form.Input ∷ rest) = input ∷ numbers_from (suc input) gate rest
-numbers_from input gate (form.Output ∷ rest) = numbers_from input gate rest
-numbers_from input gate (form.Gate kind ∷ rest) = gate ∷ numbers_from input (suc gate) rest
+numbers_from input gate (Some form.Input ∷ rest) = input ∷ numbers_from (suc input) gate rest
+numbers_from input gate (None ∷ rest) = numbers_from input gate rest
+numbers_from input gate (Some (form.Gate kind) ∷ rest) = gate ∷ numbers_from input (suc gate) rest
 
 forms-stated : (entries : List Entry) → forms_of entries ≡ map form_of (statement_list entries)
 forms-stated [] = refl

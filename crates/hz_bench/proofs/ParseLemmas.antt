@@ -12,13 +12,11 @@ use Rattle.hz_line.specs.Token.{TokenOf, WordOf, MarkOf, tokens_of}
 use Rattle.hz_line.proofs.TokenLemmas.{tokens_of-length}
 use Rattle.hz_bench.specs.declared.notes.Notes.{Notes}
 use Rattle.hz_bench.specs.declared.parse.Statements.{Statements}
-use Rattle.hz_bench.specs.declared.forms.Form.{Form}
-use Rattle.hz_bench.specs.declared.forms.Form.TheVariants as form
 use Rattle.hz_bench.specs.declared.forms.KindWord.{KindWord}
 use Rattle.hz_bench.specs.Entry.{numbered_list, numbered_outputs, waiting_list}
 use Rattle.hz_bench.specs.Pass.{AreGathered, IsNothingRead, IsParsed, IsSorted}
 use Rattle.hz_bench.specs.Sorted.{again_fault}
-use Rattle.hz_bench.specs.Statement.{Statement, Input, Output, Gate, statement_of, names_of, port_form, port_of, kind_word_of, variables_in, words_of, sources_of}
+use Rattle.hz_bench.specs.Statement.{Statement, Input, Output, Gate, statement_of, names_of, Port, InputPort, OutputPort, port_word, port_of, kind_word_of, variables_in, words_of, sources_of}
 use Rattle.hz_bench.specs.Text.{meaning_of, numbered_statements, variables_among}
 use Rattle.hz_bench.proofs.GatheredLemmas.{gathered-more}
 use Rattle.hz_bench.proofs.NotedLemmas.{inputs_few, variables_of-statements, variables-push}
@@ -80,17 +78,14 @@ IsParsing-roomier text statements more line left nodes waiting outputs notes aga
     }
 
 -- a statement has no more variables than its line has tokens
-port_weight : (name : List ℕ) (made : Option Form) (statement : Statement) → option_map (port_of name) made ≡ Some statement → variables_in statement ≤ 4
+port_weight : (name : List ℕ) (made : Option Port) (statement : Statement) → option_map (port_of name) made ≡ Some statement → variables_in statement ≤ 4
 port_weight name None statement h = cc
-port_weight name (Some form.Input) (Input other) h = lit≤ tt
-port_weight name (Some form.Input) (Output other) h = lit≤ tt
-port_weight name (Some form.Input) (Gate other kind sources) h = cc
-port_weight name (Some form.Output) (Input other) h = lit≤ tt
-port_weight name (Some form.Output) (Output other) h = lit≤ tt
-port_weight name (Some form.Output) (Gate other kind sources) h = cc
-port_weight name (Some (form.Gate kind)) (Input other) h = lit≤ tt
-port_weight name (Some (form.Gate kind)) (Output other) h = lit≤ tt
-port_weight name (Some (form.Gate kind)) (Gate other word sources) h = cc
+port_weight name (Some InputPort) (Input other) h = lit≤ tt
+port_weight name (Some InputPort) (Output other) h = lit≤ tt
+port_weight name (Some InputPort) (Gate other kind sources) h = cc
+port_weight name (Some OutputPort) (Input other) h = lit≤ tt
+port_weight name (Some OutputPort) (Output other) h = lit≤ tt
+port_weight name (Some OutputPort) (Gate other kind sources) h = cc
 
 gate_weight : (name : List ℕ) (kind : KindWord) (rest : List TokenOf) (names : Option (List (List ℕ))) (statement : Statement) → names ≡ names_of rest → option_map (λ (sources : List (List ℕ)). Gate name kind sources) names ≡ Some statement → variables_in statement ≤ length rest + 4
 gate_weight name kind rest None statement same h = cc
@@ -118,7 +113,7 @@ statement_weight (WordOf first ∷ MarkOf Open ∷ WordOf second ∷ WordOf thir
 statement_weight (WordOf first ∷ MarkOf Open ∷ WordOf second ∷ MarkOf Open ∷ rest) statement h = cc
 statement_weight (WordOf first ∷ MarkOf Open ∷ WordOf second ∷ MarkOf Comma ∷ rest) statement h = cc
 statement_weight (WordOf first ∷ MarkOf Open ∷ WordOf second ∷ MarkOf Equals ∷ rest) statement h = cc
-statement_weight (WordOf first ∷ MarkOf Open ∷ WordOf second ∷ MarkOf Close ∷ []) statement h = port_weight second (port_form first) statement h
+statement_weight (WordOf first ∷ MarkOf Open ∷ WordOf second ∷ MarkOf Close ∷ []) statement h = port_weight second (port_word first) statement h
 statement_weight (WordOf first ∷ MarkOf Open ∷ WordOf second ∷ MarkOf Close ∷ token ∷ rest) statement h = cc
 statement_weight (WordOf first ∷ MarkOf Equals ∷ []) statement h = cc
 statement_weight (WordOf first ∷ MarkOf Equals ∷ MarkOf mark ∷ rest) statement h = cc

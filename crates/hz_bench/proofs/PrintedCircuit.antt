@@ -14,9 +14,8 @@ use Rattle.hz_core.specs.Netlist.{Netlist, Gate as GateOf, IsCircuit, IsGateAmon
 use Rattle.hz_core.proofs.CircuitLemmas.{same_netlist}
 use Rattle.hz_line.specs.Line.{lines_of}
 use Rattle.hz_line.specs.Statement.{Meaning, Nothing, Malformed, Means, Numbered, with_meaning, numbered_from}
-use Rattle.hz_bench.specs.declared.forms.Form.TheVariants as form
 use Rattle.hz_bench.specs.Netlist.{input_names, gate_names, output_names, node_names, number_in, gates_of, add_once, each_once, netlist_of}
-use Rattle.hz_bench.specs.Statement.{Statement, statement_of}
+use Rattle.hz_bench.specs.Statement.{InputPort, OutputPort, Statement, statement_of}
 use Rattle.hz_bench.specs.Text.{meaning_of, statements_of}
 use Rattle.hz_bench.specs.Printed.{name_at, printed}
 use Rattle.hz_bench.proofs.PrintedLines.{ports, gate_statements, statements_for, IsReadAs, printed-IsReadAs}
@@ -66,13 +65,13 @@ record Adds (names : List (List ℕ)) (first rest : List Statement) (inputs gate
   outputs_are : output_names (first ++ rest) ≡ outputs ++ output_names rest
   made_are : gates_of names (first ++ rest) ≡ made ++ gates_of names rest
 
-inputs_add : (names inputs : List (List ℕ)) (rest : List Statement) → Adds names (ports form.Input inputs) rest inputs [] [] []
+inputs_add : (names inputs : List (List ℕ)) (rest : List Statement) → Adds names (ports InputPort inputs) rest inputs [] [] []
 inputs_add names [] rest = record { inputs_are = refl; gates_are = refl; outputs_are = refl; made_are = refl }
 inputs_add names (name ∷ inputs) rest =
     let ih = inputs_add names inputs rest in
     record { inputs_are = ap (λ all. name ∷ all) ih.inputs_are; gates_are = ih.gates_are; outputs_are = ih.outputs_are; made_are = ih.made_are }
 
-outputs_add : (names outputs : List (List ℕ)) (rest : List Statement) → Adds names (ports form.Output outputs) rest [] [] outputs []
+outputs_add : (names outputs : List (List ℕ)) (rest : List Statement) → Adds names (ports OutputPort outputs) rest [] [] outputs []
 outputs_add names [] rest = record { inputs_are = refl; gates_are = refl; outputs_are = refl; made_are = refl }
 outputs_add names (name ∷ outputs) rest =
     let ih = outputs_add names outputs rest in
@@ -124,7 +123,7 @@ circuit_back netlist circuit =
     let few : netlist.inputs ≤ length names = omega (arith, circuit.nodes) in
     let third = gates_add names netlist.inputs netlist.gates circuit.names_distinct (sym circuit.nodes) circuit.gates in
     let second = outputs_add names outputs last in
-    let first = inputs_add names inputs (ports form.Output outputs ++ last) in
+    let first = inputs_add names inputs (ports OutputPort outputs ++ last) in
     let nil : last ++ [] ≡ last = append-nil last in
     let ins : input_names statements ≡ inputs = first.inputs_are ∙ ap (λ all. inputs ++ all) (second.inputs_are ∙ rw nil at third.inputs_are) ∙ append-nil inputs in
     let gates : gate_names statements ≡ drop netlist.inputs names = first.gates_are ∙ second.gates_are ∙ (rw nil at third.gates_are) ∙ append-nil (drop netlist.inputs names) in

@@ -17,10 +17,9 @@ use Rattle.hz_line.specs.Line.{lines_of}
 use Rattle.hz_line.specs.Statement.{Meaning, Nothing, Malformed, Means}
 use Rattle.hz_bench.specs.declared.fault.BenchFault.{BenchFault}
 use Rattle.hz_bench.specs.declared.fault.BenchFault.TheVariants.{Form, Name, KindUnknown, Clocked, Twice, Pins, Undefined, TooMany, Memory}
-use Rattle.hz_bench.specs.declared.forms.Form.TheVariants as form
 use Rattle.hz_bench.specs.Check.{has_unknown_kind, has_clocked_kind, has_wrong_pins}
 use Rattle.hz_bench.specs.Fault.{States, HasThat, Defines, Uses, IsSecond, IsFaultless, IsAnswer}
-use Rattle.hz_bench.specs.Statement.{Statement, Input, Output, Gate, defined_name, used_names, has_long_name, is_long, variables_in, port_of}
+use Rattle.hz_bench.specs.Statement.{InputPort, OutputPort, Statement, Input, Output, Gate, defined_name, used_names, has_long_name, is_long, variables_in, port_of}
 use Rattle.hz_bench.specs.Text.{meaning_of, meaning_at, variables_of}
 use Rattle.hz_bench.specs.Printed.{name_at, printed}
 use Rattle.hz_bench.proofs.PrintedLines.{ports, HasPin, gate_statement, gate_statements, statements_for, IsReadAs, printed-IsReadAs}
@@ -201,17 +200,17 @@ statements_sound netlist circuit whole =
     let outputs = map (name_at names) netlist.outputs in
     let gates = gate_statements names netlist.inputs netlist.gates in
     let named = All-take IsName netlist.inputs names circuit.names in
-    let first = All-map P (λ name. port_of name form.Input) inputs (λ k d below. input_sound names _ (named k d below)) in
-    let second = All-map P (λ name. port_of name form.Output) outputs (All-map (λ name. P (Output name)) (name_at names) netlist.outputs
+    let first = All-map P (λ name. port_of name InputPort) inputs (λ k d below. input_sound names _ (named k d below)) in
+    let second = All-map P (λ name. port_of name OutputPort) outputs (All-map (λ name. P (Output name)) (name_at names) netlist.outputs
     (λ k d below. output_sound names _ (circuit.names _ [] (circuit.outputs k d below)) (node_among names _ (circuit.outputs k d below)))) in
     let third = gates_sound names netlist.inputs netlist.gates circuit.names (omega (arith, circuit.nodes)) circuit.gates whole in
-    All-append P (ports form.Input inputs) (ports form.Output outputs ++ gates) first (All-append P (ports form.Output outputs) gates second third)
+    All-append P (ports InputPort inputs) (ports OutputPort outputs ++ gates) first (All-append P (ports OutputPort outputs) gates second third)
 
-inputs_define : (names : List (List ℕ)) → defined_names (ports form.Input names) ≡ names
+inputs_define : (names : List (List ℕ)) → defined_names (ports InputPort names) ≡ names
 inputs_define [] = refl
 inputs_define (name ∷ names) = ap (λ rest. name ∷ rest) (inputs_define names)
 
-outputs_define : (names : List (List ℕ)) → defined_names (ports form.Output names) ≡ []
+outputs_define : (names : List (List ℕ)) → defined_names (ports OutputPort names) ≡ []
 outputs_define [] = refl
 outputs_define (name ∷ names) = outputs_define names
 
@@ -228,17 +227,17 @@ nodes_define netlist circuit =
     let inputs = take netlist.inputs names in
     let outputs = map (name_at names) netlist.outputs in
     let gates = gate_statements names netlist.inputs netlist.gates in
-    filter_map-append defined_name (ports form.Input inputs) (ports form.Output outputs ++ gates)
-    ∙ ap (λ later. defined_names (ports form.Input inputs) ++ later) (filter_map-append defined_name (ports form.Output outputs) gates)
+    filter_map-append defined_name (ports InputPort inputs) (ports OutputPort outputs ++ gates)
+    ∙ ap (λ later. defined_names (ports InputPort inputs) ++ later) (filter_map-append defined_name (ports OutputPort outputs) gates)
     ∙ rw (inputs_define inputs, outputs_define outputs, gates_define names netlist.inputs netlist.gates (sym circuit.nodes)) (take-append-drop netlist.inputs names)
 
-inputs_count : (names : List (List ℕ)) → variables_of (ports form.Input names) ≡ length names
+inputs_count : (names : List (List ℕ)) → variables_of (ports InputPort names) ≡ length names
 inputs_count [] = refl
-inputs_count (name ∷ names) = let first = sum_by-cons variables_in (Input name) (ports form.Input names) in omega (arith, first, inputs_count names)
+inputs_count (name ∷ names) = let first = sum_by-cons variables_in (Input name) (ports InputPort names) in omega (arith, first, inputs_count names)
 
-outputs_count : (names : List (List ℕ)) → variables_of (ports form.Output names) ≡ 0
+outputs_count : (names : List (List ℕ)) → variables_of (ports OutputPort names) ≡ 0
 outputs_count [] = refl
-outputs_count (name ∷ names) = let first = sum_by-cons variables_in (Output name) (ports form.Output names) in omega (arith, first, outputs_count names)
+outputs_count (name ∷ names) = let first = sum_by-cons variables_in (Output name) (ports OutputPort names) in omega (arith, first, outputs_count names)
 
 gates_count : (names : List (List ℕ)) (node : ℕ) (gates : List GateOf) → variables_of (gate_statements names node gates) ≡ length gates + sum_by (λ gate. length gate.sources) gates
 gates_count names node [] = refl
@@ -255,8 +254,8 @@ nodes_count netlist circuit =
     let inputs = take netlist.inputs names in
     let outputs = map (name_at names) netlist.outputs in
     let gates = gate_statements names netlist.inputs netlist.gates in
-    let first = sum_by-append variables_in (ports form.Input inputs) (ports form.Output outputs ++ gates) in
-    let second = sum_by-append variables_in (ports form.Output outputs) gates in
+    let first = sum_by-append variables_in (ports InputPort inputs) (ports OutputPort outputs ++ gates) in
+    let second = sum_by-append variables_in (ports OutputPort outputs) gates in
     let few = length-take-le netlist.inputs names (omega (arith, circuit.nodes)) in
     omega (arith, first, second, inputs_count inputs, outputs_count outputs, gates_count names netlist.inputs netlist.gates, few, circuit.nodes)
 

@@ -15,9 +15,7 @@ use Rattle.hz_line.specs.Token.{TokenOf, WordOf, MarkOf, tokens_of, with_token, 
 use Rattle.hz_line.specs.Statement.{Meaning, Nothing, Means, meaning_of_tokens}
 use Rattle.hz_line.proofs.WrittenLemmas.{tokens_of-open, tokens_of-close, tokens_of-comma, tokens_of-equals, tokens_of-space, is_letter-separators, tokens_of-word_before, is_inline, word_bytes, lines_of-written}
 use Rattle.hz_bench.specs.declared.forms.KindWord.TheVariants.{Known}
-use Rattle.hz_bench.specs.declared.forms.Form.{Form}
-use Rattle.hz_bench.specs.declared.forms.Form.TheVariants as form
-use Rattle.hz_bench.specs.Statement.{Statement, Gate, kind_word_of, port_form, port_of, names_of, statement_of}
+use Rattle.hz_bench.specs.Statement.{Port, InputPort, OutputPort, Statement, Gate, kind_word_of, port_word, port_of, names_of, statement_of}
 use Rattle.hz_bench.specs.Text.{meaning_of}
 use Rattle.hz_bench.specs.Printed.{name_at, kind_name, port_line, port_lines, more_sources, source_list, gate_head, gate_line, gate_lines, printed}
 
@@ -55,16 +53,16 @@ kind_back Not = refl
 kind_back Buff = refl
 
 -- a word that makes an input or an output of a name
-record IsPortWord (word : List ℕ) (made : Form) : Type 0 where
+record IsPortWord (word : List ℕ) (made : Port) : Type 0 where
   written : IsWritten word
-  makes : port_form word ≡ Some made
+  makes : port_word word ≡ Some made
 
-input_word : IsPortWord (codes "INPUT") form.Input
-unfolding class_of port_form
+input_word : IsPortWord (codes "INPUT") InputPort
+unfolding class_of port_word
 input_word = record { written = record { some = omega arith; letters = refl; inline = refl }; makes = refl }
 
-output_word : IsPortWord (codes "OUTPUT") form.Output
-unfolding class_of port_form
+output_word : IsPortWord (codes "OUTPUT") OutputPort
+unfolding class_of port_word
 output_word = record { written = record { some = omega arith; letters = refl; inline = refl }; makes = refl }
 
 -- what each line of a text is
@@ -92,7 +90,7 @@ port_tokens word name first second =
     tokens_of-word_before word (40 ∷ (name ++ 41 ∷ [])) first.some first.letters is_letter-separators.1
     ∙ ap (with_token (WordOf word)) (tokens_of-open (name ++ 41 ∷ []) ∙ ap (with_token (MarkOf Open)) named)
 
-port_meaning : (word name : List ℕ) (made : Form) → IsPortWord word made → IsWritten name → meaning_of (port_body word name) ≡ Means (port_of name made)
+port_meaning : (word name : List ℕ) (made : Port) → IsPortWord word made → IsWritten name → meaning_of (port_body word name) ≡ Means (port_of name made)
 port_meaning word name made is written = ap (meaning_of_tokens statement_of) (port_tokens word name is.written written) ∙ rw is.makes refl
 
 port_inline : (word name : List ℕ) → IsWritten word → IsWritten name → list_all is_inline (port_body word name) ≡ true
@@ -100,16 +98,16 @@ port_inline word name first second =
     let back : list_all is_inline (name ++ 41 ∷ []) ≡ true = rw (list_all-append is_inline name (41 ∷ []), second.inline) refl in
     rw (list_all-append is_inline word (40 ∷ (name ++ 41 ∷ [])), first.inline, back) refl
 
-port_read : (word name rest : List ℕ) (made : Form) → IsPortWord word made → IsWritten name → meanings_of (port_line word name ++ rest) ≡ Means (port_of name made) ∷ meanings_of rest
+port_read : (word name rest : List ℕ) (made : Port) → IsPortWord word made → IsWritten name → meanings_of (port_line word name ++ rest) ≡ Means (port_of name made) ∷ meanings_of rest
 port_read word name rest made is written =
     ap (λ line. meanings_of (line ++ rest)) (port_split word name)
     ∙ one_line (port_body word name) rest (port_of name made) (port_inline word name is.written written) (port_meaning word name made is written)
 
 -- names as inputs, or as outputs
-abbrev pub ports : Form → List (List ℕ) → List Statement
+abbrev pub ports : Port → List (List ℕ) → List Statement
 ports made names = map (λ name. port_of name made) names
 
-ports_read : (word : List ℕ) (made : Form) (names : List (List ℕ)) (rest : List ℕ) → IsPortWord word made → All IsName names → meanings_of (port_lines word names ++ rest) ≡ map Means (ports made names) ++ meanings_of rest
+ports_read : (word : List ℕ) (made : Port) (names : List (List ℕ)) (rest : List ℕ) → IsPortWord word made → All IsName names → meanings_of (port_lines word names ++ rest) ≡ map Means (ports made names) ++ meanings_of rest
 ports_read word made [] rest is named = refl
 ports_read word made (name ∷ names) rest is named =
     ap meanings_of (append_assoc (port_line word name) (port_lines word names) rest)
@@ -245,8 +243,8 @@ gates_read names node (gate ∷ rest) named room among pins =
 -- a circuit as statements: its inputs, its outputs and its gates
 abbrev pub statements_for : Netlist → List Statement
 statements_for netlist =
-    ports form.Input (take netlist.inputs netlist.names)
-    ++ (ports form.Output (map (name_at netlist.names) netlist.outputs)
+    ports InputPort (take netlist.inputs netlist.names)
+    ++ (ports OutputPort (map (name_at netlist.names) netlist.outputs)
     ++ gate_statements netlist.names netlist.inputs netlist.gates)
 
 -- each line of the text is one of these statements, in order, and the last line is empty
@@ -262,12 +260,12 @@ printed-IsReadAs netlist circuit whole =
     let gates = gate_statements names netlist.inputs netlist.gates in
     let last = gates_read names netlist.inputs netlist.gates circuit.names (omega (arith, circuit.nodes)) circuit.gates whole in
     let outputs_named = All-map IsName (name_at names) netlist.outputs (λ k d below. circuit.names _ [] (circuit.outputs k d below)) in
-    let middle = ports_read (codes "OUTPUT") form.Output outputs (gate_lines names netlist.inputs netlist.gates) output_word outputs_named in
+    let middle = ports_read (codes "OUTPUT") OutputPort outputs (gate_lines names netlist.inputs netlist.gates) output_word outputs_named in
     ap meanings_of (append_assoc (port_lines (codes "INPUT") inputs) (port_lines (codes "OUTPUT") outputs) (gate_lines names netlist.inputs netlist.gates))
-    ∙ ports_read (codes "INPUT") form.Input inputs (port_lines (codes "OUTPUT") outputs ++ gate_lines names netlist.inputs netlist.gates) input_word (All-take IsName netlist.inputs names circuit.names)
-    ∙ ap (λ later. map Means (ports form.Input inputs) ++ later) (middle ∙ ap (λ later. map Means (ports form.Output outputs) ++ later) last)
+    ∙ ports_read (codes "INPUT") InputPort inputs (port_lines (codes "OUTPUT") outputs ++ gate_lines names netlist.inputs netlist.gates) input_word (All-take IsName netlist.inputs names circuit.names)
+    ∙ ap (λ later. map Means (ports InputPort inputs) ++ later) (middle ∙ ap (λ later. map Means (ports OutputPort outputs) ++ later) last)
     ∙ sym (
-    ap (λ all. all ++ Nothing ∷ []) (map-append Means (ports form.Input inputs) (ports form.Output outputs ++ gates) ∙ ap (λ all. map Means (ports form.Input inputs) ++ all) (map-append Means (ports form.Output outputs) gates))
-    ∙ append_assoc (map Means (ports form.Input inputs)) (map Means (ports form.Output outputs) ++ map Means gates) (Nothing ∷ [])
-    ∙ ap (λ all. map Means (ports form.Input inputs) ++ all) (append_assoc (map Means (ports form.Output outputs)) (map Means gates) (Nothing ∷ []))
+    ap (λ all. all ++ Nothing ∷ []) (map-append Means (ports InputPort inputs) (ports OutputPort outputs ++ gates) ∙ ap (λ all. map Means (ports InputPort inputs) ++ all) (map-append Means (ports OutputPort outputs) gates))
+    ∙ append_assoc (map Means (ports InputPort inputs)) (map Means (ports OutputPort outputs) ++ map Means gates) (Nothing ∷ [])
+    ∙ ap (λ all. map Means (ports InputPort inputs) ++ all) (append_assoc (map Means (ports OutputPort outputs)) (map Means gates) (Nothing ∷ []))
     )

@@ -26,7 +26,7 @@ use Rattle.hz_bench.specs.Sorted.{again_fault, asked, fault_in, last_fault, pins
 use Rattle.hz_bench.specs.Statement.{Statement, Input, Output, Gate, statement_of, is_node, is_output, defined_name, sources_of, used_names, has_long_name, variables_in}
 use Rattle.hz_bench.specs.Text.{numbered_statements, statements_of, nodes_among, outputs_among, variables_among}
 use Rattle.hz_bench.specs.Twice.{twice_or, earlier_line, twice_after, twice_fault}
-use Rattle.hz_bench.proofs.DefinitionLemmas.{plain, any-same, option_or-none, definer-append, definer-push, undefined-from_form}
+use Rattle.hz_bench.proofs.DefinitionLemmas.{plain, any-same, option_or-none, definer-append, definer-push, undefined-no_node}
 use Rattle.hz_bench.proofs.NetlistLemmas.{nodes_of-is, statement_list-numbered, output_list-numbered}
 
 -- the statements that pass a test, with their lines
@@ -212,7 +212,7 @@ earlier-all test low (first ∷ rest) h = by_node (is_node first.statement) (ear
 
 -- only nodes define names
 undefined-output : (statement : Statement) → is_node statement ≡ false → defined_name statement ≡ None
-undefined-output statement h = undefined-from_form statement h
+undefined-output statement h = undefined-no_node statement h
 
 definer-kept : (statements : List (Numbered Statement)) (name : List ℕ) → definer (nodes_among statements) name ≡ definer statements name
 definer-kept statements name = first_line-kept (defines name) is_node (λ statement h. ap (is_that name) (undefined-output statement h)) statements

@@ -1,33 +1,17 @@
 -- The statement that a line means, from the head of its tokens.
-use Rattle.std.proofs.Common.{◌≡◌, ◌∙◌, ℕ, ◌*◌, ◌||◌, List, [], ◌∷◌, Bool, true, false, Option, Some, None, option_map, is_some, length, cond, refl, sym, ap, subst, arith, codes, IfSome, true≢false}
+use Rattle.std.proofs.Common.{◌≡◌, ◌∙◌, ℕ, ◌*◌, ◌||◌, List, [], ◌∷◌, Bool, true, false, Option, Some, None, option_map, is_some, length, refl, sym, ap, subst, arith, IfSome, true≢false}
 use Rattle.std.specs.List.{list_any}
 use Rattle.hz_line.specs.declared.bytes.Mark.{Mark}
 use Rattle.hz_line.specs.declared.bytes.Mark.TheVariants.{Open, Close, Comma, Equals}
-use Rattle.hz_line.specs.Keyword.{is_keyword}
 use Rattle.hz_line.specs.Statement.{Means, meaning_of_tokens}
 use Rattle.hz_line.specs.Token.{TokenOf, WordOf, MarkOf, tokens_of, with_token, is_bare, IsWord, AreWords}
 use Rattle.hz_line.proofs.TokenLemmas.{tokens_of-AreWords}
-use Rattle.hz_bench.specs.declared.forms.Form.{Form}
 use Rattle.hz_bench.specs.declared.forms.Form.TheVariants as form
 use Rattle.hz_bench.specs.declared.statement.Head.{Head}
 use Rattle.hz_bench.specs.declared.statement.NameList.{NameList}
 use Rattle.hz_bench.specs.Head.{has_marked_first, head_tokens, names_by, noted_names, no_names}
-use Rattle.hz_bench.specs.Statement.{Gate, statement_of, names_of, words_of, port_form, port_of, kind_word_of, has_long_name, is_long, statement_with, words_by, are_marked, are_marked_words}
+use Rattle.hz_bench.specs.Statement.{Gate, statement_of, names_of, words_of, Port, port_word, port_of, kind_word_of, has_long_name, is_long, statement_with, words_by, are_marked, are_marked_words}
 use Rattle.hz_bench.specs.Text.{meaning_of}
-
--- a word before a name in parentheses makes an input or output of it, and no gate
-port_form-step : (input output : Bool) (made : Form) → cond input (Some form.Input) (cond output (Some form.Output) None) ≡ Some made → (name : List ℕ) → port_of name made ≡ statement_with name made []
-port_form-step true output form.Input h name = refl
-port_form-step true output form.Output h name = refl
-port_form-step true output (form.Gate kind) h name = cc
-port_form-step false true form.Input h name = refl
-port_form-step false true form.Output h name = refl
-port_form-step false true (form.Gate kind) h name = cc
-port_form-step false false made h name = cc
-
-pub port-made : (word name : List ℕ) (made : Form) → port_form word ≡ Some made → port_of name made ≡ statement_with name made []
-unfolding port_form
-port-made word name made h = port_form-step (is_keyword word (codes "INPUT")) (is_keyword word (codes "OUTPUT")) made h name
 
 or_false : (a : Bool) → (a || false) ≡ a
 or_false true = refl
@@ -68,9 +52,9 @@ abbrev pub headed : List ℕ → Mark → List ℕ → Mark → Option (List Tok
 headed first mark second next tokens = with_token (WordOf first) (with_token (MarkOf mark) (with_token (WordOf second) (with_token (MarkOf next) tokens)))
 
 -- an input or output
-pub port_meant : (text : List ℕ) (head : Head) (made : Form) → tokens_of text ≡ head_tokens head → head.mark ≡ Open → head.next ≡ Close → is_bare (tokens_of head.rest.now) ≡ true → port_form head.first.now ≡ Some made → meaning_of text ≡ Means (statement_with head.second.now made [])
+pub port_meant : (text : List ℕ) (head : Head) (made : Port) → tokens_of text ≡ head_tokens head → head.mark ≡ Open → head.next ≡ Close → is_bare (tokens_of head.rest.now) ≡ true → port_word head.first.now ≡ Some made → meaning_of text ≡ Means (port_of head.second.now made)
 port_meant text head made tokens opened closed bare port =
-    ap (meaning_of_tokens statement_of) tokens ∙ rw (opened, closed) (meant (tokens_of head.rest.now) bare) ∙ ap Means (port-made head.first.now head.second.now made port)
+    ap (meaning_of_tokens statement_of) tokens ∙ rw (opened, closed) (meant (tokens_of head.rest.now) bare)
   where
     meant : (rest : Option (List TokenOf)) → is_bare rest ≡ true → meaning_of_tokens statement_of (headed head.first.now Open head.second.now Close rest) ≡ Means (port_of head.second.now made)
     meant None h = cc

@@ -4,7 +4,7 @@ use Rattle.std.specs.Option.{option_or}
 use Rattle.std.specs.List.{list_any}
 use Rattle.hz_line.specs.Statement.{Numbered}
 use Rattle.hz_bench.specs.Definition.{definer}
-use Rattle.hz_bench.specs.Statement.{Statement, form_of, sources_of, used_names, has_long_name, is_unknown, is_clocked, refuses_pins}
+use Rattle.hz_bench.specs.Statement.{Statement, has_form, sources_of, used_names, has_long_name, is_unknown, is_clocked, refuses_pins}
 use Rattle.hz_bench.specs.Text.{variables_among}
 use Rattle.hz_bench.specs.Twice.{twice_fault}
 use Rattle.hz_bench.specs.declared.fault.BenchFault.{BenchFault}
@@ -16,15 +16,15 @@ pin_count statement = length (sources_of statement)
 
 -- the kind of the statement does not take its pins
 abbrev pub has_wrong_pins : Statement → Bool
-has_wrong_pins statement = refuses_pins (form_of statement) (pin_count statement)
+has_wrong_pins statement = has_form (λ form. refuses_pins form (pin_count statement)) statement
 
 -- the kind of the statement is none
 abbrev pub has_unknown_kind : Statement → Bool
-has_unknown_kind statement = is_unknown (form_of statement)
+has_unknown_kind statement = has_form is_unknown statement
 
 -- the statement is a flip-flop
 abbrev pub has_clocked_kind : Statement → Bool
-has_clocked_kind statement = is_clocked (form_of statement)
+has_clocked_kind statement = has_form is_clocked statement
 
 -- the statement uses a name that none of these defines
 abbrev pub uses_undefined : List (Numbered Statement) → Statement → Bool

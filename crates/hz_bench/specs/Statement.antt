@@ -11,6 +11,11 @@ use Rattle.hz_bench.specs.declared.forms.KindWord.TheVariants.{Known, Clocked, U
 use Rattle.hz_bench.specs.declared.forms.Form.{Form}
 use Rattle.hz_bench.specs.declared.forms.Form.TheVariants as form
 
+-- an input or an output
+pub data Port : Type 0 where
+  InputPort : Port
+  OutputPort : Port
+
 -- a statement: an input, an output, or a gate with its kind and the names that its pins read
 pub data Statement : Type 0 where
   Input : (name : List ℕ) → Statement
@@ -33,16 +38,15 @@ kind_word_of word =
     else Unknown)))))))))
 
 -- what a word before a name in parentheses makes of the name
-unfoldable pub port_form : List ℕ → Option Form
-port_form word =
-    if is_keyword word (codes "INPUT") then Some form.Input
-    else (if is_keyword word (codes "OUTPUT") then Some form.Output else None)
+unfoldable pub port_word : List ℕ → Option Port
+port_word word =
+    if is_keyword word (codes "INPUT") then Some InputPort
+    else (if is_keyword word (codes "OUTPUT") then Some OutputPort else None)
 
 -- the name as an input or an output
-abbrev pub port_of : List ℕ → Form → Statement
-port_of name form.Input = Input name
-port_of name form.Output = Output name
-port_of name (form.Gate kind) = Output name
+abbrev pub port_of : List ℕ → Port → Statement
+port_of name InputPort = Input name
+port_of name OutputPort = Output name
 
 -- one or more names separated by commas, and a closing parenthesis
 abbrev pub names_of : List TokenOf → Option (List (List ℕ))
@@ -52,7 +56,7 @@ names_of _ = None
 
 -- the one statement of a token list, if it is one: WORD ( NAME ) or NAME = KIND ( NAME , .. NAME )
 abbrev pub statement_of : List TokenOf → Option Statement
-statement_of (WordOf word ∷ MarkOf Open ∷ WordOf name ∷ MarkOf Close ∷ []) = option_map (port_of name) (port_form word)
+statement_of (WordOf word ∷ MarkOf Open ∷ WordOf name ∷ MarkOf Close ∷ []) = option_map (port_of name) (port_word word)
 statement_of (WordOf name ∷ MarkOf Equals ∷ WordOf kind ∷ MarkOf Open ∷ rest) =
     option_map (λ sources. Gate name (kind_word_of kind) sources) (names_of rest)
 statement_of _ = None
@@ -63,21 +67,21 @@ name_of (Input name) = name
 name_of (Output name) = name
 name_of (Gate name kind sources) = name
 
--- whether it is an input, an output or a gate, and the gate's kind
-abbrev pub form_of : Statement → Form
-form_of (Input name) = form.Input
-form_of (Output name) = form.Output
-form_of (Gate name kind sources) = form.Gate kind
+-- the form of the node that a statement defines, if it defines one: an input, or a gate with its kind
+abbrev pub form_of : Statement → Option Form
+form_of (Input name) = Some form.Input
+form_of (Output name) = None
+form_of (Gate name kind sources) = Some (form.Gate kind)
 
--- inputs and gates define their names
-abbrev pub form_defines : Form → Bool
-form_defines form.Input = true
-form_defines form.Output = false
-form_defines (form.Gate kind) = true
+-- the statement defines a node whose form passes a test
+abbrev pub has_form : (Form → Bool) → Statement → Bool
+has_form test (Input name) = test form.Input
+has_form test (Output name) = false
+has_form test (Gate name kind sources) = test (form.Gate kind)
 
 -- the statement defines its name: it is an input or a gate
 abbrev pub is_node : Statement → Bool
-is_node statement = form_defines (form_of statement)
+is_node statement = has_form (λ form. true) statement
 
 -- the statement is an output
 abbrev pub is_output : Statement → Bool
@@ -112,7 +116,6 @@ has_long_name statement = list_any is_long (name_of statement ∷ sources_of sta
 -- the word in the kind's place is no kind
 abbrev pub is_unknown : Form → Bool
 is_unknown form.Input = false
-is_unknown form.Output = false
 is_unknown (form.Gate (Known kind)) = false
 is_unknown (form.Gate Clocked) = false
 is_unknown (form.Gate Unknown) = true
@@ -120,7 +123,6 @@ is_unknown (form.Gate Unknown) = true
 -- the word in the kind's place is that of a flip-flop
 abbrev pub is_clocked : Form → Bool
 is_clocked form.Input = false
-is_clocked form.Output = false
 is_clocked (form.Gate (Known kind)) = false
 is_clocked (form.Gate Clocked) = true
 is_clocked (form.Gate Unknown) = false
@@ -128,7 +130,6 @@ is_clocked (form.Gate Unknown) = false
 -- the kind does not take so many pins
 abbrev pub refuses_pins : Form → ℕ → Bool
 refuses_pins form.Input pins = false
-refuses_pins form.Output pins = false
 refuses_pins (form.Gate (Known kind)) pins = not (takes kind pins)
 refuses_pins (form.Gate Clocked) pins = nat_lt 256 pins
 refuses_pins (form.Gate Unknown) pins = nat_lt 256 pins
@@ -168,5 +169,4 @@ are_marked (Some tokens) = are_marked_words tokens
 -- the statement of this form, with this name; a gate's pins read the words of the part of its line where they begin
 abbrev pub statement_with : List ℕ → Form → List ℕ → Statement
 statement_with name form.Input part = Input name
-statement_with name form.Output part = Output name
 statement_with name (form.Gate kind) part = Gate name kind (words_in part)

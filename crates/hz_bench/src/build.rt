@@ -54,7 +54,7 @@ fn add_input(circuit: &mut Circuit, entry: &Entry) -> Result<(), Memory>
             circuit.add_input(entry.name)?;
             Ok(())
         }
-        Form::Output | Form::Gate(_) => Ok(()),
+        Form::Gate(_) => Ok(()),
     }
 }
 
@@ -82,7 +82,7 @@ fn add_gate(circuit: &mut Circuit, entry: &Entry) -> Result<(), Memory>
             circuit.add_gate(entry.name, kind_of(word))?;
             Ok(())
         }
-        Form::Input | Form::Output => Ok(()),
+        Form::Input => Ok(()),
     }
 }
 

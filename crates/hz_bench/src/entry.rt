@@ -2,7 +2,7 @@
 
 ghost use Rattle.std.specs.Prelude.{◌≡◌, ◌<◌, ◌^◌, length, true};
 ghost use Rattle.hz_line.specs.Token.{IsWord, tokens_of};
-ghost use Rattle.hz_bench.specs.Statement.{sources_of, has_long_name, form_defines, words_in, are_marked, statement_with};
+ghost use Rattle.hz_bench.specs.Statement.{sources_of, has_long_name, words_in, are_marked, statement_with};
 
 use crate::forms::Form;
 
@@ -21,7 +21,6 @@ pub struct Entry<'a> {
     pub sources: &'a [u8],
     /// How many pins the gate has.
     pub pins: usize,
-    ghost node: { form_defines form ≡ true },
     ghost worded: { IsWord name.now },
     ghost sourced: { words_in sources.now ≡ sources_of (statement_with name.now form sources.now) },
     ghost listed: { are_marked (tokens_of sources.now) ≡ true },

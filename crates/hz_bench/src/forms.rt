@@ -14,11 +14,10 @@ pub enum KindWord {
     Unknown,
 }
 
-/// Whether a statement is an input, an output or a gate.
+/// Whether a node is an input or a gate.
 #[derive(Clone, Copy, Debug)]
 pub enum Form {
     Input,
-    Output,
     Gate(KindWord),
 }
 
@@ -107,7 +106,7 @@ impl Form {
         ensures { result ≡ refuses_pins self pins }
     {
         match self {
-            Form::Input | Form::Output => false,
+            Form::Input => false,
             Form::Gate(KindWord::Known(kind)) => !kind.takes(pins),
             Form::Gate(_) => pins > 256,
         }

@@ -66,7 +66,6 @@ impl Notes {
                 self.inputs += 1;
                 self.variables += 1;
             }
-            Form::Output => {}
             Form::Gate(_) => self.variables += 1 + entry.pins as u32,
         }
     }

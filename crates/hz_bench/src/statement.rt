@@ -74,7 +74,7 @@ pub(crate) fn marked_word<'a>(line: &'a [u8]) -> Option<MarkedWord<'a>>
 }
 
 // The input or output `WORD ( NAME )`.
-#[tactic(auto, unfolding(crate::specs::Statement::port_form))]
+#[tactic(auto, unfolding(crate::specs::Statement::port_word))]
 fn port<'a>(line: u32, text: &'a [u8], head: &Head<'a>) -> Option<Line<'a>>
     requires tokens { tokens_of text.now ≡ head_tokens head.now }
     requires opened { head.now.mark ≡ Mark.Open }

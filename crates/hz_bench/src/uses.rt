@@ -102,7 +102,6 @@ fn number_nodes(alloc: Global, nodes: &[Entry], inputs: u32) -> Result<Vec<u32>,
                 };
                 gate += 1;
             }
-            Form::Output => {}
         }
     }
     Ok(numbers)

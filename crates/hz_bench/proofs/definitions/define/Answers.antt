@@ -7,7 +7,8 @@ use Rattle.hz_core.specs.declared.name.Name.{Name}
 use Rattle.hz_bench.specs.Entry.{stated}
 use Rattle.hz_bench.specs.Definition.{line_for, names_in, IsDefinedIn}
 use Rattle.hz_bench.specs.Statement.{defined_name}
-use Rattle.hz_bench.proofs.DefinitionLemmas.{entry-defines, names-more}
+use Rattle.hz_bench.proofs.DefinitionLemmas.{names-more}
+use Rattle.hz_bench.proofs.EntryLemmas.{entry-defines}
 use Rattle.hz_bench.proofs.definitions.define.Goals as goal
 
 -- a name of these bytes
@@ -18,7 +19,7 @@ pub returns-in-Ok : goal.returns-in-Ok
 returns-in-Ok c = by_first c.in-Ok.first c.in-Ok.ensures.old
   where
     defined : defined_name (stated c.args.entry.now) ≡ Some c.args.entry.now.name.now
-    defined = entry-defines c.args.entry.now c.args.entry.now.node
+    defined = entry-defines c.args.entry.now
 
     by_first : (first : Option ℕ) → first ≡ line_for c.args.lines.now c.args.entry.now.name.now → IsDefinedIn c.args.lines.now c.insert.new.self c.args.entry.now first
     by_first (Some first) old = rw defined (sym old)

@@ -10,7 +10,6 @@ invariant_of-result c =
     let words = head_words c.args.text.now c.args.head.now c.requires.tokens (listed-some _ list.names list.listed) in
     let known : words_in c.args.head.now.rest.now ≡ list.names = words-known _ list.names list.words in
     record {
-      node = refl;
       worded = words.0;
       sourced = rw known refl;
       listed = listed_marked (tokens_of c.args.head.now.rest.now) list.names list.listed;

@@ -7,7 +7,6 @@ invariant_of-result c =
     let bare = sym c.is_bare.ensures ∙ c.if-not-is_bare.false in
     let words = head_words c.args.text.now c.args.head.now c.requires.tokens (bare-some _ bare) in
     record {
-      node = refl;
       worded = words.1;
       sourced = refl;
       listed = refl;
