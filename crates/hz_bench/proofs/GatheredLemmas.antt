@@ -14,8 +14,8 @@ use Rattle.hz_bench.specs.Check.{first_that}
 use Rattle.hz_bench.specs.Definition.{definer, defined_names, line_for_defined, IsTableOf}
 use Rattle.hz_bench.specs.Entry.{numbered_list, waiting_list}
 use Rattle.hz_bench.specs.Noted.{noted}
-use Rattle.hz_bench.specs.Pass.{noted_again, AreGathered, IsLeftOut, IsNamed, IsPlaced, IsSorted, TellUndefined}
-use Rattle.hz_bench.specs.Sorted.{again_fault, asked}
+use Rattle.hz_bench.specs.Gathered.{noted_again, AreGathered, IsLeftOut, IsNamed, IsPlaced, IsSorted, TellUndefined}
+use Rattle.hz_bench.specs.FaultIn.{again_fault, asked}
 use Rattle.hz_bench.specs.Statement.{Statement, Gate, defined_name, is_node, is_output, sources_of}
 use Rattle.hz_bench.specs.Text.{nodes_among, outputs_among}
 use Rattle.hz_bench.specs.Twice.{twice_or, earlier_line, twice_fault}

@@ -14,8 +14,9 @@ use Rattle.hz_bench.specs.declared.notes.Notes.{Notes}
 use Rattle.hz_bench.specs.declared.parse.Statements.{Statements}
 use Rattle.hz_bench.specs.declared.forms.KindWord.{KindWord}
 use Rattle.hz_bench.specs.Entry.{numbered_list, numbered_outputs, waiting_list}
-use Rattle.hz_bench.specs.Pass.{AreGathered, IsNothingRead, IsParsed, IsSorted}
-use Rattle.hz_bench.specs.Sorted.{again_fault}
+use Rattle.hz_bench.specs.Gathered.{AreGathered, IsNothingRead, IsSorted}
+use Rattle.hz_bench.specs.Pass.{IsParsed}
+use Rattle.hz_bench.specs.FaultIn.{again_fault}
 use Rattle.hz_bench.specs.Statement.{Statement, Input, Output, Gate, statement_of, names_of, Port, InputPort, OutputPort, port_word, port_of, kind_word_of, variables_in, words_of, sources_of}
 use Rattle.hz_bench.specs.Text.{meaning_of, numbered_statements, variables_among}
 use Rattle.hz_bench.proofs.GatheredLemmas.{gathered-more}

@@ -15,7 +15,7 @@ use Rattle.hz_bench.proofs.CheckedLemmas.{checked}
 use Rattle.hz_bench.proofs.FaultLaws.{Outcome, form-least, form-none, first_fault-outcome, second-first, line_found}
 use Rattle.hz_bench.proofs.MayLemmas.{may_build, whole}
 use Rattle.hz_bench.proofs.NotedLemmas.{variables_of-statements}
-use Rattle.hz_bench.specs.Sorted.{fault_in}
+use Rattle.hz_bench.specs.FaultIn.{fault_in}
 use Rattle.hz_bench.proofs.Sorted.{fault_in-first, may_build-sorted}
 
 -- why a text was not parsed

@@ -21,13 +21,29 @@ use Rattle.hz_bench.specs.Definition.{is_that, is_missing, defines, definer, def
 use Rattle.hz_bench.specs.Entry.{numbered_of, numbered_list, numbered_outputs, statement_list, output_list}
 use Rattle.hz_bench.specs.Netlist.{input_names}
 use Rattle.hz_bench.specs.Noted.{wrong_pins_of, notes_of}
-use Rattle.hz_bench.specs.Pass.{AreGathered, IsListed, IsParsed}
-use Rattle.hz_bench.specs.Sorted.{again_fault, asked, fault_in, last_fault, pins_fault, sorted_fault, undefined_line, unknown_line, uses_missing}
+use Rattle.hz_bench.specs.Gathered.{AreGathered}
+use Rattle.hz_bench.specs.Pass.{IsListed, IsParsed}
+use Rattle.hz_bench.specs.FaultIn.{again_fault, asked, fault_in, last_fault, pins_fault, unknown_line, uses_missing}
 use Rattle.hz_bench.specs.Statement.{Statement, Input, Output, Gate, statement_of, is_node, is_output, defined_name, sources_of, used_names, has_long_name, variables_in}
 use Rattle.hz_bench.specs.Text.{numbered_statements, statements_of, nodes_among, outputs_among, variables_among}
 use Rattle.hz_bench.specs.Twice.{twice_or, earlier_line, twice_after, twice_fault}
 use Rattle.hz_bench.proofs.DefinitionLemmas.{plain, any-same, option_or-none, definer-append, definer-push, undefined-no_node}
 use Rattle.hz_bench.proofs.NetlistLemmas.{nodes_of-is, statement_list-numbered, output_list-numbered}
+
+-- the first line that uses a name which no node defines
+abbrev pub undefined_line : List (Numbered Statement) → List (Numbered Statement) → Option ℕ
+undefined_line nodes outputs = earlier (first_line (reads_undefined nodes) nodes) (first_line (uses_undefined nodes) outputs)
+
+-- the fault of nodes and outputs, of which this was noted: the least number and, of this number, the first line
+abbrev pub sorted_fault : List (Numbered Statement) → List (Numbered Statement) → Notes → Option BenchFault
+sorted_fault nodes outputs notes =
+    option_or (option_map fault.Name notes.long_name)
+    (option_or (option_map fault.KindUnknown notes.unknown_kind)
+    (option_or (option_map fault.Clocked notes.clocked_kind)
+    (option_or (twice_fault nodes)
+    (option_or (option_map pins_fault notes.wrong_pins)
+    (option_or (option_map fault.Undefined (undefined_line nodes outputs))
+    (too_many notes.variables))))))
 
 -- the statements that pass a test, with their lines
 abbrev kept : (Statement → Bool) → List (Numbered Statement) → List (Numbered Statement)

@@ -18,13 +18,13 @@ use Rattle.hz_bench.specs.Check.{reads_undefined, uses_undefined, earlier, first
 use Rattle.hz_bench.specs.Definition.{definer, defined_names, names_in, IsTableOf}
 use Rattle.hz_bench.specs.Entry.{numbered_list, numbered_output, numbered_outputs, statement_list, output_list, waiting_list}
 use Rattle.hz_bench.specs.Netlist.{node_names, output_names, number_in}
-use Rattle.hz_bench.specs.Sorted.{asked, undefined_line, unknown_line}
+use Rattle.hz_bench.specs.FaultIn.{asked, unknown_line}
 use Rattle.hz_bench.specs.Statement.{Statement, Input, Output, Gate, sources_of, used_names}
 use Rattle.hz_bench.specs.Uses.{pins_in, number_for, is_unnumbered, numbers_of, pin_numbers}
 use Rattle.hz_bench.proofs.CheckedLemmas.{either, each_fails}
 use Rattle.hz_bench.proofs.DefinitionLemmas.{plain}
 use Rattle.hz_bench.proofs.NetlistLemmas.{statement_list-numbered, output_list-numbered}
-use Rattle.hz_bench.proofs.Sorted.{first_line-cons}
+use Rattle.hz_bench.proofs.Sorted.{first_line-cons, undefined_line}
 
 -- one output more
 pub outputs_step : (number : List ℕ → Option ℕ) (found new whole : List ℕ) (line : Option ℕ) (outputs : List OutputLine) (index : ℕ) (output other : OutputLine) → index < length outputs → output ≡ get_or outputs index other

@@ -7,7 +7,8 @@ pub mod Twice
 pub mod Pass
 pub mod Check
 pub mod Noted
-pub mod Sorted
+pub mod FaultIn
+pub mod Gathered
 pub mod Fault
 pub mod Netlist
 pub mod Built

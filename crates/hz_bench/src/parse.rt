@@ -3,7 +3,8 @@
 ghost use Rattle.std.specs.Prelude.{◌≡◌, ◌+◌, ◌<◌, ◌≤◌, ◌^◌, IfOk, length, MatchResult, OnOk};
 ghost use Rattle.hz_bench.specs.Entry.{stated, numbered_line, numbered_of, numbered_output};
 ghost use Rattle.hz_bench.specs.Statement.{variables_in};
-ghost use Rattle.hz_bench.specs.Pass.{IsDefining, IsNothingRead, IsParsed, IsParseFault, IsSorted};
+ghost use Rattle.hz_bench.specs.Gathered.{IsDefining, IsNothingRead, IsSorted};
+ghost use Rattle.hz_bench.specs.Pass.{IsParsed, IsParseFault};
 
 use crate::definitions::{Definitions, define, make_room, no_definitions};
 use crate::entry::{Entry, Line, OutputLine, Waiting};

@@ -6,7 +6,7 @@ ghost use Rattle.hz_bench.specs.Entry.{statement_list, output_list};
 ghost use Rattle.hz_bench.specs.Fault.{IsAnswer, IsFaultless, IsLeastFault};
 ghost use Rattle.hz_bench.specs.Netlist.{netlist_of};
 ghost use Rattle.hz_bench.specs.Pass.{IsAccepted, IsListed};
-ghost use Rattle.hz_bench.specs.Sorted.{fault_in, many_fault};
+ghost use Rattle.hz_bench.specs.FaultIn.{fault_in, many_fault};
 ghost use Rattle.hz_bench.specs.Text.{statements_of};
 ghost use Rattle.hz_bench.specs.Twice.{IsFoundOrMemory};
 ghost use Rattle.hz_bench.specs.Uses.{AreUses};

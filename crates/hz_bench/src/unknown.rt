@@ -6,7 +6,7 @@ ghost use Rattle.hz_line.specs.Statement.{first_line};
 ghost use Rattle.hz_line.specs.Token.{tokens_of};
 ghost use Rattle.hz_bench.specs.Definition.{is_missing};
 ghost use Rattle.hz_bench.specs.Entry.{numbered_list, numbered_outputs, waiting_list};
-ghost use Rattle.hz_bench.specs.Sorted.{unknown_line, unknown_source, reads_missing, uses_missing};
+ghost use Rattle.hz_bench.specs.FaultIn.{unknown_line, unknown_source, reads_missing, uses_missing};
 ghost use Rattle.hz_bench.specs.Statement.{are_marked, words_in};
 
 use crate::definitions::{Definitions, is_defined};

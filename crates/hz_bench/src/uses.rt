@@ -9,7 +9,7 @@ ghost use Rattle.hz_bench.specs.Definition.{defined_names};
 ghost use Rattle.hz_bench.specs.Entry.{stated, numbered_list, numbered_outputs, statement_list, output_list};
 ghost use Rattle.hz_bench.specs.Netlist.{input_names, node_names, output_names, number_in};
 ghost use Rattle.hz_bench.specs.Pass.{IsListed};
-ghost use Rattle.hz_bench.specs.Sorted.{unknown_line};
+ghost use Rattle.hz_bench.specs.FaultIn.{unknown_line};
 ghost use Rattle.hz_bench.specs.Statement.{sources_of, used_names};
 ghost use Rattle.hz_bench.specs.Twice.{twice_fault, IsFoundOrMemory};
 ghost use Rattle.hz_bench.specs.Uses.{is_unnumbered, number_for, numbers_of, pin_numbers, AreUses};

@@ -1,7 +1,7 @@
 use Rattle.std.proofs.Common.{◌≡◌, drop}
 use Rattle.hz_line.specs.Statement.{first_line}
 use Rattle.hz_bench.specs.Entry.{numbered_outputs}
-use Rattle.hz_bench.specs.Sorted.{uses_missing}
+use Rattle.hz_bench.specs.FaultIn.{uses_missing}
 use Rattle.hz_bench.proofs.unknown.first_unknown_output.Given as goal
 
 abbrev pub invariant-loop-output : goal.invariant-loop-output
