@@ -1,1 +1,2 @@
 pub mod WrittenLemmas
+mod CountLemmas

@@ -1,5 +1,5 @@
 //! Files of the file system: the trusted edge.
-ghost use Rattle.std.specs.Prelude.{◌≡◌, ◌<◌, ◌≤◌, length, vec_len, IfOk, IfSome};
+ghost use Rattle.std.specs.Prelude.{◌≡◌, ◌<◌, ◌≤◌, length, vec_len, IfOk, IfSome, MatchResult};
 ghost use Rattle.hz_outside.specs.DiskFiles.{empty_disk, counted};
 
 use super::counts::PlaceCounts;
@@ -65,13 +65,20 @@ impl<'r, R: rt::Files> Files for DiskFiles<'r, R> {
 
     ghost longs = { λ files place. count_at files.longs place };
 
+    /// The bytes of the file, read until a read gives nothing or more than `most` bytes came.
+    ///
+    /// A count rises at each error of the file system and at each file that is too long, and at
+    /// nothing else.
     fn load(
         &mut self,
         alloc: Global,
         place: Place,
         name: &str,
         most: usize,
-    ) -> Result<Vec<u8>, LoadFault> {
+    ) -> Result<Vec<u8>, LoadFault>
+        ensures short { IfOk result (λ file. vec_len file ≤ most) }
+        ensures counts { MatchResult result (λ _. self.new ≡ self.old) (λ fault. self.new ≡ counted self.old place fault) }
+    {
         let loaded = match fs::open(self.rt, name) {
             Ok(mut file) => read_up_to(alloc, &mut file, most),
             Err(_) => Err(LoadFault::Failed),

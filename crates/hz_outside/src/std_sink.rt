@@ -1,5 +1,6 @@
 //! Standard output: the trusted edge.
-ghost use Rattle.std.specs.Prelude.{◌≡◌};
+ghost use Rattle.std.specs.Prelude.{◌≡◌, MatchResult};
+ghost use Rattle.hz_outside.specs.Counts.{raised};
 
 use super::fault::PutFault;
 use super::sink::Sink;
@@ -38,7 +39,13 @@ impl<'r, R: Print> Sink for StdSink<'r, R> {
 
     ghost faults = { λ sink. sink };
 
-    fn put(&mut self, piece: &[u8]) -> Result<(), PutFault> {
+    /// Writes the whole piece, by as many writes as that takes. The count rises at each error of a
+    /// write and at each write that takes nothing, and at nothing else.
+    fn put(&mut self, piece: &[u8]) -> Result<(), PutFault>
+        ensures counts { MatchResult result
+            (λ _. self.new ≡ self.old)
+            (λ fault. (fault ≡ PutFault.Failed) × (self.new ≡ raised self.old)) }
+    {
         if write_all(self.rt, piece) {
             return Ok(());
         }

@@ -4,8 +4,9 @@ use super::{
     DiskFiles, Files, LoadFault, MemFiles, MemSink, Place, PlainFiles, PlainSink, PutFault, Sink,
     StdSink,
 };
+use std::cell::RefCell;
 use std::fmt::Display;
-use std::io::Print;
+use std::io::{ErrorKind, Print};
 use std::test::Fail;
 use std::{env, fs, io, process};
 
@@ -85,10 +86,15 @@ fn files_on_disk(rt: HostRuntime) -> Result<(), Fail> {
     Ok(())
 }
 
-/// A runtime whose writes take at most so many bytes.
-struct Slow(usize);
+/// An output that takes a few bytes at each write, keeps them, and fails once it is full.
+#[derive(Drop)]
+struct Trickle {
+    at_once: usize,
+    room: usize,
+    taken: RefCell<Vec<u8>>,
+}
 
-impl Print for Slow {
+impl Print for Trickle {
     fn print<D: Display + Drop>(&self, _value: D) -> io::Result<()> {
         Ok(())
     }
@@ -102,18 +108,38 @@ impl Print for Slow {
     }
 
     fn write_some(&self, bytes: &[u8]) -> io::Result<usize> {
-        Ok(self.0.min(bytes.len()))
+        let mut taken = self.taken.try_borrow_mut()?;
+        let left = self.room.saturating_sub(taken.len());
+        if left == 0 {
+            return Err(ErrorKind::StorageFull.into());
+        }
+        let count = bytes.len().min(self.at_once).min(left);
+        taken.extend_from_slice(&bytes[..count])?;
+        Ok(count)
     }
 }
 
-/// The real output takes a piece, a slow one takes it byte by byte, and a stuck one is a fault.
+/// The real output takes a piece. One that takes a few bytes at a time is given every byte, one that
+/// takes nothing or is full is a fault.
 #[test]
 fn standard_output(rt: HostRuntime) -> Result<(), Fail> {
     assert_eq!(rt; StdSink::new(&rt).put(b"a piece\n"), Ok(()));
-    assert_eq!(rt; StdSink::new(&Slow(1)).put(b"a piece\n"), Ok(()));
-    assert_eq!(rt;
-        StdSink::new(&Slow(0)).put(b"a piece\n"),
-        Err(PutFault::Failed)
-    );
+    let rows = [
+        (1, 100, Ok(()), "a piece\n"),
+        (3, 8, Ok(()), "a piece\n"),
+        (3, 7, Err(PutFault::Failed), "a piece"),
+        (8, 0, Err(PutFault::Failed), ""),
+        (0, 100, Err(PutFault::Failed), ""),
+    ];
+    for (at_once, room, answer, bytes) in rows {
+        let taken = RefCell::new(Vec::new(rt.alloc()));
+        let output = Trickle {
+            at_once,
+            room,
+            taken,
+        };
+        assert_eq!(rt; StdSink::new(&output).put(b"a piece\n"), answer);
+        assert_eq!(rt; output.taken.into_inner().as_slice(), bytes.as_bytes());
+    }
     Ok(())
 }
