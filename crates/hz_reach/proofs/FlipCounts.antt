@@ -36,14 +36,24 @@ sum-next : (f : ℕ → ℕ) (first count : ℕ) → sum_by f (range_with_len (s
 sum-next f first zero = refl
 sum-next f first (suc count) =
     let more : suc first + 1 ≡ suc (first + 1) = omega arith in
-    omega (arith, sum_by-cons f (suc first) (range_with_len (suc first + 1) count), sum_by-cons (λ i. f (suc i)) first (range_with_len (first + 1) count),
-    sum-next f (first + 1) count, ap (λ (n : ℕ). sum_by f (range_with_len n count)) more)
+    omega (
+      arith,
+      sum_by-cons f (suc first) (range_with_len (suc first + 1) count),
+      sum_by-cons (λ i. f (suc i)) first (range_with_len (first + 1) count),
+      sum-next f (first + 1) count,
+      ap (λ (n : ℕ). sum_by f (range_with_len n count)) more,
+    )
 
 sum-places : (f : Tri → ℕ) (values : List Tri) → sum_by (λ i. f (value_at values i)) (range_with_len 0 (length values)) ≡ sum_by f values
 sum-places f [] = refl
 sum-places f (value ∷ values) =
-    omega (arith, sum_by-cons f value values, sum_by-cons (λ i. f (value_at (value ∷ values) i)) 0 (range_with_len 1 (length values)),
-    sum-next (λ i. f (value_at (value ∷ values) i)) 0 (length values), sum-places f values)
+    omega (
+      arith,
+      sum_by-cons f value values,
+      sum_by-cons (λ i. f (value_at (value ∷ values) i)) 0 (range_with_len 1 (length values)),
+      sum-next (λ i. f (value_at (value ∷ values) i)) 0 (length values),
+      sum-places f values,
+    )
 
 -- a variable that is listed once
 one : ℕ → ℕ → ℕ
@@ -86,10 +96,13 @@ length-listed : (flips : List ℕ) (n : ℕ) → RepeatsNone flips → ((i : ℕ
 unfolding listed
 length-listed [] n once inside = sym (sum-none (listed []) (range_with_len 0 n) (λ i. refl))
 length-listed (x ∷ flips) n once inside =
-    omega (arith, sum-same (listed (x ∷ flips)) (λ i. one x i + listed flips i) (range_with_len 0 n) (λ i. listed-more x flips i once.0),
-    sum-sum (one x) (listed flips) (range_with_len 0 n),
-    single-one x 0 n (omega arith) (omega (arith, inside x (or_left (eqb x x) _ (eq-eqb x x refl)))),
-    length-listed flips n once.1 (λ i there. inside i (or_right (eqb i x) _ there)))
+    omega (
+      arith,
+      sum-same (listed (x ∷ flips)) (λ i. one x i + listed flips i) (range_with_len 0 n) (λ i. listed-more x flips i once.0),
+      sum-sum (one x) (listed flips) (range_with_len 0 n),
+      single-one x 0 n (omega arith) (omega (arith, inside x (or_left (eqb x x) _ (eq-eqb x x refl)))),
+      length-listed flips n once.1 (λ i there. inside i (or_right (eqb i x) _ there)),
+    )
 
 -- a variable changes in a step or not, and then in the later steps
 changes-more : (flips : List ℕ) (steps : List (List ℕ)) (i : ℕ) → changes_in (flips ∷ steps) i ≡ listed flips i + changes_in steps i
@@ -99,11 +112,14 @@ changes-more flips steps i = sum_by-cons (λ (list : List ℕ). cond (is_listed 
 pub flips_are_changes : FlipsAreChanges
 flips_are_changes net input start [] run = sym (sum-none (changes_in []) (range_with_len 0 (length net)) (λ i. refl))
 flips_are_changes net input start (flips ∷ steps) run =
-    omega (arith, sum_by-cons (λ (list : List ℕ). length list) flips steps,
-    length-listed flips (length net) run.0.once run.0.inside,
-    sum-same (changes_in (flips ∷ steps)) (λ i. listed flips i + changes_in steps i) (range_with_len 0 (length net)) (changes-more flips steps),
-    sum-sum (listed flips) (changes_in steps) (range_with_len 0 (length net)),
-    flips_are_changes net input (flipped flips start) steps run.1)
+    omega (
+      arith,
+      sum_by-cons (λ (list : List ℕ). length list) flips steps,
+      length-listed flips (length net) run.0.once run.0.inside,
+      sum-same (changes_in (flips ∷ steps)) (λ i. listed flips i + changes_in steps i) (range_with_len 0 (length net)) (changes-more flips steps),
+      sum-sum (listed flips) (changes_in steps) (range_with_len 0 (length net)),
+      flips_are_changes net input (flipped flips start) steps run.1,
+    )
 
 pub steps_below_flips : StepsAreNoMoreThanFlips
 steps_below_flips net input start [] run = omega arith
@@ -152,10 +168,14 @@ weight-changes most changes Unknown known few = few
 -- at most so many flips for each X
 pub flips_per_unknown : FlipsPerUnknown
 flips_per_unknown net input start steps values most run long known few =
-    omega (arith, flips_are_changes net input start steps run,
-    sum_by-le-sum_by (changes_in steps) (λ i. weight most (value_at values i)) (range_with_len 0 (length net)) (λ i. weight-changes most (changes_in steps i) (value_at values i) (known i) (few i)),
-    ap (λ (n : ℕ). sum_by (λ i. weight most (value_at values i)) (range_with_len 0 n)) long,
-    sum-places (weight most) values, weight-sum most values)
+    omega (
+      arith,
+      flips_are_changes net input start steps run,
+      sum_by-le-sum_by (changes_in steps) (λ i. weight most (value_at values i)) (range_with_len 0 (length net)) (λ i. weight-changes most (changes_in steps i) (value_at values i) (known i) (few i)),
+      ap (λ (n : ℕ). sum_by (λ i. weight most (value_at values i)) (range_with_len 0 n)) long,
+      sum-places (weight most) values,
+      weight-sum most values,
+    )
 
 changes-once : (changes : ℕ) (value : Tri) → (IsKnown value → changes ≡ 0) → (IsUnknown value → changes ≡ 1) → changes ≡ weight 1 value
 unfolding weight
@@ -166,10 +186,14 @@ changes-once changes Unknown known unknown = unknown refl
 -- one flip for each X
 pub flips_of_spread_run : FlipsOfSpreadRun
 flips_of_spread_run net input start a steps long spread =
-    omega (arith, flips_are_changes net input start steps spread.run,
-    sum-same (changes_in steps) (λ i. weight 1 (value_at a i)) (range_with_len 0 (length net)) (λ i. changes-once (changes_in steps i) (value_at a i) (spread.known i) (spread.unknown i)),
-    ap (λ (n : ℕ). sum_by (λ i. weight 1 (value_at a i)) (range_with_len 0 n)) long,
-    sum-places (weight 1) a, weight-sum 1 a)
+    omega (
+      arith,
+      flips_are_changes net input start steps spread.run,
+      sum-same (changes_in steps) (λ i. weight 1 (value_at a i)) (range_with_len 0 (length net)) (λ i. changes-once (changes_in steps i) (value_at a i) (spread.known i) (spread.unknown i)),
+      ap (λ (n : ℕ). sum_by (λ i. weight 1 (value_at a i)) (range_with_len 0 n)) long,
+      sum-places (weight 1) a,
+      weight-sum 1 a,
+    )
 
 -- The end of a run
 
