@@ -1,5 +1,5 @@
 -- Ternary values: 0, 1 and X, their refinements and their join.
-use Rattle.std.specs.Prelude.{Bool, true, false, Option, Some, None, List, [], ◌∷◌, IsTrue}
+use Rattle.std.specs.Prelude.{ℕ, Bool, true, false, Option, Some, None, List, [], ◌∷◌, IsTrue, count_by}
 use Rattle.hz_core.specs.declared.tri.Tri.{Tri}
 use Rattle.hz_core.specs.declared.tri.Tri.TheVariants.{Zero, One, Unknown}
 
@@ -13,6 +13,16 @@ abbrev pub known_bit : Tri → Option Bool
 known_bit Zero = Some false
 known_bit One = Some true
 known_bit Unknown = None
+
+-- whether a value is X
+abbrev pub is_unknown : Tri → Bool
+is_unknown Zero = false
+is_unknown One = false
+is_unknown Unknown = true
+
+-- how many values are X
+abbrev pub unknown_count : List Tri → ℕ
+unknown_count values = count_by is_unknown values
 
 -- whether a bit refines a value: X admits both bits
 abbrev pub admits : Tri → Bool → Bool

@@ -1,64 +1,55 @@
 -- The sequences of the passes: how long their states are, how they grow or shrink, and where they stop.
-use Rattle.std.proofs.Common.{◌≡◌, ℕ, zero, suc, ◌-◌, ◌<◌, ◌≤◌, Bool, List, [], ◌∷◌, length, refl, sym, ap, ◌∙◌, subst, arith, ◌⊎◌, inl, inr}
+use Rattle.std.proofs.Common.{◌≡◌, ℕ, zero, suc, ◌-◌, ◌<◌, ◌≤◌, Bool, List, [], ◌∷◌, length, refl, sym, ap, ◌∙◌, subst, arith, ◌⊎◌, inl, inr, ◌+◌, cond, IsTrue}
 use Rattle.std.proofs.lemmas.List.{length-map}
+use Rattle.std.proofs.lemmas.List.Sums.{sum_by-cons, count_by-le-length}
 use Rattle.hz_core.specs.declared.tri.Tri.{Tri}
 use Rattle.hz_core.specs.declared.tri.Tri.TheVariants.{Zero, One, Unknown}
-use Rattle.hz_core.specs.Ternary.{tri_of, AllBelow, Refines}
+use Rattle.hz_core.specs.Ternary.{tri_of, is_unknown, unknown_count, is_below, AllBelow, Refines}
 use Rattle.hz_core.proofs.Refinements.{is_below-join_of-left, is_below-join_of-right, Refines-map, Refines-AllBelow}
 use Rattle.hz_net.specs.Network.{Driver}
 use Rattle.hz_net.specs.Passes.{excitations, join_each, algorithm_a, algorithm_b, AreRounds}
 use Rattle.hz_net.proofs.Excitations.{length-excitations, AllBelow-excitations, length-join_each}
 
--- how many variables are X
-pub unknowns : List Tri → ℕ
-unknowns [] = 0
-unknowns (Zero ∷ values) = unknowns values
-unknowns (One ∷ values) = unknowns values
-unknowns (Unknown ∷ values) = suc (unknowns values)
+-- what the first value adds to the number of X
+unknown_count-cons : (value : Tri) (values : List Tri) → unknown_count (value ∷ values) ≡ cond (is_unknown value) 1 0 + unknown_count values
+unknown_count-cons = sum_by-cons (λ (value : Tri). cond (is_unknown value) 1 0)
 
-pub unknowns-le-length : (values : List Tri) → unknowns values ≤ length values
-unfolding unknowns
-unknowns-le-length [] = omega arith
-unknowns-le-length (Zero ∷ values) = omega (arith, unknowns-le-length values)
-unknowns-le-length (One ∷ values) = omega (arith, unknowns-le-length values)
-unknowns-le-length (Unknown ∷ values) = omega (arith, unknowns-le-length values)
+pub unknown_count-le-length : (values : List Tri) → unknown_count values ≤ length values
+unknown_count-le-length = count_by-le-length is_unknown
 
 -- a greater state has no fewer X, and more where it differs
-pub unknowns-le-AllBelow : (small large : List Tri) → AllBelow small large → unknowns small ≤ unknowns large
-unfolding unknowns
-unknowns-le-AllBelow [] [] h = omega arith
-unknowns-le-AllBelow [] (y ∷ ys) h = absurd h
-unknowns-le-AllBelow (x ∷ xs) [] h = absurd h
-unknowns-le-AllBelow (Zero ∷ xs) (Zero ∷ ys) h = unknowns-le-AllBelow xs ys h.1
-unknowns-le-AllBelow (Zero ∷ xs) (One ∷ ys) h = unknowns-le-AllBelow xs ys h.1
-unknowns-le-AllBelow (Zero ∷ xs) (Unknown ∷ ys) h = omega (arith, unknowns-le-AllBelow xs ys h.1)
-unknowns-le-AllBelow (One ∷ xs) (Zero ∷ ys) h = unknowns-le-AllBelow xs ys h.1
-unknowns-le-AllBelow (One ∷ xs) (One ∷ ys) h = unknowns-le-AllBelow xs ys h.1
-unknowns-le-AllBelow (One ∷ xs) (Unknown ∷ ys) h = omega (arith, unknowns-le-AllBelow xs ys h.1)
-unknowns-le-AllBelow (Unknown ∷ xs) (Zero ∷ ys) h = cc
-unknowns-le-AllBelow (Unknown ∷ xs) (One ∷ ys) h = cc
-unknowns-le-AllBelow (Unknown ∷ xs) (Unknown ∷ ys) h = omega (arith, unknowns-le-AllBelow xs ys h.1)
+pub unknown_count-le-AllBelow : (small large : List Tri) → AllBelow small large → unknown_count small ≤ unknown_count large
+unknown_count-le-AllBelow [] [] h = omega arith
+unknown_count-le-AllBelow [] (y ∷ ys) h = absurd h
+unknown_count-le-AllBelow (x ∷ xs) [] h = absurd h
+unknown_count-le-AllBelow (x ∷ xs) (y ∷ ys) h =
+    omega (arith, unknown_count-cons x xs, unknown_count-cons y ys, no-fewer x y h.0, unknown_count-le-AllBelow xs ys h.1)
+  where
+    no-fewer : (small large : Tri) → IsTrue (is_below small large) → cond (is_unknown small) 1 0 ≤ cond (is_unknown large) 1 0
+    no-fewer Zero large below = omega arith
+    no-fewer One large below = omega arith
+    no-fewer Unknown Zero below = cc
+    no-fewer Unknown One below = cc
+    no-fewer Unknown Unknown below = omega arith
 
-same-head : (value : Tri) (xs ys : List Tri) → (xs ≡ ys) ⊎ (unknowns xs < unknowns ys) → (value ∷ xs ≡ value ∷ ys) ⊎ (unknowns (value ∷ xs) < unknowns (value ∷ ys))
-unfolding unknowns
+same-head : (value : Tri) (xs ys : List Tri) → (xs ≡ ys) ⊎ (unknown_count xs < unknown_count ys) → (value ∷ xs ≡ value ∷ ys) ⊎ (unknown_count (value ∷ xs) < unknown_count (value ∷ ys))
 same-head Zero xs ys (inl e) = inl (ap (λ (rest : List Tri). Zero ∷ rest) e)
 same-head Zero xs ys (inr less) = inr less
 same-head One xs ys (inl e) = inl (ap (λ (rest : List Tri). One ∷ rest) e)
 same-head One xs ys (inr less) = inr less
 same-head Unknown xs ys (inl e) = inl (ap (λ (rest : List Tri). Unknown ∷ rest) e)
-same-head Unknown xs ys (inr less) = inr (omega (arith, less))
+same-head Unknown xs ys (inr less) = inr (omega (arith, less, unknown_count-cons Unknown xs, unknown_count-cons Unknown ys))
 
-pub same-or-more : (small large : List Tri) → AllBelow small large → (small ≡ large) ⊎ (unknowns small < unknowns large)
-unfolding unknowns
+pub same-or-more : (small large : List Tri) → AllBelow small large → (small ≡ large) ⊎ (unknown_count small < unknown_count large)
 same-or-more [] [] h = inl refl
 same-or-more [] (y ∷ ys) h = absurd h
 same-or-more (x ∷ xs) [] h = absurd h
 same-or-more (Zero ∷ xs) (Zero ∷ ys) h = same-head Zero xs ys (same-or-more xs ys h.1)
 same-or-more (Zero ∷ xs) (One ∷ ys) h = cc
-same-or-more (Zero ∷ xs) (Unknown ∷ ys) h = inr (omega (arith, unknowns-le-AllBelow xs ys h.1))
+same-or-more (Zero ∷ xs) (Unknown ∷ ys) h = inr (omega (arith, unknown_count-cons Unknown ys, unknown_count-le-AllBelow xs ys h.1))
 same-or-more (One ∷ xs) (Zero ∷ ys) h = cc
 same-or-more (One ∷ xs) (One ∷ ys) h = same-head One xs ys (same-or-more xs ys h.1)
-same-or-more (One ∷ xs) (Unknown ∷ ys) h = inr (omega (arith, unknowns-le-AllBelow xs ys h.1))
+same-or-more (One ∷ xs) (Unknown ∷ ys) h = inr (omega (arith, unknown_count-cons Unknown ys, unknown_count-le-AllBelow xs ys h.1))
 same-or-more (Unknown ∷ xs) (Zero ∷ ys) h = cc
 same-or-more (Unknown ∷ xs) (One ∷ ys) h = cc
 same-or-more (Unknown ∷ xs) (Unknown ∷ ys) h = same-head Unknown xs ys (same-or-more xs ys h.1)

@@ -26,12 +26,15 @@ abbrev pub algorithm_b : List Driver → List Bool → List Tri → ℕ → List
 algorithm_b net input first zero = first
 algorithm_b net input first (suc round) = excitations net input (algorithm_b net input first round)
 
--- The rounds of a sequence: the least number, at least 1, whose state equals the one before it. The result of the
--- sequence is that state.
+-- The rounds of a sequence: the least number, at least 1, whose state equals the one before it.
 pub record AreRounds (sequence : ℕ → List Tri) (rounds : ℕ) : Type 0 where
   pub some : 1 ≤ rounds
   pub settled : sequence rounds ≡ sequence (rounds - 1)
   pub least : (round : ℕ) → 1 ≤ round → round < rounds → sequence round ≢ sequence (round - 1)
+
+-- the result of a sequence: its state after its rounds
+abbrev pub IsResult : (ℕ → List Tri) → List Tri → Type 0
+IsResult sequence result = (rounds : ℕ) × AreRounds sequence rounds × (result ≡ sequence rounds)
 
 -- a number is the first round in which a variable has a value with a property
 pub record IsFirstRound (sequence : ℕ → List Tri) (i : ℕ) (has : Tri → Type 0) (first : ℕ) : Type 0 where

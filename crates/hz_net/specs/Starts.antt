@@ -47,6 +47,11 @@ pub record IsCompletedStart (netlist : Netlist) (listed : List (Option Bool)) (s
   pub forced : (node : ℕ) → node < length netlist.names → IsForced netlist listed node (bit_at state node)
   pub wires : state ≡ expanded netlist (take (length netlist.names) state)
 
+-- a state of the network that is stable under its own inputs: a change may start from it
+pub record IsStableStart (netlist : Netlist) (state : List Bool) : Type 0 where
+  pub long : length state ≡ length (network_of netlist)
+  pub stable : IsStable (network_of netlist) (take netlist.inputs state) state
+
 -- a completed start that is accepted: it is stable under its own inputs
 pub record IsAcceptedStart (netlist : Netlist) (listed : List (Option Bool)) (state : List Bool) : Type 0 where
   pub completed : IsCompletedStart netlist listed state

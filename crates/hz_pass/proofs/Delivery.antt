@@ -1,45 +1,41 @@
 -- A value that is carried along a fan-out: what is known after some wires, and that a wire more keeps it.
-use Rattle.std.proofs.Common.{◌≡◌, ◌≢◌, ℕ, zero, suc, ◌+◌, ◌<◌, ◌≤◌, Bool, Option, List, [], ◌∷◌, length, drop, get_or, set, refl, sym, ap, ◌∙◌, subst, arith, length-append}
+use Rattle.std.proofs.Common.{◌≡◌, ◌≢◌, ℕ, zero, suc, ◌+◌, ◌<◌, ◌≤◌, Bool, Option, List, [], ◌∷◌, length, drop, get_or, set, refl, sym, ap, ◌∙◌, subst, arith, length-append, cond, inl, inr}
 use Rattle.std.specs.Prelude.{Contains}
-use Rattle.std.proofs.lemmas.List.{get_or-set_other, length-set, drop_more, drop_all}
+use Rattle.std.proofs.lemmas.Bool.{cases_lt}
+use Rattle.std.proofs.lemmas.List.{get_or-set_other, length-set, set_past, drop_more, drop_all}
+use Rattle.std.proofs.lemmas.List.Sums.{sum_by-set}
 use Rattle.std.proofs.lemmas.List.Elements.{Contains-get_or}
 use Rattle.hz_core.specs.declared.tri.Tri.{Tri}
 use Rattle.hz_core.specs.declared.tri.Tri.TheVariants.{Zero, One, Unknown}
+use Rattle.hz_core.specs.Ternary.{is_unknown, unknown_count}
 use Rattle.hz_core.specs.Netlist.{Netlist, IsCircuit, variable_count}
 use Rattle.hz_net.specs.Network.{network_of, Source, driver_at, value_at}
 use Rattle.hz_net.specs.Variables.{fan_out_of, GoesInto}
 use Rattle.hz_net.proofs.Places.{length-network_of}
 use Rattle.hz_net.proofs.Wires.{IsWireFrom, IsWireFrom-fan_out_of, driver_at-IsWireFrom}
-use Rattle.hz_pass.specs.Forcing.{gate_extension, SetsGate, ForcedSoFar, open_count}
+use Rattle.hz_pass.specs.Forcing.{gate_extension, SetsGate, ForcedSoFar}
 use Rattle.hz_pass.proofs.ForcingLoop.{forced-wire, forced-gate}
 
--- a known value in a place leaves no more X
-open_count-known : (values : List Tri) (i : ℕ) (value : Tri) → value ≢ Unknown → open_count (set values i value) ≤ open_count values
-open_count-known [] i value known = omega arith
-open_count-known (Zero ∷ values) zero Zero known = omega arith
-open_count-known (Zero ∷ values) zero One known = omega arith
-open_count-known (Zero ∷ values) zero Unknown known = absurd (known refl)
-open_count-known (One ∷ values) zero Zero known = omega arith
-open_count-known (One ∷ values) zero One known = omega arith
-open_count-known (One ∷ values) zero Unknown known = absurd (known refl)
-open_count-known (Unknown ∷ values) zero Zero known = omega arith
-open_count-known (Unknown ∷ values) zero One known = omega arith
-open_count-known (Unknown ∷ values) zero Unknown known = absurd (known refl)
-open_count-known (Zero ∷ values) (suc i) value known = open_count-known values i value known
-open_count-known (One ∷ values) (suc i) value known = open_count-known values i value known
-open_count-known (Unknown ∷ values) (suc i) value known = omega (arith, open_count-known values i value known)
+-- what a value adds to the number of X
+abbrev counted : Tri → ℕ
+counted value = cond (is_unknown value) 1 0
 
--- and one less in the place of an X
-open_count-less : (values : List Tri) (i : ℕ) (value : Tri) → i < length values → value_at values i ≡ Unknown → value ≢ Unknown → open_count (set values i value) + 1 ≡ open_count values
-open_count-less [] i value inside was known = absurd (omega (arith, inside))
-open_count-less (Zero ∷ values) zero value inside was known = cc
-open_count-less (One ∷ values) zero value inside was known = cc
-open_count-less (Unknown ∷ values) zero Zero inside was known = omega arith
-open_count-less (Unknown ∷ values) zero One inside was known = omega arith
-open_count-less (Unknown ∷ values) zero Unknown inside was known = absurd (known refl)
-open_count-less (Zero ∷ values) (suc i) value inside was known = open_count-less values i value (omega (arith, inside)) was known
-open_count-less (One ∷ values) (suc i) value inside was known = open_count-less values i value (omega (arith, inside)) was known
-open_count-less (Unknown ∷ values) (suc i) value inside was known = omega (arith, open_count-less values i value (omega (arith, inside)) was known)
+counted-known : (value : Tri) → value ≢ Unknown → counted value ≡ 0
+counted-known Zero known = refl
+counted-known One known = refl
+counted-known Unknown known = absurd (known refl)
+
+-- a known value in the place of an X leaves one X less, and in any place no more
+unknown_count-less : (values : List Tri) (i : ℕ) (value : Tri) → i < length values → value_at values i ≡ Unknown → value ≢ Unknown → unknown_count (set values i value) + 1 ≡ unknown_count values
+unknown_count-less values i value inside was known =
+    omega (arith, sum_by-set counted values i value Zero inside, counted-known value known, ap counted was)
+
+unknown_count-known : (values : List Tri) (i : ℕ) (value : Tri) → value ≢ Unknown → unknown_count (set values i value) ≤ unknown_count values
+unknown_count-known values i value known =
+    elim (cases_lt i (length values)) [
+      | inl inside ↦ omega (arith, sum_by-set counted values i value Zero inside, counted-known value known)
+      | inr past ↦ rw (set_past values i value past) (omega arith)
+    ]
 
 -- what is known stays as it is where a gate is set
 SetsGate-keeps : (was extended : Tri) (gate : ℕ) (values values' : List Tri) (waiting waiting' : List ℕ) (node : ℕ) → value_at values gate ≡ was → SetsGate was extended gate values values' waiting waiting' → value_at values node ≢ Unknown → value_at values' node ≡ value_at values node
@@ -59,14 +55,14 @@ SetsGate-length Unknown Zero gate values values' waiting waiting' sets = ap (len
 SetsGate-length Unknown One gate values values' waiting waiting' sets = ap (length {A = Tri}) sets.0 ∙ length-set values gate One
 
 -- a node that comes to wait was X before
-SetsGate-count : (was extended : Tri) (gate : ℕ) (values values' : List Tri) (waiting waiting' : List ℕ) → gate < length values → value_at values gate ≡ was → SetsGate was extended gate values values' waiting waiting' → open_count values' + length waiting' ≤ open_count values + length waiting
-SetsGate-count Zero extended gate values values' waiting waiting' inside is sets = omega (arith, ap open_count sets.0, ap (length {A = ℕ}) sets.1)
-SetsGate-count One extended gate values values' waiting waiting' inside is sets = omega (arith, ap open_count sets.0, ap (length {A = ℕ}) sets.1)
-SetsGate-count Unknown Unknown gate values values' waiting waiting' inside is sets = omega (arith, ap open_count sets.0, ap (length {A = ℕ}) sets.1)
+SetsGate-count : (was extended : Tri) (gate : ℕ) (values values' : List Tri) (waiting waiting' : List ℕ) → gate < length values → value_at values gate ≡ was → SetsGate was extended gate values values' waiting waiting' → unknown_count values' + length waiting' ≤ unknown_count values + length waiting
+SetsGate-count Zero extended gate values values' waiting waiting' inside is sets = omega (arith, ap unknown_count sets.0, ap (length {A = ℕ}) sets.1)
+SetsGate-count One extended gate values values' waiting waiting' inside is sets = omega (arith, ap unknown_count sets.0, ap (length {A = ℕ}) sets.1)
+SetsGate-count Unknown Unknown gate values values' waiting waiting' inside is sets = omega (arith, ap unknown_count sets.0, ap (length {A = ℕ}) sets.1)
 SetsGate-count Unknown Zero gate values values' waiting waiting' inside is sets =
-    omega (arith, ap open_count sets.0, ap (length {A = ℕ}) sets.1, length-append waiting (gate ∷ []), open_count-less values gate Zero inside is (λ e. cc))
+    omega (arith, ap unknown_count sets.0, ap (length {A = ℕ}) sets.1, length-append waiting (gate ∷ []), unknown_count-less values gate Zero inside is (λ e. cc))
 SetsGate-count Unknown One gate values values' waiting waiting' inside is sets =
-    omega (arith, ap open_count sets.0, ap (length {A = ℕ}) sets.1, length-append waiting (gate ∷ []), open_count-less values gate One inside is (λ e. cc))
+    omega (arith, ap unknown_count sets.0, ap (length {A = ℕ}) sets.1, length-append waiting (gate ∷ []), unknown_count-less values gate One inside is (λ e. cc))
 
 -- what is known after the first wires of a node's fan-out
 pub record DeliveredSoFar (netlist : Netlist) (node : ℕ) (value : Tri) (first values : List Tri) (first_waiting waiting : List ℕ) (count : ℕ) : Type 0 where
@@ -74,7 +70,7 @@ pub record DeliveredSoFar (netlist : Netlist) (node : ℕ) (value : Tri) (first 
   pub is : value_at values node ≡ value
   pub known : value ≢ Unknown
   pub forced : (listed : List (Option Bool)) → length listed ≡ length netlist.names → ForcedSoFar netlist listed first first_waiting (fan_out_of netlist node) [] → ForcedSoFar netlist listed values waiting (drop count (fan_out_of netlist node)) []
-  pub fewer : open_count values + length waiting ≤ open_count first + length first_waiting
+  pub fewer : unknown_count values + length waiting ≤ unknown_count first + length first_waiting
 
 pub delivered-begin : (netlist : Netlist) (node : ℕ) (values : List Tri) (waiting : List ℕ) → length values ≡ length (network_of netlist) → value_at values node ≢ Unknown → DeliveredSoFar netlist node (value_at values node) values values waiting waiting 0
 delivered-begin netlist node values waiting long known =
@@ -111,7 +107,7 @@ delivered-step netlist node value first values values' first_waiting waiting wai
       fewer = omega (
         arith,
         so_far.fewer,
-        open_count-known values wire value so_far.known,
+        unknown_count-known values wire value so_far.known,
         SetsGate-count (value_at (set values wire value) gate) (gate_extension netlist (set values wire value) gate) gate (set values wire value) values' waiting waiting' inside refl sets,
       );
     }

@@ -3,18 +3,18 @@ use Rattle.std.proofs.Common.{◌≡◌, ◌≢◌, ℕ, zero, suc, ◌+◌, ◌
 use Rattle.std.proofs.lemmas.Bool.{cases_lt}
 use Rattle.hz_core.specs.declared.tri.Tri.{Tri}
 use Rattle.hz_core.specs.declared.tri.Tri.TheVariants.{Zero, One, Unknown}
-use Rattle.hz_core.specs.Ternary.{is_below, AllBelow}
+use Rattle.hz_core.specs.Ternary.{is_below, AllBelow, unknown_count}
 use Rattle.hz_core.proofs.Refinements.{get_or-AllBelow, AllBelow-same, AllBelow-through}
 use Rattle.hz_net.specs.Network.{Driver, value_at}
 use Rattle.hz_net.specs.Passes.{excitations, algorithm_b, AreRounds, AreSettlingRounds, IsSettlingRound, IsFirstRound, IsKnown}
-use Rattle.hz_net.proofs.Sequences.{unknowns, unknowns-le-length, same-or-more, length-algorithm_b, AllBelow-algorithm_b}
+use Rattle.hz_net.proofs.Sequences.{unknown_count-le-length, same-or-more, length-algorithm_b, AllBelow-algorithm_b}
 use Rattle.hz_pass.specs.Noted.{noted_known}
 
 -- what is known after some rounds, each of which changed something
 pub record SettlesSoFar (net : List Driver) (input : List Bool) (first : List Tri) (round : ℕ) (state : List Tri) (noted : List ℕ) : Type 0 where
   pub now : state ≡ algorithm_b net input first round
   pub least : (k : ℕ) → 1 ≤ k → k ≤ round → algorithm_b net input first k ≢ algorithm_b net input first (k - 1)
-  pub few : round + unknowns state ≤ unknowns first
+  pub few : round + unknown_count state ≤ unknown_count first
   pub settling : AreSettlingRounds (algorithm_b net input first) first state noted
 
 none-settled : (sequence : ℕ → List Tri) (i : ℕ) (value : Tri) (noted : ℕ) → noted ≡ 0 → IsSettlingRound sequence i value value noted
@@ -108,12 +108,12 @@ module _ (net : List Driver) (input : List Bool) (first : List Tri) (long : leng
           least = λ k some few. so_far.least k some (omega (arith, few));
         },
         same ∙ next,
-        omega (arith, so_far.few, unknowns-le-length first, long),
+        omega (arith, so_far.few, unknown_count-le-length first, long),
       )
 
   -- the rounds so far are no more than the variables
   pub settle-bound : (round : ℕ) (state : List Tri) (noted : List ℕ) → SettlesSoFar net input first round state noted → round ≤ length net
-  settle-bound round state noted so_far = omega (arith, so_far.few, unknowns-le-length first, long)
+  settle-bound round state noted so_far = omega (arith, so_far.few, unknown_count-le-length first, long)
 
   -- the same with the number of the next round, as the loop counts
   pub settle-on : (next : ℕ) (state work after : List Tri) (noted next_noted : List ℕ) → 1 ≤ next → SettlesSoFar net input first (next - 1) state noted → work ≡ excitations net input state → state ≢ work → after ≡ work → length next_noted ≡ length noted → ((i : ℕ) → i < length state → slice_index next_noted i ≡ noted_known (value_at state i) (value_at work i) next (slice_index noted i)) → SettlesSoFar net input first (next + 1 - 1) after next_noted

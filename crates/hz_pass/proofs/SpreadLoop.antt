@@ -4,11 +4,11 @@ use Rattle.std.proofs.lemmas.Bool.{cases_lt}
 use Rattle.std.proofs.lemmas.List.{length-map}
 use Rattle.hz_core.specs.declared.tri.Tri.{Tri}
 use Rattle.hz_core.specs.declared.tri.Tri.TheVariants.{Zero, One, Unknown}
-use Rattle.hz_core.specs.Ternary.{tri_of, is_below, AllBelow}
+use Rattle.hz_core.specs.Ternary.{tri_of, is_below, AllBelow, unknown_count}
 use Rattle.hz_core.proofs.Refinements.{get_or-AllBelow}
 use Rattle.hz_net.specs.Network.{Driver, value_at, bit_at}
 use Rattle.hz_net.specs.Passes.{excitations, join_each, algorithm_a, AreRounds, AreRanks, IsRank, IsFirstRound, IsUnknown}
-use Rattle.hz_net.proofs.Sequences.{unknowns, unknowns-le-length, same-or-more, length-algorithm_a, AllBelow-algorithm_a}
+use Rattle.hz_net.proofs.Sequences.{unknown_count-le-length, same-or-more, length-algorithm_a, AllBelow-algorithm_a}
 use Rattle.hz_net.proofs.Ranks.{unknown-later, at-tri_of}
 use Rattle.hz_pass.specs.Noted.{noted_unknown}
 
@@ -16,7 +16,7 @@ use Rattle.hz_pass.specs.Noted.{noted_unknown}
 pub record SpreadSoFar (net : List Driver) (input start : List Bool) (round : ℕ) (out : List Tri) (rank : List ℕ) : Type 0 where
   pub now : out ≡ algorithm_a net input start round
   pub least : (k : ℕ) → 1 ≤ k → k ≤ round → algorithm_a net input start k ≢ algorithm_a net input start (k - 1)
-  pub few : round ≤ unknowns out
+  pub few : round ≤ unknown_count out
   pub ranks : AreRanks (algorithm_a net input start) out rank
 
 known-rank : (sequence : ℕ → List Tri) (i : ℕ) (bit : Bool) (rank : ℕ) → rank ≡ 0 → IsRank sequence i (tri_of bit) rank
@@ -81,14 +81,14 @@ module _ (net : List Driver) (input start : List Bool) (long : length start ≡ 
           least = λ k some few. so_far.least k some (omega (arith, few));
         },
         same ∙ next,
-        omega (arith, so_far.few, unknowns-le-length out, out_long),
+        omega (arith, so_far.few, unknown_count-le-length out, out_long),
       )
 
   -- the rounds so far are no more than the variables
   pub spread-bound : (round : ℕ) (out : List Tri) (rank : List ℕ) → SpreadSoFar net input start round out rank → round ≤ length net
   spread-bound round out rank so_far =
       let out_long : length out ≡ length net = ap (length {A = Tri}) so_far.now ∙ length-algorithm_a net input start long round in
-      omega (arith, so_far.few, unknowns-le-length out, out_long)
+      omega (arith, so_far.few, unknown_count-le-length out, out_long)
 
   -- the same with the number of the next round, as the loop counts
   pub spread-on : (next : ℕ) (out work after : List Tri) (rank noted : List ℕ) → 1 ≤ next → SpreadSoFar net input start (next - 1) out rank → work ≡ join_each out (excitations net input out) → out ≢ work → after ≡ work → length noted ≡ length rank → ((i : ℕ) → i < length out → slice_index noted i ≡ noted_unknown (value_at out i) (value_at work i) next (slice_index rank i)) → SpreadSoFar net input start (next + 1 - 1) after noted

@@ -46,13 +46,6 @@ pub record ForcedSoFar (netlist : Netlist) (listed : List (Option Bool)) (values
   pub closed : (gate : ℕ) → IsGateNumber netlist gate → value_at values gate ≡ Unknown → (gate_extension netlist values gate ≡ Unknown) ⊎ Contains touched gate
   pub waits : All (λ node. (node < length netlist.names) × (value_at values node ≢ Unknown)) waiting
 
--- how many values are X
-abbrev pub open_count : List Tri → ℕ
-open_count [] = 0
-open_count (Zero ∷ values) = open_count values
-open_count (One ∷ values) = open_count values
-open_count (Unknown ∷ values) = suc (open_count values)
-
 -- a node has the bit to which it is forced, and is X where it is open
 pub record AreForcedValues (netlist : Netlist) (listed : List (Option Bool)) (values : List Tri) : Type 0 where
   pub long : length values ≡ length (network_of netlist)

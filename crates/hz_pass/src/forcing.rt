@@ -1,10 +1,11 @@
 //! Values that are forced, carried from node to node.
 ghost use Rattle.std.specs.Prelude.{◌≡◌, ◌≢◌, ◌+◌, ◌<◌, ◌≤◌, ◌^◌, [], ◌∷◌, List, Option, Bool, length, replicate, IfOk, OnOk};
 ghost use Rattle.hz_core.specs.declared.tri.Tri.TheVariants.{Unknown};
+ghost use Rattle.hz_core.specs.Ternary.{unknown_count};
 ghost use Rattle.hz_core.specs.Netlist.{IsCircuit, IsGateNumber};
 ghost use Rattle.hz_net.specs.Network.{network_of, value_at};
 ghost use Rattle.hz_net.specs.Variables.{fan_out_of, GoesInto};
-ghost use Rattle.hz_pass.specs.Forcing.{IsListed, gate_extension, SetsGate, ForcedSoFar, open_count, AreForcedValues};
+ghost use Rattle.hz_pass.specs.Forcing.{IsListed, gate_extension, SetsGate, ForcedSoFar, AreForcedValues};
 
 use hz_core::{Memory, Tri};
 use hz_net::{Net, VarKind};
@@ -64,7 +65,7 @@ fn deliver(net: &Net, node: u32, values: &mut [Tri], waiting: &mut Vec<u32>) -> 
     ensures forced { (listed : List (Option Bool)) → length listed ≡ length net.now.names
         → ForcedSoFar net.now listed values.old waiting.old.items (fan_out_of net.now node) []
         → OnOk result (ForcedSoFar net.now listed values.new waiting.new.items [] []) }
-    ensures fewer { OnOk result (open_count values.new + length waiting.new.items ≤ open_count values.old + length waiting.old.items) }
+    ensures fewer { OnOk result (unknown_count values.new + length waiting.new.items ≤ unknown_count values.old + length waiting.old.items) }
 {
     let value = values[node as usize];
     for wire in net.fan_out(node) {

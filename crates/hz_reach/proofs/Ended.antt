@@ -8,8 +8,8 @@ use Rattle.hz_reach.specs.Order.{key_at}
 use Rattle.hz_reach.specs.Spread.{IsSpreadRun, IsSparingRun}
 use Rattle.hz_reach.specs.Room.{after}
 use Rattle.hz_reach.proofs.Listed.{listed-cases, listed-left, listed-right, changes-unlisted, changes-listed}
-use Rattle.hz_reach.proofs.Turns.{IsWired, IsTurnedAfter, AreTurns}
-use Rattle.hz_reach.proofs.Turning.{changed, changed-after, IsOnce, IsReady, once-after, HasTurned, node-changed, wire-ready}
+use Rattle.hz_reach.proofs.Turns.{IsWired, IsChangedAfter, AreTurns}
+use Rattle.hz_reach.proofs.Turning.{changed, changed-after, IsOnce, IsReady, once-after, HadTurns, node-changed, wire-ready}
 use Rattle.hz_reach.proofs.RankedTurns.{unknown-ranked, ranked-unknown, ranked-turns}
 
 -- a run that has changed each variable that has a rank, and no other
@@ -21,7 +21,7 @@ pub record HasSpread (net : List Driver) (input start : List Bool) (ranks : List
 -- The last step: the wires that have a rank and have not changed.
 pub spread-rest :
     (net : List Driver) (input start : List Bool) (ranks : List ℕ) (Done : ℕ → Type 0) (steps : List (List ℕ)) (flips : List ℕ) →
-    IsWired net → AreTurns net input start ranks → HasTurned net input start ranks Done Done steps →
+    IsWired net → AreTurns net input start ranks → HadTurns net input start ranks Done Done steps →
     ((i : ℕ) → key_at ranks i ≢ 0 → Done i) → RepeatsNone flips →
     ((i : ℕ) → is_listed flips i ≡ true → (source : ℕ) × (driver_at net i ≡ Source source) × (key_at ranks i ≢ 0) × (is_listed (changed steps) i ≡ false)) →
     ((i source : ℕ) → driver_at net i ≡ Source source → key_at ranks i ≢ 0 → is_listed (changed steps) i ≡ false → is_listed flips i ≡ true) →
@@ -30,7 +30,7 @@ spread-rest net input start ranks Done steps flips wired turns so_far each disti
     let ready : (i : ℕ) → is_listed flips i ≡ true → IsReady net input start steps i =
     λ i there. (
     let is = only i there in
-    let turn : IsTurnedAfter start ranks i is.0 = turns.wires i is.0 is.1 is.2 in
+    let turn : IsChangedAfter start ranks i is.0 = turns.wires i is.0 is.1 is.2 in
     wire-ready net input start ranks wired turns steps i is.0 so_far.once is.1 is.2 is.3
     (node-changed net input start ranks Done Done steps is.0 so_far (wired.node i is.0 is.1) turn.some (each is.0 turn.some))
     ) in
@@ -67,7 +67,7 @@ module _ (net : List Driver) (input old start : List Bool) (rounds : ℕ) (ranks
   }
 
   -- the spread run without the wires that it does not need
-  pub sparing-run : (Done : ℕ → Type 0) (steps : List (List ℕ)) → HasTurned net input start ranks Done Done steps → ((i : ℕ) → key_at ranks i ≢ 0 → Done i) → IsSparingRun net input start (algorithm_a net input start rounds) ranks steps
+  pub sparing-run : (Done : ℕ → Type 0) (steps : List (List ℕ)) → HadTurns net input start ranks Done Done steps → ((i : ℕ) → key_at ranks i ≢ 0 → Done i) → IsSparingRun net input start (algorithm_a net input start rounds) ranks steps
   sparing-run Done steps has each =
       let turns : AreTurns net input start ranks = ranked-turns net input old start rounds ranks wired long stable are ranked in
       record {
@@ -82,7 +82,7 @@ module _ (net : List Driver) (input old start : List Bool) (rounds : ℕ) (ranks
         ];
         later = λ wire source gate drives into no_earlier. changes-unlisted steps wire (false_from_ne_true _ (λ there.
             let is = has.wires wire source drives there in
-            let turn : IsTurnedAfter start ranks wire source = turns.wires wire source drives (has.ranked wire there) in
+            let turn : IsChangedAfter start ranks wire source = turns.wires wire source drives (has.ranked wire there) in
             let less : key_at ranks source < key_at ranks wire = turn.less in
             let lower : key_at ranks wire < key_at ranks gate = subst (λ (g : ℕ). key_at ranks wire < key_at ranks g) (wired.own is.0 gate wire is.1 into) is.3 in
             no_earlier (inl (omega arith))));

@@ -7,7 +7,7 @@ use Rattle.std.proofs.lemmas.List.FromFn.{length-map-range_with_len, get_or-map-
 use Rattle.hz_core.specs.declared.tri.Tri.{Tri}
 use Rattle.hz_core.specs.declared.tri.Tri.TheVariants.{Zero, One, Unknown}
 use Rattle.hz_core.specs.declared.kind.Kind.{Kind}
-use Rattle.hz_core.specs.Ternary.{admits, IsJoinOf}
+use Rattle.hz_core.specs.Ternary.{is_unknown, admits, IsJoinOf}
 use Rattle.hz_core.specs.Netlist.{Netlist, IsCircuit}
 use Rattle.hz_core.proofs.Refinements.{get_or-Refines}
 use Rattle.hz_net.specs.Network.{Driver, External, Function, Source, driver_at, network_of, bit_at, value_at, IsStable}
@@ -20,7 +20,7 @@ use Rattle.hz_reach.specs.Picked.{picked}
 use Rattle.hz_reach.specs.Room.{after}
 use Rattle.hz_reach.proofs.PickedLemmas.{picked-is, is-picked, picked-once, differs-true, true-differs}
 use Rattle.hz_reach.proofs.Turns.{IsWired, AreTurns}
-use Rattle.hz_reach.proofs.Turning.{changed, bit-changed, HasTurned, Also, turned-inputs, turned-same, turned-gate}
+use Rattle.hz_reach.proofs.Turning.{changed, bit-changed, HadTurns, Also, changed-inputs, changed-same, changed-gate}
 use Rattle.hz_reach.proofs.RankedTurns.{rank-late, ranked-unknown, ranked-turns}
 use Rattle.hz_reach.proofs.Wired.{wired-network_of}
 use Rattle.hz_reach.proofs.Ended.{HasSpread, spread-rest}
@@ -58,19 +58,12 @@ first_passing-least test (suc limit) (suc n) less =
           )
     ]
 
-is_unknown : Tri → Bool
-is_unknown Zero = false
-is_unknown One = false
-is_unknown Unknown = true
-
 is-unknown : (value : Tri) → is_unknown value ≡ true → value ≡ Unknown
-unfolding is_unknown
 is-unknown Zero e = cc
 is-unknown One e = cc
 is-unknown Unknown e = refl
 
 unknown-is : (value : Tri) → value ≡ Unknown → is_unknown value ≡ true
-unfolding is_unknown
 unknown-is Zero e = cc
 unknown-is One e = cc
 unknown-is Unknown e = refl
@@ -80,7 +73,7 @@ rank_of sequence rounds i =
     cond (is_unknown (value_at (sequence rounds) i)) (first_passing (λ round. is_unknown (value_at (sequence round) i)) rounds) 0
 
 rank_of-is : (sequence : ℕ → List Tri) (rounds i : ℕ) (value : Tri) → value_at (sequence rounds) i ≡ value → IsRank sequence i value (rank_of sequence rounds i)
-unfolding rank_of is_unknown
+unfolding rank_of
 rank_of-is sequence rounds i Zero e = rw e refl
 rank_of-is sequence rounds i One e = rw e refl
 rank_of-is sequence rounds i Unknown e = record {
@@ -130,7 +123,7 @@ IsBefore ranks rank number i = (key_at ranks i < rank) ⊎ ((key_at ranks i ≡ 
 module _ (net : List Driver) (input start : List Bool) (ranks : List ℕ) (wired : IsWired net) (turns : AreTurns net input start ranks) where
   -- the run when the turn has come to a place in the order
   Until : ℕ → ℕ → Type 0
-  Until rank number = (steps : List (List ℕ)) × HasTurned net input start ranks (IsBefore ranks rank number) (IsBefore ranks rank number) steps
+  Until rank number = (steps : List (List ℕ)) × HadTurns net input start ranks (IsBefore ranks rank number) (IsBefore ranks rank number) steps
 
   input_turns : ℕ → Bool
   input_turns i = is_input (driver_at net i) && not (eqb (key_at ranks i) 0)
@@ -140,8 +133,8 @@ module _ (net : List Driver) (input start : List Bool) (ranks : List ℕ) (wired
   until-inputs =
       let flips = picked input_turns 0 (length net) in (
         after [] flips,
-        turned-same net input start ranks wired turns (λ i. ⊥) (λ i. ⊥) (IsBefore ranks 0 0) (after [] flips)
-            (turned-inputs net input start ranks wired turns flips (picked-once input_turns 0 (length net))
+        changed-same net input start ranks wired turns (λ i. ⊥) (λ i. ⊥) (IsBefore ranks 0 0) (after [] flips)
+            (changed-inputs net input start ranks wired turns flips (picked-once input_turns 0 (length net))
             (λ i there.
             let passes = and_parts _ _ (picked-is input_turns 0 (length net) i there).passes in
             let is = input-is (driver_at net i) passes.0 in
@@ -166,7 +159,7 @@ module _ (net : List Driver) (input start : List Bool) (ranks : List ℕ) (wired
       let flips = picked test first pins in
       let rank = key_at ranks gate in
       let Done : ℕ → Type 0 = IsBefore ranks rank gate in
-      let after_turn = turned-gate net input start ranks wired turns Done steps so_far gate kind first pins drives some
+      let after_turn = changed-gate net input start ranks wired turns Done steps so_far gate kind first pins drives some
       (λ before. elim before [ inl less ↦ omega (arith, less) | inr same ↦ omega (arith, same.1) ])
       (λ i ranked less. inl less)
       turn.0 turn.1 flips (picked-once test first pins)
@@ -180,7 +173,7 @@ module _ (net : List Driver) (input start : List Bool) (ranks : List ℕ) (wired
       let place : first + pin - first ≡ pin = omega arith in
       is-picked test first pins pin few (subst (λ (n : ℕ). differs (bit_at turn.0 n) (bit_at start (first + pin)) ≡ true) (sym place) (true-differs (bit_at turn.0 pin) (bit_at start (first + pin)) differ))) in (
         after (after steps flips) (gate ∷ []),
-        turned-same net input start ranks wired turns (Also Done gate) (Also Done gate) (IsBefore ranks rank (suc gate)) (after (after steps flips) (gate ∷ [])) after_turn
+        changed-same net input start ranks wired turns (Also Done gate) (Also Done gate) (IsBefore ranks rank (suc gate)) (after (after steps flips) (gate ∷ [])) after_turn
             (λ i kind first pins e ranked done. further i done)
             (λ i kind first pins e ranked done. further i done)
             (λ i kind first pins e ranked before. elim before [
@@ -212,7 +205,7 @@ module _ (net : List Driver) (input start : List Bool) (ranks : List ℕ) (wired
       skip : ((i : ℕ) (kind : Kind) (first pins : ℕ) → driver_at net i ≡ Function kind first pins → key_at ranks i ≢ 0 → key_at ranks i ≡ rank → i ≢ number) → Until rank (suc number)
       skip other = (
         before.0,
-        turned-same net input start ranks wired turns (IsBefore ranks rank number) (IsBefore ranks rank number) (IsBefore ranks rank (suc number)) before.0 before.1
+        changed-same net input start ranks wired turns (IsBefore ranks rank number) (IsBefore ranks rank number) (IsBefore ranks rank (suc number)) before.0 before.1
             (λ i kind first pins e some there. elim there [ inl less ↦ inl less | inr same ↦ inr (same.0, omega (arith, same.1)) ])
             (λ i kind first pins e some there. elim there [ inl less ↦ inl less | inr same ↦ inr (same.0, omega (arith, same.1)) ])
             (λ i kind first pins e some there. elim there [ inl less ↦ inl less | inr same ↦ inr (same.0, (let away : i ≢ number = other i kind first pins e some same.0 in omega (arith, same.1))) ]),
@@ -234,7 +227,7 @@ module _ (net : List Driver) (input start : List Bool) (ranks : List ℕ) (wired
   until-rank (suc rank) =
       let whole = until-number rank (length net) (until-rank rank) in (
         whole.0,
-        turned-same net input start ranks wired turns (IsBefore ranks rank (length net)) (IsBefore ranks rank (length net)) (IsBefore ranks (suc rank) 0) whole.0 whole.1
+        changed-same net input start ranks wired turns (IsBefore ranks rank (length net)) (IsBefore ranks rank (length net)) (IsBefore ranks (suc rank) 0) whole.0 whole.1
             (λ i kind first pins e some there. elim there [ inl less ↦ inl (omega (arith, less)) | inr same ↦ inl (omega (arith, same.0)) ])
             (λ i kind first pins e some there. elim there [ inl less ↦ inl (omega (arith, less)) | inr same ↦ inl (omega (arith, same.0)) ])
             (λ i kind first pins e some there.
@@ -272,12 +265,12 @@ module _ (net : List Driver) (input start : List Bool) (ranks : List ℕ) (wired
 
 -- A set of bits that has a bit, and its complement where a value is X, and that the value admits
 joins-by : (set : Bool → Type 0) (value : Tri) (bit : Bool) → set bit → ((other : Bool) → set other → IsTrue (admits value other)) → (value ≡ Unknown → set (not bit)) → IsJoinOf set value
-joins-by set Zero false here admitted turned = (here, λ there. let no_bit = admitted true there in cc)
-joins-by set Zero true here admitted turned = let no_bit = admitted true here in cc
-joins-by set One false here admitted turned = let no_bit = admitted false here in cc
-joins-by set One true here admitted turned = (here, λ there. let no_bit = admitted false there in cc)
-joins-by set Unknown false here admitted turned = (here, turned refl)
-joins-by set Unknown true here admitted turned = (turned refl, here)
+joins-by set Zero false here admitted complement = (here, λ there. let no_bit = admitted true there in cc)
+joins-by set Zero true here admitted complement = let no_bit = admitted true here in cc
+joins-by set One false here admitted complement = let no_bit = admitted false here in cc
+joins-by set One true here admitted complement = (here, λ there. let no_bit = admitted false there in cc)
+joins-by set Unknown false here admitted complement = (here, complement refl)
+joins-by set Unknown true here admitted complement = (complement refl, here)
 
 -- Algorithm A is exact
 pub exact : (netlist : Netlist) (input old start : List Bool) (rounds i : ℕ) → IsCircuit netlist → length start ≡ length (network_of netlist) → IsStable (network_of netlist) old start → AreRounds (algorithm_a (network_of netlist) input start) rounds → JoinsTo (IsReachable (network_of netlist) input start) i (value_at (algorithm_a (network_of netlist) input start rounds) i)

@@ -15,3 +15,4 @@ pub mod Rooms
 pub mod Asked
 pub mod Underway
 pub mod SpreadSteps
+pub mod FlipCounts

@@ -67,21 +67,21 @@ distinct (x ∷ xs) once = (distinct-from x xs once.0, distinct xs once.1)
 pub repeats_none-bound : (xs : List ℕ) (n : ℕ) → RepeatsNone xs → ((i : ℕ) → is_listed xs i ≡ true → i < n) → length xs ≤ n
 repeats_none-bound xs n once inside = length-le_from_distinct_below xs n (distinct xs once) inside
 
--- a bit that is turned at most once
-turned-twice : (left right both bit : Bool) → both ≡ (left || right) → (left ≡ true → right ≡ false) → cond right (not (cond left (not bit) bit)) (cond left (not bit) bit) ≡ cond both (not bit) bit
-turned-twice true true both bit e apart = absurd (both_ways true (apart refl) refl)
-turned-twice true false both bit e apart = rw e refl
-turned-twice false true both bit e apart = rw e refl
-turned-twice false false both bit e apart = rw e refl
+-- a bit that changes at most once
+changed-twice : (left right both bit : Bool) → both ≡ (left || right) → (left ≡ true → right ≡ false) → cond right (not (cond left (not bit) bit)) (cond left (not bit) bit) ≡ cond both (not bit) bit
+changed-twice true true both bit e apart = absurd (both_ways true (apart refl) refl)
+changed-twice true false both bit e apart = rw e refl
+changed-twice false true both bit e apart = rw e refl
+changed-twice false false both bit e apart = rw e refl
 
--- the bits after steps of which none changes a variable again: those of the variables that some step changed are turned
+-- the bits after steps of which none changes a variable again: those of the variables that some step changed are complemented
 pub at-end_of : (steps : List (List ℕ)) (state : List Bool) (i : ℕ) → RepeatsNone (concat steps) → i < length state → bit_at (end_of state steps) i ≡ cond (is_listed (concat steps) i) (not (bit_at state i)) (bit_at state i)
 at-end_of [] state i once inside = refl
 at-end_of (flips ∷ steps) state i once inside =
     let later = at-end_of steps (flipped flips state) i (repeats_none-right flips (concat steps) once) (subst (λ (n : ℕ). i < n) (sym (length-flipped flips state)) inside) in
     later
     ∙ (ap (λ (b : Bool). cond (is_listed (concat steps) i) (not b) b) (at-flipped flips state i inside)
-    ∙ turned-twice (is_listed flips i) (is_listed (concat steps) i) (is_listed (flips ++ concat steps) i) (bit_at state i) (listed-append flips (concat steps) i) (repeats_none-apart flips (concat steps) once i))
+    ∙ changed-twice (is_listed flips i) (is_listed (concat steps) i) (is_listed (flips ++ concat steps) i) (bit_at state i) (listed-append flips (concat steps) i) (repeats_none-apart flips (concat steps) once i))
 
 -- what a run changes are variables
 pub listed-inside : (net : List Driver) (input : List Bool) (steps : List (List ℕ)) (state : List Bool) (i : ℕ) → IsRun net input state steps → is_listed (concat steps) i ≡ true → i < length net

@@ -32,7 +32,7 @@ fresh-at list k once inside =
     subst (λ (rest : List ℕ). is_listed rest (get_or list k 0) ≡ true) (sym (drop_more list k 0 inside)) (or_left (eqb (get_or list k 0) (get_or list k 0)) _ (eq-eqb (get_or list k 0) (get_or list k 0) refl)) in
     both_ways _ (repeats_none-apart (take k list) (drop k list) whole (get_or list k 0) before) here)
 
--- one more variable is turned
+-- one more variable changes
 pub flipped-push : (flips : List ℕ) (x : ℕ) (state : List Bool) → is_listed flips x ≡ false → x < length state → set (flipped flips state) x (not (bit_at (flipped flips state) x)) ≡ flipped (flips ++ x ∷ []) state
 flipped-push flips x state out inside =
     let lengths : length (flipped flips state) ≡ length state = length-flipped flips state in
@@ -62,7 +62,7 @@ flipped-push flips x state out inside =
           ∙ sym (at-flipped (flips ++ x ∷ []) state i within)))
     ]
 
--- the variable at a place of a list is turned next
+-- the variable at a place of a list changes next
 pub flipped-more : (flips : List ℕ) (k : ℕ) (state : List Bool) → RepeatsNone flips → ((i : ℕ) → is_listed flips i ≡ true → i < length state) → k < length flips → set (flipped (take k flips) state) (get_or flips k 0) (not (bit_at (flipped (take k flips) state) (get_or flips k 0))) ≡ flipped (take (k + 1) flips) state
 flipped-more flips k state once inside few =
     flipped-push (take k flips) (get_or flips k 0) state (fresh-at flips k once few) (inside (get_or flips k 0) (listed-at flips k few))

@@ -18,7 +18,7 @@ use Rattle.hz_net.proofs.Ranks.{unknown-later, unknown-or-start, one-round, at-t
 use Rattle.hz_reach.specs.Order.{key_at}
 use Rattle.hz_reach.specs.Spread.{IsWireInto}
 use Rattle.hz_reach.proofs.Parts.{driver-inside}
-use Rattle.hz_reach.proofs.Turns.{IsWired, IsTurnedBy, IsTurnedAfter, AreTurns}
+use Rattle.hz_reach.proofs.Turns.{IsWired, IsChangedBy, IsChangedAfter, AreTurns}
 
 not-itself : (bit : Bool) → not bit ≢ bit
 not-itself false e = cc
@@ -123,7 +123,7 @@ module _ (net : List Driver) (input old start : List Bool) (rounds : ℕ) (ranks
         | inr known ↦ absurd (differ (known-admits (bit_at start i) bit (subst (λ (v : Tri). IsTrue (admits v bit)) known admitted)))
       ]
 
-  turns-wire : (i source : ℕ) → driver_at net i ≡ Source source → key_at ranks i ≢ 0 → IsTurnedAfter start ranks i source
+  turns-wire : (i source : ℕ) → driver_at net i ≡ Source source → key_at ranks i ≢ 0 → IsChangedAfter start ranks i source
   turns-wire i source drives some =
       let same : bit_at start i ≡ bit_at start source = stable i (rank-inside i some) ∙ ap (driven old start) drives in
       let before = turns-before-rank net input start i (key_at ranks i) long (rank-inside i some) (rank-value i some).1 in
@@ -135,7 +135,7 @@ module _ (net : List Driver) (input old start : List Bool) (rounds : ℕ) (ranks
       let early = rank-early source before.0 (omega (arith, next, rank-late i some)) unknown in
       record { some = early.0; less = omega (arith, next, early.1); same = same }
 
-  turns-gate : (i : ℕ) (kind : Kind) (first pins : ℕ) → driver_at net i ≡ Function kind first pins → key_at ranks i ≢ 0 → (pattern : List Bool) × IsTurnedBy start ranks i kind first pins pattern
+  turns-gate : (i : ℕ) (kind : Kind) (first pins : ℕ) → driver_at net i ≡ Function kind first pins → key_at ranks i ≢ 0 → (pattern : List Bool) × IsChangedBy start ranks i kind first pins pattern
   turns-gate i kind first pins drives some =
       let before = turns-before-rank net input start i (key_at ranks i) long (rank-inside i some) (rank-value i some).1 in
       let next : key_at ranks i ≡ suc before.0 = before.1 in

@@ -3,6 +3,7 @@ use Rattle.std.proofs.Common.{◌≡◌, ◌≢◌, ℕ, ◌+◌, ◌-◌, ◌<�
 use Rattle.std.proofs.lemmas.Bool.{both_ways, and_parts, and_from, not-true, not_from_false, false_from_ne_true}
 use Rattle.hz_core.specs.declared.tri.Tri.{Tri}
 use Rattle.hz_core.specs.declared.tri.Tri.TheVariants.{Zero, One, Unknown}
+use Rattle.hz_core.specs.Ternary.{is_unknown}
 use Rattle.hz_core.specs.Netlist.{Netlist, IsGateNumber}
 use Rattle.hz_core.specs.Pattern.{differs}
 use Rattle.hz_net.specs.Network.{network_of, bit_at, value_at}
@@ -15,50 +16,50 @@ use Rattle.hz_reach.specs.Order.{key_at, AreByKey}
 use Rattle.hz_reach.specs.Room.{after, Spends}
 use Rattle.hz_reach.specs.Scratched.{Scratched}
 use Rattle.hz_reach.specs.Spread.{IsSpreadRun, IsSparingRun}
-use Rattle.hz_reach.specs.Turn.{turned_inputs, AreTurnedWires, is_unknown, unchanged_wires}
+use Rattle.hz_reach.specs.Turn.{changed_inputs, AreChangedWires, unchanged_wires}
 use Rattle.hz_reach.proofs.PickedLemmas.{picked-is, is-picked, picked-once}
 use Rattle.hz_reach.proofs.Turns.{AreTurns}
 use Rattle.hz_reach.proofs.Wired.{wired-network_of}
-use Rattle.hz_reach.proofs.Turning.{IsOnce, bit-changed, bit-unchanged, HasTurned, turned-same, not-itself}
+use Rattle.hz_reach.proofs.Turning.{IsOnce, bit-changed, bit-unchanged, HadTurns, changed-same, not-itself}
 use Rattle.hz_reach.proofs.Ended.{HasSpread, spread-rest}
 use Rattle.hz_reach.proofs.Asked.{IsAsked, asked-turns, asked-ranks, asked-unknown, asked-ranked, asked-spread, asked-sparing}
 use Rattle.hz_reach.proofs.Order.{Among, among-all}
 use Rattle.hz_reach.proofs.Rooms.{room-flips, room-steps, spends-none, end_of-after}
-use Rattle.hz_reach.proofs.Underway.{IsUnderway, inputs-turned, wires-turned, gate-turned}
+use Rattle.hz_reach.proofs.Underway.{IsUnderway, inputs-changed, wires-changed, gate-changed}
 
 -- The first step.
 module _ (netlist : Netlist) (input start : List Bool) (a : List Tri) (ranks : List ℕ) (first : Recorded) (asked : IsAsked netlist input start a ranks first) where
-  inputs-once : IsOnce (network_of netlist) input start (after first.steps (turned_inputs netlist start input))
+  inputs-once : IsOnce (network_of netlist) input start (after first.steps (changed_inputs netlist start input))
   inputs-once =
-      subst (λ (steps : List (List ℕ)). IsOnce (network_of netlist) input start (after steps (turned_inputs netlist start input))) (sym asked.empty)
-      (inputs-turned netlist asked.circuit input start ranks (asked-ranks netlist input start a ranks first asked) (asked-turns netlist input start a ranks first asked)).once
+      subst (λ (steps : List (List ℕ)). IsOnce (network_of netlist) input start (after steps (changed_inputs netlist start input))) (sym asked.empty)
+      (inputs-changed netlist asked.circuit input start ranks (asked-ranks netlist input start a ranks first asked) (asked-turns netlist input start a ranks first asked)).once
 
   none-once : IsOnce (network_of netlist) input start first.steps
   none-once = subst (IsOnce (network_of netlist) input start) (sym asked.empty) (record { run = tt; once = tt })
 
-  pub inputs-flips : length (turned_inputs netlist start input) ≤ first.spare_flips
-  inputs-flips = room-flips (network_of netlist) input start first first asked.empty (spends-none first) (turned_inputs netlist start input) none-once inputs-once asked.flips
+  pub inputs-flips : length (changed_inputs netlist start input) ≤ first.spare_flips
+  inputs-flips = room-flips (network_of netlist) input start first first asked.empty (spends-none first) (changed_inputs netlist start input) none-once inputs-once asked.flips
 
-  pub inputs-steps : turned_inputs netlist start input ≢ [] → 1 ≤ first.spare_steps
-  inputs-steps some = room-steps (network_of netlist) input start first first asked.empty (spends-none first) (turned_inputs netlist start input) none-once inputs-once asked.steps some
+  pub inputs-steps : changed_inputs netlist start input ≢ [] → 1 ≤ first.spare_steps
+  inputs-steps some = room-steps (network_of netlist) input start first first asked.empty (spends-none first) (changed_inputs netlist start input) none-once inputs-once asked.steps some
 
   pub underway-begin :
       (scratch : Scratched) (now : Recorded) → AreByKey ranks scratch.sorted → scratch.marked ≡ [] →
-      scratch.state ≡ flipped (turned_inputs netlist start input) start → now.steps ≡ after first.steps (turned_inputs netlist start input) →
+      scratch.state ≡ flipped (changed_inputs netlist start input) start → now.steps ≡ after first.steps (changed_inputs netlist start input) →
       Spends first now → IsUnderway netlist input start a ranks 0 scratch first now
   underway-begin scratch now sorted marked state steps spent =
       let turns = asked-turns netlist input start a ranks first asked in
-      let flips = turned_inputs netlist start input in
+      let flips = changed_inputs netlist start input in
       let begun : now.steps ≡ after [] flips = steps ∙ ap (λ (list : List (List ℕ)). after list flips) asked.empty in
       record {
         asked = asked;
         sorted = sorted;
         marked = marked;
         state = state ∙ (sym (end_of-after start [] flips) ∙ ap (end_of start) (sym begun));
-        turned =
-            subst (HasTurned (network_of netlist) input start ranks (Among 0 scratch.sorted) (Among 0 scratch.sorted)) (sym begun)
-            (turned-same (network_of netlist) input start ranks (wired-network_of netlist asked.circuit) turns (λ i. ⊥) (λ i. ⊥) (Among 0 scratch.sorted) (after [] flips)
-            (inputs-turned netlist asked.circuit input start ranks (asked-ranks netlist input start a ranks first asked) turns)
+        had_turns =
+            subst (HadTurns (network_of netlist) input start ranks (Among 0 scratch.sorted) (Among 0 scratch.sorted)) (sym begun)
+            (changed-same (network_of netlist) input start ranks (wired-network_of netlist asked.circuit) turns (λ i. ⊥) (λ i. ⊥) (Among 0 scratch.sorted) (after [] flips)
+            (inputs-changed netlist asked.circuit input start ranks (asked-ranks netlist input start a ranks first asked) turns)
             (λ i kind from pins e some none. absurd none)
             (λ i kind from pins e some none. absurd none)
             (λ i kind from pins e some among. both_ways false refl among));
@@ -74,20 +75,20 @@ module _ (netlist : Netlist) (input start : List Bool) (a : List Tri) (ranks : L
   turns = asked-turns netlist input start a ranks first underway.asked
 
   pub length-state : length scratch.state ≡ length (network_of netlist)
-  length-state = ap (length {A = Bool}) underway.state ∙ (length-end_of start now.steps ∙ underway.asked.long)
+  length-state = ap (length {A = Bool}) underway.state ∙ (length-end_of start now.steps ∙ underway.asked.begins.long)
 
-  module _ (inside : place < length scratch.sorted) (is_gate : IsGateNumber netlist (get_or scratch.sorted place 0)) (flips : List ℕ) (wires : AreTurnedWires netlist start ranks (get_or scratch.sorted place 0) flips) where
+  module _ (inside : place < length scratch.sorted) (is_gate : IsGateNumber netlist (get_or scratch.sorted place 0)) (flips : List ℕ) (wires : AreChangedWires netlist start ranks (get_or scratch.sorted place 0) flips) where
     wires-once : IsOnce (network_of netlist) input start (after now.steps flips)
-    wires-once = (wires-turned netlist underway.asked.circuit input start ranks long_ranks turns a place scratch first now underway inside is_gate flips wires).once
+    wires-once = (wires-changed netlist underway.asked.circuit input start ranks long_ranks turns a place scratch first now underway inside is_gate flips wires).once
 
     gate-once : IsOnce (network_of netlist) input start (after (after now.steps flips) (get_or scratch.sorted place 0 ∷ []))
-    gate-once = (gate-turned netlist underway.asked.circuit input start ranks long_ranks turns a place scratch first now underway inside is_gate flips wires).once
+    gate-once = (gate-changed netlist underway.asked.circuit input start ranks long_ranks turns a place scratch first now underway inside is_gate flips wires).once
 
     pub wires-flips : length flips ≤ now.spare_flips
-    wires-flips = room-flips (network_of netlist) input start first now underway.asked.empty underway.spent flips underway.turned.once wires-once underway.asked.flips
+    wires-flips = room-flips (network_of netlist) input start first now underway.asked.empty underway.spent flips underway.had_turns.once wires-once underway.asked.flips
 
     pub wires-steps : flips ≢ [] → 1 ≤ now.spare_steps
-    wires-steps some = room-steps (network_of netlist) input start first now underway.asked.empty underway.spent flips underway.turned.once wires-once underway.asked.steps some
+    wires-steps some = room-steps (network_of netlist) input start first now underway.asked.empty underway.spent flips underway.had_turns.once wires-once underway.asked.steps some
 
     module _ (then : Recorded) (steps : then.steps ≡ after now.steps flips) (spent : Spends first then) where
       then-once : IsOnce (network_of netlist) input start then.steps
@@ -108,7 +109,7 @@ module _ (netlist : Netlist) (input start : List Bool) (a : List Tri) (ranks : L
     each i some = among-all ranks scratch.sorted place i underway.sorted end some
 
     pub run-sparing : IsSparingRun (network_of netlist) input start a ranks now.steps
-    run-sparing = asked-sparing netlist input start a ranks first underway.asked (Among place scratch.sorted) now.steps underway.turned each
+    run-sparing = asked-sparing netlist input start a ranks first underway.asked (Among place scratch.sorted) now.steps underway.had_turns each
 
     known-test : (value : Tri) → is_unknown value ≡ true → value ≡ Unknown
     known-test Zero e = cc
@@ -136,7 +137,7 @@ module _ (netlist : Netlist) (input start : List Bool) (a : List Tri) (ranks : L
         let names = length netlist.names in
         let count = length (network_of netlist) - names in
         let variables = length-network_of netlist underway.asked.circuit in
-        spread-rest (network_of netlist) input start ranks (Among place scratch.sorted) now.steps (unchanged_wires netlist a start scratch.state) (wired-network_of netlist underway.asked.circuit) turns underway.turned each
+        spread-rest (network_of netlist) input start ranks (Among place scratch.sorted) now.steps (unchanged_wires netlist a start scratch.state) (wired-network_of netlist underway.asked.circuit) turns underway.had_turns each
         (picked-once rest-test names count)
         (λ i there.
         let is = picked-is rest-test names count i there in
@@ -148,24 +149,24 @@ module _ (netlist : Netlist) (input start : List Bool) (a : List Tri) (ranks : L
           _,
           driver_at-wire netlist i underway.asked.circuit (omega arith) (omega (arith, here, few, variables)),
           some,
-          false_from_ne_true _ (λ listed. not-itself (bit_at start i) (sym (bit-changed (network_of netlist) input start now.steps i underway.turned.once (omega (arith, turns.inside i some, underway.asked.long)) listed) ∙ (sym (ap (λ (s : List Bool). bit_at s i) underway.state) ∙ sym same))),
+          false_from_ne_true _ (λ listed. not-itself (bit_at start i) (sym (bit-changed (network_of netlist) input start now.steps i underway.had_turns.once (omega (arith, turns.inside i some, underway.asked.begins.long)) listed) ∙ (sym (ap (λ (s : List Bool). bit_at s i) underway.state) ∙ sym same))),
         ))
         (λ i source drives some out.
         let above : names ≤ i = (IsWireFrom-driver_at netlist i source underway.asked.circuit drives).above in
         let inside : i < length (network_of netlist) = turns.inside i some in
         let here : names + (i - names) ≡ i = omega (arith, above) in
         let same : bit_at start i ≡ bit_at scratch.state i =
-        sym (ap (λ (s : List Bool). bit_at s i) underway.state ∙ bit-unchanged (network_of netlist) input start now.steps i underway.turned.once (omega (arith, inside, underway.asked.long)) out) in
+        sym (ap (λ (s : List Bool). bit_at s i) underway.state ∙ bit-unchanged (network_of netlist) input start now.steps i underway.had_turns.once (omega (arith, inside, underway.asked.begins.long)) out) in
         subst (λ (n : ℕ). is_listed (unchanged_wires netlist a start scratch.state) n ≡ true) here
         (is-picked rest-test names count (i - names) (omega (arith, above, inside))
         (subst (λ (n : ℕ). rest-test n ≡ true) (sym here)
         (and_from (is_unknown (value_at a i)) (not (differs (bit_at start i) (bit_at scratch.state i))) (ap is_unknown (asked-unknown netlist input start a ranks first underway.asked i some)) (not_from_false _ (differs-same _ _ same))))))
 
     pub rest-flips : length (unchanged_wires netlist a start scratch.state) ≤ now.spare_flips
-    rest-flips = room-flips (network_of netlist) input start first now underway.asked.empty underway.spent (unchanged_wires netlist a start scratch.state) underway.turned.once rest.once underway.asked.flips
+    rest-flips = room-flips (network_of netlist) input start first now underway.asked.empty underway.spent (unchanged_wires netlist a start scratch.state) underway.had_turns.once rest.once underway.asked.flips
 
     pub rest-steps : unchanged_wires netlist a start scratch.state ≢ [] → 1 ≤ now.spare_steps
-    rest-steps some = room-steps (network_of netlist) input start first now underway.asked.empty underway.spent (unchanged_wires netlist a start scratch.state) underway.turned.once rest.once underway.asked.steps some
+    rest-steps some = room-steps (network_of netlist) input start first now underway.asked.empty underway.spent (unchanged_wires netlist a start scratch.state) underway.had_turns.once rest.once underway.asked.steps some
 
     pub run-whole : (steps : List (List ℕ)) → steps ≡ after now.steps (unchanged_wires netlist a start scratch.state) → IsSpreadRun (network_of netlist) input start a steps
     run-whole steps same = subst (IsSpreadRun (network_of netlist) input start a) (sym same) (asked-spread netlist input start a ranks first underway.asked (after now.steps (unchanged_wires netlist a start scratch.state)) rest)

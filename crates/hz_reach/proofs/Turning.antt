@@ -16,7 +16,7 @@ use Rattle.hz_reach.specs.Room.{after}
 use Rattle.hz_reach.proofs.Listed.{listed-cases, listed-left, listed-right, unlisted-append, repeats_none-append, at-end_of, AreApart}
 use Rattle.hz_reach.proofs.Parts.{driver-inside, same-part}
 use Rattle.hz_reach.proofs.PickedLemmas.{only-one, is-one}
-use Rattle.hz_reach.proofs.Turns.{IsWired, IsTurnedBy, IsTurnedAfter, AreTurns}
+use Rattle.hz_reach.proofs.Turns.{IsWired, IsChangedBy, IsChangedAfter, AreTurns}
 
 -- the variables that a run changes
 abbrev pub changed : List (List ℕ) → List ℕ
@@ -68,7 +68,7 @@ not-itself false e = cc
 not-itself true e = cc
 
 -- What holds while the run is made. The gates in `Done` have had their turn; the wires of those in `Begun` had theirs.
-pub record HasTurned (net : List Driver) (input start : List Bool) (ranks : List ℕ) (Begun Done : ℕ → Type 0) (steps : List (List ℕ)) : Type 0 where
+pub record HadTurns (net : List Driver) (input start : List Bool) (ranks : List ℕ) (Begun Done : ℕ → Type 0) (steps : List (List ℕ)) : Type 0 where
   pub once : IsOnce net input start steps
   pub inputs : (i place : ℕ) → driver_at net i ≡ External place → key_at ranks i ≢ 0 → is_listed (changed steps) i ≡ true
   pub gates : (i : ℕ) (kind : Kind) (first pins : ℕ) → driver_at net i ≡ Function kind first pins → key_at ranks i ≢ 0 → Done i → is_listed (changed steps) i ≡ true
@@ -81,7 +81,7 @@ abbrev pub Also : (ℕ → Type 0) → ℕ → ℕ → Type 0
 Also Done gate i = Done i ⊎ (i ≡ gate)
 
 -- a node with a rank that has changed, if it is a gate because its turn came
-pub node-changed : (net : List Driver) (input start : List Bool) (ranks : List ℕ) (Begun Done : ℕ → Type 0) (steps : List (List ℕ)) (node : ℕ) → HasTurned net input start ranks Begun Done steps → IsNode net node → key_at ranks node ≢ 0 → Done node → is_listed (changed steps) node ≡ true
+pub node-changed : (net : List Driver) (input start : List Bool) (ranks : List ℕ) (Begun Done : ℕ → Type 0) (steps : List (List ℕ)) (node : ℕ) → HadTurns net input start ranks Begun Done steps → IsNode net node → key_at ranks node ≢ 0 → Done node → is_listed (changed steps) node ≡ true
 node-changed net input start ranks Begun Done steps node so_far is_node ranked done = by_driver (driver_at net node) refl
   where
     by_driver : (driver : Driver) → driver_at net node ≡ driver → is_listed (changed steps) node ≡ true
@@ -97,7 +97,7 @@ module _ (net : List Driver) (input start : List Bool) (ranks : List ℕ) (wired
   -- a wire that has a rank and has not changed is ready once its source has changed
   pub wire-ready : (steps : List (List ℕ)) (wire source : ℕ) → IsOnce net input start steps → driver_at net wire ≡ Source source → key_at ranks wire ≢ 0 → is_listed (changed steps) wire ≡ false → is_listed (changed steps) source ≡ true → IsReady net input start steps wire
   wire-ready steps wire source once drives ranked fresh there =
-      let turn : IsTurnedAfter start ranks wire source = turns.wires wire source drives ranked in
+      let turn : IsChangedAfter start ranks wire source = turns.wires wire source drives ranked in
       let now : bit_at (end_of start steps) wire ≡ bit_at start wire = bit-unchanged net input start steps wire once (within wire ranked) fresh in
       let then : bit_at (end_of start steps) source ≡ not (bit_at start source) = bit-changed net input start steps source once (within source turn.some) there in
       let excited : excitation net input (end_of start steps) wire ≡ bit_at (end_of start steps) source = ap (driven input (end_of start steps)) drives in
@@ -108,8 +108,8 @@ module _ (net : List Driver) (input start : List Bool) (ranks : List ℕ) (wired
       }
 
   -- The first step: the inputs that turn.
-  pub turned-inputs : (flips : List ℕ) → RepeatsNone flips → ((i : ℕ) → is_listed flips i ≡ true → (place : ℕ) × (driver_at net i ≡ External place) × (key_at ranks i ≢ 0)) → ((i place : ℕ) → driver_at net i ≡ External place → key_at ranks i ≢ 0 → is_listed flips i ≡ true) → HasTurned net input start ranks (λ i. ⊥) (λ i. ⊥) (after [] flips)
-  turned-inputs flips distinct only all =
+  pub changed-inputs : (flips : List ℕ) → RepeatsNone flips → ((i : ℕ) → is_listed flips i ≡ true → (place : ℕ) × (driver_at net i ≡ External place) × (key_at ranks i ≢ 0)) → ((i place : ℕ) → driver_at net i ≡ External place → key_at ranks i ≢ 0 → is_listed flips i ≡ true) → HadTurns net input start ranks (λ i. ⊥) (λ i. ⊥) (after [] flips)
+  changed-inputs flips distinct only all =
       let ready : (i : ℕ) → is_listed flips i ≡ true → IsReady net input start [] i =
       λ i there. let is = only i there in record {
         inside = turns.inside i is.2;
@@ -129,8 +129,8 @@ module _ (net : List Driver) (input start : List Bool) (ranks : List ℕ) (wired
       }
 
   -- Fewer or more variables may be named, if the same gates are.
-  pub turned-same : (Begun Done Other : ℕ → Type 0) (steps : List (List ℕ)) → HasTurned net input start ranks Begun Done steps → ((i : ℕ) (kind : Kind) (first pins : ℕ) → driver_at net i ≡ Function kind first pins → key_at ranks i ≢ 0 → Begun i → Other i) → ((i : ℕ) (kind : Kind) (first pins : ℕ) → driver_at net i ≡ Function kind first pins → key_at ranks i ≢ 0 → Done i → Other i) → ((i : ℕ) (kind : Kind) (first pins : ℕ) → driver_at net i ≡ Function kind first pins → key_at ranks i ≢ 0 → Other i → Done i) → HasTurned net input start ranks Other Other steps
-  turned-same Begun Done Other steps so_far begun there back = record {
+  pub changed-same : (Begun Done Other : ℕ → Type 0) (steps : List (List ℕ)) → HadTurns net input start ranks Begun Done steps → ((i : ℕ) (kind : Kind) (first pins : ℕ) → driver_at net i ≡ Function kind first pins → key_at ranks i ≢ 0 → Begun i → Other i) → ((i : ℕ) (kind : Kind) (first pins : ℕ) → driver_at net i ≡ Function kind first pins → key_at ranks i ≢ 0 → Done i → Other i) → ((i : ℕ) (kind : Kind) (first pins : ℕ) → driver_at net i ≡ Function kind first pins → key_at ranks i ≢ 0 → Other i → Done i) → HadTurns net input start ranks Other Other steps
+  changed-same Begun Done Other steps so_far begun there back = record {
     once = so_far.once;
     inputs = so_far.inputs;
     gates = λ i kind first pins e ranked other. so_far.gates i kind first pins e ranked (back i kind first pins e ranked other);
@@ -145,7 +145,7 @@ module _ (net : List Driver) (input start : List Bool) (ranks : List ℕ) (wired
   }
 
   -- A gate's turn begins: those of its wires change that differ from a pattern which turns it.
-  module _ (Done : ℕ → Type 0) (steps : List (List ℕ)) (so_far : HasTurned net input start ranks Done Done steps) (gate : ℕ) (kind : Kind) (first pins : ℕ) (driven_by : driver_at net gate ≡ Function kind first pins) (ranked : key_at ranks gate ≢ 0) (waits : Done gate → ⊥) (earlier : (i : ℕ) → key_at ranks i ≢ 0 → key_at ranks i < key_at ranks gate → Done i) (pattern : List Bool) (turned_by : IsTurnedBy start ranks gate kind first pins pattern) (flips : List ℕ) (distinct : RepeatsNone flips) (only : (i : ℕ) → is_listed flips i ≡ true → (pin : ℕ) × (pin < pins) × (i ≡ first + pin) × (bit_at pattern pin ≢ bit_at start (first + pin))) (all : (pin : ℕ) → pin < pins → bit_at pattern pin ≢ bit_at start (first + pin) → is_listed flips (first + pin) ≡ true) where
+  module _ (Done : ℕ → Type 0) (steps : List (List ℕ)) (so_far : HadTurns net input start ranks Done Done steps) (gate : ℕ) (kind : Kind) (first pins : ℕ) (driven_by : driver_at net gate ≡ Function kind first pins) (ranked : key_at ranks gate ≢ 0) (waits : Done gate → ⊥) (earlier : (i : ℕ) → key_at ranks i ≢ 0 → key_at ranks i < key_at ranks gate → Done i) (pattern : List Bool) (changed_by : IsChangedBy start ranks gate kind first pins pattern) (flips : List ℕ) (distinct : RepeatsNone flips) (only : (i : ℕ) → is_listed flips i ≡ true → (pin : ℕ) × (pin < pins) × (i ≡ first + pin) × (bit_at pattern pin ≢ bit_at start (first + pin))) (all : (pin : ℕ) → pin < pins → bit_at pattern pin ≢ bit_at start (first + pin) → is_listed flips (first + pin) ≡ true) where
     is_pin : (pin : ℕ) → pin < pins → IsWireInto net gate (first + pin)
     is_pin pin few = record { kind = kind; first = first; pins = pins; driven = driven_by; above = omega arith; below = omega (arith, few) }
 
@@ -159,7 +159,7 @@ module _ (net : List Driver) (input start : List Bool) (ranks : List ℕ) (wired
     pin-ranked : (i : ℕ) → is_listed flips i ≡ true → (key_at ranks i ≢ 0) × (key_at ranks i < key_at ranks gate)
     pin-ranked i there =
         let is = only i there in
-        subst (λ (n : ℕ). (key_at ranks n ≢ 0) × (key_at ranks n < key_at ranks gate)) (sym is.2) (turned_by.free is.0 is.1 is.3)
+        subst (λ (n : ℕ). (key_at ranks n ≢ 0) × (key_at ranks n < key_at ranks gate)) (sym is.2) (changed_by.free is.0 is.1 is.3)
 
     pin-into : (i : ℕ) → is_listed flips i ≡ true → IsWireInto net gate i
     pin-into i there = let is = only i there in subst (IsWireInto net gate) (sym is.2) (is_pin is.0 is.1)
@@ -169,7 +169,7 @@ module _ (net : List Driver) (input start : List Bool) (ranks : List ℕ) (wired
         let is = only i there in
         let from = wired.source gate i (pin-into i there) in
         let rank = pin-ranked i there in
-        let turn : IsTurnedAfter start ranks i from.0 = turns.wires i from.0 from.1 rank.0 in
+        let turn : IsChangedAfter start ranks i from.0 = turns.wires i from.0 from.1 rank.0 in
         let less : key_at ranks from.0 < key_at ranks i = turn.less in
         let lower : key_at ranks i < key_at ranks gate = rank.1 in
         wire-ready steps i from.0 so_far.once from.1 rank.0
@@ -189,8 +189,8 @@ module _ (net : List Driver) (input start : List Bool) (ranks : List ℕ) (wired
     gate-is_node : IsNode net gate
     gate-is_node source e = cc
 
-    pub turned-wires : HasTurned net input start ranks (Also Done gate) Done (after steps flips)
-    turned-wires = record {
+    pub changed-wires : HadTurns net input start ranks (Also Done gate) Done (after steps flips)
+    changed-wires = record {
       once = once-after net input start steps flips so_far.once distinct pin-ready;
       inputs = λ i place e some. list-left i (so_far.inputs i place e some);
       gates = λ i kind first pins e some done. list-left i (so_far.gates i kind first pins e some done);
@@ -236,12 +236,12 @@ module _ (net : List Driver) (input start : List Bool) (ranks : List ℕ) (wired
           | inl there ↦ (
               let is = only (first + pin) there in
               let same : pin ≡ is.0 = (let place : first + pin ≡ first + is.0 = is.2 in omega arith) in
-              bit-changed net input start (after steps flips) (first + pin) turned-wires.once inside
+              bit-changed net input start (after steps flips) (first + pin) changed-wires.once inside
               (ap (λ (list : List ℕ). is_listed list (first + pin)) (changed-after steps flips) ∙ listed-right (changed steps) flips (first + pin) there)
               ∙ other-bit (bit_at pattern pin) (bit_at start (first + pin)) (subst (λ (n : ℕ). bit_at pattern n ≢ bit_at start (first + n)) (sym same) is.3)
               )
           | inr out ↦ (
-              bit-unchanged net input start (after steps flips) (first + pin) turned-wires.once inside
+              bit-unchanged net input start (after steps flips) (first + pin) changed-wires.once inside
               (ap (λ (list : List ℕ). is_listed list (first + pin)) (changed-after steps flips) ∙ unlisted-append (changed steps) flips (first + pin) (pin-fresh pin few) out)
               ∙ sym (same-bit (bit_at pattern pin) (bit_at start (first + pin)) (λ differ. both_ways _ out (all pin few differ)))
               )
@@ -249,13 +249,13 @@ module _ (net : List Driver) (input start : List Bool) (ranks : List ℕ) (wired
 
     -- so all of them are the pattern
     pins-are : slice_range (end_of start (after steps flips)) first (first + pins) ≡ pattern
-    pins-are = same-part (end_of start (after steps flips)) pattern first pins turned_by.long (λ pin few. omega (arith, pin-inside pin few, length-end_of start (after steps flips))) pin-bit
+    pins-are = same-part (end_of start (after steps flips)) pattern first pins changed_by.long (λ pin few. omega (arith, pin-inside pin few, length-end_of start (after steps flips))) pin-bit
 
     gate-ready : IsReady net input start (after steps flips) gate
     gate-ready =
-        let now : bit_at (end_of start (after steps flips)) gate ≡ bit_at start gate = bit-unchanged net input start (after steps flips) gate turned-wires.once (within gate ranked) gate-fresh in
+        let now : bit_at (end_of start (after steps flips)) gate ≡ bit_at start gate = bit-unchanged net input start (after steps flips) gate changed-wires.once (within gate ranked) gate-fresh in
         let excited : excitation net input (end_of start (after steps flips)) gate ≡ not (bit_at start gate) =
-        ap (driven input (end_of start (after steps flips))) driven_by ∙ (ap (gate_value kind) pins-are ∙ turned_by.value) in
+        ap (driven input (end_of start (after steps flips))) driven_by ∙ (ap (gate_value kind) pins-are ∙ changed_by.value) in
         record {
           inside = turns.inside gate ranked;
           fresh = gate-fresh;
@@ -263,8 +263,8 @@ module _ (net : List Driver) (input start : List Bool) (ranks : List ℕ) (wired
         }
 
     -- The gate's turn ends: it changes alone.
-    pub turned-gate : HasTurned net input start ranks (Also Done gate) (Also Done gate) (after (after steps flips) (gate ∷ []))
-    turned-gate =
+    pub changed-gate : HadTurns net input start ranks (Also Done gate) (Also Done gate) (after (after steps flips) (gate ∷ []))
+    changed-gate =
         let before = after steps flips in
         let next = after before (gate ∷ []) in
         let same : changed next ≡ changed before ++ gate ∷ [] = changed-after before (gate ∷ []) in
@@ -278,22 +278,22 @@ module _ (net : List Driver) (input start : List Bool) (ranks : List ℕ) (wired
           | inr new ↦ inr (is-one gate i new)
         ] in
         record {
-          once = once-after net input start before (gate ∷ []) turned-wires.once (refl, tt) (λ i there. subst (IsReady net input start before) (sym (is-one gate i there)) gate-ready);
-          inputs = λ i place e some. kept i (turned-wires.inputs i place e some);
+          once = once-after net input start before (gate ∷ []) changed-wires.once (refl, tt) (λ i there. subst (IsReady net input start before) (sym (is-one gate i there)) gate-ready);
+          inputs = λ i place e some. kept i (changed-wires.inputs i place e some);
           gates = λ i kind first pins e some done. elim done [
-            | inl old ↦ kept i (turned-wires.gates i kind first pins e some old)
+            | inl old ↦ kept i (changed-wires.gates i kind first pins e some old)
             | inr new ↦ subst (λ (n : ℕ). is_listed (changed next) n ≡ true) (sym new) this
           ];
           ranked = λ i there. elim (either i there) [
-            | inl old ↦ turned-wires.ranked i old
+            | inl old ↦ changed-wires.ranked i old
             | inr new ↦ subst (λ (n : ℕ). key_at ranks n ≢ 0) (sym new) ranked
           ];
           done = λ i kind first pins e there. elim (either i there) [
-            | inl old ↦ inl (turned-wires.done i kind first pins e old)
+            | inl old ↦ inl (changed-wires.done i kind first pins e old)
             | inr new ↦ inr new
           ];
           wires = λ wire source e there. elim (either wire there) [
-            | inl old ↦ turned-wires.wires wire source e old
+            | inl old ↦ changed-wires.wires wire source e old
             | inr new ↦ absurd (gate-is_node source (subst (λ (n : ℕ). driver_at net n ≡ Source source) new e))
           ];
         }

@@ -17,13 +17,13 @@ pub record IsWired (net : List Driver) : Type 0 where
 
 -- bits for a gate's pins that give it the complement of its bit at the start, where a pin differs from the start only if
 -- its wire has a rank below the gate's
-pub record IsTurnedBy (start : List Bool) (ranks : List ℕ) (gate : ℕ) (kind : Kind) (first pins : ℕ) (pattern : List Bool) : Type 0 where
+pub record IsChangedBy (start : List Bool) (ranks : List ℕ) (gate : ℕ) (kind : Kind) (first pins : ℕ) (pattern : List Bool) : Type 0 where
   pub long : length pattern ≡ pins
   pub value : gate_value kind pattern ≡ not (bit_at start gate)
   pub free : (pin : ℕ) → pin < pins → bit_at pattern pin ≢ bit_at start (first + pin) → (key_at ranks (first + pin) ≢ 0) × (key_at ranks (first + pin) < key_at ranks gate)
 
 -- what the ranks say of a wire: its source has a lesser rank, and the same bit at the start
-pub record IsTurnedAfter (start : List Bool) (ranks : List ℕ) (wire source : ℕ) : Type 0 where
+pub record IsChangedAfter (start : List Bool) (ranks : List ℕ) (wire source : ℕ) : Type 0 where
   pub some : key_at ranks source ≢ 0
   pub less : key_at ranks source < key_at ranks wire
   pub same : bit_at start wire ≡ bit_at start source
@@ -33,7 +33,7 @@ pub record AreTurns (net : List Driver) (input start : List Bool) (ranks : List 
   pub inside : (i : ℕ) → key_at ranks i ≢ 0 → i < length net
   pub inputs : (i place : ℕ) → driver_at net i ≡ External place → key_at ranks i ≢ 0 → bit_at start i ≢ bit_at input place
   pub ranked : (i place : ℕ) → i < length net → driver_at net i ≡ External place → bit_at start i ≢ bit_at input place → key_at ranks i ≢ 0
-  pub wires : (i source : ℕ) → driver_at net i ≡ Source source → key_at ranks i ≢ 0 → IsTurnedAfter start ranks i source
+  pub wires : (i source : ℕ) → driver_at net i ≡ Source source → key_at ranks i ≢ 0 → IsChangedAfter start ranks i source
   pub gates :
       (i : ℕ) (kind : Kind) (first pins : ℕ) → driver_at net i ≡ Function kind first pins → key_at ranks i ≢ 0 →
-      (pattern : List Bool) × IsTurnedBy start ranks i kind first pins pattern
+      (pattern : List Bool) × IsChangedBy start ranks i kind first pins pattern

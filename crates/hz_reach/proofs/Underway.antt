@@ -16,12 +16,12 @@ use Rattle.hz_reach.specs.Order.{key_at, AreByKey}
 use Rattle.hz_reach.specs.Picked.{picked}
 use Rattle.hz_reach.specs.Room.{after, Spends}
 use Rattle.hz_reach.specs.Scratched.{Scratched}
-use Rattle.hz_reach.specs.Turn.{turned_inputs, free_pins, AreTurnedWires}
+use Rattle.hz_reach.specs.Turn.{changed_inputs, free_pins, AreChangedWires}
 use Rattle.hz_reach.proofs.PickedLemmas.{picked-is, is-picked, picked-once, differs-true, true-differs}
 use Rattle.hz_reach.proofs.Places.{listed-at}
-use Rattle.hz_reach.proofs.Turns.{IsWired, IsTurnedBy, AreTurns}
+use Rattle.hz_reach.proofs.Turns.{IsWired, IsChangedBy, AreTurns}
 use Rattle.hz_reach.proofs.Wired.{is_gate_of, wired-network_of}
-use Rattle.hz_reach.proofs.Turning.{HasTurned, Also, turned-inputs, turned-same, turned-wires, turned-gate}
+use Rattle.hz_reach.proofs.Turning.{HadTurns, Also, changed-inputs, changed-same, changed-wires, changed-gate}
 use Rattle.hz_reach.proofs.Asked.{IsAsked}
 use Rattle.hz_reach.proofs.Order.{Among, not-among, among-earlier, among-next, next-before, next-here}
 use Rattle.hz_reach.proofs.Rooms.{end_of-after, spends-more}
@@ -32,7 +32,7 @@ pub record IsUnderway (netlist : Netlist) (input start : List Bool) (a : List Tr
   pub sorted : AreByKey ranks scratch.sorted
   pub marked : scratch.marked ≡ []
   pub state : scratch.state ≡ end_of start now.steps
-  pub turned : HasTurned (network_of netlist) input start ranks (Among place scratch.sorted) (Among place scratch.sorted) now.steps
+  pub had_turns : HadTurns (network_of netlist) input start ranks (Among place scratch.sorted) (Among place scratch.sorted) now.steps
   pub spent : Spends first now
 
 module _ (netlist : Netlist) (circuit : IsCircuit netlist) (input start : List Bool) (ranks : List ℕ) (long : length ranks ≡ length (network_of netlist)) (turns : AreTurns (network_of netlist) input start ranks) where
@@ -40,10 +40,10 @@ module _ (netlist : Netlist) (circuit : IsCircuit netlist) (input start : List B
   wired = wired-network_of netlist circuit
 
   -- The inputs that turn are those that differ from the new input.
-  pub inputs-turned : HasTurned (network_of netlist) input start ranks (λ i. ⊥) (λ i. ⊥) (after [] (turned_inputs netlist start input))
-  inputs-turned =
+  pub inputs-changed : HadTurns (network_of netlist) input start ranks (λ i. ⊥) (λ i. ⊥) (after [] (changed_inputs netlist start input))
+  inputs-changed =
       let test : ℕ → Bool = λ i. differs (bit_at start i) (bit_at input i) in
-      turned-inputs (network_of netlist) input start ranks wired turns (turned_inputs netlist start input) (picked-once test 0 netlist.inputs)
+      changed-inputs (network_of netlist) input start ranks wired turns (changed_inputs netlist start input) (picked-once test 0 netlist.inputs)
       (λ i there.
       let is = picked-is test 0 netlist.inputs i there in
       let same : i ≡ is.place = (let here : i ≡ 0 + is.place = is.is in omega arith) in
@@ -54,7 +54,7 @@ module _ (netlist : Netlist) (circuit : IsCircuit netlist) (input start : List B
       let few : i < netlist.inputs = input-below i place (turns.inside i some) e in
       let drives = driver_at-input netlist i circuit few in
       let here : 0 + i ≡ i = omega arith in
-      subst (λ (n : ℕ). is_listed (turned_inputs netlist start input) n ≡ true) here
+      subst (λ (n : ℕ). is_listed (changed_inputs netlist start input) n ≡ true) here
       (is-picked test 0 netlist.inputs i few (subst (λ (n : ℕ). test n ≡ true) (sym here) (true-differs (bit_at start i) (bit_at input i) (turns.inputs i i drives some)))))
     where
       input-below : (i place : ℕ) → i < length (network_of netlist) → driver_at (network_of netlist) i ≡ External place → i < netlist.inputs
@@ -83,7 +83,7 @@ module _ (netlist : Netlist) (circuit : IsCircuit netlist) (input start : List B
   same-bit true false h = absurd (h (λ e. cc))
   same-bit true true h = refl
 
-  -- a gate that has a rank can be turned by its free pins
+  -- a gate that has a rank can be changed by its free pins
   pub turn-possible : (gate : ℕ) → IsGateNumber netlist gate → key_at ranks gate ≢ 0 → (pattern : List Bool) × IsCandidate (gate_at netlist gate).kind (at_wires netlist gate start) (free_pins (key_at ranks gate) (at_wires netlist gate ranks)) (not (bit_at start gate)) pattern
   unfolding is_free
   turn-possible gate is_gate some =
@@ -109,7 +109,7 @@ module _ (netlist : Netlist) (circuit : IsCircuit netlist) (input start : List B
       )
 
   -- and a candidate turns it
-  candidate-turns : (gate : ℕ) (pattern : List Bool) → IsGateNumber netlist gate → IsCandidate (gate_at netlist gate).kind (at_wires netlist gate start) (free_pins (key_at ranks gate) (at_wires netlist gate ranks)) (not (bit_at start gate)) pattern → IsTurnedBy start ranks gate (gate_at netlist gate).kind (first_wire netlist gate) (pins_of (gate_at netlist gate)) pattern
+  candidate-turns : (gate : ℕ) (pattern : List Bool) → IsGateNumber netlist gate → IsCandidate (gate_at netlist gate).kind (at_wires netlist gate start) (free_pins (key_at ranks gate) (at_wires netlist gate ranks)) (not (bit_at start gate)) pattern → IsChangedBy start ranks gate (gate_at netlist gate).kind (first_wire netlist gate) (pins_of (gate_at netlist gate)) pattern
   unfolding is_free
   candidate-turns gate pattern is_gate candidate =
       let first = first_wire netlist gate in
@@ -142,7 +142,7 @@ module _ (netlist : Netlist) (circuit : IsCircuit netlist) (input start : List B
           sorted = underway.sorted;
           marked = underway.marked;
           state = underway.state;
-          turned = turned-same (network_of netlist) input start ranks wired turns (Among place scratch.sorted) (Among place scratch.sorted) (Among (place + 1) scratch.sorted) now.steps underway.turned
+          had_turns = changed-same (network_of netlist) input start ranks wired turns (Among place scratch.sorted) (Among place scratch.sorted) (Among (place + 1) scratch.sorted) now.steps underway.had_turns
               (λ i kind from pins e some among. next-before scratch.sorted place i inside among)
               (λ i kind from pins e some among. next-before scratch.sorted place i inside among)
               (λ i kind from pins e some among. elim (among-next scratch.sorted place i inside among) [
@@ -152,9 +152,9 @@ module _ (netlist : Netlist) (circuit : IsCircuit netlist) (input start : List B
           spent = underway.spent;
         }
 
-    module _ (is_gate : IsGateNumber netlist (get_or scratch.sorted place 0)) (flips : List ℕ) (wires : AreTurnedWires netlist start ranks (get_or scratch.sorted place 0) flips) where
-      turned_by : IsTurnedBy start ranks (get_or scratch.sorted place 0) (gate_at netlist (get_or scratch.sorted place 0)).kind (first_wire netlist (get_or scratch.sorted place 0)) (pins_of (gate_at netlist (get_or scratch.sorted place 0))) wires.pattern
-      turned_by = candidate-turns (get_or scratch.sorted place 0) wires.pattern is_gate wires.canonical.candidate
+    module _ (is_gate : IsGateNumber netlist (get_or scratch.sorted place 0)) (flips : List ℕ) (wires : AreChangedWires netlist start ranks (get_or scratch.sorted place 0) flips) where
+      changed_by : IsChangedBy start ranks (get_or scratch.sorted place 0) (gate_at netlist (get_or scratch.sorted place 0)).kind (first_wire netlist (get_or scratch.sorted place 0)) (pins_of (gate_at netlist (get_or scratch.sorted place 0))) wires.pattern
+      changed_by = candidate-turns (get_or scratch.sorted place 0) wires.pattern is_gate wires.canonical.candidate
 
       test : ℕ → Bool
       test i = differs (bit_at (at_wires netlist (get_or scratch.sorted place 0) start) (i - first_wire netlist (get_or scratch.sorted place 0))) (bit_at wires.pattern (i - first_wire netlist (get_or scratch.sorted place 0)))
@@ -192,20 +192,20 @@ module _ (netlist : Netlist) (circuit : IsCircuit netlist) (input start : List B
           (true-differs _ _ (λ same. differ (sym same ∙ get_or-at_wires netlist (get_or scratch.sorted place 0) start pin false few))))
 
       -- after its wires have changed
-      pub wires-turned : HasTurned (network_of netlist) input start ranks (Also (Among place scratch.sorted) (get_or scratch.sorted place 0)) (Among place scratch.sorted) (after now.steps flips)
-      wires-turned =
-          turned-wires (network_of netlist) input start ranks wired turns (Among place scratch.sorted) now.steps underway.turned (get_or scratch.sorted place 0) (gate_at netlist (get_or scratch.sorted place 0)).kind (first_wire netlist (get_or scratch.sorted place 0)) (pins_of (gate_at netlist (get_or scratch.sorted place 0))) (driver_at-gate netlist (get_or scratch.sorted place 0) circuit is_gate) place-ranked
+      pub wires-changed : HadTurns (network_of netlist) input start ranks (Also (Among place scratch.sorted) (get_or scratch.sorted place 0)) (Among place scratch.sorted) (after now.steps flips)
+      wires-changed =
+          changed-wires (network_of netlist) input start ranks wired turns (Among place scratch.sorted) now.steps underway.had_turns (get_or scratch.sorted place 0) (gate_at netlist (get_or scratch.sorted place 0)).kind (first_wire netlist (get_or scratch.sorted place 0)) (pins_of (gate_at netlist (get_or scratch.sorted place 0))) (driver_at-gate netlist (get_or scratch.sorted place 0) circuit is_gate) place-ranked
           (not-among ranks scratch.sorted place underway.sorted inside)
           (λ i some less. among-earlier ranks scratch.sorted place i underway.sorted inside some less)
-          wires.pattern turned_by flips distinct only all
+          wires.pattern changed_by flips distinct only all
 
       -- after the gate has changed
-      pub gate-turned : HasTurned (network_of netlist) input start ranks (Also (Among place scratch.sorted) (get_or scratch.sorted place 0)) (Also (Among place scratch.sorted) (get_or scratch.sorted place 0)) (after (after now.steps flips) (get_or scratch.sorted place 0 ∷ []))
-      gate-turned =
-          turned-gate (network_of netlist) input start ranks wired turns (Among place scratch.sorted) now.steps underway.turned (get_or scratch.sorted place 0) (gate_at netlist (get_or scratch.sorted place 0)).kind (first_wire netlist (get_or scratch.sorted place 0)) (pins_of (gate_at netlist (get_or scratch.sorted place 0))) (driver_at-gate netlist (get_or scratch.sorted place 0) circuit is_gate) place-ranked
+      pub gate-changed : HadTurns (network_of netlist) input start ranks (Also (Among place scratch.sorted) (get_or scratch.sorted place 0)) (Also (Among place scratch.sorted) (get_or scratch.sorted place 0)) (after (after now.steps flips) (get_or scratch.sorted place 0 ∷ []))
+      gate-changed =
+          changed-gate (network_of netlist) input start ranks wired turns (Among place scratch.sorted) now.steps underway.had_turns (get_or scratch.sorted place 0) (gate_at netlist (get_or scratch.sorted place 0)).kind (first_wire netlist (get_or scratch.sorted place 0)) (pins_of (gate_at netlist (get_or scratch.sorted place 0))) (driver_at-gate netlist (get_or scratch.sorted place 0) circuit is_gate) place-ranked
           (not-among ranks scratch.sorted place underway.sorted inside)
           (λ i some less. among-earlier ranks scratch.sorted place i underway.sorted inside some less)
-          wires.pattern turned_by flips distinct only all
+          wires.pattern changed_by flips distinct only all
 
       -- the turn has come to the next place
       pub underway-turn :
@@ -224,10 +224,10 @@ module _ (netlist : Netlist) (circuit : IsCircuit netlist) (input start : List B
                 ∙ (ap (λ (s : List Bool). flipped (gate ∷ []) (flipped flips s)) underway.state
                 ∙ (ap (flipped (gate ∷ [])) (sym (end_of-after start now.steps flips))
                 ∙ (sym (end_of-after start (after now.steps flips) (gate ∷ [])) ∙ ap (end_of start) (sym steps))));
-            turned =
-                subst (λ (list : List ℕ). HasTurned (network_of netlist) input start ranks (Among (place + 1) list) (Among (place + 1) list) then.steps) (sym sorted)
-                (subst (HasTurned (network_of netlist) input start ranks (Among (place + 1) scratch.sorted) (Among (place + 1) scratch.sorted)) (sym steps)
-                (turned-same (network_of netlist) input start ranks wired turns (Also (Among place scratch.sorted) gate) (Also (Among place scratch.sorted) gate) (Among (place + 1) scratch.sorted) (after (after now.steps flips) (gate ∷ [])) gate-turned
+            had_turns =
+                subst (λ (list : List ℕ). HadTurns (network_of netlist) input start ranks (Among (place + 1) list) (Among (place + 1) list) then.steps) (sym sorted)
+                (subst (HadTurns (network_of netlist) input start ranks (Among (place + 1) scratch.sorted) (Among (place + 1) scratch.sorted)) (sym steps)
+                (changed-same (network_of netlist) input start ranks wired turns (Also (Among place scratch.sorted) gate) (Also (Among place scratch.sorted) gate) (Among (place + 1) scratch.sorted) (after (after now.steps flips) (gate ∷ [])) gate-changed
                 (λ i kind from pins e some also. there i also)
                 (λ i kind from pins e some also. there i also)
                 (λ i kind from pins e some among. elim (among-next scratch.sorted place i inside among) [ inl before ↦ inl before | inr here ↦ inr here ])));

@@ -7,11 +7,13 @@ ghost use Rattle.hz_net.specs.Network.{network_of, value_at, IsStable};
 ghost use Rattle.hz_net.specs.Passes.{algorithm_a, AreRounds};
 ghost use Rattle.hz_gmw.specs.Runs.{IsReachable, JoinsTo};
 
+mod counts;
 mod scratch;
 mod spreading;
 
+pub use counts::{run_counts, run_ends, spread_flips};
 pub use scratch::Scratch;
-pub use spreading::spread_run;
+pub use spreading::{mark_changed, spread_run};
 
 /// Algorithm A is exact: from a start that is stable under its own input, the value of its result at a variable is the
 /// join of the values that the variable has in the reachable states. So where the result is X, one reachable state has 0

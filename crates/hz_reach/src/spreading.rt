@@ -1,16 +1,18 @@
 //! The spread run.
 ghost use Rattle.std.specs.Prelude.{◌≡◌, ℕ, ◌+◌, ◌<◌, ◌≤◌, Bool, true, false, not, ◌&&◌, List, [], length, take, IsTrue, MatchBool};
+ghost use Rattle.hz_core.specs.Ternary.{is_unknown};
 ghost use Rattle.hz_core.specs.Gate.{takes};
 ghost use Rattle.hz_core.specs.Netlist.{IsCircuit, IsWhole, IsGateNumber, gate_at};
 ghost use Rattle.hz_core.specs.Pattern.{differs, IsCandidate, IsPattern};
-ghost use Rattle.hz_net.specs.Network.{network_of, bit_at, value_at, IsStable};
-ghost use Rattle.hz_net.specs.Passes.{algorithm_a, AreRounds, AreRanks};
+ghost use Rattle.hz_net.specs.Network.{network_of, bit_at, value_at};
+ghost use Rattle.hz_net.specs.Passes.{algorithm_a, IsResult, AreRanks};
+ghost use Rattle.hz_net.specs.Starts.{IsStableStart};
 ghost use Rattle.hz_net.specs.Variables.{first_wire, at_wires};
 ghost use Rattle.hz_gmw.specs.Runs.{end_of};
 ghost use Rattle.hz_reach.specs.Order.{key_at};
 ghost use Rattle.hz_reach.specs.Room.{Spends};
 ghost use Rattle.hz_reach.specs.Spread.{IsSpreadRun, IsSparingRun};
-ghost use Rattle.hz_reach.specs.Turn.{turned_inputs, free_pins, changed_wires, AreTurnedWires, is_unknown, unchanged_wires};
+ghost use Rattle.hz_reach.specs.Turn.{changed_inputs, free_pins, changed_wires, AreChangedWires, unchanged_wires};
 
 use crate::Scratch;
 use hz_core::{Kind, MAX_PINS, Tri};
@@ -37,11 +39,9 @@ pub fn spread_run(
     scratch: &mut Scratch,
     run: &mut Run,
 )
-    requires start { length start.now ≡ length (network_of net.now) }
-    requires stable { IsStable (network_of net.now) (take net.now.inputs start.now) start.now }
+    requires start { IsStableStart net.now start.now }
     requires input { length input.now ≡ net.now.inputs }
-    requires a { (rounds : ℕ) × AreRounds (algorithm_a (network_of net.now) input.now start.now) rounds
-        × (a.now ≡ algorithm_a (network_of net.now) input.now start.now rounds) }
+    requires a { IsResult (algorithm_a (network_of net.now) input.now start.now) a.now }
     requires rank { AreRanks (algorithm_a (network_of net.now) input.now start.now) a.now rank.now }
     requires scratch { length scratch.old.state ≡ length (network_of net.now) }
     requires none_marked { scratch.old.marked ≡ [] }
@@ -82,7 +82,7 @@ fn mark_inputs(net: &Net, start: &[bool], input: &[bool], scratch: &mut Scratch)
     requires input { length input.now ≡ net.now.inputs }
     requires scratch { length scratch.old.state ≡ length (network_of net.now) }
     requires none_marked { scratch.old.marked ≡ [] }
-    ensures marked { scratch.new.marked ≡ turned_inputs net.now start.now input.now }
+    ensures marked { scratch.new.marked ≡ changed_inputs net.now start.now input.now }
     ensures state { scratch.new.state ≡ scratch.old.state }
     ensures sorted { scratch.new.sorted ≡ scratch.old.sorted }
 {
@@ -104,7 +104,7 @@ fn mark_wires(net: &Net, start: &[bool], rank: &[u32], gate: u32, scratch: &mut 
         (free_pins (key_at rank.now gate) (at_wires net.now gate rank.now)) (not (bit_at start.now gate)) list }
     requires scratch { length scratch.old.state ≡ length (network_of net.now) }
     requires none_marked { scratch.old.marked ≡ [] }
-    ensures marked { AreTurnedWires net.now start.now rank.now gate scratch.new.marked }
+    ensures marked { AreChangedWires net.now start.now rank.now gate scratch.new.marked }
     ensures state { scratch.new.state ≡ scratch.old.state }
     ensures sorted { scratch.new.sorted ≡ scratch.old.sorted }
 {
@@ -138,8 +138,8 @@ fn list_free(own: u32, ranks: &[u32], free: &mut [bool])
     }
 }
 
-// Marks the wires whose bit differs from the pattern's.
-fn mark_changed(first: u32, now: &[bool], pattern: &[bool], scratch: &mut Scratch)
+/// Marks, of the wires from a first one on, those whose present bit differs from a pattern's bit.
+pub fn mark_changed(first: u32, now: &[bool], pattern: &[bool], scratch: &mut Scratch)
     requires pattern { length pattern.now ≡ length now.now }
     requires inside { first + length now.now ≤ length scratch.old.state }
     requires small { first + length now.now ≤ 200000 }

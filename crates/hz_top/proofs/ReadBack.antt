@@ -1,10 +1,7 @@
 -- How the run text of a change reads back, and that its run is accepted.
-use Rattle.std.proofs.Common.{◌≡◌, ◌∙◌, sym, ap, subst, refl, ℕ, ◌+◌, ◌<◌, ◌≤◌, Bool, cond, List, [], ◌∷◌, ◌++◌, Option, None, length, take, All, arith, inl, inr}
-use Rattle.std.specs.List.{concat}
-use Rattle.std.proofs.lemmas.Bool.{cases_Bool}
+use Rattle.std.proofs.Common.{◌≡◌, ◌∙◌, sym, ap, subst, refl, ℕ, ◌*◌, ◌<◌, ◌≤◌, Bool, List, [], ◌∷◌, ◌++◌, Option, None, length, take, All, arith, inl, inr}
 use Rattle.std.proofs.lemmas.List.{append-nil, length-take-le}
 use Rattle.std.proofs.lemmas.List.Elements.{All-nil, All-cons}
-use Rattle.std.proofs.lemmas.List.Sums.{sum_by-cons}
 use Rattle.hz_core.specs.declared.tri.Tri.{Tri}
 use Rattle.hz_core.specs.declared.tri.Tri.TheVariants.{Zero, One, Unknown}
 use Rattle.hz_core.specs.Netlist.{Netlist, IsCircuit}
@@ -13,12 +10,10 @@ use Rattle.hz_net.specs.Passes.{IsKnown, IsUnknown}
 use Rattle.hz_net.specs.Starts.{IsAcceptedStart}
 use Rattle.hz_net.specs.Variables.{expanded}
 use Rattle.hz_net.proofs.Places.{length-network_of}
-use Rattle.hz_gmw.specs.Runs.{is_listed, RepeatsNone, flipped, IsRun}
+use Rattle.hz_gmw.specs.Runs.{IsRun}
 use Rattle.hz_gmw.specs.Recorded.{flip_count}
 use Rattle.hz_reach.specs.Spread.{changes_in, IsSpreadRun}
-use Rattle.hz_reach.proofs.Listed.{AreApart, repeats_none-append, changes-listed}
-use Rattle.hz_reach.proofs.Rooms.{length-changed, steps-le-flips, flips-bound}
-use Rattle.hz_reach.proofs.Turning.{IsOnce}
+use Rattle.hz_reach.specs.Counts.{FlipsPerVariable, StepsAreNoMoreThanFlips}
 use Rattle.hz_text.specs.RunText.{IsRunTextFor}
 use Rattle.hz_text.specs.RunValue.{RunOf, all_steps}
 use Rattle.hz_text.proofs.RunPrintedLaws.{printed-faultless, printed-value}
@@ -26,26 +21,6 @@ use Rattle.hz_report.specs.Report.{run_of_change, runs_text}
 use Rattle.hz_top.specs.Replaying.{IsAcceptedRun, AreAccepted}
 use Rattle.hz_top.specs.Reports.{ReadsBack}
 use Rattle.hz_top.proofs.Findings.{run-inside}
-
--- a variable changes in a step or not, and then in the later steps
-changes-more : (flips : List ℕ) (steps : List (List ℕ)) (i : ℕ) → changes_in (flips ∷ steps) i ≡ cond (is_listed flips i) 1 0 + changes_in steps i
-changes-more flips steps i = sum_by-cons (λ (list : List ℕ). cond (is_listed list i) 1 0) flips steps
-
--- what changes in a step changes in no later one, where nothing changes twice
-apart-of : (flips : List ℕ) (steps : List (List ℕ)) → RepeatsNone (concat steps) → ((i : ℕ) → changes_in (flips ∷ steps) i ≤ 1) → AreApart flips (concat steps)
-apart-of flips steps once few i here =
-    elim (cases_Bool (is_listed (concat steps) i)) [
-      | inl there ↦
-          let first : changes_in (flips ∷ steps) i ≡ 1 + changes_in steps i = changes-more flips steps i ∙ ap (λ (b : Bool). cond b 1 0 + changes_in steps i) here in
-          absurd (omega (arith, few i, first, changes-listed steps i once there))
-      | inr out ↦ out
-    ]
-
-once-of : (net : List Driver) (input state : List Bool) (steps : List (List ℕ)) → IsRun net input state steps → ((i : ℕ) → changes_in steps i ≤ 1) → RepeatsNone (concat steps)
-once-of net input state [] run few = tt
-once-of net input state (flips ∷ steps) run few =
-    let rest : RepeatsNone (concat steps) = once-of net input (flipped flips state) steps run.1 (λ i. omega (arith, few i, changes-more flips steps i)) in
-    repeats_none-append flips (concat steps) run.0.once rest (apart-of flips steps rest few)
 
 -- the spread run changes a variable at most once
 at-most-once : (value : Tri) (changes : ℕ) → (IsKnown value → changes ≡ 0) → (IsUnknown value → changes ≡ 1) → changes ≤ 1
@@ -55,19 +30,18 @@ at-most-once Unknown changes known unknown = omega (arith, unknown refl)
 
 -- the run text of a change is one of the network
 text-for :
+    FlipsPerVariable → StepsAreNoMoreThanFlips →
     (netlist : Netlist) (input start : List Bool) (a : List Tri) (steps : List (List ℕ)) → IsCircuit netlist →
     length start ≡ length (network_of netlist) → length input ≡ netlist.inputs → IsSpreadRun (network_of netlist) input start a steps →
     IsRunTextFor netlist (run_of_change netlist start input steps)
-text-for netlist input start a steps circuit long inputs shown =
+text-for per_variable no_more netlist input start a steps circuit long inputs shown =
     let net = network_of netlist in
     let same : all_steps (run_of_change netlist start input steps).runs ≡ steps = append-nil (steps ++ []) ∙ append-nil steps in
-    let once : IsOnce net input start steps = record {
-      run = shown.run;
-      once = once-of net input start steps shown.run (λ i. at-most-once (value_at a i) (changes_in steps i) (shown.known i) (shown.unknown i));
-    } in
     let few : length net ≤ 200000 = omega (arith, length-network_of netlist circuit, circuit.variables) in
-    let flips : flip_count steps ≤ 2000000 = omega (arith, few, length-changed steps, flips-bound net input start steps once) in
-    let count : length steps ≤ 2000000 = omega (arith, few, steps-le-flips net input start steps shown.run, flips-bound net input start steps once) in
+    let once : flip_count steps ≤ 1 * length net =
+    per_variable net input start steps 1 shown.run (λ i. at-most-once (value_at a i) (changes_in steps i) (shown.known i) (shown.unknown i)) in
+    let flips : flip_count steps ≤ 2000000 = omega (arith, few, once) in
+    let count : length steps ≤ 2000000 = omega (arith, few, once, no_more net input start steps shown.run) in
     record {
       nodes = length-take-le (length netlist.names) start (omega (arith, long, length-network_of netlist circuit));
       inputs = inputs;
@@ -78,13 +52,14 @@ text-for netlist input start a steps circuit long inputs shown =
 
 -- so it reads back
 pub reads-back :
+    FlipsPerVariable → StepsAreNoMoreThanFlips →
     (netlist : Netlist) (input start : List Bool) (a : List Tri) (steps : List (List ℕ)) → IsCircuit netlist →
     length start ≡ length (network_of netlist) → length input ≡ netlist.inputs → IsSpreadRun (network_of netlist) input start a steps →
     ReadsBack netlist (runs_text netlist start input steps) (run_of_change netlist start input steps)
 unfolding runs_text
-reads-back netlist input start a steps circuit long inputs shown =
+reads-back per_variable no_more netlist input start a steps circuit long inputs shown =
     let value = run_of_change netlist start input steps in
-    let usable = text-for netlist input start a steps circuit long inputs shown in
+    let usable = text-for per_variable no_more netlist input start a steps circuit long inputs shown in
     record {
       faultless = printed-faultless netlist value circuit usable;
       value = printed-value netlist value circuit usable;

@@ -1,7 +1,8 @@
 //! What one change may do.
 ghost use Rattle.std.specs.Prelude.{◌≡◌, ◌+◌, ◌≤◌, [], length, take, IfOk};
 ghost use Rattle.hz_core.specs.Ternary.{AllBelow};
-ghost use Rattle.hz_net.specs.Network.{network_of, IsStable};
+ghost use Rattle.hz_net.specs.Network.{network_of};
+ghost use Rattle.hz_net.specs.Starts.{IsStableStart};
 ghost use Rattle.hz_net.specs.Passes.{algorithm_a, algorithm_b, excitations, AreRounds};
 ghost use Rattle.hz_reach.specs.Scratched.{blank};
 ghost use Rattle.hz_reach.specs.Spread.{IsSpreadRun};
@@ -32,8 +33,7 @@ pub(crate) fn find(
     start: &[bool],
     input: &[bool],
 ) -> Result<Finding, Memory>
-    requires start { length start.now ≡ length (network_of net.now) }
-    requires stable { IsStable (network_of net.now) (take net.now.inputs start.now) start.now }
+    requires start { IsStableStart net.now start.now }
     requires input { length input.now ≡ net.now.inputs }
     ensures { IfOk result (λ found. IsFinding (network_of net.now) input.now start.now
         found.a.items found.rounds_a found.b.items found.rounds_b found.run.steps) }
@@ -61,8 +61,7 @@ struct Reached {
 
 // Runs Algorithm A, and makes the spread run.
 fn find_reached(alloc: Global, net: &Net, start: &[bool], input: &[bool]) -> Result<Reached, Memory>
-    requires start { length start.now ≡ length (network_of net.now) }
-    requires stable { IsStable (network_of net.now) (take net.now.inputs start.now) start.now }
+    requires start { IsStableStart net.now start.now }
     requires input { length input.now ≡ net.now.inputs }
     ensures rounds { IfOk result (λ found. AreRounds (algorithm_a (network_of net.now) input.now start.now) found.rounds) }
     ensures a { IfOk result (λ found. found.a.items ≡ algorithm_a (network_of net.now) input.now start.now found.rounds) }
@@ -101,8 +100,7 @@ fn reach(
     scratch: &mut Scratch,
     run: &mut Run,
 ) -> u32
-    requires start { length start.now ≡ length (network_of net.now) }
-    requires stable { IsStable (network_of net.now) (take net.now.inputs start.now) start.now }
+    requires start { IsStableStart net.now start.now }
     requires input { length input.now ≡ net.now.inputs }
     requires a { length a.old ≡ length (network_of net.now) }
     requires ranks { length ranks.old ≡ length (network_of net.now) }

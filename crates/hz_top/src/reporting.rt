@@ -1,6 +1,7 @@
 //! The report of a script's changes from its start.
 ghost use Rattle.std.specs.Prelude.{◌≡◌, ◌<◌, ◌≤◌, [], ◌∷◌, length, take, All, IfOk, IsSome};
-ghost use Rattle.hz_net.specs.Network.{network_of, IsStable};
+ghost use Rattle.hz_net.specs.Network.{network_of};
+ghost use Rattle.hz_net.specs.Starts.{IsStableStart};
 ghost use Rattle.hz_write.specs.Writes.{Wrote};
 ghost use Rattle.hz_outside.specs.Written.{joined};
 ghost use Rattle.hz_text.specs.ScriptText.{IsScriptFor};
@@ -27,8 +28,7 @@ pub(crate) fn report<K: Sink>(
 ) -> Status
     requires script { IsScriptFor net.now script.now }
     requires few { length script.now.changes ≤ 1 }
-    requires start { length start.now ≡ length (network_of net.now) }
-    requires stable { IsStable (network_of net.now) (take net.now.inputs start.now) start.now }
+    requires start { IsStableStart net.now start.now }
     ensures { Answers K.written K.faults (Reports net.now start.now script.now.changes) out.old out.new result }
 {
     if script.changes() == 0 {
@@ -46,8 +46,7 @@ fn report_change<K: Sink>(
     out: &mut K,
 ) -> Status
     requires change { All (λ pair. pair.0 < net.now.inputs) change.now }
-    requires start { length start.now ≡ length (network_of net.now) }
-    requires stable { IsStable (network_of net.now) (take net.now.inputs start.now) start.now }
+    requires start { IsStableStart net.now start.now }
     ensures { Answers K.written K.faults (Reports net.now start.now (change.now ∷ [])) out.old out.new result }
 {
     let inputs = net.circuit().inputs() as usize;

@@ -1,5 +1,6 @@
 ghost use Rattle.std.specs.Prelude.{◌≡◌, ◌≤◌, [], length, take};
-ghost use Rattle.hz_net.specs.Network.{network_of, IsStable};
+ghost use Rattle.hz_net.specs.Network.{network_of};
+ghost use Rattle.hz_net.specs.Starts.{IsStableStart};
 
 use super::*;
 use hz_core::{Circuit, Memory};
@@ -73,8 +74,7 @@ fn pass(
     scratch: &mut Scratch,
     run: &mut Run,
 )
-    requires start { length start.now ≡ length (network_of net.now) }
-    requires stable { IsStable (network_of net.now) (take net.now.inputs start.now) start.now }
+    requires start { IsStableStart net.now start.now }
     requires input { length input.now ≡ net.now.inputs }
     requires a { length a.old ≡ length (network_of net.now) }
     requires rank { length rank.old ≡ length (network_of net.now) }

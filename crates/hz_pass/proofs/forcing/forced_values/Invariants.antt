@@ -1,5 +1,6 @@
 use Rattle.std.proofs.Common.{◌+◌, [], length}
-use Rattle.hz_pass.specs.Forcing.{ForcedSoFar, open_count}
+use Rattle.hz_core.specs.Ternary.{unknown_count}
+use Rattle.hz_pass.specs.Forcing.{ForcedSoFar}
 use Rattle.hz_pass.proofs.forcing.forced_values.Given as goal
 
 -- what is set is forced, and all but the nodes that wait are delivered
@@ -8,4 +9,4 @@ invariant-loop-node l = ForcedSoFar l.net l.listed l.values.items l.waiting.item
 
 -- a node waits once, when it is no X any more
 abbrev pub decreases-loop-node : goal.decreases-loop-node
-decreases-loop-node l = open_count l.values.items + length l.waiting.items
+decreases-loop-node l = unknown_count l.values.items + length l.waiting.items

@@ -4,7 +4,7 @@ use Rattle.hz_core.specs.Pattern.{differs}
 use Rattle.hz_net.specs.Network.{bit_at, value_at}
 use Rattle.hz_reach.specs.Picked.{picked}
 use Rattle.hz_reach.specs.Scratched.{Scratched}
-use Rattle.hz_reach.specs.Turn.{is_unknown}
+use Rattle.hz_core.specs.Ternary.{is_unknown}
 use Rattle.hz_reach.proofs.Marks.{picked-below, picked-more, picked-skip}
 use Rattle.hz_reach.proofs.spreading.mark_unchanged.Goals as goal
 use Rattle.hz_reach.proofs.spreading.mark_unchanged.Goals.{then-has_yet_to_change, else-has_yet_to_change}

@@ -6,7 +6,7 @@ use Rattle.hz_gmw.specs.Runs.{flipped, end_of}
 use Rattle.hz_gmw.proofs.Flips.{length-flipped}
 use Rattle.hz_reach.specs.Room.{after}
 use Rattle.hz_reach.specs.Scratched.{Scratched}
-use Rattle.hz_reach.specs.Turn.{turned_inputs, AreTurnedWires}
+use Rattle.hz_reach.specs.Turn.{changed_inputs, AreChangedWires}
 use Rattle.hz_reach.proofs.Asked.{IsAsked, asked-turns, asked-a, asked-ranks}
 use Rattle.hz_reach.proofs.Rooms.{spends-more, end_of-after}
 use Rattle.hz_reach.proofs.SpreadSteps.{inputs-flips, inputs-steps, underway-begin, length-state, wires-flips, wires-steps, gate-flips, gate-steps, run-sparing, rest-flips, rest-steps, run-whole}
@@ -23,23 +23,23 @@ gate-at shown netlist inputs nodes var there same inputs_are nodes_are here abov
 
 pub sort-requires : goal.sort-requires
 sort-requires c =
-    let asked : IsAsked c.args.net.now c.args.input.now c.args.start.now c.args.a.now c.args.rank.now c.args.run.now = record { circuit = c.circuit-circuit.ensures.circuit; long = c.requires.start; stable = c.requires.stable; result = c.requires.a; ranked = c.requires.rank; empty = c.requires.empty; flips = c.requires.room_for_flips; steps = c.requires.room_for_steps } in
-    asked-ranks c.args.net.now c.args.input.now c.args.start.now c.args.a.now c.args.rank.now c.args.run.now asked ∙ (sym c.requires.start ∙ sym (ap (length {A = Bool}) c.begin.ensures.state))
+    let asked : IsAsked c.args.net.now c.args.input.now c.args.start.now c.args.a.now c.args.rank.now c.args.run.now = record { circuit = c.circuit-circuit.ensures.circuit; begins = c.requires.start; result = c.requires.a; ranked = c.requires.rank; empty = c.requires.empty; flips = c.requires.room_for_flips; steps = c.requires.room_for_steps } in
+    asked-ranks c.args.net.now c.args.input.now c.args.start.now c.args.a.now c.args.rank.now c.args.run.now asked ∙ (sym c.requires.start.long ∙ sym (ap (length {A = Bool}) c.begin.ensures.state))
 
 pub step-requires-clause-room_for_flips : goal.step-requires-clause-room_for_flips
 step-requires-clause-room_for_flips c =
-    let asked : IsAsked c.args.net.now c.args.input.now c.args.start.now c.args.a.now c.args.rank.now c.args.run.now = record { circuit = c.circuit-circuit.ensures.circuit; long = c.requires.start; stable = c.requires.stable; result = c.requires.a; ranked = c.requires.rank; empty = c.requires.empty; flips = c.requires.room_for_flips; steps = c.requires.room_for_steps } in
+    let asked : IsAsked c.args.net.now c.args.input.now c.args.start.now c.args.a.now c.args.rank.now c.args.run.now = record { circuit = c.circuit-circuit.ensures.circuit; begins = c.requires.start; result = c.requires.a; ranked = c.requires.rank; empty = c.requires.empty; flips = c.requires.room_for_flips; steps = c.requires.room_for_steps } in
     rw c.mark_inputs.ensures.marked (inputs-flips c.args.net.now c.args.input.now c.args.start.now c.args.a.now c.args.rank.now c.args.run.now asked)
 
 pub step-requires-clause-room_for_steps : goal.step-requires-clause-room_for_steps
 step-requires-clause-room_for_steps c =
-    let asked : IsAsked c.args.net.now c.args.input.now c.args.start.now c.args.a.now c.args.rank.now c.args.run.now = record { circuit = c.circuit-circuit.ensures.circuit; long = c.requires.start; stable = c.requires.stable; result = c.requires.a; ranked = c.requires.rank; empty = c.requires.empty; flips = c.requires.room_for_flips; steps = c.requires.room_for_steps } in
+    let asked : IsAsked c.args.net.now c.args.input.now c.args.start.now c.args.a.now c.args.rank.now c.args.run.now = record { circuit = c.circuit-circuit.ensures.circuit; begins = c.requires.start; result = c.requires.a; ranked = c.requires.rank; empty = c.requires.empty; flips = c.requires.room_for_flips; steps = c.requires.room_for_steps } in
     rw c.mark_inputs.ensures.marked (inputs-steps c.args.net.now c.args.input.now c.args.start.now c.args.a.now c.args.rank.now c.args.run.now asked)
 
 pub loop-place-init : goal.loop-place-init
 loop-place-init c =
-    let asked : IsAsked c.args.net.now c.args.input.now c.args.start.now c.args.a.now c.args.rank.now c.args.run.now = record { circuit = c.circuit-circuit.ensures.circuit; long = c.requires.start; stable = c.requires.stable; result = c.requires.a; ranked = c.requires.rank; empty = c.requires.empty; flips = c.requires.room_for_flips; steps = c.requires.room_for_steps } in
-    let flips = turned_inputs c.args.net.now c.args.start.now c.args.input.now in
+    let asked : IsAsked c.args.net.now c.args.input.now c.args.start.now c.args.a.now c.args.rank.now c.args.run.now = record { circuit = c.circuit-circuit.ensures.circuit; begins = c.requires.start; result = c.requires.a; ranked = c.requires.rank; empty = c.requires.empty; flips = c.requires.room_for_flips; steps = c.requires.room_for_steps } in
+    let flips = changed_inputs c.args.net.now c.args.start.now c.args.input.now in
     let state : c.step.new.self.state ≡ flipped flips c.args.start.now =
     c.step.ensures.state
     ∙ (ap (λ (list : List ℕ). flipped list c.mark_inputs.new.scratch.state) c.mark_inputs.ensures.marked
@@ -78,7 +78,7 @@ step-requires-then-var-nodes-clause-room_for_flips c =
     let here = ap (λ (list : List ℕ). get_or list c.loop-place.place 0) c.sorted.ensures in
     let is_gate = gate-at c.circuit-circuit.result.now c.args.net.now c.inputs.result c.nodes.result (get_or c.sorted.result.now c.loop-place.place 0) (get_or c.loop-place.scratch.sorted c.loop-place.place 0) c.circuit-circuit.ensures.same c.inputs.ensures.inputs c.nodes.ensures.nodes here c.if-inputs-var.true c.if-var-nodes.true in
     wires-flips c.args.net.now c.args.input.now c.args.start.now c.args.a.now c.args.rank.now c.loop-place.place c.loop-place.scratch c.args.run.now c.loop-place.run underway inside is_gate c.mark_wires.new.scratch.marked
-    (subst (λ (gate : ℕ). AreTurnedWires c.args.net.now c.args.start.now c.args.rank.now gate c.mark_wires.new.scratch.marked) here c.mark_wires.ensures.marked)
+    (subst (λ (gate : ℕ). AreChangedWires c.args.net.now c.args.start.now c.args.rank.now gate c.mark_wires.new.scratch.marked) here c.mark_wires.ensures.marked)
 
 pub step-requires-then-var-nodes-clause-room_for_steps : goal.step-requires-then-var-nodes-clause-room_for_steps
 step-requires-then-var-nodes-clause-room_for_steps c =
@@ -87,7 +87,7 @@ step-requires-then-var-nodes-clause-room_for_steps c =
     let here = ap (λ (list : List ℕ). get_or list c.loop-place.place 0) c.sorted.ensures in
     let is_gate = gate-at c.circuit-circuit.result.now c.args.net.now c.inputs.result c.nodes.result (get_or c.sorted.result.now c.loop-place.place 0) (get_or c.loop-place.scratch.sorted c.loop-place.place 0) c.circuit-circuit.ensures.same c.inputs.ensures.inputs c.nodes.ensures.nodes here c.if-inputs-var.true c.if-var-nodes.true in
     wires-steps c.args.net.now c.args.input.now c.args.start.now c.args.a.now c.args.rank.now c.loop-place.place c.loop-place.scratch c.args.run.now c.loop-place.run underway inside is_gate c.mark_wires.new.scratch.marked
-    (subst (λ (gate : ℕ). AreTurnedWires c.args.net.now c.args.start.now c.args.rank.now gate c.mark_wires.new.scratch.marked) here c.mark_wires.ensures.marked)
+    (subst (λ (gate : ℕ). AreChangedWires c.args.net.now c.args.start.now c.args.rank.now gate c.mark_wires.new.scratch.marked) here c.mark_wires.ensures.marked)
 
 pub mark-requires-clause-inside : goal.mark-requires-clause-inside
 mark-requires-clause-inside c =
@@ -110,7 +110,7 @@ step-requires-then-var-nodes-2-clause-room_for_flips c =
     let is_gate = gate-at c.circuit-circuit.result.now c.args.net.now c.inputs.result c.nodes.result (get_or c.sorted.result.now c.loop-place.place 0) (get_or c.loop-place.scratch.sorted c.loop-place.place 0) c.circuit-circuit.ensures.same c.inputs.ensures.inputs c.nodes.ensures.nodes here c.if-inputs-var.true c.if-var-nodes.true in
     let marked : c.mark.new.self.marked ≡ get_or c.sorted.result.now c.loop-place.place 0 ∷ [] = c.mark.ensures.marked ∙ ap (λ (list : List ℕ). list ++ get_or c.sorted.result.now c.loop-place.place 0 ∷ []) c.step-then-var-nodes.ensures.marked in
     let room = gate-flips c.args.net.now c.args.input.now c.args.start.now c.args.a.now c.args.rank.now c.loop-place.place c.loop-place.scratch c.args.run.now c.loop-place.run underway inside is_gate c.mark_wires.new.scratch.marked
-    (subst (λ (gate : ℕ). AreTurnedWires c.args.net.now c.args.start.now c.args.rank.now gate c.mark_wires.new.scratch.marked) here c.mark_wires.ensures.marked)
+    (subst (λ (gate : ℕ). AreChangedWires c.args.net.now c.args.start.now c.args.rank.now gate c.mark_wires.new.scratch.marked) here c.mark_wires.ensures.marked)
     c.step-then-var-nodes.new.run c.step-then-var-nodes.ensures.steps (spends-more c.args.run.now c.loop-place.run c.step-then-var-nodes.new.run underway.spent c.step-then-var-nodes.ensures.room) in
     rw marked room
 
@@ -121,7 +121,7 @@ step-requires-then-var-nodes-2-clause-room_for_steps c =
     let here = ap (λ (list : List ℕ). get_or list c.loop-place.place 0) c.sorted.ensures in
     let is_gate = gate-at c.circuit-circuit.result.now c.args.net.now c.inputs.result c.nodes.result (get_or c.sorted.result.now c.loop-place.place 0) (get_or c.loop-place.scratch.sorted c.loop-place.place 0) c.circuit-circuit.ensures.same c.inputs.ensures.inputs c.nodes.ensures.nodes here c.if-inputs-var.true c.if-var-nodes.true in
     let room = gate-steps c.args.net.now c.args.input.now c.args.start.now c.args.a.now c.args.rank.now c.loop-place.place c.loop-place.scratch c.args.run.now c.loop-place.run underway inside is_gate c.mark_wires.new.scratch.marked
-    (subst (λ (gate : ℕ). AreTurnedWires c.args.net.now c.args.start.now c.args.rank.now gate c.mark_wires.new.scratch.marked) here c.mark_wires.ensures.marked)
+    (subst (λ (gate : ℕ). AreChangedWires c.args.net.now c.args.start.now c.args.rank.now gate c.mark_wires.new.scratch.marked) here c.mark_wires.ensures.marked)
     c.step-then-var-nodes.new.run c.step-then-var-nodes.ensures.steps (spends-more c.args.run.now c.loop-place.run c.step-then-var-nodes.new.run underway.spent c.step-then-var-nodes.ensures.room) in
     λ some. room
 
@@ -145,7 +145,7 @@ loop-place-preserved c =
       | then-inputs-var+then-var-nodes w ↦ (
           let is_gate = gate-at c.circuit-circuit.result.now netlist c.inputs.result w.nodes.result var gate c.circuit-circuit.ensures.same c.inputs.ensures.inputs w.nodes.ensures.nodes here w.if-inputs-var.true w.if-var-nodes.true in
           let flips = w.mark_wires.new.scratch.marked in
-          let wires = subst (λ (g : ℕ). AreTurnedWires netlist c.args.start.now c.args.rank.now g flips) here w.mark_wires.ensures.marked in
+          let wires = subst (λ (g : ℕ). AreChangedWires netlist c.args.start.now c.args.rank.now g flips) here w.mark_wires.ensures.marked in
           let marked : w.mark.new.self.marked ≡ gate ∷ [] = w.mark.ensures.marked ∙ (ap (λ (list : List ℕ). list ++ var ∷ []) w.step-then-var-nodes.ensures.marked ∙ ap (λ (g : ℕ). g ∷ []) here) in
           let sorted : w.step-then-var-nodes-2.new.self.sorted ≡ c.loop-place.scratch.sorted = w.step-then-var-nodes-2.ensures.sorted ∙ (w.mark.ensures.sorted ∙ (w.step-then-var-nodes.ensures.sorted ∙ w.mark_wires.ensures.sorted)) in
           let state : w.step-then-var-nodes-2.new.self.state ≡ flipped (gate ∷ []) (flipped flips c.loop-place.scratch.state) =

@@ -17,8 +17,9 @@ pub complete-requires-clause-inputs : goal.complete-requires-clause-inputs
 complete-requires-clause-inputs g c =
     rw c.start.ensures.start (ListsInputs-front c.args.net.now c.args.script.now.start (omega (arith, c.requires.circuit.nodes, c.requires.script.nodes)) c.requires.script.inputs)
 
-pub report-requires-clause-stable : goal.report-requires-clause-stable
-report-requires-clause-stable g c = rw c.as_slice.ensures.value c.in-Ok.ensures.start.stable
+pub report-requires-clause-start : goal.report-requires-clause-start
+report-requires-clause-start g c =
+    rw c.as_slice.ensures.value (record { long = c.in-Ok.ensures.start.completed.long; stable = c.in-Ok.ensures.start.stable })
 
 pub returns-in-Ok : goal.returns-in-Ok
 returns-in-Ok g c =
