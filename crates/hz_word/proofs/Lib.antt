@@ -1,0 +1,6 @@
+pub mod Moves
+pub mod Potentials
+pub mod Totals
+pub mod Search
+pub mod Parity
+pub mod Controlled

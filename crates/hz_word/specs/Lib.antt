@@ -1,0 +1,4 @@
+pub mod Word
+pub mod Walk
+pub mod Capped
+pub mod Covers
