@@ -4,3 +4,4 @@ pub mod Totals
 pub mod Search
 pub mod Parity
 pub mod Controlled
+pub mod Longest
