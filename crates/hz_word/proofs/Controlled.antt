@@ -40,7 +40,7 @@ word-IsSound controlling (letter ∷ rest) = record {
     ends = λ e. (sound_after controlling letter rest e).1
   }
 
-totals-IsSound : (controlling : Bool) (words : List (List Bool)) → IsSound (totals controlling words)
+pub totals-IsSound : (controlling : Bool) (words : List (List Bool)) → IsSound (totals controlling words)
 totals-IsSound controlling [] = record { begins = λ e. absurd (false≢true e); ends = λ e. absurd (false≢true e) }
 totals-IsSound controlling (word ∷ words) =
     plus-IsSound (of_word controlling word) (totals controlling words) (word-IsSound controlling word) (totals-IsSound controlling words)

@@ -5,3 +5,5 @@ pub mod Search
 pub mod Parity
 pub mod Controlled
 pub mod Longest
+pub mod Letters
+pub mod Forms

@@ -20,7 +20,7 @@ or-comm true false = refl
 or-comm false true = refl
 or-comm false false = refl
 
-by_fields : {f f' a a' l l' : Bool} {n n' : ℕ} → f ≡ f' → a ≡ a' → l ≡ l' → n ≡ n' → ◌≡◌ {A = Totals} (record { fixed = f; first = a; last = l; further = n }) (record { fixed = f'; first = a'; last = l'; further = n' })
+pub by_fields : {f f' a a' l l' : Bool} {n n' : ℕ} → f ≡ f' → a ≡ a' → l ≡ l' → n ≡ n' → ◌≡◌ {A = Totals} (record { fixed = f; first = a; last = l; further = n }) (record { fixed = f'; first = a'; last = l'; further = n' })
 by_fields e f g h = cc
 
 pub plus-assoc : (t u v : Totals) → plus t (plus u v) ≡ plus (plus t u) v

@@ -1,12 +1,22 @@
 ghost use Rattle.std.specs.Prelude.{◌≡◌, ◌↔◌, ℕ, Bool, List, map, not, IsNone, IfSome};
 ghost use Rattle.hz_word.specs.Word.{IsWord, last_letter};
-ghost use Rattle.hz_word.specs.Capped.{capped};
+ghost use Rattle.hz_word.specs.Capped.{capped, capped_count};
+ghost use Rattle.hz_word.specs.Pairs.{complement, constant, is_constant, last_after};
 
 /// How often a word changes: an exact number, or more often than the cap allows to count.
 #[derive(Clone, Copy, Debug, PartialEq, Eq)]
 pub enum Count {
     Exact(u64),
     Many,
+}
+
+impl Count {
+    // A number under a cap.
+    pub(crate) fn capped(changes: u64, cap: u64) -> Count
+        ensures { result ≡ capped_count cap changes }
+    {
+        if changes <= cap { Count::Exact(changes) } else { Count::Many }
+    }
 }
 
 /// A transient of Brzozowski and Ésik's algebra: a nonempty binary word without equal neighbours, kept as its
@@ -20,7 +30,8 @@ pub struct Word {
 impl Word {
     /// The word of the complemented letters.
     pub fn not(self) -> Word
-        ensures { (cap : ℕ) (letters : List Bool) → IsWord letters → capped cap letters ≡ self → capped cap (map not letters) ≡ result }
+        ensures value { result ≡ complement self }
+        ensures letters { (cap : ℕ) (letters : List Bool) → IsWord letters → capped cap letters ≡ self → capped cap (map not letters) ≡ result }
     {
         Word { first: !self.first, changes: self.changes }
     }
@@ -31,8 +42,31 @@ impl Word {
         ensures letter { (cap : ℕ) (letters : List Bool) → IsWord letters → capped cap letters ≡ self → IfSome result (λ letter. letter ≡ last_letter letters) }
     {
         match self.changes {
-            Count::Exact(changes) => Some(self.first != (changes % 2 == 1)),
+            Count::Exact(changes) => Some(last_after(self.first, changes)),
             Count::Many => None,
         }
     }
+
+    // The word of one letter alone.
+    pub(crate) fn constant(letter: bool) -> Word
+        ensures { result ≡ constant letter }
+    {
+        Word { first: letter, changes: Count::Exact(0) }
+    }
+
+    pub(crate) fn is_constant(self, letter: bool) -> bool
+        ensures { result ≡ is_constant letter self }
+    {
+        match self.changes {
+            Count::Exact(changes) => changes == 0 && self.first == letter,
+            Count::Many => false,
+        }
+    }
+}
+
+// The last letter of the word with this first letter and so many changes.
+pub(crate) fn last_after(first: bool, changes: u64) -> bool
+    ensures { result ≡ last_after first changes }
+{
+    first != (changes % 2 == 1)
 }
