@@ -170,6 +170,12 @@ count-form controlling cap m n first last first' last' =
         ]
     ]
 
+first-pair : (controlling first first' : Bool) → (if beq (letter_of controlling first) controlling then controlling else letter_of controlling first') ≡ letter_of controlling (first || first')
+first-pair true true first' = refl
+first-pair true false first' = refl
+first-pair false true first' = refl
+first-pair false false first' = refl
+
 -- a pin more
 pair_by : (controlling : Bool) (cap : ℕ) (fixed fixed' : Bool) (m n : ℕ) (first last first' last' : Bool) →
     controlled_pair controlling cap (form_by controlling cap fixed m first last) (form_by controlling cap fixed' n first' last')
@@ -180,4 +186,94 @@ pair_by true cap false true m n first last first' last' = rw (or-true-right (is_
 pair_by false cap false true m n first last first' last' = rw (or-true-right (is_constant false (form_by false cap false m first last))) refl
 pair_by controlling cap false false m n first last first' last' =
     rw (free-form controlling cap m first last, free-form controlling cap n first' last')
-    (same_fields ? (count-form controlling cap m n first last first' last'))
+    (same_fields (first-pair controlling first first') (count-form controlling cap m n first last first' last'))
+
+pair-form : (controlling : Bool) (cap : ℕ) (t u : Totals) → controlled_pair controlling cap (form controlling cap t) (form controlling cap u) ≡ form controlling cap (plus t u)
+pair-form controlling cap t u = pair_by controlling cap t.fixed u.fixed t.further u.further t.first t.last u.first u.last
+
+or-false : (a : Bool) → a ≡ (a || false)
+or-false true = refl
+or-false false = refl
+
+plus-nothing : (t : Totals) → t ≡ plus t nothing
+plus-nothing t = by_fields (or-false t.fixed) (or-false t.first) (or-false t.last) (omega arith)
+
+-- the pins, one after the other
+fold-form : (controlling : Bool) (cap : ℕ) (t : Totals) (words : List (List Bool)) → AreWords words → fold (controlled_pair controlling cap) (form controlling cap t) (map (capped cap) words) ≡ form controlling cap (plus t (totals controlling words))
+fold-form controlling cap t [] are_words = ap (form controlling cap) (plus-nothing t)
+fold-form controlling cap t (word ∷ words) are_words =
+    let step = ap (controlled_pair controlling cap (form controlling cap t)) (capped-form controlling cap word are_words.0)
+        ∙ pair-form controlling cap t (of_word controlling word) in
+    ap (λ so_far. fold (controlled_pair controlling cap) so_far (map (capped cap) words)) step
+    ∙ (fold-form controlling cap (plus t (of_word controlling word)) words are_words.1
+      ∙ ap (form controlling cap) (sym (plus-assoc t (of_word controlling word) (totals controlling words))))
+
+form-nothing : (controlling : Bool) (cap : ℕ) → constant (not controlling) ≡ form controlling cap nothing
+form-nothing controlling cap = same_fields refl (sym (capped_count-zero cap))
+
+form-most : (controlling : Bool) (cap : ℕ) (fixed first last : Bool) (further : ℕ) → (fixed ≡ true → first ≡ true) → form_by controlling cap fixed further first last ≡ record { first = letter_of controlling first; changes = capped_count cap (most_by fixed further first last) }
+form-most controlling cap true true last further sound = same_fields refl (sym (capped_count-zero cap))
+form-most controlling cap true false last further sound = absurd (false≢true (sound refl))
+form-most controlling cap false first last further sound = refl
+
+pub fold-controlled : (controlling : Bool) (cap : ℕ) (words : List (List Bool)) → AreWords words → fold (controlled_pair controlling cap) (constant (not controlling)) (map (capped cap) words) ≡ record { first = letter_of controlling (totals controlling words).first; changes = capped_count cap (most_in controlling words) }
+fold-controlled controlling cap words are_words =
+    ap (λ so_far. fold (controlled_pair controlling cap) so_far (map (capped cap) words)) (form-nothing controlling cap)
+    ∙ (fold-form controlling cap nothing words are_words
+      ∙ (ap (form controlling cap) (by_fields refl refl refl (omega arith))
+        ∙ form-most controlling cap (totals controlling words).fixed (totals controlling words).first (totals controlling words).last (totals controlling words).further
+          (totals-IsSound controlling words).begins))
+
+-- parity
+beq-true : (b : Bool) → b ≡ beq true b
+beq-true true = refl
+beq-true false = refl
+
+not-beq-false : (b : Bool) → b ≡ not (beq false b)
+not-beq-false true = refl
+not-beq-false false = refl
+
+odd-cons : (letter : Bool) (bits : List Bool) → odd_pins (letter ∷ bits) ≡ not (beq letter (odd_pins bits))
+odd-cons true bits = odd_pins-true bits ∙ ap not (beq-true (odd_pins bits))
+odd-cons false bits = not-beq-false (odd_pins bits)
+
+not-beq-no : (b : Bool) → b ≡ not (beq b false)
+not-beq-no true = refl
+not-beq-no false = refl
+
+parity-assoc : (a b c : Bool) → not (beq (not (beq a b)) c) ≡ not (beq a (not (beq b c)))
+parity-assoc true true true = refl
+parity-assoc true true false = refl
+parity-assoc true false true = refl
+parity-assoc true false false = refl
+parity-assoc false true true = refl
+parity-assoc false true false = refl
+parity-assoc false false true = refl
+parity-assoc false false false = refl
+
+sum-capped : (cap m n : ℕ) → sum_count cap (capped_count cap m) (capped_count cap n) ≡ capped_count cap (m + n)
+sum-capped cap m n =
+    elim (cases_Bool (nat_le m cap)) [
+      | inl within ↦ elim (cases_Bool (nat_le n cap)) [
+          | inl within' ↦ rw (within, within') refl
+          | inr beyond ↦ rw (within, beyond) (beyond-most cap n beyond (m + n) (omega arith))
+        ]
+      | inr beyond ↦ elim (cases_Bool (nat_le n cap)) [
+          | inl within ↦ rw (beyond, within) (beyond-most cap m beyond (m + n) (omega arith))
+          | inr beyond' ↦ rw (beyond, beyond') (beyond-most cap m beyond (m + n) (omega arith))
+        ]
+    ]
+
+fold-odd : (cap : ℕ) (first : Bool) (n : ℕ) (words : List (List Bool)) → fold (parity_pair cap) (record { first = first; changes = capped_count cap n }) (map (capped cap) words) ≡ record { first = not (beq first (odd_pins (present_letters words))); changes = capped_count cap (n + steps_left words) }
+fold-odd cap first n [] = same_fields (not-beq-no first) (ap (capped_count cap) (omega arith))
+fold-odd cap first n (word ∷ words) =
+    ap (λ so_far. fold (parity_pair cap) so_far (map (capped cap) words)) (same_fields refl (sum-capped cap n (change_count word)))
+    ∙ (fold-odd cap (not (beq first (first_letter word))) (n + change_count word) words
+      ∙ same_fields
+        (parity-assoc first (first_letter word) (odd_pins (present_letters words)) ∙ ap (λ odd. not (beq first odd)) (sym (odd-cons (first_letter word) (present_letters words))))
+        (ap (capped_count cap) (omega arith)))
+
+pub fold-parity : (cap : ℕ) (words : List (List Bool)) → fold (parity_pair cap) (constant false) (map (capped cap) words) ≡ record { first = odd_pins (present_letters words); changes = capped_count cap (steps_left words) }
+fold-parity cap words =
+    ap (λ so_far. fold (parity_pair cap) so_far (map (capped cap) words)) (same_fields refl (sym (capped_count-zero cap)))
+    ∙ (fold-odd cap false 0 words ∙ same_fields (sym (not-beq-false (odd_pins (present_letters words)))) (ap (capped_count cap) (omega arith)))

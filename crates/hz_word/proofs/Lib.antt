@@ -7,3 +7,4 @@ pub mod Controlled
 pub mod Longest
 pub mod Letters
 pub mod Forms
+pub mod Folds

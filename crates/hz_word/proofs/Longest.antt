@@ -29,7 +29,7 @@ length-alternating : (letter : Bool) (n : ℕ) → length (alternating letter n)
 length-alternating letter zero = refl
 length-alternating letter (suc n) = ap suc (length-alternating (not letter) n)
 
-first_letter-alternating : (letter : Bool) (n : ℕ) → first_letter (alternating letter n) ≡ letter
+pub first_letter-alternating : (letter : Bool) (n : ℕ) → first_letter (alternating letter n) ≡ letter
 first_letter-alternating letter zero = refl
 first_letter-alternating letter (suc n) = refl
 
