@@ -6,8 +6,8 @@ use Rattle.std.proofs.lemmas.Bool.{cases_Bool, leb-true, leb-false, le-leb, lt-l
 use Rattle.std.proofs.Math.Dec.{leb-zero, eqb-suc-zero}
 use Rattle.hz_core.specs.Gate.{every_pin, some_pin, odd_pins}
 use Rattle.hz_core.proofs.Kleene.{odd_pins-true}
-use Rattle.hz_word.specs.declared.word.Count.{Count}
-use Rattle.hz_word.specs.declared.word.Count.TheVariants.{Exact, Many}
+use Rattle.hz_word.specs.declared.count.Count.{Count}
+use Rattle.hz_word.specs.declared.count.Count.TheVariants.{Exact, Many}
 use Rattle.hz_word.specs.declared.word.Word.{Word}
 use Rattle.hz_word.specs.Word.{Alternates, IsWord, AreWords, first_letter, change_count}
 use Rattle.hz_word.specs.Walk.{present_letters}

@@ -4,8 +4,8 @@ use Rattle.std.specs.Bool.{beq}
 use Rattle.std.proofs.lemmas.Bool.{cases_Bool}
 use Rattle.hz_core.proofs.Kleene.{flipped}
 use Rattle.std.specs.Bool.{nat_le}
-use Rattle.hz_word.specs.declared.word.Count.{Count}
-use Rattle.hz_word.specs.declared.word.Count.TheVariants.{Exact, Many}
+use Rattle.hz_word.specs.declared.count.Count.{Count}
+use Rattle.hz_word.specs.declared.count.Count.TheVariants.{Exact, Many}
 use Rattle.hz_word.specs.declared.word.Word.{Word}
 use Rattle.hz_word.specs.Word.{Alternates, IsWord, first_letter, last_letter, change_count}
 use Rattle.hz_word.specs.Capped.{capped, capped_count}

@@ -1,8 +1,8 @@
 -- The capped form of a word: its first letter and the number of its changes, if the cap allows to count them.
-use Rattle.std.specs.Prelude.{◌≡◌, ℕ, ◌≤◌, Bool, List, map, if◌then◌else◌, nat_le}
+use Rattle.std.specs.Prelude.{◌≡◌, ℕ, ◌≤◌, Bool, not, List, map, if◌then◌else◌, nat_le}
 use Rattle.hz_core.specs.declared.kind.Kind.{Kind}
-use Rattle.hz_word.specs.declared.word.Count.{Count}
-use Rattle.hz_word.specs.declared.word.Count.TheVariants.{Exact, Many}
+use Rattle.hz_word.specs.declared.count.Count.{Count}
+use Rattle.hz_word.specs.declared.count.Count.TheVariants.{Exact, Many}
 use Rattle.hz_word.specs.declared.word.Word.{Word}
 use Rattle.hz_word.specs.Word.{AreWords, first_letter, change_count}
 use Rattle.hz_word.specs.Walk.{IsWordOf}
@@ -14,6 +14,10 @@ capped_count cap changes = if nat_le changes cap then Exact changes else Many
 -- the capped form
 abbrev pub capped : ℕ → List Bool → Word
 capped cap word = record { first = first_letter word; changes = capped_count cap (change_count word) }
+
+-- the complement of a capped word
+abbrev pub complement : Word → Word
+complement word = record { first = not word.first; changes = word.changes }
 
 -- a number that is exact is at most the cap
 abbrev pub IsCounted : ℕ → Count → Type 0

@@ -1,8 +1,8 @@
 -- Histories, and the capped words that cover them.
 use Rattle.std.specs.Prelude.{◌≡◌, ℕ, ◌≤◌, Bool, if◌then◌else◌, List, [], ◌∷◌}
 use Rattle.std.specs.Bool.{beq}
-use Rattle.hz_word.specs.declared.word.Count.{Count}
-use Rattle.hz_word.specs.declared.word.Count.TheVariants.{Exact, Many}
+use Rattle.hz_word.specs.declared.count.Count.{Count}
+use Rattle.hz_word.specs.declared.count.Count.TheVariants.{Exact, Many}
 use Rattle.hz_word.specs.declared.word.Word.{Word}
 use Rattle.hz_word.specs.Word.{first_letter, change_count}
 

@@ -4,10 +4,10 @@ use Rattle.std.specs.Bool.{beq}
 use Rattle.std.specs.List.{fold, slice_index_or}
 use Rattle.hz_core.specs.declared.kind.Kind.{Kind}
 use Rattle.hz_core.specs.Gate.{Connective, conjunction, disjunction, parity, copy, connective, inverts}
-use Rattle.hz_word.specs.declared.word.Count.{Count}
-use Rattle.hz_word.specs.declared.word.Count.TheVariants.{Exact, Many}
+use Rattle.hz_word.specs.declared.count.Count.{Count}
+use Rattle.hz_word.specs.declared.count.Count.TheVariants.{Exact, Many}
 use Rattle.hz_word.specs.declared.word.Word.{Word}
-use Rattle.hz_word.specs.Capped.{capped_count}
+use Rattle.hz_word.specs.Capped.{capped_count, complement}
 
 -- the last letter of the word with a first letter and so many changes
 abbrev pub last_after : Bool → ℕ → Bool
@@ -58,10 +58,7 @@ sum_count cap Many Many = Many
 abbrev pub parity_pair : ℕ → Word → Word → Word
 parity_pair cap left right = record { first = not (beq left.first right.first); changes = sum_count cap left.changes right.changes }
 
--- the complement of a word
-abbrev pub complement : Word → Word
-complement word = record { first = not word.first; changes = word.changes }
-
+-- the complement where a flag is set
 abbrev pub complement_if : Bool → Word → Word
 complement_if false word = word
 complement_if true word = complement word

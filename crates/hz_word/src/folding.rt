@@ -2,11 +2,12 @@ ghost use Rattle.std.specs.Prelude.{◌≡◌, ℕ, ◌≤◌, Bool, false, not,
 ghost use Rattle.std.specs.List.{fold, All};
 ghost use Rattle.hz_core.specs.Gate.{takes};
 ghost use Rattle.hz_word.specs.Capped.{IsCounted, IsFold};
-ghost use Rattle.hz_word.specs.Pairs.{controlled_count, controlled_pair, constant, is_constant, kind_word, parity_pair, sum_count};
+ghost use Rattle.hz_word.specs.Pairs.{controlled_count, controlled_pair, constant, is_constant, kind_word, parity_pair};
 
 use hz_core::Kind;
 
-use crate::word::{Count, Word, last_after};
+use crate::count::Count;
+use crate::word::{Word, last_after};
 
 /// The word of a gate, given the words of its pins: how often the gate may change at most, in whatever order its
 /// pins change.
@@ -110,20 +111,5 @@ fn parity_pair(left: Word, right: Word, cap: u64) -> Word
     ensures value { result ≡ parity_pair cap left right }
     ensures counted { IsCounted cap result.changes }
 {
-    Word { first: left.first != right.first, changes: sum_count(left.changes, right.changes, cap) }
-}
-
-fn sum_count(left: Count, right: Count, cap: u64) -> Count
-    requires counted_left { IsCounted cap left }
-    requires counted_right { IsCounted cap right }
-    requires cap_high { cap ≤ 1000000 }
-    ensures value { result ≡ sum_count cap left right }
-    ensures counted { IsCounted cap result }
-{
-    match (left, right) {
-        (Count::Exact(of_left), Count::Exact(of_right)) => Count::capped(of_left + of_right, cap),
-        (Count::Exact(_), Count::Many) => Count::Many,
-        (Count::Many, Count::Exact(_)) => Count::Many,
-        (Count::Many, Count::Many) => Count::Many,
-    }
+    Word { first: left.first != right.first, changes: left.changes.plus(right.changes, cap) }
 }

@@ -1,23 +1,9 @@
 ghost use Rattle.std.specs.Prelude.{◌≡◌, ◌↔◌, ℕ, Bool, List, map, not, IsNone, IfSome};
 ghost use Rattle.hz_word.specs.Word.{IsWord, last_letter};
-ghost use Rattle.hz_word.specs.Capped.{capped, capped_count};
-ghost use Rattle.hz_word.specs.Pairs.{complement, constant, is_constant, last_after};
+ghost use Rattle.hz_word.specs.Capped.{capped, complement};
+ghost use Rattle.hz_word.specs.Pairs.{constant, is_constant, last_after};
 
-/// How often a word changes: an exact number, or more often than the cap allows to count.
-#[derive(Clone, Copy, Debug, PartialEq, Eq)]
-pub enum Count {
-    Exact(u64),
-    Many,
-}
-
-impl Count {
-    // A number under a cap.
-    pub(crate) fn capped(changes: u64, cap: u64) -> Count
-        ensures { result ≡ capped_count cap changes }
-    {
-        if changes <= cap { Count::Exact(changes) } else { Count::Many }
-    }
-}
+use crate::count::Count;
 
 /// A transient of Brzozowski and Ésik's algebra: a nonempty binary word without equal neighbours, kept as its
 /// first letter and the number of its changes.
