@@ -8,3 +8,5 @@ pub mod Longest
 pub mod Letters
 pub mod Forms
 pub mod Folds
+pub mod Laws
+mod Examples
