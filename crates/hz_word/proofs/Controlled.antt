@@ -1,11 +1,11 @@
 -- A gate with a controlling letter: the most changes of a walk are told by the totals of the words.
-use Rattle.std.proofs.Common.{◌≡◌, ℕ, zero, suc, ◌+◌, ◌*◌, ◌-◌, ◌<◌, ◌≤◌, Bool, true, false, not, ◌||◌, List, [], ◌∷◌, length, drop, IsTrue, refl, sym, ap, ◌∙◌, ◌⊎◌, inl, inr, arith}
+use Rattle.std.proofs.Common.{◌≡◌, ℕ, zero, suc, ◌+◌, ◌<◌, Bool, true, false, not, ◌||◌, List, [], ◌∷◌, length, drop, refl, sym, ap, ◌∙◌, ◌⊎◌, inl, inr, arith}
 use Rattle.std.specs.Bool.{beq}
 use Rattle.std.proofs.lemmas.Bool.{false≢true, true≢false, cases_Bool}
 use Rattle.hz_core.specs.Gate.{some_pin, every_pin, complemented_if}
 use Rattle.hz_word.specs.Word.{IsWord, AreWords}
-use Rattle.hz_word.specs.Walk.{present_letters, MayAdvance, IsMove, after_move, AreAtTheirEnds, change}
-use Rattle.hz_word.proofs.Moves.{steps_left, after_move-AreWords, length-after_move}
+use Rattle.hz_word.specs.Walk.{present_letters, MayAdvance, after_move, AreAtTheirEnds, change}
+use Rattle.hz_word.proofs.Moves.{after_move-AreWords, length-after_move}
 use Rattle.hz_word.proofs.Potentials.{IsTight, IsPotential}
 use Rattle.hz_word.proofs.Totals.{Totals, others, final, is_zero, less_one, bit, of_word, plus, nothing, totals, most_by, most_of, IsSound, IsMoved, or-false-left, or-false-right, plus-IsSound, plus-IsMoved, same-IsMoved, bound}
 use Rattle.hz_word.proofs.Search.{Found, NonePasses, search_words, ends-from_none}
@@ -36,9 +36,9 @@ sound_after false false (next ∷ rest) e = (refl, (sound_after false next rest 
 word-IsSound : (controlling : Bool) (word : List Bool) → IsSound (of_word controlling word)
 word-IsSound controlling [] = record { begins = λ e. absurd (false≢true e); ends = λ e. absurd (false≢true e) }
 word-IsSound controlling (letter ∷ rest) = record {
-    begins = λ e. (sound_after controlling letter rest e).0;
-    ends = λ e. (sound_after controlling letter rest e).1
-  }
+  begins = λ e. (sound_after controlling letter rest e).0;
+  ends = λ e. (sound_after controlling letter rest e).1;
+}
 
 pub totals-IsSound : (controlling : Bool) (words : List (List Bool)) → IsSound (totals controlling words)
 totals-IsSound controlling [] = record { begins = λ e. absurd (false≢true e); ends = λ e. absurd (false≢true e) }
@@ -48,25 +48,25 @@ totals-IsSound controlling (word ∷ words) =
 -- a word that goes from the controlling letter to the other, with n + 1 others left, and the other way
 falls-IsMoved : (last : Bool) (n : ℕ) → IsMoved (record { fixed = false; first = true; last = last; further = n }) (record { fixed = false; first = false; last = last; further = n })
 falls-IsMoved last n = record {
-    same_last = refl;
-    kept = λ e. e;
-    fewer = omega arith;
-    rises = λ was is. absurd (true≢false was)
-  }
+  same_last = refl;
+  kept = λ e. e;
+  fewer = omega arith;
+  rises = λ was is. absurd (true≢false was);
+}
 
 rises-IsMoved : (last : Bool) (n : ℕ) → IsMoved (record { fixed = false; first = false; last = last; further = n }) (record { fixed = is_zero n; first = true; last = last; further = less_one n })
 rises-IsMoved last zero = record {
-    same_last = refl;
-    kept = λ e. absurd (false≢true e);
-    fewer = omega arith;
-    rises = λ was is. inl refl
-  }
+  same_last = refl;
+  kept = λ e. absurd (false≢true e);
+  fewer = omega arith;
+  rises = λ was is. inl refl;
+}
 rises-IsMoved last (suc n) = record {
-    same_last = refl;
-    kept = λ e. absurd (false≢true e);
-    fewer = omega arith;
-    rises = λ was is. inr (omega arith)
-  }
+  same_last = refl;
+  kept = λ e. absurd (false≢true e);
+  fewer = omega arith;
+  rises = λ was is. inr (omega arith);
+}
 
 word-IsMoved : (controlling : Bool) (word : List Bool) → IsWord word → 1 < length word → IsMoved (of_word controlling word) (of_word controlling (drop 1 word))
 word-IsMoved controlling [] is_word more = absurd is_word
@@ -237,8 +237,7 @@ ends-most controlling words are_words ends =
     (none-first controlling words are_words (none-from_ends (at_controlling controlling) words ends))
 
 module _ (gate : List Bool → Bool) (controlling inverted : Bool) (pins : ℕ)
-  (is : (words : List (List Bool)) → AreWords words → length words ≡ pins → gate (present_letters words) ≡ complemented_if inverted (totals controlling words).first) where
-
+    (is : (words : List (List Bool)) → AreWords words → length words ≡ pins → gate (present_letters words) ≡ complemented_if inverted (totals controlling words).first) where
   -- the gate changes where the totals do
   gate-change : (words : List (List Bool)) (move : List Bool) → AreWords words → length words ≡ pins → MayAdvance words move → change (gate (present_letters words)) (gate (present_letters (after_move words move))) ≡ change (totals controlling words).first (totals controlling (after_move words move)).first
   gate-change words move are_words long may =
@@ -253,7 +252,7 @@ module _ (gate : List Bool → Bool) (controlling inverted : Bool) (pins : ℕ)
       record {
         is_move = (found.may, found.some);
         exact = omega arith;
-        shorter = found.shorter
+        shorter = found.shorter;
       }
 
   tight_from : (test : List Bool → Bool) (words : List (List Bool)) → AreWords words → length words ≡ pins → (found : Found controlling test words) → IsTightMove (plus found.context (of_word controlling (found.letter ∷ not found.letter ∷ found.rest))) (plus found.context (of_word controlling (not found.letter ∷ found.rest))) → IsTight gate (most_in controlling) words found.move
@@ -264,9 +263,12 @@ module _ (gate : List Bool → Bool) (controlling inverted : Bool) (pins : ℕ)
   tight_last : (words : List (List Bool)) → AreWords words → length words ≡ pins → (totals controlling words).fixed ≡ false → (totals controlling words).first ≡ false → (totals controlling words).further ≡ 0 → (AreAtTheirEnds words × (most_in controlling words ≡ 0)) ⊎ ((move : List Bool) × IsTight gate (most_in controlling) words move)
   tight_last words are_words long free first further =
       elim (search_words controlling (λ word. true) words are_words) [
-        | inl found ↦ inr (found.move, tight_from (λ word. true) words are_words long found
-            (goes_last controlling found.letter found.rest found.context
-              (ap (λ t. t.fixed) (sym found.before) ∙ free) (ap (λ t. t.first) (sym found.before) ∙ first) (ap (λ t. t.further) (sym found.before) ∙ further)))
+        | inl found ↦ inr (
+          found.move,
+          tight_from (λ word. true) words are_words long found
+              (goes_last controlling found.letter found.rest found.context
+              (ap (λ t. t.fixed) (sym found.before) ∙ free) (ap (λ t. t.first) (sym found.before) ∙ first) (ap (λ t. t.further) (sym found.before) ∙ further)),
+        )
         | inr none ↦ inl (ends-from_none words none, ends-most controlling words are_words (ends-from_none words none))
       ]
 
@@ -274,9 +276,12 @@ module _ (gate : List Bool → Bool) (controlling inverted : Bool) (pins : ℕ)
   tight_rise : (words : List (List Bool)) → AreWords words → length words ≡ pins → (totals controlling words).fixed ≡ false → (totals controlling words).first ≡ false → (AreAtTheirEnds words × (most_in controlling words ≡ 0)) ⊎ ((move : List Bool) × IsTight gate (most_in controlling) words move)
   tight_rise words are_words long free first =
       elim (search_words controlling (has_further controlling) words are_words) [
-        | inl found ↦ inr (found.move, tight_from (has_further controlling) words are_words long found
-            (rises controlling found.letter found.rest found.context found.passes
-              (ap (λ t. t.fixed) (sym found.before) ∙ free) (ap (λ t. t.first) (sym found.before) ∙ first)))
+        | inl found ↦ inr (
+          found.move,
+          tight_from (has_further controlling) words are_words long found
+              (rises controlling found.letter found.rest found.context found.passes
+              (ap (λ t. t.fixed) (sym found.before) ∙ free) (ap (λ t. t.first) (sym found.before) ∙ first)),
+        )
         | inr none ↦ tight_last words are_words long free first (none-further controlling words are_words none)
       ]
 
@@ -284,8 +289,11 @@ module _ (gate : List Bool → Bool) (controlling inverted : Bool) (pins : ℕ)
   tight_free : (words : List (List Bool)) → AreWords words → length words ≡ pins → (totals controlling words).fixed ≡ false → (AreAtTheirEnds words × (most_in controlling words ≡ 0)) ⊎ ((move : List Bool) × IsTight gate (most_in controlling) words move)
   tight_free words are_words long free =
       elim (search_words controlling (at_controlling controlling) words are_words) [
-        | inl found ↦ inr (found.move, tight_from (at_controlling controlling) words are_words long found
-            (falls controlling found.letter found.rest found.context found.passes (ap (λ t. t.fixed) (sym found.before) ∙ free)))
+        | inl found ↦ inr (
+          found.move,
+          tight_from (at_controlling controlling) words are_words long found
+              (falls controlling found.letter found.rest found.context found.passes (ap (λ t. t.fixed) (sym found.before) ∙ free)),
+        )
         | inr none ↦ tight_rise words are_words long free (none-first controlling words are_words none free)
       ]
 
@@ -294,24 +302,27 @@ module _ (gate : List Bool → Bool) (controlling inverted : Bool) (pins : ℕ)
   unfolding IsTightMove
   tight_fix words are_words long fixed =
       elim (search_words controlling (λ word. true) words are_words) [
-        | inl found ↦ inr (found.move, tight_found (λ word. true) words are_words long found
-            (tight_fixed (totals controlling words) (totals controlling (after_move words found.move)) fixed
+        | inl found ↦ inr (
+          found.move,
+          tight_found (λ word. true) words are_words long found
+              (tight_fixed (totals controlling words) (totals controlling (after_move words found.move)) fixed
               (move-IsMoved controlling words found.move are_words found.may)
-              (totals-IsSound controlling words) (totals-IsSound controlling (after_move words found.move))))
+              (totals-IsSound controlling words) (totals-IsSound controlling (after_move words found.move))),
+        )
         | inr none ↦ inl (ends-from_none words none, ends-most controlling words are_words (ends-from_none words none))
       ]
 
   pub most_in-IsPotential : IsPotential gate (most_in controlling) pins
   most_in-IsPotential = record {
-      bound = λ words move are_words long is_move.
+    bound = λ words move are_words long is_move.
         let same = gate-change words move are_words long is_move.0 in
         let most = Rattle.hz_word.proofs.Totals.bound (totals controlling words) (totals controlling (after_move words move))
-            (move-IsMoved controlling words move are_words is_move.0)
-            (totals-IsSound controlling words) (totals-IsSound controlling (after_move words move)) in
+        (move-IsMoved controlling words move are_words is_move.0)
+        (totals-IsSound controlling words) (totals-IsSound controlling (after_move words move)) in
         omega arith;
-      tight = λ words are_words long.
+    tight = λ words are_words long.
         elim (cases_Bool (totals controlling words).fixed) [
           | inl fixed ↦ tight_fix words are_words long fixed
           | inr free ↦ tight_free words are_words long free
-        ]
-    }
+        ];
+  }

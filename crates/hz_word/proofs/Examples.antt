@@ -2,7 +2,7 @@
 use Rattle.std.proofs.Common.{◌≡◌, Bool, true, false, List, [], ◌∷◌, refl}
 use Rattle.hz_core.specs.Gate.{every_pin, some_pin, odd_pins}
 use Rattle.hz_word.specs.declared.count.Count.TheVariants.{Exact, Many}
-use Rattle.hz_word.specs.Walk.{present_letters, after_move, walk_changes}
+use Rattle.hz_word.specs.Walk.{after_move, walk_changes}
 use Rattle.hz_word.specs.Capped.{capped}
 use Rattle.hz_word.specs.Covers.{history_of}
 

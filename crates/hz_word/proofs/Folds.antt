@@ -1,11 +1,11 @@
 -- What the pins come to, one after the other, is the capped form of the word of the kind.
-use Rattle.std.proofs.Common.{◌≡◌, ℕ, zero, suc, ◌+◌, ◌-◌, Bool, true, false, not, List, [], ◌∷◌, map, length, IsTrue, refl, sym, ap, subst, ◌∙◌, arith}
+use Rattle.std.proofs.Common.{◌≡◌, ℕ, Bool, true, false, not, List, [], ◌∷◌, map, length, IsTrue, refl, sym, ap, subst, ◌∙◌, arith}
 use Rattle.std.proofs.lemmas.List.{length-map}
 use Rattle.hz_core.specs.declared.kind.Kind.{Kind}
 use Rattle.hz_core.specs.Gate.{takes, Connective, conjunction, disjunction, parity, copy, connective, inverts, value_of, complemented_if, gate_value}
 use Rattle.hz_word.specs.declared.word.Word.{Word}
-use Rattle.hz_word.specs.Word.{AreWords, first_letter, change_count}
-use Rattle.hz_word.specs.Walk.{present_letters, IsWordOf}
+use Rattle.hz_word.specs.Word.{AreWords}
+use Rattle.hz_word.specs.Walk.{present_letters}
 use Rattle.hz_word.specs.Capped.{capped, capped_count, IsFold}
 use Rattle.hz_word.specs.Pairs.{complement_if, connective_word, kind_word}
 use Rattle.hz_word.proofs.Totals.{totals}
@@ -46,10 +46,11 @@ kind_word-longest kind cap words are_words has =
 pub IsFold-kind_word : (kind : Kind) (pins : List Word) (cap : ℕ) → IsTrue (takes kind (length pins)) → IsFold kind pins cap (kind_word kind cap pins)
 IsFold-kind_word kind pins cap takes_pins words are_words same =
     let long : length words ≡ length pins = sym (length-map words (capped cap)) ∙ ap length same in
-    let has = takes-HasPins kind (length words) (subst (λ n. IsTrue (takes kind n)) (sym long) takes_pins) in
-    (longest_word kind words are_words has,
-     longest_word-IsWordOf kind words are_words has,
-     same_fields
-       (first_letter-alternating (gate_value kind (present_letters words)) (longest (connective kind) words))
-       (ap (capped_count cap) (change_count-alternating (gate_value kind (present_letters words)) (longest (connective kind) words)))
-     ∙ (sym (kind_word-longest kind cap words are_words has) ∙ ap (kind_word kind cap) same))
+    let has = takes-HasPins kind (length words) (subst (λ n. IsTrue (takes kind n)) (sym long) takes_pins) in (
+      longest_word kind words are_words has,
+      longest_word-IsWordOf kind words are_words has,
+      same_fields
+          (first_letter-alternating (gate_value kind (present_letters words)) (longest (connective kind) words))
+          (ap (capped_count cap) (change_count-alternating (gate_value kind (present_letters words)) (longest (connective kind) words)))
+          ∙ (sym (kind_word-longest kind cap words are_words has) ∙ ap (kind_word kind cap) same),
+    )

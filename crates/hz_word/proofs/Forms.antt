@@ -1,10 +1,10 @@
 -- The pins one after the other come to the capped form of the longest walk.
-use Rattle.std.proofs.Common.{◌≡◌, ℕ, zero, suc, ◌+◌, ◌-◌, ◌*◌, ◌%◌, ◌<◌, ◌≤◌, Bool, true, false, not, ◌&&◌, ◌||◌, ◌==◌, cond, List, [], ◌∷◌, map, length, IsTrue, refl, sym, ap, ◌∙◌, inl, inr, arith}
+use Rattle.std.proofs.Common.{◌≡◌, ℕ, zero, suc, ◌+◌, ◌-◌, ◌*◌, ◌%◌, ◌<◌, ◌≤◌, Bool, true, false, not, ◌&&◌, ◌||◌, ◌==◌, List, [], ◌∷◌, map, length, refl, sym, ap, ◌∙◌, inl, inr, arith}
 use Rattle.std.specs.Bool.{beq, nat_le, if◌then◌else◌}
 use Rattle.std.specs.List.{fold}
-use Rattle.std.proofs.lemmas.Bool.{cases_Bool, leb-true, leb-false, le-leb, lt-leb, false≢true, true≢false}
+use Rattle.std.proofs.lemmas.Bool.{cases_Bool, leb-false, lt-leb, false≢true}
 use Rattle.std.proofs.Math.Dec.{leb-zero, eqb-suc-zero}
-use Rattle.hz_core.specs.Gate.{every_pin, some_pin, odd_pins}
+use Rattle.hz_core.specs.Gate.{odd_pins}
 use Rattle.hz_core.proofs.Kleene.{odd_pins-true}
 use Rattle.hz_word.specs.declared.count.Count.{Count}
 use Rattle.hz_word.specs.declared.count.Count.TheVariants.{Exact, Many}
@@ -14,7 +14,7 @@ use Rattle.hz_word.specs.Walk.{present_letters}
 use Rattle.hz_word.specs.Capped.{capped, capped_count}
 use Rattle.hz_word.specs.Pairs.{last_after, constant, is_no_change, is_constant, shared, controlled_count, controlled_pair, sum_count, parity_pair}
 use Rattle.hz_word.proofs.Moves.{steps_left}
-use Rattle.hz_word.proofs.Totals.{Totals, others, final, is_zero, less_one, bit, of_word, plus, nothing, totals, most_by, most_of, IsSound}
+use Rattle.hz_word.proofs.Totals.{Totals, others, final, is_zero, less_one, bit, of_word, plus, nothing, totals, most_by}
 use Rattle.hz_word.proofs.Search.{by_fields, plus-assoc}
 use Rattle.hz_word.proofs.Controlled.{most_in, totals-IsSound}
 
@@ -154,20 +154,20 @@ count-form controlling cap m n first last first' last' =
     let ends_right = bit-right last last' in
     elim (cases_Bool (nat_le (2 * m + bit first + bit last) cap)) [
       | inl within ↦ elim (cases_Bool (nat_le (2 * n + bit first' + bit last') cap)) [
-          | inl within' ↦
-              rw (within, within')
-              (ap (capped_count cap) (
-                rw (first-letter_of controlling first, first-letter_of controlling first', last-form controlling m first last, last-form controlling n first' last')
-                (omega arith)))
-          | inr beyond ↦
-              rw (within, beyond) (beyond-most cap (2 * n + bit first' + bit last') beyond (2 * (m + n) + bit (first || first') + bit (last || last')) (omega arith))
-        ]
+        | inl within' ↦
+            rw (within, within')
+            (ap (capped_count cap) (
+            rw (first-letter_of controlling first, first-letter_of controlling first', last-form controlling m first last, last-form controlling n first' last')
+            (omega arith)))
+        | inr beyond ↦
+            rw (within, beyond) (beyond-most cap (2 * n + bit first' + bit last') beyond (2 * (m + n) + bit (first || first') + bit (last || last')) (omega arith))
+      ]
       | inr beyond ↦ elim (cases_Bool (nat_le (2 * n + bit first' + bit last') cap)) [
-          | inl within ↦
-              rw (beyond, within) (beyond-most cap (2 * m + bit first + bit last) beyond (2 * (m + n) + bit (first || first') + bit (last || last')) (omega arith))
-          | inr beyond' ↦
-              rw (beyond, beyond') (beyond-most cap (2 * m + bit first + bit last) beyond (2 * (m + n) + bit (first || first') + bit (last || last')) (omega arith))
-        ]
+        | inl within ↦
+            rw (beyond, within) (beyond-most cap (2 * m + bit first + bit last) beyond (2 * (m + n) + bit (first || first') + bit (last || last')) (omega arith))
+        | inr beyond' ↦
+            rw (beyond, beyond') (beyond-most cap (2 * m + bit first + bit last) beyond (2 * (m + n) + bit (first || first') + bit (last || last')) (omega arith))
+      ]
     ]
 
 first-pair : (controlling first first' : Bool) → (if beq (letter_of controlling first) controlling then controlling else letter_of controlling first') ≡ letter_of controlling (first || first')
@@ -203,10 +203,10 @@ fold-form : (controlling : Bool) (cap : ℕ) (t : Totals) (words : List (List Bo
 fold-form controlling cap t [] are_words = ap (form controlling cap) (plus-nothing t)
 fold-form controlling cap t (word ∷ words) are_words =
     let step = ap (controlled_pair controlling cap (form controlling cap t)) (capped-form controlling cap word are_words.0)
-        ∙ pair-form controlling cap t (of_word controlling word) in
+    ∙ pair-form controlling cap t (of_word controlling word) in
     ap (λ so_far. fold (controlled_pair controlling cap) so_far (map (capped cap) words)) step
     ∙ (fold-form controlling cap (plus t (of_word controlling word)) words are_words.1
-      ∙ ap (form controlling cap) (sym (plus-assoc t (of_word controlling word) (totals controlling words))))
+    ∙ ap (form controlling cap) (sym (plus-assoc t (of_word controlling word) (totals controlling words))))
 
 form-nothing : (controlling : Bool) (cap : ℕ) → constant (not controlling) ≡ form controlling cap nothing
 form-nothing controlling cap = same_fields refl (sym (capped_count-zero cap))
@@ -220,9 +220,9 @@ pub fold-controlled : (controlling : Bool) (cap : ℕ) (words : List (List Bool)
 fold-controlled controlling cap words are_words =
     ap (λ so_far. fold (controlled_pair controlling cap) so_far (map (capped cap) words)) (form-nothing controlling cap)
     ∙ (fold-form controlling cap nothing words are_words
-      ∙ (ap (form controlling cap) (by_fields refl refl refl (omega arith))
-        ∙ form-most controlling cap (totals controlling words).fixed (totals controlling words).first (totals controlling words).last (totals controlling words).further
-          (totals-IsSound controlling words).begins))
+    ∙ (ap (form controlling cap) (by_fields refl refl refl (omega arith))
+    ∙ form-most controlling cap (totals controlling words).fixed (totals controlling words).first (totals controlling words).last (totals controlling words).further
+    (totals-IsSound controlling words).begins))
 
 -- parity
 beq-true : (b : Bool) → b ≡ beq true b
@@ -255,13 +255,13 @@ sum-capped : (cap m n : ℕ) → sum_count cap (capped_count cap m) (capped_coun
 sum-capped cap m n =
     elim (cases_Bool (nat_le m cap)) [
       | inl within ↦ elim (cases_Bool (nat_le n cap)) [
-          | inl within' ↦ rw (within, within') refl
-          | inr beyond ↦ rw (within, beyond) (beyond-most cap n beyond (m + n) (omega arith))
-        ]
+        | inl within' ↦ rw (within, within') refl
+        | inr beyond ↦ rw (within, beyond) (beyond-most cap n beyond (m + n) (omega arith))
+      ]
       | inr beyond ↦ elim (cases_Bool (nat_le n cap)) [
-          | inl within ↦ rw (beyond, within) (beyond-most cap m beyond (m + n) (omega arith))
-          | inr beyond' ↦ rw (beyond, beyond') (beyond-most cap m beyond (m + n) (omega arith))
-        ]
+        | inl within ↦ rw (beyond, within) (beyond-most cap m beyond (m + n) (omega arith))
+        | inr beyond' ↦ rw (beyond, beyond') (beyond-most cap m beyond (m + n) (omega arith))
+      ]
     ]
 
 fold-odd : (cap : ℕ) (first : Bool) (n : ℕ) (words : List (List Bool)) → fold (parity_pair cap) (record { first = first; changes = capped_count cap n }) (map (capped cap) words) ≡ record { first = not (beq first (odd_pins (present_letters words))); changes = capped_count cap (n + steps_left words) }
@@ -269,9 +269,9 @@ fold-odd cap first n [] = same_fields (not-beq-no first) (ap (capped_count cap) 
 fold-odd cap first n (word ∷ words) =
     ap (λ so_far. fold (parity_pair cap) so_far (map (capped cap) words)) (same_fields refl (sum-capped cap n (change_count word)))
     ∙ (fold-odd cap (not (beq first (first_letter word))) (n + change_count word) words
-      ∙ same_fields
-        (parity-assoc first (first_letter word) (odd_pins (present_letters words)) ∙ ap (λ odd. not (beq first odd)) (sym (odd-cons (first_letter word) (present_letters words))))
-        (ap (capped_count cap) (omega arith)))
+    ∙ same_fields
+    (parity-assoc first (first_letter word) (odd_pins (present_letters words)) ∙ ap (λ odd. not (beq first odd)) (sym (odd-cons (first_letter word) (present_letters words))))
+    (ap (capped_count cap) (omega arith)))
 
 pub fold-parity : (cap : ℕ) (words : List (List Bool)) → fold (parity_pair cap) (constant false) (map (capped cap) words) ≡ record { first = odd_pins (present_letters words); changes = capped_count cap (steps_left words) }
 fold-parity cap words =

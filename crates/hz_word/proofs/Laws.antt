@@ -1,5 +1,5 @@
 -- The laws that callers of this crate use: one word, parts of walks bounded by it, and completed.
-use Rattle.std.proofs.Common.{◌≡◌, ℕ, ◌≤◌, Bool, true, false, List, [], ◌∷◌, ◌++◌, length, IsTrue, refl, ◌∙◌}
+use Rattle.std.proofs.Common.{◌≡◌, ◌≤◌, Bool, false, List, [], ◌∷◌, ◌++◌, length, IsTrue, refl}
 use Rattle.hz_core.specs.declared.kind.Kind.{Kind}
 use Rattle.hz_core.specs.Gate.{takes, gate_value, odd_pins}
 use Rattle.hz_word.specs.Word.{AreWords, change_count}

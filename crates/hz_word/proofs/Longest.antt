@@ -1,5 +1,5 @@
 -- The word of a kind over words: there is one, and it is the longest for parts of walks too.
-use Rattle.std.proofs.Common.{◌≡◌, ℕ, zero, suc, ◌+◌, ◌-◌, ◌≤◌, Bool, true, false, not, ◌==◌, List, [], ◌∷◌, length, IsTrue, refl, sym, ap, ◌∙◌, arith}
+use Rattle.std.proofs.Common.{◌≡◌, ℕ, zero, suc, ◌≤◌, Bool, true, false, not, List, [], ◌∷◌, length, IsTrue, refl, sym, ap, ◌∙◌, arith}
 use Rattle.std.proofs.lemmas.Bool.{eqb-true, false≢true, true≢false}
 use Rattle.hz_core.specs.declared.kind.Kind.{Kind}
 use Rattle.hz_core.specs.declared.kind.Kind.TheVariants.{And, Nand, Or, Nor, Xor, Xnor, Not, Buff}
@@ -112,7 +112,6 @@ same_word (true ∷ rest) (false ∷ rest') one other e f = absurd (true≢false
 same_word (false ∷ rest) (true ∷ rest') one other e f = absurd (false≢true e)
 
 module _ (kind : Kind) (words : List (List Bool)) (are_words : AreWords words) (has : HasPins (connective kind) (length words)) where
-
   potential : IsPotential (gate_value kind) (longest (connective kind)) (length words)
   potential = longest-IsPotential (connective kind) (inverts kind) (length words) has
 
@@ -133,7 +132,7 @@ module _ (kind : Kind) (words : List (List Bool)) (are_words : AreWords words) (
         is_word = alternating-IsWord (gate_value kind (present_letters words)) (longest (connective kind) words);
         begins = first_letter-alternating (gate_value kind (present_letters words)) (longest (connective kind) words);
         attained = (walk.0, walk.1, walk_same ∙ sym same);
-        most = λ moves is_walk. let bound = part-longest moves (part-from_walk words moves is_walk) in omega arith
+        most = λ moves is_walk. let bound = part-longest moves (part-from_walk words moves is_walk) in omega arith;
       }
 
   -- any word of the kind has this number of changes

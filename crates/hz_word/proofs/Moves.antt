@@ -1,8 +1,8 @@
 -- What a move leaves: words, as many as before; and a move of one word alone.
-use Rattle.std.proofs.Common.{◌≡◌, ℕ, zero, suc, ◌+◌, ◌-◌, ◌<◌, ◌≤◌, Bool, true, false, not, List, [], ◌∷◌, map, length, drop, IsTrue, refl, sym, ap, ◌∙◌, arith}
-use Rattle.std.proofs.lemmas.Bool.{false≢true, true≢false}
-use Rattle.hz_word.specs.Word.{Alternates, IsWord, AreWords}
-use Rattle.hz_word.specs.Walk.{MayAdvance, IsMove, after_move}
+use Rattle.std.proofs.Common.{◌≡◌, ℕ, suc, ◌+◌, ◌-◌, ◌<◌, Bool, true, false, List, [], ◌∷◌, map, length, drop, refl, ap, arith}
+use Rattle.std.proofs.lemmas.Bool.{false≢true}
+use Rattle.hz_word.specs.Word.{IsWord, AreWords}
+use Rattle.hz_word.specs.Walk.{MayAdvance, after_move}
 
 -- the moves of one word that are left until all words are at their ends
 abbrev pub steps_left : List (List Bool) → ℕ

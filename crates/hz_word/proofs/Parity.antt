@@ -1,13 +1,11 @@
 -- Parity: the most changes of a walk are the changes of all words together.
-use Rattle.std.proofs.Common.{◌≡◌, ℕ, zero, suc, ◌+◌, ◌-◌, ◌<◌, ◌≤◌, Bool, true, false, not, List, [], ◌∷◌, length, drop, IsTrue, refl, sym, ap, ◌∙◌, ◌⊎◌, inl, inr, arith}
-use Rattle.std.specs.Bool.{beq}
-use Rattle.std.proofs.lemmas.Bool.{false≢true, true≢false}
+use Rattle.std.proofs.Common.{◌≡◌, ℕ, ◌+◌, ◌-◌, ◌<◌, ◌≤◌, Bool, true, false, not, List, [], ◌∷◌, length, drop, IsTrue, refl, ◌∙◌, inl, inr, arith}
+use Rattle.std.proofs.lemmas.Bool.{false≢true}
 use Rattle.hz_core.specs.Gate.{some_pin, odd_pins, complemented_if}
-use Rattle.hz_word.specs.Word.{IsWord, AreWords}
-use Rattle.hz_word.specs.Walk.{present_letters, MayAdvance, IsMove, after_move, AreAtTheirEnds, change}
+use Rattle.hz_word.specs.Walk.{present_letters, MayAdvance, after_move, AreAtTheirEnds, change}
 use Rattle.hz_word.proofs.Moves.{steps_left, length-after_move}
 use Rattle.hz_word.proofs.Potentials.{IsTight, IsPotential}
-use Rattle.hz_word.proofs.Search.{Found, NonePasses, search_words, ends-from_none}
+use Rattle.hz_word.proofs.Search.{Found, search_words, ends-from_none}
 
 change-le : (a b : Bool) → change a b ≤ 1
 change-le true true = omega arith
@@ -56,31 +54,30 @@ ends-left [] ends = refl
 ends-left (word ∷ words) ends = let e = ends.0 in let f = ends-left words ends.1 in omega arith
 
 module _ (gate : List Bool → Bool) (inverted : Bool) (pins : ℕ)
-  (is : (words : List (List Bool)) → length words ≡ pins → gate (present_letters words) ≡ complemented_if inverted (odd_pins (present_letters words))) where
-
+    (is : (words : List (List Bool)) → length words ≡ pins → gate (present_letters words) ≡ complemented_if inverted (odd_pins (present_letters words))) where
   tight_one : (words : List (List Bool)) → length words ≡ pins → (found : Found true (λ word. true) words) → IsTight gate steps_left words found.move
   tight_one words long found =
       let e = is words long in
       let f = is (after_move words found.move) (length-after_move words found.move ∙ long) in
       let turned = change-complemented inverted (odd_pins (present_letters words)) (odd_pins (present_letters (after_move words found.move)))
-          ∙ change-not (odd_pins (present_letters words)) (odd_pins (present_letters (after_move words found.move))) found.odd in
+      ∙ change-not (odd_pins (present_letters words)) (odd_pins (present_letters (after_move words found.move))) found.odd in
       let one : change (gate (present_letters words)) (gate (present_letters (after_move words found.move))) ≡ 1 = rw (e, f) turned in
       let shorter = found.shorter in
       record {
         is_move = (found.may, found.some);
         exact = omega arith;
-        shorter = shorter
+        shorter = shorter;
       }
 
   pub steps_left-IsPotential : IsPotential gate steps_left pins
   steps_left-IsPotential = record {
-      bound = λ words move are_words long is_move.
+    bound = λ words move are_words long is_move.
         let less = one_less words move is_move.0 is_move.1 in
         let one = change-le (gate (present_letters words)) (gate (present_letters (after_move words move))) in
         omega arith;
-      tight = λ words are_words long.
+    tight = λ words are_words long.
         elim (search_words true (λ word. true) words are_words) [
           | inl found ↦ inr (found.move, tight_one words long found)
           | inr none ↦ inl (ends-from_none words none, ends-left words (ends-from_none words none))
-        ]
-    }
+        ];
+  }

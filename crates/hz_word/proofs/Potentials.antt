@@ -1,6 +1,6 @@
 -- A potential of a gate: a number that each move lowers by at least the change that the gate makes, and some move by just
 -- that. So no walk has more changes than the potential at its begin, and some walk has as many.
-use Rattle.std.proofs.Common.{◌≡◌, ℕ, zero, suc, ◌+◌, ◌≤◌, Bool, List, [], ◌∷◌, length, refl, sym, ap, ◌∙◌, ◌⊎◌, inl, inr, arith}
+use Rattle.std.proofs.Common.{◌≡◌, ℕ, zero, suc, ◌+◌, ◌≤◌, Bool, List, [], ◌∷◌, length, refl, sym, ◌∙◌, ◌⊎◌, inl, inr, arith}
 use Rattle.hz_word.specs.Word.{AreWords}
 use Rattle.hz_word.specs.Walk.{present_letters, IsMove, after_move, AreAtTheirEnds, IsPartOfWalk, IsWalk, change, walk_changes}
 use Rattle.hz_word.proofs.Moves.{steps_left, after_move-AreWords, length-after_move}
@@ -16,13 +16,12 @@ pub record IsPotential (gate : List Bool → Bool) (potential : List (List Bool)
   pub tight : (words : List (List Bool)) → AreWords words → length words ≡ pins → (AreAtTheirEnds words × (potential words ≡ 0)) ⊎ ((move : List Bool) × IsTight gate potential words move)
 
 module _ (gate : List Bool → Bool) (potential : List (List Bool) → ℕ) (pins : ℕ) (is : IsPotential gate potential pins) where
-
   -- no part of a walk has more changes than the potential
   pub bounded : (words moves : List (List Bool)) → AreWords words → length words ≡ pins → IsPartOfWalk words moves → walk_changes gate words moves ≤ potential words
   bounded words [] are_words long part = omega arith
   bounded words (move ∷ moves) are_words long part =
       let later = bounded (after_move words move) moves (after_move-AreWords words move are_words part.0.0)
-          (length-after_move words move ∙ long) part.1 in
+      (length-after_move words move ∙ long) part.1 in
       let now = is.bound words move are_words long part.0 in
       omega arith
 
@@ -47,7 +46,7 @@ module _ (gate : List Bool → Bool) (potential : List (List Bool) → ℕ) (pin
             let shorter = tight.shorter in
             from_move words found.0 tight
             (attained_in steps (after_move words found.0) (after_move-AreWords words found.0 are_words tight.is_move.0)
-              (length-after_move words found.0 ∙ long) (omega arith))
+            (length-after_move words found.0 ∙ long) (omega arith))
       ]
 
   pub attained : (words : List (List Bool)) → AreWords words → length words ≡ pins → (moves : List (List Bool)) × IsWalk words moves × (walk_changes gate words moves ≡ potential words)

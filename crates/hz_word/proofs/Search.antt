@@ -1,6 +1,5 @@
 -- A word that can advance and passes a test, found in a list of words, and the move in which it alone advances.
-use Rattle.std.proofs.Common.{◌≡◌, ℕ, zero, suc, ◌+◌, ◌<◌, Bool, true, false, not, ◌||◌, List, [], ◌∷◌, length, IsTrue, refl, sym, ap, ◌∙◌, ◌⊎◌, inl, inr, arith}
-use Rattle.std.specs.Bool.{beq}
+use Rattle.std.proofs.Common.{◌≡◌, ℕ, suc, Bool, true, false, not, ◌||◌, List, [], ◌∷◌, length, IsTrue, refl, sym, ap, ◌∙◌, ◌⊎◌, inl, inr, arith}
 use Rattle.std.proofs.lemmas.Bool.{false≢true, true≢false, cases_Bool}
 use Rattle.hz_core.specs.Gate.{some_pin, odd_pins}
 use Rattle.hz_core.proofs.Kleene.{odd_pins-true}
@@ -64,47 +63,46 @@ odd-rest true bits bits' e = odd_pins-true bits' ∙ ap not (e ∙ sym (odd_pins
 odd-rest false bits bits' e = e
 
 module _ (controlling : Bool) (test : List Bool → Bool) where
-
   -- the first word advances
   here : (letter : Bool) (rest : List Bool) (words : List (List Bool)) → test (letter ∷ not letter ∷ rest) ≡ true → Found controlling test ((letter ∷ not letter ∷ rest) ∷ words)
   here letter rest words passes = record {
-      move = true ∷ stay words;
-      may = (λ e. omega arith, stay-MayAdvance words);
-      some = refl;
-      letter = letter;
-      rest = rest;
-      passes = passes;
-      context = totals controlling words;
-      before = plus-comm (of_word controlling (letter ∷ not letter ∷ rest)) (totals controlling words);
-      after =
+    move = true ∷ stay words;
+    may = (λ e. omega arith, stay-MayAdvance words);
+    some = refl;
+    letter = letter;
+    rest = rest;
+    passes = passes;
+    context = totals controlling words;
+    before = plus-comm (of_word controlling (letter ∷ not letter ∷ rest)) (totals controlling words);
+    after =
         ap (λ others. plus (of_word controlling (not letter ∷ rest)) (totals controlling others)) (after_move-stay words)
         ∙ plus-comm (of_word controlling (not letter ∷ rest)) (totals controlling words);
-      odd =
+    odd =
         ap (λ others. odd_pins (not letter ∷ present_letters others)) (after_move-stay words)
         ∙ odd-first letter (present_letters words);
-      shorter = let e = ap steps_left (after_move-stay words) in omega arith
-    }
+    shorter = let e = ap steps_left (after_move-stay words) in omega arith;
+  }
 
   -- a later word advances
   later : (word : List Bool) (words : List (List Bool)) → IsWord word → Found controlling test words → Found controlling test (word ∷ words)
   later [] words is_word found = absurd is_word
   later (letter ∷ rest) words is_word found = record {
-      move = false ∷ found.move;
-      may = (λ e. absurd (false≢true e), found.may);
-      some = found.some;
-      letter = found.letter;
-      rest = found.rest;
-      passes = found.passes;
-      context = plus (of_word controlling (letter ∷ rest)) found.context;
-      before =
+    move = false ∷ found.move;
+    may = (λ e. absurd (false≢true e), found.may);
+    some = found.some;
+    letter = found.letter;
+    rest = found.rest;
+    passes = found.passes;
+    context = plus (of_word controlling (letter ∷ rest)) found.context;
+    before =
         ap (plus (of_word controlling (letter ∷ rest))) found.before
         ∙ plus-assoc (of_word controlling (letter ∷ rest)) found.context (of_word controlling (found.letter ∷ not found.letter ∷ found.rest));
-      after =
+    after =
         ap (plus (of_word controlling (letter ∷ rest))) found.after
         ∙ plus-assoc (of_word controlling (letter ∷ rest)) found.context (of_word controlling (not found.letter ∷ found.rest));
-      odd = odd-rest letter (present_letters words) (present_letters (after_move words found.move)) found.odd;
-      shorter = let e = found.shorter in omega arith
-    }
+    odd = odd-rest letter (present_letters words) (present_letters (after_move words found.move)) found.odd;
+    shorter = let e = found.shorter in omega arith;
+  }
 
   pub search_words : (words : List (List Bool)) → AreWords words → Found controlling test words ⊎ NonePasses test words
   search_words [] are_words = inr tt
@@ -120,17 +118,17 @@ module _ (controlling : Bool) (test : List Bool → Bool) where
       elim (cases_Bool (test (true ∷ false ∷ rest))) [
         | inl passes ↦ inl (here true rest words passes)
         | inr fails ↦ elim (search_words words are_words.1) [
-            | inl found ↦ inl (later (true ∷ false ∷ rest) words are_words.0 found)
-            | inr none ↦ inr (inr fails, none)
-          ]
+          | inl found ↦ inl (later (true ∷ false ∷ rest) words are_words.0 found)
+          | inr none ↦ inr (inr fails, none)
+        ]
       ]
   search_words ((false ∷ true ∷ rest) ∷ words) are_words =
       elim (cases_Bool (test (false ∷ true ∷ rest))) [
         | inl passes ↦ inl (here false rest words passes)
         | inr fails ↦ elim (search_words words are_words.1) [
-            | inl found ↦ inl (later (false ∷ true ∷ rest) words are_words.0 found)
-            | inr none ↦ inr (inr fails, none)
-          ]
+          | inl found ↦ inl (later (false ∷ true ∷ rest) words are_words.0 found)
+          | inr none ↦ inr (inr fails, none)
+        ]
       ]
 
 -- if no word can advance, all are at their ends

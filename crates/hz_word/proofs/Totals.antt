@@ -1,6 +1,6 @@
 -- What the letters of words come to for a gate with a controlling letter, which alone gives the gate its value: 1 for OR,
 -- 0 for AND.
-use Rattle.std.proofs.Common.{◌≡◌, ℕ, zero, suc, ◌+◌, ◌*◌, ◌≤◌, Bool, true, false, not, ◌||◌, List, [], ◌∷◌, refl, sym, ap, ◌∙◌, ◌⊎◌, inl, inr, arith}
+use Rattle.std.proofs.Common.{◌≡◌, ℕ, zero, suc, ◌+◌, ◌*◌, ◌≤◌, Bool, true, false, ◌||◌, List, [], ◌∷◌, refl, sym, ◌∙◌, ◌⊎◌, inl, inr, arith}
 use Rattle.std.specs.Bool.{beq, if◌then◌else◌}
 use Rattle.std.proofs.lemmas.Bool.{false≢true, true≢false}
 use Rattle.hz_word.specs.Walk.{change}
@@ -40,19 +40,19 @@ pub record Totals : Type 0 where
 abbrev pub of_word : Bool → List Bool → Totals
 of_word letter [] = record { fixed = false; first = false; last = false; further = 0 }
 of_word letter (present ∷ rest) = record {
-    fixed = is_zero (others letter (present ∷ rest));
-    first = beq letter present;
-    last = beq letter (final present rest);
-    further = less_one (others letter (present ∷ rest))
-  }
+  fixed = is_zero (others letter (present ∷ rest));
+  first = beq letter present;
+  last = beq letter (final present rest);
+  further = less_one (others letter (present ∷ rest));
+}
 
 abbrev pub plus : Totals → Totals → Totals
 plus left right = record {
-    fixed = left.fixed || right.fixed;
-    first = left.first || right.first;
-    last = left.last || right.last;
-    further = left.further + right.further
-  }
+  fixed = left.fixed || right.fixed;
+  first = left.first || right.first;
+  last = left.last || right.last;
+  further = left.further + right.further;
+}
 
 abbrev pub nothing : Totals
 nothing = record { fixed = false; first = false; last = false; further = 0 }
@@ -103,15 +103,15 @@ or-right false b e = e
 
 pub plus-IsSound : (t u : Totals) → IsSound t → IsSound u → IsSound (plus t u)
 plus-IsSound t u st su = record {
-    begins = λ e. elim (or-true t.fixed u.fixed e) [
-      | inl l ↦ or-left t.first u.first (st.begins l)
-      | inr r ↦ or-right t.first u.first (su.begins r)
-    ];
-    ends = λ e. elim (or-true t.fixed u.fixed e) [
-      | inl l ↦ or-left t.last u.last (st.ends l)
-      | inr r ↦ or-right t.last u.last (su.ends r)
-    ]
-  }
+  begins = λ e. elim (or-true t.fixed u.fixed e) [
+    | inl l ↦ or-left t.first u.first (st.begins l)
+    | inr r ↦ or-right t.first u.first (su.begins r)
+  ];
+  ends = λ e. elim (or-true t.fixed u.fixed e) [
+    | inl l ↦ or-left t.last u.last (st.ends l)
+    | inr r ↦ or-right t.last u.last (su.ends r)
+  ];
+}
 
 pub plus-IsMoved : (t u t' u' : Totals) → IsMoved t t' → IsMoved u u' → IsMoved (plus t u) (plus t' u')
 plus-IsMoved t u t' u' mt mu =
@@ -126,23 +126,23 @@ plus-IsMoved t u t' u' mt mu =
       fewer = omega arith;
       rises = λ was is. elim (or-true t'.first u'.first is) [
         | inl l ↦ elim (mt.rises (or-false-left t.first u.first was) l) [
-            | inl fixed ↦ inl (or-left t'.fixed u'.fixed fixed)
-            | inr less ↦ inr (omega arith)
-          ]
+          | inl fixed ↦ inl (or-left t'.fixed u'.fixed fixed)
+          | inr less ↦ inr (omega arith)
+        ]
         | inr r ↦ elim (mu.rises (or-false-right t.first u.first was) r) [
-            | inl fixed ↦ inl (or-right t'.fixed u'.fixed fixed)
-            | inr less ↦ inr (omega arith)
-          ]
-      ]
+          | inl fixed ↦ inl (or-right t'.fixed u'.fixed fixed)
+          | inr less ↦ inr (omega arith)
+        ]
+      ];
     }
 
 pub same-IsMoved : (t : Totals) → IsMoved t t
 same-IsMoved t = record {
-    same_last = refl;
-    kept = λ e. e;
-    fewer = omega arith;
-    rises = λ was is. absurd (false≢true (sym was ∙ is))
-  }
+  same_last = refl;
+  kept = λ e. e;
+  fewer = omega arith;
+  rises = λ was is. absurd (false≢true (sym was ∙ is));
+}
 
 -- the bound, over plain values
 bound_by : (fixed fixed' first first' last : Bool) (further further' : ℕ) → (fixed ≡ true → fixed' ≡ true) → further' ≤ further → (first ≡ false → first' ≡ true → (fixed' ≡ true) ⊎ (further' + 1 ≤ further)) → (fixed ≡ true → first ≡ true) → (fixed' ≡ true → first' ≡ true) → (fixed' ≡ true → last ≡ true) → change first first' + most_by fixed' further' first' last ≤ most_by fixed further first last
@@ -168,4 +168,4 @@ pub bound : (t t' : Totals) → IsMoved t t' → IsSound t → IsSound t' → ch
 bound t t' moved sound sound' =
     let same = moved.same_last in
     rw same (bound_by t.fixed t'.fixed t.first t'.first t.last t.further t'.further moved.kept moved.fewer moved.rises sound.begins sound'.begins
-      (λ e. sym same ∙ sound'.ends e))
+    (λ e. sym same ∙ sound'.ends e))

@@ -1,5 +1,5 @@
 -- Histories, and the capped words that cover them.
-use Rattle.std.specs.Prelude.{◌≡◌, ℕ, ◌≤◌, Bool, if◌then◌else◌, List, [], ◌∷◌}
+use Rattle.std.specs.Prelude.{◌≡◌, ◌≤◌, Bool, if◌then◌else◌, List, [], ◌∷◌}
 use Rattle.std.specs.Bool.{beq}
 use Rattle.hz_word.specs.declared.count.Count.{Count}
 use Rattle.hz_word.specs.declared.count.Count.TheVariants.{Exact, Many}

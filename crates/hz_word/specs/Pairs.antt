@@ -1,5 +1,5 @@
 -- Capped words of gates with two pins: what `fold` makes of the word so far and the next pin.
-use Rattle.std.specs.Prelude.{◌≡◌, ℕ, ◌+◌, ◌-◌, ◌%◌, ◌≤◌, Bool, true, false, not, ◌&&◌, ◌||◌, if◌then◌else◌, List, ◌==◌}
+use Rattle.std.specs.Prelude.{ℕ, ◌+◌, ◌-◌, ◌%◌, Bool, true, false, not, ◌&&◌, ◌||◌, if◌then◌else◌, List, ◌==◌}
 use Rattle.std.specs.Bool.{beq}
 use Rattle.std.specs.List.{fold, slice_index_or}
 use Rattle.hz_core.specs.declared.kind.Kind.{Kind}
@@ -44,7 +44,7 @@ controlled_pair controlling cap left right =
     then constant controlling
     else record {
       first = if beq left.first controlling then controlling else right.first;
-      changes = controlled_count controlling cap left.first right.first left.changes right.changes
+      changes = controlled_count controlling cap left.first right.first left.changes right.changes;
     }
 
 -- the sum of two numbers of changes

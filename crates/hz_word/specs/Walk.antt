@@ -1,6 +1,6 @@
 -- Walks through a list of words, and the word of a gate over the words of its pins. Where a walk stands is told by what is
 -- left of each word, from its present letter on.
-use Rattle.std.specs.Prelude.{◌≡◌, ℕ, ◌+◌, ◌<◌, ◌≤◌, Bool, true, false, if◌then◌else◌, List, [], ◌∷◌, map, drop, length, IsTrue}
+use Rattle.std.specs.Prelude.{◌≡◌, ℕ, ◌+◌, ◌<◌, ◌≤◌, Bool, if◌then◌else◌, List, [], ◌∷◌, map, drop, length, IsTrue}
 use Rattle.std.specs.Bool.{beq}
 use Rattle.hz_core.specs.declared.kind.Kind.{Kind}
 use Rattle.hz_core.specs.Gate.{some_pin, gate_value}

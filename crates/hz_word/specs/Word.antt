@@ -1,5 +1,5 @@
 -- Words: what a variable shows on its way, letter by letter.
-use Rattle.std.specs.Prelude.{◌≡◌, ◌≢◌, ℕ, ◌-◌, Bool, false, List, [], ◌∷◌, length}
+use Rattle.std.specs.Prelude.{◌≢◌, ℕ, ◌-◌, Bool, false, List, [], ◌∷◌, length}
 use Rattle.std.specs.List.{slice_index_or}
 
 -- after a letter, each letter is not the one before it

@@ -15,7 +15,11 @@ impl Count {
         ensures value { result ≡ capped_count cap changes }
         ensures counted { IsCounted cap result }
     {
-        if changes <= cap { Count::Exact(changes) } else { Count::Many }
+        if changes <= cap {
+            Count::Exact(changes)
+        } else {
+            Count::Many
+        }
     }
 
     // The sum under a cap.

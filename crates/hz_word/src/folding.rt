@@ -4,10 +4,9 @@ ghost use Rattle.hz_core.specs.Gate.{takes};
 ghost use Rattle.hz_word.specs.Capped.{IsCounted, IsFold};
 ghost use Rattle.hz_word.specs.Pairs.{controlled_count, controlled_pair, constant, is_constant, kind_word, parity_pair};
 
-use hz_core::Kind;
-
 use crate::count::Count;
 use crate::word::{Word, last_after};
+use hz_core::Kind;
 
 /// The word of a gate, given the words of its pins: how often the gate may change at most, in whatever order its
 /// pins change.
@@ -40,7 +39,7 @@ fn pin_by_pin(kind: Kind, pins: &[Word], cap: u64) -> Word
     }
 }
 
-// A gate that has a controlling letter: it has this value if some pin has it.
+// A gate with a controlling letter, which alone gives the gate its value: 0 for AND, 1 for OR.
 fn controlled(controlling: bool, pins: &[Word], cap: u64) -> Word
     requires counted { All (λ pin. IsCounted cap pin.changes) pins.now }
     requires cap_high { cap ≤ 1000000 }
@@ -66,7 +65,7 @@ fn parity(pins: &[Word], cap: u64) -> Word
     so_far
 }
 
-// A pin that has the controlling letter alone fixes the gate.
+// The word of such a gate over two pins. A pin that has the controlling letter alone fixes it.
 fn controlled_pair(left: Word, right: Word, controlling: bool, cap: u64) -> Word
     requires counted_left { IsCounted cap left.changes }
     requires counted_right { IsCounted cap right.changes }
@@ -77,12 +76,20 @@ fn controlled_pair(left: Word, right: Word, controlling: bool, cap: u64) -> Word
     if left.is_constant(controlling) || right.is_constant(controlling) {
         return Word::constant(controlling);
     }
-    let first = if left.first == controlling { controlling } else { right.first };
-    Word { first, changes: controlled_count(left, right, controlling, cap) }
+    let first = if left.first == controlling {
+        controlling
+    } else {
+        right.first
+    };
+    Word {
+        first,
+        changes: controlled_count(left, right, controlling, cap),
+    }
 }
 
-// Each letter of the gate other than the controlling one, after the first such letter, comes from one more such letter of
-// one pin; so the changes of the pins add up, but for the ends at which both pins have the controlling letter.
+// The changes of two words of which neither is the controlling letter alone. While one rests on its other letter, the gate
+// follows the other one, so the changes add up. But if both begin with the controlling letter, the first change of one is
+// hidden, and if both end with it, the last change of one.
 fn controlled_count(left: Word, right: Word, controlling: bool, cap: u64) -> Count
     requires counted_left { IsCounted cap left.changes }
     requires counted_right { IsCounted cap right.changes }
@@ -94,9 +101,12 @@ fn controlled_count(left: Word, right: Word, controlling: bool, cap: u64) -> Cou
 {
     match (left.changes, right.changes) {
         (Count::Exact(of_left), Count::Exact(of_right)) => {
-            let begins = left.first == controlling && right.first == controlling;
-            let ends = last_after(left.first, of_left) == controlling && last_after(right.first, of_right) == controlling;
-            Count::capped(of_left + of_right - u64::from(begins) - u64::from(ends), cap)
+            let both_begin = left.first == controlling && right.first == controlling;
+            let last_left = last_after(left.first, of_left);
+            let last_right = last_after(right.first, of_right);
+            let both_end = last_left == controlling && last_right == controlling;
+            let changes = of_left + of_right - u64::from(both_begin) - u64::from(both_end);
+            Count::capped(changes, cap)
         }
         (Count::Exact(_), Count::Many) => Count::Many,
         (Count::Many, Count::Exact(_)) => Count::Many,
@@ -104,6 +114,7 @@ fn controlled_count(left: Word, right: Word, controlling: bool, cap: u64) -> Cou
     }
 }
 
+// The word of the parity of two pins.
 fn parity_pair(left: Word, right: Word, cap: u64) -> Word
     requires counted_left { IsCounted cap left.changes }
     requires counted_right { IsCounted cap right.changes }
@@ -111,5 +122,8 @@ fn parity_pair(left: Word, right: Word, cap: u64) -> Word
     ensures value { result ≡ parity_pair cap left right }
     ensures counted { IsCounted cap result.changes }
 {
-    Word { first: left.first != right.first, changes: left.changes.plus(right.changes, cap) }
+    Word {
+        first: left.first != right.first,
+        changes: left.changes.plus(right.changes, cap),
+    }
 }

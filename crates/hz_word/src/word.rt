@@ -19,7 +19,10 @@ impl Word {
         ensures value { result ≡ complement self }
         ensures letters { (cap : ℕ) (letters : List Bool) → IsWord letters → capped cap letters ≡ self → capped cap (map not letters) ≡ result }
     {
-        Word { first: !self.first, changes: self.changes }
+        Word {
+            first: !self.first,
+            changes: self.changes,
+        }
     }
 
     /// The last letter, where the number of changes is exact.
@@ -37,9 +40,13 @@ impl Word {
     pub(crate) fn constant(letter: bool) -> Word
         ensures { result ≡ constant letter }
     {
-        Word { first: letter, changes: Count::Exact(0) }
+        Word {
+            first: letter,
+            changes: Count::Exact(0),
+        }
     }
 
+    // Whether it is the word of this letter alone.
     pub(crate) fn is_constant(self, letter: bool) -> bool
         ensures { result ≡ is_constant letter self }
     {
