@@ -76,7 +76,7 @@ both One = refl
 both Unknown = refl
 
 -- of two numbers whose sum is 1, one is 1
-flipped : (m n : ℕ) → m + n ≡ 1 → (m == 1) ≡ not (n == 1)
+pub flipped : (m n : ℕ) → m + n ≡ 1 → (m == 1) ≡ not (n == 1)
 flipped zero n sum = let e : n ≡ 1 = omega arith in rw e refl
 flipped (suc zero) n sum = let e : n ≡ 0 = omega arith in rw e refl
 flipped (suc (suc m)) n sum = absurd (omega arith)

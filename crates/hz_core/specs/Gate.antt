@@ -1,5 +1,5 @@
 -- Gate functions: how many pins a kind of gate takes, and its value on a list of bits.
-use Rattle.std.specs.Prelude.{ℕ, ◌%◌, Bool, false, not, ◌&&◌, List, nat_le, ◌==◌}
+use Rattle.std.specs.Prelude.{ℕ, ◌%◌, Bool, true, false, not, ◌&&◌, List, nat_le, ◌==◌}
 use Rattle.std.specs.List.{list_any, list_all, count_by, slice_index_or}
 use Rattle.hz_core.specs.declared.kind.Kind.{Kind}
 use Rattle.hz_core.specs.declared.kind.Kind.TheVariants.{And, Nand, Or, Nor, Xor, Xnor, Not, Buff}
@@ -31,13 +31,47 @@ odd_pins pins = count_by (λ pin. pin) pins % 2 == 1
 abbrev pub only_pin : List Bool → Bool
 only_pin pins = slice_index_or pins 0 false
 
--- the gate function
+-- What a gate does with its pins before it complements the outcome, if it does.
+pub data Connective : Type 0 where
+  conjunction : Connective
+  disjunction : Connective
+  parity : Connective
+  copy : Connective
+
+-- the connective of a kind
+abbrev pub connective : Kind → Connective
+connective And = conjunction
+connective Nand = conjunction
+connective Or = disjunction
+connective Nor = disjunction
+connective Xor = parity
+connective Xnor = parity
+connective Not = copy
+connective Buff = copy
+
+-- whether a gate of a kind complements what its connective gives
+abbrev pub inverts : Kind → Bool
+inverts And = false
+inverts Nand = true
+inverts Or = false
+inverts Nor = true
+inverts Xor = false
+inverts Xnor = true
+inverts Not = true
+inverts Buff = false
+
+-- the value of a connective
+abbrev pub value_of : Connective → List Bool → Bool
+value_of conjunction pins = every_pin pins
+value_of disjunction pins = some_pin pins
+value_of parity pins = odd_pins pins
+value_of copy pins = only_pin pins
+
+-- a bit, complemented if the first one is 1
+abbrev pub complemented_if : Bool → Bool → Bool
+complemented_if false bit = bit
+complemented_if true bit = not bit
+
+-- the gate function: the value of the kind's connective, complemented if the kind inverts
 abbrev pub gate_value : Kind → List Bool → Bool
-gate_value And pins = every_pin pins
-gate_value Nand pins = not (every_pin pins)
-gate_value Or pins = some_pin pins
-gate_value Nor pins = not (some_pin pins)
-gate_value Xor pins = odd_pins pins
-gate_value Xnor pins = not (odd_pins pins)
-gate_value Not pins = not (only_pin pins)
-gate_value Buff pins = only_pin pins
+gate_value kind pins = complemented_if (inverts kind) (value_of (connective kind) pins)

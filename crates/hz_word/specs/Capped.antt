@@ -1,0 +1,31 @@
+-- The capped form of a word: its first letter and the number of its changes, if the cap allows to count them.
+use Rattle.std.specs.Prelude.{◌≡◌, ℕ, ◌≤◌, Bool, not, List, map, if◌then◌else◌, nat_le}
+use Rattle.hz_core.specs.declared.kind.Kind.{Kind}
+use Rattle.hz_word.specs.declared.count.Count.{Count}
+use Rattle.hz_word.specs.declared.count.Count.TheVariants.{Exact, Many}
+use Rattle.hz_word.specs.declared.word.Word.{Word}
+use Rattle.hz_word.specs.Word.{AreWords, first_letter, change_count}
+use Rattle.hz_word.specs.Walk.{IsWordOf}
+
+-- a number of changes under a cap
+abbrev pub capped_count : ℕ → ℕ → Count
+capped_count cap changes = if nat_le changes cap then Exact changes else Many
+
+-- the capped form
+abbrev pub capped : ℕ → List Bool → Word
+capped cap word = record { first = first_letter word; changes = capped_count cap (change_count word) }
+
+-- the complement of a capped word
+abbrev pub complement : Word → Word
+complement word = record { first = not word.first; changes = word.changes }
+
+-- a number that is exact is at most the cap
+abbrev pub IsCounted : ℕ → Count → Type 0
+IsCounted cap (Exact changes) = changes ≤ cap
+IsCounted cap Many = Unit {0}
+
+-- For all words whose capped forms are the pins, there is the word of the kind over them, and this is its capped form.
+abbrev pub IsFold : Kind → List Word → ℕ → Word → Type 0
+IsFold kind pins cap outcome =
+    (words : List (List Bool)) → AreWords words → map (capped cap) words ≡ pins →
+    (word : List Bool) × IsWordOf kind words word × (capped cap word ≡ outcome)
