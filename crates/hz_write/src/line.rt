@@ -109,7 +109,7 @@ impl Line {
     }
 
     /// Puts what waits, if anything does.
-    fn put_waiting<K: Sink>(&mut self, out: &mut K) -> Result<(), PutFault>
+    pub(crate) fn put_waiting<K: Sink>(&mut self, out: &mut K) -> Result<(), PutFault>
         ensures wrote { Wrote K.written K.faults self.old out.old out.new result }
         ensures emptied { self.new ≡ [] }
     {
