@@ -1,9 +1,11 @@
 -- Calls of a writer one after the other: what was given in all, and what its end answers.
-use Rattle.std.proofs.Common.{◌≡◌, ◌∙◌, refl, sym, ap, ℕ, ◌+◌, ◌<◌, Bool, true, false, List, [], ◌∷◌, ◌++◌, length, take, drop, Option, Some, None, is_some, Result, Ok, Err, append_assoc, zero-add}
+use Rattle.std.proofs.Common.{◌≡◌, ◌∙◌, refl, sym, ap, ℕ, ◌+◌, ◌<◌, Bool, true, false, List, [], ◌∷◌, ◌++◌, get_or, slice_get, take, drop, Option, Some, None, is_some, Result, Ok, Err, append_assoc, zero-add}
 use Rattle.std.specs.List.{flat_map, range_with_len}
-use Rattle.std.proofs.lemmas.List.{append-nil, map-id, take-append-drop}
+use Rattle.std.proofs.lemmas.List.{append-nil, map-id, take_more, take-append-drop}
 use Rattle.std.proofs.lemmas.List.Concat.{flat_map-append}
 use Rattle.std.proofs.lemmas.List.FromFn.{map-range_with_len_more}
+use Rattle.std.proofs.lemmas.Option.{same_Some, get_or_from_slice_get, slice_get_within}
+use Rattle.hz_outside.specs.Written.{grown}
 use Rattle.hz_outside.specs.declared.fault.PutFault.{PutFault}
 use Rattle.hz_write.specs.declared.writer.Writer.{Writer}
 use Rattle.hz_write.specs.Writes.{newline, Puts, Stops, Wrote, Waits, Added}
@@ -18,6 +20,21 @@ flat_map_of_range text_of n =
     ∙ ap (λ (numbers : List ℕ). numbers ++ n ∷ []) (map-id (range_with_len 0 n)) in
     ap (flat_map text_of) more ∙ flat_map-append text_of (range_with_len 0 n) (n ∷ [])
     ∙ ap (λ (text : List ℕ). flat_map text_of (range_with_len 0 n) ++ text) (append-nil (text_of n))
+
+-- one item more
+pub flat_map_of_take : {X : Type 0} (text_of : X → List ℕ) (items : List X) (i : ℕ) (item : X) → slice_get items i ≡ Some item
+    → flat_map text_of (take (i + 1) items) ≡ flat_map text_of (take i items) ++ text_of item
+flat_map_of_take text_of items i item there =
+    let is : get_or items i item ≡ item = get_or_from_slice_get items i item item there in
+    ap (flat_map text_of) (take_more items i item (slice_get_within items i item there))
+    ∙ flat_map-append text_of (take i items) (get_or items i item ∷ [])
+    ∙ ap (λ (text : List ℕ). flat_map text_of (take i items) ++ text) (append-nil (text_of (get_or items i item)))
+    ∙ ap (λ (last : _). flat_map text_of (take i items) ++ text_of last) is
+
+-- what a sink in memory has, if a whole text was written to it as a new one
+pub plain_bytes : {text bytes : List ℕ} → Some bytes ≡ grown (Some []) text → bytes ≡ text
+unfolding grown
+plain_bytes {text} {bytes} grew = same_Some bytes text grew
 
 no_fault : (fault : Option PutFault) → is_some fault ≡ false → fault ≡ None
 no_fault None h = refl
