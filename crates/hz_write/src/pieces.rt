@@ -12,6 +12,8 @@ pub enum Piece<'a> {
     Text(&'a [u8]),
     /// A number in decimal digits.
     Number(u32),
+    /// How many items there are, in decimal digits.
+    Count(usize),
 }
 
 /// Writes the line of these pieces.

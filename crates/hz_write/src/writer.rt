@@ -45,21 +45,30 @@ impl<'k, K: Sink> Writer<'k, K> {
         }
     }
 
-    /// Gives a number in decimal digits.
-    pub fn number(&mut self, number: u32)
+    // Gives a number in decimal digits.
+    fn number(&mut self, number: u32)
         ensures { Writes K.written K.faults (decimal number) self.old self.new }
     {
         let mut digits = Buffer::new();
         self.text(digits.format(number).as_bytes());
     }
 
-    /// Gives a piece.
-    pub fn piece(&mut self, piece: Piece<'_>)
+    // Gives a number of items in decimal digits.
+    fn count(&mut self, count: usize)
+        ensures { Writes K.written K.faults (decimal count) self.old self.new }
+    {
+        let mut digits = Buffer::new();
+        self.text(digits.format(count).as_bytes());
+    }
+
+    // Gives a piece.
+    fn piece(&mut self, piece: Piece<'_>)
         ensures { Writes K.written K.faults (piece_text piece.entry) self.old self.new }
     {
         match piece {
             Piece::Text(text) => self.text(text),
             Piece::Number(number) => self.number(number),
+            Piece::Count(count) => self.count(count),
         }
     }
 
