@@ -1,5 +1,5 @@
 -- The size of a network by the counts of its circuit, and its nodes.
-use Rattle.std.proofs.Common.{◌≡◌, ℕ, ◌-◌, ◌<◌, ◌≤◌, Bool, List, length, take, arith, sym}
+use Rattle.std.proofs.Common.{◌≡◌, ℕ, ◌-◌, ◌<◌, ◌≤◌, Bool, List, length, take, arith}
 use Rattle.std.proofs.lemmas.List.{length-take-le}
 use Rattle.hz_core.specs.Netlist.{Netlist, IsCircuit, pin_count, variable_count}
 use Rattle.hz_net.specs.Network.{network_of}

@@ -1,6 +1,6 @@
 -- Calls of a writer one after the other: what was given in all, and what its end answers.
-use Rattle.std.proofs.Common.{◌≡◌, ◌∙◌, refl, sym, ap, ℕ, ◌+◌, ◌<◌, Bool, true, false, List, [], ◌∷◌, ◌++◌, get_or, slice_get, take, drop, Option, Some, None, is_some, Result, Ok, Err, append_assoc, zero-add}
-use Rattle.std.specs.List.{flat_map, range_with_len}
+use Rattle.std.proofs.Common.{◌≡◌, ◌∙◌, refl, sym, ap, ℕ, ◌+◌, true, false, List, [], ◌∷◌, ◌++◌, get_or, slice_get, map, take, drop, Option, Some, None, is_some, Result, Err, append_assoc, zero-add}
+use Rattle.std.specs.List.{concat, flat_map, range_with_len}
 use Rattle.std.proofs.lemmas.List.{append-nil, map-id, take_more, take-append-drop}
 use Rattle.std.proofs.lemmas.List.Concat.{flat_map-append}
 use Rattle.std.proofs.lemmas.List.FromFn.{map-range_with_len_more}
@@ -8,9 +8,9 @@ use Rattle.std.proofs.lemmas.Option.{same_Some, get_or_from_slice_get, slice_get
 use Rattle.hz_outside.specs.Written.{grown}
 use Rattle.hz_outside.specs.declared.fault.PutFault.{PutFault}
 use Rattle.hz_write.specs.declared.writer.Writer.{Writer}
-use Rattle.hz_write.specs.Writes.{newline, Puts, Stops, Wrote, Waits, Added}
+use Rattle.hz_write.specs.Writes.{Puts, Stops, Wrote, Waits}
 use Rattle.hz_write.specs.Writer.{Given, Begins, Writes, Finishes}
-use Rattle.hz_write.proofs.Writing.{Puts-nil, Puts-append, Waits-start, Waits-append, Puts-waiting, Stops-longer, Stops-append, Stops-waiting}
+use Rattle.hz_write.proofs.Writing.{Waits-start, Waits-append, Puts-waiting, Stops-longer, Stops-waiting, Wrote-ended}
 
 -- one number more of a range from 0
 pub flat_map_of_range : (text_of : ℕ → List ℕ) (n : ℕ) → flat_map text_of (range_with_len 0 (n + 1)) ≡ flat_map text_of (range_with_len 0 n) ++ text_of n
@@ -20,6 +20,11 @@ flat_map_of_range text_of n =
     ∙ ap (λ (numbers : List ℕ). numbers ++ n ∷ []) (map-id (range_with_len 0 n)) in
     ap (flat_map text_of) more ∙ flat_map-append text_of (range_with_len 0 n) (n ∷ [])
     ∙ ap (λ (text : List ℕ). flat_map text_of (range_with_len 0 n) ++ text) (append-nil (text_of n))
+
+-- the texts of items, one after the other
+pub concat-texts : {X : Type 0} (text_of : X → List ℕ) (items : List X) → concat (map text_of items) ≡ flat_map text_of items
+concat-texts text_of [] = refl
+concat-texts text_of (item ∷ items) = ap (λ (rest : List ℕ). text_of item ++ rest) (concat-texts text_of items)
 
 -- one item more
 pub flat_map_of_take : {X : Type 0} (text_of : X → List ℕ) (items : List X) (i : ℕ) (item : X) → slice_get items i ≡ Some item
@@ -113,18 +118,12 @@ module _ {S : Type 0} {written : S → Option (List ℕ)} {faults : S → ℕ} w
 
 -- the answers of writers: here all is explicit, since an answer computes
 module _ {S : Type 0} (written : S → Option (List ℕ)) (faults : S → ℕ) where
-  -- what waited was put, or was not
-  wrote_waiting : (text waiting : List ℕ) (a b c : S) (result : Result (Unit {0}) PutFault)
-      → Waits written faults text a b waiting → Wrote written faults waiting b c result → Wrote written faults text a c result
-  wrote_waiting text waiting a b c (Ok _) w p = rw w.parts at (Puts-append w.puts p)
-  wrote_waiting text waiting a b c (Err fault) w s = rw w.parts at (Stops-append w.puts s)
-
   -- the end of a writer without a fault
   pub finishes_waiting : (writer : Writer S) (now : S) (result : Result (Unit {0}) PutFault) → writer.fault ≡ None
       → Wrote written faults writer.line writer.out.now now result → Finishes written faults writer now result
   unfolding Given
   finishes_waiting writer now result none wrote = record {
-    wrote = λ start text given. wrote_waiting text writer.line start writer.out.now now result (rw none at given) wrote;
+    wrote = λ start text given. Wrote-ended written faults text writer.line start writer.out.now now result (rw none at given) wrote;
   }
 
   -- the end of a writer with a fault

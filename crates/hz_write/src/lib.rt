@@ -17,5 +17,5 @@ mod tests;
 mod writer;
 
 pub use line::{BUFFER_SIZE, Line};
-pub use pieces::{Piece, put_line};
-pub use writer::Writer;
+pub use pieces::Piece;
+pub use writer::{Writer, put_line};

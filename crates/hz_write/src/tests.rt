@@ -50,6 +50,9 @@ fn a_text_of_lines(rt: HostRuntime) -> Result<(), Fail> {
     writer.add(&[Text(b"end "), Number(0)]);
     assert!(rt; !writer.has_failed());
     assert_eq!(rt; writer.finish(), Ok(()));
-    assert_eq!(rt; whole.into_bytes().as_slice(), b"line\ncount 65536\nend 0".as_slice());
+    assert_eq!(rt;
+        whole.into_bytes().as_slice(),
+        b"line\ncount 65536\nend 0".as_slice()
+    );
     Ok(())
 }

@@ -1,9 +1,9 @@
 //! A writer of lines, which keeps its first fault.
-ghost use Rattle.std.specs.Prelude.{◌≡◌, ◌++◌, decimal, is_some};
+ghost use Rattle.std.specs.Prelude.{◌≡◌, ◌++◌, map, decimal, is_some};
 ghost use Rattle.std.specs.List.{flat_map};
 ghost use Rattle.hz_write.specs.Pieces.{piece_text};
 ghost use Rattle.hz_write.specs.Writer.{Begins, Writes, Finishes};
-ghost use Rattle.hz_write.specs.Writes.{newline};
+ghost use Rattle.hz_write.specs.Writes.{newline, line_of, Wrote};
 
 use super::line::Line;
 use super::pieces::Piece;
@@ -122,4 +122,13 @@ impl<'k, K: Sink> Writer<'k, K> {
             None => line.put_waiting(out),
         }
     }
+}
+
+/// Writes a text that is one line, that of these pieces.
+pub fn put_line<K: Sink>(out: &mut K, pieces: &[Piece<'_>]) -> Result<(), PutFault>
+    ensures { Wrote K.written K.faults (line_of (map piece_text pieces.now)) out.old out.new result }
+{
+    let mut writer = Writer::new(out);
+    writer.line(pieces);
+    writer.finish()
 }

@@ -1,5 +1,5 @@
 -- The line of each node.
-use Rattle.std.proofs.Common.{◌≡◌, ◌<◌, sym, length, arith}
+use Rattle.std.proofs.Common.{◌≡◌, sym, length, arith}
 use Rattle.hz_write.proofs.Writers.{writes_then, flat_map_of_range}
 use Rattle.hz_report.specs.Finding.{finding_of}
 use Rattle.hz_report.specs.Report.{node_line, node_lines}

@@ -1,6 +1,5 @@
 -- The nodes come first in a state.
-use Rattle.std.proofs.Common.{◌≡◌, ◌∙◌, sym, ap, length}
-use Rattle.hz_core.specs.Netlist.{Netlist}
+use Rattle.std.proofs.Common.{◌≡◌, sym, length}
 use Rattle.hz_report.specs.Report.{start_line}
 use Rattle.hz_report.proofs.Lines.{length-nodes}
 use Rattle.hz_report.proofs.head.write_start.Goals as goal

@@ -1,7 +1,6 @@
 -- The printed text is a run text without fault, and stands for what was printed.
-use Rattle.std.proofs.Common.{◌≡◌, ◌∙◌}
+use Rattle.std.proofs.Common.{◌∙◌}
 use Rattle.hz_write.proofs.Writers.{plain_bytes}
-use Rattle.hz_text.specs.RunPrinted.{run_text_printed}
 use Rattle.hz_text.proofs.RunPrintedLaws.{printed-faultless, printed-value}
 use Rattle.hz_text.proofs.run.print.print_run.Goals as goal
 

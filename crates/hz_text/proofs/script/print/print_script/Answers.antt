@@ -1,5 +1,5 @@
 -- The printed text is a script without fault, and stands for what was printed.
-use Rattle.std.proofs.Common.{◌≡◌, ◌∙◌}
+use Rattle.std.proofs.Common.{◌∙◌}
 use Rattle.hz_write.proofs.Writers.{plain_bytes}
 use Rattle.hz_text.proofs.PrintLaws.{printed-faultless, printed-value}
 use Rattle.hz_text.proofs.script.print.print_script.Goals as goal
