@@ -1,15 +1,10 @@
 -- How a text that may be told grows.
-use Rattle.std.specs.Prelude.{◌≡◌, ℕ, List, [], ◌∷◌, ◌++◌, Option, Some, None}
+use Rattle.std.specs.Prelude.{◌≡◌, ℕ, List, ◌++◌, Option, Some, None}
 
 -- the text with more bytes after it, where it is told
 unfoldable pub grown : Option (List ℕ) → List ℕ → Option (List ℕ)
 grown None more = None
 grown (Some text) more = Some (text ++ more)
-
--- the pieces one after the other
-unfoldable pub joined : List (List ℕ) → List ℕ
-joined [] = []
-joined (piece ∷ pieces) = piece ++ joined pieces
 
 -- a text grew by a front of the piece, and the rest was not written
 pub record GrewByFront (was : Option (List ℕ)) (piece : List ℕ) (now : Option (List ℕ)) : Type 0 where

@@ -36,6 +36,13 @@ impl PlainSink {
     {
         self.bytes.as_slice()
     }
+
+    /// What was written, as bytes of their own.
+    pub fn into_bytes(self) -> Vec<u8>
+        ensures { result.items ≡ self }
+    {
+        self.bytes
+    }
 }
 
 impl Sink for PlainSink {

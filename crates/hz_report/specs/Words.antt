@@ -1,14 +1,9 @@
 -- What lines are made of: letters of values, names of nodes.
-use Rattle.std.specs.Prelude.{ℕ, Bool, List, [], ◌∷◌, codes}
+use Rattle.std.specs.Prelude.{ℕ, List, [], codes}
 use Rattle.std.specs.List.{slice_index_or}
 use Rattle.hz_core.specs.declared.tri.Tri.{Tri}
 use Rattle.hz_core.specs.declared.tri.Tri.TheVariants.{Zero, One, Unknown}
 use Rattle.hz_core.specs.Netlist.{Netlist}
-use Rattle.hz_text.specs.Printed.{letter_of}
-
--- the letter of a bit
-abbrev pub bit_letter : Bool → List ℕ
-bit_letter bit = letter_of bit ∷ []
 
 -- the letter of a ternary value
 abbrev pub tri_letter : Tri → List ℕ

@@ -1,152 +1,146 @@
 //! The lines of a change.
-ghost use Rattle.std.specs.Prelude.{◌≡◌, ◌<◌, [], length, All};
+ghost use Rattle.std.specs.Prelude.{◌≡◌, ◌<◌, length, All};
 ghost use Rattle.hz_net.specs.Network.{network_of};
-ghost use Rattle.hz_write.specs.Writes.{Wrote};
-ghost use Rattle.hz_report.specs.Report.{change_line, rounds_line, node_line, node_lines, change_text};
+ghost use Rattle.hz_write.specs.Writer.{Writes};
+ghost use Rattle.hz_report.specs.Finding.{finding_of};
+ghost use Rattle.hz_report.specs.Report.{change_line, rounds_line, node_line, node_lines, runs_text, change_text};
+ghost use Rattle.hz_report.specs.Words.{tri_letter};
 
-use crate::words::{add_assignment, add_variable, bit_letter, end_with, tri_letter};
+use crate::finding::Finding;
 use hz_core::Tri;
+use hz_gmw::Run;
 use hz_net::Net;
-use hz_outside::{PutFault, Sink};
-use hz_write::Line;
-use itoa::Buffer;
+use hz_outside::Sink;
+use hz_text::{bit_letter, write_assignments, write_end, write_run, write_states, write_variable};
+use hz_write::Piece::{Number, Text};
+use hz_write::Writer;
 
-/// What Algorithms A and B found: for each, a value for each variable, and the rounds that it took.
-#[derive(Clone, Copy)]
-pub struct Found<'a> {
-    /// The result of Algorithm A.
-    pub a: &'a [Tri],
-    /// The rounds of Algorithm A, the last one included, which changes nothing.
-    pub rounds_a: u32,
-    /// The result of Algorithm B.
-    pub b: &'a [Tri],
-    /// The rounds of Algorithm B, the last one included, which changes nothing.
-    pub rounds_b: u32,
-}
-
-/// Writes what a change assigns, the rounds, and for each node its value at the start, in A and in B.
+/// Gives what a change assigns, the rounds, for each node its value at the start, in A and in B, and the run as a run text.
 ///
-/// Changes are counted from 1. The start has a value for each variable.
+/// Changes are counted from 1. The start has a value for each variable, and the input is the one after the change.
+#[tactic(auto, using(hz_write::proofs::Writers::writes_then), unfolding(crate::specs::Report::change_text))]
 pub fn write_change<K: Sink>(
-    out: &mut K,
+    writer: &mut Writer<'_, K>,
     net: &Net,
     number: u32,
     change: &[(u32, bool)],
     start: &[bool],
-    found: &Found<'_>,
-) -> Result<(), PutFault>
+    input: &[bool],
+    finding: &Finding,
+)
     requires change { All (λ pair. pair.0 < length net.now.names) change.now }
     requires start { length start.now ≡ length (network_of net.now) }
-    requires a { length found.now.a.now ≡ length (network_of net.now) }
-    requires b { length found.now.b.now ≡ length (network_of net.now) }
-    ensures { Wrote K.written K.faults
-        (change_text net.now number change.now start.now found.now.rounds_a found.now.a.now found.now.rounds_b found.now.b.now)
-        out.old out.new result }
+    requires input { length input.now ≡ net.now.inputs }
+    requires a { length finding.now.a.items ≡ length (network_of net.now) }
+    requires b { length finding.now.b.items ≡ length (network_of net.now) }
+    requires steps { All (All (λ var. var < length (network_of net.now))) finding.now.spread.steps }
+    ensures { Writes K.written K.faults
+        (change_text net.now number change.now start.now input.now (finding_of finding.now)) writer.old writer.new }
 {
-    let mut line = Line::new();
-    write_assigned(&mut line, out, net, number, change)?;
-    write_rounds(&mut line, out, found.rounds_a, found.rounds_b)?;
-    write_nodes(&mut line, out, net, start, found)
+    write_assigned(writer, net, number, change);
+    write_rounds(writer, finding.rounds_a, finding.rounds_b);
+    write_nodes(writer, net, start, finding);
+    write_runs(writer, net, start, input, &finding.spread);
 }
 
-// Writes what a change assigns.
+// Gives what a change assigns.
+#[tactic(auto, using(hz_write::proofs::Writers::writes_then), unfolding(crate::specs::Report::change_line, hz_text::specs::Printed::statement_text))]
 fn write_assigned<K: Sink>(
-    line: &mut Line,
-    out: &mut K,
+    writer: &mut Writer<'_, K>,
     net: &Net,
     number: u32,
     change: &[(u32, bool)],
-) -> Result<(), PutFault>
-    requires empty { line.old ≡ [] }
-    requires change { All (λ pair. pair.0 < length net.now.names) change.now }
-    ensures wrote { Wrote K.written K.faults (change_line net.now number change.now) out.old out.new result }
-    ensures emptied { line.new ≡ [] }
+)
+    requires { All (λ pair. pair.0 < length net.now.names) change.now }
+    ensures { Writes K.written K.faults (change_line net.now number change.now) writer.old writer.new }
 {
-    line.add_all(out, &[b"change ", Buffer::new().format(number).as_bytes()])?;
-    for &(node, bit) in change {
-        add_assignment(line, out, net, node, bit)?;
-    }
-    line.end(out)
+    writer.add(&[Text(b"change "), Number(number)]);
+    write_assignments(writer, net.circuit(), change);
+    writer.end();
 }
 
-// Writes the rounds of A and of B.
-#[tactic(auto, unfolding(crate::specs::Report::rounds_line))]
-fn write_rounds<K: Sink>(
-    line: &mut Line,
-    out: &mut K,
-    rounds_a: u32,
-    rounds_b: u32,
-) -> Result<(), PutFault>
-    requires { line.old ≡ [] }
-    ensures wrote { Wrote K.written K.faults (rounds_line rounds_a rounds_b) out.old out.new result }
-    ensures emptied { line.new ≡ [] }
+// Gives the rounds of A and of B.
+#[tactic(auto, using(hz_write::proofs::Writers::writes_same), unfolding(crate::specs::Report::rounds_line))]
+fn write_rounds<K: Sink>(writer: &mut Writer<'_, K>, rounds_a: u32, rounds_b: u32)
+    ensures { Writes K.written K.faults (rounds_line rounds_a rounds_b) writer.old writer.new }
 {
-    let mut of_a = Buffer::new();
-    let mut of_b = Buffer::new();
-    end_with(
-        line,
-        out,
-        &[
-            b"rounds A ",
-            of_a.format(rounds_a).as_bytes(),
-            b" B ",
-            of_b.format(rounds_b).as_bytes(),
-        ],
-    )
+    writer.line(&[
+        Text(b"rounds A "),
+        Number(rounds_a),
+        Text(b" B "),
+        Number(rounds_b),
+    ]);
 }
 
-// Writes the line of each node.
-fn write_nodes<K: Sink>(
-    line: &mut Line,
-    out: &mut K,
-    net: &Net,
-    start: &[bool],
-    found: &Found<'_>,
-) -> Result<(), PutFault>
-    requires empty { line.old ≡ [] }
+// Gives the line of each node.
+fn write_nodes<K: Sink>(writer: &mut Writer<'_, K>, net: &Net, start: &[bool], finding: &Finding)
     requires start { length start.now ≡ length (network_of net.now) }
-    requires a { length found.now.a.now ≡ length (network_of net.now) }
-    requires b { length found.now.b.now ≡ length (network_of net.now) }
-    ensures wrote { Wrote K.written K.faults (node_lines net.now start.now found.now.a.now found.now.b.now) out.old out.new result }
-    ensures emptied { line.new ≡ [] }
+    requires a { length finding.now.a.items ≡ length (network_of net.now) }
+    requires b { length finding.now.b.items ≡ length (network_of net.now) }
+    ensures { Writes K.written K.faults (node_lines net.now start.now (finding_of finding.now)) writer.old writer.new }
 {
     let nodes = net.circuit().nodes();
     for node in 0..nodes {
-        write_node(line, out, net, start, found, node)?;
+        write_node(writer, net, start, finding, node);
     }
-    Ok(())
 }
 
-// Writes a node with its value at the start, in A and in B.
+// Gives a node with its value at the start, in A and in B.
+#[tactic(auto, using(hz_write::proofs::Writers::writes_then), unfolding(crate::specs::Report::node_line))]
 fn write_node<K: Sink>(
-    line: &mut Line,
-    out: &mut K,
+    writer: &mut Writer<'_, K>,
     net: &Net,
     start: &[bool],
-    found: &Found<'_>,
+    finding: &Finding,
     node: u32,
-) -> Result<(), PutFault>
-    requires empty { line.old ≡ [] }
+)
     requires node { node < length (network_of net.now) }
     requires start { length start.now ≡ length (network_of net.now) }
-    requires a { length found.now.a.now ≡ length (network_of net.now) }
-    requires b { length found.now.b.now ≡ length (network_of net.now) }
-    ensures wrote { Wrote K.written K.faults
-        (node_line net.now start.now found.now.a.now found.now.b.now node) out.old out.new result }
-    ensures emptied { line.new ≡ [] }
+    requires a { length finding.now.a.items ≡ length (network_of net.now) }
+    requires b { length finding.now.b.items ≡ length (network_of net.now) }
+    ensures { Writes K.written K.faults
+        (node_line net.now start.now (finding_of finding.now) node) writer.old writer.new }
 {
     let index = node as usize;
-    add_variable(line, out, net, node)?;
-    end_with(
-        line,
-        out,
-        &[
-            b" start ",
-            bit_letter(start[index]),
-            b" A ",
-            tri_letter(found.a[index]),
-            b" B ",
-            tri_letter(found.b[index]),
-        ],
-    )
+    write_variable(writer, net, node);
+    writer.line(&[
+        Text(b" start "),
+        Text(bit_letter(start[index])),
+        Text(b" A "),
+        Text(tri_letter(finding.a[index])),
+        Text(b" B "),
+        Text(tri_letter(finding.b[index])),
+    ]);
+}
+
+// The letter of a ternary value.
+fn tri_letter(value: Tri) -> &'static [u8]
+    ensures { result.now ≡ tri_letter value }
+{
+    match value {
+        Tri::Zero => b"0",
+        Tri::One => b"1",
+        Tri::Unknown => b"X",
+    }
+}
+
+// Gives a run as a run text: the start, of which the nodes' values are written, the input under which the run stands, and
+// the steps.
+fn write_runs<K: Sink>(
+    writer: &mut Writer<'_, K>,
+    net: &Net,
+    start: &[bool],
+    input: &[bool],
+    run: &Run,
+)
+    requires start { length start.now ≡ length (network_of net.now) }
+    requires input { length input.now ≡ net.now.inputs }
+    requires steps { All (All (λ var. var < length (network_of net.now))) run.now.steps }
+    ensures { Writes K.written K.faults (runs_text net.now start.now input.now run.now.steps) writer.old writer.new }
+{
+    let circuit = net.circuit();
+    let nodes = circuit.nodes() as usize;
+    write_states(writer, circuit, &start[..nodes], input);
+    write_run(writer, net, run, None);
+    write_end(writer);
 }

@@ -1,67 +1,51 @@
 //! The lines that come once.
-ghost use Rattle.std.specs.Prelude.{◌≡◌, [], length};
+ghost use Rattle.std.specs.Prelude.{◌≡◌, length};
 ghost use Rattle.hz_net.specs.Network.{network_of};
-ghost use Rattle.hz_write.specs.Writes.{Wrote};
+ghost use Rattle.hz_write.specs.Writer.{Writes};
 ghost use Rattle.hz_report.specs.Report.{netlist_line, start_line, head_text};
 
-use crate::words::{end_with, write_listed};
 use hz_net::Net;
-use hz_outside::{PutFault, Sink};
-use hz_write::Line;
-use itoa::Buffer;
+use hz_outside::Sink;
+use hz_text::write_bits;
+use hz_write::Piece::{Number, Text};
+use hz_write::Writer;
 
-/// Writes the size of the network, and the start: a value for each variable, of which the nodes' are written.
-pub fn write_head<K: Sink>(out: &mut K, net: &Net, start: &[bool]) -> Result<(), PutFault>
+/// Gives the size of the network, and the start: a value for each variable, of which the nodes' are written.
+#[tactic(auto, using(hz_write::proofs::Writers::writes_then), unfolding(crate::specs::Report::head_text))]
+pub fn write_head<K: Sink>(writer: &mut Writer<'_, K>, net: &Net, start: &[bool])
     requires { length start.now ≡ length (network_of net.now) }
-    ensures { Wrote K.written K.faults (head_text net.now start.now) out.old out.new result }
+    ensures { Writes K.written K.faults (head_text net.now start.now) writer.old writer.new }
 {
-    let mut line = Line::new();
-    write_netlist(&mut line, out, net)?;
-    write_start(&mut line, out, net, start)
+    write_netlist(writer, net);
+    write_start(writer, net, start);
 }
 
-// Writes how many inputs, gates, wires and variables there are.
-fn write_netlist<K: Sink>(line: &mut Line, out: &mut K, net: &Net) -> Result<(), PutFault>
-    requires { line.old ≡ [] }
-    ensures wrote { Wrote K.written K.faults (netlist_line net.now) out.old out.new result }
-    ensures emptied { line.new ≡ [] }
+// Gives how many inputs, gates, wires and variables there are.
+fn write_netlist<K: Sink>(writer: &mut Writer<'_, K>, net: &Net)
+    ensures { Writes K.written K.faults (netlist_line net.now) writer.old writer.new }
 {
     let circuit = net.circuit();
     let inputs = circuit.inputs();
     let nodes = circuit.nodes();
     let variables = circuit.variables();
-    let mut of_inputs = Buffer::new();
-    let mut of_gates = Buffer::new();
-    let mut of_wires = Buffer::new();
-    let mut of_variables = Buffer::new();
-    end_with(
-        line,
-        out,
-        &[
-            b"netlist inputs ",
-            of_inputs.format(inputs).as_bytes(),
-            b" gates ",
-            of_gates.format(nodes - inputs).as_bytes(),
-            b" wires ",
-            of_wires.format(variables - nodes).as_bytes(),
-            b" variables ",
-            of_variables.format(variables).as_bytes(),
-        ],
-    )
+    writer.line(&[
+        Text(b"netlist inputs "),
+        Number(inputs),
+        Text(b" gates "),
+        Number(nodes - inputs),
+        Text(b" wires "),
+        Number(variables - nodes),
+        Text(b" variables "),
+        Number(variables),
+    ]);
 }
 
-// Writes the value of each node at the start.
-fn write_start<K: Sink>(
-    line: &mut Line,
-    out: &mut K,
-    net: &Net,
-    start: &[bool],
-) -> Result<(), PutFault>
-    requires empty { line.old ≡ [] }
-    requires start { length start.now ≡ length (network_of net.now) }
-    ensures wrote { Wrote K.written K.faults (start_line net.now start.now) out.old out.new result }
-    ensures emptied { line.new ≡ [] }
+// Gives the value of each node at the start.
+fn write_start<K: Sink>(writer: &mut Writer<'_, K>, net: &Net, start: &[bool])
+    requires { length start.now ≡ length (network_of net.now) }
+    ensures { Writes K.written K.faults (start_line net.now start.now) writer.old writer.new }
 {
-    let nodes = net.circuit().nodes() as usize;
-    write_listed(line, out, net, b"start", &start[..nodes])
+    let circuit = net.circuit();
+    let nodes = circuit.nodes() as usize;
+    write_bits(writer, circuit, b"start", &start[..nodes]);
 }

@@ -1,23 +1,20 @@
-//! The text that `analyse` writes: the lines of a circuit with its start, and those of each change. Names of variables.
+//! The text that `analyse` writes: the lines of a circuit with its start, and those of each change.
 //!
-//! The text is written line by line over a [`Sink`](hz_outside::Sink). No call here takes memory by itself.
+//! The lines are given to a [`Writer`](hz_write::Writer). No call here takes memory.
 //!
 //! | Module | What lives in it |
 //! |---|---|
 //! | `head` | the lines that come once: the size of the network, and the start |
-//! | `change` | the lines of a change: what changes, the rounds, and each node's values |
-//! | `runs` | the run of a change, as a run text |
-//! | `words` | letters of values, words of variables, assignments, the end of a line |
-#![tactic(auto)]
+//! | `change` | the lines of a change: what changes, the rounds, each node's values, and the run |
+//! | `finding` | what is found of one change |
+#![tactic(auto, using(hz_write::proofs::Writers::writes_then, hz_write::proofs::Writers::writes_nothing))]
 
 mod change;
+mod finding;
 mod head;
-mod runs;
 #[cfg(test)]
 mod tests;
-mod words;
 
-pub use change::{Found, write_change};
+pub use change::write_change;
+pub use finding::Finding;
 pub use head::write_head;
-pub use runs::write_runs;
-pub use words::add_variable;

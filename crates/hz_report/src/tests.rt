@@ -2,11 +2,13 @@
 ghost use Rattle.std.specs.Prelude.{◌≡◌, length, vec_len, IfOk};
 ghost use Rattle.hz_net.specs.Network.{network_of};
 
-use super::{Found, write_change, write_head};
+use super::{Finding, write_change, write_head};
 use hz_core::Tri::{One, Unknown, Zero};
 use hz_core::{Circuit, Kind, Memory};
+use hz_gmw::Run;
 use hz_net::Net;
 use hz_outside::{MemSink, PlainSink, PutFault};
+use hz_write::Writer;
 use std::alloc::{AllocError, Global};
 use std::test::Fail;
 
@@ -37,28 +39,22 @@ fn network(alloc: Global, circuit: Circuit, nodes: u32) -> Result<Net, Fail>
 fn a_circuit_without_nodes(rt: HostRuntime) -> Result<(), Fail> {
     let net = network(rt.alloc(), Circuit::new(rt.alloc()), 0)?;
     let start = values(rt.alloc(), &net, &[], false)?;
-    let none = values(rt.alloc(), &net, &[], Zero)?;
-    let found = Found {
-        a: &none,
+    let finding = Finding {
+        a: values(rt.alloc(), &net, &[], Zero)?,
         rounds_a: 1,
-        b: &none,
+        b: values(rt.alloc(), &net, &[], Zero)?,
         rounds_b: 1,
+        spread: Run::new(rt.alloc()),
     };
 
-    let mut whole = PlainSink::new(rt.alloc());
-    assert_eq!(rt; write_head(&mut whole, &net, &start), Ok(()));
-    assert_eq!(rt;
-        write_change(&mut whole, &net, 1, &[], &start, &found),
-        Ok(())
-    );
-    let text = b"netlist inputs 0 gates 0 wires 0 variables 0\nstart\nchange 1\nrounds A 1 B 1\n";
-    assert_eq!(rt; whole.bytes(), text.as_slice());
-
     let mut failing = MemSink::new(rt.alloc());
-    failing.fail(2, 3)?;
-    let answer = write_change(&mut failing, &net, 1, &[], &start, &found);
-    assert_eq!(rt; answer, Err(PutFault::Failed));
-    assert_eq!(rt; failing.bytes(), b"change 1\nrou".as_slice());
+    failing.fail(4, 3)?;
+    let mut writer = Writer::new(&mut failing);
+    write_head(&mut writer, &net, &start);
+    write_change(&mut writer, &net, 1, &[], &start, &[], &finding);
+    assert_eq!(rt; writer.finish(), Err(PutFault::Failed));
+    let text = b"netlist inputs 0 gates 0 wires 0 variables 0\nstart\nchange 1\nrou";
+    assert_eq!(rt; failing.bytes(), text.as_slice());
     Ok(())
 }
 
@@ -74,24 +70,34 @@ fn inverter(alloc: Global) -> Result<Circuit, Memory> {
 #[test]
 fn an_inverter(rt: HostRuntime) -> Result<(), Fail> {
     let net = network(rt.alloc(), inverter(rt.alloc())?, 2)?;
+    if net.circuit().inputs() != 1 {
+        return Err("not one input".into());
+    }
     let start = values(rt.alloc(), &net, &[false, true], false)?;
-    let a = values(rt.alloc(), &net, &[Unknown, Unknown], Unknown)?;
-    let b = values(rt.alloc(), &net, &[One, Zero], One)?;
-    let found = Found {
-        a: &a,
+    let finding = Finding {
+        a: values(rt.alloc(), &net, &[Unknown, Unknown], Unknown)?,
         rounds_a: 4,
-        b: &b,
+        b: values(rt.alloc(), &net, &[One, Zero], One)?,
         rounds_b: 4,
+        spread: Run::new(rt.alloc()),
     };
 
     let mut whole = PlainSink::new(rt.alloc());
-    assert_eq!(rt; write_head(&mut whole, &net, &start), Ok(()));
-    assert_eq!(rt;
-        write_change(&mut whole, &net, 1, &[(0, true)], &start, &found),
-        Ok(())
+    let mut writer = Writer::new(&mut whole);
+    write_head(&mut writer, &net, &start);
+    write_change(
+        &mut writer,
+        &net,
+        1,
+        &[(0, true)],
+        &start,
+        &[true],
+        &finding,
     );
+    assert_eq!(rt; writer.finish(), Ok(()));
     let text = b"netlist inputs 1 gates 1 wires 1 variables 3\nstart a=0 y=1\n\
-        change 1 a=1\nrounds A 4 B 4\na start 0 A X B 1\ny start 1 A X B 0\n";
+        change 1 a=1\nrounds A 4 B 4\na start 0 A X B 1\ny start 1 A X B 0\n\
+        runs 1\nstart a=0 y=1\ninput a=1\nrun\nend\n";
     assert_eq!(rt; whole.bytes(), text.as_slice());
     Ok(())
 }

@@ -6,12 +6,14 @@ mod assigned;
 mod fault;
 mod keyword;
 mod limit;
+mod printing;
 mod run;
 mod script;
 
 pub use fault::TextFault;
 pub use limit::MAX_TEXT;
-pub use run::{RunText, print_run, read_run};
+pub use printing::{bit_letter, write_assignments, write_bits};
+pub use run::{RunText, print_run, read_run, write_end, write_run, write_states, write_variable};
 pub use script::{MAX_CHANGES, Script, print_script, read_script};
 
 #[cfg(test)]

@@ -12,6 +12,6 @@ mod statement;
 mod text;
 mod variables;
 
-pub use print::print_run;
+pub use print::{print_run, write_end, write_run, write_states, write_variable};
 pub use read::read_run;
 pub use text::RunText;

@@ -20,7 +20,6 @@ use Rattle.hz_bench.specs.Fault as netlist_fault
 use Rattle.hz_text.specs.declared.fault.TextFault.{TextFault}
 use Rattle.hz_text.specs.declared.fault.TextFault.TheVariants as reading
 use Rattle.hz_text.specs.ScriptFault.{IsLeastFaultOf, IsLeastFaultOrMemory}
-use Rattle.hz_top.specs.declared.order.SecondText.{SecondText}
 use Rattle.hz_top.specs.declared.status.Status.{Status}
 use Rattle.hz_top.specs.declared.status.Status.TheVariants as status
 use Rattle.hz_top.specs.Outcome.{LoadSays, most_bytes, Unread, Told, told_by, SecondComes}
@@ -71,12 +70,12 @@ start-accepted netlist listed named state slice same is accepted =
     subst (λ (list : List (Option Bool)). IsAcceptedStart netlist list slice) same (subst (IsAcceptedStart netlist listed) (sym is) accepted)
 
 -- what the second file comes to, seen from before the load of the first: that load left the second place as it was
-pub SecondComes-before : {S : Type 0} (held : S → Option (List ℕ → List ℕ)) (faults longs : S → Place → ℕ) (was mid now : S) (second_is : SecondText) (netlist : Netlist) (name : List ℕ) → held mid ≡ held was → faults mid Second ≡ faults was Second → longs mid Second ≡ longs was Second → (own : Status) (text : List ℕ) → SecondComes (told_by held faults longs mid now) second_is netlist name own text → SecondComes (told_by held faults longs was now) second_is netlist name own text
-SecondComes-before held faults longs was mid now second_is netlist name same few short own text (inl (inl (rose, says))) =
+pub SecondComes-before : {S : Type 0} (held : S → Option (List ℕ → List ℕ)) (faults longs : S → Place → ℕ) (was mid now : S) (comes : List ℕ → Status → List ℕ → Type 0) (name : List ℕ) → held mid ≡ held was → faults mid Second ≡ faults was Second → longs mid Second ≡ longs was Second → (own : Status) (text : List ℕ) → SecondComes (told_by held faults longs mid now) comes name own text → SecondComes (told_by held faults longs was now) comes name own text
+SecondComes-before held faults longs was mid now comes name same few short own text (inl (inl (rose, says))) =
     inl (inl (subst (λ (count : ℕ). Rose count (faults now Second)) few rose, says))
-SecondComes-before held faults longs was mid now second_is netlist name same few short own text (inl (inr (rose, over, says))) =
+SecondComes-before held faults longs was mid now comes name same few short own text (inl (inr (rose, over, says))) =
     inl (inr (subst (λ (count : ℕ). Rose count (longs now Second)) short rose, subst (λ (told : Option (List ℕ → List ℕ)). IfSome told (λ bytes_of. most_bytes < length (bytes_of name))) same over, says))
-SecondComes-before held faults longs was mid now second_is netlist name same few short own text (inr (bytes, (is, most), says)) =
+SecondComes-before held faults longs was mid now comes name same few short own text (inr (bytes, (is, most), says)) =
     inr (bytes, (subst (λ (told : Option (List ℕ → List ℕ)). IfSome told (λ bytes_of. bytes ≡ bytes_of name)) same is, most), says)
 
 -- a refusal of a netlist that is not for want of memory is the least fault of its text

@@ -1,6 +1,6 @@
 -- How a job ends in which nothing is to be refused but a step or a cycle, where memory does not run out and the output is
 -- taken.
-use Rattle.std.proofs.Common.{◌≡◌, ℕ, ◌⊎◌, inl, inr, List, Option, Some, IfSome, refl, subst, sym, ◌∙◌, arith}
+use Rattle.std.proofs.Common.{◌≡◌, ap, ℕ, ◌⊎◌, inl, inr, List, Option, Some, IfSome, refl, subst, sym, ◌∙◌, arith}
 use Rattle.hz_outside.specs.Counts.{Rose}
 use Rattle.hz_outside.specs.declared.fault.Place.TheVariants.{First, Second}
 use Rattle.hz_core.specs.Netlist.{Netlist}
@@ -10,14 +10,14 @@ use Rattle.hz_bench.specs.Text.{statements_of}
 use Rattle.hz_text.specs.ScriptText.{IsValue}
 use Rattle.hz_text.specs.ScriptValue.{ScriptOf}
 use Rattle.hz_text.specs.RunValue.{RunTextOf}
-use Rattle.hz_top.specs.declared.order.SecondText.{SecondText}
-use Rattle.hz_top.specs.declared.order.SecondText.TheVariants.{Script, Runs}
+use Rattle.hz_top.specs.declared.job.Task.{Task}
+use Rattle.hz_top.specs.declared.job.Task.TheVariants.{Analyse, Replay}
 use Rattle.hz_top.specs.declared.status.Status.{Status}
 use Rattle.hz_top.specs.declared.status.Status.TheVariants as status
 use Rattle.hz_top.specs.Answer.{Answers}
-use Rattle.hz_top.specs.Faultless.{IsFaultlessScript, IsFaultlessRuns, IsFaultlessText, EndsReplay, AreFaultless, IsFaultlessJob}
-use Rattle.hz_top.specs.Job.{JobOf, Analyse, Replay}
-use Rattle.hz_top.specs.Outcome.{Told, ScriptComes, ScriptTextComes, RunTextComes, SecondTextComes, SecondComes, FilesCome, JobComes}
+use Rattle.hz_top.specs.Faultless.{IsFaultlessScript, IsFaultlessRuns, IsFaultlessText, EndsReplay, IsFaultlessJob}
+use Rattle.hz_top.specs.Job.{JobOf}
+use Rattle.hz_top.specs.Outcome.{Told, ScriptComes, ScriptTextComes, RunTextComes, TaskComes, NetlistRefused, IsNetlistText, SecondComes, FilesCome, JobComes}
 use Rattle.hz_top.specs.Verdict.{ReplayComes}
 use Rattle.hz_top.proofs.Refusals.{accepted-or-refused}
 
@@ -30,7 +30,7 @@ script-done netlist text value own said good is (inr (inl (few, own_is, inr (gat
 script-done netlist text value own said good is (inr (inr (few, (start, accepted, reports)))) = reports.0
 
 -- the text of a script comes to its report
-script-text-done : (netlist : Netlist) (text : List ℕ) (own : Status) (said : List ℕ) → IsFaultlessScript netlist text → ScriptTextComes netlist text own said → own ≡ status.Done
+script-text-done : (netlist : Netlist) (text : List ℕ) (own : Status) (said : List ℕ) → IsFaultlessScript netlist text → ScriptTextComes ScriptComes netlist text own said → own ≡ status.Done
 script-text-done netlist text own said good (inl (fault, least, says)) = absurd (good.faultless fault least.stands)
 script-text-done netlist text own said good (inr (value, faultless, is, comes)) = script-done netlist text value own said good is comes
 
@@ -42,14 +42,14 @@ replay-ends netlist value wanted own said (inr (number, why, refused, is)) (inl 
 replay-ends netlist value wanted own said (inr (number, why, refused, is)) (inr (other, because, also, says)) = says.0 ∙ sym is
 
 -- a run text comes to the end of its replay
-runs-end : (netlist : Netlist) (text : List ℕ) (wanted own : Status) (said : List ℕ) → IsFaultlessRuns netlist text wanted → RunTextComes netlist text own said → own ≡ wanted
+runs-end : (netlist : Netlist) (text : List ℕ) (wanted own : Status) (said : List ℕ) → IsFaultlessRuns netlist text wanted → RunTextComes ReplayComes netlist text own said → own ≡ wanted
 runs-end netlist text wanted own said good (inl (fault, least, says)) = absurd (good.faultless fault least.stands)
 runs-end netlist text wanted own said good (inr (value, faultless, is, comes)) = replay-ends netlist value wanted own said (good.ends value is) comes
 
 -- the second text comes to its end
-text-ends : (second_is : SecondText) (netlist : Netlist) (text : List ℕ) (wanted own : Status) (said : List ℕ) → IsFaultlessText second_is netlist text wanted → SecondTextComes second_is netlist text own said → own ≡ wanted
-text-ends Script netlist text wanted own said good comes = script-text-done netlist text own said good.0 comes ∙ sym good.1
-text-ends Runs netlist text wanted own said good comes = runs-end netlist text wanted own said good comes
+text-ends : (task : Task) (netlist : Netlist) (text : List ℕ) (wanted own : Status) (said : List ℕ) → IsFaultlessText task netlist text wanted → TaskComes task netlist text own said → own ≡ wanted
+text-ends Analyse netlist text wanted own said good comes = script-text-done netlist text own said good.0 comes ∙ sym good.1
+text-ends Replay netlist text wanted own said good comes = runs-end netlist text wanted own said good comes
 
 -- the bytes of a file that is told are the told ones
 told-bytes : (told : Told) (bytes_of : List ℕ → List ℕ) (name bytes : List ℕ) → told.held ≡ Some bytes_of → IfSome told.held (λ bytes_of. bytes ≡ bytes_of name) → bytes ≡ bytes_of name
@@ -57,28 +57,29 @@ told-bytes told bytes_of name bytes is_told is =
     subst (λ (held : Option (List ℕ → List ℕ)). IfSome held (λ bytes_of. bytes ≡ bytes_of name)) is_told is
 
 -- the second file comes to its end
-second-ends : (told : Told) (second_is : SecondText) (first second : List ℕ) (wanted : Status) (good : AreFaultless told second_is first second wanted) (own : Status) (said : List ℕ) → SecondComes told second_is (netlist_of (statements_of (good.bytes_of first))) second own said → own ≡ wanted
-second-ends told second_is first second wanted good own said (inl (inl (rose, says))) = absurd (good.none_failed Second rose)
-second-ends told second_is first second wanted good own said (inl (inr (rose, over, says))) = absurd (good.none_long Second rose)
-second-ends told second_is first second wanted good own said (inr (bytes, (is, short), comes)) =
-    text-ends second_is (netlist_of (statements_of (good.bytes_of first))) (good.bytes_of second) wanted own said good.text
-    (subst (λ (text : List ℕ). SecondTextComes second_is (netlist_of (statements_of (good.bytes_of first))) text own said) (told-bytes told good.bytes_of second bytes good.is_told is) comes)
+second-ends : (told : Told) (job : JobOf) (wanted : Status) (good : IsFaultlessJob told job wanted) (own : Status) (said : List ℕ) → SecondComes told (TaskComes job.task good.netlist) job.second own said → own ≡ wanted
+second-ends told job wanted good own said (inl (inl (rose, says))) = absurd (good.none_failed Second rose)
+second-ends told job wanted good own said (inl (inr (rose, over, says))) = absurd (good.none_long Second rose)
+second-ends told job wanted good own said (inr (bytes, (is, short), comes)) =
+    text-ends job.task good.netlist (good.bytes_of job.second) wanted own said good.text
+    (subst (λ (text : List ℕ). TaskComes job.task good.netlist text own said) (told-bytes told good.bytes_of job.second bytes good.is_told is) comes)
+
+-- a text is that of one circuit
+one-netlist : (text bytes : List ℕ) (netlist other : Netlist) → bytes ≡ text → IsNetlistText text netlist → IsNetlistText bytes other → other ≡ netlist
+one-netlist text bytes netlist other same good is =
+    is.1 ∙ ap (λ (text : List ℕ). netlist_of (statements_of text)) same ∙ sym good.1
 
 -- the two files come to their end
-files-end : (told : Told) (second_is : SecondText) (first second : List ℕ) (wanted : Status) (good : AreFaultless told second_is first second wanted) (own : Status) (said : List ℕ) → FilesCome told second_is first second own said → own ≡ wanted
-files-end told second_is first second wanted good own said (inl (stay, inl (rose, says))) = absurd (good.none_failed First rose)
-files-end told second_is first second wanted good own said (inl (stay, inr (rose, over, says))) = absurd (good.none_long First rose)
-files-end told second_is first second wanted good own said (inr (bytes, (is, short), inl (fault, least, stay, says))) =
-    let here = subst (λ (text : List ℕ). IsLeastFault text fault) (told-bytes told good.bytes_of first bytes good.is_told is) least in
-    absurd (good.netlist fault here.stands)
-files-end told second_is first second wanted good own said (inr (bytes, (is, short), inr (none, comes))) =
-    second-ends told second_is first second wanted good own said
-    (subst (λ (text : List ℕ). SecondComes told second_is (netlist_of (statements_of text)) second own said) (told-bytes told good.bytes_of first bytes good.is_told is) comes)
-
--- a job comes to its end
 job-end : (told : Told) (job : JobOf) (wanted : Status) → IsFaultlessJob told job wanted → (own : Status) (said : List ℕ) → JobComes told (Some job) own said → own ≡ wanted
-job-end told (Analyse first second) wanted good own said comes = files-end told Script first second wanted good own said comes
-job-end told (Replay first second) wanted good own said comes = files-end told Runs first second wanted good own said comes
+job-end told job wanted good own said (inl (stay, inl (rose, says))) = absurd (good.none_failed First rose)
+job-end told job wanted good own said (inl (stay, inr (rose, over, says))) = absurd (good.none_long First rose)
+job-end told job wanted good own said (inr (bytes, (is, short), inl (line, (fault, least, is_line), stay, says))) =
+    let here = subst (λ (text : List ℕ). IsLeastFault text fault) (told-bytes told good.bytes_of job.first bytes good.is_told is) least in
+    absurd (good.is_netlist.0 fault here.stands)
+job-end told job wanted good own said (inr (bytes, (is, short), inr (netlist, text, comes))) =
+    second-ends told job wanted good own said
+    (subst (λ (netlist : Netlist). SecondComes told (TaskComes job.task netlist) job.second own said)
+    (one-netlist (good.bytes_of job.first) bytes good.netlist netlist (told-bytes told good.bytes_of job.first bytes good.is_told is) good.is_netlist text) comes)
 
 -- and what was asked is this job
 asked-end : (told : Told) (asked : Option JobOf) (job : JobOf) (wanted : Status) → asked ≡ Some job → IsFaultlessJob told job wanted → (own : Status) (said : List ℕ) → JobComes told asked own said → own ≡ wanted

@@ -16,6 +16,7 @@ use Rattle.hz_reach.specs.Spread.{IsSpreadRun}
 use Rattle.hz_reach.proofs.Exact.{exact}
 use Rattle.hz_gmw.proofs.CoverA.{covers}
 use Rattle.hz_gmw.proofs.CoverB.{covers_outcomes}
+use Rattle.hz_report.specs.Finding.{FindingOf}
 use Rattle.hz_top.specs.Finding.{IsFinding}
 
 -- the result of Algorithm A lies above its excitations, so Algorithm B may begin with it
@@ -24,36 +25,45 @@ below-result net input start a b rounds long are is same =
     subst (λ (values : List Tri). AllBelow (excitations net input values) values) (sym (same ∙ is))
     (AllBelow-closed net input (algorithm_a net input start rounds) (closed-result net input start rounds long are))
 
--- what both passes and the spread run give is a finding
+-- what both passes and the spread run give is a right finding
 pub is-finding :
-    (netlist : Netlist) (own input start : List Bool) (a first b : List Tri) (rounds_a rounds_b : ℕ) (steps : List (List ℕ)) → IsCircuit netlist →
-    length start ≡ length (network_of netlist) → IsStable (network_of netlist) own start → AreRounds (algorithm_a (network_of netlist) input start) rounds_a →
-    a ≡ algorithm_a (network_of netlist) input start rounds_a → rounds_a ≤ length (network_of netlist) + 1 → IsSpreadRun (network_of netlist) input start a steps →
-    first ≡ a → AreRounds (algorithm_b (network_of netlist) input first) rounds_b → b ≡ algorithm_b (network_of netlist) input first rounds_b → rounds_b ≤ length (network_of netlist) + 1 →
-    IsFinding (network_of netlist) input start a rounds_a b rounds_b steps
-is-finding netlist own input start a first b rounds_a rounds_b steps circuit long stable a_are a_is a_few shown same b_are b_is b_few =
+    (netlist : Netlist) (own input start : List Bool) (finding : FindingOf) (first : List Tri) → IsCircuit netlist →
+    length start ≡ length (network_of netlist) → IsStable (network_of netlist) own start →
+    AreRounds (algorithm_a (network_of netlist) input start) finding.rounds_a →
+    finding.a ≡ algorithm_a (network_of netlist) input start finding.rounds_a → finding.rounds_a ≤ length (network_of netlist) + 1 →
+    IsSpreadRun (network_of netlist) input start finding.a finding.spread → first ≡ finding.a →
+    AreRounds (algorithm_b (network_of netlist) input first) finding.rounds_b →
+    finding.b ≡ algorithm_b (network_of netlist) input first finding.rounds_b → finding.rounds_b ≤ length (network_of netlist) + 1 →
+    IsFinding (network_of netlist) input start finding
+is-finding netlist own input start finding first circuit long stable a_are a_is a_few shown same b_are b_is b_few =
     let net = network_of netlist in
-    let from_a : b ≡ algorithm_b net input a rounds_b = b_is ∙ ap (λ (values : List Tri). algorithm_b net input values rounds_b) same in
+    let rounds_a = finding.rounds_a in
+    let rounds_b = finding.rounds_b in
+    let from_a : finding.b ≡ algorithm_b net input finding.a rounds_b = b_is ∙ ap (λ (values : List Tri). algorithm_b net input values rounds_b) same in
     record {
       a_settles = a_are;
       a_result = a_is;
       a_bound = a_few;
       a_covers = λ state reach. subst (Refines state) (sym a_is) (covers net input start state rounds_a long a_are reach);
-      a_exact = λ i within. subst (λ (values : List Tri). JoinsTo (IsReachable net input start) i (value_at values i)) (sym a_is) (exact netlist input own start rounds_a i circuit long stable a_are);
+      a_exact = λ i within. subst (λ (values : List Tri). JoinsTo (IsReachable net input start) i (value_at values i)) (sym a_is)
+          (exact netlist input own start rounds_a i circuit long stable a_are);
       spread = shown;
       b_settles = subst (λ (values : List Tri). AreRounds (algorithm_b net input values) rounds_b) same b_are;
       b_result = from_a;
       b_bound = b_few;
-      b_covers = λ state outcome. subst (Refines state) (sym (from_a ∙ ap (λ (values : List Tri). algorithm_b net input values rounds_b) a_is)) (covers_outcomes net input start state rounds_a rounds_b long a_are outcome);
+      b_covers = λ state outcome. subst (Refines state) (sym (from_a ∙ ap (λ (values : List Tri). algorithm_b net input values rounds_b) a_is))
+          (covers_outcomes net input start state rounds_a rounds_b long a_are outcome);
     }
 
 -- the results have a value for each variable
-pub long-a : (net : List Driver) (input start : List Bool) (a : List Tri) (rounds_a : ℕ) (b : List Tri) (rounds_b : ℕ) (steps : List (List ℕ)) → length start ≡ length net → IsFinding net input start a rounds_a b rounds_b steps → length a ≡ length net
-long-a net input start a rounds_a b rounds_b steps long found = ap length found.a_result ∙ length-algorithm_a net input start long rounds_a
+pub long-a : (net : List Driver) (input start : List Bool) (finding : FindingOf) → length start ≡ length net → IsFinding net input start finding
+    → length finding.a ≡ length net
+long-a net input start finding long found = ap length found.a_result ∙ length-algorithm_a net input start long finding.rounds_a
 
-pub long-b : (net : List Driver) (input start : List Bool) (a : List Tri) (rounds_a : ℕ) (b : List Tri) (rounds_b : ℕ) (steps : List (List ℕ)) → length start ≡ length net → IsFinding net input start a rounds_a b rounds_b steps → length b ≡ length net
-long-b net input start a rounds_a b rounds_b steps long found =
-    ap length found.b_result ∙ length-algorithm_b net input a (long-a net input start a rounds_a b rounds_b steps long found) rounds_b
+pub long-b : (net : List Driver) (input start : List Bool) (finding : FindingOf) → length start ≡ length net → IsFinding net input start finding
+    → length finding.b ≡ length net
+long-b net input start finding long found =
+    ap length found.b_result ∙ length-algorithm_b net input finding.a (long-a net input start finding long found) finding.rounds_b
 
 -- a state begins with the inputs
 pub inputs-bound : (netlist : Netlist) (state : List Bool) → IsCircuit netlist → length state ≡ length (network_of netlist) → netlist.inputs ≤ length state

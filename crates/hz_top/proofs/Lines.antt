@@ -1,20 +1,9 @@
--- The line of a replay: a variable's name at its end, and its counts.
+-- The counts in the line of a replay.
 use Rattle.std.proofs.Common.{◌≡◌, ap, ℕ, ◌+◌, ◌<◌, ◌≤◌, List, ◌++◌, length, take, get_or, Option, Some, arith}
 use Rattle.std.proofs.lemmas.List.{length-append}
 use Rattle.std.proofs.lemmas.List.Folds.{length-flat_map-take}
-use Rattle.hz_outside.specs.Written.{joined}
-use Rattle.hz_write.specs.Writes.{newline, line_of}
-use Rattle.hz_write.proofs.Writing.{joined-push}
-use Rattle.hz_core.specs.Netlist.{Netlist}
-use Rattle.hz_text.specs.RunPrinted.{variable_word}
 use Rattle.hz_text.specs.RunValue.{RunOf, cycle_steps}
 use Rattle.hz_top.specs.Replaying.{no_run, steps_of, step_count}
-use Rattle.hz_top.specs.Verdict.{naming_line}
-
--- the words, the name, the end of the line
-pub naming_line-is : (netlist : Netlist) (words : List (List ℕ)) (var : ℕ) → naming_line netlist words var ≡ (joined words ++ variable_word netlist var) ++ newline
-unfolding naming_line line_of
-naming_line-is netlist words var = ap (λ (list : List ℕ). list ++ newline) (joined-push words (variable_word netlist var))
 
 -- the steps of a run, and those of the runs before it, are no more than there are
 pub steps-within : (runs : List RunOf) (number : ℕ) → number < length runs → length (steps_of (get_or runs number no_run)) + step_count (take number runs) ≤ step_count runs

@@ -4,9 +4,6 @@ use Rattle.hz_outside.specs.Counts.{Rose}
 use Rattle.hz_outside.specs.declared.fault.Place.{Place}
 use Rattle.hz_core.specs.Netlist.{Netlist}
 use Rattle.hz_net.specs.Starts.{IsLeastOpen, IsLeastUnstable}
-use Rattle.hz_bench.specs.Fault.{IsFaultless}
-use Rattle.hz_bench.specs.Netlist.{netlist_of}
-use Rattle.hz_bench.specs.Text.{statements_of}
 use Rattle.hz_text.specs.ScriptFault as script
 use Rattle.hz_text.specs.ScriptText.{IsValue}
 use Rattle.hz_text.specs.ScriptValue.{ScriptOf}
@@ -15,11 +12,11 @@ use Rattle.hz_text.specs.RunText.{IsRunValue}
 use Rattle.hz_text.specs.RunValue.{RunTextOf}
 use Rattle.hz_top.specs.declared.status.Status.{Status}
 use Rattle.hz_top.specs.declared.status.Status.TheVariants.{Done, No}
-use Rattle.hz_top.specs.declared.order.SecondText.{SecondText}
-use Rattle.hz_top.specs.declared.order.SecondText.TheVariants.{Script, Runs}
+use Rattle.hz_top.specs.declared.job.Task.{Task}
+use Rattle.hz_top.specs.declared.job.Task.TheVariants.{Analyse, Replay}
 use Rattle.hz_top.specs.declared.replaying.Refused.{Refused}
-use Rattle.hz_top.specs.Job.{JobOf, Analyse, Replay}
-use Rattle.hz_top.specs.Outcome.{Told}
+use Rattle.hz_top.specs.Job.{JobOf}
+use Rattle.hz_top.specs.Outcome.{Told, IsNetlistText}
 use Rattle.hz_top.specs.Replaying.{AreAccepted, IsRefusalOfText}
 
 -- the text is that of a script with at most one change, the start of which leaves no gate open or unstable
@@ -40,22 +37,18 @@ pub record IsFaultlessRuns (netlist : Netlist) (text : List ℕ) (own : Status) 
   pub faultless : IsRunFaultless netlist text
   pub ends : (value : RunTextOf) → IsRunValue netlist text value → EndsReplay netlist value own
 
--- nothing is to be refused of the second text, by what it is, and it ends with this status
-abbrev pub IsFaultlessText : SecondText → Netlist → List ℕ → Status → Type 0
-IsFaultlessText Script netlist text own = IsFaultlessScript netlist text × (own ≡ Done)
-IsFaultlessText Runs netlist text own = IsFaultlessRuns netlist text own
+-- nothing is to be refused of the second text, by the task, which ends with this status
+abbrev pub IsFaultlessText : Task → Netlist → List ℕ → Status → Type 0
+IsFaultlessText Analyse netlist text own = IsFaultlessScript netlist text × (own ≡ Done)
+IsFaultlessText Replay netlist text own = IsFaultlessRuns netlist text own
 
--- No count of the files rises, the files are told as these two texts, the first is that of a netlist, and of the second
--- nothing is to be refused on its circuit.
-pub record AreFaultless (told : Told) (second_is : SecondText) (first second : List ℕ) (own : Status) : Type 0 where
+-- Nothing is to be refused in the job, and it ends with this status: no count of the files rises, the files are told, the
+-- first text is that of a circuit, and of the second nothing is to be refused on it.
+pub record IsFaultlessJob (told : Told) (job : JobOf) (own : Status) : Type 0 where
   pub bytes_of : List ℕ → List ℕ
   pub is_told : told.held ≡ Some bytes_of
   pub none_failed : (place : Place) → ¬ Rose (told.faults place) (told.faults_after place)
   pub none_long : (place : Place) → ¬ Rose (told.longs place) (told.longs_after place)
-  pub netlist : IsFaultless (bytes_of first)
-  pub text : IsFaultlessText second_is (netlist_of (statements_of (bytes_of first))) (bytes_of second) own
-
--- nothing is to be refused in the job, and it ends with this status
-abbrev pub IsFaultlessJob : Told → JobOf → Status → Type 0
-IsFaultlessJob told (Analyse first second) own = AreFaultless told Script first second own
-IsFaultlessJob told (Replay first second) own = AreFaultless told Runs first second own
+  pub netlist : Netlist
+  pub is_netlist : IsNetlistText (bytes_of job.first) netlist
+  pub text : IsFaultlessText job.task netlist (bytes_of job.second) own

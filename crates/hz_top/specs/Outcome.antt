@@ -25,9 +25,9 @@ use Rattle.hz_top.specs.declared.status.Status.TheVariants as status
 use Rattle.hz_top.specs.Answer.{Says}
 use Rattle.hz_top.specs.Reports.{Reports}
 use Rattle.hz_top.specs.Verdict.{ReplayComes}
-use Rattle.hz_top.specs.Job.{JobOf, Analyse, Replay}
-use Rattle.hz_top.specs.declared.order.SecondText.{SecondText}
-use Rattle.hz_top.specs.declared.order.SecondText.TheVariants.{Script, Runs}
+use Rattle.hz_top.specs.declared.job.Task.{Task}
+use Rattle.hz_top.specs.declared.job.Task.TheVariants.{Analyse, Replay}
+use Rattle.hz_top.specs.Job.{JobOf}
 use Rattle.hz_top.specs.Refusal.{words_line, unread_line, long_line, netlist_fault_line, text_fault_line, sequence_line, open_line, unstable_line}
 
 -- the most bytes of a file
@@ -48,22 +48,30 @@ ScriptComes netlist script own text =
     ⊎ ((length script.changes ≤ 1)
     × ((start : List Bool) × IsAcceptedStart netlist script.start start × Reports netlist start script.changes own text))
 
--- what the text of a script comes to, on a circuit
-abbrev pub ScriptTextComes : Netlist → List ℕ → Status → List ℕ → Type 0
-ScriptTextComes netlist bytes own text =
+-- what the text of a script comes to, on a circuit, if the judge says what a script comes to
+abbrev pub ScriptTextComes : (judge : Netlist → ScriptOf → Status → List ℕ → Type 0) → Netlist → List ℕ → Status → List ℕ → Type 0
+ScriptTextComes judge netlist bytes own text =
     ((fault : TextFault) × script.IsLeastFault netlist bytes fault × Says status.Text (text_fault_line (codes "script") netlist fault) own text)
-    ⊎ ((value : ScriptOf) × script.IsFaultless netlist bytes × IsValue netlist bytes value × ScriptComes netlist value own text)
+    ⊎ ((value : ScriptOf) × script.IsFaultless netlist bytes × IsValue netlist bytes value × judge netlist value own text)
 
--- what a run text comes to, on a circuit
-abbrev pub RunTextComes : Netlist → List ℕ → Status → List ℕ → Type 0
-RunTextComes netlist bytes own text =
+-- what a run text comes to, on a circuit, if the judge says what runs come to
+abbrev pub RunTextComes : (judge : Netlist → RunTextOf → Status → List ℕ → Type 0) → Netlist → List ℕ → Status → List ℕ → Type 0
+RunTextComes judge netlist bytes own text =
     ((fault : TextFault) × IsLeastRunFault netlist bytes fault × Says status.Text (text_fault_line (codes "runs") netlist fault) own text)
-    ⊎ ((value : RunTextOf) × IsRunFaultless netlist bytes × IsRunValue netlist bytes value × ReplayComes netlist value own text)
+    ⊎ ((value : RunTextOf) × IsRunFaultless netlist bytes × IsRunValue netlist bytes value × judge netlist value own text)
 
--- what the second text comes to, by what it is
-abbrev pub SecondTextComes : SecondText → Netlist → List ℕ → Status → List ℕ → Type 0
-SecondTextComes Script = ScriptTextComes
-SecondTextComes Runs = RunTextComes
+-- what the second text comes to, by the task
+abbrev pub TaskComes : Task → Netlist → List ℕ → Status → List ℕ → Type 0
+TaskComes Analyse = ScriptTextComes ScriptComes
+TaskComes Replay = RunTextComes ReplayComes
+
+-- the first text is refused with this line
+abbrev pub NetlistRefused : List ℕ → List ℕ → Type 0
+NetlistRefused bytes line = (fault : BenchFault) × IsLeastFault bytes fault × (line ≡ netlist_fault_line fault)
+
+-- the first text is that of this circuit
+abbrev pub IsNetlistText : List ℕ → Netlist → Type 0
+IsNetlistText bytes netlist = IsFaultless bytes × (netlist ≡ netlist_of (statements_of bytes))
 
 -- what files tell and count: the bytes under each name where they are told, and the counts of loads that failed and of
 -- files that were too long, before the call and after it
@@ -108,33 +116,31 @@ TextSays called netlist fault own text = (fault ≢ reading.Memory) × Says stat
 abbrev pub IsFile : Told → List ℕ → List ℕ → Type 0
 IsFile told name bytes = IfSome told.held (λ bytes_of. bytes ≡ bytes_of name) × (length bytes ≤ most_bytes)
 
--- what the second file comes to, on a circuit
-abbrev pub SecondComes : Told → SecondText → Netlist → List ℕ → Status → List ℕ → Type 0
-SecondComes told second_is netlist name own text =
+-- what the second file comes to, if this comes of its text
+abbrev pub SecondComes : Told → (List ℕ → Status → List ℕ → Type 0) → List ℕ → Status → List ℕ → Type 0
+SecondComes told comes name own text =
     Unread told Second name own text
-    ⊎ ((bytes : List ℕ) × IsFile told name bytes × SecondTextComes second_is netlist bytes own text)
+    ⊎ ((bytes : List ℕ) × IsFile told name bytes × comes bytes own text)
 
--- what the first text comes to, and then the second file, which is not asked for where the first text has a fault
-abbrev pub FirstTextComes : Told → SecondText → List ℕ → List ℕ → Status → List ℕ → Type 0
-FirstTextComes told second_is bytes second own text =
-    ((fault : BenchFault) × IsLeastFault bytes fault × CountsStay told Second × Says status.Netlist (netlist_fault_line fault) own text)
-    ⊎ (IsFaultless bytes × SecondComes told second_is (netlist_of (statements_of bytes)) second own text)
+-- what the first text comes to, and then the second file, which is not asked for if the first text is refused
+abbrev pub FirstTextComes : Told → (Netlist → List ℕ → Status → List ℕ → Type 0) → List ℕ → List ℕ → Status → List ℕ → Type 0
+FirstTextComes told comes bytes second own text =
+    ((line : List ℕ) × NetlistRefused bytes line × CountsStay told Second × Says status.Netlist line own text)
+    ⊎ ((netlist : Netlist) × IsNetlistText bytes netlist × SecondComes told (comes netlist) second own text)
 
--- what the two files come to: the second is not asked for where the first is not read
-abbrev pub FilesCome : Told → SecondText → List ℕ → List ℕ → Status → List ℕ → Type 0
-FilesCome told second_is first second own text =
+-- what the two files come to: the second is not asked for if the first is not read
+abbrev pub FilesCome : Told → (Netlist → List ℕ → Status → List ℕ → Type 0) → List ℕ → List ℕ → Status → List ℕ → Type 0
+FilesCome told comes first second own text =
     (CountsStay told Second × Unread told First first own text)
-    ⊎ ((bytes : List ℕ) × IsFile told first bytes × FirstTextComes told second_is bytes second own text)
+    ⊎ ((bytes : List ℕ) × IsFile told first bytes × FirstTextComes told comes bytes second own text)
 
 -- what a job comes to; without a job the words are refused, and no file is loaded
 abbrev pub JobComes : Told → Option JobOf → Status → List ℕ → Type 0
 JobComes told None own text =
     ((place : Place) → CountsStay told place) × Says status.Words words_line own text
-JobComes told (Some (Analyse first second)) own text = FilesCome told Script first second own text
-JobComes told (Some (Replay first second)) own text = FilesCome told Runs first second own text
+JobComes told (Some job) own text = FilesCome told (TaskComes job.task) job.first job.second own text
 
 -- the loads that a job may make: each of its two files at its place, with the limit
 abbrev pub MayLoad : (Place → List ℕ → ℕ → Type 0) → Option JobOf → Type 0
 MayLoad granted None = Unit {0}
-MayLoad granted (Some (Analyse first second)) = granted First first most_bytes × granted Second second most_bytes
-MayLoad granted (Some (Replay first second)) = granted First first most_bytes × granted Second second most_bytes
+MayLoad granted (Some job) = granted First job.first most_bytes × granted Second job.second most_bytes

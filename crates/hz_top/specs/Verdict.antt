@@ -1,6 +1,7 @@
 -- The one line that `replay` writes.
 use Rattle.std.specs.Prelude.{ℕ, ◌<◌, ◌⊎◌, List, [], ◌∷◌, ◌++◌, length, codes, decimal, Option, Some, None, IfSome}
-use Rattle.hz_write.specs.Writes.{line_of}
+use Rattle.std.specs.List.{concat}
+use Rattle.hz_write.specs.Writes.{newline, line_of}
 use Rattle.hz_core.specs.Netlist.{Netlist}
 use Rattle.hz_net.specs.Network.{network_of}
 use Rattle.hz_gmw.specs.declared.replay_fault.StepFault.{StepFault}
@@ -31,7 +32,7 @@ cycle_words run said = codes "no: run " ∷ decimal run ∷ said ∷ []
 
 -- a line of words, the last of which is a variable's name
 unfoldable pub naming_line : Netlist → List (List ℕ) → ℕ → List ℕ
-naming_line netlist words var = line_of (words ++ variable_word netlist var ∷ [])
+naming_line netlist words var = concat words ++ variable_word netlist var ++ newline
 
 -- a step that is empty
 unfoldable pub empty_line : ℕ → ℕ → List ℕ

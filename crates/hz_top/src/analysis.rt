@@ -17,7 +17,7 @@ use std::alloc::Global;
 // Analyses the script of a text on a network.
 pub(crate) fn analyse_text<K: Sink>(alloc: Global, net: &Net, text: &[u8], out: &mut K) -> Status
     requires { length text.now ≤ most_bytes }
-    ensures { Answers K.written K.faults (ScriptTextComes net.now text.now) out.old out.new result }
+    ensures { Answers K.written K.faults (ScriptTextComes ScriptComes net.now text.now) out.old out.new result }
 {
     let circuit = net.circuit();
     match read_script(alloc, circuit, text) {

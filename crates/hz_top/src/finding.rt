@@ -6,6 +6,7 @@ ghost use Rattle.hz_net.specs.Starts.{IsStableStart};
 ghost use Rattle.hz_net.specs.Passes.{algorithm_a, algorithm_b, excitations, AreRounds};
 ghost use Rattle.hz_reach.specs.Scratched.{blank};
 ghost use Rattle.hz_reach.specs.Spread.{IsSpreadRun};
+ghost use Rattle.hz_report.specs.Finding.{finding_of};
 ghost use Rattle.hz_top.specs.Finding.{IsFinding};
 
 use hz_core::{Memory, Tri};
@@ -13,18 +14,8 @@ use hz_gmw::Run;
 use hz_net::Net;
 use hz_pass::{settle, spread};
 use hz_reach::{Scratch, spread_run};
+use hz_report::Finding;
 use std::alloc::Global;
-
-/// What one change may do: for each variable the values that runs give it and those that may persist, and a run that
-/// shows the former.
-#[derive(Drop)]
-pub(crate) struct Finding {
-    pub a: Vec<Tri>,
-    pub rounds_a: u32,
-    pub b: Vec<Tri>,
-    pub rounds_b: u32,
-    pub run: Run,
-}
 
 // Runs both passes from a stable start under a new input, and makes the spread run.
 pub(crate) fn find(
@@ -35,58 +26,51 @@ pub(crate) fn find(
 ) -> Result<Finding, Memory>
     requires start { IsStableStart net.now start.now }
     requires input { length input.now ≡ net.now.inputs }
-    ensures { IfOk result (λ found. IsFinding (network_of net.now) input.now start.now
-        found.a.items found.rounds_a found.b.items found.rounds_b found.run.steps) }
-{
-    // A getter of the network tells that its circuit is one, on which the proof stands.
-    let _variables = net.len();
-    let reached = find_reached(alloc, net, start, input)?;
-    let lasting = find_lasting(alloc, net, input, reached.a.as_slice())?;
-    Ok(Finding {
-        a: reached.a,
-        rounds_a: reached.rounds,
-        b: lasting.b,
-        rounds_b: lasting.rounds,
-        run: reached.run,
-    })
-}
-
-// The values that runs give, and a run that shows them.
-#[derive(Drop)]
-struct Reached {
-    a: Vec<Tri>,
-    rounds: u32,
-    run: Run,
-}
-
-// Runs Algorithm A, and makes the spread run.
-fn find_reached(alloc: Global, net: &Net, start: &[bool], input: &[bool]) -> Result<Reached, Memory>
-    requires start { IsStableStart net.now start.now }
-    requires input { length input.now ≡ net.now.inputs }
-    ensures rounds { IfOk result (λ found. AreRounds (algorithm_a (network_of net.now) input.now start.now) found.rounds) }
-    ensures a { IfOk result (λ found. found.a.items ≡ algorithm_a (network_of net.now) input.now start.now found.rounds) }
-    ensures bound { IfOk result (λ found. found.rounds ≤ length (network_of net.now) + 1) }
-    ensures run { IfOk result (λ found. IsSpreadRun (network_of net.now) input.now start.now found.a.items found.run.steps) }
+    ensures { IfOk result (λ found. IsFinding (network_of net.now) input.now start.now (finding_of found)) }
 {
     let variables = net.len() as usize;
+    let mut finding = with_room(alloc, variables)?;
     let mut scratch = Scratch::new(alloc, net)?;
-    let mut run = Run::with_room(alloc, variables, variables)?;
-    let mut a = all_unknown(alloc, variables)?;
     let mut work = all_unknown(alloc, variables)?;
     let Ok(mut ranks) = vec![in alloc; 0u32; variables] else {
         return Err(Memory);
     };
-    let rounds = reach(
+    finding.rounds_a = reach(
         net,
         start,
         input,
-        &mut a,
+        &mut finding.a,
         &mut ranks,
         &mut work,
         &mut scratch,
-        &mut run,
+        &mut finding.spread,
     );
-    Ok(Reached { a, rounds, run })
+    finding.rounds_b = settle_from(
+        net,
+        input,
+        finding.a.as_slice(),
+        &mut finding.b,
+        &mut ranks,
+        &mut work,
+    );
+    Ok(finding)
+}
+
+// A finding with room for so many variables, in which nothing is found.
+fn with_room(alloc: Global, variables: usize) -> Result<Finding, Memory>
+    ensures a { IfOk result (λ found. length found.a.items ≡ variables) }
+    ensures b { IfOk result (λ found. length found.b.items ≡ variables) }
+    ensures steps { IfOk result (λ found. found.spread.steps ≡ []) }
+    ensures room_for_flips { IfOk result (λ found. variables ≤ found.spread.spare_flips) }
+    ensures room_for_steps { IfOk result (λ found. variables ≤ found.spread.spare_steps) }
+{
+    Ok(Finding {
+        a: all_unknown(alloc, variables)?,
+        rounds_a: 0,
+        b: all_unknown(alloc, variables)?,
+        rounds_b: 0,
+        spread: Run::with_room(alloc, variables, variables)?,
+    })
 }
 
 // Writes the result of Algorithm A and the spread run, and answers the rounds.
@@ -117,32 +101,6 @@ fn reach(
     let rounds = spread(net, input, start, a, ranks, work);
     spread_run(net, start, input, a, ranks, false, scratch, run);
     rounds
-}
-
-// The values that may persist.
-#[derive(Drop)]
-struct Lasting {
-    b: Vec<Tri>,
-    rounds: u32,
-}
-
-// Runs Algorithm B from the result of Algorithm A.
-fn find_lasting(alloc: Global, net: &Net, input: &[bool], a: &[Tri]) -> Result<Lasting, Memory>
-    requires input { length input.now ≡ net.now.inputs }
-    requires a { length a.now ≡ length (network_of net.now) }
-    requires below { AllBelow (excitations (network_of net.now) input.now a.now) a.now }
-    ensures rounds { IfOk result (λ found. AreRounds (algorithm_b (network_of net.now) input.now a.now) found.rounds) }
-    ensures b { IfOk result (λ found. found.b.items ≡ algorithm_b (network_of net.now) input.now a.now found.rounds) }
-    ensures bound { IfOk result (λ found. found.rounds ≤ length (network_of net.now) + 1) }
-{
-    let variables = net.len() as usize;
-    let mut b = all_unknown(alloc, variables)?;
-    let mut work = all_unknown(alloc, variables)?;
-    let Ok(mut when) = vec![in alloc; 0u32; variables] else {
-        return Err(Memory);
-    };
-    let rounds = settle_from(net, input, a, &mut b, &mut when, &mut work);
-    Ok(Lasting { b, rounds })
 }
 
 // Writes the result of Algorithm B, and answers the rounds.

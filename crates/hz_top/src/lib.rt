@@ -29,6 +29,7 @@ mod status;
 mod tests;
 mod verdict;
 
+pub use job::Task;
 pub use order::MAX_BYTES;
 pub use reading_back::{printed_run_is_accepted, printed_run_reads_back};
 pub use running::run;

@@ -2,9 +2,10 @@
 ghost use Rattle.std.specs.Prelude.{◌≡◌, ◌≤◌, length};
 ghost use Rattle.hz_outside.specs.declared.fault.Place.TheVariants.{First, Second};
 ghost use Rattle.hz_top.specs.Answer.{Answers};
-ghost use Rattle.hz_top.specs.Outcome.{most_bytes, told_by, FilesCome, SecondComes, SecondTextComes};
+ghost use Rattle.hz_top.specs.Outcome.{most_bytes, told_by, TaskComes, FilesCome, SecondComes};
 
 use crate::analysis::analyse_text;
+use crate::job::{Job, Task};
 use crate::refusal::{refuse_load, refuse_netlist};
 use crate::replaying::replay_text;
 use crate::status::Status;
@@ -15,75 +16,62 @@ use std::alloc::Global;
 /// The most bytes of a file.
 pub const MAX_BYTES: usize = 16_777_216;
 
-/// What the second text is, and so what is done with it.
-#[derive(Clone, Copy, Debug)]
-pub(crate) enum SecondText {
-    /// A script, to be analysed.
-    Script,
-    /// A run text, to be replayed.
-    Runs,
-}
-
-// Does a job on the netlist of the first file and the text of the second.
+// Does a job.
 pub(crate) fn work<F: Files, K: Sink>(
     alloc: Global,
-    first: &str,
-    second: &str,
-    second_is: SecondText,
+    job: Job<'_>,
     files: &mut F,
     out: &mut K,
 ) -> Status
-    requires first { F.granted files.old First first.now most_bytes }
-    requires second { F.granted files.old Second second.now most_bytes }
+    requires first { F.granted files.old First job.first.now most_bytes }
+    requires second { F.granted files.old Second job.second.now most_bytes }
     ensures { Answers K.written K.faults
-        (FilesCome (told_by F.held F.faults F.longs files.old files.new) second_is first.now second.now) out.old out.new result }
+        (FilesCome (told_by F.held F.faults F.longs files.old files.new) (TaskComes job.entry.task) job.entry.first.now job.entry.second.now)
+        out.old out.new result }
 {
-    let text = match files.load(alloc, Place::First, first, MAX_BYTES) {
-        Ok(text) => text,
-        Err(fault) => return refuse_load(out, Place::First, fault),
-    };
-    let circuit = match hz_bench::read(alloc, text.as_slice()) {
-        Ok(circuit) => circuit,
-        Err(fault) => return refuse_netlist(out, fault),
+    // The bytes of the first file are freed before the second is loaded.
+    let circuit = {
+        let text = match files.load(alloc, Place::First, job.first, MAX_BYTES) {
+            Ok(text) => text,
+            Err(fault) => return refuse_load(out, Place::First, fault),
+        };
+        match hz_bench::read(alloc, text.as_slice()) {
+            Ok(circuit) => circuit,
+            Err(fault) => return refuse_netlist(out, fault),
+        }
     };
     let Ok(net) = Net::build(alloc, circuit) else {
         return Status::Memory;
     };
-    work_on_second(alloc, &net, second, second_is, files, out)
+    work_on_second(alloc, &net, job.task, job.second, files, out)
 }
 
-// Does a job on a network and the text of the second file.
+// Does a task on a network and the text of the second file.
 fn work_on_second<F: Files, K: Sink>(
     alloc: Global,
     net: &Net,
+    task: Task,
     second: &str,
-    second_is: SecondText,
     files: &mut F,
     out: &mut K,
 ) -> Status
     requires { F.granted files.old Second second.now most_bytes }
     ensures { Answers K.written K.faults
-        (SecondComes (told_by F.held F.faults F.longs files.old files.new) second_is net.now second.now) out.old out.new result }
+        (SecondComes (told_by F.held F.faults F.longs files.old files.new) (TaskComes task net.now) second.now) out.old out.new result }
 {
     match files.load(alloc, Place::Second, second, MAX_BYTES) {
-        Ok(text) => work_on_text(alloc, net, text.as_slice(), second_is, out),
+        Ok(text) => work_on_text(alloc, net, task, text.as_slice(), out),
         Err(fault) => refuse_load(out, Place::Second, fault),
     }
 }
 
-// Does a job on a network and the second text.
-fn work_on_text<K: Sink>(
-    alloc: Global,
-    net: &Net,
-    text: &[u8],
-    second_is: SecondText,
-    out: &mut K,
-) -> Status
+// Does a task on a network and the second text.
+fn work_on_text<K: Sink>(alloc: Global, net: &Net, task: Task, text: &[u8], out: &mut K) -> Status
     requires { length text.now ≤ most_bytes }
-    ensures { Answers K.written K.faults (SecondTextComes second_is net.now text.now) out.old out.new result }
+    ensures { Answers K.written K.faults (TaskComes task net.now text.now) out.old out.new result }
 {
-    match second_is {
-        SecondText::Script => analyse_text(alloc, net, text, out),
-        SecondText::Runs => replay_text(alloc, net, text, out),
+    match task {
+        Task::Analyse => analyse_text(alloc, net, text, out),
+        Task::Replay => replay_text(alloc, net, text, out),
     }
 }

@@ -10,8 +10,8 @@ use hz_bench::BenchFault;
 use hz_core::Circuit;
 use hz_outside::{LoadFault, Place, PutFault, Sink};
 use hz_text::TextFault;
+use hz_write::Piece::{Number, Text};
 use hz_write::put_line;
-use itoa::Buffer;
 
 // Words that name no job.
 #[tactic(auto, unfolding(crate::specs::Refusal::words_line))]
@@ -20,7 +20,7 @@ pub(crate) fn put_words<K: Sink>(out: &mut K) -> Result<(), PutFault>
 {
     put_line(
         out,
-        &[b"refused: words; usage: hazard JOB FIRST [SECOND] [--cap N] [--show nodes|all]"],
+        &[Text(b"refused: words; usage: hazard JOB FIRST [SECOND] [--cap N] [--show nodes|all]")],
     )
 }
 
@@ -39,7 +39,14 @@ fn place_word(place: Place) -> &'static [u8]
 fn put_unread<K: Sink>(out: &mut K, place: Place) -> Result<(), PutFault>
     ensures { Wrote K.written K.faults (unread_line place) out.old out.new result }
 {
-    put_line(out, &[b"refused: ", place_word(place), b" file not read"])
+    put_line(
+        out,
+        &[
+            Text(b"refused: "),
+            Text(place_word(place)),
+            Text(b" file not read"),
+        ],
+    )
 }
 
 // A file with too many bytes.
@@ -47,17 +54,36 @@ fn put_unread<K: Sink>(out: &mut K, place: Place) -> Result<(), PutFault>
 fn put_long<K: Sink>(out: &mut K, place: Place) -> Result<(), PutFault>
     ensures { Wrote K.written K.faults (long_line place) out.old out.new result }
 {
-    put_line(out, &[b"refused: ", place_word(place), b" file too long"])
+    put_line(
+        out,
+        &[
+            Text(b"refused: "),
+            Text(place_word(place)),
+            Text(b" file too long"),
+        ],
+    )
 }
 
 // A fault at a line of a text, by what the text is called.
 #[tactic(auto, unfolding(crate::specs::Refusal::fault_line))]
-fn put_at<K: Sink>(out: &mut K, called: &[u8], line: u32, fault: &[u8]) -> Result<(), PutFault>
+fn put_at<'p, K: Sink>(
+    out: &mut K,
+    called: &'p [u8],
+    line: u32,
+    fault: &'p [u8],
+) -> Result<(), PutFault>
     ensures { Wrote K.written K.faults (fault_line called.now line fault.now) out.old out.new result }
 {
-    let mut of_line = Buffer::new();
-    let line = of_line.format(line).as_bytes();
-    put_line(out, &[b"refused: ", called, b" line ", line, fault])
+    put_line(
+        out,
+        &[
+            Text(b"refused: "),
+            Text(called),
+            Text(b" line "),
+            Number(line),
+            Text(fault),
+        ],
+    )
 }
 
 // A fault at a line of a netlist, with a number.
@@ -65,11 +91,15 @@ fn put_at<K: Sink>(out: &mut K, called: &[u8], line: u32, fault: &[u8]) -> Resul
 fn put_counted<K: Sink>(out: &mut K, line: u32, fault: &[u8], count: u32) -> Result<(), PutFault>
     ensures { Wrote K.written K.faults (counted_line line fault.now count) out.old out.new result }
 {
-    let mut of_line = Buffer::new();
-    let mut of_count = Buffer::new();
-    let line = of_line.format(line).as_bytes();
-    let count = of_count.format(count).as_bytes();
-    put_line(out, &[b"refused: netlist line ", line, fault, count])
+    put_line(
+        out,
+        &[
+            Text(b"refused: netlist line "),
+            Number(line),
+            Text(fault),
+            Number(count),
+        ],
+    )
 }
 
 // More variables than there may be.
@@ -77,9 +107,10 @@ fn put_counted<K: Sink>(out: &mut K, line: u32, fault: &[u8], count: u32) -> Res
 fn put_variables<K: Sink>(out: &mut K, variables: u32) -> Result<(), PutFault>
     ensures { Wrote K.written K.faults (variables_line variables) out.old out.new result }
 {
-    let mut of_variables = Buffer::new();
-    let variables = of_variables.format(variables).as_bytes();
-    put_line(out, &[b"refused: netlist: variables ", variables])
+    put_line(
+        out,
+        &[Text(b"refused: netlist: variables "), Number(variables)],
+    )
 }
 
 // A fault of a netlist's text. For want of memory there is no line.
@@ -103,10 +134,10 @@ fn put_netlist_fault<K: Sink>(out: &mut K, fault: BenchFault) -> Result<(), PutF
 
 // A node for which a text has no value.
 #[tactic(auto, unfolding(crate::specs::Refusal::missing_line))]
-fn put_missing<K: Sink>(
+fn put_missing<'p, K: Sink>(
     out: &mut K,
-    called: &[u8],
-    circuit: &Circuit,
+    called: &'p [u8],
+    circuit: &'p Circuit,
     node: u32,
 ) -> Result<(), PutFault>
     requires { node < length circuit.now.names }
@@ -114,7 +145,12 @@ fn put_missing<K: Sink>(
 {
     put_line(
         out,
-        &[b"refused: ", called, b": no value for ", circuit.name(node)],
+        &[
+            Text(b"refused: "),
+            Text(called),
+            Text(b": no value for "),
+            Text(circuit.name(node)),
+        ],
     )
 }
 
@@ -145,7 +181,7 @@ fn put_text_fault<K: Sink>(
 pub(crate) fn put_sequence<K: Sink>(out: &mut K) -> Result<(), PutFault>
     ensures { Wrote K.written K.faults sequence_line out.old out.new result }
 {
-    put_line(out, &[b"refused: script: not built"])
+    put_line(out, &[Text(b"refused: script: not built")])
 }
 
 // A gate that the start leaves open.
@@ -154,7 +190,10 @@ pub(crate) fn put_open<K: Sink>(out: &mut K, circuit: &Circuit, gate: u32) -> Re
     requires { gate < length circuit.now.names }
     ensures { Wrote K.written K.faults (open_line circuit.now gate) out.old out.new result }
 {
-    put_line(out, &[b"refused: start: open ", circuit.name(gate)])
+    put_line(
+        out,
+        &[Text(b"refused: start: open "), Text(circuit.name(gate))],
+    )
 }
 
 // A gate that is unstable at the start.
@@ -167,7 +206,10 @@ pub(crate) fn put_unstable<K: Sink>(
     requires { gate < length circuit.now.names }
     ensures { Wrote K.written K.faults (unstable_line circuit.now gate) out.old out.new result }
 {
-    put_line(out, &[b"refused: start: unstable ", circuit.name(gate)])
+    put_line(
+        out,
+        &[Text(b"refused: start: unstable "), Text(circuit.name(gate))],
+    )
 }
 
 // Writes why a file was not loaded.

@@ -46,7 +46,7 @@ pub(crate) struct FirstRefusal {
 // Replays the runs of a text on a network.
 pub(crate) fn replay_text<K: Sink>(alloc: Global, net: &Net, text: &[u8], out: &mut K) -> Status
     requires { length text.now ≤ most_bytes }
-    ensures { Answers K.written K.faults (RunTextComes net.now text.now) out.old out.new result }
+    ensures { Answers K.written K.faults (RunTextComes ReplayComes net.now text.now) out.old out.new result }
 {
     match read_run(alloc, net, text) {
         Ok(runs) => replay(alloc, net, &runs, out),

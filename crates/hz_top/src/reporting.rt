@@ -1,21 +1,21 @@
 //! The report of a script's changes from its start.
-ghost use Rattle.std.specs.Prelude.{◌≡◌, ◌<◌, ◌≤◌, [], ◌∷◌, length, take, All, IfOk, IsSome};
+ghost use Rattle.std.specs.Prelude.{◌≡◌, ◌<◌, ◌≤◌, ◌++◌, [], ◌∷◌, length, take, All, IfOk, IsSome};
 ghost use Rattle.hz_net.specs.Network.{network_of};
 ghost use Rattle.hz_net.specs.Starts.{IsStableStart};
 ghost use Rattle.hz_write.specs.Writes.{Wrote};
-ghost use Rattle.hz_outside.specs.Written.{joined};
 ghost use Rattle.hz_text.specs.ScriptText.{IsScriptFor};
-ghost use Rattle.hz_report.specs.Report.{head_text, change_text, runs_text};
+ghost use Rattle.hz_report.specs.Finding.{finding_of};
+ghost use Rattle.hz_report.specs.Report.{head_text, change_text};
 ghost use Rattle.hz_top.specs.Answer.{Answers};
-ghost use Rattle.hz_top.specs.Finding.{IsFinding};
 ghost use Rattle.hz_top.specs.Reports.{changed_input, Reports};
 
-use crate::finding::{Finding, find};
+use crate::finding::find;
 use crate::status::{Status, status_after};
 use hz_net::Net;
 use hz_outside::{PutFault, Sink};
-use hz_report::{Found, write_change, write_head, write_runs};
+use hz_report::{Finding, write_change, write_head};
 use hz_text::Script;
+use hz_write::Writer;
 use std::alloc::{AllocError, Global};
 
 // Writes the report of a script of at most one change.
@@ -32,9 +32,19 @@ pub(crate) fn report<K: Sink>(
     ensures { Answers K.written K.faults (Reports net.now start.now script.now.changes) out.old out.new result }
 {
     if script.changes() == 0 {
-        return status_after(write_head(out, net, start), Status::Done);
+        return status_after(write_start(out, net, start), Status::Done);
     }
     report_change(alloc, net, script.change(0), start, out)
+}
+
+// Writes the lines of a start.
+fn write_start<K: Sink>(out: &mut K, net: &Net, start: &[bool]) -> Result<(), PutFault>
+    requires { length start.now ≡ length (network_of net.now) }
+    ensures { Wrote K.written K.faults (head_text net.now start.now) out.old out.new result }
+{
+    let mut writer = Writer::new(out);
+    write_head(&mut writer, net, start);
+    writer.finish()
 }
 
 // Writes the report of one change.
@@ -102,44 +112,13 @@ fn write_report<K: Sink>(
     requires input { length input.now ≡ net.now.inputs }
     requires a { length finding.now.a.items ≡ length (network_of net.now) }
     requires b { length finding.now.b.items ≡ length (network_of net.now) }
-    requires steps { All (All (λ var. var < length (network_of net.now))) finding.now.run.steps }
+    requires steps { All (All (λ var. var < length (network_of net.now))) finding.now.spread.steps }
     ensures { Wrote K.written K.faults
-        (joined (head_text net.now start.now ∷ joined (change_text net.now 1 change.now start.now
-        finding.now.rounds_a finding.now.a.items finding.now.rounds_b finding.now.b.items
-        ∷ runs_text net.now start.now input.now finding.now.run.steps ∷ []) ∷ []))
+        (head_text net.now start.now ++ change_text net.now 1 change.now start.now input.now (finding_of finding.now))
         out.old out.new result }
 {
-    write_head(out, net, start)?;
-    write_finding(out, net, change, start, input, finding)
-}
-
-// Writes the lines of the first change, and the run that shows what was found.
-fn write_finding<K: Sink>(
-    out: &mut K,
-    net: &Net,
-    change: &[(u32, bool)],
-    start: &[bool],
-    input: &[bool],
-    finding: &Finding,
-) -> Result<(), PutFault>
-    requires change { All (λ pair. pair.0 < length net.now.names) change.now }
-    requires start { length start.now ≡ length (network_of net.now) }
-    requires input { length input.now ≡ net.now.inputs }
-    requires a { length finding.now.a.items ≡ length (network_of net.now) }
-    requires b { length finding.now.b.items ≡ length (network_of net.now) }
-    requires steps { All (All (λ var. var < length (network_of net.now))) finding.now.run.steps }
-    ensures { Wrote K.written K.faults
-        (joined (change_text net.now 1 change.now start.now
-        finding.now.rounds_a finding.now.a.items finding.now.rounds_b finding.now.b.items
-        ∷ runs_text net.now start.now input.now finding.now.run.steps ∷ []))
-        out.old out.new result }
-{
-    let found = Found {
-        a: finding.a.as_slice(),
-        rounds_a: finding.rounds_a,
-        b: finding.b.as_slice(),
-        rounds_b: finding.rounds_b,
-    };
-    write_change(out, net, 1, change, start, &found)?;
-    write_runs(out, net, start, input, &finding.run)
+    let mut writer = Writer::new(out);
+    write_head(&mut writer, net, start);
+    write_change(&mut writer, net, 1, change, start, input, finding);
+    writer.finish()
 }

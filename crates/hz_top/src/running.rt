@@ -7,8 +7,8 @@ ghost use Rattle.hz_top.specs.Faultless.{IsFaultlessJob};
 ghost use Rattle.hz_top.specs.Job.{JobOf, job_of};
 ghost use Rattle.hz_top.specs.Outcome.{told_by, JobComes, MayLoad};
 
-use crate::job::{Job, read_job};
-use crate::order::{SecondText, work};
+use crate::job::read_job;
+use crate::order::work;
 use crate::refusal::put_words;
 use crate::status::{Status, status_after};
 use hz_outside::{Files, Sink};
@@ -29,12 +29,7 @@ pub fn run<F: Files, K: Sink>(alloc: Global, words: &[String], files: &mut F, ou
         → (result ≡ own) ⊎ (result ≡ Status.Memory) }
 {
     match read_job(words) {
-        Some(Job::Analyse { first, second }) => {
-            work(alloc, first, second, SecondText::Script, files, out)
-        }
-        Some(Job::Replay { first, second }) => {
-            work(alloc, first, second, SecondText::Runs, files, out)
-        }
+        Some(job) => work(alloc, job, files, out),
         None => status_after(put_words(out), Status::Words),
     }
 }

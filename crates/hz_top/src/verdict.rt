@@ -1,6 +1,7 @@
 //! The one line that `replay` writes.
 ghost use Rattle.std.specs.Prelude.{◌≡◌, ◌+◌, ◌<◌, ◌≤◌, length, map, slice_index_or};
 ghost use Rattle.hz_net.specs.Network.{network_of};
+ghost use Rattle.hz_write.specs.Pieces.{piece_text};
 ghost use Rattle.hz_write.specs.Writes.{Wrote};
 ghost use Rattle.hz_top.specs.Replaying.{step_count, cycle_count, steps_of, no_run};
 ghost use Rattle.hz_top.specs.Verdict.{yes_line, naming_line, step_line, cycle_line, no_line, accepted_line, step_variable, cycle_variable, named_variable, NamesVariable};
@@ -9,10 +10,9 @@ use crate::replaying::Refused;
 use hz_gmw::{CycleFault, StepFault};
 use hz_net::Net;
 use hz_outside::{PutFault, Sink};
-use hz_report::add_variable;
-use hz_text::RunText;
-use hz_write::{Line, put_line};
-use itoa::Buffer;
+use hz_text::{RunText, write_variable};
+use hz_write::Piece::{Count, Text};
+use hz_write::{Piece, Writer, put_line};
 
 // All runs are accepted.
 pub(crate) fn put_yes<K: Sink>(out: &mut K, text: &RunText) -> Result<(), PutFault>
@@ -70,15 +70,16 @@ fn put_counts<K: Sink>(
 ) -> Result<(), PutFault>
     ensures { Wrote K.written K.faults (yes_line runs steps cycles) out.old out.new result }
 {
-    let mut of_runs = Buffer::new();
-    let mut of_steps = Buffer::new();
-    let mut of_cycles = Buffer::new();
-    let runs = of_runs.format(runs).as_bytes();
-    let steps = of_steps.format(steps).as_bytes();
-    let cycles = of_cycles.format(cycles).as_bytes();
     put_line(
         out,
-        &[b"yes: runs ", runs, b" steps ", steps, b" cycles ", cycles],
+        &[
+            Text(b"yes: runs "),
+            Count(runs),
+            Text(b" steps "),
+            Count(steps),
+            Text(b" cycles "),
+            Count(cycles),
+        ],
     )
 }
 
@@ -109,22 +110,39 @@ fn put_step<K: Sink>(
     requires { NamesVariable net.now (step_variable fault) }
     ensures { Wrote K.written K.faults (step_line net.now run step fault) out.old out.new result }
 {
-    let mut of_run = Buffer::new();
-    let mut of_step = Buffer::new();
-    let run = of_run.format(run).as_bytes();
-    let step = of_step.format(step).as_bytes();
     match fault {
-        StepFault::Empty => put_line(out, &[b"no: run ", run, b" step ", step, b": empty"]),
+        StepFault::Empty => put_line(
+            out,
+            &[
+                Text(b"no: run "),
+                Count(run),
+                Text(b" step "),
+                Count(step),
+                Text(b": empty"),
+            ],
+        ),
         StepFault::Repeated { var } => put_naming(
             out,
             net,
-            &[b"no: run ", run, b" step ", step, b": repeated "],
+            &[
+                Text(b"no: run "),
+                Count(run),
+                Text(b" step "),
+                Count(step),
+                Text(b": repeated "),
+            ],
             var,
         ),
         StepFault::Stable { var } => put_naming(
             out,
             net,
-            &[b"no: run ", run, b" step ", step, b": stable "],
+            &[
+                Text(b"no: run "),
+                Count(run),
+                Text(b" step "),
+                Count(step),
+                Text(b": stable "),
+            ],
             var,
         ),
     }
@@ -135,28 +153,48 @@ fn put_cycle<K: Sink>(out: &mut K, net: &Net, run: usize, fault: CycleFault) -> 
     requires { cycle_variable fault < length (network_of net.now) }
     ensures { Wrote K.written K.faults (cycle_line net.now run fault) out.old out.new result }
 {
-    let mut of_run = Buffer::new();
-    let run = of_run.format(run).as_bytes();
     match fault {
         CycleFault::Differs { var } => {
-            put_naming(out, net, &[b"no: run ", run, b" cycle: differs "], var)
+            put_naming(
+                out,
+                net,
+                &[Text(b"no: run "), Count(run), Text(b" cycle: differs ")],
+                var,
+            )
         }
         CycleFault::NotStable { var } => {
-            put_naming(out, net, &[b"no: run ", run, b" cycle: not stable "], var)
+            put_naming(
+                out,
+                net,
+                &[Text(b"no: run "), Count(run), Text(b" cycle: not stable ")],
+                var,
+            )
         }
         CycleFault::Transient { var } => {
-            put_naming(out, net, &[b"no: run ", run, b" cycle: transient "], var)
+            put_naming(
+                out,
+                net,
+                &[Text(b"no: run "), Count(run), Text(b" cycle: transient ")],
+                var,
+            )
         }
     }
 }
 
 // A line of words, the last of which is a variable's name.
-fn put_naming<K: Sink>(out: &mut K, net: &Net, words: &[&[u8]], var: u32) -> Result<(), PutFault>
+fn put_naming<K: Sink>(
+    out: &mut K,
+    net: &Net,
+    words: &[Piece<'_>],
+    var: u32,
+) -> Result<(), PutFault>
     requires { var < length (network_of net.now) }
-    ensures { Wrote K.written K.faults (naming_line net.now (map (λ word. word.now) words.now) var) out.old out.new result }
+    ensures { Wrote K.written K.faults
+        (naming_line net.now (map piece_text words.now) var) out.old out.new result }
 {
-    let mut line = Line::new();
-    line.add_all(out, words)?;
-    add_variable(&mut line, out, net, var)?;
-    line.end(out)
+    let mut writer = Writer::new(out);
+    writer.add(words);
+    write_variable(&mut writer, net, var);
+    writer.end();
+    writer.finish()
 }

@@ -1,7 +1,8 @@
 -- What a writer of a text over a sink ensures. The sink's `written` and `faults` come first, then the text, then the sink as it was and as it is now.
 use Rattle.std.specs.Prelude.{◌≡◌, ℕ, ◌≤◌, List, [], ◌∷◌, ◌++◌, Option, Result, MatchResult}
+use Rattle.std.specs.List.{concat}
 use Rattle.hz_outside.specs.Counts.{Rose}
-use Rattle.hz_outside.specs.Written.{grown, joined, GrewByFront}
+use Rattle.hz_outside.specs.Written.{grown, GrewByFront}
 use Rattle.hz_outside.specs.declared.fault.PutFault.{PutFault}
 use Rattle.hz_outside.specs.declared.fault.PutFault.TheVariants.{Failed}
 
@@ -11,7 +12,7 @@ newline = 10 ∷ []
 
 -- the line of these pieces
 unfoldable pub line_of : List (List ℕ) → List ℕ
-line_of pieces = joined pieces ++ newline
+line_of pieces = concat pieces ++ newline
 
 -- the whole text was written
 pub record Puts {S : Type 0} (written : S → Option (List ℕ)) (faults : S → ℕ) (text : List ℕ) (was now : S) : Type 0 where

@@ -1,20 +1,21 @@
 //! Line writers over a [`Sink`](hz_outside::Sink), without allocation.
 //!
-//! A put never carries bytes of two lines. A line is one put where it fits the buffer of a [`Line`],
-//! and a longer one is put buffer by buffer. No call here answers want of memory by itself.
+//! A put never carries bytes of two lines. A line is one put if it fits the buffer of a [`Line`],
+//! and a longer one is put buffer by buffer. No call here runs out of memory by itself.
 //!
 //! | Module | What lives in it |
 //! |---|---|
+//! | `writer` | [`Writer`]: a writer of lines, which keeps its first fault |
+//! | `pieces` | [`Piece`]: what a line is made of |
 //! | `line` | [`Line`]: a line that is composed piece by piece, of any length |
-//! | `pieces` | [`put_line`]: a line that is given by its pieces |
-#![tactic(auto)]
+#![tactic(auto, using(crate::proofs::Writers::writes_then, crate::proofs::Writers::writes_nothing))]
 
 mod line;
 mod pieces;
 #[cfg(test)]
-mod samples;
-#[cfg(test)]
 mod tests;
+mod writer;
 
 pub use line::{BUFFER_SIZE, Line};
-pub use pieces::put_line;
+pub use pieces::Piece;
+pub use writer::{Writer, put_line};

@@ -1,10 +1,8 @@
 //! A line that is composed piece by piece.
-ghost use Rattle.std.specs.Prelude.{◌≡◌, ◌+◌, ◌-◌, ◌≤◌, [], ◌++◌, length, map, decimal, OnErr};
-ghost use Rattle.hz_outside.specs.Written.{joined};
+ghost use Rattle.std.specs.Prelude.{◌≡◌, ◌+◌, ◌-◌, ◌≤◌, [], ◌++◌, length, OnErr};
 ghost use Rattle.hz_write.specs.Writes.{newline, Wrote, Added};
 
 use hz_outside::{PutFault, Sink};
-use itoa::Buffer;
 use std::marker::Model;
 
 /// How many bytes of a line one put carries at most.
@@ -57,31 +55,6 @@ impl Line {
         Ok(())
     }
 
-    /// Adds a number in decimal digits.
-    ///
-    /// After a refusal the line is dropped: nothing waits.
-    pub fn add_number<K: Sink>(&mut self, out: &mut K, number: usize) -> Result<(), PutFault>
-        ensures added { Added K.written K.faults (self.old ++ decimal number) out.old out.new self.new result }
-        ensures dropped { OnErr result (self.new ≡ []) }
-    {
-        let mut digits = Buffer::new();
-        self.add(out, digits.format(number).as_bytes())
-    }
-
-    /// Adds pieces one after the other.
-    ///
-    /// After a refusal the line is dropped: nothing waits.
-    pub fn add_all<K: Sink>(&mut self, out: &mut K, pieces: &[&[u8]]) -> Result<(), PutFault>
-        ensures added { Added K.written K.faults
-            (self.old ++ joined (map (λ piece. piece.now) pieces.now)) out.old out.new self.new result }
-        ensures dropped { OnErr result (self.new ≡ []) }
-    {
-        for piece in pieces {
-            self.add(out, piece)?;
-        }
-        Ok(())
-    }
-
     /// Ends the line by a line feed and puts what waits. Afterwards nothing waits, also after a refusal.
     pub fn end<K: Sink>(&mut self, out: &mut K) -> Result<(), PutFault>
         ensures wrote { Wrote K.written K.faults (self.old ++ newline) out.old out.new result }
@@ -109,7 +82,7 @@ impl Line {
     }
 
     /// Puts what waits, if anything does.
-    fn put_waiting<K: Sink>(&mut self, out: &mut K) -> Result<(), PutFault>
+    pub(crate) fn put_waiting<K: Sink>(&mut self, out: &mut K) -> Result<(), PutFault>
         ensures wrote { Wrote K.written K.faults self.old out.old out.new result }
         ensures emptied { self.new ≡ [] }
     {

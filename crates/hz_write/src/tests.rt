@@ -1,12 +1,20 @@
-//! How many puts a line takes, which no clause says, and one whole text.
+//! How many puts a line takes, which no clause says, and what a writer does after a fault.
 
-use super::put_line;
-use super::samples::write_whole;
-use hz_outside::{MemSink, PlainSink, PutFault};
+use super::Piece::{Number, Text};
+use super::Writer;
+use hz_outside::{MemSink, PlainSink, PutFault, Sink};
 use std::test::Fail;
 
-/// A line of so many bytes before its line feed takes so many puts: with a sink whose last put fails,
-/// the buffers before it stand, and with one whose next put would fail the whole line does.
+// Writes a line of these bytes, and a second line.
+fn write_two<K: Sink>(out: &mut K, bytes: &[u8]) -> Result<(), PutFault> {
+    let mut writer = Writer::new(out);
+    writer.line(&[Text(bytes)]);
+    writer.line(&[Text(b"count "), Number(65_536)]);
+    writer.finish()
+}
+
+/// A line of so many bytes before its line feed takes so many puts: with a sink whose last put of it fails,
+/// the buffers before it stand and nothing after it, and with one whose next put fails the whole line stands.
 #[test]
 fn lines_by_buffers(rt: HostRuntime) -> Result<(), Fail> {
     let text = vec![in rt.alloc(); b'x'; 10_000]?;
@@ -22,34 +30,29 @@ fn lines_by_buffers(rt: HostRuntime) -> Result<(), Fail> {
 
         let mut broken = MemSink::new(rt.alloc());
         broken.fail(puts, 0)?;
-        assert_eq!(rt; put_line(&mut broken, &[line]), Err(PutFault::Failed));
+        assert_eq!(rt; write_two(&mut broken, line), Err(PutFault::Failed));
         assert_eq!(rt; broken.bytes().len(), stands);
 
         let mut sound = MemSink::new(rt.alloc());
         sound.fail(puts.saturating_add(1), 0)?;
-        assert_eq!(rt; put_line(&mut sound, &[line]), Ok(()));
+        assert_eq!(rt; write_two(&mut sound, line), Err(PutFault::Failed));
         assert_eq!(rt; sound.bytes().len(), whole);
     }
     Ok(())
 }
 
-/// Each line is a put of its own: of five lines the fourth is not written, and nothing after it.
+/// A whole text, its bytes, and a line without its end.
 #[test]
 fn a_text_of_lines(rt: HostRuntime) -> Result<(), Fail> {
     let mut whole = PlainSink::new(rt.alloc());
-    assert_eq!(rt; write_whole(&mut whole, 2, 0, &[7, 10, 65_536]), Ok(()));
-    let text = b"inputs 2 gates 0\ncount 7\ncount 10\ncount 65536\nnumbers 7 10 65536\n";
-    assert_eq!(rt; whole.bytes(), text.as_slice());
-
-    let mut broken = MemSink::new(rt.alloc());
-    broken.fail(4, 3)?;
+    assert_eq!(rt; write_two(&mut whole, b"line"), Ok(()));
+    let mut writer = Writer::new(&mut whole);
+    writer.add(&[Text(b"end "), Number(0)]);
+    assert!(rt; !writer.has_failed());
+    assert_eq!(rt; writer.finish(), Ok(()));
     assert_eq!(rt;
-        write_whole(&mut broken, 2, 0, &[7, 10, 65_536]),
-        Err(PutFault::Failed)
-    );
-    assert_eq!(rt;
-        broken.bytes(),
-        b"inputs 2 gates 0\ncount 7\ncount 10\ncou".as_slice()
+        whole.into_bytes().as_slice(),
+        b"line\ncount 65536\nend 0".as_slice()
     );
     Ok(())
 }

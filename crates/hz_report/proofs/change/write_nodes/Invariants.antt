@@ -1,12 +1,11 @@
-use Rattle.std.proofs.Common.{map, take, ◌≡◌, []}
-use Rattle.hz_outside.specs.Written.{joined}
-use Rattle.hz_write.specs.Writes.{Puts}
-use Rattle.hz_report.specs.Report.{nodes_of, node_line}
+use Rattle.std.specs.List.{flat_map, range_with_len}
+use Rattle.hz_write.specs.Writer.{Writes}
+use Rattle.hz_report.specs.Finding.{finding_of}
+use Rattle.hz_report.specs.Report.{node_line}
 use Rattle.hz_report.proofs.change.write_nodes.Given as goal
 
--- the lines of the nodes so far were written, and nothing waits
+-- the lines of the nodes so far
 abbrev pub invariant-loop-node : goal.invariant-loop-node
 invariant-loop-node g l =
-    Puts g.K.Sink.written g.K.Sink.faults
-    (joined (map (node_line l.net l.start l.found.a.now l.found.b.now) (take l.node (nodes_of l.net)))) l.fn.out l.out
-    × (l.line ≡ [])
+    Writes g.K.Sink.written g.K.Sink.faults
+    (flat_map (node_line l.net l.start (finding_of l.finding)) (range_with_len 0 l.node)) l.fn.writer l.writer

@@ -1,19 +1,28 @@
 use Rattle.std.proofs.Common.{inl, inr, ap, ◌∙◌, Err}
 use Rattle.hz_outside.specs.declared.fault.Place.TheVariants.{Second}
-use Rattle.hz_top.specs.Outcome.{SecondComes, SecondTextComes, LoadSays, told_by}
+use Rattle.hz_top.specs.Outcome.{TaskComes, SecondComes, LoadSays, told_by}
 use Rattle.hz_top.proofs.Endings.{Answers-more}
 use Rattle.hz_top.proofs.Comings.{Unread-load}
 use Rattle.hz_top.proofs.order.work_on_second.Goals as goal
 
 pub returns-in-Ok : goal.returns-in-Ok
 returns-in-Ok g c =
-    Answers-more g.K.Sink.written g.K.Sink.faults (SecondTextComes c.args.second_is c.args.net.now c.as_slice.result.now)
-    (SecondComes (told_by g.F.Files.held g.F.Files.faults g.F.Files.longs c.args.files.now c.load.new.self) c.args.second_is c.args.net.now c.args.second.now) c.args.out.now c.work_on_text.new.out c.work_on_text.result
-    (λ own text says. inr (c.as_slice.result.now, (rw c.as_slice.ensures.value c.in-Ok.ensures.bytes, rw c.as_slice.ensures.len c.in-Ok.ensures.short), says)) c.work_on_text.ensures
+    let told = told_by g.F.Files.held g.F.Files.faults g.F.Files.longs c.args.files.now c.load.new.self in
+    let comes = TaskComes c.args.task c.args.net.now in
+    Answers-more g.K.Sink.written g.K.Sink.faults (comes c.as_slice.result.now) (SecondComes told comes c.args.second.now)
+    c.args.out.now c.work_on_text.new.out c.work_on_text.result
+    (λ own text says. inr (
+      c.as_slice.result.now,
+      (rw c.as_slice.ensures.value c.in-Ok.ensures.bytes, rw c.as_slice.ensures.len c.in-Ok.ensures.short),
+      says,
+    )) c.work_on_text.ensures
 
 pub returns-in-Err : goal.returns-in-Err
 returns-in-Err g c =
     let told = told_by g.F.Files.held g.F.Files.faults g.F.Files.longs c.args.files.now c.load.new.self in
-    Answers-more g.K.Sink.written g.K.Sink.faults (LoadSays Second c.in-Err.fault) (SecondComes told c.args.second_is c.args.net.now c.args.second.now) c.args.out.now c.refuse_load.new.out c.refuse_load.result
+    let comes = TaskComes c.args.task c.args.net.now in
+    Answers-more g.K.Sink.written g.K.Sink.faults (LoadSays Second c.in-Err.fault) (SecondComes told comes c.args.second.now)
+    c.args.out.now c.refuse_load.new.out c.refuse_load.result
     (λ own text says. inl (Unread-load told Second c.args.second.now c.in-Err.fault
-    (λ is. c.load.ensures.failed (c.in-Err.is ∙ ap Err is)) (λ is. c.load.ensures.too_long (c.in-Err.is ∙ ap Err is)) (λ is. c.load.ensures.over (c.in-Err.is ∙ ap Err is)) own text says)) c.refuse_load.ensures
+    (λ is. c.load.ensures.failed (c.in-Err.is ∙ ap Err is)) (λ is. c.load.ensures.too_long (c.in-Err.is ∙ ap Err is))
+    (λ is. c.load.ensures.over (c.in-Err.is ∙ ap Err is)) own text says)) c.refuse_load.ensures

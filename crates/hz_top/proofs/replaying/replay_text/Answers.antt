@@ -9,7 +9,7 @@ use Rattle.hz_top.proofs.replaying.replay_text.Goals as goal
 
 pub returns-in-Ok : goal.returns-in-Ok
 returns-in-Ok g c =
-    Answers-more g.K.Sink.written g.K.Sink.faults (ReplayComes c.args.net.now c.in-Ok.runs) (RunTextComes c.args.net.now c.args.text.now) c.args.out.now c.replay.new.out c.replay.result
+    Answers-more g.K.Sink.written g.K.Sink.faults (ReplayComes c.args.net.now c.in-Ok.runs) (RunTextComes ReplayComes c.args.net.now c.args.text.now) c.args.out.now c.replay.new.out c.replay.result
     (λ own text says. inr (c.in-Ok.runs, c.in-Ok.ensures.faultless, c.in-Ok.ensures.value, says)) c.replay.ensures
 
 pub refuse_text-requires : goal.refuse_text-requires
@@ -18,5 +18,5 @@ refuse_text-requires g c =
 
 pub returns-in-Err : goal.returns-in-Err
 returns-in-Err g c =
-    Answers-more g.K.Sink.written g.K.Sink.faults (TextSays (codes "runs") c.args.net.now c.in-Err.fault) (RunTextComes c.args.net.now c.args.text.now) c.args.out.now c.refuse_text.new.out c.refuse_text.result
+    Answers-more g.K.Sink.written g.K.Sink.faults (TextSays (codes "runs") c.args.net.now c.in-Err.fault) (RunTextComes ReplayComes c.args.net.now c.args.text.now) c.args.out.now c.refuse_text.new.out c.refuse_text.result
     (λ own text says. inl (c.in-Err.fault, text-refused (StandsInRuns c.args.net.now c.args.text.now) c.in-Err.fault c.in-Err.ensures.fault says.0, says.1)) (rw c.circuit.ensures.same at c.refuse_text.ensures)

@@ -26,10 +26,10 @@ write_report-requires-clause-input g c =
     ∙ front-long c.args.net.now c.args.start.now c.inputs-inputs.result c.circuit.ensures.circuit c.requires.start.long inputs
 
 pub write_report-requires-clause-a : goal.write_report-requires-clause-a
-write_report-requires-clause-a g c = long-a _ _ _ _ _ _ _ _ c.requires.start.long c.in-Ok-find.ensures
+write_report-requires-clause-a g c = long-a _ _ _ _ c.requires.start.long c.in-Ok-find.ensures
 
 pub write_report-requires-clause-b : goal.write_report-requires-clause-b
-write_report-requires-clause-b g c = long-b _ _ _ _ _ _ _ _ c.requires.start.long c.in-Ok-find.ensures
+write_report-requires-clause-b g c = long-b _ _ _ _ c.requires.start.long c.in-Ok-find.ensures
 
 pub write_report-requires-clause-steps : goal.write_report-requires-clause-steps
 write_report-requires-clause-steps g c = run-inside _ _ _ _ c.in-Ok-find.ensures.spread.run

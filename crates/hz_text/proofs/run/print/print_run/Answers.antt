@@ -1,10 +1,15 @@
+-- The printed text is a run text without fault, and stands for what was printed.
+use Rattle.std.proofs.Common.{◌∙◌}
+use Rattle.hz_write.proofs.Writers.{plain_bytes}
 use Rattle.hz_text.proofs.RunPrintedLaws.{printed-faultless, printed-value}
 use Rattle.hz_text.proofs.run.print.print_run.Goals as goal
 
-pub returns-clause-faultless : goal.returns-clause-faultless
-returns-clause-faultless c =
-    rw (c.in_ok-push_text.ensures.text, c.new-printed.ensures.items) (printed-faultless c.args.net.now c.args.text.now c.push_text.ensures.circuit c.requires)
+pub returns-in-Ok-clause-faultless : goal.returns-in-Ok-clause-faultless
+returns-in-Ok-clause-faultless c =
+    let grew = rw c.new-sink.ensures at c.in-Ok.ensures.wrote.grew in
+    rw (c.into_bytes.ensures ∙ plain_bytes grew) (printed-faultless c.args.net.now c.args.text.now c.in-Ok.ensures.circuit c.requires)
 
-pub returns-clause-value : goal.returns-clause-value
-returns-clause-value c =
-    rw (c.in_ok-push_text.ensures.text, c.new-printed.ensures.items) (printed-value c.args.net.now c.args.text.now c.push_text.ensures.circuit c.requires)
+pub returns-in-Ok-clause-value : goal.returns-in-Ok-clause-value
+returns-in-Ok-clause-value c =
+    let grew = rw c.new-sink.ensures at c.in-Ok.ensures.wrote.grew in
+    rw (c.into_bytes.ensures ∙ plain_bytes grew) (printed-value c.args.net.now c.args.text.now c.in-Ok.ensures.circuit c.requires)

@@ -1,0 +1,10 @@
+use Rattle.std.proofs.Common.{take}
+use Rattle.std.specs.List.{flat_map}
+use Rattle.hz_write.specs.Writer.{Writes}
+use Rattle.hz_text.specs.Printed.{assignment_text, listed_from}
+use Rattle.hz_text.proofs.printing.write_listed.Given as goal
+
+-- the nodes so far
+abbrev pub invariant-loop-node : goal.invariant-loop-node
+invariant-loop-node g l =
+    Writes g.K.Sink.written g.K.Sink.faults (flat_map (assignment_text l.circuit) (listed_from 0 (take l.node l.start))) l.fn.writer l.writer

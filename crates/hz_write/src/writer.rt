@@ -1,0 +1,134 @@
+//! A writer of lines, which keeps its first fault.
+ghost use Rattle.std.specs.Prelude.{◌≡◌, ◌++◌, map, decimal, is_some};
+ghost use Rattle.std.specs.List.{flat_map};
+ghost use Rattle.hz_write.specs.Pieces.{piece_text};
+ghost use Rattle.hz_write.specs.Writer.{Begins, Writes, Finishes};
+ghost use Rattle.hz_write.specs.Writes.{newline, line_of, Wrote};
+
+use super::line::Line;
+use super::pieces::Piece;
+use hz_outside::{PutFault, Sink};
+use itoa::Buffer;
+
+/// A writer of lines over a sink, which keeps the first fault, and puts nothing more from then on.
+///
+/// A line is put at its end, or buffer by buffer where it is longer than one. The writer is used up by
+/// [`finish`](Writer::finish), which tells the fault. Between calls of long work [`has_failed`](Writer::has_failed) tells it.
+pub struct Writer<'k, K: Sink> {
+    out: &'k mut K,
+    line: Line,
+    fault: Option<PutFault>,
+}
+
+impl<'k, K: Sink> Writer<'k, K> {
+    /// A writer to which nothing was given so far.
+    pub fn new(out: &'k mut K) -> Writer<'k, K>
+        ensures sink { result.out.ghost_name ≡ out.entry.ghost_name }
+        ensures begins { Begins out.old result }
+    {
+        Writer {
+            out,
+            line: Line::new(),
+            fault: None,
+        }
+    }
+
+    /// Gives bytes of one line.
+    pub fn text(&mut self, text: &[u8])
+        ensures { Writes K.written K.faults text.now self.old self.new }
+    {
+        if self.fault.is_some() {
+            return;
+        }
+        if let Err(fault) = self.line.add(self.out, text) {
+            self.fault = Some(fault);
+        }
+    }
+
+    // Gives a number in decimal digits.
+    fn number(&mut self, number: u32)
+        ensures { Writes K.written K.faults (decimal number) self.old self.new }
+    {
+        let mut digits = Buffer::new();
+        self.text(digits.format(number).as_bytes());
+    }
+
+    // Gives a number of items in decimal digits.
+    fn count(&mut self, count: usize)
+        ensures { Writes K.written K.faults (decimal count) self.old self.new }
+    {
+        let mut digits = Buffer::new();
+        self.text(digits.format(count).as_bytes());
+    }
+
+    // Gives a piece.
+    fn piece(&mut self, piece: Piece<'_>)
+        ensures { Writes K.written K.faults (piece_text piece.entry) self.old self.new }
+    {
+        match piece {
+            Piece::Text(text) => self.text(text),
+            Piece::Number(number) => self.number(number),
+            Piece::Count(count) => self.count(count),
+        }
+    }
+
+    /// Gives pieces of one line, one after the other.
+    pub fn add(&mut self, pieces: &[Piece<'_>])
+        ensures { Writes K.written K.faults (flat_map piece_text pieces.now) self.old self.new }
+    {
+        for piece in pieces {
+            self.piece(*piece);
+        }
+    }
+
+    /// Gives pieces, and ends the line.
+    pub fn line(&mut self, pieces: &[Piece<'_>])
+        ensures { Writes K.written K.faults (flat_map piece_text pieces.now ++ newline) self.old self.new }
+    {
+        self.add(pieces);
+        self.end();
+    }
+
+    /// Ends the line, and puts what waits.
+    pub fn end(&mut self)
+        ensures { Writes K.written K.faults newline self.old self.new }
+    {
+        if self.fault.is_some() {
+            return;
+        }
+        if let Err(fault) = self.line.end(self.out) {
+            self.fault = Some(fault);
+        }
+    }
+
+    /// Whether a put failed. From then on nothing is put.
+    pub fn has_failed(&self) -> bool
+        ensures { result ≡ is_some self.now.fault }
+    {
+        self.fault.is_some()
+    }
+
+    /// Puts what waits, and tells the first fault.
+    pub fn finish(self) -> Result<(), PutFault>
+        ensures { Finishes K.written K.faults self.entry self.exit.0.now result }
+    {
+        let Writer {
+            out,
+            mut line,
+            fault,
+        } = self;
+        match fault {
+            Some(fault) => Err(fault),
+            None => line.put_waiting(out),
+        }
+    }
+}
+
+/// Writes a text that is one line, that of these pieces.
+pub fn put_line<K: Sink>(out: &mut K, pieces: &[Piece<'_>]) -> Result<(), PutFault>
+    ensures { Wrote K.written K.faults (line_of (map piece_text pieces.now)) out.old out.new result }
+{
+    let mut writer = Writer::new(out);
+    writer.line(pieces);
+    writer.finish()
+}
