@@ -1,6 +1,6 @@
 use Rattle.std.proofs.Common.{arith}
 use Rattle.hz_pass.proofs.Places.{are-known}
-use Rattle.hz_pass.proofs.rounds.write_bits.Goals as goal
+use Rattle.hz_pass.proofs.algorithm_a.write_bits.Goals as goal
 
 pub returns : goal.returns
 returns c =

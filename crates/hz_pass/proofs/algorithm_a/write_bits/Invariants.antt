@@ -1,7 +1,7 @@
 use Rattle.std.proofs.Common.{◌≡◌, ◌<◌, ℕ, length}
 use Rattle.hz_core.specs.Ternary.{tri_of}
 use Rattle.hz_net.specs.Network.{value_at, bit_at}
-use Rattle.hz_pass.proofs.rounds.write_bits.Given as goal
+use Rattle.hz_pass.proofs.algorithm_a.write_bits.Given as goal
 
 -- the values so far are those of the bits
 abbrev pub invariant-loop-i : goal.invariant-loop-i
