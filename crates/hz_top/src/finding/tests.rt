@@ -1,10 +1,9 @@
-ghost use Rattle.std.specs.Prelude.{◌≡◌, ◌≤◌, [], length, take};
+//! The spread run of what Algorithm A finds.
+ghost use Rattle.std.specs.Prelude.{◌≡◌, ◌<◌, ◌≤◌, [], length, take};
 ghost use Rattle.hz_net.specs.Network.{network_of, IsStable};
 
 use super::*;
-use hz_core::{Circuit, Memory};
-use hz_pass::spread;
-use std::alloc::Global;
+use hz_core::{Circuit, Kind};
 use std::test::Fail;
 
 // A gate that reads one input twice: variables x, y, y(1), y(2).
@@ -43,10 +42,11 @@ fn spread_from(
     let mut a = vec![in alloc; Tri::Zero; variables]?;
     let mut work = vec![in alloc; Tri::Zero; variables]?;
     let mut rank = vec![in alloc; 0u32; variables]?;
+    let mut front = Front::new(alloc, net)?;
     let mut scratch = Scratch::new(alloc, net)?;
     let mut run = Run::with_room(alloc, variables, variables)?;
     if net.settled(&start[..net.circuit().inputs() as usize], start) {
-        pass(
+        pass::<Brand>(
             net,
             start,
             input,
@@ -54,15 +54,17 @@ fn spread_from(
             &mut a,
             &mut rank,
             &mut work,
+            &mut front,
             &mut scratch,
             &mut run,
+            Blank::new(1),
         );
     }
     Ok(run)
 }
 
 // Makes the spread run by what Algorithm A gives.
-fn pass(
+fn pass<L: Ledger>(
     net: &Net,
     start: &[bool],
     input: &[bool],
@@ -70,8 +72,10 @@ fn pass(
     a: &mut [Tri],
     rank: &mut [u32],
     work: &mut [Tri],
+    front: &mut Front,
     scratch: &mut Scratch,
     run: &mut Run,
+    ledger: Blank,
 )
     requires start { length start.now ≡ length (network_of net.now) }
     requires stable { IsStable (network_of net.now) (take net.now.inputs start.now) start.now }
@@ -79,13 +83,19 @@ fn pass(
     requires a { length a.old ≡ length (network_of net.now) }
     requires rank { length rank.old ≡ length (network_of net.now) }
     requires work { length work.old ≡ length (network_of net.now) }
+    requires front { front.old ≡ length (network_of net.now) }
     requires scratch { length scratch.old.state ≡ length (network_of net.now) }
     requires none_marked { scratch.old.marked ≡ [] }
     requires empty { run.old.steps ≡ [] }
     requires room_for_flips { length (network_of net.now) ≤ run.old.spare_flips }
     requires room_for_steps { length (network_of net.now) ≤ run.old.spare_steps }
+    requires name { ledger.name ≡ L.name }
+    requires parts { ledger.parts ≡ L.parts }
+    requires some { 0 < ledger.parts }
 {
-    let _rounds = spread(net, input, start, a, rank, work);
+    let (book, share) = ledger.open::<L>();
+    let mut steps = Steps::new(book, share);
+    let _rounds = spread(net, input, start, a, rank, work, front, &mut steps);
     spread_run(net, start, input, a, rank, keep_unused, scratch, run);
 }
 
