@@ -2,10 +2,10 @@ pub mod Places
 pub mod Values
 pub mod Evaluations
 pub mod WholeRounds
+pub mod PassLoop
 pub mod TakenOver
 pub mod StepCounts
-pub mod SpreadLoop
-pub mod SettleLoop
+pub mod PassResults
 pub mod ForcingLoop
 pub mod AllOpen
 pub mod Delivery

@@ -6,12 +6,13 @@ use Rattle.std.proofs.lemmas.List.{get_or-set_same, get_or-set_other, get_or_pas
 use Rattle.std.proofs.lemmas.List.Elements.{All-from_get_or, Contains-get_or}
 use Rattle.hz_core.specs.declared.tri.Tri.{Tri}
 use Rattle.hz_core.specs.declared.tri.Tri.TheVariants.{Zero}
-use Rattle.hz_net.specs.Network.{Driver, value_at, excitation3}
+use Rattle.hz_net.specs.Network.{Driver, value_at}
 use Rattle.hz_pass.specs.declared.round.Rule.{Rule}
-use Rattle.hz_pass.specs.Frontier.{next_value, next_state, Falls, ListsChanges, IsQuiet, IsRound, taken_over}
+use Rattle.hz_pass.specs.Frontier.{next_state, ListsChanges, IsQuiet, IsRound, taken_over}
 use Rattle.hz_pass.proofs.Places.{same-values}
 use Rattle.hz_pass.proofs.WholeRounds.{quiet-after}
-use Rattle.hz_pass.proofs.Values.{same-or-differ, falls-at, length-next_state, at-next_state, noted_by, noted-changed, noted-same}
+use Rattle.hz_pass.proofs.Values.{same-or-differ, length-next_state}
+use Rattle.hz_pass.proofs.PassLoop.{IsNotedAfter}
 
 -- the noted rounds with a round at listed variables
 abbrev pub noted_at : ℕ → List ℕ → List ℕ → List ℕ
@@ -74,6 +75,10 @@ noted-other round noted (x ∷ list) i none =
     let other : i ≢ x = λ e. none (0, omega arith, sym e) in
     noted-other round (set noted x round) list i (λ there. none (suc there.0, omega (arith, there.1), there.2)) ∙ get_or-set_other noted x i round 0 other
 
+pub some-long : (list : List ℕ) → list ≢ [] → 1 ≤ length list
+some-long [] some = absurd (some refl)
+some-long (x ∷ list) some = omega arith
+
 module _ {rule : Rule} {net : List Driver} {input : List Bool} {state next : List Tri} {changed : List ℕ} (long : length state ≡ length net) (round : IsRound rule net input state next changed) where
   -- with what changed the state is the next one
   pub taken-over : taken_over next state changed ≡ next
@@ -87,33 +92,23 @@ module _ {rule : Rule} {net : List Driver} {input : List Bool} {state next : Lis
         | inr differ ↦ taken-listed next state changed i inside (round.lists.every i differ)
       ])
 
-  -- and the noted rounds are those that the rule notes
-  pub noted-over :
-      (number : ℕ) (noted : List ℕ) → length noted ≡ length net → Falls rule net input state → (i : ℕ) → i < length state →
-      slice_index (noted_at number noted changed) i ≡ noted_by rule (value_at state i) (value_at next i) number (slice_index noted i)
-  noted-over number noted noted_long falls i inside =
-      let within : i < length net = omega (arith, inside, long) in
-      let is : value_at next i ≡ next_value rule (value_at state i) (excitation3 net input state i) =
-      ap (λ (values : List Tri). value_at values i) round.made ∙ at-next_state rule net input state i long within in
-      elim (same-or-differ (value_at next i) (value_at state i)) [
-        | inl same ↦ noted-other number noted changed i (λ there. round.lists.each i there same) ∙
-            (sym (noted-same rule (value_at state i) number (slice_index noted i)) ∙
-            ap (λ (value : Tri). noted_by rule (value_at state i) value number (slice_index noted i)) (sym same))
-        | inr differ ↦ noted-listed number noted changed i (omega (arith, within, noted_long)) (round.lists.every i differ) ∙
-            (sym (noted-changed rule (value_at state i) (excitation3 net input state i) number (slice_index noted i) (falls-at rule net input state i within falls) (λ e. differ (is ∙ e))) ∙
-            ap (λ (value : Tri). noted_by rule (value_at state i) value number (slice_index noted i)) (sym is))
-      ]
+  -- the round is noted where it changed something, and only there
+  pub noted-over : (number : ℕ) (noted : List ℕ) → length noted ≡ length net → (i : ℕ) → i < length net → IsNotedAfter number state next i (slice_index noted i) (slice_index (noted_at number noted changed) i)
+  noted-over number noted noted_long i inside = record {
+    same = λ e. noted-other number noted changed i (λ there. round.lists.each i there e);
+    changed = λ differ. noted-listed number noted changed i (omega (arith, inside, noted_long)) (round.lists.every i differ);
+  }
 
   -- the same with what a call was handed
   pub state-after : (list : List ℕ) (after : List Tri) → list ≡ changed → after ≡ taken_over next state list → after ≡ next
   state-after list after same taken = taken ∙ (ap (taken_over next state) same ∙ taken-over)
 
   pub noted-after :
-      (number : ℕ) (noted list after : List ℕ) → length noted ≡ length net → Falls rule net input state → list ≡ changed →
-      after ≡ noted_at number noted list → (i : ℕ) → i < length state →
-      slice_index after i ≡ noted_by rule (value_at state i) (value_at next i) number (slice_index noted i)
-  noted-after number noted list after noted_long falls same taken i inside =
-      ap (λ (rounds : List ℕ). slice_index rounds i) (taken ∙ ap (noted_at number noted) same) ∙ noted-over number noted noted_long falls i inside
+      (number : ℕ) (noted list after : List ℕ) → length noted ≡ length net → list ≡ changed → after ≡ noted_at number noted list →
+      (i : ℕ) → i < length net → IsNotedAfter number state next i (slice_index noted i) (slice_index after i)
+  noted-after number noted list after noted_long same taken i inside =
+      subst (λ (rounds : List ℕ). IsNotedAfter number state next i (slice_index noted i) (slice_index rounds i)) (sym (taken ∙ ap (noted_at number noted) same))
+      (noted-over number noted noted_long i inside)
 
   -- where nothing changed the next state is the same
   pub unchanged : changed ≡ [] → state ≡ next

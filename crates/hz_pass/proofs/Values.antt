@@ -12,7 +12,6 @@ use Rattle.hz_net.specs.Passes.{excitations, join_each}
 use Rattle.hz_net.proofs.Excitations.{length-excitations, at-excitations, length-join_each, at-join_each, AllBelow-excitations}
 use Rattle.hz_pass.specs.declared.round.Rule.{Rule}
 use Rattle.hz_pass.specs.declared.round.Rule.TheVariants.{Join, Replace}
-use Rattle.hz_pass.specs.Noted.{noted_unknown, noted_known}
 use Rattle.hz_pass.specs.Frontier.{next_value, next_state, Falls, is_open, open_weight_from, open_weight}
 
 -- two values are the same or differ
@@ -109,41 +108,6 @@ closes Replace One Unknown falls differ = cc
 closes Replace Unknown Zero falls differ = (refl, refl)
 closes Replace Unknown One falls differ = (refl, refl)
 closes Replace Unknown Unknown falls differ = absurd (differ refl)
-
--- what a round notes of a variable
-abbrev pub noted_by : Rule → Tri → Tri → ℕ → ℕ → ℕ
-noted_by Join before after round noted = noted_unknown before after round noted
-noted_by Replace before after round noted = noted_known before after round noted
-
-pub noted-changed :
-    (rule : Rule) (value excited : Tri) (round noted : ℕ) → FallsAt rule value excited → next_value rule value excited ≢ value →
-    noted_by rule value (next_value rule value excited) round noted ≡ round
-noted-changed Join Zero Zero round noted falls differ = absurd (differ refl)
-noted-changed Join Zero One round noted falls differ = refl
-noted-changed Join Zero Unknown round noted falls differ = refl
-noted-changed Join One Zero round noted falls differ = refl
-noted-changed Join One One round noted falls differ = absurd (differ refl)
-noted-changed Join One Unknown round noted falls differ = refl
-noted-changed Join Unknown Zero round noted falls differ = absurd (differ refl)
-noted-changed Join Unknown One round noted falls differ = absurd (differ refl)
-noted-changed Join Unknown Unknown round noted falls differ = absurd (differ refl)
-noted-changed Replace Zero Zero round noted falls differ = absurd (differ refl)
-noted-changed Replace Zero One round noted falls differ = cc
-noted-changed Replace Zero Unknown round noted falls differ = cc
-noted-changed Replace One Zero round noted falls differ = cc
-noted-changed Replace One One round noted falls differ = absurd (differ refl)
-noted-changed Replace One Unknown round noted falls differ = cc
-noted-changed Replace Unknown Zero round noted falls differ = refl
-noted-changed Replace Unknown One round noted falls differ = refl
-noted-changed Replace Unknown Unknown round noted falls differ = absurd (differ refl)
-
-pub noted-same : (rule : Rule) (value : Tri) (round noted : ℕ) → noted_by rule value value round noted ≡ noted
-noted-same Join Zero round noted = refl
-noted-same Join One round noted = refl
-noted-same Join Unknown round noted = refl
-noted-same Replace Zero round noted = refl
-noted-same Replace One round noted = refl
-noted-same Replace Unknown round noted = refl
 
 -- a value that can't change any more loses its weight
 pub open_weight-set :

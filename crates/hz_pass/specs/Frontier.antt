@@ -1,11 +1,11 @@
 -- Rounds that evaluate only some of the variables: what such a round makes, and which variables it has to evaluate.
-use Rattle.std.specs.Prelude.{◌≡◌, ◌≢◌, ℕ, suc, ◌+◌, ◌<◌, ◌⊎◌, Bool, true, false, List, [], ◌∷◌, length, fold, sum_by, Contains, slice_set, if◌then◌else◌}
+use Rattle.std.specs.Prelude.{◌≡◌, ◌≢◌, ℕ, zero, suc, ◌+◌, ◌<◌, ◌⊎◌, Bool, true, false, List, [], ◌∷◌, length, fold, sum_by, Contains, slice_index, slice_set, if◌then◌else◌}
 use Rattle.hz_core.specs.declared.tri.Tri.{Tri}
 use Rattle.hz_core.specs.declared.tri.Tri.TheVariants.{Zero, One, Unknown}
 use Rattle.hz_core.specs.Ternary.{join_of, AllBelow}
 use Rattle.hz_core.specs.Netlist.{Netlist}
 use Rattle.hz_net.specs.Network.{Driver, driver_at, value_at, excitation3}
-use Rattle.hz_net.specs.Passes.{excitations, join_each}
+use Rattle.hz_net.specs.Passes.{excitations, join_each, IsFirstRound}
 use Rattle.hz_net.specs.Reads.{Reads, readers_of}
 use Rattle.hz_pass.specs.declared.round.Rule.{Rule}
 use Rattle.hz_pass.specs.declared.round.Rule.TheVariants.{Join, Replace}
@@ -19,6 +19,16 @@ next_value Replace value excited = excited
 abbrev pub next_state : Rule → List Driver → List Bool → List Tri → List Tri
 next_state Join net input state = join_each state (excitations net input state)
 next_state Replace net input state = excitations net input state
+
+-- the states that rounds make from a first one
+abbrev pub states_of : Rule → List Driver → List Bool → List Tri → ℕ → List Tri
+states_of rule net input first zero = first
+states_of rule net input first (suc round) = next_state rule net input (states_of rule net input first round)
+
+-- each number is the first round in which a variable has the value that it has in a state
+pub record AreFirstRounds (sequence : ℕ → List Tri) (state : List Tri) (rounds : List ℕ) : Type 0 where
+  pub long : length rounds ≡ length state
+  pub each : (i : ℕ) → i < length state → IsFirstRound sequence i (λ value. value ≡ value_at state i) (slice_index rounds i)
 
 -- where excitations take the place of the state, they lie below it
 abbrev pub Falls : Rule → List Driver → List Bool → List Tri → Type 0

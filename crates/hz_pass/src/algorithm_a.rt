@@ -6,11 +6,11 @@ ghost use Rattle.hz_net.specs.Passes.{algorithm_a, AreRounds, AreRanks};
 ghost use Rattle.hz_pass.specs.Changes.{change_count};
 
 use crate::front::Front;
-use crate::round::{Round, Rule, take_over};
+use crate::round::Rule;
+use crate::rounds::make_rounds;
 use hz_core::Tri;
 use hz_net::Net;
 use hz_outside::Steps;
-use std::mem::swap;
 use std::sync::ledger::Ledger;
 
 /// Algorithm A of Brzozowski and Seger: from the start, under the new input, each round joins every variable with its
@@ -46,31 +46,7 @@ pub fn spread<L: Ledger>(
 {
     let _variables = net.len();
     write_bits(start, out);
-    work.copy_from_slice(out);
-    rank.fill(0);
-    let round = Round {
-        rule: Rule::Join,
-        net,
-        input,
-        state: out,
-    };
-    round.evaluate_all(work, &mut front.changed, steps);
-    let mut rounds = 1;
-    while !front.changed.is_empty() {
-        take_over(front.changed.as_slice(), work, rounds, out, rank);
-        swap(&mut front.due, &mut front.changed);
-        front.changed.clear();
-        let round = Round {
-            rule: Rule::Join,
-            net,
-            input,
-            state: out,
-        };
-        round.evaluate_readers(front.due.as_slice(), work, &mut front.changed, steps);
-        rounds += 1;
-    }
-    front.due.clear();
-    rounds
+    make_rounds(Rule::Join, net, input, out, rank, work, front, steps)
 }
 
 // Writes the values of known bits.

@@ -6,11 +6,11 @@ ghost use Rattle.hz_net.specs.Passes.{excitations, algorithm_b, AreRounds, AreSe
 ghost use Rattle.hz_pass.specs.Changes.{change_count};
 
 use crate::front::Front;
-use crate::round::{Round, Rule, take_over};
+use crate::round::Rule;
+use crate::rounds::make_rounds;
 use hz_core::Tri;
 use hz_net::Net;
 use hz_outside::Steps;
-use std::mem::swap;
 use std::sync::ledger::Ledger;
 
 /// Algorithm B of Brzozowski and Seger: each round puts the ternary excitations in place of the state, until a round
@@ -46,29 +46,5 @@ pub fn settle<L: Ledger>(
     ensures most_steps { steps.new ≤ steps.old + (length (network_of net.now) + 2 * length (wires_of net.now)) }
 {
     let _variables = net.len();
-    work.copy_from_slice(state);
-    when.fill(0);
-    let round = Round {
-        rule: Rule::Replace,
-        net,
-        input,
-        state,
-    };
-    round.evaluate_all(work, &mut front.changed, steps);
-    let mut rounds = 1;
-    while !front.changed.is_empty() {
-        take_over(front.changed.as_slice(), work, rounds, state, when);
-        swap(&mut front.due, &mut front.changed);
-        front.changed.clear();
-        let round = Round {
-            rule: Rule::Replace,
-            net,
-            input,
-            state,
-        };
-        round.evaluate_readers(front.due.as_slice(), work, &mut front.changed, steps);
-        rounds += 1;
-    }
-    front.due.clear();
-    rounds
+    make_rounds(Rule::Replace, net, input, state, when, work, front, steps)
 }

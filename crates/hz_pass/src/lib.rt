@@ -7,7 +7,7 @@
 //! | `completed_start` | the start that listed values force, or what keeps them from one |
 //! | `forcing` | how values are forced from node to node |
 //! | `front` | the frontier of a pass: what a round changed, whose readers the next one evaluates |
-//! | `round` | one round of either |
+//! | `round`, `rounds` | one round of either, and all of them |
 #![tactic(auto)]
 
 mod algorithm_a;
@@ -16,6 +16,7 @@ mod completed_start;
 mod forcing;
 mod front;
 mod round;
+mod rounds;
 #[cfg(test)]
 mod tests;
 

@@ -1,0 +1,69 @@
+//! The rounds of a pass.
+ghost use Rattle.std.specs.Prelude.{◌≡◌, ◌+◌, ◌*◌, ◌≤◌, length};
+ghost use Rattle.hz_net.specs.Network.{network_of, wires_of};
+ghost use Rattle.hz_net.specs.Passes.{AreRounds};
+ghost use Rattle.hz_pass.specs.Changes.{change_count};
+ghost use Rattle.hz_pass.specs.Frontier.{Falls, states_of, AreFirstRounds};
+
+use crate::front::Front;
+use crate::round::{Round, Rule, take_over};
+use hz_core::Tri;
+use hz_net::Net;
+use hz_outside::Steps;
+use std::mem::swap;
+use std::sync::ledger::Ledger;
+
+// Makes rounds from a state until one changes nothing, and returns how many, that one included. Notes at each variable the
+// round that changed it, and 0 where none did. The first round evaluates every variable, a later one the readers of what the
+// round before changed.
+pub(crate) fn make_rounds<L: Ledger>(
+    rule: Rule,
+    net: &Net,
+    input: &[bool],
+    state: &mut [Tri],
+    noted: &mut [u32],
+    work: &mut [Tri],
+    front: &mut Front,
+    steps: &mut Steps<L>,
+) -> u32
+    requires input { length input.now ≡ net.now.inputs }
+    requires state { length state.old ≡ length (network_of net.now) }
+    requires noted { length noted.old ≡ length (network_of net.now) }
+    requires work { length work.old ≡ length (network_of net.now) }
+    requires front { front.old ≡ length (network_of net.now) }
+    requires falls { Falls rule (network_of net.now) input.now state.old }
+    ensures rounds { AreRounds (states_of rule (network_of net.now) input.now state.old) result }
+    ensures state { state.new ≡ states_of rule (network_of net.now) input.now state.old result }
+    ensures noted { AreFirstRounds (states_of rule (network_of net.now) input.now state.old) state.new noted.new }
+    ensures bound { result ≤ length (network_of net.now) + 1 }
+    ensures front { front.new ≡ front.old }
+    ensures least_steps { steps.old + change_count state.old state.new ≤ steps.new }
+    ensures most_steps { steps.new ≤ steps.old + (length (network_of net.now) + 2 * length (wires_of net.now)) }
+{
+    let _variables = net.len();
+    work.copy_from_slice(state);
+    noted.fill(0);
+    let round = Round {
+        rule,
+        net,
+        input,
+        state,
+    };
+    round.evaluate_all(work, &mut front.changed, steps);
+    let mut rounds = 1;
+    while !front.changed.is_empty() {
+        take_over(front.changed.as_slice(), work, rounds, state, noted);
+        swap(&mut front.due, &mut front.changed);
+        front.changed.clear();
+        let round = Round {
+            rule,
+            net,
+            input,
+            state,
+        };
+        round.evaluate_readers(front.due.as_slice(), work, &mut front.changed, steps);
+        rounds += 1;
+    }
+    front.due.clear();
+    rounds
+}
