@@ -1,6 +1,11 @@
 pub mod Places
-pub mod SpreadLoop
-pub mod SettleLoop
+pub mod Values
+pub mod Evaluations
+pub mod WholeRounds
+pub mod PassLoop
+pub mod TakenOver
+pub mod StepCounts
+pub mod PassResults
 pub mod ForcingLoop
 pub mod AllOpen
 pub mod Delivery

@@ -1,78 +1,69 @@
-//! One round of a pass over all variables, and the rounds that it notes.
-ghost use Rattle.std.specs.Prelude.{◌≡◌, ◌≢◌, ◌<◌, ℕ, length, map, MatchBool, slice_index};
-ghost use Rattle.hz_core.specs.Ternary.{tri_of};
-ghost use Rattle.hz_net.specs.Network.{network_of, value_at};
-ghost use Rattle.hz_net.specs.Passes.{excitations, join_each};
-ghost use Rattle.hz_pass.specs.Noted.{noted_unknown, noted_known};
+//! The rounds of a pass.
+ghost use Rattle.std.specs.Prelude.{◌≡◌, ◌+◌, ◌*◌, ◌≤◌, length};
+ghost use Rattle.hz_net.specs.Network.{network_of, wires_of};
+ghost use Rattle.hz_net.specs.Passes.{AreRounds};
+ghost use Rattle.hz_pass.specs.Changes.{change_count};
+ghost use Rattle.hz_pass.specs.Frontier.{Falls, states_of, AreFirstRounds};
 
+use crate::front::Front;
+use crate::round::{Round, Rule, take_over};
 use hz_core::Tri;
 use hz_net::Net;
+use hz_outside::Steps;
+use std::mem::swap;
+use std::sync::ledger::Ledger;
 
-// Writes the values of known bits.
-pub(crate) fn write_bits(bits: &[bool], values: &mut [Tri])
-    requires { length values.old ≡ length bits.now }
-    ensures { values.new ≡ map tri_of bits.now }
-{
-    for i in 0..bits.len() {
-        values[i] = Tri::of(bits[i]);
-    }
-}
-
-// Writes the excitations of a state.
-pub(crate) fn excite_all(net: &Net, input: &[bool], state: &[Tri], excited: &mut [Tri])
+// Makes rounds from a state until one changes nothing, and returns how many, that one included. Notes at each variable the
+// round that changed it, and 0 where none did. The first round evaluates every variable, a later one the readers of what the
+// round before changed.
+pub(crate) fn make_rounds<L: Ledger>(
+    rule: Rule,
+    net: &Net,
+    input: &[bool],
+    state: &mut [Tri],
+    noted: &mut [u32],
+    work: &mut [Tri],
+    front: &mut Front,
+    steps: &mut Steps<L>,
+) -> u32
     requires input { length input.now ≡ net.now.inputs }
-    requires state { length state.now ≡ length (network_of net.now) }
-    requires excited { length excited.old ≡ length (network_of net.now) }
-    ensures { excited.new ≡ excitations (network_of net.now) input.now state.now }
+    requires state { length state.old ≡ length (network_of net.now) }
+    requires noted { length noted.old ≡ length (network_of net.now) }
+    requires work { length work.old ≡ length (network_of net.now) }
+    requires front { front.old ≡ length (network_of net.now) }
+    requires falls { Falls rule (network_of net.now) input.now state.old }
+    ensures rounds { AreRounds (states_of rule (network_of net.now) input.now state.old) result }
+    ensures state { state.new ≡ states_of rule (network_of net.now) input.now state.old result }
+    ensures noted { AreFirstRounds (states_of rule (network_of net.now) input.now state.old) state.new noted.new }
+    ensures bound { result ≤ length (network_of net.now) + 1 }
+    ensures front { front.new ≡ front.old }
+    ensures least_steps { steps.old + change_count state.old state.new ≤ steps.new }
+    ensures most_steps { steps.new ≤ steps.old + (length (network_of net.now) + 2 * length (wires_of net.now)) }
 {
-    for var in 0..net.len() {
-        excited[var as usize] = net.excite3(input, state, var);
+    let _variables = net.len();
+    work.copy_from_slice(state);
+    noted.fill(0);
+    let round = Round {
+        rule,
+        net,
+        input,
+        state,
+    };
+    round.evaluate_all(work, &mut front.changed, steps);
+    let mut rounds = 1;
+    while !front.changed.is_empty() {
+        take_over(front.changed.as_slice(), work, rounds, state, noted);
+        swap(&mut front.due, &mut front.changed);
+        front.changed.clear();
+        let round = Round {
+            rule,
+            net,
+            input,
+            state,
+        };
+        round.evaluate_readers(front.due.as_slice(), work, &mut front.changed, steps);
+        rounds += 1;
     }
-}
-
-// Joins a state into another, variable by variable.
-pub(crate) fn join_all(state: &[Tri], others: &mut [Tri])
-    requires { length others.old ≡ length state.now }
-    ensures { others.new ≡ join_each state.now others.old }
-{
-    for i in 0..state.len() {
-        others[i] = state[i].join(others[i]);
-    }
-}
-
-// Whether two states differ.
-pub(crate) fn differ(before: &[Tri], after: &[Tri]) -> bool
-    ensures { MatchBool result (before.now ≢ after.now) (before.now ≡ after.now) }
-{
-    !(before == after)
-}
-
-// Notes the round at each variable that it made X.
-pub(crate) fn note_unknown(before: &[Tri], after: &[Tri], round: u32, noted: &mut [u32])
-    requires after { length after.now ≡ length before.now }
-    requires noted { length noted.old ≡ length before.now }
-    ensures long { length noted.new ≡ length noted.old }
-    ensures each { (i : ℕ) → i < length before.now → slice_index noted.new i
-        ≡ noted_unknown (value_at before.now i) (value_at after.now i) round (slice_index noted.old i) }
-{
-    for i in 0..before.len() {
-        if before[i] != Tri::Unknown && after[i] == Tri::Unknown {
-            noted[i] = round;
-        }
-    }
-}
-
-// Notes the round at each variable that it made 0 or 1.
-pub(crate) fn note_known(before: &[Tri], after: &[Tri], round: u32, noted: &mut [u32])
-    requires after { length after.now ≡ length before.now }
-    requires noted { length noted.old ≡ length before.now }
-    ensures long { length noted.new ≡ length noted.old }
-    ensures each { (i : ℕ) → i < length before.now → slice_index noted.new i
-        ≡ noted_known (value_at before.now i) (value_at after.now i) round (slice_index noted.old i) }
-{
-    for i in 0..before.len() {
-        if before[i] == Tri::Unknown && after[i] != Tri::Unknown {
-            noted[i] = round;
-        }
-    }
+    front.due.clear();
+    rounds
 }

@@ -1,5 +1,5 @@
 //! What one change may do.
-ghost use Rattle.std.specs.Prelude.{◌≡◌, ◌+◌, ◌≤◌, [], length, take, IfOk};
+ghost use Rattle.std.specs.Prelude.{◌≡◌, ◌+◌, ◌<◌, ◌≤◌, [], length, IfOk};
 ghost use Rattle.hz_core.specs.Ternary.{AllBelow};
 ghost use Rattle.hz_net.specs.Network.{network_of};
 ghost use Rattle.hz_net.specs.Starts.{IsStableStart};
@@ -12,10 +12,13 @@ ghost use Rattle.hz_top.specs.Finding.{IsFinding};
 use hz_core::{Memory, Tri};
 use hz_gmw::Run;
 use hz_net::Net;
-use hz_pass::{settle, spread};
+use hz_outside::Steps;
+use hz_pass::{Front, settle, spread};
 use hz_reach::{Scratch, spread_run};
 use hz_report::Finding;
 use std::alloc::Global;
+use std::marker::Brand;
+use std::sync::ledger::{Blank, Ledger};
 
 // Runs both passes from a stable start under a new input, and makes the spread run.
 pub(crate) fn find(
@@ -28,6 +31,27 @@ pub(crate) fn find(
     requires input { length input.now ≡ net.now.inputs }
     ensures { IfOk result (λ found. IsFinding (network_of net.now) input.now start.now (finding_of found)) }
 {
+    find_counted::<Brand>(alloc, net, start, input, Blank::new(1))
+}
+
+// The same. It counts the evaluations in a ledger of its own.
+fn find_counted<L: Ledger>(
+    alloc: Global,
+    net: &Net,
+    start: &[bool],
+    input: &[bool],
+    ledger: Blank,
+) -> Result<Finding, Memory>
+    requires start { IsStableStart net.now start.now }
+    requires input { length input.now ≡ net.now.inputs }
+    requires name { ledger.name ≡ L.name }
+    requires parts { ledger.parts ≡ L.parts }
+    requires some { 0 < ledger.parts }
+    ensures { IfOk result (λ found. IsFinding (network_of net.now) input.now start.now (finding_of found)) }
+{
+    let (book, share) = ledger.open::<L>();
+    let mut steps = Steps::new(book, share);
+    let mut front = Front::new(alloc, net)?;
     let variables = net.len() as usize;
     let mut finding = with_room(alloc, variables)?;
     let mut scratch = Scratch::new(alloc, net)?;
@@ -42,6 +66,8 @@ pub(crate) fn find(
         &mut finding.a,
         &mut ranks,
         &mut work,
+        &mut front,
+        &mut steps,
         &mut scratch,
         &mut finding.spread,
     );
@@ -52,6 +78,8 @@ pub(crate) fn find(
         &mut finding.b,
         &mut ranks,
         &mut work,
+        &mut front,
+        &mut steps,
     );
     Ok(finding)
 }
@@ -74,13 +102,15 @@ fn with_room(alloc: Global, variables: usize) -> Result<Finding, Memory>
 }
 
 // Writes the result of Algorithm A and the spread run, and answers the rounds.
-fn reach(
+fn reach<L: Ledger>(
     net: &Net,
     start: &[bool],
     input: &[bool],
     a: &mut [Tri],
     ranks: &mut [u32],
     work: &mut [Tri],
+    front: &mut Front,
+    steps: &mut Steps<L>,
     scratch: &mut Scratch,
     run: &mut Run,
 ) -> u32
@@ -89,6 +119,7 @@ fn reach(
     requires a { length a.old ≡ length (network_of net.now) }
     requires ranks { length ranks.old ≡ length (network_of net.now) }
     requires work { length work.old ≡ length (network_of net.now) }
+    requires front { front.old ≡ length (network_of net.now) }
     requires scratch { scratch.old ≡ blank (length (network_of net.now)) }
     requires empty { run.old.steps ≡ [] }
     requires room_for_flips { length (network_of net.now) ≤ run.old.spare_flips }
@@ -97,20 +128,23 @@ fn reach(
     ensures a { a.new ≡ algorithm_a (network_of net.now) input.now start.now result }
     ensures bound { result ≤ length (network_of net.now) + 1 }
     ensures run { IsSpreadRun (network_of net.now) input.now start.now a.new run.new.steps }
+    ensures front { front.new ≡ front.old }
 {
-    let rounds = spread(net, input, start, a, ranks, work);
+    let rounds = spread(net, input, start, a, ranks, work, front, steps);
     spread_run(net, start, input, a, ranks, false, scratch, run);
     rounds
 }
 
 // Writes the result of Algorithm B, and answers the rounds.
-fn settle_from(
+fn settle_from<L: Ledger>(
     net: &Net,
     input: &[bool],
     a: &[Tri],
     b: &mut [Tri],
     when: &mut [u32],
     work: &mut [Tri],
+    front: &mut Front,
+    steps: &mut Steps<L>,
 ) -> u32
     requires input { length input.now ≡ net.now.inputs }
     requires a { length a.now ≡ length (network_of net.now) }
@@ -118,12 +152,13 @@ fn settle_from(
     requires b { length b.old ≡ length (network_of net.now) }
     requires when { length when.old ≡ length (network_of net.now) }
     requires work { length work.old ≡ length (network_of net.now) }
+    requires front { front.old ≡ length (network_of net.now) }
     ensures rounds { AreRounds (algorithm_b (network_of net.now) input.now a.now) result }
     ensures b { b.new ≡ algorithm_b (network_of net.now) input.now a.now result }
     ensures bound { result ≤ length (network_of net.now) + 1 }
 {
     b.copy_from_slice(a);
-    settle(net, input, b, when, work)
+    settle(net, input, b, when, work, front, steps)
 }
 
 // As many values, all X.
@@ -135,3 +170,6 @@ fn all_unknown(alloc: Global, variables: usize) -> Result<Vec<Tri>, Memory>
     };
     Ok(values)
 }
+
+#[cfg(test)]
+mod tests;

@@ -1,32 +1,22 @@
-use Rattle.std.proofs.Common.{arith, ◌∙◌}
+use Rattle.std.proofs.Common.{◌≤◌, ◌+◌, List, subst}
+use Rattle.hz_core.specs.declared.tri.Tri.{Tri}
 use Rattle.hz_net.specs.Network.{network_of}
-use Rattle.hz_pass.proofs.SpreadLoop.{spread-bound, spread-on, spread-done}
+use Rattle.hz_pass.specs.Changes.{change_count}
+use Rattle.hz_pass.proofs.PassResults.{rounds-a, result-a, ranks-a}
 use Rattle.hz_pass.proofs.algorithm_a.spread.Goals as goal
 
-pub overflow_add-rounds : goal.overflow_add-rounds
-overflow_add-rounds c =
-    omega (arith, c.loop-out.invariant.0, c.loop-out.invariant.2, spread-bound (network_of c.args.net.now) c.args.input.now c.args.start.now c.requires.start _ _ _ c.loop-out.invariant.3)
-
-pub loop-out-smaller : goal.loop-out-smaller
-loop-out-smaller c =
-    omega (arith, c.loop-out.invariant.0, spread-bound (network_of c.args.net.now) c.args.input.now c.args.start.now c.requires.start _ _ _ c.loop-out.invariant.3)
-
-pub loop-out-preserved : goal.loop-out-preserved
-loop-out-preserved c = (
-  omega arith,
-  c.widen.auto.next ∙ c.loop-out.invariant.1,
-  c.loop-out.invariant.2,
-  spread-on (network_of c.args.net.now) c.args.input.now c.args.start.now c.requires.start c.loop-out.rounds c.loop-out.out c.widen.new.next c.copy_from_slice.new.self c.loop-out.rank c.note_unknown.new.noted c.loop-out.invariant.0 c.loop-out.invariant.3 c.widen.ensures.next c.loop-out-test.ensures.differs c.copy_from_slice.ensures.after c.note_unknown.ensures.long c.note_unknown.ensures.each,
-)
-
 pub returns-clause-rounds : goal.returns-clause-rounds
-returns-clause-rounds c =
-    (spread-done (network_of c.args.net.now) c.args.input.now c.args.start.now c.requires.start c.loop-out.rounds c.loop-out.out c.widen.new.next c.loop-out.rank c.loop-out.invariant.0 c.loop-out.invariant.3 c.widen.ensures.next c.loop-out-test.ensures.differs).0
+returns-clause-rounds g c =
+    rounds-a (network_of c.args.net.now) c.args.input.now c.args.start.now c.write_bits.new.values c.make_rounds.result c.write_bits.ensures c.make_rounds.ensures.rounds
 
 pub returns-clause-out : goal.returns-clause-out
-returns-clause-out c =
-    (spread-done (network_of c.args.net.now) c.args.input.now c.args.start.now c.requires.start c.loop-out.rounds c.loop-out.out c.widen.new.next c.loop-out.rank c.loop-out.invariant.0 c.loop-out.invariant.3 c.widen.ensures.next c.loop-out-test.ensures.differs).1
+returns-clause-out g c =
+    result-a (network_of c.args.net.now) c.args.input.now c.args.start.now c.write_bits.new.values c.make_rounds.new.state c.make_rounds.result c.write_bits.ensures c.make_rounds.ensures.state
 
-pub returns-clause-bound : goal.returns-clause-bound
-returns-clause-bound c =
-    (spread-done (network_of c.args.net.now) c.args.input.now c.args.start.now c.requires.start c.loop-out.rounds c.loop-out.out c.widen.new.next c.loop-out.rank c.loop-out.invariant.0 c.loop-out.invariant.3 c.widen.ensures.next c.loop-out-test.ensures.differs).2
+pub returns-clause-rank : goal.returns-clause-rank
+returns-clause-rank g c =
+    ranks-a (network_of c.args.net.now) c.args.input.now c.args.start.now c.requires.start c.write_bits.new.values c.make_rounds.new.state c.make_rounds.new.noted c.make_rounds.result c.write_bits.ensures c.make_rounds.ensures.state c.make_rounds.ensures.noted
+
+pub returns-clause-least_steps : goal.returns-clause-least_steps
+returns-clause-least_steps g c =
+    subst (λ (values : List Tri). c.args.steps.now + change_count values c.make_rounds.new.state ≤ c.make_rounds.new.steps) c.write_bits.ensures c.make_rounds.ensures.least_steps
