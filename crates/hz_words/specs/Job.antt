@@ -1,0 +1,36 @@
+-- The jobs that are built, and the one that the words ask for.
+use Rattle.std.specs.Prelude.{ℕ, List, Option, Some, None, codes, option_and_then, if◌then◌else◌}
+use Rattle.std.specs.Str.{bytes_eq}
+use Rattle.hz_words.specs.Command.{Texts, arguments_of}
+use Rattle.hz_words.specs.Values.{cap_of, show_of}
+use Rattle.hz_words.specs.declared.values.Show.{Show}
+use Rattle.hz_words.specs.declared.job.Job.{Job}
+use Rattle.hz_words.specs.declared.job.Job.TheVariants as asked
+
+-- a job, with the names of its files
+pub data JobOf : Type 0 where
+  Analyse : (first second : List ℕ) (cap : ℕ) (show : Show) → JobOf
+  Replay : (first second : List ℕ) → JobOf
+
+-- a job that borrows the words, by its names
+abbrev pub names_of : Job → JobOf
+names_of (asked.Analyse first second cap show) = Analyse first.now second.now cap show
+names_of (asked.Replay first second) = Replay first.now second.now
+
+-- the job of a name, with what the other arguments say
+abbrev pub job_named : List ℕ → List ℕ → Option (List ℕ) → ℕ → Show → Option JobOf
+job_named name first (Some second) cap show =
+    if bytes_eq name (codes "analyse") then Some (Analyse first second cap show)
+    else (if bytes_eq name (codes "replay") then Some (Replay first second) else None)
+job_named name first None cap show = None
+
+-- the job that the arguments ask for, if the values of the options may be so
+abbrev pub job_with : Texts → Option JobOf
+job_with texts =
+    option_and_then (λ cap. option_and_then (λ show. option_and_then (λ name. option_and_then (λ first.
+    job_named name first texts.second cap show)
+    texts.first) texts.job) (option_and_then show_of texts.show)) (option_and_then cap_of texts.cap)
+
+-- the job that the words ask for; none if `clap` refuses them or their arguments ask for none
+abbrev pub job_of : List (List ℕ) → Option JobOf
+job_of words = option_and_then job_with (arguments_of words)

@@ -1,0 +1,1 @@
+//! Words that are taken and words that are refused, with ample memory.
