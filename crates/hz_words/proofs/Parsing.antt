@@ -1,5 +1,5 @@
 -- What a parse of the command says of the arguments that `clap` reads.
-use Rattle.std.proofs.Common.{◌≡◌, ◌∙◌, Bool, true, false, List, [], ◌∷◌, Option, Some, None, refl, sym, ap, subst, inl, inr, cond, arith}
+use Rattle.std.proofs.Common.{◌≡◌, ◌∙◌, true, false, List, [], ◌∷◌, Option, Some, None, refl, sym, ap, subst, inl, inr, cond, arith}
 use Rattle.std.proofs.lemmas.Bool.{ne_eqb}
 use Rattle.clap.specs.Words.{App, Row, Text, HasKind, Kinds, fault_of, is_simple, is_simple_and_free, kind_of, matches_of}
 use Rattle.clap.specs.Walk.{is_empty}

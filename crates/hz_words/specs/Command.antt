@@ -1,5 +1,5 @@
 -- The command as `clap` sees it, and the arguments that `clap` reads from the words.
-use Rattle.std.specs.Prelude.{◌≡◌, ℕ, true, List, [], ◌∷◌, Option, Some, None, Result, Ok, Err, codes, option_map, if◌then◌else◌}
+use Rattle.std.specs.Prelude.{◌≡◌, true, List, [], ◌∷◌, Option, Some, None, Result, Ok, Err, codes, option_map, if◌then◌else◌}
 use Rattle.clap.specs.Words.{App, Row, Rule, Text, new_app, new_rule, with_rule, matches_of, fault_of}
 use Rattle.clap.specs.Walk.{first_of, is_empty}
 use Rattle.clap.specs.Simple.{on_top}

@@ -1,5 +1,5 @@
 -- The jobs that are built, and the one that the words ask for.
-use Rattle.std.specs.Prelude.{ℕ, List, Option, Some, None, codes, option_and_then, if◌then◌else◌}
+use Rattle.std.specs.Prelude.{ℕ, List, [], ◌∷◌, Option, Some, None, codes, find, option_map, option_and_then}
 use Rattle.std.specs.Str.{bytes_eq}
 use Rattle.hz_words.specs.Command.{Texts, arguments_of}
 use Rattle.hz_words.specs.Values.{cap_of, show_of}
@@ -17,11 +17,17 @@ abbrev pub names_of : Job → JobOf
 names_of (asked.Analyse first second cap show) = Analyse first.now second.now cap show
 names_of (asked.Replay first second) = Replay first.now second.now
 
--- the job of a name, with what the other arguments say
+-- the jobs on two files, each by its name
+abbrev pub jobs : List ℕ → List ℕ → ℕ → Show → List (List ℕ × JobOf)
+jobs first second cap show =
+    (codes "analyse", Analyse first second cap show)
+    ∷ (codes "replay", Replay first second)
+    ∷ []
+
+-- the job of a name, with what the other arguments say; the second file may not be left out
 abbrev pub job_named : List ℕ → List ℕ → Option (List ℕ) → ℕ → Show → Option JobOf
 job_named name first (Some second) cap show =
-    if bytes_eq name (codes "analyse") then Some (Analyse first second cap show)
-    else (if bytes_eq name (codes "replay") then Some (Replay first second) else None)
+    option_map (λ job. job.1) (find (λ job. bytes_eq name job.0) (jobs first second cap show))
 job_named name first None cap show = None
 
 -- the job that the arguments ask for, if the values of the options may be so

@@ -1,4 +1,4 @@
-use Rattle.std.proofs.Common.{◌≡◌, ◌∙◌, Some, ap, sym}
+use Rattle.std.proofs.Common.{◌∙◌, Some, ap, sym}
 use Rattle.hz_words.specs.Command.{Texts}
 use Rattle.hz_words.proofs.Parsing.{taken, refused}
 use Rattle.hz_words.proofs.command.parse.Goals as goal
