@@ -38,5 +38,5 @@ job_with texts =
     texts.first) texts.job) (option_and_then show_of texts.show)) (option_and_then cap_of texts.cap)
 
 -- the job that the words ask for; none if `clap` refuses them or their arguments ask for none
-abbrev pub job_of : List (List ℕ) → Option JobOf
+unfoldable pub job_of : List (List ℕ) → Option JobOf
 job_of words = option_and_then job_with (arguments_of words)

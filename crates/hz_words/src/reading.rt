@@ -9,6 +9,7 @@ use crate::job::{Job, job_with};
 use std::alloc::Global;
 
 /// The job that the words after the program's name ask for. A call for help is refused.
+#[tactic(auto, unfolding(crate::specs::Job::job_of))]
 pub fn read(alloc: Global, words: &[String]) -> Result<Job<'_>, WordsFault>
     ensures job { Reads (map string_bytes words.now) result }
     ensures cap { IfOk result HasCap }
