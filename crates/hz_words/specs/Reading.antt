@@ -1,8 +1,7 @@
 -- What a reading of the words may answer.
-use Rattle.std.specs.Prelude.{◌≡◌, ℕ, ◌≤◌, List, Some, None, Result, Ok, Err}
+use Rattle.std.specs.Prelude.{◌≡◌, ℕ, List, Some, None, Result, Ok, Err}
 use Rattle.hz_words.specs.Job.{job_of, names_of}
 use Rattle.hz_words.specs.declared.job.Job.{Job}
-use Rattle.hz_words.specs.declared.job.Job.TheVariants.{Analyse, Replay}
 use Rattle.hz_words.specs.declared.fault.WordsFault.{WordsFault}
 use Rattle.hz_words.specs.declared.fault.WordsFault.TheVariants.{Refused, Memory}
 
@@ -11,8 +10,3 @@ abbrev pub Reads : List (List ℕ) → Result Job WordsFault → Type 0
 Reads words (Ok job) = job_of words ≡ Some (names_of job)
 Reads words (Err Refused) = job_of words ≡ None
 Reads words (Err Memory) = Unit {0}
-
--- the cap of a job is one of 1 to 1,000,000
-abbrev pub HasCap : Job → Type 0
-HasCap (Analyse first second cap show) = (1 ≤ cap) × (cap ≤ 1000000)
-HasCap (Replay first second) = Unit {0}

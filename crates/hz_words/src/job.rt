@@ -1,7 +1,8 @@
 //! The jobs that are built.
-ghost use Rattle.std.specs.Prelude.{◌≡◌, option_map};
+ghost use Rattle.std.specs.Prelude.{◌≡◌, option_map, IfSome};
 ghost use Rattle.hz_words.specs.Command.{texts_of};
-ghost use Rattle.hz_words.specs.Job.{job_named, job_with, names_of};
+ghost use Rattle.hz_words.specs.Job.{job_named, job_with, names_of, HasCap};
+ghost use Rattle.hz_words.specs.Values.{IsCap};
 
 use crate::command::Arguments;
 use crate::values::{Show, read_cap, read_show};
@@ -31,7 +32,8 @@ pub enum Job<'w> {
 
 // The job that the arguments ask for.
 pub(crate) fn job_with<'w>(arguments: &Arguments<'w>) -> Option<Job<'w>>
-    ensures { option_map names_of result ≡ job_with (texts_of arguments.now) }
+    ensures job { option_map names_of result ≡ job_with (texts_of arguments.now) }
+    ensures cap { IfSome result HasCap }
 {
     let cap = read_cap(arguments.cap?)?;
     let show = read_show(arguments.show?)?;
@@ -52,8 +54,10 @@ fn job_named<'w>(
     cap: u64,
     show: Show,
 ) -> Option<Job<'w>>
-    ensures { option_map names_of result
+    requires { IsCap cap }
+    ensures job { option_map names_of result
         ≡ job_named name.now first.entry.now (option_map (λ text. text.now) second.entry) cap show }
+    ensures cap { IfSome result HasCap }
 {
     match (name, second) {
         ("analyse", Some(second)) => Some(Job::Analyse {

@@ -1,7 +1,8 @@
 //! The job of the words.
 ghost use Rattle.std.specs.Prelude.{map, IfOk};
 ghost use Rattle.std.specs.String.{string_bytes};
-ghost use Rattle.hz_words.specs.Reading.{Reads, HasCap};
+ghost use Rattle.hz_words.specs.Job.{HasCap};
+ghost use Rattle.hz_words.specs.Reading.{Reads};
 
 use crate::command::parse;
 use crate::fault::WordsFault;

@@ -1,6 +1,6 @@
 //! What the values of the options may be.
-ghost use Rattle.std.specs.Prelude.{◌≡◌};
-ghost use Rattle.hz_words.specs.Values.{cap_of, show_of};
+ghost use Rattle.std.specs.Prelude.{◌≡◌, IfSome};
+ghost use Rattle.hz_words.specs.Values.{cap_of, show_of, IsCap};
 
 /// The greatest cap.
 pub const MAX_CAP: u64 = 1_000_000;
@@ -16,7 +16,8 @@ pub enum Show {
 
 // The cap that a text stands for: a number of 1 to [`MAX_CAP`].
 pub(crate) fn read_cap(text: &str) -> Option<u64>
-    ensures { result ≡ cap_of text.now }
+    ensures value { result ≡ cap_of text.now }
+    ensures cap { IfSome result IsCap }
 {
     match text.parse::<u64>() {
         Ok(cap) if (1..=MAX_CAP).contains(&cap) => Some(cap),

@@ -35,13 +35,13 @@ cap_of-other text other = go (is_unsigned_in 1 1000000 text) refl
         absurd (other (passes.0, passes.1))
     go false e = rw e refl
 
-pub returns-in-Ok : goal.returns-in-Ok
-returns-in-Ok c =
+pub returns-in-Ok-clause-value : goal.returns-in-Ok-clause-value
+returns-in-Ok-clause-value c =
     let read = c.in-Ok.ensures.value.0 in
     let inside : (nat_le 1 c.in-Ok.cap && nat_le c.in-Ok.cap 1000000) ≡ true = search rules in
     cap_of-number c.args.text.now c.in-Ok.cap read.0.0 read.0.1 read.1 inside
 
-pub returns-in_default-2 : goal.returns-in_default-2
-returns-in_default-2 c =
+pub returns-in_default-2-clause-value : goal.returns-in_default-2-clause-value
+returns-in_default-2-clause-value c =
     let read = rw c.in_default.is at c.parse.ensures.value in
     cap_of-other c.args.text.now read.0
