@@ -1,0 +1,25 @@
+//! The words of the command line: which job they ask for.
+//!
+//! `clap` cuts the words into arguments; what the arguments may be is checked here.
+//!
+//! | Module | What lives in it |
+//! |---|---|
+//! | `command` | the command as `clap` sees it, and the arguments that `clap` reads |
+//! | `job` | [`Job`]: the jobs that are built |
+//! | `values` | what the options' values may be |
+//! | `reading` | [`read`]: the job of the words |
+//! | `fault` | why words name no job |
+#![tactic(auto)]
+
+mod command;
+mod fault;
+mod job;
+mod reading;
+#[cfg(test)]
+mod tests;
+mod values;
+
+pub use fault::WordsFault;
+pub use job::Job;
+pub use reading::read;
+pub use values::{MAX_CAP, Show};

@@ -1,0 +1,23 @@
+//! The job of the words.
+ghost use Rattle.std.specs.Prelude.{map, IfOk};
+ghost use Rattle.std.specs.String.{string_bytes};
+ghost use Rattle.hz_words.specs.Job.{HasCap};
+ghost use Rattle.hz_words.specs.Reading.{Reads};
+
+use crate::command::parse;
+use crate::fault::WordsFault;
+use crate::job::{Job, job_with};
+use std::alloc::Global;
+
+/// The job that the words after the program's name ask for. A call for help is refused.
+#[tactic(auto, unfolding(crate::specs::Job::job_of))]
+pub fn read(alloc: Global, words: &[String]) -> Result<Job<'_>, WordsFault>
+    ensures job { Reads (map string_bytes words.now) result }
+    ensures cap { IfOk result HasCap }
+{
+    let arguments = parse(alloc, words)?;
+    match job_with(&arguments) {
+        Some(job) => Ok(job),
+        None => Err(WordsFault::Refused),
+    }
+}

@@ -1,0 +1,63 @@
+//! Words that are taken and words that are refused, with ample memory.
+
+use crate::{Job, Show, WordsFault, read};
+use std::alloc::{AllocError, Global};
+use std::test::Fail;
+
+// The words of a line, which one space separates.
+fn words_of(alloc: Global, line: &str) -> Result<Vec<String>, AllocError> {
+    let mut words = Vec::new(alloc);
+    for word in line.split(' ').filter(|word| !word.is_empty()) {
+        words.push(String::from_str(alloc, word)?)?;
+    }
+    Ok(words)
+}
+
+// The job `analyse` on the second file `b`.
+fn analyse(first: &str, cap: u64, show: Show) -> Option<Job<'_>> {
+    Some(Job::Analyse {
+        first,
+        second: "b",
+        cap,
+        show,
+    })
+}
+
+#[test]
+fn jobs_of_words(rt: HostRuntime) -> Result<(), Fail> {
+    let replay = Job::Replay {
+        first: "a",
+        second: "b",
+    };
+    let rows = [
+        ("analyse a b", analyse("a", 1000, Show::Nodes)),
+        ("analyse a b --cap 5", analyse("a", 5, Show::Nodes)),
+        ("--cap=5 analyse a b", analyse("a", 5, Show::Nodes)),
+        ("analyse --cap +07 a b", analyse("a", 7, Show::Nodes)),
+        ("analyse --show all a b", analyse("a", 1000, Show::All)),
+        ("analyse -- a b", analyse("a", 1000, Show::Nodes)),
+        ("analyse -- --cap b", analyse("--cap", 1000, Show::Nodes)),
+        ("analyse - b", analyse("-", 1000, Show::Nodes)),
+        ("replay a b", Some(replay)),
+        ("", None),
+        ("analyse a", None),
+        ("solve a b", None),
+        ("analyse a b c", None),
+        ("analyse a b --cap 0", None),
+        ("analyse a b --cap 1000001", None),
+        ("analyse a b --cap x", None),
+        ("analyse a b --cap", None),
+        ("analyse a b --show some", None),
+        ("analyse a b --cap 5 --cap 6", None),
+        ("analyse a b --ca 5", None),
+        ("-h", None),
+        ("--help", None),
+        ("--version", None),
+    ];
+    for (line, job) in rows {
+        let words = words_of(rt.alloc(), line)?;
+        let read = read(rt.alloc(), words.as_slice());
+        assert_eq!(rt; read, job.ok_or(WordsFault::Refused));
+    }
+    Ok(())
+}
