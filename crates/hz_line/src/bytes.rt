@@ -18,7 +18,7 @@ pub enum Mark {
 
 /// What a byte does in a line, before the comment.
 #[derive(Clone, Copy, Debug, PartialEq, Eq)]
-pub enum Class {
+pub(crate) enum Class {
     /// A space or a tab, which separates tokens.
     Blank,
     /// `#`, which starts the comment.
@@ -34,7 +34,7 @@ pub enum Class {
 /// The class of a byte.
 #[inline(always)]
 #[tactic(auto, unfolding(crate::specs::Byte::class_of))]
-pub fn class_of(byte: u8) -> Class
+pub(crate) fn class_of(byte: u8) -> Class
     ensures { result ≡ class_of byte }
 {
     match byte {
