@@ -3,10 +3,8 @@ use Rattle.std.specs.Prelude.{◌≡◌, ◌<◌, ℕ, length, Bool, true, false
 use Rattle.std.specs.Borrow.{Bor}
 use Rattle.std.specs.List.{list_all}
 use Rattle.hz_line.specs.OrThat.{OrThat}
-use Rattle.hz_line.specs.Byte.{class_of, is_letter, is_blank, is_mark}
+use Rattle.hz_line.specs.Byte.{class_of, is_letter, is_blank, is_mark, Class, Blank, Hash, Sign, Letter, Forbidden}
 use Rattle.hz_line.specs.declared.bytes.Mark.{Mark}
-use Rattle.hz_line.specs.declared.bytes.Class.{Class}
-use Rattle.hz_line.specs.declared.bytes.Class.TheVariants.{Blank, Hash, Sign, Letter, Forbidden}
 use Rattle.hz_line.specs.declared.tokens.Token.{Token}
 use Rattle.hz_line.specs.declared.tokens.Token.TheVariants as token
 use Rattle.hz_line.specs.declared.tokens.Next.{Next}

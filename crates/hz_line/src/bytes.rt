@@ -1,7 +1,7 @@
 // The class of a byte in a line.
 
 ghost use Rattle.std.specs.Prelude.{◌≡◌};
-ghost use Rattle.hz_line.specs.Byte.{class_of, is_letter};
+ghost use Rattle.hz_line.specs.Byte.{class_by, class_of, is_letter};
 
 /// The marks, each a token by itself.
 #[derive(Clone, Copy, Debug, PartialEq, Eq)]
@@ -35,7 +35,7 @@ pub(crate) enum Class {
 #[inline(always)]
 #[tactic(auto, unfolding(crate::specs::Byte::class_of))]
 pub(crate) fn class_of(byte: u8) -> Class
-    ensures { result ≡ class_of byte }
+    ensures { class_by result ≡ class_of byte }
 {
     match byte {
         b' ' | b'\t' => Class::Blank,

@@ -18,12 +18,15 @@ use Rattle.hz_text.specs.Bits.{pair_of, bits_at, IsWholeStart}
 use Rattle.hz_text.specs.RunStatement.{Header, Start, Input, Run, Step, Cycle, End}
 use Rattle.hz_text.specs.RunLookup.{RunEntry, LookedRun, run_entered, run_entered_all, run_held_by}
 use Rattle.hz_text.specs.RunValue.{RunOf, with_step_in, with_step}
-use Rattle.hz_text.specs.RunFault.{assignments_in, variables_in, names_unknown, lacks_bit, is_header, is_start_line, is_input_line, is_end, place_after, end_out_of_order, runs_out_of_order, out_of_order_with, start_out_of_order, input_out_of_order, run_out_of_order, first_start, first_input}
+use Rattle.hz_text.specs.RunFault.{assignments_in, variables_in, names_unknown, lacks_bit, is_header, is_start_line, is_input_line, is_end, first_start, first_input}
+use Rattle.hz_text.specs.OrderPass.{place_after, end_out_of_order, runs_out_of_order, out_of_order_with, start_out_of_order, input_out_of_order, run_out_of_order}
 use Rattle.hz_text.specs.RunRules.{beyond_from, AssignsBelow, names_node_twice, least_left_out, lesser, least_missing_node, first_run_fault}
-use Rattle.hz_text.specs.RunText.{step_of, run_statements, unnumbered}
+use Rattle.hz_text.specs.RunText.{step_of, run_statements}
+use Rattle.hz_text.specs.RunOrder.{unnumbered}
 use Rattle.hz_text.specs.RunBuilt.{place_in, last_place, IsRunAdded}
 use Rattle.hz_text.proofs.FaultLaws.{unassigned-None}
-use Rattle.hz_text.proofs.BuildLemmas.{or_parts, pairs_back}
+use Rattle.hz_text.proofs.BuildLemmas.{or_parts}
+use Rattle.hz_text.proofs.OrderLaws.{is_Header, is_Start, is_Input}
 use Rattle.hz_text.specs.declared.fault.TextFault.TheVariants as fault
 use Rattle.hz_text.proofs.ReadLaws.{is_none-Some, bit-some, pairs-sound, none_parts, none_last, All-unmap, All-from_first_line}
 
@@ -185,33 +188,6 @@ first_passes test after first later e = by_test (test first.statement) refl e
     by_test : (b : Bool) → test first.statement ≡ b → cond b (after later) (Some first.line) ≡ None → (test first.statement ≡ true) × (after later ≡ None)
     by_test true t w = (t, w)
     by_test false t w = cc
-
-is_Header : (statement : LookedRun) → is_header statement ≡ true → statement ≡ Header
-is_Header Header e = refl
-is_Header (Start assignments) e = cc
-is_Header (Input assignments) e = cc
-is_Header Run e = cc
-is_Header (Step variables) e = cc
-is_Header Cycle e = cc
-is_Header End e = cc
-
-is_Start : (statement : LookedRun) → is_start_line statement ≡ true → statement ≡ Start (assignments_in statement)
-is_Start Header e = cc
-is_Start (Start assignments) e = refl
-is_Start (Input assignments) e = cc
-is_Start Run e = cc
-is_Start (Step variables) e = cc
-is_Start Cycle e = cc
-is_Start End e = cc
-
-is_Input : (statement : LookedRun) → is_input_line statement ≡ true → statement ≡ Input (assignments_in statement)
-is_Input Header e = cc
-is_Input (Start assignments) e = cc
-is_Input (Input assignments) e = refl
-is_Input Run e = cc
-is_Input (Step variables) e = cc
-is_Input Cycle e = cc
-is_Input End e = cc
 
 -- the first three statements of a run text in order, and the runs after them
 pub record IsFramed (header start input : Numbered LookedRun) (later : List (Numbered LookedRun)) : Type 0 where

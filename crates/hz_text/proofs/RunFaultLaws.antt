@@ -14,12 +14,14 @@ use Rattle.hz_text.specs.Rules.{least_unassigned, first_fault_of, IsAnswer, IsCh
 use Rattle.hz_text.specs.RunStatement.{Header, Start, Input, Run, Step, Cycle, End, RunStatement, run_statement_of, run_statements_of}
 use Rattle.hz_text.specs.RunLookup.{RunEntry, LookedRun, run_looked_of, run_looked_up, run_looked_by, run_entered_all}
 use Rattle.hz_line.specs.Reading.{IsRead}
-use Rattle.hz_text.specs.RunFault.{looked_run_statements, assignments_in, names_unknown, names_twice, lacks_bit, first_start, first_input, LeavesOut, run_out_of_order, StandsInRuns, IsRunFaultless, IsRunRefusal}
+use Rattle.hz_text.specs.RunFault.{looked_run_statements, assignments_in, names_unknown, names_twice, lacks_bit, first_start, first_input, LeavesOut, StandsInRuns, IsRunFaultless, IsRunRefusal}
+use Rattle.hz_text.specs.OrderPass.{run_out_of_order}
 use Rattle.hz_text.specs.RunRules.{names_node_twice, AssignsBelow, least_left_out, least_missing_node, beyond_from, run_rules, first_run_fault, IsAcceptedRun}
 use Rattle.hz_text.proofs.FaultLaws.{first_line-cons, unassigned-Some, unassigned-None, twice-names, true-false}
 use Rattle.std.specs.List.{All}
 use Rattle.hz_text.proofs.BeyondLaws.{answers_beyond}
-use Rattle.hz_text.proofs.LeastFault.{NoneBelow, Outcome, outcome-step, any_number, none_past, answers_first, option_or-None, answers_itself, answers_either, answered, unanswered, checked-none}
+use Rattle.hz_text.proofs.OrderLaws.{answers_order}
+use Rattle.hz_text.proofs.LeastFault.{NoneBelow, Outcome, outcome-step, any_number, none_past, answers_first, option_or-None, answers_either, answered, unanswered, checked-none}
 
 -- the statements that the reader reads are those of the text, looked up
 pub looked_runs-read : (netlist : Netlist) (text : List ℕ) → numbered_statements (run_looked_by netlist) text ≡ looked_run_statements netlist text
@@ -80,7 +82,7 @@ passes-outcome netlist text below =
     subst (Outcome stands) (option_or-None (option_map TooMany (beyond_from 0 0 looked)))
     (outcome-step stands TooMany 7 (beyond_from 0 0 looked) None (λ place. (refl, refl, refl)) below7 (answers_beyond looked (beyond_from 0 0 looked) refl)
     (λ e below8. none_past stands (λ s. s) below8)) in
-    let order = λ (below6 : NoneBelow stands 6). outcome-step stands Order 6 (run_out_of_order looked) _ (λ place. (refl, refl, refl)) below6 (answers_itself (run_out_of_order looked)) (λ e. last) in
+    let order = λ (below6 : NoneBelow stands 6). outcome-step stands Order 6 (run_out_of_order looked) _ (λ place. (refl, refl, refl)) below6 (answers_order looked) (λ e. last) in
     let bit = λ (below5 : NoneBelow stands 5). outcome-step stands Bit 5 (first_line lacks_bit looked) _ (λ place. (refl, refl, refl)) below5 (answers_first lacks_bit looked (first_line lacks_bit looked) up refl) (λ e. order) in
     let missing = λ (below4 : NoneBelow stands 4). outcome-step stands Missing 4 (least_missing_node netlist looked) _ (λ place. (refl, refl, refl)) below4
     (answers_either (LeavesOut (first_start looked) (length netlist.names)) (LeavesOut (first_input looked) netlist.inputs) _ _

@@ -21,7 +21,8 @@ use Rattle.hz_text.specs.RunLookup.{RunEntry, LookedRun, wire_into, variable_nam
 use Rattle.hz_text.specs.RunValue.{RunOf, RunTextOf, cycle_steps, all_steps}
 use Rattle.hz_text.specs.RunFault.{variables_in, steps_in}
 use Rattle.hz_text.specs.RunRules.{beyond_from, IsAcceptedRun}
-use Rattle.hz_text.specs.RunText.{step_of, cycle_statements, run_statements, unnumbered, IsRunTextBy, IsRunTextFor}
+use Rattle.hz_text.specs.RunText.{step_of, cycle_statements, run_statements, IsRunTextBy, IsRunTextFor}
+use Rattle.hz_text.specs.RunOrder.{unnumbered}
 use Rattle.hz_text.proofs.VariableLemmas.{node_named-below}
 use Rattle.hz_text.proofs.BuildLemmas.{or_parts}
 use Rattle.hz_text.proofs.ReadLaws.{All-unmap}

@@ -4,7 +4,7 @@ use Rattle.std.specs.List.{flat_map}
 use Rattle.hz_text.specs.declared.run.order.Place.{Place}
 use Rattle.hz_text.specs.declared.run.order.Place.TheVariants.{Between, Lead, Cycle}
 use Rattle.hz_text.specs.RunLookup.{LookedRun}
-use Rattle.hz_text.specs.RunFault.{place_after}
+use Rattle.hz_text.specs.OrderPass.{place_after}
 use Rattle.hz_text.specs.RunValue.{RunOf}
 use Rattle.hz_text.specs.RunText.{run_statements}
 

@@ -6,7 +6,8 @@ use Rattle.hz_text.specs.declared.assignments.Assigned.{Assigned}
 use Rattle.hz_text.specs.declared.fault.TextFault.{TextFault}
 use Rattle.hz_text.specs.Rules.{repeats_node, least_unassigned, AreBelow, Rules, first_fault_in}
 use Rattle.hz_text.specs.RunLookup.{LookedRun, RunEntry, run_held_by, run_entered_all}
-use Rattle.hz_text.specs.RunFault.{looked_run_statements, IsRunFaultless, assignments_in, variables_in, steps_in, names_unknown, lacks_bit, first_start, first_input, run_out_of_order}
+use Rattle.hz_text.specs.RunFault.{looked_run_statements, IsRunFaultless, assignments_in, variables_in, steps_in, names_unknown, lacks_bit, first_start, first_input}
+use Rattle.hz_text.specs.OrderPass.{run_out_of_order}
 
 -- the statement assigns a node twice
 abbrev pub names_node_twice : LookedRun → Bool

@@ -1,7 +1,8 @@
 use Rattle.std.proofs.Common.{List, ap, subst, inl, inr, Err}
 use Rattle.hz_line.specs.Statement.{Numbered}
 use Rattle.hz_text.specs.RunLookup.{LookedRun, run_entered_all}
-use Rattle.hz_text.specs.RunText.{IsRunTextBy, unnumbered}
+use Rattle.hz_text.specs.RunText.{IsRunTextBy}
+use Rattle.hz_text.specs.RunOrder.{unnumbered}
 use Rattle.hz_text.proofs.RunBuildLaws.{clear_run, long_enough}
 use Rattle.hz_text.proofs.RunUsableLaws.{usable_run}
 use Rattle.std.proofs.lemmas.Result.{err_from_is_err_and}
