@@ -7,8 +7,7 @@ use Rattle.std.proofs.lemmas.Bool.Decides.{nat_tests}
 use Rattle.std.proofs.lemmas.List.{same_lists, get_or-set_same, get_or-set_other, length-set, length-map, length-replicate, get_or-replicate, take_more, map-append, length-take-le, take_all}
 use Rattle.std.proofs.lemmas.List.Elements.{filter_map-append, All-head, All-tail, All-cons, All-nil}
 use Rattle.std.proofs.lemmas.List.FromFn.{get_or-map-range_with_len, length-range_with_len}
-use Rattle.hz_text.specs.declared.assignments.Assigned.{Assigned}
-use Rattle.hz_text.specs.Assignment.{has_repeat, bit_at, assignment_to}
+use Rattle.hz_text.specs.Assignment.{Assigned, has_repeat, bit_at, assignment_to}
 use Rattle.hz_line.specs.Statement.{Numbered}
 use Rattle.hz_text.specs.Lookup.{Entry, Looked, held_by, entered}
 use Rattle.hz_text.specs.ScriptValue.{IsChange, ScriptOf}

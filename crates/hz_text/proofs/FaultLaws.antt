@@ -14,10 +14,9 @@ use Rattle.hz_gmw.specs.Least.{IsLeastOf}
 use Rattle.hz_line.specs.Line.{lines_of}
 use Rattle.hz_line.specs.Statement.{Numbered, first_line, numbered_statements, first_malformed}
 use Rattle.hz_line.proofs.StatementLemmas.{Ascends, numbered_from-Ascends, PassesOn-above, first_line-Some, first_line-None, meaning_at-first, meaning_at-none, numbered_from-map, first_malformed-map}
-use Rattle.hz_text.specs.declared.assignments.Assigned.{Assigned}
 use Rattle.hz_text.specs.Statement.{Statement, statement_of, statements_of}
 use Rattle.hz_text.specs.declared.fault.TextFault.TheVariants.{Form, Unknown, Twice, Missing, Bit, Order, TooMany}
-use Rattle.hz_text.specs.Assignment.{Allowed, Assignment, has_repeat, assigned_of, is_unknown, assigns}
+use Rattle.hz_text.specs.Assignment.{Assigned, Allowed, Assignment, has_repeat, assigned_of, is_unknown, assigns}
 use Rattle.hz_text.specs.Lookup.{Looked, looked_of, looked_up, looked_by}
 use Rattle.hz_text.specs.ScriptFault.{looked_statements, allowed_in, has_unknown, has_twice, has_no_bit, is_start, IsMissing, IsOutOfOrder, line_beyond, Stands, IsFaultless}
 use Rattle.hz_text.specs.Rules.{nodes_of, least_unassigned, first_fault_of}

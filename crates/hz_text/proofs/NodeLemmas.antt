@@ -7,8 +7,7 @@ use Rattle.std.proofs.lemmas.List.{same_lists, get_or-set_same, get_or-set_other
 use Rattle.std.proofs.lemmas.List.Elements.{filter_map-append}
 use Rattle.std.proofs.lemmas.List.Folds.{list_any-append}
 use Rattle.std.proofs.lemmas.List.FromFn.{get_or-map-range_with_len, length-range_with_len}
-use Rattle.hz_text.specs.declared.assignments.Assigned.{Assigned}
-use Rattle.hz_text.specs.Assignment.{has_repeat, assigns, is_node}
+use Rattle.hz_text.specs.Assignment.{Assigned, has_repeat, assigns, is_node}
 use Rattle.hz_text.specs.Rules.{nodes_of, marked}
 
 or-false : (a : Bool) → (a || false) ≡ a

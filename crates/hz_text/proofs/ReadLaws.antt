@@ -13,11 +13,10 @@ use Rattle.std.proofs.lemmas.Bool.Decides.{nat_tests}
 use Rattle.std.proofs.lemmas.Option.{none-some, slice_get-get_or}
 use Rattle.hz_core.specs.Netlist.{Netlist, IsCircuit}
 use Rattle.hz_line.specs.Statement.{Numbered, first_line}
-use Rattle.hz_text.specs.declared.assignments.Assigned.{Assigned}
 use Rattle.hz_text.specs.Statement.{Keyword, Start, Change}
 use Rattle.hz_text.specs.declared.fault.TextFault.{TextFault}
 use Rattle.hz_text.specs.declared.fault.TextFault.TheVariants.{Unknown, Twice, Missing, Bit, Order, TooMany}
-use Rattle.hz_text.specs.Assignment.{Allowed, Inputs, has_repeat, is_unknown, any_unknown, is_node, assigns, bit_at, assignment_to}
+use Rattle.hz_text.specs.Assignment.{Assigned, Allowed, Inputs, has_repeat, is_unknown, any_unknown, is_node, assigns, bit_at, assignment_to}
 use Rattle.hz_text.specs.Lookup.{Entry, Looked, keyword_by, looked_by, held_by, entered}
 use Rattle.hz_line.specs.Reading.{IsRead, IsUnreadText}
 use Rattle.hz_text.specs.ScriptFault.{looked_statements, allowed_in, has_unknown, has_no_bit, is_start, is_start_word, Stands, IsRefusal}

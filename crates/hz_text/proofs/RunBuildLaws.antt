@@ -9,10 +9,9 @@ use Rattle.std.proofs.lemmas.List.FromFn.{length-range_with_len, get_or-map-rang
 use Rattle.std.proofs.lemmas.Grind.{flat_map-append}
 use Rattle.hz_core.specs.Netlist.{Netlist}
 use Rattle.hz_line.specs.Statement.{Numbered, first_line}
-use Rattle.hz_text.specs.declared.assignments.Assigned.{Assigned}
 use Rattle.hz_text.specs.declared.run.order.Place.{Place}
 use Rattle.hz_text.specs.declared.run.order.Place.TheVariants as place
-use Rattle.hz_text.specs.Assignment.{Nodes, Inputs, is_unknown, bit_at, assignment_to}
+use Rattle.hz_text.specs.Assignment.{Assigned, Nodes, Inputs, is_unknown, bit_at, assignment_to}
 use Rattle.hz_text.specs.Rules.{AreBelow, least_unassigned}
 use Rattle.hz_text.specs.Bits.{pair_of, bits_at, IsWholeStart}
 use Rattle.hz_text.specs.RunStatement.{Header, Start, Input, Run, Step, Cycle, End}

@@ -6,8 +6,7 @@ use Rattle.hz_gmw.specs.Least.{IsLeastOf}
 use Rattle.hz_line.specs.Line.{lines_of}
 use Rattle.hz_line.specs.Statement.{Numbered, first_line, numbered_statements, first_malformed}
 use Rattle.hz_line.proofs.StatementLemmas.{Ascends, numbered_from-Ascends, meaning_at-first, meaning_at-none, numbered_from-map, first_malformed-map}
-use Rattle.hz_text.specs.declared.assignments.Assigned.{Assigned}
-use Rattle.hz_text.specs.Assignment.{Nodes, Inputs}
+use Rattle.hz_text.specs.Assignment.{Assigned, Nodes, Inputs}
 use Rattle.hz_text.specs.declared.fault.TextFault.{TextFault}
 use Rattle.hz_text.specs.declared.fault.TextFault.TheVariants.{Form, Unknown, Twice, Missing, Bit, Order, TooMany}
 use Rattle.hz_text.specs.Rules.{least_unassigned, first_fault_of, IsAnswer, IsChecked}

@@ -6,7 +6,6 @@ use Rattle.std.specs.Str.{bytes_eq}
 use Rattle.hz_core.specs.Netlist.{Netlist, node_named}
 use Rattle.hz_line.specs.declared.bytes.Mark.TheVariants.{Equals}
 use Rattle.hz_line.specs.Token.{TokenOf, WordOf, MarkOf}
-use Rattle.hz_text.specs.declared.assignments.Assigned.{Assigned}
 
 -- a name and the word that is assigned to it
 pub record Assignment : Type 0 where
@@ -23,6 +22,11 @@ assignments_of _ = None
 -- the bit that a word is
 abbrev pub bit_of : List ℕ → Option Bool
 bit_of word = if bytes_eq word (codes "0") then Some false else (if bytes_eq word (codes "1") then Some true else None)
+
+-- what is assigned, in a circuit: the node that has the name and the bit that the word is, if there are such
+pub record Assigned : Type 0 where
+  pub node : Option ℕ
+  pub bit : Option Bool
 
 -- the node and the bit of an assignment
 abbrev pub assigned_of : Netlist → Assignment → Assigned

@@ -2,10 +2,9 @@
 use Rattle.std.specs.Prelude.{◌≡◌, ℕ, ◌<◌, Bool, false, List, map, All, Option, None, IsSome, IsSomeAnd}
 use Rattle.std.specs.List.{range_with_len}
 use Rattle.std.specs.Option.{option_zip}
-use Rattle.hz_text.specs.declared.assignments.Assigned.{Assigned}
 use Rattle.hz_text.specs.declared.assignments.Allowed.{Allowed as AllowedHere}
 use Rattle.hz_text.specs.declared.assignments.Allowed.TheVariants as here
-use Rattle.hz_text.specs.Assignment.{Allowed, Nodes, Inputs, Gates, any_bitless, assignment_to, bit_at}
+use Rattle.hz_text.specs.Assignment.{Assigned, Allowed, Nodes, Inputs, Gates, any_bitless, assignment_to, bit_at}
 use Rattle.hz_text.specs.Rules.{repeats_node, least_unassigned}
 
 -- what may be assigned

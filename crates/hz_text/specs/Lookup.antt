@@ -6,11 +6,10 @@ use Rattle.hz_line.specs.declared.statements.Numbered.{Numbered as Entered}
 use Rattle.hz_line.specs.Reading.{entered_by}
 use Rattle.hz_line.specs.Statement.{Numbered}
 use Rattle.hz_line.specs.Token.{TokenOf}
-use Rattle.hz_text.specs.declared.assignments.Assigned.{Assigned}
 use Rattle.hz_text.specs.declared.script.statement.Held.{Held}
 use Rattle.hz_text.specs.declared.script.statement.Keyword.{Keyword as KeywordHere}
 use Rattle.hz_text.specs.declared.script.statement.Keyword.TheVariants as here
-use Rattle.hz_text.specs.Assignment.{assigned_of}
+use Rattle.hz_text.specs.Assignment.{Assigned, assigned_of}
 use Rattle.hz_text.specs.Statement.{Keyword, Start, Change, Statement, statement_of}
 
 -- a statement by its nodes and bits

@@ -9,10 +9,9 @@ use Rattle.hz_line.specs.Statement.{Numbered, numbered_statements, first_line, f
 use Rattle.hz_line.specs.Token.{TokenOf}
 use Rattle.hz_line.specs.declared.statements.UnreadText.{UnreadText}
 use Rattle.hz_line.specs.declared.statements.UnreadText.TheVariants as unread
-use Rattle.hz_text.specs.declared.assignments.Assigned.{Assigned}
 use Rattle.hz_text.specs.declared.fault.TextFault.{TextFault}
 use Rattle.hz_text.specs.declared.fault.TextFault.TheVariants.{Form, Unknown, Twice, Missing, Bit, Order, TooMany, Memory}
-use Rattle.hz_text.specs.Assignment.{has_repeat, assigns}
+use Rattle.hz_text.specs.Assignment.{Assigned, has_repeat, assigns}
 
 -- the nodes that are assigned, in their order
 abbrev pub nodes_of : List Assigned → List ℕ

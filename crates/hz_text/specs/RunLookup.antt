@@ -7,12 +7,11 @@ use Rattle.hz_line.specs.Statement.{Numbered}
 use Rattle.hz_line.specs.Token.{TokenOf}
 use Rattle.hz_line.specs.declared.statements.Numbered.{Numbered as Entered}
 use Rattle.hz_line.specs.Reading.{entered_by}
-use Rattle.hz_text.specs.declared.assignments.Assigned.{Assigned}
 use Rattle.hz_text.specs.declared.run.keyword.RunKeyword.{RunKeyword as KeywordHere}
 use Rattle.hz_text.specs.declared.run.keyword.RunKeyword.TheVariants as here
 use Rattle.hz_text.specs.declared.run.statement.RunHeld.{RunHeld}
 use Rattle.hz_text.specs.declared.run.statement.RunHeld.TheVariants as held
-use Rattle.hz_text.specs.Assignment.{assigned_of}
+use Rattle.hz_text.specs.Assignment.{Assigned, assigned_of}
 use Rattle.hz_text.specs.RunKeyword.{RunKeyword}
 use Rattle.hz_text.specs.RunKeyword as keyword
 use Rattle.hz_text.specs.RunStatement.{Variable, Node, Pin, StatementOf, Header, Start, Input, Run, Step, Cycle, End, RunStatement, run_statement_of, run_statement_with, variables_of, number_by}

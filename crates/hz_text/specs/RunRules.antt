@@ -2,7 +2,7 @@
 use Rattle.std.specs.Prelude.{◌≡◌, ℕ, ◌+◌, Bool, ◌||◌, nat_le, nat_lt, List, [], ◌∷◌, length, All, Option, Some, None, if◌then◌else◌}
 use Rattle.hz_core.specs.Netlist.{Netlist}
 use Rattle.hz_line.specs.Statement.{Numbered}
-use Rattle.hz_text.specs.declared.assignments.Assigned.{Assigned}
+use Rattle.hz_text.specs.Assignment.{Assigned}
 use Rattle.hz_text.specs.declared.fault.TextFault.{TextFault}
 use Rattle.hz_text.specs.Rules.{repeats_node, least_unassigned, AreBelow, Rules, first_fault_in}
 use Rattle.hz_text.specs.RunLookup.{LookedRun, RunEntry, run_held_by, run_entered_all}

@@ -11,12 +11,21 @@ ghost use Rattle.hz_text.specs.Rules.{AreBelow, repeats_node, least_unassigned, 
 use hz_core::{Circuit, Memory};
 use hz_line::{Mark, Token, Unread};
 use std::alloc::Global;
+use std::marker::Model;
 
 /// An assignment `name = word`: the node that has the name and the bit that the word is, if there are such.
-#[derive(Clone, Copy, Debug)]
+#[derive(Debug, Drop)]
 pub(crate) struct Assigned {
     pub(crate) node: Option<u32>,
     pub(crate) bit: Option<bool>,
+}
+
+impl Model for Assigned {
+    ghost use Rattle.hz_text.specs.Assignment.{Assigned};
+
+    ghost Value = { Assigned };
+
+    ghost view = { λ inside. record { node = inside.node; bit = inside.bit } };
 }
 
 /// Which nodes a statement may assign.
