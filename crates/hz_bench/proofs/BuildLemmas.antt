@@ -3,10 +3,8 @@ use Rattle.std.proofs.Common.{Some, ◌≡◌, ◌∙◌, ℕ, ◌+◌, ◌<◌,
 use Rattle.std.specs.List.{list_all}
 use Rattle.std.proofs.lemmas.Bool.Decides.{nat_tests}
 use Rattle.hz_core.specs.Netlist.{Netlist, IsName, is_name_byte, node_named, variable_count}
-use Rattle.hz_line.specs.declared.bytes.Class.{Class}
-use Rattle.hz_line.specs.declared.bytes.Class.TheVariants.{Blank, Hash, Sign, Letter, Forbidden}
+use Rattle.hz_line.specs.Byte.{Class, Blank, Hash, Sign, Letter, Forbidden, class_of, is_letter, is_letter_class}
 use Rattle.hz_line.specs.declared.bytes.Mark.TheVariants.{Open, Close, Comma, Equals}
-use Rattle.hz_line.specs.Byte.{class_of, is_letter, is_letter_class}
 use Rattle.std.proofs.lemmas.List.{take_more, map_push, at_drop_more}
 use Rattle.hz_line.proofs.WrittenLemmas.{both}
 use Rattle.hz_bench.specs.declared.entry.Entry.{Entry}

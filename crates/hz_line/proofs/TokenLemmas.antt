@@ -5,10 +5,10 @@ use Rattle.std.specs.List.{take_while, list_all}
 use Rattle.std.proofs.lemmas.List.{take-append-drop, append_assoc}
 use Rattle.std.proofs.lemmas.List.Folds.{list_all-append}
 use Rattle.std.proofs.lemmas.List.Sums.{take_while-cons}
-use Rattle.hz_line.specs.Byte.{class_of, is_letter, is_letter_class, is_blank, is_blank_class, is_mark_class}
+use Rattle.hz_line.specs.declared.bytes.Class.{Class as ClassHere}
+use Rattle.hz_line.specs.declared.bytes.Class.TheVariants as here
+use Rattle.hz_line.specs.Byte.{class_by, class_of, is_letter, is_letter_class, is_blank, is_blank_class, is_mark_class, Class, Blank, Hash, Sign, Letter, Forbidden}
 use Rattle.hz_line.specs.declared.bytes.Mark.{Mark}
-use Rattle.hz_line.specs.declared.bytes.Class.{Class}
-use Rattle.hz_line.specs.declared.bytes.Class.TheVariants.{Blank, Hash, Sign, Letter, Forbidden}
 use Rattle.hz_line.specs.Token.{TokenOf, WordOf, MarkOf, tokens_of, tokens_with, with_token, lengthen, begins_in_word, begins_in_blank, begins_in_mark, is_bare, has_mark_first, IsWord, AreWords, PastBlanks, IsTokenAndRest, BeginsWithToken, BeginsWithTokens}
 
 -- these tokens before others
@@ -240,3 +240,18 @@ tokens_with-length byte Forbidden rest tokens h = tt
 pub tokens_of-length : (line : List ℕ) → IfSome (tokens_of line) (λ tokens. length tokens ≤ length line)
 tokens_of-length [] = omega arith
 tokens_of-length (byte ∷ rest) = tokens_with-length byte (class_of byte) rest (tokens_of rest) (tokens_of-length rest)
+
+-- a class that is that of a mark, or that of the comment's start
+pub sign_by : (class : ClassHere) (mark : Mark) → class_by class ≡ Sign mark → class ≡ here.Sign mark
+sign_by here.Blank mark e = cc
+sign_by here.Hash mark e = cc
+sign_by (here.Sign other) mark e = let same : other ≡ mark = cc in ap here.Sign same
+sign_by here.Letter mark e = cc
+sign_by here.Forbidden mark e = cc
+
+pub hash_by : (class : ClassHere) → class_by class ≡ Hash → class ≡ here.Hash
+hash_by here.Blank e = cc
+hash_by here.Hash e = refl
+hash_by (here.Sign other) e = cc
+hash_by here.Letter e = cc
+hash_by here.Forbidden e = cc

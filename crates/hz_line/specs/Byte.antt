@@ -1,8 +1,18 @@
 -- The class of a byte in a line.
 use Rattle.std.specs.Prelude.{ℕ, Bool, true, false, ◌==◌, ◌||◌, ◌&&◌, nat_le, if◌then◌else◌}
+use Rattle.hz_line.specs.declared.bytes.Mark.{Mark}
 use Rattle.hz_line.specs.declared.bytes.Mark.TheVariants.{Open, Close, Comma, Equals}
-use Rattle.hz_line.specs.declared.bytes.Class.{Class}
-use Rattle.hz_line.specs.declared.bytes.Class.TheVariants.{Blank, Hash, Sign, Letter, Forbidden}
+use Rattle.hz_line.specs.declared.bytes.Class.{Class as ClassHere}
+use Rattle.hz_line.specs.declared.bytes.Class.TheVariants as here
+
+-- what a byte does in a line, before its comment: it separates tokens, starts the comment, is a mark, is a part of a word,
+-- or may not stand there
+pub data Class : Type 0 where
+  Blank : Class
+  Hash : Class
+  Sign : (mark : Mark) → Class
+  Letter : Class
+  Forbidden : Class
 
 -- blanks are space and tab; '#' starts a comment; '(' ')' ',' '=' are marks; the other bytes from 0x21 to 0x7E are letters of words
 unfoldable pub class_of : ℕ → Class
@@ -50,3 +60,11 @@ is_mark_class Forbidden = false
 -- the byte is a mark
 abbrev pub is_mark : ℕ → Bool
 is_mark byte = is_mark_class (class_of byte)
+
+-- what a class is
+abbrev pub class_by : ClassHere → Class
+class_by here.Blank = Blank
+class_by here.Hash = Hash
+class_by (here.Sign mark) = Sign mark
+class_by here.Letter = Letter
+class_by here.Forbidden = Forbidden

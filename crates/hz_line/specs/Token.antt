@@ -2,10 +2,9 @@
 use Rattle.std.specs.Prelude.{◌≡◌, ◌<◌, ℕ, length, Bool, true, false, List, [], ◌∷◌, ◌++◌, Option, Some, None, if◌then◌else◌}
 use Rattle.std.specs.Borrow.{Bor}
 use Rattle.std.specs.List.{list_all}
-use Rattle.hz_line.specs.Byte.{class_of, is_letter, is_blank, is_mark}
+use Rattle.hz_line.specs.OrThat.{OrThat}
+use Rattle.hz_line.specs.Byte.{class_of, is_letter, is_blank, is_mark, Class, Blank, Hash, Sign, Letter, Forbidden}
 use Rattle.hz_line.specs.declared.bytes.Mark.{Mark}
-use Rattle.hz_line.specs.declared.bytes.Class.{Class}
-use Rattle.hz_line.specs.declared.bytes.Class.TheVariants.{Blank, Hash, Sign, Letter, Forbidden}
 use Rattle.hz_line.specs.declared.tokens.Token.{Token}
 use Rattle.hz_line.specs.declared.tokens.Token.TheVariants as token
 use Rattle.hz_line.specs.declared.tokens.Next.{Next}
@@ -100,10 +99,9 @@ abbrev pub IsMarkFirst : List ℕ → Option (Mark × Bor (List ℕ)) → Type 0
 IsMarkFirst line None = has_mark_first (tokens_of line) ≡ false
 IsMarkFirst line (Some found) = (tokens_of line ≡ with_token (MarkOf found.0) (tokens_of found.1.now)) × (length found.1.now < length line)
 
--- a fault stands in a line: a forbidden byte exactly where the line has no tokens; memory may always run out
-abbrev pub StandsInLine : LineFault → List ℕ → Type 0
-StandsInLine fault.Forbidden line = tokens_of line ≡ None
-StandsInLine fault.Memory line = Unit {0}
+-- why a line has no tokens: a forbidden byte stands before its comment; memory may always run out
+abbrev pub StandsInLine : List ℕ → LineFault → Type 0
+StandsInLine line why = OrThat fault.Memory (λ _. tokens_of line ≡ None) why
 
 -- a word: at least one letter, and letters alone
 pub record IsWord (word : List ℕ) : Type 0 where

@@ -1,7 +1,7 @@
 // The class of a byte in a line.
 
 ghost use Rattle.std.specs.Prelude.{◌≡◌};
-ghost use Rattle.hz_line.specs.Byte.{class_of, is_letter};
+ghost use Rattle.hz_line.specs.Byte.{class_by, class_of, is_letter};
 
 /// The marks, each a token by itself.
 #[derive(Clone, Copy, Debug, PartialEq, Eq)]
@@ -18,7 +18,7 @@ pub enum Mark {
 
 /// What a byte does in a line, before the comment.
 #[derive(Clone, Copy, Debug, PartialEq, Eq)]
-pub enum Class {
+pub(crate) enum Class {
     /// A space or a tab, which separates tokens.
     Blank,
     /// `#`, which starts the comment.
@@ -34,8 +34,8 @@ pub enum Class {
 /// The class of a byte.
 #[inline(always)]
 #[tactic(auto, unfolding(crate::specs::Byte::class_of))]
-pub fn class_of(byte: u8) -> Class
-    ensures { result ≡ class_of byte }
+pub(crate) fn class_of(byte: u8) -> Class
+    ensures { class_by result ≡ class_of byte }
 {
     match byte {
         b' ' | b'\t' => Class::Blank,

@@ -6,16 +6,21 @@
 //! one after the other, and [`is_keyword`] compares a word with a keyword in any letter case. A reader that knows
 //! what has to come next asks [`first_word`], [`first_mark`] or [`is_bare`], which is quicker. Lines and tokens borrow
 //! the text.
+//!
+//! A text each of whose lines is one statement has a [`Grammar`], and [`read_statements`] gives its numbered statements or
+//! the first malformed line.
 #![tactic(auto)]
 
 mod bytes;
 mod keywords;
 mod lines;
+mod statements;
 mod tokens;
 
-pub use bytes::{Class, Mark, class_of};
+pub use bytes::Mark;
 pub use keywords::is_keyword;
 pub use lines::{Cut, cut_line};
+pub use statements::{Grammar, Numbered, Unread, UnreadText, read_statements};
 pub use tokens::{
     LineFault, Next, Token, first_mark, first_word, is_bare, next_token, read_tokens,
 };

@@ -6,6 +6,8 @@ ghost use Rattle.hz_line.specs.Byte.{is_letter};
 ghost use Rattle.hz_line.specs.Token.{token_of, tokens_of, begins_in_blank, is_bare, BeginsWith, BeginsWithMark, BeginsWithWord, IsMarkFirst, IsNext, IsWordFirst, PastBlanks, StandBefore, StandsInLine};
 
 use crate::bytes::{Class, Mark, class_of, is_letter};
+use std::alloc::AllocFailed;
+use thiserror::Error;
 
 /// A token, which borrows the text.
 #[derive(Clone, Copy, Debug)]
@@ -16,12 +18,23 @@ pub enum Token<'a> {
 }
 
 /// Why a line has no tokens.
-#[derive(Clone, Copy, Debug, PartialEq, Eq)]
+#[derive(Clone, Copy, Debug, PartialEq, Eq, Error)]
 pub enum LineFault {
     /// A forbidden byte stands before the comment.
+    #[error("forbidden byte")]
     Forbidden,
     /// Memory ran out.
+    #[error("out of memory")]
     Memory,
+}
+
+impl<T: Drop> From<AllocFailed<T>> for LineFault {
+    ghost use Rattle.hz_line.specs.declared.tokens.LineFault.TheVariants as fault;
+    ghost from_gives = { λ _ made. made ≡ fault.Memory };
+
+    fn from(_failed: AllocFailed<T>) -> LineFault {
+        LineFault::Memory
+    }
 }
 
 /// What comes first in a line.
@@ -40,7 +53,7 @@ pub enum Next<'a> {
 pub fn read_tokens<'a>(line: &'a [u8], tokens: &mut Vec<Token<'a>>) -> Result<(), LineFault>
     ensures value { MatchResult result
         (λ _. tokens_of line.now ≡ Some (map token_of tokens.new.items))
-        (λ fault. StandsInLine fault line.now) }
+        (λ fault. StandsInLine line.now fault) }
     ensures before { IfErr result (λ fault. StandBefore fault (map token_of tokens.new.items) line.now) }
 {
     tokens.clear();
@@ -50,9 +63,7 @@ pub fn read_tokens<'a>(line: &'a [u8], tokens: &mut Vec<Token<'a>>) -> Result<()
             Next::End => return Ok(()),
             Next::Forbidden => return Err(LineFault::Forbidden),
             Next::Token(token, after) => {
-                let Ok(_) = tokens.push(token) else {
-                    return Err(LineFault::Memory);
-                };
+                tokens.push(token)?;
                 rest = after;
             }
         }

@@ -8,7 +8,7 @@ use Rattle.hz_gmw.specs.Least.{IsLeastOf}
 use Rattle.hz_line.specs.Statement.{Numbered}
 use Rattle.hz_text.specs.RunLookup.{LookedRun}
 use Rattle.hz_text.specs.RunFault.{variables_in, steps_in, step_count, named_count, IsBeyond}
-use Rattle.hz_text.specs.RunPass.{beyond_from}
+use Rattle.hz_text.specs.RunRules.{beyond_from}
 
 -- how many steps a numbered statement is, and how many variables it names
 abbrev steps_at : Numbered LookedRun → ℕ

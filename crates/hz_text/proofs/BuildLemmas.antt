@@ -7,14 +7,14 @@ use Rattle.std.proofs.lemmas.Bool.Decides.{nat_tests}
 use Rattle.std.proofs.lemmas.List.{same_lists, get_or-set_same, get_or-set_other, length-set, length-map, length-replicate, get_or-replicate, take_more, map-append, length-take-le, take_all}
 use Rattle.std.proofs.lemmas.List.Elements.{filter_map-append, All-head, All-tail, All-cons, All-nil}
 use Rattle.std.proofs.lemmas.List.FromFn.{get_or-map-range_with_len, length-range_with_len}
-use Rattle.hz_text.specs.declared.assigned.Assigned.{Assigned}
-use Rattle.hz_text.specs.Assignment.{has_repeat}
+use Rattle.hz_text.specs.Assignment.{Assigned, has_repeat, bit_at, assignment_to}
 use Rattle.hz_line.specs.Statement.{Numbered}
-use Rattle.hz_text.specs.declared.script.entry.Entry.{Entry}
-use Rattle.hz_text.specs.Lookup.{Looked, held_by, entered}
+use Rattle.hz_text.specs.Lookup.{Entry, Looked, held_by, entered}
 use Rattle.hz_text.specs.ScriptValue.{IsChange, ScriptOf}
-use Rattle.hz_text.specs.ScriptText.{bit_at, bits_at, assignment_to, IsScriptBy, IsScriptOf}
-use Rattle.hz_text.specs.Pass.{nodes_of, IsPair, IsSound, pair_of}
+use Rattle.hz_text.specs.Bits.{ArePairs, bits_at, IsPair, pair_of}
+use Rattle.hz_text.specs.ScriptText.{IsScriptBy, IsScriptOf}
+use Rattle.hz_text.specs.Rules.{nodes_of}
+use Rattle.hz_text.specs.ScriptReading.{IsSound}
 use Rattle.hz_text.proofs.NodeLemmas.{has_repeat-push, has_repeat-append}
 
 -- what an assignment is that has both a node and a bit
@@ -71,11 +71,11 @@ unfolding IsDistinct
 repeat_from_IsDistinct [] h = refl
 repeat_from_IsDistinct (x ∷ xs) h = rw (repeat_from_none x xs h.0, repeat_from_IsDistinct xs h.1) refl
 
--- the pairs of a sound statement are a change
-pub change_of : (nodes : ℕ) (looked : Looked) → IsSound nodes looked → IsChange nodes (filter_map pair_of looked.assigned)
-change_of nodes looked h = record {
-  below = pairs_below nodes looked.assigned h.pairs;
-  distinct = IsDistinct-from_repeat _ (ap (has_repeat nat_eq) (sym (nodes_of-pairs (filter_map pair_of looked.assigned)) ∙ ap nodes_of (pairs_back nodes looked.assigned h.pairs)) ∙ h.fresh);
+-- the pairs of assignments are a change
+pub change_of : (nodes : ℕ) (all : List Assigned) → ArePairs nodes all → IsChange nodes (filter_map pair_of all)
+change_of nodes all h = record {
+  below = pairs_below nodes all h.pairs;
+  distinct = IsDistinct-from_repeat _ (ap (has_repeat nat_eq) (sym (nodes_of-pairs (filter_map pair_of all)) ∙ ap nodes_of (pairs_back nodes all h.pairs)) ∙ h.fresh);
 }
 
 bit_at-push_other : (pairs : List (ℕ × Bool)) (node i : ℕ) (bit : Bool) → i ≢ node → bit_at (map assignment_to (pairs ++ (node, bit) ∷ [])) i ≡ bit_at (map assignment_to pairs) i

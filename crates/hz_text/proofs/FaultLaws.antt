@@ -1,7 +1,7 @@
 -- The first answer of the passes is the least fault.
 use Rattle.std.proofs.Common.{◌≡◌, ◌∙◌, ℕ, ◌+◌, ◌<◌, ◌≤◌, Bool, true, false, not, ◌||◌, cond, nat_eq, List, [], ◌∷◌, Option, Some, None, zero, suc, length, get_or, map, filter, refl, ap, sym, subst, inl, inr, arith, ltb}
 use Rattle.std.specs.List.{list_any, position, position_or_len}
-use Rattle.std.specs.Option.{option_map}
+use Rattle.std.specs.Option.{option_map, option_or}
 use Rattle.std.specs.Str.{bytes_eq}
 use Rattle.std.proofs.lemmas.List.Quantifiers.{position-Some}
 use Rattle.std.proofs.lemmas.Slice.Eq.{bytes_eq-Decides}
@@ -14,17 +14,15 @@ use Rattle.hz_gmw.specs.Least.{IsLeastOf}
 use Rattle.hz_line.specs.Line.{lines_of}
 use Rattle.hz_line.specs.Statement.{Numbered, first_line, numbered_statements, first_malformed}
 use Rattle.hz_line.proofs.StatementLemmas.{Ascends, numbered_from-Ascends, PassesOn-above, first_line-Some, first_line-None, meaning_at-first, meaning_at-none, numbered_from-map, first_malformed-map}
-use Rattle.hz_text.specs.declared.assigned.Assigned.{Assigned}
-use Rattle.hz_text.specs.declared.keyword.Keyword.{Keyword}
-use Rattle.hz_text.specs.declared.keyword.Keyword.TheVariants.{Start, Change}
-use Rattle.hz_text.specs.declared.fault.TextFault.TheVariants.{Form, Unknown, Twice, Missing, Bit, Order, TooMany}
-use Rattle.hz_text.specs.Assignment.{Assignment, has_repeat}
 use Rattle.hz_text.specs.Statement.{Statement, statement_of, statements_of}
-use Rattle.hz_text.specs.Lookup.{Looked, looked_of, looked_up, looked_by, assigned_of}
-use Rattle.hz_text.specs.ScriptFault.{looked_statements, is_unknown, has_unknown, has_twice, has_no_bit, is_start, assigns, IsMissing, IsOutOfOrder, line_beyond, Stands, IsLeastFault}
-use Rattle.hz_text.specs.Pass.{nodes_of, has_node_twice, least_unassigned, least_missing, first_out_of_order, last_beyond, first_fault}
+use Rattle.hz_text.specs.declared.fault.TextFault.TheVariants.{Form, Unknown, Twice, Missing, Bit, Order, TooMany}
+use Rattle.hz_text.specs.Assignment.{Assigned, Allowed, Assignment, has_repeat, assigned_of, is_unknown, assigns}
+use Rattle.hz_text.specs.Lookup.{Looked, looked_of, looked_up, looked_by}
+use Rattle.hz_text.specs.ScriptFault.{looked_statements, allowed_in, has_unknown, has_twice, has_no_bit, is_start, IsMissing, IsOutOfOrder, line_beyond, Stands, IsFaultless}
+use Rattle.hz_text.specs.Rules.{nodes_of, least_unassigned, first_fault_of}
+use Rattle.hz_text.specs.ScriptRules.{has_node_twice, least_missing, first_out_of_order, last_beyond, script_rules, first_fault}
 use Rattle.hz_text.proofs.BuildLemmas.{or_parts}
-use Rattle.hz_text.proofs.LeastFault.{NoneBelow, Outcome, outcome-step, any_number, none_past, answers_first, option_or-None, answers_itself}
+use Rattle.hz_text.proofs.LeastFault.{unanswered, NoneBelow, Outcome, outcome-step, any_number, none_past, answers_first, option_or-None, answers_itself}
 use Rattle.hz_text.proofs.NodeLemmas.{marks_of, length-marks, get_or-marks}
 
 -- the statements that the reader reads are those of the text, looked up
@@ -40,11 +38,6 @@ formed netlist text answer e = sym (first_malformed-map (looked_of netlist) stat
 answers_malformed : (netlist : Netlist) (text : List ℕ) (answer : Option ℕ) → first_malformed (looked_by netlist) 1 (lines_of text) ≡ answer → IsLeastOf (λ line. Stands netlist text (Form line)) answer
 answers_malformed netlist text None e = meaning_at-none statement_of text (formed netlist text None e)
 answers_malformed netlist text (Some line) e = let at = meaning_at-first statement_of text line (formed netlist text (Some line) e) in record { here = at.0; least = at.1 }
-
--- the first malformed line is the least fault
-pub form-least : (netlist : Netlist) (text : List ℕ) (line : ℕ) → first_malformed (looked_by netlist) 1 (lines_of text) ≡ Some line → IsLeastFault netlist text (Form line)
-form-least netlist text line e =
-    outcome-step (Stands netlist text) Form 1 (Some line) None (λ place. (refl, refl, refl)) (any_number (Stands netlist text)) (answers_malformed netlist text (Some line) e) (λ w. let wrong : Some line ≡ None = w in cc)
 
 -- the first input that is not assigned
 pub record IsLeastUnassigned (inputs : ℕ) (all : List Assigned) (node : ℕ) : Type 0 where
@@ -194,33 +187,31 @@ name-eq netlist a b i j ea eb =
     by_test false e na nb = other (nat_eq i j) refl e na nb
 
 -- a name that is not unknown is a node's
-pub known : (inputs : ℕ) (keyword : Keyword) (node : Option ℕ) → is_unknown inputs keyword node ≡ false → (k : ℕ) × (node ≡ Some k)
-known inputs Start None e = cc
-known inputs Start (Some node) e = (node, refl)
-known inputs Change None e = cc
-known inputs Change (Some node) e = (node, refl)
+pub known : (inputs : ℕ) (allowed : Allowed) (node : Option ℕ) → is_unknown inputs allowed node ≡ false → (k : ℕ) × (node ≡ Some k)
+known inputs allowed None e = cc
+known inputs allowed (Some node) e = (node, refl)
 
 -- no name of these is unknown
-abbrev pub AllKnown : Netlist → Keyword → List Assignment → Type 0
-AllKnown netlist keyword assignments = list_any (λ assigned. is_unknown netlist.inputs keyword assigned.node) (map (assigned_of netlist) assignments) ≡ false
+abbrev pub AllKnown : Netlist → Allowed → List Assignment → Type 0
+AllKnown netlist allowed assignments = list_any (λ assigned. is_unknown netlist.inputs allowed assigned.node) (map (assigned_of netlist) assignments) ≡ false
 
-pub any-names : (netlist : Netlist) (keyword : Keyword) (name : List ℕ) (node : ℕ) (assignments : List Assignment) → node_named netlist name ≡ Some node → AllKnown netlist keyword assignments → list_any (nat_eq node) (nodes_of (map (assigned_of netlist) assignments)) ≡ list_any (bytes_eq name) (map (λ assignment. assignment.name) assignments)
-any-names netlist keyword name node [] e h = refl
-any-names netlist keyword name node (first ∷ later) e h =
-    let parts = or_parts (is_unknown netlist.inputs keyword (node_named netlist first.name)) _ h in
-    step (known netlist.inputs keyword (node_named netlist first.name) parts.0) (any-names netlist keyword name node later e parts.1)
+pub any-names : (netlist : Netlist) (allowed : Allowed) (name : List ℕ) (node : ℕ) (assignments : List Assignment) → node_named netlist name ≡ Some node → AllKnown netlist allowed assignments → list_any (nat_eq node) (nodes_of (map (assigned_of netlist) assignments)) ≡ list_any (bytes_eq name) (map (λ assignment. assignment.name) assignments)
+any-names netlist allowed name node [] e h = refl
+any-names netlist allowed name node (first ∷ later) e h =
+    let parts = or_parts (is_unknown netlist.inputs allowed (node_named netlist first.name)) _ h in
+    step (known netlist.inputs allowed (node_named netlist first.name) parts.0) (any-names netlist allowed name node later e parts.1)
   where
     step : (k : ℕ) × (node_named netlist first.name ≡ Some k) → list_any (nat_eq node) (nodes_of (map (assigned_of netlist) later)) ≡ list_any (bytes_eq name) (map (λ assignment. assignment.name) later) → list_any (nat_eq node) (nodes_of (map (assigned_of netlist) (first ∷ later))) ≡ list_any (bytes_eq name) (map (λ assignment. assignment.name) (first ∷ later))
     step (k, is) ih = rw is (ap (λ b. b || list_any (nat_eq node) (nodes_of (map (assigned_of netlist) later))) (name-eq netlist name first.name node k e is) ∙ ap (λ b. bytes_eq name first.name || b) ih)
 
-pub twice-names : (netlist : Netlist) (keyword : Keyword) (assignments : List Assignment) → AllKnown netlist keyword assignments → has_repeat nat_eq (nodes_of (map (assigned_of netlist) assignments)) ≡ has_repeat bytes_eq (map (λ assignment. assignment.name) assignments)
-twice-names netlist keyword [] h = refl
-twice-names netlist keyword (first ∷ later) h =
-    let parts = or_parts (is_unknown netlist.inputs keyword (node_named netlist first.name)) _ h in
-    step parts.1 (known netlist.inputs keyword (node_named netlist first.name) parts.0) (twice-names netlist keyword later parts.1)
+pub twice-names : (netlist : Netlist) (allowed : Allowed) (assignments : List Assignment) → AllKnown netlist allowed assignments → has_repeat nat_eq (nodes_of (map (assigned_of netlist) assignments)) ≡ has_repeat bytes_eq (map (λ assignment. assignment.name) assignments)
+twice-names netlist allowed [] h = refl
+twice-names netlist allowed (first ∷ later) h =
+    let parts = or_parts (is_unknown netlist.inputs allowed (node_named netlist first.name)) _ h in
+    step parts.1 (known netlist.inputs allowed (node_named netlist first.name) parts.0) (twice-names netlist allowed later parts.1)
   where
-    step : AllKnown netlist keyword later → (k : ℕ) × (node_named netlist first.name ≡ Some k) → has_repeat nat_eq (nodes_of (map (assigned_of netlist) later)) ≡ has_repeat bytes_eq (map (λ assignment. assignment.name) later) → has_repeat nat_eq (nodes_of (map (assigned_of netlist) (first ∷ later))) ≡ has_repeat bytes_eq (map (λ assignment. assignment.name) (first ∷ later))
-    step rest (k, is) ih = rw is (ap (λ b. b || has_repeat nat_eq (nodes_of (map (assigned_of netlist) later))) (any-names netlist keyword first.name k later is rest) ∙ ap (λ b. list_any (bytes_eq first.name) (map (λ assignment. assignment.name) later) || b) ih)
+    step : AllKnown netlist allowed later → (k : ℕ) × (node_named netlist first.name ≡ Some k) → has_repeat nat_eq (nodes_of (map (assigned_of netlist) later)) ≡ has_repeat bytes_eq (map (λ assignment. assignment.name) later) → has_repeat nat_eq (nodes_of (map (assigned_of netlist) (first ∷ later))) ≡ has_repeat bytes_eq (map (λ assignment. assignment.name) (first ∷ later))
+    step rest (k, is) ih = rw is (ap (λ b. b || has_repeat nat_eq (nodes_of (map (assigned_of netlist) later))) (any-names netlist allowed first.name k later is rest) ∙ ap (λ b. list_any (bytes_eq first.name) (map (λ assignment. assignment.name) later) || b) ih)
 
 pub first_line-cons : {S : Type 0} (test : S → Bool) (first : Numbered S) (later : List (Numbered S)) → first_line test (first ∷ later) ≡ cond (test first.statement) (Some first.line) (first_line test later)
 first_line-cons test first later = by_test (test first.statement) refl
@@ -238,7 +229,7 @@ twice-line netlist (first ∷ later) e =
     by_test true t w ih = cc
     by_test false t w ih =
         first_line-cons has_node_twice (looked_up netlist first) (map (looked_up netlist) later)
-        ∙ ap (λ b. cond b (Some first.line) (first_line has_node_twice (map (looked_up netlist) later))) (twice-names netlist first.statement.keyword first.statement.assignments t)
+        ∙ ap (λ b. cond b (Some first.line) (first_line has_node_twice (map (looked_up netlist) later))) (twice-names netlist (allowed_in first.statement.keyword) first.statement.assignments t)
         ∙ ap (λ rest. cond (has_twice first.statement) (Some first.line) rest) (ih w)
         ∙ sym (first_line-cons has_twice first later)
 
@@ -266,7 +257,15 @@ passes-outcome netlist text below =
     (answers_first has_twice (statements_of text) (first_line has_twice (statements_of text)) (numbered_from-Ascends statement_of 1 (lines_of text)) refl)
     (λ e. missing)))
 
--- where no line is malformed
-pub formed-outcome : (netlist : Netlist) (text : List ℕ) → first_malformed (looked_by netlist) 1 (lines_of text) ≡ None → Outcome (Stands netlist text) (first_fault netlist.inputs (looked_statements netlist text))
-formed-outcome netlist text formed =
-    outcome-step (Stands netlist text) Form 1 None _ (λ place. (refl, refl, refl)) (any_number (Stands netlist text)) (answers_malformed netlist text None formed) (λ e below. passes-outcome netlist text below)
+-- what the reader and the passes answer over a text
+pub text-outcome : (netlist : Netlist) (text : List ℕ) → Outcome (Stands netlist text) (first_fault_of (looked_by netlist) (script_rules netlist.inputs) text)
+text-outcome netlist text =
+    let stands = Stands netlist text in
+    let P : List (Numbered Looked) → Type 0 = λ statements. Outcome stands (option_or (option_map Form (first_malformed (looked_by netlist) 1 (lines_of text))) (first_fault netlist.inputs statements)) in
+    subst P (sym (looked_statements-read netlist text))
+    (outcome-step stands Form 1 (first_malformed (looked_by netlist) 1 (lines_of text)) _ (λ place. (refl, refl, refl)) (any_number stands)
+    (answers_malformed netlist text (first_malformed (looked_by netlist) 1 (lines_of text)) refl) (λ e below. passes-outcome netlist text below))
+
+-- where no line is malformed and no pass has an answer
+pub clear-faultless : (netlist : Netlist) (text : List ℕ) → first_malformed (looked_by netlist) 1 (lines_of text) ≡ None → first_fault netlist.inputs (looked_statements netlist text) ≡ None → IsFaultless netlist text
+clear-faultless netlist text formed clear = unanswered (Stands netlist text) _ (text-outcome netlist text) (rw (formed, looked_statements-read netlist text, clear) refl)

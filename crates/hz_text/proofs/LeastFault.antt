@@ -1,21 +1,20 @@
 -- Passes that answer the least place of their kind, one after the other, answer the least fault.
-use Rattle.std.proofs.Common.{◌≡◌, ◌∙◌, ℕ, ◌+◌, ◌≤◌, List, Option, Some, None, refl, ap, sym, subst, inl, inr, arith, nat_le, Bool, true, false, cond}
+use Rattle.std.proofs.Common.{◌≡◌, ◌∙◌, ℕ, ◌+◌, ◌≤◌, List, Option, Some, None, refl, ap, sym, subst, inl, inr, arith, nat_le, Bool, true, false, cond, Result, Ok, Err}
 use Rattle.std.specs.Option.{option_map, option_or}
-use Rattle.std.specs.Prelude.{◌⊎◌, ◌==◌, if◌then◌else◌}
+use Rattle.std.specs.Prelude.{◌⊎◌, ◌==◌, if◌then◌else◌, IfOk, MatchResult}
 use Rattle.std.proofs.lemmas.Bool.{cases_lt, cases_eq}
 use Rattle.std.proofs.lemmas.Bool.Decides.{nat_tests}
 use Rattle.std.proofs.lemmas.Option.{same_Some, none-some}
 use Rattle.hz_gmw.specs.Least.{IsLeastOf}
-use Rattle.hz_line.specs.Line.{lines_of}
+use Rattle.hz_line.specs.Reading.{IsRead}
 use Rattle.hz_line.specs.Token.{TokenOf}
-use Rattle.hz_line.specs.Statement.{Numbered, PassesOn, first_line, first_malformed}
+use Rattle.hz_line.specs.Statement.{Numbered, PassesOn, first_line}
 use Rattle.hz_line.proofs.StatementLemmas.{Ascends, first_line-Some, first_line-None}
 use Rattle.hz_text.specs.declared.fault.TextFault.{TextFault}
 use Rattle.hz_text.specs.declared.fault.TextFault.TheVariants.{Form, Unknown, Twice, Missing, Bit, Order, TooMany, Memory}
-use Rattle.hz_text.specs.ScriptFault.{number_of, place_of, ComesFirst, IsLeastFaultOf, IsLeastFaultOrMemory}
-use Rattle.hz_text.specs.Pass.{IsAnswer}
-use Rattle.hz_text.specs.Reading.{IsUnreadText}
-use Rattle.hz_text.specs.RunPass.{lesser}
+use Rattle.hz_text.specs.Fault.{number_of, place_of, ComesFirst, IsLeastFaultOf, IsLeastFaultOrMemory}
+use Rattle.hz_text.specs.Rules.{Rules, first_fault_in, first_fault_of, IsAnswer, IsChecked}
+use Rattle.hz_text.specs.RunRules.{lesser}
 
 -- no fault with a number below this one stands
 abbrev pub NoneBelow : (TextFault → Type 0) → ℕ → Type 0
@@ -145,38 +144,33 @@ least-unique stands fault other a b =
 
 -- the answer is the least fault, or want of memory
 pub exact : (stands : TextFault → Type 0) (fault other : TextFault) → IsLeastFaultOrMemory stands fault → IsLeastFaultOf stands other → (fault ≡ other) ⊎ (fault ≡ Memory)
-exact stands (Form line) other h l = inl (least-unique stands (Form line) other h l)
-exact stands (Unknown line) other h l = inl (least-unique stands (Unknown line) other h l)
-exact stands (Twice line) other h l = inl (least-unique stands (Twice line) other h l)
-exact stands (Missing node) other h l = inl (least-unique stands (Missing node) other h l)
-exact stands (Bit line) other h l = inl (least-unique stands (Bit line) other h l)
-exact stands (Order line) other h l = inl (least-unique stands (Order line) other h l)
-exact stands (TooMany line) other h l = inl (least-unique stands (TooMany line) other h l)
-exact stands Memory other h l = inr refl
-
-given : (stands : TextFault → Type 0) (answer : Option TextFault) (fault : TextFault) → Outcome stands answer → answer ≡ Some fault → IsLeastFaultOf stands fault
-given stands answer fault h e = let P : Option TextFault → Type 0 = Outcome stands in subst P e h
+exact stands fault other (inl memory) least = inr memory
+exact stands fault other (inr h) least = inl (least-unique stands fault other h least)
 
 -- what an answer of the passes says of the fault that it gives
 pub answered : (stands : TextFault → Type 0) (answer : Option TextFault) (fault : TextFault) → Outcome stands answer → IsAnswer answer fault → IsLeastFaultOrMemory stands fault
-answered stands answer (Form line) h a = absurd a
-answered stands answer (Unknown line) h a = given stands answer (Unknown line) h a
-answered stands answer (Twice line) h a = given stands answer (Twice line) h a
-answered stands answer (Missing node) h a = given stands answer (Missing node) h a
-answered stands answer (Bit line) h a = given stands answer (Bit line) h a
-answered stands answer (Order line) h a = given stands answer (Order line) h a
-answered stands answer (TooMany line) h a = given stands answer (TooMany line) h a
-answered stands answer Memory h a = tt
+answered stands answer fault outcome (inl memory) = inl memory
+answered stands answer fault outcome (inr found) = let P : Option TextFault → Type 0 = Outcome stands in inr (subst P found outcome)
 
--- a text that was not read, where its first malformed line is the least fault
-pub unread :
-    {S : Type 0} (grammar : List TokenOf → Option S) (text : List ℕ) (stands : TextFault → Type 0) (fault : TextFault) →
-    ((line : ℕ) → first_malformed grammar 1 (lines_of text) ≡ Some line → IsLeastFaultOf stands (Form line)) → IsUnreadText grammar text fault → IsLeastFaultOrMemory stands fault
-unread grammar text stands (Form line) least h = least line h
-unread grammar text stands (Unknown line) least h = absurd h
-unread grammar text stands (Twice line) least h = absurd h
-unread grammar text stands (Missing node) least h = absurd h
-unread grammar text stands (Bit line) least h = absurd h
-unread grammar text stands (Order line) least h = absurd h
-unread grammar text stands (TooMany line) least h = absurd h
-unread grammar text stands Memory least h = tt
+-- a text whose passes have no answer has no fault
+pub unanswered : (stands : TextFault → Type 0) (answer : Option TextFault) → Outcome stands answer → answer ≡ None → (fault : TextFault) → ¬ stands fault
+unanswered stands answer outcome none = let P : Option TextFault → Type 0 = Outcome stands in subst P none outcome
+
+-- a text in which the passes find nothing has no malformed line
+pub checked-none :
+    {S : Type 0} (grammar : List TokenOf → Option S) (rules : Rules S) (text : List ℕ) (statements : List (Numbered S)) → IsChecked grammar rules text statements → first_fault_of grammar rules text ≡ None
+checked-none grammar rules text statements h = rw (h.read.formed, h.read.statements, h.clear) refl
+
+-- what the passes answer is the first that the text has, where no line is malformed
+pub answered_first :
+    {S : Type 0} (grammar : List TokenOf → Option S) (rules : Rules S) (text : List ℕ) (statements : List (Numbered S)) (fault : TextFault) → IsRead grammar text statements →
+    IsAnswer (first_fault_in rules statements) fault → IsAnswer (first_fault_of grammar rules text) fault
+answered_first grammar rules text statements fault read (inl memory) = inl memory
+answered_first grammar rules text statements fault read (inr found) = inr (rw (read.formed, read.statements) found)
+
+-- a result by what two clauses say of it
+pub result_by :
+    {V : Type 0} {P P' below : V → Type 0} {Q Q' : TextFault → Type 0} (result : Result V TextFault) → MatchResult result P Q → IfOk result below →
+    ((value : V) → P value → below value → P' value) → ((fault : TextFault) → Q fault → Q' fault) → MatchResult result P' Q'
+result_by (Ok value) h b f g = f value h b
+result_by (Err fault) h b f g = g fault h

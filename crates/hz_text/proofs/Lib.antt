@@ -10,6 +10,7 @@ pub mod PrintLaws
 pub mod VariableLemmas
 pub mod LeastFault
 pub mod BeyondLaws
+pub mod OrderLaws
 pub mod RunFaultLaws
 pub mod RunBuildLaws
 pub mod RunUsableLaws

@@ -7,10 +7,8 @@ use Rattle.std.proofs.lemmas.List.{same_lists, get_or-set_same, get_or-set_other
 use Rattle.std.proofs.lemmas.List.Elements.{filter_map-append}
 use Rattle.std.proofs.lemmas.List.Folds.{list_any-append}
 use Rattle.std.proofs.lemmas.List.FromFn.{get_or-map-range_with_len, length-range_with_len}
-use Rattle.hz_text.specs.declared.assigned.Assigned.{Assigned}
-use Rattle.hz_text.specs.Assignment.{has_repeat}
-use Rattle.hz_text.specs.ScriptFault.{assigns, is_node}
-use Rattle.hz_text.specs.Pass.{nodes_of, marked}
+use Rattle.hz_text.specs.Assignment.{Assigned, has_repeat, assigns, is_node}
+use Rattle.hz_text.specs.Rules.{nodes_of, marked}
 
 or-false : (a : Bool) → (a || false) ≡ a
 or-false true = refl
@@ -174,6 +172,6 @@ has_repeat-marked all rest one marks mark node e within at h =
     (has_repeat-append (nodes_of (all ++ one ∷ [])) (nodes_of rest) (rw (nodes_of-push all one node e, has_repeat-push (nodes_of all) node, found) (or-true (has_repeat nat_eq (nodes_of all)))))
 
 -- a list that was written as a whole
-pub written_whole : (xs ys : List Bool) (n : ℕ) → length xs ≡ n → length ys ≡ n → take n (xs ++ drop (length xs) ys) ≡ xs
+pub written_whole : {X : Type 0} (xs ys : List X) (n : ℕ) → length xs ≡ n → length ys ≡ n → take n (xs ++ drop (length xs) ys) ≡ xs
 written_whole xs ys n h l =
     ap (λ rest. take n (xs ++ rest)) (drop_all (length xs) ys (omega arith)) ∙ ap (take n) (append-nil xs) ∙ take_all n xs (omega arith)

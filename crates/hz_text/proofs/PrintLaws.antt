@@ -15,22 +15,19 @@ use Rattle.hz_core.specs.Netlist.{Netlist, IsCircuit, node_named}
 use Rattle.hz_line.specs.Line.{lines_of}
 use Rattle.hz_line.specs.Statement.{Numbered, numbered_from, first_line, first_malformed}
 use Rattle.hz_line.proofs.StatementLemmas.{first_malformed-map}
-use Rattle.hz_text.specs.declared.assigned.Assigned.{Assigned}
-use Rattle.hz_text.specs.declared.keyword.Keyword.{Keyword}
-use Rattle.hz_text.specs.declared.keyword.Keyword.TheVariants.{Start, Change}
+use Rattle.hz_text.specs.Statement.{Keyword, Start, Change, statement_of}
 use Rattle.hz_text.specs.declared.fault.TextFault.{TextFault}
-use Rattle.hz_text.specs.Assignment.{has_repeat, bit_of}
-use Rattle.hz_text.specs.Statement.{statement_of}
-use Rattle.hz_text.specs.Lookup.{Looked, looked_of, looked_up, assigned_of}
-use Rattle.hz_text.specs.ScriptFault.{looked_statements, has_unknown, has_no_bit, is_start, is_node, assigns, Stands, IsFaultless}
-use Rattle.hz_text.specs.Pass.{has_node_twice, least_unassigned, first_out_of_order, last_beyond, first_fault}
+use Rattle.hz_text.specs.Assignment.{Assigned, has_repeat, bit_of, assigned_of, is_node, assigns, bit_at, assignment_to}
+use Rattle.hz_text.specs.Lookup.{Looked, looked_of, looked_up}
+use Rattle.hz_text.specs.ScriptFault.{looked_statements, has_unknown, has_no_bit, is_start, IsFaultless}
+use Rattle.hz_text.specs.ScriptRules.{has_node_twice, first_out_of_order, last_beyond, first_fault}
+use Rattle.hz_text.specs.Rules.{least_unassigned}
 use Rattle.hz_text.specs.ScriptValue.{ScriptOf, IsChange}
-use Rattle.hz_text.specs.ScriptText.{bit_at, assignment_to, IsScriptOf, IsScriptFor, IsValue}
+use Rattle.hz_text.specs.ScriptText.{IsScriptOf, IsScriptFor, IsValue}
 use Rattle.hz_text.specs.Printed.{letter_of, statement_text, listed_from, script_text}
 use Rattle.hz_text.proofs.NodeLemmas.{marks_of, length-marks, get_or-marks}
 use Rattle.hz_text.proofs.BuildLemmas.{nodes_of-pairs, repeat_from_IsDistinct}
-use Rattle.hz_text.proofs.FaultLaws.{first_line-cons, formed-outcome}
-use Rattle.hz_text.proofs.LeastFault.{Outcome}
+use Rattle.hz_text.proofs.FaultLaws.{first_line-cons, clear-faultless}
 use Rattle.hz_text.proofs.PrintLemmas.{listed-below}
 use Rattle.hz_text.proofs.WordLaws.{AreNodes, spelled, stated, numbered-statement, formed-statement}
 
@@ -218,8 +215,7 @@ pub printed-faultless : (netlist : Netlist) (script : ScriptOf) → IsCircuit ne
 printed-faultless netlist script whole h =
     let text = script_text netlist script in
     let none : first_fault netlist.inputs (looked_statements netlist text) ≡ None = ap (first_fault netlist.inputs) (script_read netlist script whole h) ∙ sent-clear netlist script whole h in
-    let P : Option TextFault → Type 0 = Outcome (Stands netlist text) in
-    subst P none (formed-outcome netlist text (first_malformed-map (looked_of netlist) statement_of 1 (lines_of text) ∙ script_formed netlist script whole h))
+    clear-faultless netlist text (first_malformed-map (looked_of netlist) statement_of 1 (lines_of text) ∙ script_formed netlist script whole h) none
 
 -- what a start lists is read back
 pub listed-back : (start : List (Option Bool)) (nodes : ℕ) → length start ≡ nodes → start ≡ map (bit_at (map assignment_to (listed_from 0 start))) (range_with_len 0 nodes)

@@ -11,25 +11,23 @@ use Rattle.std.proofs.lemmas.Bool.{cases_lt}
 use Rattle.std.specs.Prelude.{◌⊎◌}
 use Rattle.std.proofs.lemmas.Bool.Decides.{nat_tests}
 use Rattle.std.proofs.lemmas.Option.{none-some, slice_get-get_or}
-use Rattle.hz_core.specs.Netlist.{Netlist, IsCircuit, node_named}
+use Rattle.hz_core.specs.Netlist.{Netlist, IsCircuit}
 use Rattle.hz_line.specs.Statement.{Numbered, first_line}
-use Rattle.hz_text.specs.declared.assigned.Assigned.{Assigned}
-use Rattle.hz_text.specs.declared.script.entry.Entry.{Entry}
-use Rattle.hz_text.specs.declared.keyword.Keyword.{Keyword}
-use Rattle.hz_text.specs.declared.keyword.Keyword.TheVariants.{Start, Change}
+use Rattle.hz_text.specs.Statement.{Keyword, Start, Change}
 use Rattle.hz_text.specs.declared.fault.TextFault.{TextFault}
 use Rattle.hz_text.specs.declared.fault.TextFault.TheVariants.{Unknown, Twice, Missing, Bit, Order, TooMany}
-use Rattle.hz_text.specs.Assignment.{Assignment, has_repeat}
-use Rattle.hz_text.specs.Statement.{Statement, statements_of}
-use Rattle.hz_text.specs.Lookup.{Looked, looked_up, looked_by, assigned_of, held_by, entered}
-use Rattle.hz_text.specs.Reading.{IsRead, IsUnreadText}
-use Rattle.hz_text.specs.ScriptFault.{looked_statements, is_unknown, has_unknown, has_no_bit, is_start, is_start_word, is_node, assigns, Stands}
-use Rattle.hz_text.specs.Pass.{nodes_of, has_node_twice, AreBelow, least_unassigned, least_missing, first_out_of_order, last_beyond, first_fault, IsAnswer, IsPair, IsSound}
+use Rattle.hz_text.specs.Assignment.{Assigned, Allowed, Inputs, has_repeat, is_unknown, any_unknown, is_node, assigns, bit_at, assignment_to}
+use Rattle.hz_text.specs.Lookup.{Entry, Looked, keyword_by, looked_by, held_by, entered}
+use Rattle.hz_line.specs.Reading.{IsRead, IsUnreadText}
+use Rattle.hz_text.specs.ScriptFault.{looked_statements, allowed_in, has_unknown, has_no_bit, is_start, is_start_word, Stands, IsRefusal}
+use Rattle.hz_text.specs.Rules.{nodes_of, AreBelow, least_unassigned, first_fault_of, IsAnswer, IsChecked}
+use Rattle.hz_text.specs.ScriptRules.{has_node_twice, least_missing, first_out_of_order, last_beyond, script_rules, first_fault}
+use Rattle.hz_text.specs.Bits.{IsPair}
+use Rattle.hz_text.specs.ScriptReading.{IsSound, IsAccepted}
 use Rattle.hz_text.specs.ScriptValue.{ScriptOf, IsChange}
-use Rattle.hz_text.specs.ScriptText.{bit_at, assignment_to, IsScriptOf, IsScriptFor}
-use Rattle.hz_text.specs.ScriptReading.{IsAccepted, IsRefusal}
-use Rattle.hz_text.proofs.FaultLaws.{known, first_line-cons, unassigned-None, order-None, IsOrdered, looked_statements-read, formed-outcome, form-least}
-use Rattle.hz_text.proofs.LeastFault.{Outcome, answered, unread}
+use Rattle.hz_text.specs.ScriptText.{IsScriptOf, IsScriptFor}
+use Rattle.hz_text.proofs.FaultLaws.{known, first_line-cons, unassigned-None, order-None, IsOrdered, looked_statements-read, text-outcome}
+use Rattle.hz_text.proofs.LeastFault.{answered, unanswered, checked-none}
 use Rattle.hz_text.proofs.BuildLemmas.{or_parts, nodes_of-pairs, IsDistinct-from_repeat}
 
 -- no pass has an answer
@@ -66,8 +64,8 @@ All-from_first_line test (first ∷ later) e = by_test (test first.statement) re
     by_test true t w ih = cc
     by_test false t w ih = All-cons (λ (numbered : Numbered _). test numbered.statement ≡ false) first later t (ih w)
 
-pair_of_known : (inputs nodes : ℕ) (keyword : Keyword) (assigned : Assigned) → is_unknown inputs keyword assigned.node ≡ false → is_none assigned.bit ≡ false → IfSome assigned.node (λ node. node < nodes) → IsPair nodes assigned
-pair_of_known inputs nodes keyword assigned u b l = by_node (known inputs keyword assigned.node u)
+pair_of_known : (inputs nodes : ℕ) (allowed : Allowed) (assigned : Assigned) → is_unknown inputs allowed assigned.node ≡ false → is_none assigned.bit ≡ false → IfSome assigned.node (λ node. node < nodes) → IsPair nodes assigned
+pair_of_known inputs nodes allowed assigned u b l = by_node (known inputs allowed assigned.node u)
   where
     has_bit : (bit : Option Bool) → is_none bit ≡ false → IsSome bit
     has_bit None h = cc
@@ -80,36 +78,20 @@ pair_of_known inputs nodes keyword assigned u b l = by_node (known inputs keywor
         let below : k < nodes = subst Q is l in
         record { node = subst P (sym is) below; bit = has_bit assigned.bit b }
 
-pub pairs-sound : (inputs nodes : ℕ) (keyword : Keyword) (all : List Assigned) → list_any (λ assigned. is_unknown inputs keyword assigned.node) all ≡ false → list_any (λ assigned. is_none assigned.bit) all ≡ false → AreBelow nodes all → All (IsPair nodes) all
-pairs-sound inputs nodes keyword [] u b l = All-nil (IsPair nodes)
-pairs-sound inputs nodes keyword (first ∷ later) u b l =
+pub pairs-sound : (inputs nodes : ℕ) (allowed : Allowed) (all : List Assigned) → list_any (λ assigned. is_unknown inputs allowed assigned.node) all ≡ false → list_any (λ assigned. is_none assigned.bit) all ≡ false → AreBelow nodes all → All (IsPair nodes) all
+pairs-sound inputs nodes allowed [] u b l = All-nil (IsPair nodes)
+pairs-sound inputs nodes allowed (first ∷ later) u b l =
     let us = or_parts _ _ u in
     let bs = or_parts _ _ b in
     let P : Assigned → Type 0 = λ assigned. IfSome assigned.node (λ node. node < nodes) in
-    All-cons (IsPair nodes) first later (pair_of_known inputs nodes keyword first us.0 bs.0 (All-head P first later l)) (pairs-sound inputs nodes keyword later us.1 bs.1 (All-tail P first later l))
-
-position-below : (netlist : Netlist) (name : List ℕ) (answer : Option ℕ) → node_named netlist name ≡ answer → IfSome answer (λ node. node < length netlist.names)
-position-below netlist name None e = tt
-position-below netlist name (Some node) e = (position-Some (bytes_eq name) netlist.names node [] e).0
-
-pub looked-below : (netlist : Netlist) (assignments : List Assignment) → AreBelow (length netlist.names) (map (assigned_of netlist) assignments)
-looked-below netlist assignments = All-map (λ (assigned : Assigned). IfSome assigned.node (λ node. node < length netlist.names)) (assigned_of netlist) assignments (λ k d l. position-below netlist _ _ refl)
+    All-cons (IsPair nodes) first later (pair_of_known inputs nodes allowed first us.0 bs.0 (All-head P first later l)) (pairs-sound inputs nodes allowed later us.1 bs.1 (All-tail P first later l))
 
 pub All-unmap : {A B : Type 0} (P : B → Type 0) (f : A → B) (xs : List A) → All P (map f xs) → All (λ x. P (f x)) xs
 All-unmap P f xs h = λ k d l. subst P (get_or-map f xs k d (f d) l) (h k (f d) (omega (arith, l, length-map xs f)))
 
-entries-below : (netlist : Netlist) (statements : List (Numbered Statement)) (entries : List Entry) → map entered entries ≡ map (looked_up netlist) statements → All (λ entry. AreBelow (length netlist.names) entry.held.assigned.items) entries
-entries-below netlist statements entries e =
-    let P : Numbered Looked → Type 0 = λ numbered. AreBelow (length netlist.names) numbered.statement.assigned in
-    let Q : List (Numbered Looked) → Type 0 = All P in
-    All-unmap P entered entries (subst Q (sym e) (All-map P (looked_up netlist) statements (λ k d l. looked-below netlist _)))
-
 -- what was read is looked up
 pub read-looked : (netlist : Netlist) (text : List ℕ) (entries : List Entry) → IsRead (looked_by netlist) text (map entered entries) → map entered entries ≡ looked_statements netlist text
 read-looked netlist text entries h = sym h.statements ∙ looked_statements-read netlist text
-
-pub read-below : (netlist : Netlist) (text : List ℕ) (entries : List Entry) → IsRead (looked_by netlist) text (map entered entries) → All (λ entry. AreBelow (length netlist.names) entry.held.assigned.items) entries
-read-below netlist text entries h = entries-below netlist (statements_of text) entries (read-looked netlist text entries h)
 
 pub entries-sound : (inputs nodes : ℕ) (entries : List Entry) → IsClear inputs (map entered entries) → All (λ entry. AreBelow nodes entry.held.assigned.items) entries → All (λ entry. IsSound nodes (held_by entry.held)) entries
 entries-sound inputs nodes entries h below =
@@ -119,20 +101,7 @@ entries-sound inputs nodes entries h below =
     let u = All-unmap U entered entries (All-from_first_line (has_unknown inputs) (map entered entries) h.unknown) in
     let b = All-unmap B entered entries (All-from_first_line has_no_bit (map entered entries) h.bit) in
     let t = All-unmap T entered entries (All-from_first_line has_node_twice (map entered entries) h.twice) in
-    λ k d l. record { pairs = pairs-sound inputs nodes (get_or entries k d).held.keyword _ (u k d l) (b k d l) (below k d l); fresh = t k d l }
-
--- why a text was not read, as a refusal
-pub refusal-read : (netlist : Netlist) (text : List ℕ) (fault : TextFault) → IsUnreadText (looked_by netlist) text fault → IsRefusal netlist text fault
-refusal-read netlist text fault h = unread (looked_by netlist) text (Stands netlist text) fault (form-least netlist text) h
-
-read-outcome : (netlist : Netlist) (text : List ℕ) (entries : List Entry) → IsRead (looked_by netlist) text (map entered entries) → Outcome (Stands netlist text) (first_fault netlist.inputs (map entered entries))
-read-outcome netlist text entries h =
-    let P : List (Numbered Looked) → Type 0 = λ statements. Outcome (Stands netlist text) (first_fault netlist.inputs statements) in
-    subst P (sym (read-looked netlist text entries h)) (formed-outcome netlist text h.formed)
-
--- what the check answered, as a refusal
-pub refusal-check : (netlist : Netlist) (text : List ℕ) (entries : List Entry) (fault : TextFault) → IsRead (looked_by netlist) text (map entered entries) → IsAnswer (first_fault netlist.inputs (map entered entries)) fault → IsRefusal netlist text fault
-refusal-check netlist text entries fault h a = answered (Stands netlist text) _ fault (read-outcome netlist text entries h) a
+    λ k d l. record { pairs = pairs-sound inputs nodes (allowed_in (keyword_by (get_or entries k d).held.keyword)) _ (u k d l) (b k d l) (below k d l); fresh = t k d l }
 
 ordered-some : (statements : List (Numbered Looked)) → IsOrdered statements → 0 < length statements
 ordered-some [] h = absurd h
@@ -160,10 +129,10 @@ bit-some (first ∷ later) node a b = by_test (is_node node first.node) refl a (
     by_test true t a parts ih = rw t (is_none-Some first.bit parts.0)
     by_test false t a parts ih = rw t (ih a parts.1)
 
-change-below : (inputs : ℕ) (change : List (ℕ × Bool)) → list_any (λ assigned. is_unknown inputs Change assigned.node) (map assignment_to change) ≡ false → All (λ pair. pair.0 < inputs) change
+change-below : (inputs : ℕ) (change : List (ℕ × Bool)) → list_any (λ assigned. is_unknown inputs Inputs assigned.node) (map assignment_to change) ≡ false → All (λ pair. pair.0 < inputs) change
 change-below inputs [] h = All-nil (λ (pair : ℕ × Bool). pair.0 < inputs)
 change-below inputs (pair ∷ change) h =
-    let parts = or_parts (nat_le inputs pair.0) (list_any (λ assigned. is_unknown inputs Change assigned.node) (map assignment_to change)) h in
+    let parts = or_parts (nat_le inputs pair.0) (list_any (λ assigned. is_unknown inputs Inputs assigned.node) (map assignment_to change)) h in
     let below : pair.0 < inputs = grind (arith, nat_tests, parts.0) in
     All-cons (λ (pair : ℕ × Bool). pair.0 < inputs) pair change below (change-below inputs change parts.1)
 
@@ -173,17 +142,17 @@ change-word Change h = refl
 
 change-input : (inputs : ℕ) (looked : Looked) (change : List (ℕ × Bool)) → map assignment_to change ≡ looked.assigned → is_start looked ≡ false → has_unknown inputs looked ≡ false → has_node_twice looked ≡ false → IsChange inputs change
 change-input inputs looked change e start unknown twice =
-    let P : List Assigned → Type 0 = λ all. list_any (λ assigned. is_unknown inputs looked.keyword assigned.node) all ≡ false in
-    let Q : Keyword → Type 0 = λ keyword. list_any (λ assigned. is_unknown inputs keyword assigned.node) (map assignment_to change) ≡ false in
+    let P : List Assigned → Type 0 = λ all. any_unknown inputs (allowed_in looked.keyword) all ≡ false in
+    let Q : Keyword → Type 0 = λ keyword. any_unknown inputs (allowed_in keyword) (map assignment_to change) ≡ false in
     record {
       below = change-below inputs change (subst Q (change-word looked.keyword start) (subst P (sym e) unknown));
       distinct = IsDistinct-from_repeat _ (ap (has_repeat nat_eq) (sym (nodes_of-pairs change) ∙ ap nodes_of e) ∙ twice);
     }
 
 -- a script of accepted statements can be used
-usable : (netlist : Netlist) (statements : List (Numbered Looked)) (script : ScriptOf) → IsCircuit netlist → IsClear netlist.inputs statements → All (λ numbered. AreBelow (length netlist.names) numbered.statement.assigned) statements → IsScriptOf (length netlist.names) statements script → IsScriptFor netlist script
-usable netlist [] script whole h below is = absurd is
-usable netlist (first ∷ later) script whole h below is =
+usable : (netlist : Netlist) (statements : List (Numbered Looked)) (script : ScriptOf) → IsCircuit netlist → IsClear netlist.inputs statements → IsScriptOf (length netlist.names) statements script → IsScriptFor netlist script
+usable netlist [] script whole h is = absurd is
+usable netlist (first ∷ later) script whole h is =
     let nodes = length netlist.names in
     let inputs = netlist.inputs in
     let ordered : IsOrdered (first ∷ later) = order-None (first ∷ later) h.order in
@@ -210,19 +179,24 @@ usable netlist (first ∷ later) script whole h below is =
       few = omega (arith, many, short (first ∷ later) h.few);
     }
 
-pub accepted : (netlist : Netlist) (text : List ℕ) (entries : List Entry) → IsCircuit netlist → IsRead (looked_by netlist) text (map entered entries) → first_fault netlist.inputs (map entered entries) ≡ None → IsAccepted netlist text entries
-accepted netlist text entries whole h e =
-    let clear = clear-from netlist.inputs (map entered entries) e in
-    let looked = read-looked netlist text entries h in
-    let below = read-below netlist text entries h in
+-- what a text is in which the passes find nothing
+pub accepted :
+    (netlist : Netlist) (text : List ℕ) (entries : List Entry) → IsChecked (looked_by netlist) (script_rules netlist.inputs) text (map entered entries) →
+    All (λ entry. AreBelow (length netlist.names) entry.held.assigned.items) entries → IsAccepted netlist text entries
+accepted netlist text entries h below =
+    let clear = clear-from netlist.inputs (map entered entries) h.clear in
+    let looked = read-looked netlist text entries h.read in
     let many = length-map entries entered in
     let P : List (Numbered Looked) → Type 0 = λ statements. (script : ScriptOf) → IsScriptOf (length netlist.names) statements script → IsScriptFor netlist script in
-    let Q : Option TextFault → Type 0 = Outcome (Stands netlist text) in
     record {
       statements = looked;
       some = omega (arith, many, ordered-some (map entered entries) (order-None (map entered entries) clear.order));
       few = omega (arith, many, short (map entered entries) clear.few);
       sound = entries-sound netlist.inputs (length netlist.names) entries clear below;
-      faultless = subst Q e (read-outcome netlist text entries h);
-      usable = subst P looked (λ script is. usable netlist (map entered entries) script whole clear (All-map (λ (numbered : Numbered Looked). AreBelow (length netlist.names) numbered.statement.assigned) entered entries below) is);
+      faultless = unanswered (Stands netlist text) _ (text-outcome netlist text) (checked-none (looked_by netlist) (script_rules netlist.inputs) text (map entered entries) h);
+      usable = λ whole. subst P looked (λ script is. usable netlist (map entered entries) script whole clear is);
     }
+
+-- what the reader and the passes answer, as a refusal
+pub refusal : (netlist : Netlist) (text : List ℕ) (fault : TextFault) → IsAnswer (first_fault_of (looked_by netlist) (script_rules netlist.inputs) text) fault → IsRefusal netlist text fault
+refusal netlist text fault h = answered (Stands netlist text) _ fault (text-outcome netlist text) h

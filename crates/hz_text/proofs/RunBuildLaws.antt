@@ -9,25 +9,24 @@ use Rattle.std.proofs.lemmas.List.FromFn.{length-range_with_len, get_or-map-rang
 use Rattle.std.proofs.lemmas.Grind.{flat_map-append}
 use Rattle.hz_core.specs.Netlist.{Netlist}
 use Rattle.hz_line.specs.Statement.{Numbered, first_line}
-use Rattle.hz_text.specs.declared.assigned.Assigned.{Assigned}
-use Rattle.hz_text.specs.declared.keyword.Keyword.TheVariants as keyword
-use Rattle.hz_text.specs.declared.run.entry.RunEntry.{RunEntry}
 use Rattle.hz_text.specs.declared.run.order.Place.{Place}
 use Rattle.hz_text.specs.declared.run.order.Place.TheVariants as place
-use Rattle.hz_text.specs.ScriptFault.{is_unknown}
-use Rattle.hz_text.specs.Pass.{AreBelow, least_unassigned, pair_of}
-use Rattle.hz_text.specs.ScriptText.{bit_at, bits_at, assignment_to}
+use Rattle.hz_text.specs.Assignment.{Assigned, Nodes, Inputs, is_unknown, bit_at, assignment_to}
+use Rattle.hz_text.specs.Rules.{AreBelow, least_unassigned}
+use Rattle.hz_text.specs.Bits.{pair_of, bits_at, IsWholeStart}
 use Rattle.hz_text.specs.RunStatement.{Header, Start, Input, Run, Step, Cycle, End}
-use Rattle.hz_text.specs.RunLookup.{LookedRun, run_entered, run_entered_all, run_held_by}
+use Rattle.hz_text.specs.RunLookup.{RunEntry, LookedRun, run_entered, run_entered_all, run_held_by}
 use Rattle.hz_text.specs.RunValue.{RunOf, with_step_in, with_step}
-use Rattle.hz_text.specs.RunFault.{assignments_in, variables_in, names_unknown, lacks_bit, is_header, is_start_line, is_input_line, is_end, place_after, end_out_of_order, runs_out_of_order, out_of_order_with, start_out_of_order, input_out_of_order, run_out_of_order, first_start, first_input}
-use Rattle.hz_text.specs.RunPass.{beyond_from, AssignsBelow, names_node_twice, least_left_out}
-use Rattle.hz_text.specs.RunText.{step_of, run_statements, unnumbered}
-use Rattle.hz_text.specs.RunBuilt.{IsWholeStart, place_in, last_place, IsRunAdded}
+use Rattle.hz_text.specs.RunFault.{assignments_in, variables_in, names_unknown, lacks_bit, is_header, is_start_line, is_input_line, is_end, first_start, first_input}
+use Rattle.hz_text.specs.OrderPass.{place_after, end_out_of_order, runs_out_of_order, out_of_order_with, start_out_of_order, input_out_of_order, run_out_of_order}
+use Rattle.hz_text.specs.RunRules.{beyond_from, AssignsBelow, names_node_twice, least_left_out, lesser, least_missing_node, first_run_fault}
+use Rattle.hz_text.specs.RunText.{step_of, run_statements}
+use Rattle.hz_text.specs.RunOrder.{unnumbered}
+use Rattle.hz_text.specs.RunBuilt.{place_in, last_place, IsRunAdded}
 use Rattle.hz_text.proofs.FaultLaws.{unassigned-None}
-use Rattle.hz_text.proofs.BuildLemmas.{or_parts, pairs_back}
+use Rattle.hz_text.proofs.BuildLemmas.{or_parts}
+use Rattle.hz_text.proofs.OrderLaws.{is_Header, is_Start, is_Input}
 use Rattle.hz_text.specs.declared.fault.TextFault.TheVariants as fault
-use Rattle.hz_text.specs.RunPass.{lesser, least_missing_node, first_run_fault}
 use Rattle.hz_text.proofs.ReadLaws.{is_none-Some, bit-some, pairs-sound, none_parts, none_last, All-unmap, All-from_first_line}
 
 -- one run more, after the last
@@ -176,13 +175,7 @@ pub entries-at : (entries : List RunEntry) (i : ℕ) (entry : RunEntry) → i < 
 entries-at entries i entry within is =
     ap run_entered_all (drop_more entries i entry within) ∙ ap (λ one. run_entered one ∷ run_entered_all (drop (i + 1) entries)) (sym is)
 
--- the bits of a whole start
-pub bits_are :
-    (all : List Assigned) (nodes listed : ℕ) (start : List (Option Bool)) (pairs : List (ℕ × Bool)) → IsWholeStart nodes all → start ≡ bits_at pairs listed → listed ≡ nodes →
-    pairs ≡ filter_map pair_of all → start ≡ map (bit_at all) (range_with_len 0 nodes)
-bits_are all nodes listed start pairs whole is long read =
-    is ∙ ap (bits_at pairs) long ∙ ap (λ those. map (bit_at those) (range_with_len 0 nodes)) (ap (map assignment_to) read ∙ pairs_back nodes all whole.pairs)
-
+-- a whole start gives each node a bit
 pub bits_known : (all : List Assigned) (nodes : ℕ) → IsWholeStart nodes all → All IsSome (map (bit_at all) (range_with_len 0 nodes))
 bits_known all nodes whole = λ k d l.
     let low : k < nodes = omega (arith, l, length-map (range_with_len 0 nodes) (bit_at all), length-range_with_len 0 nodes) in
@@ -194,33 +187,6 @@ first_passes test after first later e = by_test (test first.statement) refl e
     by_test : (b : Bool) → test first.statement ≡ b → cond b (after later) (Some first.line) ≡ None → (test first.statement ≡ true) × (after later ≡ None)
     by_test true t w = (t, w)
     by_test false t w = cc
-
-is_Header : (statement : LookedRun) → is_header statement ≡ true → statement ≡ Header
-is_Header Header e = refl
-is_Header (Start assignments) e = cc
-is_Header (Input assignments) e = cc
-is_Header Run e = cc
-is_Header (Step variables) e = cc
-is_Header Cycle e = cc
-is_Header End e = cc
-
-is_Start : (statement : LookedRun) → is_start_line statement ≡ true → statement ≡ Start (assignments_in statement)
-is_Start Header e = cc
-is_Start (Start assignments) e = refl
-is_Start (Input assignments) e = cc
-is_Start Run e = cc
-is_Start (Step variables) e = cc
-is_Start Cycle e = cc
-is_Start End e = cc
-
-is_Input : (statement : LookedRun) → is_input_line statement ≡ true → statement ≡ Input (assignments_in statement)
-is_Input Header e = cc
-is_Input (Start assignments) e = cc
-is_Input (Input assignments) e = refl
-is_Input Run e = cc
-is_Input (Step variables) e = cc
-is_Input Cycle e = cc
-is_Input End e = cc
 
 -- the first three statements of a run text in order, and the runs after them
 pub record IsFramed (header start input : Numbered LookedRun) (later : List (Numbered LookedRun)) : Type 0 where
@@ -254,13 +220,13 @@ framed header start input later e =
       runs = c.1;
     }
 
-inputs-below : (inputs : ℕ) (all : List Assigned) → list_any (λ one. is_unknown inputs keyword.Change one.node) all ≡ false → AreBelow inputs all
+inputs-below : (inputs : ℕ) (all : List Assigned) → list_any (λ one. is_unknown inputs Inputs one.node) all ≡ false → AreBelow inputs all
 inputs-below inputs [] e = All-nil _
 inputs-below inputs (first ∷ later) e =
-    let parts = or_parts (is_unknown inputs keyword.Change first.node) _ e in
+    let parts = or_parts (is_unknown inputs Inputs first.node) _ e in
     All-cons (λ (one : Assigned). IfSome one.node (λ node. node < inputs)) first later (at first.node parts.0) (inputs-below inputs later parts.1)
   where
-    at : (node : Option ℕ) → is_unknown inputs keyword.Change node ≡ false → IfSome node (λ node. node < inputs)
+    at : (node : Option ℕ) → is_unknown inputs Inputs node ≡ false → IfSome node (λ node. node < inputs)
     at None h = tt
     at (Some node) h = grind (arith, nat_tests, h)
 
@@ -271,7 +237,7 @@ pub whole_start :
 whole_start inputs nodes all statement is unknown bits twice below whole =
     let bits' : list_any (λ (one : Assigned). is_none one.bit) all ≡ false = sym (ap lacks_bit is) ∙ bits in
     record {
-      pairs = pairs-sound inputs nodes keyword.Start all (sym (ap (names_unknown inputs) is) ∙ unknown) bits' below;
+      pairs = pairs-sound inputs nodes Nodes all (sym (ap (names_unknown inputs) is) ∙ unknown) bits' below;
       bits = bits';
       fresh = sym (ap names_node_twice is) ∙ twice;
       whole = whole;
@@ -284,7 +250,7 @@ whole_input inputs all statement is unknown bits twice whole =
     let bits' : list_any (λ (one : Assigned). is_none one.bit) all ≡ false = sym (ap lacks_bit is) ∙ bits in
     let unknown' = sym (ap (names_unknown inputs) is) ∙ unknown in
     record {
-      pairs = pairs-sound inputs inputs keyword.Change all unknown' bits' (inputs-below inputs all unknown');
+      pairs = pairs-sound inputs inputs Inputs all unknown' bits' (inputs-below inputs all unknown');
       bits = bits';
       fresh = sym (ap names_node_twice is) ∙ twice;
       whole = whole;

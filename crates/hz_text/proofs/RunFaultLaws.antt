@@ -1,28 +1,26 @@
 -- The first answer of the passes over a run text is its least fault.
 use Rattle.std.proofs.Common.{◌≡◌, ◌∙◌, ℕ, Bool, true, false, cond, List, [], ◌∷◌, Option, Some, None, length, map, refl, ap, sym, subst}
-use Rattle.std.specs.Option.{option_map}
+use Rattle.std.specs.Option.{option_map, option_or}
 use Rattle.hz_core.specs.Netlist.{Netlist}
 use Rattle.hz_gmw.specs.Least.{IsLeastOf}
 use Rattle.hz_line.specs.Line.{lines_of}
 use Rattle.hz_line.specs.Statement.{Numbered, first_line, numbered_statements, first_malformed}
 use Rattle.hz_line.proofs.StatementLemmas.{Ascends, numbered_from-Ascends, meaning_at-first, meaning_at-none, numbered_from-map, first_malformed-map}
-use Rattle.hz_text.specs.declared.assigned.Assigned.{Assigned}
-use Rattle.hz_text.specs.declared.keyword.Keyword.TheVariants as keyword
+use Rattle.hz_text.specs.Assignment.{Assigned, Nodes, Inputs}
 use Rattle.hz_text.specs.declared.fault.TextFault.{TextFault}
 use Rattle.hz_text.specs.declared.fault.TextFault.TheVariants.{Form, Unknown, Twice, Missing, Bit, Order, TooMany}
-use Rattle.hz_text.specs.declared.run.entry.RunEntry.{RunEntry}
-use Rattle.hz_text.specs.Pass.{least_unassigned, AreBelow, IsAnswer}
+use Rattle.hz_text.specs.Rules.{least_unassigned, first_fault_of, IsAnswer, IsChecked}
 use Rattle.hz_text.specs.RunStatement.{Header, Start, Input, Run, Step, Cycle, End, RunStatement, run_statement_of, run_statements_of}
-use Rattle.hz_text.specs.RunLookup.{LookedRun, run_looked_of, run_looked_up, run_looked_by, run_entered, run_entered_all}
-use Rattle.hz_text.specs.Reading.{IsRead, IsUnreadText}
-use Rattle.hz_text.specs.RunFault.{looked_run_statements, assignments_in, names_unknown, names_twice, lacks_bit, first_start, first_input, LeavesOut, run_out_of_order, StandsInRuns, IsLeastRunFault, IsRunFaultless, IsRunRefusal}
-use Rattle.hz_text.specs.RunPass.{names_node_twice, AssignsBelow, least_left_out, least_missing_node, beyond_from, first_run_fault}
+use Rattle.hz_text.specs.RunLookup.{RunEntry, LookedRun, run_looked_of, run_looked_up, run_looked_by, run_entered_all}
+use Rattle.hz_line.specs.Reading.{IsRead}
+use Rattle.hz_text.specs.RunFault.{looked_run_statements, assignments_in, names_unknown, names_twice, lacks_bit, first_start, first_input, LeavesOut, StandsInRuns, IsRunFaultless, IsRunRefusal}
+use Rattle.hz_text.specs.OrderPass.{run_out_of_order}
+use Rattle.hz_text.specs.RunRules.{names_node_twice, AssignsBelow, least_left_out, least_missing_node, beyond_from, run_rules, first_run_fault, IsAcceptedRun}
 use Rattle.hz_text.proofs.FaultLaws.{first_line-cons, unassigned-Some, unassigned-None, twice-names, true-false}
-use Rattle.hz_text.proofs.ReadLaws.{looked-below, All-unmap}
-use Rattle.std.proofs.lemmas.List.Elements.{All-nil, All-map}
 use Rattle.std.specs.List.{All}
 use Rattle.hz_text.proofs.BeyondLaws.{answers_beyond}
-use Rattle.hz_text.proofs.LeastFault.{NoneBelow, Outcome, outcome-step, any_number, none_past, answers_first, option_or-None, answers_itself, answers_either, answered, unread}
+use Rattle.hz_text.proofs.OrderLaws.{answers_order}
+use Rattle.hz_text.proofs.LeastFault.{NoneBelow, Outcome, outcome-step, any_number, none_past, answers_first, option_or-None, answers_either, answered, unanswered, checked-none}
 
 -- the statements that the reader reads are those of the text, looked up
 pub looked_runs-read : (netlist : Netlist) (text : List ℕ) → numbered_statements (run_looked_by netlist) text ≡ looked_run_statements netlist text
@@ -52,8 +50,8 @@ answers_left_out (Some all) nodes = answers_unassigned all nodes (least_unassign
 -- names of a statement in which none is unknown are equal where their nodes are
 twice_in : (netlist : Netlist) (statement : RunStatement) → names_unknown netlist.inputs (run_looked_of netlist statement) ≡ false → names_node_twice (run_looked_of netlist statement) ≡ names_twice statement
 twice_in netlist Header u = refl
-twice_in netlist (Start assignments) u = twice-names netlist keyword.Start assignments u
-twice_in netlist (Input assignments) u = twice-names netlist keyword.Change assignments u
+twice_in netlist (Start assignments) u = twice-names netlist Nodes assignments u
+twice_in netlist (Input assignments) u = twice-names netlist Inputs assignments u
 twice_in netlist Run u = refl
 twice_in netlist (Step variables) u = refl
 twice_in netlist Cycle u = refl
@@ -83,7 +81,7 @@ passes-outcome netlist text below =
     subst (Outcome stands) (option_or-None (option_map TooMany (beyond_from 0 0 looked)))
     (outcome-step stands TooMany 7 (beyond_from 0 0 looked) None (λ place. (refl, refl, refl)) below7 (answers_beyond looked (beyond_from 0 0 looked) refl)
     (λ e below8. none_past stands (λ s. s) below8)) in
-    let order = λ (below6 : NoneBelow stands 6). outcome-step stands Order 6 (run_out_of_order looked) _ (λ place. (refl, refl, refl)) below6 (answers_itself (run_out_of_order looked)) (λ e. last) in
+    let order = λ (below6 : NoneBelow stands 6). outcome-step stands Order 6 (run_out_of_order looked) _ (λ place. (refl, refl, refl)) below6 (answers_order looked) (λ e. last) in
     let bit = λ (below5 : NoneBelow stands 5). outcome-step stands Bit 5 (first_line lacks_bit looked) _ (λ place. (refl, refl, refl)) below5 (answers_first lacks_bit looked (first_line lacks_bit looked) up refl) (λ e. order) in
     let missing = λ (below4 : NoneBelow stands 4). outcome-step stands Missing 4 (least_missing_node netlist looked) _ (λ place. (refl, refl, refl)) below4
     (answers_either (LeavesOut (first_start looked) (length netlist.names)) (LeavesOut (first_input looked) netlist.inputs) _ _
@@ -97,57 +95,33 @@ passes-outcome netlist text below =
     (λ e. missing)))
 
 -- what was read is looked up
-pub read_runs-looked : (netlist : Netlist) (text : List ℕ) (entries : List RunEntry) → IsRead (run_looked_by netlist) text (run_entered_all entries) → run_entered_all entries ≡ looked_run_statements netlist text
+read_runs-looked : (netlist : Netlist) (text : List ℕ) (entries : List RunEntry) → IsRead (run_looked_by netlist) text (run_entered_all entries) → run_entered_all entries ≡ looked_run_statements netlist text
 read_runs-looked netlist text entries h = sym h.statements ∙ looked_runs-read netlist text
 
--- where no line is malformed
-formed-outcome : (netlist : Netlist) (text : List ℕ) → first_malformed (run_looked_by netlist) 1 (lines_of text) ≡ None → Outcome (StandsInRuns netlist text) (first_run_fault netlist (looked_run_statements netlist text))
-formed-outcome netlist text formed =
-    outcome-step (StandsInRuns netlist text) Form 1 None _ (λ place. (refl, refl, refl)) (any_number (StandsInRuns netlist text)) (answers_malformed netlist text None formed) (λ e below. passes-outcome netlist text below)
+-- what the reader and the passes answer over a text
+text-outcome : (netlist : Netlist) (text : List ℕ) → Outcome (StandsInRuns netlist text) (first_fault_of (run_looked_by netlist) (run_rules netlist) text)
+text-outcome netlist text =
+    let stands = StandsInRuns netlist text in
+    let P : List (Numbered LookedRun) → Type 0 = λ statements. Outcome stands (option_or (option_map Form (first_malformed (run_looked_by netlist) 1 (lines_of text))) (first_run_fault netlist statements)) in
+    subst P (sym (looked_runs-read netlist text))
+    (outcome-step stands Form 1 (first_malformed (run_looked_by netlist) 1 (lines_of text)) _ (λ place. (refl, refl, refl)) (any_number stands)
+    (answers_malformed netlist text (first_malformed (run_looked_by netlist) 1 (lines_of text)) refl) (λ e below. passes-outcome netlist text below))
 
--- and no pass has an answer
+-- where no line is malformed and no pass has an answer
 pub clear-faultless : (netlist : Netlist) (text : List ℕ) → first_malformed (run_looked_by netlist) 1 (lines_of text) ≡ None → first_run_fault netlist (looked_run_statements netlist text) ≡ None → IsRunFaultless netlist text
-clear-faultless netlist text formed clear =
-    let P : Option TextFault → Type 0 = Outcome (StandsInRuns netlist text) in
-    subst P clear (formed-outcome netlist text formed)
+clear-faultless netlist text formed clear = unanswered (StandsInRuns netlist text) _ (text-outcome netlist text) (rw (formed, looked_runs-read netlist text, clear) refl)
 
--- after the reader: no line is malformed
-pub read_runs-outcome : (netlist : Netlist) (text : List ℕ) (entries : List RunEntry) → IsRead (run_looked_by netlist) text (run_entered_all entries) → Outcome (StandsInRuns netlist text) (first_run_fault netlist (run_entered_all entries))
-read_runs-outcome netlist text entries h =
-    let P : List (Numbered LookedRun) → Type 0 = λ statements. Outcome (StandsInRuns netlist text) (first_run_fault netlist statements) in
-    subst P (sym (read_runs-looked netlist text entries h)) (formed-outcome netlist text h.formed)
+-- what a text is in which the passes find nothing
+pub accepted :
+    (netlist : Netlist) (text : List ℕ) (entries : List RunEntry) → IsChecked (run_looked_by netlist) (run_rules netlist) text (run_entered_all entries) →
+    All (AssignsBelow (length netlist.names)) entries → IsAcceptedRun netlist text entries
+accepted netlist text entries h below = record {
+  below = below;
+  statements = read_runs-looked netlist text entries h.read;
+  clear = h.clear;
+  faultless = unanswered (StandsInRuns netlist text) _ (text-outcome netlist text) (checked-none (run_looked_by netlist) (run_rules netlist) text (run_entered_all entries) h);
+}
 
--- a first malformed line is the least fault
-malformed-least : (netlist : Netlist) (text : List ℕ) (line : ℕ) → first_malformed (run_looked_by netlist) 1 (lines_of text) ≡ Some line → IsLeastRunFault netlist text (Form line)
-malformed-least netlist text line e =
-    outcome-step (StandsInRuns netlist text) Form 1 (Some line) None (λ place. (refl, refl, refl)) (any_number (StandsInRuns netlist text)) (answers_malformed netlist text (Some line) e) (λ w. let wrong : Some line ≡ None = w in cc)
-
--- why a text was not read, as a refusal
-pub run_refusal-read : (netlist : Netlist) (text : List ℕ) (fault : TextFault) → IsUnreadText (run_looked_by netlist) text fault → IsRunRefusal netlist text fault
-run_refusal-read netlist text fault h = unread (run_looked_by netlist) text (StandsInRuns netlist text) fault (malformed-least netlist text) h
-
--- what the check answered, as a refusal
-pub run_refusal-check : (netlist : Netlist) (text : List ℕ) (entries : List RunEntry) (fault : TextFault) → IsRead (run_looked_by netlist) text (run_entered_all entries) → IsAnswer (first_run_fault netlist (run_entered_all entries)) fault → IsRunRefusal netlist text fault
-run_refusal-check netlist text entries fault h a = answered (StandsInRuns netlist text) _ fault (read_runs-outcome netlist text entries h) a
-
--- where no pass has an answer, the text has no fault
-pub run_faultless : (netlist : Netlist) (text : List ℕ) (entries : List RunEntry) → IsRead (run_looked_by netlist) text (run_entered_all entries) → first_run_fault netlist (run_entered_all entries) ≡ None → IsRunFaultless netlist text
-run_faultless netlist text entries h e =
-    let P : Option TextFault → Type 0 = Outcome (StandsInRuns netlist text) in
-    subst P e (read_runs-outcome netlist text entries h)
-
-assigns-below : (netlist : Netlist) (statement : RunStatement) → AreBelow (length netlist.names) (assignments_in (run_looked_of netlist statement))
-assigns-below netlist Header = All-nil _
-assigns-below netlist (Start assignments) = looked-below netlist assignments
-assigns-below netlist (Input assignments) = looked-below netlist assignments
-assigns-below netlist Run = All-nil _
-assigns-below netlist (Step variables) = All-nil _
-assigns-below netlist Cycle = All-nil _
-assigns-below netlist End = All-nil _
-
--- the nodes that were read are nodes
-pub read_runs-below : (netlist : Netlist) (text : List ℕ) (entries : List RunEntry) → IsRead (run_looked_by netlist) text (run_entered_all entries) → All (AssignsBelow (length netlist.names)) entries
-read_runs-below netlist text entries h =
-    let P : Numbered LookedRun → Type 0 = λ numbered. AreBelow (length netlist.names) (assignments_in numbered.statement) in
-    let Q : List (Numbered LookedRun) → Type 0 = All P in
-    All-unmap P run_entered entries (subst Q (sym (read_runs-looked netlist text entries h)) (All-map P (run_looked_up netlist) (run_statements_of text) (λ k d l. assigns-below netlist _)))
+-- what the reader and the passes answer, as a refusal
+pub refusal : (netlist : Netlist) (text : List ℕ) (fault : TextFault) → IsAnswer (first_fault_of (run_looked_by netlist) (run_rules netlist) text) fault → IsRunRefusal netlist text fault
+refusal netlist text fault h = answered (StandsInRuns netlist text) _ fault (text-outcome netlist text) h

@@ -11,18 +11,19 @@ use Rattle.hz_core.specs.Netlist.{Netlist, IsCircuit}
 use Rattle.hz_gmw.specs.Recorded.{flip_count}
 use Rattle.hz_line.specs.Line.{lines_of}
 use Rattle.hz_line.specs.Statement.{Meaning, Nothing, Means, meaning_of, Numbered, with_meaning, numbered_from, first_line, malformed_before, first_malformed}
-use Rattle.hz_text.specs.declared.keyword.Keyword.TheVariants as keyword
+use Rattle.hz_text.specs.Statement as keyword
 use Rattle.hz_text.specs.declared.run.order.Place.{Place}
 use Rattle.hz_text.specs.declared.run.order.Place.TheVariants as place
-use Rattle.hz_text.specs.Assignment.{has_repeat}
-use Rattle.hz_text.specs.Pass.{nodes_of}
-use Rattle.hz_text.specs.ScriptText.{assignment_to}
+use Rattle.hz_text.specs.Assignment.{has_repeat, assignment_to}
+use Rattle.hz_text.specs.Rules.{nodes_of}
 use Rattle.hz_text.specs.RunStatement.{Header, Start, Input, Run, Cycle, End}
 use Rattle.hz_text.specs.RunLookup.{LookedRun, run_looked_by}
 use Rattle.hz_text.specs.RunValue.{RunOf, RunTextOf, cycle_steps, all_steps}
-use Rattle.hz_text.specs.RunText.{step_of, cycle_statements, run_statements, unnumbered, IsRunTextBy, IsRunValue, IsRunTextFor}
-use Rattle.hz_text.specs.RunFault.{looked_run_statements, variables_in, names_unknown, lacks_bit, place_after_step, runs_out_of_order, run_out_of_order, steps_in, IsRunFaultless}
-use Rattle.hz_text.specs.RunPass.{beyond_from, names_node_twice, least_missing_node, first_run_fault}
+use Rattle.hz_text.specs.RunText.{step_of, cycle_statements, run_statements, IsRunTextBy, IsRunValue, IsRunTextFor}
+use Rattle.hz_text.specs.RunOrder.{unnumbered}
+use Rattle.hz_text.specs.RunFault.{looked_run_statements, variables_in, names_unknown, lacks_bit, steps_in, IsRunFaultless}
+use Rattle.hz_text.specs.OrderPass.{place_after_step, runs_out_of_order, run_out_of_order}
+use Rattle.hz_text.specs.RunRules.{beyond_from, names_node_twice, least_missing_node, first_run_fault}
 use Rattle.hz_text.specs.RunPrinted.{all_listed, run_text_printed}
 use Rattle.hz_text.proofs.BuildLemmas.{nodes_of-pairs}
 use Rattle.hz_text.proofs.FaultLaws.{first_line-cons}

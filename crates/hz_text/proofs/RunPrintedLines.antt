@@ -16,9 +16,9 @@ use Rattle.hz_line.specs.Line.{lines_of}
 use Rattle.hz_line.specs.Token.{TokenOf, WordOf, MarkOf, tokens_of, with_token, begins_in_word}
 use Rattle.hz_line.specs.Statement.{Meaning, Nothing, Means, meaning_of, meaning_of_tokens}
 use Rattle.hz_line.proofs.WrittenLemmas.{word_bytes, tokens_of-open, tokens_of-close, tokens_of-space, is_letter-separators, tokens_of-word_before, is_inline, lines_of-written}
-use Rattle.hz_text.specs.declared.run.keyword.RunKeyword.TheVariants as keyword
+use Rattle.hz_text.specs.RunKeyword as keyword
 use Rattle.hz_text.specs.Printed.{assignment_text, statement_text}
-use Rattle.hz_text.specs.ScriptText.{assignment_to}
+use Rattle.hz_text.specs.Assignment.{assignment_to}
 use Rattle.hz_text.specs.RunStatement.{Variable, Node, Pin, Header, Start, Input, Run, Step, Cycle, End, with_first, variables_of, is_decimal, run_keyword_of}
 use Rattle.hz_text.specs.RunLookup.{LookedRun, variable_named, run_looked_by}
 use Rattle.hz_text.specs.RunValue.{RunOf, RunTextOf, cycle_steps, all_steps}

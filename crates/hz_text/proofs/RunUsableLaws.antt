@@ -15,14 +15,14 @@ use Rattle.hz_net.proofs.Places.{length-network_of, first_wire-bound}
 use Rattle.hz_gmw.specs.Recorded.{flip_count}
 use Rattle.hz_line.specs.Statement.{Numbered}
 use Rattle.hz_line.proofs.WrittenLemmas.{both}
-use Rattle.hz_text.specs.declared.run.entry.RunEntry.{RunEntry}
-use Rattle.hz_text.specs.ScriptText.{bit_at}
+use Rattle.hz_text.specs.Assignment.{bit_at}
 use Rattle.hz_text.specs.RunStatement.{Variable, Node, Pin, Header, Start, Input, Run, Step, Cycle, End, RunStatement, run_statements_of, number_by}
-use Rattle.hz_text.specs.RunLookup.{LookedRun, wire_into, variable_named, run_looked_of, run_looked_up, run_entered_all}
+use Rattle.hz_text.specs.RunLookup.{RunEntry, LookedRun, wire_into, variable_named, run_looked_of, run_looked_up, run_entered_all}
 use Rattle.hz_text.specs.RunValue.{RunOf, RunTextOf, cycle_steps, all_steps}
 use Rattle.hz_text.specs.RunFault.{variables_in, steps_in}
-use Rattle.hz_text.specs.RunPass.{beyond_from, IsAcceptedRun}
-use Rattle.hz_text.specs.RunText.{step_of, cycle_statements, run_statements, unnumbered, IsRunTextBy, IsRunTextFor}
+use Rattle.hz_text.specs.RunRules.{beyond_from, IsAcceptedRun}
+use Rattle.hz_text.specs.RunText.{step_of, cycle_statements, run_statements, IsRunTextBy, IsRunTextFor}
+use Rattle.hz_text.specs.RunOrder.{unnumbered}
 use Rattle.hz_text.proofs.VariableLemmas.{node_named-below}
 use Rattle.hz_text.proofs.BuildLemmas.{or_parts}
 use Rattle.hz_text.proofs.ReadLaws.{All-unmap}
@@ -193,9 +193,9 @@ counted_runs (run ∷ later) =
 
 -- the value of a text without a fault
 pub usable_run :
-    (netlist : Netlist) (text : List ℕ) (entries : List RunEntry) (value : RunTextOf) → IsAcceptedRun netlist text entries →
+    (netlist : Netlist) (text : List ℕ) (entries : List RunEntry) (value : RunTextOf) → IsCircuit netlist → IsAcceptedRun netlist text entries →
     IsRunTextBy netlist (unnumbered (run_entered_all entries)) value → IsRunTextFor netlist value
-usable_run netlist text entries value accepted is =
+usable_run netlist text entries value circuit accepted is =
     let statements = run_entered_all entries in
     let names = length netlist.names in
     let bound = length (network_of netlist) in
@@ -204,7 +204,7 @@ usable_run netlist text entries value accepted is =
     let whole = Header ∷ Start is.start ∷ Input is.input ∷ runs ++ End ∷ [] in
     let P : List (Numbered LookedRun) → Type 0 = λ those. All (NamesBelow bound) (unnumbered those) in
     let Q : List LookedRun → Type 0 = All (NamesBelow bound) in
-    let below = subst Q is.are (subst P (sym accepted.statements) (statements-below netlist (run_statements_of text) accepted.circuit)) in
+    let below = subst Q is.are (subst P (sym accepted.statements) (statements-below netlist (run_statements_of text) circuit)) in
     let after_header = All-tail (NamesBelow bound) Header (Start is.start ∷ Input is.input ∷ runs ++ End ∷ []) below in
     let after_start = All-tail (NamesBelow bound) (Start is.start) (Input is.input ∷ runs ++ End ∷ []) after_header in
     let after_input = All-tail (NamesBelow bound) (Input is.input) (runs ++ End ∷ []) after_start in

@@ -11,10 +11,8 @@ use Rattle.hz_line.specs.Line.{lines_of}
 use Rattle.hz_line.specs.Token.{TokenOf, WordOf, MarkOf, tokens_of, with_token, begins_in_word}
 use Rattle.hz_line.specs.Statement.{meaning_of, Means, numbered_from, with_meaning, first_malformed, malformed_before}
 use Rattle.hz_line.proofs.WrittenLemmas.{word_bytes, tokens_of-equals, tokens_of-space, is_letter-separators, tokens_of-word_before, is_inline, lines_of-written}
-use Rattle.hz_text.specs.declared.keyword.Keyword.{Keyword}
-use Rattle.hz_text.specs.declared.keyword.Keyword.TheVariants.{Start, Change}
+use Rattle.hz_text.specs.Statement.{Keyword, Start, Change, Statement, keyword_of, statement_of}
 use Rattle.hz_text.specs.Assignment.{Assignment, assignments_of}
-use Rattle.hz_text.specs.Statement.{Statement, keyword_of, statement_of}
 use Rattle.hz_text.specs.Printed.{letter_of, assignment_text, statement_text}
 
 letter_word : (bit : Bool) → (list_all is_letter (letter_of bit ∷ []) ≡ true) × (is_inline (letter_of bit) ≡ true)

@@ -1,22 +1,12 @@
 -- How the runs of a text are built, statement by statement.
-use Rattle.std.specs.Prelude.{◌≡◌, ℕ, false, nat_eq, List, [], ◌∷◌, ◌++◌, All, Option, Some, None, is_none}
-use Rattle.std.specs.List.{flat_map, list_any}
-use Rattle.hz_text.specs.declared.assigned.Assigned.{Assigned}
+use Rattle.std.specs.Prelude.{◌≡◌, ℕ, List, [], ◌∷◌, ◌++◌, Option, Some, None}
+use Rattle.std.specs.List.{flat_map}
 use Rattle.hz_text.specs.declared.run.order.Place.{Place}
 use Rattle.hz_text.specs.declared.run.order.Place.TheVariants.{Between, Lead, Cycle}
-use Rattle.hz_text.specs.Assignment.{has_repeat}
-use Rattle.hz_text.specs.Pass.{IsPair, nodes_of, least_unassigned}
 use Rattle.hz_text.specs.RunLookup.{LookedRun}
-use Rattle.hz_text.specs.RunFault.{place_after}
+use Rattle.hz_text.specs.OrderPass.{place_after}
 use Rattle.hz_text.specs.RunValue.{RunOf}
 use Rattle.hz_text.specs.RunText.{run_statements}
-
--- assignments that give each of so many nodes a bit, and none of them twice
-pub record IsWholeStart (nodes : ℕ) (all : List Assigned) : Type 0 where
-  pub pairs : All (IsPair nodes) all
-  pub bits : list_any (λ one. is_none one.bit) all ≡ false
-  pub fresh : has_repeat nat_eq (nodes_of all) ≡ false
-  pub whole : least_unassigned nodes all ≡ None
 
 -- where one is after a run whose cycle is this
 abbrev pub place_in : Option (List (List ℕ)) → Place

@@ -1,20 +1,15 @@
 -- The faults of a run text.
 use Rattle.std.specs.Prelude.{◌≡◌, ℕ, ◌<◌, Bool, true, false, List, [], ◌∷◌, ◌++◌, length, map, sum_by, Option, Some, None, is_none, ◌⊎◌, if◌then◌else◌}
 use Rattle.std.specs.List.{list_any}
-use Rattle.std.specs.Option.{option_map_or}
-use Rattle.std.specs.Str.{bytes_eq}
 use Rattle.hz_core.specs.Netlist.{Netlist}
 use Rattle.hz_line.specs.Statement.{Numbered, PassesOn, Malformed, meaning_at}
-use Rattle.hz_text.specs.declared.assigned.Assigned.{Assigned}
-use Rattle.hz_text.specs.declared.keyword.Keyword.TheVariants as keyword
 use Rattle.hz_text.specs.declared.fault.TextFault.{TextFault}
 use Rattle.hz_text.specs.declared.fault.TextFault.TheVariants as fault
-use Rattle.hz_text.specs.declared.run.order.Place.{Place}
-use Rattle.hz_text.specs.declared.run.order.Place.TheVariants as place
-use Rattle.hz_text.specs.Assignment.{has_repeat}
+use Rattle.hz_text.specs.Assignment.{Assigned, Nodes, Inputs, any_unknown, any_twice, any_bitless, assigns}
+use Rattle.hz_text.specs.Fault.{IsLeastFaultOf, IsLeastFaultOrMemory}
 use Rattle.hz_text.specs.RunStatement.{StatementOf, Header, Start, Input, Run, Step, Cycle, End, RunStatement, run_statement_of, run_statements_of}
 use Rattle.hz_text.specs.RunLookup.{LookedRun, run_looked_up}
-use Rattle.hz_text.specs.ScriptFault.{is_unknown, assigns, IsLeastFaultOf, IsLeastFaultOrMemory}
+use Rattle.hz_text.specs.RunOrder.{BreaksOrder}
 
 -- the statements of a run text, looked up in a network
 abbrev pub looked_run_statements : Netlist → List ℕ → List (Numbered LookedRun)
@@ -22,77 +17,46 @@ looked_run_statements netlist text = map (run_looked_up netlist) (run_statements
 
 -- what a statement assigns
 abbrev pub assignments_in : {A V : Type 0} → StatementOf A V → List A
-assignments_in Header = []
 assignments_in (Start assignments) = assignments
 assignments_in (Input assignments) = assignments
-assignments_in Run = []
-assignments_in (Step variables) = []
-assignments_in Cycle = []
-assignments_in End = []
+assignments_in _ = []
 
 -- the variables that a statement names
 abbrev pub variables_in : {A V : Type 0} → StatementOf A V → List V
-variables_in Header = []
-variables_in (Start assignments) = []
-variables_in (Input assignments) = []
-variables_in Run = []
 variables_in (Step variables) = variables
-variables_in Cycle = []
-variables_in End = []
+variables_in _ = []
 
 -- the statement names what is not there: in the start no node, in the input no input, in a step no variable
 abbrev pub names_unknown : ℕ → LookedRun → Bool
-names_unknown inputs Header = false
-names_unknown inputs (Start assigned) = list_any (λ one. is_unknown inputs keyword.Start one.node) assigned
-names_unknown inputs (Input assigned) = list_any (λ one. is_unknown inputs keyword.Change one.node) assigned
-names_unknown inputs Run = false
+names_unknown inputs (Start assigned) = any_unknown inputs Nodes assigned
+names_unknown inputs (Input assigned) = any_unknown inputs Inputs assigned
 names_unknown inputs (Step variables) = list_any is_none variables
-names_unknown inputs Cycle = false
-names_unknown inputs End = false
+names_unknown inputs _ = false
 
 -- the statement assigns a name twice
 abbrev pub names_twice : RunStatement → Bool
-names_twice statement = has_repeat bytes_eq (map (λ assignment. assignment.name) (assignments_in statement))
+names_twice statement = any_twice (assignments_in statement)
 
 -- the statement assigns a word that is no bit
 abbrev pub lacks_bit : LookedRun → Bool
-lacks_bit statement = list_any (λ one. is_none one.bit) (assignments_in statement)
+lacks_bit statement = any_bitless (assignments_in statement)
 
+-- the statement is the header; a start; an input line; the end
 abbrev pub is_header : {A V : Type 0} → StatementOf A V → Bool
 is_header Header = true
-is_header (Start assignments) = false
-is_header (Input assignments) = false
-is_header Run = false
-is_header (Step variables) = false
-is_header Cycle = false
-is_header End = false
+is_header _ = false
 
 abbrev pub is_start_line : {A V : Type 0} → StatementOf A V → Bool
-is_start_line Header = false
 is_start_line (Start assignments) = true
-is_start_line (Input assignments) = false
-is_start_line Run = false
-is_start_line (Step variables) = false
-is_start_line Cycle = false
-is_start_line End = false
+is_start_line _ = false
 
 abbrev pub is_input_line : {A V : Type 0} → StatementOf A V → Bool
-is_input_line Header = false
-is_input_line (Start assignments) = false
 is_input_line (Input assignments) = true
-is_input_line Run = false
-is_input_line (Step variables) = false
-is_input_line Cycle = false
-is_input_line End = false
+is_input_line _ = false
 
 abbrev pub is_end : {A V : Type 0} → StatementOf A V → Bool
-is_end Header = false
-is_end (Start assignments) = false
-is_end (Input assignments) = false
-is_end Run = false
-is_end (Step variables) = false
-is_end Cycle = false
 is_end End = true
+is_end _ = false
 
 -- what the first statement that passes the test assigns, if there is one
 abbrev pub first_assigned : (LookedRun → Bool) → List (Numbered LookedRun) → Option (List Assigned)
@@ -116,64 +80,10 @@ abbrev pub IsLeftOut : Netlist → List (Numbered LookedRun) → ℕ → Type 0
 IsLeftOut netlist statements node =
     LeavesOut (first_start statements) (length netlist.names) node ⊎ LeavesOut (first_input statements) netlist.inputs node
 
--- a step stays where it is, and stands in a run
-abbrev pub place_after_step : Place → Option Place
-place_after_step place.Between = None
-place_after_step place.Lead = Some place.Lead
-place_after_step place.Cycle = Some place.Cycle
-
--- a cycle stands after a run's lead, at most once
-abbrev pub place_after_cycle : Place → Option Place
-place_after_cycle place.Between = None
-place_after_cycle place.Lead = Some place.Cycle
-place_after_cycle place.Cycle = None
-
--- where one is among the runs after a statement, if it may stand there
-abbrev pub place_after : Place → LookedRun → Option Place
-place_after here Header = None
-place_after here (Start assignments) = None
-place_after here (Input assignments) = None
-place_after here Run = Some place.Lead
-place_after here (Step variables) = place_after_step here
-place_after here Cycle = place_after_cycle here
-place_after here End = None
-
--- the line that breaks the order: here nothing may stand
-abbrev pub end_out_of_order : List (Numbered LookedRun) → Option ℕ
-end_out_of_order [] = None
-end_out_of_order (first ∷ later) = Some first.line
-
--- the line that breaks the order first, in runs and the end after them; 0 where the end is missing
-abbrev pub runs_out_of_order : Place → List (Numbered LookedRun) → Option ℕ
-runs_out_of_order here [] = Some 0
-runs_out_of_order here (first ∷ later) =
-    if is_end first.statement then end_out_of_order later
-    else option_map_or (λ next. runs_out_of_order next later) (place_after here first.statement) (Some first.line)
-
--- the line that breaks the order first, where a statement that passes the test stands before others; 0 where it is missing
-abbrev pub out_of_order_with : (LookedRun → Bool) → (List (Numbered LookedRun) → Option ℕ) → List (Numbered LookedRun) → Option ℕ
-out_of_order_with test after [] = Some 0
-out_of_order_with test after (first ∷ later) = if test first.statement then after later else Some first.line
-
--- the order from the input line on, from the start on, and of a whole text: header, start, input, runs, end
-abbrev pub input_out_of_order : List (Numbered LookedRun) → Option ℕ
-input_out_of_order statements = out_of_order_with is_input_line (runs_out_of_order place.Between) statements
-
-abbrev pub start_out_of_order : List (Numbered LookedRun) → Option ℕ
-start_out_of_order statements = out_of_order_with is_start_line input_out_of_order statements
-
-abbrev pub run_out_of_order : List (Numbered LookedRun) → Option ℕ
-run_out_of_order statements = out_of_order_with is_header start_out_of_order statements
-
 -- how many steps a statement is
 abbrev pub steps_in : {A V : Type 0} → StatementOf A V → ℕ
-steps_in Header = 0
-steps_in (Start assignments) = 0
-steps_in (Input assignments) = 0
-steps_in Run = 0
 steps_in (Step variables) = 1
-steps_in Cycle = 0
-steps_in End = 0
+steps_in _ = 0
 
 -- how many steps the statements are
 abbrev pub step_count : List (Numbered LookedRun) → ℕ
@@ -204,7 +114,7 @@ StandsInRuns netlist text (fault.Unknown line) = PassesOn (names_unknown netlist
 StandsInRuns netlist text (fault.Twice line) = PassesOn names_twice (run_statements_of text) line
 StandsInRuns netlist text (fault.Missing node) = IsLeftOut netlist (looked_run_statements netlist text) node
 StandsInRuns netlist text (fault.Bit line) = PassesOn lacks_bit (looked_run_statements netlist text) line
-StandsInRuns netlist text (fault.Order line) = run_out_of_order (looked_run_statements netlist text) ≡ Some line
+StandsInRuns netlist text (fault.Order line) = BreaksOrder (looked_run_statements netlist text) line
 StandsInRuns netlist text (fault.TooMany line) = IsBeyond (looked_run_statements netlist text) line
 StandsInRuns netlist text fault.Memory = ⊥
 

@@ -5,12 +5,15 @@ use Rattle.hz_core.specs.Netlist.{Netlist, node_named, gate_at}
 use Rattle.hz_net.specs.Variables.{first_wire}
 use Rattle.hz_line.specs.Statement.{Numbered}
 use Rattle.hz_line.specs.Token.{TokenOf}
-use Rattle.hz_text.specs.declared.assigned.Assigned.{Assigned}
-use Rattle.hz_text.specs.declared.run.keyword.RunKeyword.{RunKeyword}
+use Rattle.hz_line.specs.declared.statements.Numbered.{Numbered as Entered}
+use Rattle.hz_line.specs.Reading.{entered_by}
+use Rattle.hz_text.specs.declared.run.keyword.RunKeyword.{RunKeyword as KeywordHere}
+use Rattle.hz_text.specs.declared.run.keyword.RunKeyword.TheVariants as here
 use Rattle.hz_text.specs.declared.run.statement.RunHeld.{RunHeld}
 use Rattle.hz_text.specs.declared.run.statement.RunHeld.TheVariants as held
-use Rattle.hz_text.specs.declared.run.entry.RunEntry.{RunEntry}
-use Rattle.hz_text.specs.Lookup.{assigned_of}
+use Rattle.hz_text.specs.Assignment.{Assigned, assigned_of}
+use Rattle.hz_text.specs.RunKeyword.{RunKeyword}
+use Rattle.hz_text.specs.RunKeyword as keyword
 use Rattle.hz_text.specs.RunStatement.{Variable, Node, Pin, StatementOf, Header, Start, Input, Run, Step, Cycle, End, RunStatement, run_statement_of, run_statement_with, variables_of, number_by}
 
 -- the wire into the pin with this number of the node, if the node is a gate with such a pin; pins are counted from 1
@@ -47,6 +50,16 @@ run_looked_up netlist numbered = record { line = numbered.line; statement = run_
 abbrev pub run_looked_by : Netlist → List TokenOf → Option LookedRun
 run_looked_by netlist tokens = option_map (run_looked_of netlist) (run_statement_of tokens)
 
+-- what a keyword is
+abbrev pub run_keyword_by : KeywordHere → RunKeyword
+run_keyword_by here.Runs = keyword.Runs
+run_keyword_by here.Start = keyword.Start
+run_keyword_by here.Input = keyword.Input
+run_keyword_by here.Run = keyword.Run
+run_keyword_by here.Step = keyword.Step
+run_keyword_by here.Cycle = keyword.Cycle
+run_keyword_by here.End = keyword.End
+
 -- the statement of a keyword and the tokens after it, looked up
 abbrev pub run_looked_with : Netlist → Option RunKeyword → List TokenOf → Option LookedRun
 run_looked_with netlist keyword rest = option_map (run_looked_of netlist) (run_statement_with keyword rest)
@@ -65,9 +78,13 @@ run_held_by (held.Step variables) = Step variables.now
 run_held_by held.Cycle = Cycle
 run_held_by held.End = End
 
--- the same with its line
+-- a statement that was read, with its line
+abbrev pub RunEntry : Type 0
+RunEntry = Entered RunHeld
+
+-- the statement of an entry, with its line
 abbrev pub run_entered : RunEntry → Numbered LookedRun
-run_entered entry = record { line = entry.line; statement = run_held_by entry.held }
+run_entered entry = entered_by run_held_by entry
 
 -- the statements of entries
 abbrev pub run_entered_all : List RunEntry → List (Numbered LookedRun)

@@ -7,15 +7,16 @@ use Rattle.hz_line.specs.declared.bytes.Mark.TheVariants.{Open, Close}
 use Rattle.hz_line.specs.Keyword.{is_keyword}
 use Rattle.hz_line.specs.Statement.{Numbered, numbered_statements}
 use Rattle.hz_line.specs.Token.{TokenOf, WordOf, MarkOf}
-use Rattle.hz_text.specs.declared.run.keyword.RunKeyword.{RunKeyword}
-use Rattle.hz_text.specs.declared.run.keyword.RunKeyword.TheVariants as keyword
 use Rattle.hz_text.specs.Assignment.{Assignment, assignments_of}
+use Rattle.hz_text.specs.RunKeyword.{RunKeyword}
+use Rattle.hz_text.specs.RunKeyword as keyword
 
 -- a variable as it is written: a node by its name, or a wire by the name of its gate and the number of its pin
 pub data Variable : Type 0 where
   Node : (name : List ℕ) → Variable
   Pin : (name number : List ℕ) → Variable
 
+-- the byte is a decimal digit
 abbrev pub is_digit : ℕ → Bool
 is_digit byte = nat_le 48 byte && nat_le byte 57
 

@@ -5,12 +5,12 @@ use Rattle.hz_core.specs.Netlist.{Netlist}
 use Rattle.hz_net.specs.Network.{network_of}
 use Rattle.hz_gmw.specs.Recorded.{flip_count}
 use Rattle.hz_line.specs.Statement.{Numbered}
-use Rattle.hz_text.specs.declared.assigned.Assigned.{Assigned}
+use Rattle.hz_text.specs.Assignment.{Assigned, bit_at}
 use Rattle.hz_text.specs.RunStatement.{Header, Start, Input, Run, Step, Cycle, End}
 use Rattle.hz_text.specs.RunLookup.{LookedRun}
 use Rattle.hz_text.specs.RunFault.{looked_run_statements}
+use Rattle.hz_text.specs.RunOrder.{cycle_lines, run_lines, unnumbered}
 use Rattle.hz_text.specs.RunValue.{RunOf, RunTextOf, all_steps}
-use Rattle.hz_text.specs.ScriptText.{bit_at}
 
 -- the statement of a step
 abbrev pub step_of : List ℕ → LookedRun
@@ -18,16 +18,11 @@ step_of flips = Step (map Some flips)
 
 -- the statements of a cycle, if there is one
 abbrev pub cycle_statements : Option (List (List ℕ)) → List LookedRun
-cycle_statements None = []
-cycle_statements (Some steps) = Cycle ∷ map step_of steps
+cycle_statements cycle = cycle_lines step_of cycle
 
 -- the statements of a run
 abbrev pub run_statements : RunOf → List LookedRun
-run_statements run = Run ∷ map step_of run.lead ++ cycle_statements run.cycle
-
--- statements without their lines
-abbrev pub unnumbered : List (Numbered LookedRun) → List LookedRun
-unnumbered statements = map (λ numbered. numbered.statement) statements
+run_statements run = run_lines step_of run.lead run.cycle
 
 -- The value of statements: the header, a start that gives each node its bit, an input line that gives each input its bit,
 -- the statements of the runs, one run after the other, and the end.

@@ -1,25 +1,12 @@
 -- The script that a text without a fault stands for.
-use Rattle.std.specs.Prelude.{◌≡◌, ℕ, ◌≤◌, Bool, List, [], ◌∷◌, length, take, map, All, Option, Some, None, IsSome, if◌then◌else◌}
+use Rattle.std.specs.Prelude.{◌≡◌, ℕ, ◌≤◌, List, [], ◌∷◌, length, take, map, All, IsSome}
 use Rattle.std.specs.List.{range_with_len}
 use Rattle.hz_core.specs.Netlist.{Netlist}
 use Rattle.hz_line.specs.Statement.{Numbered}
-use Rattle.hz_text.specs.declared.assigned.Assigned.{Assigned}
+use Rattle.hz_text.specs.Assignment.{assignment_to, bit_at}
 use Rattle.hz_text.specs.Lookup.{Looked}
-use Rattle.hz_text.specs.ScriptFault.{is_node, looked_statements}
+use Rattle.hz_text.specs.ScriptFault.{looked_statements}
 use Rattle.hz_text.specs.ScriptValue.{ScriptOf, IsChange}
-
--- the bit that is assigned to a node, if one is
-abbrev pub bit_at : List Assigned → ℕ → Option Bool
-bit_at [] node = None
-bit_at (first ∷ later) node = if is_node node first.node then first.bit else bit_at later node
-
--- the assignment of a bit to a node
-abbrev pub assignment_to : ℕ × Bool → Assigned
-assignment_to pair = record { node = Some pair.0; bit = Some pair.1 }
-
--- for each of so many nodes, the bit that is assigned to it
-abbrev pub bits_at : List (ℕ × Bool) → ℕ → List (Option Bool)
-bits_at pairs nodes = map (bit_at (map assignment_to pairs)) (range_with_len 0 nodes)
 
 -- the script of a start and changes: at each node the start's bit, and the assignments of each change in their order
 pub record IsScriptBy (nodes : ℕ) (first : Looked) (later : List (Numbered Looked)) (script : ScriptOf) : Type 0 where

@@ -4,9 +4,12 @@ use Rattle.std.specs.Option.{option_map}
 use Rattle.hz_line.specs.Keyword.{is_keyword}
 use Rattle.hz_line.specs.Statement.{Numbered, numbered_statements}
 use Rattle.hz_line.specs.Token.{TokenOf, WordOf}
-use Rattle.hz_text.specs.declared.keyword.Keyword.{Keyword}
-use Rattle.hz_text.specs.declared.keyword.Keyword.TheVariants.{Start, Change}
 use Rattle.hz_text.specs.Assignment.{Assignment, assignments_of}
+
+-- what a statement is
+pub data Keyword : Type 0 where
+  Start : Keyword
+  Change : Keyword
 
 -- a statement: the start or a change, and its assignments
 pub record Statement : Type 0 where

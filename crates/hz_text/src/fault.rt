@@ -1,25 +1,73 @@
 // Why a text is refused.
 
+ghost use Rattle.std.specs.Prelude.{◌≡◌, None, MatchResult, IsSomeAnd};
+
+use hz_core::Memory;
+use hz_line::UnreadText;
+use thiserror::Error;
+
 /// Why a text is refused. Lines are counted from 1. The faults are numbered from 1 in the order in which they stand here;
 /// where several stand in a text, the answer has the least number and, among those, the least line or node.
-#[derive(Clone, Copy, Debug, PartialEq, Eq)]
+#[derive(Clone, Copy, Debug, PartialEq, Eq, Error)]
 pub enum TextFault {
     /// The line is no statement.
+    #[error("form in line {line}")]
     Form { line: u32 },
     /// A name that is assigned in the line is no node or, where only inputs may be assigned, no input; or a step in the line
-    /// names no variable.
+    /// names what is no variable.
+    #[error("unknown in line {line}")]
     Unknown { line: u32 },
     /// A name is assigned twice in the line.
+    #[error("twice in line {line}")]
     Twice { line: u32 },
     /// The start has no value for this node, or the input line of a run text has none for this input.
+    #[error("missing node {node}")]
     Missing { node: u32 },
     /// A word that is assigned in the line is neither `0` nor `1`.
+    #[error("bit in line {line}")]
     Bit { line: u32 },
     /// The line breaks the order of statements. The line is 0 where the text has no statement, and where a run text in order
     /// stops before its end.
+    #[error("order in line {line}")]
     Order { line: u32 },
     /// The line passes a limit.
+    #[error("too many in line {line}")]
     TooMany { line: u32 },
     /// Memory ran out.
+    #[error("out of memory")]
     Memory,
+}
+
+impl From<Memory> for TextFault {
+    ghost use Rattle.hz_text.specs.declared.fault.TextFault.TheVariants as fault;
+    ghost from_gives = { λ _ made. made ≡ fault.Memory };
+
+    fn from(_memory: Memory) -> TextFault {
+        TextFault::Memory
+    }
+}
+
+impl From<UnreadText> for TextFault {
+    ghost use Rattle.hz_text.specs.Rules.{fault_by};
+    ghost from_gives = { λ why made. made ≡ fault_by why };
+
+    fn from(why: UnreadText) -> TextFault {
+        match why {
+            UnreadText::Form { line } => TextFault::Form { line },
+            UnreadText::Memory => TextFault::Memory,
+        }
+    }
+}
+
+// Refuses a text that has this fault at some place.
+pub(crate) fn refuse<F: FnOnce(u32) -> TextFault>(found: Option<u32>, fault: F) -> Result<(), TextFault>
+    requires { F.IsAlwaysCallable fault }
+    ensures { MatchResult result
+        (λ _. found ≡ None)
+        (λ refused. IsSomeAnd found (λ place. F.post fault place refused)) }
+{
+    match found {
+        Some(place) => Err(fault(place)),
+        None => Ok(()),
+    }
 }

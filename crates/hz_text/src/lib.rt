@@ -2,13 +2,14 @@
 //! a network: read from a text and printed.
 #![tactic(auto)]
 
-mod assigned;
+mod assignments;
+mod bits;
 mod fault;
-mod keyword;
 mod limit;
 mod printing;
 mod run;
 mod script;
+mod text;
 
 pub use fault::TextFault;
 pub use limit::MAX_TEXT;

@@ -1,13 +1,11 @@
 //! Run texts: read from a text and printed.
 
 mod build;
-mod check;
-mod entry;
 mod keyword;
 mod order;
-mod passes;
 mod print;
 mod read;
+mod rules;
 mod statement;
 mod text;
 mod variables;

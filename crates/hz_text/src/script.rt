@@ -8,12 +8,10 @@ use hz_net::part_at;
 use std::alloc::Global;
 use std::marker::Model;
 
-pub(crate) mod build;
-mod check;
-mod entry;
-pub(crate) mod passes;
+mod build;
 pub(crate) mod print;
 mod read;
+mod rules;
 mod statement;
 
 pub use print::print_script;
@@ -51,14 +49,19 @@ impl Script {
         ensures start { IfOk result (λ script. script.start ≡ replicate nodes None) }
         ensures changes { IfOk result (λ script. script.changes ≡ []) }
     {
-        let Ok(start) = vec![in alloc; None; nodes as usize] else {
-            return Err(Memory);
-        };
-        Ok(Script {
+        let start = vec![in alloc; None; nodes as usize]?;
+        Ok(Script::of(alloc, start))
+    }
+
+    // A script with this start, and no change.
+    pub(crate) fn of(alloc: Global, start: Vec<Option<bool>>) -> Script
+        ensures { result ≡ record { start = start.items; changes = [] } }
+    {
+        Script {
             start,
             assignments: Vec::new(alloc),
             ends: Vec::new(alloc),
-        })
+        }
     }
 
     /// Lists a node with its bit at the start, in place of the bit that it had.
@@ -76,12 +79,8 @@ impl Script {
         ensures ok { OnOk result (self.new ≡ record self.old { changes = self.old.changes ++ change.now ∷ [] }) }
         ensures err { OnErr result (self.new ≡ self.old) }
     {
-        let Ok(()) = self.ends.reserve(1) else {
-            return Err(Memory);
-        };
-        let Ok(()) = self.assignments.extend_from_slice(change) else {
-            return Err(Memory);
-        };
+        self.ends.reserve(1)?;
+        self.assignments.extend_from_slice(change)?;
         self.ends.push_reserved(self.assignments.len());
         Ok(())
     }

@@ -19,7 +19,7 @@ use Rattle.hz_bench.specs.declared.fault.BenchFault.TheVariants as bench
 use Rattle.hz_bench.specs.Fault as netlist_fault
 use Rattle.hz_text.specs.declared.fault.TextFault.{TextFault}
 use Rattle.hz_text.specs.declared.fault.TextFault.TheVariants as reading
-use Rattle.hz_text.specs.ScriptFault.{IsLeastFaultOf, IsLeastFaultOrMemory}
+use Rattle.hz_text.specs.Fault.{IsLeastFaultOf, IsLeastFaultOrMemory}
 use Rattle.hz_top.specs.declared.status.Status.{Status}
 use Rattle.hz_top.specs.declared.status.Status.TheVariants as status
 use Rattle.hz_top.specs.Outcome.{LoadSays, most_bytes, Unread, Told, told_by, SecondComes}
@@ -92,11 +92,5 @@ netlist-refused text bench.Memory least other = absurd (other refl)
 
 -- a refusal of a text that is not for want of memory is the least of the faults that hold
 pub text-refused : (holds : TextFault → Type 0) (fault : TextFault) → IsLeastFaultOrMemory holds fault → fault ≢ reading.Memory → IsLeastFaultOf holds fault
-text-refused holds (reading.Form line) least other = least
-text-refused holds (reading.Unknown line) least other = least
-text-refused holds (reading.Twice line) least other = least
-text-refused holds (reading.Missing node) least other = least
-text-refused holds (reading.Bit line) least other = least
-text-refused holds (reading.Order line) least other = least
-text-refused holds (reading.TooMany line) least other = least
-text-refused holds reading.Memory least other = absurd (other refl)
+text-refused holds fault (inl memory) other = absurd (other memory)
+text-refused holds fault (inr least) other = least

@@ -4,8 +4,8 @@ use Rattle.hz_core.specs.Netlist.{Netlist, IsCircuit}
 use Rattle.hz_text.specs.declared.fault.TextFault.{TextFault}
 use Rattle.hz_text.specs.declared.fault.TextFault.TheVariants.{Form, Unknown, Twice, Missing, Bit, Order, TooMany, Memory}
 use Rattle.hz_text.specs.RunFault.{looked_run_statements, first_start, first_input, LeavesOut, IsLeftOut, StandsInRuns, IsRunRefusal}
-use Rattle.hz_text.specs.ScriptFault.{looked_statements, IsMissing, Stands, IsLeastFaultOrMemory}
-use Rattle.hz_text.specs.ScriptReading.{IsRefusal}
+use Rattle.hz_text.specs.Fault.{IsLeastFaultOrMemory}
+use Rattle.hz_text.specs.ScriptFault.{looked_statements, IsMissing, Stands, IsRefusal}
 use Rattle.hz_top.specs.Refusal.{named_node, NamesNode}
 
 -- what a start leaves out is an input
@@ -27,14 +27,15 @@ left_out-node netlist text node circuit (inr out) =
 
 -- the node that a refusal names, where each that is missing is a node
 names-node : (netlist : Netlist) (holds : TextFault → Type 0) (fault : TextFault) → ((node : ℕ) → holds (Missing node) → node < length netlist.names) → IsLeastFaultOrMemory holds fault → NamesNode netlist (named_node fault)
-names-node netlist holds (Form line) is_node least = tt
-names-node netlist holds (Unknown line) is_node least = tt
-names-node netlist holds (Twice line) is_node least = tt
-names-node netlist holds (Missing node) is_node least = is_node node least.stands
-names-node netlist holds (Bit line) is_node least = tt
-names-node netlist holds (Order line) is_node least = tt
-names-node netlist holds (TooMany line) is_node least = tt
-names-node netlist holds Memory is_node least = tt
+names-node netlist holds fault is_node (inl memory) = rw memory tt
+names-node netlist holds (Form line) is_node (inr least) = tt
+names-node netlist holds (Unknown line) is_node (inr least) = tt
+names-node netlist holds (Twice line) is_node (inr least) = tt
+names-node netlist holds (Missing node) is_node (inr least) = is_node node least.stands
+names-node netlist holds (Bit line) is_node (inr least) = tt
+names-node netlist holds (Order line) is_node (inr least) = tt
+names-node netlist holds (TooMany line) is_node (inr least) = tt
+names-node netlist holds Memory is_node (inr least) = tt
 
 -- the node that the refusal of a script names
 pub script-node : (netlist : Netlist) (text : List ℕ) (fault : TextFault) → IsCircuit netlist → IsRefusal netlist text fault → NamesNode netlist (named_node fault)

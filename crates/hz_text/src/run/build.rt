@@ -5,20 +5,21 @@ ghost use Rattle.std.specs.List.{flat_map, list_any, range_with_len};
 ghost use Rattle.hz_text.specs.declared.run.order.Place.TheVariants.{Between};
 ghost use Rattle.hz_text.specs.RunStatement.{Run, Step, Cycle, End};
 ghost use Rattle.hz_text.specs.RunLookup.{run_held_by, run_entered_all};
-ghost use Rattle.hz_text.specs.RunFault.{variables_in, place_after, runs_out_of_order};
-ghost use Rattle.hz_text.specs.RunPass.{AssignsBelow, first_run_fault};
-ghost use Rattle.hz_text.specs.RunText.{IsRunTextBy, step_of, run_statements, unnumbered};
-ghost use Rattle.hz_text.specs.RunBuilt.{IsWholeStart, last_place, IsRunAdded};
-ghost use Rattle.hz_text.specs.ScriptText.{bit_at};
+ghost use Rattle.hz_text.specs.RunFault.{variables_in};
+ghost use Rattle.hz_text.specs.OrderPass.{place_after, runs_out_of_order};
+ghost use Rattle.hz_text.specs.RunRules.{AssignsBelow, first_run_fault};
+ghost use Rattle.hz_text.specs.RunText.{IsRunTextBy, step_of, run_statements};
+ghost use Rattle.hz_text.specs.RunOrder.{unnumbered};
+ghost use Rattle.hz_text.specs.RunBuilt.{last_place, IsRunAdded};
+ghost use Rattle.hz_text.specs.Assignment.{bit_at};
+ghost use Rattle.hz_text.specs.Bits.{IsWholeStart};
 
-use crate::assigned::Assigned;
-use crate::run::entry::RunEntry;
+use crate::assignments::Assigned;
+use crate::bits::bits_of;
 use crate::run::order::is_end;
-use crate::run::passes::assignments_in;
-use crate::run::statement::RunHeld;
+use crate::run::rules::assignments_in;
+use crate::run::statement::{RunEntry, RunHeld};
 use crate::run::text::{RunText, ToldRun};
-use crate::script::Script;
-use crate::script::build::{list_all, read_pairs};
 use hz_core::{Circuit, Memory};
 use std::alloc::Global;
 
@@ -47,12 +48,9 @@ fn read_bits(alloc: Global, all: &[Assigned], nodes: u32) -> Result<Vec<bool>, M
     requires { IsWholeStart nodes all.now }
     ensures { IfOk result (λ bits. map Some bits.items ≡ map (bit_at all.now) (range_with_len 0 nodes)) }
 {
-    let mut listed = Script::new(alloc, nodes)?;
-    let mut pairs = Vec::new(alloc);
-    read_pairs(all, &mut pairs)?;
-    list_all(&mut listed, pairs.as_slice());
+    let listed = bits_of(alloc, all, nodes)?;
     let mut bits = Vec::new(alloc);
-    read_known(listed.start(), &mut bits)?;
+    read_known(listed.as_slice(), &mut bits)?;
     Ok(bits)
 }
 
@@ -85,13 +83,10 @@ fn add_statement(
     ensures { OnOk result (IsRunAdded runs.old.items (run_held_by held.now) runs.new.items) }
 {
     match held {
-        RunHeld::Header => unreachable!(),
-        RunHeld::Start(_) => unreachable!(),
-        RunHeld::Input(_) => unreachable!(),
         RunHeld::Run => begin_run(alloc, runs),
         RunHeld::Step(variables) => add_step(runs, variables, flips),
         RunHeld::Cycle => begin_cycle(alloc, runs),
-        RunHeld::End => unreachable!(),
+        _ => unreachable!(),
     }
 }
 
@@ -99,9 +94,7 @@ fn add_statement(
 fn begin_run(alloc: Global, runs: &mut Vec<ToldRun>) -> Result<(), Memory>
     ensures { OnOk result (IsRunAdded runs.old.items Run runs.new.items) }
 {
-    let Ok(_) = runs.push(ToldRun::new(alloc)) else {
-        return Err(Memory);
-    };
+    runs.push(ToldRun::new(alloc))?;
     Ok(())
 }
 
@@ -150,8 +143,6 @@ fn push_known<T: Copy>(known: &mut Vec<T>, value: Option<T>) -> Result<(), Memor
     let Some(value) = value else {
         unreachable!();
     };
-    let Ok(_) = known.push(value) else {
-        return Err(Memory);
-    };
+    known.push(value)?;
     Ok(())
 }

@@ -2,7 +2,7 @@
 
 /// What a statement of a run text begins with.
 #[derive(Clone, Copy, Debug)]
-pub enum RunKeyword {
+pub(crate) enum RunKeyword {
     Runs,
     Start,
     Input,

@@ -2,14 +2,14 @@
 
 ghost use Rattle.std.specs.Prelude.{◌≡◌, ◌≤◌, ◌⊎◌, length, None, IfOk, IfErr, OnOk, IsErrOf, MatchResult};
 ghost use Rattle.hz_text.specs.RunFault.{IsLeastRunFault, IsRunFaultless, IsRunRefusal};
-ghost use Rattle.hz_text.specs.RunPass.{IsAcceptedRun};
+ghost use Rattle.hz_text.specs.RunRules.{IsAcceptedRun};
 ghost use Rattle.hz_text.specs.RunText.{IsRunValue, IsRunTextFor};
 
 use crate::fault::TextFault;
 use crate::run::build::build_runs;
-use crate::run::check::check_runs;
-use crate::run::entry::{RunEntry, read_run_entries};
+use crate::run::statement::{RunEntry, RunStatements};
 use crate::run::text::RunText;
+use crate::text::read_text;
 use bumpalo::Bump;
 use hz_net::Net;
 use std::alloc::Global;
@@ -19,7 +19,7 @@ use std::alloc::Global;
 /// further steps. A wire is written as its gate and its pin, counted from 1, as in `g(2)`. Keywords may be in any letter
 /// case. That a step's variables are unstable and named once is no matter of the text.
 ///
-/// It takes time linear in the text and the circuit.
+/// It takes time linear in the text and the circuit, if the names are not chosen to collide.
 pub fn read_run(alloc: Global, net: &Net, text: &[u8]) -> Result<RunText, TextFault>
     requires { length text.now ≤ 16777216 }
     ensures value { IfOk result (IsRunValue net.now text.now) }
@@ -31,9 +31,7 @@ pub fn read_run(alloc: Global, net: &Net, text: &[u8]) -> Result<RunText, TextFa
 {
     let arena = Bump::new(alloc);
     let entries = read_accepted_runs(alloc, &arena, net, text)?;
-    let Ok(runs) = build_runs(alloc, net.circuit(), entries.as_slice()) else {
-        return Err(TextFault::Memory);
-    };
+    let runs = build_runs(alloc, net.circuit(), entries.as_slice())?;
     Ok(runs)
 }
 
@@ -49,7 +47,12 @@ fn read_accepted_runs<'a>(
         (λ entries. IsAcceptedRun net.now text.now entries.items)
         (λ fault. IsRunRefusal net.now text.now fault) }
 {
-    let entries = read_run_entries(alloc, arena, net, text)?;
-    check_runs(alloc, entries.as_slice(), net.circuit())?;
-    Ok(entries)
+    let variables = Vec::new(alloc);
+    let statements = RunStatements {
+        alloc,
+        arena,
+        net,
+        variables,
+    };
+    read_text(alloc, statements, text)
 }

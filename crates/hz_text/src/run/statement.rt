@@ -1,18 +1,24 @@
-// The statement of a line of a run text, looked up in a network.
+// The statements of a run text, looked up in a network.
 
-ghost use Rattle.std.specs.Prelude.{◌≡◌, map, Some, None, MatchResult};
-ghost use Rattle.hz_line.specs.Statement.{meaning_of};
+ghost use Rattle.std.specs.Prelude.{◌≡◌, length, map, IfOk, MatchResult, Some};
+ghost use Rattle.std.specs.Option.{option_map};
+ghost use Rattle.hz_line.specs.Reading.{entered_by, IsUnread};
 ghost use Rattle.hz_line.specs.Token.{token_of};
-ghost use Rattle.hz_text.specs.Lookup.{IsUnread};
+ghost use Rattle.hz_text.specs.Rules.{AreBelow};
 ghost use Rattle.hz_text.specs.RunStatement.{run_keyword_of, is_version};
-ghost use Rattle.hz_text.specs.RunLookup.{run_looked_by, run_looked_with, run_held_by};
-ghost use Rattle.hz_text.specs.Reading.{meaning_read, IsUnreadLine};
+ghost use Rattle.hz_text.specs.RunLookup.{run_looked_by, run_looked_with, run_held_by, run_keyword_by};
+ghost use Rattle.hz_text.specs.RunFault.{assignments_in};
+ghost use Rattle.hz_text.specs.RunRules.{run_rules};
 
-use crate::assigned::{Assigned, Unread, read_assignments};
+use crate::assignments::{Assigned, any_without_bit, read_assignments};
 use crate::run::keyword::RunKeyword;
+use crate::run::order::first_out_of_order;
+use crate::run::rules::{assignments_in, least_missing_node, line_beyond, names_unknown};
 use crate::run::variables::read_variables;
+use crate::text::Text;
 use bumpalo::Bump;
-use hz_line::{LineFault, Token, is_keyword, read_tokens};
+use hz_core::Memory;
+use hz_line::{Numbered, Token, Unread, is_keyword};
 use hz_net::Net;
 use std::alloc::Global;
 
@@ -28,52 +34,89 @@ pub(crate) enum RunHeld<'a> {
     End,
 }
 
-// The statement of a line, if it has tokens. The tokens and variables are those of earlier lines, and are replaced.
-pub(crate) fn read_run_line<'a, 't>(
-    alloc: Global,
-    arena: &'a Bump,
-    net: &Net,
-    line: &'t [u8],
-    tokens: &mut Vec<Token<'t>>,
-    variables: &mut Vec<Option<u32>>,
-) -> Result<Option<RunHeld<'a>>, Unread>
-    ensures { MatchResult result
-        (λ read. meaning_of (run_looked_by net.now) line.now ≡ meaning_read run_held_by read)
-        (λ why. IsUnreadLine why (meaning_of (run_looked_by net.now) line.now)) }
-{
-    match read_tokens(line, tokens) {
-        Ok(()) => {}
-        Err(LineFault::Forbidden) => return Err(Unread::Form),
-        Err(LineFault::Memory) => return Err(Unread::Memory),
-    }
-    if tokens.is_empty() {
-        return Ok(None);
-    }
-    match read_run_statement(alloc, arena, net, tokens.as_slice(), variables) {
-        Ok(held) => Ok(Some(held)),
-        Err(why) => Err(why),
-    }
+/// A statement with its line.
+pub(crate) type RunEntry<'a> = Numbered<RunHeld<'a>>;
+
+/// The statements of a run text of a network. The variables of steps are laid into the arena; those of one step are gathered
+/// in `variables` before.
+#[derive(Drop)]
+pub(crate) struct RunStatements<'a, 'n> {
+    pub(crate) alloc: Global,
+    pub(crate) arena: &'a Bump,
+    pub(crate) net: &'n Net,
+    pub(crate) variables: Vec<Option<u32>>,
 }
 
-// The statement that tokens are.
-fn read_run_statement<'a>(
-    alloc: Global,
-    arena: &'a Bump,
-    net: &Net,
-    tokens: &[Token],
-    variables: &mut Vec<Option<u32>>,
-) -> Result<RunHeld<'a>, Unread>
-    ensures { MatchResult result
-        (λ held. run_looked_by net.now (map token_of tokens.now) ≡ Some (run_held_by held))
-        (λ why. IsUnread why (run_looked_by net.now (map token_of tokens.now))) }
-{
-    let [Token::Word(word), rest @ ..] = tokens else {
-        return Err(Unread::Form);
-    };
-    let Some(keyword) = run_keyword(word) else {
-        return Err(Unread::Form);
-    };
-    read_statement_of(alloc, arena, net, keyword, rest, variables)
+impl<'a, 'n, 't> Text<'t> for RunStatements<'a, 'n> {
+    ghost use Rattle.std.specs.Prelude.{length};
+    ghost use Rattle.hz_core.specs.Netlist.{Netlist};
+    ghost use Rattle.hz_text.specs.RunLookup.{LookedRun, run_held_by, run_looked_by};
+    ghost use Rattle.hz_text.specs.RunRules.{run_rules};
+
+    type Held = RunHeld<'a>;
+
+    ghost Context = { Netlist };
+
+    ghost context = { λ reader. reader.net.now };
+
+    ghost Stated = { LookedRun };
+
+    ghost stated = { run_held_by };
+
+    ghost grammar = { run_looked_by };
+
+    ghost rules = { run_rules };
+
+    ghost node_count = { λ netlist. length netlist.names };
+
+    fn statement(&mut self, tokens: &[Token<'t>]) -> Result<RunHeld<'a>, Unread> {
+        let [Token::Word(word), rest @ ..] = tokens else {
+            return Err(Unread::Form);
+        };
+        let Some(keyword) = run_keyword(word) else {
+            return Err(Unread::Form);
+        };
+        read_statement_of(
+            self.alloc,
+            self.arena,
+            self.net,
+            keyword,
+            rest,
+            &mut self.variables,
+        )
+    }
+
+    fn node_count(&self) -> u32 {
+        self.net.circuit().nodes()
+    }
+
+    fn assigned<'h>(&self, held: &'h RunHeld<'a>) -> &'h [Assigned] {
+        assignments_in(held)
+    }
+
+    fn is_unknown(&self, held: &RunHeld<'a>) -> bool {
+        names_unknown(held, self.net.circuit().inputs())
+    }
+
+    fn lacks_bit(&self, held: &RunHeld<'a>) -> bool {
+        any_without_bit(assignments_in(held))
+    }
+
+    fn least_missing(
+        &self,
+        alloc: Global,
+        entries: &[RunEntry<'a>],
+    ) -> Result<Option<u32>, Memory> {
+        least_missing_node(alloc, entries, self.net.circuit())
+    }
+
+    fn first_out_of_order(&self, entries: &[RunEntry<'a>]) -> Option<u32> {
+        first_out_of_order(entries)
+    }
+
+    fn line_beyond(&self, entries: &[RunEntry<'a>]) -> Option<u32> {
+        line_beyond(entries)
+    }
 }
 
 // The statement of a keyword and the tokens after it.
@@ -85,27 +128,19 @@ fn read_statement_of<'a>(
     rest: &[Token],
     variables: &mut Vec<Option<u32>>,
 ) -> Result<RunHeld<'a>, Unread>
-    ensures { MatchResult result
-        (λ held. run_looked_with net.now (Some keyword) (map token_of rest.now) ≡ Some (run_held_by held))
-        (λ why. IsUnread why (run_looked_with net.now (Some keyword) (map token_of rest.now))) }
+    ensures read { MatchResult result
+        (λ held. run_looked_with net.now (Some (run_keyword_by keyword)) (map token_of rest.now) ≡ Some (run_held_by held))
+        (λ why. IsUnread (run_looked_with net.now (Some (run_keyword_by keyword)) (map token_of rest.now)) why) }
+    ensures below { IfOk result (λ held. AreBelow (length net.now.names) (assignments_in (run_held_by held))) }
 {
     match keyword {
         RunKeyword::Runs if is_version(rest) => Ok(RunHeld::Header),
         RunKeyword::Runs => Err(Unread::Form),
-        RunKeyword::Start => match read_assignments(alloc, net.circuit(), rest) {
-            Ok(assigned) => Ok(RunHeld::Start(assigned)),
-            Err(why) => Err(why),
-        },
-        RunKeyword::Input => match read_assignments(alloc, net.circuit(), rest) {
-            Ok(assigned) => Ok(RunHeld::Input(assigned)),
-            Err(why) => Err(why),
-        },
+        RunKeyword::Start => Ok(RunHeld::Start(read_assignments(alloc, net.circuit(), rest)?)),
+        RunKeyword::Input => Ok(RunHeld::Input(read_assignments(alloc, net.circuit(), rest)?)),
         RunKeyword::Run if rest.is_empty() => Ok(RunHeld::Run),
         RunKeyword::Run => Err(Unread::Form),
-        RunKeyword::Step => match read_variables(arena, net, rest, variables) {
-            Ok(variables) => Ok(RunHeld::Step(variables)),
-            Err(why) => Err(why),
-        },
+        RunKeyword::Step => Ok(RunHeld::Step(read_variables(arena, net, rest, variables)?)),
         RunKeyword::Cycle if rest.is_empty() => Ok(RunHeld::Cycle),
         RunKeyword::Cycle => Err(Unread::Form),
         RunKeyword::End if rest.is_empty() => Ok(RunHeld::End),
@@ -126,7 +161,7 @@ fn is_version(rest: &[Token]) -> bool
 // The keyword that a word is, in any letter case.
 #[tactic(auto, unfolding(crate::specs::RunStatement::run_keyword_of))]
 fn run_keyword(word: &[u8]) -> Option<RunKeyword>
-    ensures { result ≡ run_keyword_of word.now }
+    ensures { option_map run_keyword_by result ≡ run_keyword_of word.now }
 {
     if is_keyword(word, b"runs") {
         Some(RunKeyword::Runs)

@@ -42,10 +42,7 @@ impl ToldRun {
     pub(crate) fn begin_cycle(&mut self, alloc: Global) -> Result<(), Memory>
         ensures { OnOk result (self.new ≡ record self.old { cycle = Some [] }) }
     {
-        let Ok(cycle) = Box::new(alloc, Run::new(alloc)) else {
-            return Err(Memory);
-        };
-        self.cycle = Some(cycle);
+        self.cycle = Some(Box::new(alloc, Run::new(alloc))?);
         Ok(())
     }
 
@@ -67,10 +64,7 @@ fn boxed(alloc: Global, cycle: Option<Run>) -> Result<Option<Box<Run>>, Memory>
     let Some(cycle) = cycle else {
         return Ok(None);
     };
-    let Ok(boxed) = Box::new(alloc, cycle) else {
-        return Err(Memory);
-    };
-    Ok(Some(boxed))
+    Ok(Some(Box::new(alloc, cycle)?))
 }
 
 // Adds a step to a run.
@@ -104,12 +98,8 @@ impl RunText {
     pub fn new(alloc: Global, nodes: &[bool], input: &[bool]) -> Result<RunText, Memory>
         ensures { IfOk result (λ text. text ≡ record { nodes = nodes.now; input = input.now; runs = [] }) }
     {
-        let Ok(nodes) = Vec::from_slice(alloc, nodes) else {
-            return Err(Memory);
-        };
-        let Ok(input) = Vec::from_slice(alloc, input) else {
-            return Err(Memory);
-        };
+        let nodes = Vec::from_slice(alloc, nodes)?;
+        let input = Vec::from_slice(alloc, input)?;
         Ok(RunText::of(nodes, input, Vec::new(alloc)))
     }
 
@@ -126,9 +116,7 @@ impl RunText {
         ensures err { OnErr result (self.new ≡ self.old) }
     {
         let cycle = boxed(*self.runs.allocator(), cycle)?;
-        let Ok(()) = self.runs.push(ToldRun { lead, cycle }) else {
-            return Err(Memory);
-        };
+        self.runs.push(ToldRun { lead, cycle })?;
         Ok(())
     }
 

@@ -5,14 +5,13 @@ ghost use Rattle.std.specs.List.{list_all};
 ghost use Rattle.hz_line.specs.declared.bytes.Mark.TheVariants.{Open};
 ghost use Rattle.hz_line.specs.declared.tokens.Token.TheVariants.{Sign};
 ghost use Rattle.hz_line.specs.Token.{token_of};
-ghost use Rattle.hz_text.specs.Lookup.{IsUnread};
+ghost use Rattle.hz_line.specs.Reading.{IsUnread};
 ghost use Rattle.hz_text.specs.RunStatement.{is_digit, is_decimal, number_by};
 ghost use Rattle.hz_text.specs.RunLookup.{wire_into, variables_by};
 ghost use Rattle.hz_text.specs.VariablesRead.{IsPinAfter, IsFirstVariable};
 
-use crate::assigned::Unread;
 use bumpalo::Bump;
-use hz_line::{Mark, Token};
+use hz_line::{Mark, Token, Unread};
 use hz_net::Net;
 
 // The most pins of a gate.
@@ -46,7 +45,7 @@ pub(crate) fn read_variables<'a>(
 ) -> Result<&'a [Option<u32>], Unread>
     ensures { MatchResult result
         (λ laid. variables_by net.now (map token_of tokens.now) ≡ Some laid.now)
-        (λ why. IsUnread why (variables_by net.now (map token_of tokens.now))) }
+        (λ why. IsUnread (variables_by net.now (map token_of tokens.now)) why) }
 {
     read.clear();
     let mut place = 0;
@@ -54,9 +53,7 @@ pub(crate) fn read_variables<'a>(
         match first_variable(net, &tokens[place..]) {
             First::Malformed => return Err(Unread::Form),
             First::Variable(variable, taken) => {
-                let Ok(_) = read.push(variable) else {
-                    return Err(Unread::Memory);
-                };
+                read.push(variable)?;
                 place += taken;
             }
         }

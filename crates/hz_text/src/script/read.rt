@@ -1,22 +1,22 @@
 //! Reading scripts.
 
 ghost use Rattle.std.specs.Prelude.{◌≡◌, ◌≤◌, ◌⊎◌, length, IfOk, IfErr, OnOk, IsErrOf, MatchResult};
-ghost use Rattle.hz_text.specs.ScriptFault.{IsLeastFault, IsFaultless};
-ghost use Rattle.hz_text.specs.ScriptReading.{IsAccepted, IsRefusal};
+ghost use Rattle.hz_text.specs.ScriptFault.{IsLeastFault, IsFaultless, IsRefusal};
+ghost use Rattle.hz_text.specs.ScriptReading.{IsAccepted};
 ghost use Rattle.hz_text.specs.ScriptText.{IsValue, IsScriptFor};
 
 use crate::fault::TextFault;
 use crate::script::Script;
 use crate::script::build::build;
-use crate::script::check::check;
-use crate::script::entry::{Entry, read_entries};
+use crate::script::statement::{Entry, Statements};
+use crate::text::read_text;
 use hz_core::Circuit;
 use std::alloc::Global;
 
 /// Reads a script of a circuit: a line `start`, then lines `change`, each with assignments `name = bit`. The start lists
 /// every input and may list gates; a change lists inputs. Keywords may be in any letter case.
 ///
-/// It takes time linear in the text and the circuit.
+/// It takes time linear in the text and the circuit, if the names are not chosen to collide.
 pub fn read_script(alloc: Global, circuit: &Circuit, text: &[u8]) -> Result<Script, TextFault>
     requires { length text.now ≤ 16777216 }
     ensures value { IfOk result (IsValue circuit.now text.now) }
@@ -27,9 +27,7 @@ pub fn read_script(alloc: Global, circuit: &Circuit, text: &[u8]) -> Result<Scri
         → IsErrOf result fault ⊎ IsErrOf result TextFault.Memory }
 {
     let entries = read_accepted(alloc, circuit, text)?;
-    let Ok(script) = build(alloc, circuit.nodes(), entries.as_slice()) else {
-        return Err(TextFault::Memory);
-    };
+    let script = build(alloc, circuit.nodes(), entries.as_slice())?;
     Ok(script)
 }
 
@@ -40,7 +38,5 @@ fn read_accepted(alloc: Global, circuit: &Circuit, text: &[u8]) -> Result<Vec<En
         (λ entries. IsAccepted circuit.now text.now entries.items)
         (λ fault. IsRefusal circuit.now text.now fault) }
 {
-    let entries = read_entries(alloc, circuit, text)?;
-    check(alloc, entries.as_slice(), circuit.inputs(), circuit.nodes())?;
-    Ok(entries)
+    read_text(alloc, Statements { alloc, circuit }, text)
 }

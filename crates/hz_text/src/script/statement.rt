@@ -1,17 +1,27 @@
-// The statement of a line of a script, looked up in a circuit.
+// The statements of a script, looked up in a circuit.
 
-ghost use Rattle.std.specs.Prelude.{◌≡◌, map, Some, None, MatchResult};
-ghost use Rattle.hz_line.specs.Statement.{meaning_of};
+ghost use Rattle.std.specs.Prelude.{◌≡◌, IsSome, length, map, IfOk, MatchResult, Some};
+ghost use Rattle.std.specs.Option.{option_map};
+ghost use Rattle.hz_line.specs.Reading.{entered_by, IsUnread};
 ghost use Rattle.hz_line.specs.Token.{token_of};
+ghost use Rattle.hz_text.specs.Rules.{AreBelow};
 ghost use Rattle.hz_text.specs.Statement.{keyword_of};
-ghost use Rattle.hz_text.specs.Lookup.{looked_by, held_by, IsUnread};
-ghost use Rattle.hz_text.specs.Reading.{meaning_read, IsUnreadLine};
+ghost use Rattle.hz_text.specs.Lookup.{held_by, keyword_by, looked_by};
+ghost use Rattle.hz_text.specs.ScriptRules.{script_rules};
 
-use crate::assigned::{Assigned, Unread, read_assignments};
-use crate::keyword::Keyword;
-use hz_core::Circuit;
-use hz_line::{LineFault, Token, is_keyword, read_tokens};
+use crate::assignments::{Assigned, any_without_bit, read_assignments};
+use crate::script::rules::{first_out_of_order, has_unknown, least_missing, line_beyond};
+use crate::text::Text;
+use hz_core::{Circuit, Memory};
+use hz_line::{Numbered, Token, Unread, is_keyword};
 use std::alloc::Global;
+
+/// What a statement of a script is.
+#[derive(Clone, Copy, Debug)]
+pub(crate) enum Keyword {
+    Start,
+    Change,
+}
 
 /// A statement: the start or a change, and what it assigns.
 #[derive(Debug, Drop)]
@@ -20,51 +30,82 @@ pub(crate) struct Held {
     pub(crate) assigned: Vec<Assigned>,
 }
 
-// The statement of a line, if it has tokens. The tokens are those of an earlier line, and are replaced.
-pub(crate) fn read_line<'a>(
-    alloc: Global,
-    circuit: &Circuit,
-    line: &'a [u8],
-    tokens: &mut Vec<Token<'a>>,
-) -> Result<Option<Held>, Unread>
-    ensures { MatchResult result
-        (λ read. meaning_of (looked_by circuit.now) line.now ≡ meaning_read held_by read)
-        (λ why. IsUnreadLine why (meaning_of (looked_by circuit.now) line.now)) }
-{
-    match read_tokens(line, tokens) {
-        Ok(()) => {}
-        Err(LineFault::Forbidden) => return Err(Unread::Form),
-        Err(LineFault::Memory) => return Err(Unread::Memory),
-    }
-    if tokens.is_empty() {
-        return Ok(None);
-    }
-    match read_statement(alloc, circuit, tokens.as_slice()) {
-        Ok(held) => Ok(Some(held)),
-        Err(why) => Err(why),
-    }
+/// A statement with its line.
+pub(crate) type Entry = Numbered<Held>;
+
+/// The statements of a script of a circuit.
+#[derive(Drop)]
+pub(crate) struct Statements<'c> {
+    pub(crate) alloc: Global,
+    pub(crate) circuit: &'c Circuit,
 }
 
-// The statement that tokens are.
-fn read_statement(alloc: Global, circuit: &Circuit, tokens: &[Token]) -> Result<Held, Unread>
-    ensures { MatchResult result
-        (λ held. looked_by circuit.now (map token_of tokens.now) ≡ Some (held_by held))
-        (λ why. IsUnread why (looked_by circuit.now (map token_of tokens.now))) }
-{
-    let [Token::Word(word), rest @ ..] = tokens else {
-        return Err(Unread::Form);
-    };
-    let Some(keyword) = keyword(word) else {
-        return Err(Unread::Form);
-    };
-    let assigned = read_assignments(alloc, circuit, rest)?;
-    Ok(Held { keyword, assigned })
+impl<'c, 't> Text<'t> for Statements<'c> {
+    ghost use Rattle.std.specs.Prelude.{length};
+    ghost use Rattle.hz_core.specs.Netlist.{Netlist};
+    ghost use Rattle.hz_text.specs.Lookup.{Looked, held_by, looked_by};
+    ghost use Rattle.hz_text.specs.ScriptRules.{script_rules};
+
+    type Held = Held;
+
+    ghost Context = { Netlist };
+
+    ghost context = { λ reader. reader.circuit.now };
+
+    ghost Stated = { Looked };
+
+    ghost stated = { held_by };
+
+    ghost grammar = { looked_by };
+
+    ghost rules = { λ netlist. script_rules netlist.inputs };
+
+    ghost node_count = { λ netlist. length netlist.names };
+
+    fn statement(&mut self, tokens: &[Token<'t>]) -> Result<Held, Unread> {
+        let [Token::Word(word), rest @ ..] = tokens else {
+            return Err(Unread::Form);
+        };
+        let Some(keyword) = read_keyword(word) else {
+            return Err(Unread::Form);
+        };
+        let assigned = read_assignments(self.alloc, self.circuit, rest)?;
+        Ok(Held { keyword, assigned })
+    }
+
+    fn node_count(&self) -> u32 {
+        self.circuit.nodes()
+    }
+
+    fn assigned<'h>(&self, held: &'h Held) -> &'h [Assigned] {
+        held.assigned.as_slice()
+    }
+
+    fn is_unknown(&self, held: &Held) -> bool {
+        has_unknown(held, self.circuit.inputs())
+    }
+
+    fn lacks_bit(&self, held: &Held) -> bool {
+        any_without_bit(held.assigned.as_slice())
+    }
+
+    fn least_missing(&self, alloc: Global, entries: &[Entry]) -> Result<Option<u32>, Memory> {
+        least_missing(alloc, entries, self.circuit.inputs())
+    }
+
+    fn first_out_of_order(&self, entries: &[Entry]) -> Option<u32> {
+        first_out_of_order(entries)
+    }
+
+    fn line_beyond(&self, entries: &[Entry]) -> Option<u32> {
+        line_beyond(entries)
+    }
 }
 
 // The keyword that a word is, in any letter case.
 #[tactic(auto, unfolding(crate::specs::Statement::keyword_of))]
-fn keyword(word: &[u8]) -> Option<Keyword>
-    ensures { result ≡ keyword_of word.now }
+fn read_keyword(word: &[u8]) -> Option<Keyword>
+    ensures { option_map keyword_by result ≡ keyword_of word.now }
 {
     if is_keyword(word, b"start") {
         Some(Keyword::Start)

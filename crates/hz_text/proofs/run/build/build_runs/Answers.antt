@@ -2,14 +2,15 @@ use Rattle.std.proofs.Common.{◌≡◌, ◌∙◌, ◌-◌, List, None, false, 
 use Rattle.std.specs.List.{All, list_any, range_with_len}
 use Rattle.std.specs.Option.{is_none}
 use Rattle.std.proofs.lemmas.List.{length-drop, take_all}
-use Rattle.hz_text.specs.declared.run.entry.RunEntry.{RunEntry}
 use Rattle.hz_text.specs.declared.run.order.Place.TheVariants.{Between}
 use Rattle.hz_text.specs.RunStatement.{Header, Start, Input}
-use Rattle.hz_text.specs.RunLookup.{run_entered_all, run_held_by}
-use Rattle.hz_text.specs.RunFault.{runs_out_of_order, variables_in}
-use Rattle.hz_text.specs.RunText.{IsRunTextBy, unnumbered}
+use Rattle.hz_text.specs.RunLookup.{RunEntry, run_entered_all, run_held_by}
+use Rattle.hz_text.specs.OrderPass.{runs_out_of_order}
+use Rattle.hz_text.specs.RunFault.{variables_in}
+use Rattle.hz_text.specs.RunText.{IsRunTextBy}
+use Rattle.hz_text.specs.RunOrder.{unnumbered}
 use Rattle.hz_text.specs.RunValue.{RunTextOf}
-use Rattle.hz_text.specs.ScriptText.{bit_at}
+use Rattle.hz_text.specs.Assignment.{bit_at}
 use Rattle.hz_text.proofs.RunBuildLaws.{ready, assigned_at}
 use Rattle.hz_text.proofs.run.build.build_runs.Goals as goal
 

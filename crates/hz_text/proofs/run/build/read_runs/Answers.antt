@@ -4,11 +4,12 @@ use Rattle.std.specs.Option.{is_none, IsSome}
 use Rattle.std.proofs.lemmas.List.{drop_all}
 use Rattle.std.proofs.lemmas.Option.{none-some}
 use Rattle.hz_line.specs.Statement.{Numbered}
-use Rattle.hz_text.specs.declared.run.entry.RunEntry.{RunEntry}
 use Rattle.hz_text.specs.declared.run.order.Place.{Place}
-use Rattle.hz_text.specs.RunLookup.{LookedRun, run_entered, run_entered_all, run_held_by}
-use Rattle.hz_text.specs.RunFault.{variables_in, runs_out_of_order}
-use Rattle.hz_text.specs.RunText.{run_statements, unnumbered}
+use Rattle.hz_text.specs.RunLookup.{RunEntry, LookedRun, run_entered, run_entered_all, run_held_by}
+use Rattle.hz_text.specs.RunFault.{variables_in}
+use Rattle.hz_text.specs.OrderPass.{runs_out_of_order}
+use Rattle.hz_text.specs.RunText.{run_statements}
+use Rattle.hz_text.specs.RunOrder.{unnumbered}
 use Rattle.hz_text.specs.RunBuilt.{last_place}
 use Rattle.hz_text.proofs.RunBuildLaws.{entries-at, next_in_order, ended}
 use Rattle.hz_text.proofs.run.build.read_runs.Goals as goal

@@ -1,8 +1,9 @@
 use Rattle.std.proofs.Common.{◌≡◌, ◌++◌, None, drop}
 use Rattle.std.specs.List.{flat_map}
-use Rattle.hz_text.specs.RunFault.{runs_out_of_order}
+use Rattle.hz_text.specs.OrderPass.{runs_out_of_order}
 use Rattle.hz_text.specs.RunLookup.{run_entered_all}
-use Rattle.hz_text.specs.RunText.{run_statements, unnumbered}
+use Rattle.hz_text.specs.RunText.{run_statements}
+use Rattle.hz_text.specs.RunOrder.{unnumbered}
 use Rattle.hz_text.specs.RunBuilt.{last_place}
 use Rattle.hz_text.proofs.run.build.read_runs.Given as goal
 

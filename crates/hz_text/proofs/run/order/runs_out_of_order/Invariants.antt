@@ -1,6 +1,6 @@
 use Rattle.std.proofs.Common.{◌≡◌, length}
 use Rattle.hz_text.specs.declared.run.order.Place.TheVariants.{Between}
-use Rattle.hz_text.specs.RunFault.{runs_out_of_order}
+use Rattle.hz_text.specs.OrderPass.{runs_out_of_order}
 use Rattle.hz_text.specs.RunLookup.{run_entered_all}
 use Rattle.hz_text.proofs.run.order.runs_out_of_order.Given as goal
 

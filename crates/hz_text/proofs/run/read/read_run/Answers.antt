@@ -1,7 +1,8 @@
 use Rattle.std.proofs.Common.{List, ap, subst, inl, inr, Err}
 use Rattle.hz_line.specs.Statement.{Numbered}
 use Rattle.hz_text.specs.RunLookup.{LookedRun, run_entered_all}
-use Rattle.hz_text.specs.RunText.{IsRunTextBy, unnumbered}
+use Rattle.hz_text.specs.RunText.{IsRunTextBy}
+use Rattle.hz_text.specs.RunOrder.{unnumbered}
 use Rattle.hz_text.proofs.RunBuildLaws.{clear_run, long_enough}
 use Rattle.hz_text.proofs.RunUsableLaws.{usable_run}
 use Rattle.std.proofs.lemmas.Result.{err_from_is_err_and}
@@ -25,11 +26,11 @@ build_runs-requires-clause-some c =
 pub returns-clause-value : goal.returns-clause-value
 returns-clause-value c =
     let is = c.in_ok-entries.ensures in
-    let built = rw (c.circuit.ensures.same, c.as_slice.ensures.value) at c.in-Ok.ensures in
-    let P : List (Numbered LookedRun) → Type 0 = λ statements. IsRunTextBy c.args.net.now (unnumbered statements) c.in-Ok.runs in
+    let built = rw (c.circuit.ensures.same, c.as_slice.ensures.value) at c.in_ok-runs.ensures in
+    let P : List (Numbered LookedRun) → Type 0 = λ statements. IsRunTextBy c.args.net.now (unnumbered statements) c.in_ok-runs.runs in
     subst P is.statements built
 
 pub returns-clause-usable : goal.returns-clause-usable
 returns-clause-usable c =
-    let built = rw (c.circuit.ensures.same, c.as_slice.ensures.value) at c.in-Ok.ensures in
-    usable_run c.args.net.now c.args.text.now c.in_ok-entries.entries.items c.in-Ok.runs c.in_ok-entries.ensures built
+    let built = rw (c.circuit.ensures.same, c.as_slice.ensures.value) at c.in_ok-runs.ensures in
+    usable_run c.args.net.now c.args.text.now c.in_ok-entries.entries.items c.in_ok-runs.runs c.circuit.ensures.circuit c.in_ok-entries.ensures built

@@ -16,5 +16,5 @@ loop-place-preserved c =
     let first = subst P whole c.in-Variable.ensures in
     record {
       within = omega (arith, first.2, c.loop-place.invariant.within, length-drop place tokens);
-      read = variable_step c.args.net.now tokens place c.in-Variable.taken c.in-Variable.variable c.loop-place.read.items c.push.new.self.items c.loop-place.invariant.read first.0 c.in-Ok.ensures.items;
+      read = variable_step c.args.net.now tokens place c.in-Variable.taken c.in-Variable.variable c.loop-place.read.items c.push.new.self.items c.loop-place.invariant.read first.0 c.in_ok-push-in-Variable.ensures.items;
     }

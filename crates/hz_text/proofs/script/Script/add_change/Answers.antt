@@ -11,7 +11,7 @@ pub invariant_of-self-2 : goal.invariant_of-self-2
 invariant_of-self-2 c =
     let inside = c.self.inside in
     let change = c.args.change.now in
-    let items : c.extend_from_slice.new.self.items ≡ inside.assignments.items ++ change = c.in-Ok-extend_from_slice.ensures.items in
+    let items : c.extend_from_slice.new.self.items ≡ inside.assignments.items ++ change = c.in_ok-extend_from_slice.ensures.items in
     let long : c.len.result ≡ length c.extend_from_slice.new.self.items = c.len.ensures ∙ c.extend_from_slice.new.self.ok.0 in
     let ends : c.push_reserved.new.self.items ≡ inside.ends.items ++ length c.extend_from_slice.new.self.items ∷ [] = rw (← long, ← c.reserve.ensures.items) c.push_reserved.ensures.items in
     let grown = parts-grown inside.ends.items c.push_reserved.new.self.items inside.assignments.items c.extend_from_slice.new.self.items change items ends c.self.invariant.ends in
@@ -26,7 +26,7 @@ pub returns-clause-ok : goal.returns-clause-ok
 returns-clause-ok c =
     let inside = c.self.inside in
     let change = c.args.change.now in
-    let items : c.extend_from_slice.new.self.items ≡ inside.assignments.items ++ change = c.in-Ok-extend_from_slice.ensures.items in
+    let items : c.extend_from_slice.new.self.items ≡ inside.assignments.items ++ change = c.in_ok-extend_from_slice.ensures.items in
     let long : c.len.result ≡ length c.extend_from_slice.new.self.items = c.len.ensures ∙ c.extend_from_slice.new.self.ok.0 in
     let ends : c.push_reserved.new.self.items ≡ inside.ends.items ++ length c.extend_from_slice.new.self.items ∷ [] = rw (← long, ← c.reserve.ensures.items) c.push_reserved.ensures.items in
     let grown = parts-grown inside.ends.items c.push_reserved.new.self.items inside.assignments.items c.extend_from_slice.new.self.items change items ends c.self.invariant.ends in

@@ -1,9 +1,9 @@
 use Rattle.std.proofs.Common.{◌≡◌, ◌∙◌, length, map, ap, arith}
 use Rattle.std.specs.List.{filter_map}
 use Rattle.hz_text.specs.Lookup.{held_by}
-use Rattle.hz_text.specs.Pass.{pair_of}
+use Rattle.hz_text.specs.Bits.{pair_of}
 use Rattle.hz_text.specs.ScriptValue.{ScriptOf}
-use Rattle.hz_text.specs.ScriptText.{assignment_to}
+use Rattle.hz_text.specs.Assignment.{assignment_to}
 use Rattle.hz_text.proofs.BuildLemmas.{pairs_back, change_of, entry_sound, changes_step, changes_counted}
 use Rattle.hz_text.proofs.script.build.add_changes.Goals as goal
 
@@ -11,7 +11,7 @@ pub add_change-requires-clause-change : goal.add_change-requires-clause-change
 add_change-requires-clause-change c =
     let nodes = length c.args.script.now.start in
     let sound = entry_sound nodes c.args.entries.now c.loop-entry.entry-index c.entry-item.result c.loop-entry-test.true c.entry-item.is c.requires.sound in
-    rw (c.as_slice-in-loop-entry.ensures.value, c.in_ok-read_pairs.ensures, c.as_slice.ensures.value, c.loop-entry.invariant.start) (change_of nodes (held_by c.entry-item.result.held) sound)
+    rw (c.as_slice-in-loop-entry.ensures.value, c.in_ok-read_pairs.ensures, c.as_slice.ensures.value, c.loop-entry.invariant.start) (change_of nodes c.entry-item.result.held.assigned.items sound)
 
 pub add_change-requires-clause-few : goal.add_change-requires-clause-few
 add_change-requires-clause-few c =

@@ -1,6 +1,6 @@
 use Rattle.std.proofs.Common.{◌≡◌, take, map}
-use Rattle.hz_text.specs.Pass.{entered_all}
-use Rattle.hz_text.specs.ScriptText.{assignment_to}
+use Rattle.hz_text.specs.Lookup.{entered_all}
+use Rattle.hz_text.specs.Assignment.{assignment_to}
 use Rattle.hz_text.proofs.script.build.add_changes.Given as goal
 
 abbrev pub invariant-loop-entry : goal.invariant-loop-entry

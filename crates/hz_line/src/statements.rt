@@ -1,0 +1,154 @@
+// The statements of a text in a grammar.
+
+ghost use Rattle.std.specs.Prelude.{◌≡◌, ◌≤◌, length, map, All, Some, IfOk, IfSome, MatchResult};
+ghost use Rattle.hz_line.specs.Statement.{meaning_of};
+ghost use Rattle.hz_line.specs.Token.{token_of};
+ghost use Rattle.hz_line.specs.Reading.{entered_by, meaning_read, IsRead, IsUnread, IsUnreadLine, IsUnreadText};
+
+use crate::lines::cut_line;
+use crate::tokens::{LineFault, Token, read_tokens};
+use std::alloc::{AllocFailed, Global};
+use thiserror::Error;
+
+/// Why tokens were not read.
+#[derive(Clone, Copy, Debug, PartialEq, Eq, Error)]
+pub enum Unread {
+    /// They are nothing of the kind that was to be read.
+    #[error("form")]
+    Form,
+    /// Memory ran out.
+    #[error("out of memory")]
+    Memory,
+}
+
+/// Why the statements of a text were not read.
+#[derive(Clone, Copy, Debug, PartialEq, Eq, Error)]
+pub enum UnreadText {
+    /// The line, counted from 1, is the first that is malformed.
+    #[error("form in line {line}")]
+    Form { line: u32 },
+    /// Memory ran out.
+    #[error("out of memory")]
+    Memory,
+}
+
+impl<T: Drop> From<AllocFailed<T>> for Unread {
+    ghost use Rattle.hz_line.specs.declared.statements.Unread.TheVariants as unread;
+    ghost from_gives = { λ _ made. made ≡ unread.Memory };
+
+    fn from(_failed: AllocFailed<T>) -> Unread {
+        Unread::Memory
+    }
+}
+
+impl<T: Drop> From<AllocFailed<T>> for UnreadText {
+    ghost use Rattle.hz_line.specs.declared.statements.UnreadText.TheVariants as text;
+    ghost from_gives = { λ _ made. made ≡ text.Memory };
+
+    fn from(_failed: AllocFailed<T>) -> UnreadText {
+        UnreadText::Memory
+    }
+}
+
+impl From<LineFault> for Unread {
+    ghost use Rattle.hz_line.specs.Reading.{unread_by};
+    ghost from_gives = { λ fault made. made ≡ unread_by fault };
+
+    fn from(fault: LineFault) -> Unread {
+        match fault {
+            LineFault::Forbidden => Unread::Form,
+            LineFault::Memory => Unread::Memory,
+        }
+    }
+}
+
+/// What was read of a statement, and the number of its line.
+#[derive(Debug, Drop)]
+pub struct Numbered<H> {
+    pub line: u32,
+    pub held: H,
+}
+
+/// How the tokens of a line are read: each line of a text that has tokens is one statement.
+///
+/// `Held` is what the reader holds of a statement, and `stated` says which statement that is. `Context` is what
+/// statements are read over, as a circuit whose names they use; reading changes nothing of it. `grammar` gives the
+/// statement of a token list, if it is one. `IsSound` is what is known besides of each statement that was read.
+pub trait Grammar<'t> {
+    ghost use Rattle.std.specs.Prelude.{List, Option};
+    ghost use Rattle.hz_line.specs.Token.{TokenOf};
+
+    type Held: Drop;
+
+    ghost Context: { Type 0 };
+
+    ghost context: { Self → Context };
+
+    ghost Stated: { Type 0 };
+
+    ghost stated: { Self.Held → Stated };
+
+    ghost grammar: { Context → List TokenOf → Option Stated };
+
+    ghost IsSound: { Context → Self.Held → Type 0 };
+
+    /// Reads the statement that tokens are.
+    fn statement(&mut self, tokens: &[Token<'t>]) -> Result<Self::Held, Unread>
+        ensures read { MatchResult result
+            (λ held. grammar (context self.old) (map token_of tokens.now) ≡ Some (stated held))
+            (λ why. IsUnread (grammar (context self.old) (map token_of tokens.now)) why) }
+        ensures sound { IfOk result (IsSound (context self.old)) }
+        ensures same { context self.new ≡ context self.old };
+}
+
+/// Reads the statements of a text, up to the first malformed line. It takes time linear in the text, besides what the
+/// grammar takes.
+pub fn read_statements<'t, G: Grammar<'t>>(
+    alloc: Global,
+    grammar: &mut G,
+    text: &'t [u8],
+) -> Result<Vec<Numbered<G::Held>>, UnreadText>
+    requires { length text.now ≤ 4294967294 }
+    ensures read { MatchResult result
+        (λ read. IsRead (G.grammar (G.context grammar.old)) text.now (map (entered_by G.stated) read.items))
+        (λ why. IsUnreadText (G.grammar (G.context grammar.old)) text.now why) }
+    ensures sound { IfOk result (λ read. All (λ entry. G.IsSound (G.context grammar.old) entry.held) read.items) }
+    ensures same { G.context grammar.new ≡ G.context grammar.old }
+{
+    let mut entries = Vec::new(alloc);
+    let mut tokens = Vec::new(alloc);
+    let mut rest = Some(text);
+    let mut line = 0;
+    while let Some(left) = rest {
+        let cut = cut_line(left);
+        line += 1;
+        match read_line(grammar, cut.line, &mut tokens) {
+            Ok(None) => {}
+            Ok(Some(held)) => entries.push(Numbered { line, held })?,
+            Err(Unread::Form) => return Err(UnreadText::Form { line }),
+            Err(Unread::Memory) => return Err(UnreadText::Memory),
+        }
+        rest = cut.rest;
+    }
+    Ok(entries)
+}
+
+// The statement of a line, if it has tokens. The tokens are those of an earlier line, and are replaced.
+fn read_line<'t, G: Grammar<'t>>(
+    grammar: &mut G,
+    line: &'t [u8],
+    tokens: &mut Vec<Token<'t>>,
+) -> Result<Option<G::Held>, Unread>
+    ensures read { MatchResult result
+        (λ read. meaning_of (G.grammar (G.context grammar.old)) line.now ≡ meaning_read G.stated read)
+        (λ why. IsUnreadLine (meaning_of (G.grammar (G.context grammar.old)) line.now) why) }
+    ensures sound { IfOk result (λ read. IfSome read (G.IsSound (G.context grammar.old))) }
+    ensures same { G.context grammar.new ≡ G.context grammar.old }
+{
+    read_tokens(line, tokens)?;
+    if tokens.is_empty() {
+        return Ok(None);
+    }
+    let held = grammar.statement(tokens.as_slice())?;
+    Ok(Some(held))
+}

@@ -1,8 +1,0 @@
-use Rattle.std.proofs.Common.{◌≡◌, drop}
-use Rattle.hz_line.specs.Statement.{first_line}
-use Rattle.hz_text.specs.ScriptFault.{has_unknown}
-use Rattle.hz_text.specs.Pass.{entered_all}
-use Rattle.hz_text.proofs.script.passes.first_unknown.Given as goal
-
-abbrev pub invariant-loop-entry : goal.invariant-loop-entry
-invariant-loop-entry l = first_line (has_unknown l.inputs) (entered_all l.entries) ≡ first_line (has_unknown l.inputs) (entered_all (drop l.entry-index l.entries))

@@ -1,0 +1,55 @@
+-- What the pass over the order of a run text answers, by where it is.
+use Rattle.std.specs.Prelude.{ℕ, Bool, List, [], ◌∷◌, Option, Some, None, if◌then◌else◌}
+use Rattle.std.specs.Option.{option_map_or}
+use Rattle.hz_line.specs.Statement.{Numbered}
+use Rattle.hz_text.specs.declared.run.order.Place.{Place}
+use Rattle.hz_text.specs.declared.run.order.Place.TheVariants as place
+use Rattle.hz_text.specs.RunStatement.{Run, Step, Cycle}
+use Rattle.hz_text.specs.RunLookup.{LookedRun}
+use Rattle.hz_text.specs.RunFault.{is_header, is_start_line, is_input_line, is_end}
+
+-- a step stays where it is, and stands in a run
+abbrev pub place_after_step : Place → Option Place
+place_after_step place.Between = None
+place_after_step place.Lead = Some place.Lead
+place_after_step place.Cycle = Some place.Cycle
+
+-- a cycle stands after a run's lead, at most once
+abbrev pub place_after_cycle : Place → Option Place
+place_after_cycle place.Between = None
+place_after_cycle place.Lead = Some place.Cycle
+place_after_cycle place.Cycle = None
+
+-- where one is among the runs after a statement, if it may stand there
+abbrev pub place_after : Place → LookedRun → Option Place
+place_after here Run = Some place.Lead
+place_after here (Step variables) = place_after_step here
+place_after here Cycle = place_after_cycle here
+place_after here _ = None
+
+-- the line that breaks the order: here nothing may stand
+abbrev pub end_out_of_order : List (Numbered LookedRun) → Option ℕ
+end_out_of_order [] = None
+end_out_of_order (first ∷ later) = Some first.line
+
+-- the line that breaks the order first, in runs and the end after them; 0 where the end is missing
+abbrev pub runs_out_of_order : Place → List (Numbered LookedRun) → Option ℕ
+runs_out_of_order here [] = Some 0
+runs_out_of_order here (first ∷ later) =
+    if is_end first.statement then end_out_of_order later
+    else option_map_or (λ next. runs_out_of_order next later) (place_after here first.statement) (Some first.line)
+
+-- the line that breaks the order first, where a statement that passes the test stands before others; 0 where it is missing
+abbrev pub out_of_order_with : (LookedRun → Bool) → (List (Numbered LookedRun) → Option ℕ) → List (Numbered LookedRun) → Option ℕ
+out_of_order_with test after [] = Some 0
+out_of_order_with test after (first ∷ later) = if test first.statement then after later else Some first.line
+
+-- the order from the input line on, from the start on, and of a whole text: header, start, input, runs, end
+abbrev pub input_out_of_order : List (Numbered LookedRun) → Option ℕ
+input_out_of_order statements = out_of_order_with is_input_line (runs_out_of_order place.Between) statements
+
+abbrev pub start_out_of_order : List (Numbered LookedRun) → Option ℕ
+start_out_of_order statements = out_of_order_with is_start_line input_out_of_order statements
+
+abbrev pub run_out_of_order : List (Numbered LookedRun) → Option ℕ
+run_out_of_order statements = out_of_order_with is_header start_out_of_order statements

@@ -1,0 +1,181 @@
+// Assignments `name = word`, looked up in a circuit, and what each text asks of them.
+
+ghost use Rattle.std.specs.Prelude.{◌≡◌, ◌<◌, ◌≤◌, All, length, map, Some, None, IfOk, IfSome, MatchResult, vec_len, slice_index, EachIndex, not, position};
+ghost use Rattle.std.specs.List.{range_with_len};
+ghost use Rattle.hz_line.specs.Reading.{IsUnread};
+ghost use Rattle.hz_line.specs.Token.{token_of};
+ghost use Rattle.hz_text.specs.Assignment.{bit_of, assigned_of, assigned_by, is_unknown, any_unknown, any_bitless, assigns};
+ghost use Rattle.hz_text.specs.Bits.{allowed_by};
+ghost use Rattle.hz_text.specs.Rules.{AreBelow, repeats_node, least_unassigned, marked};
+
+use hz_core::{Circuit, Memory};
+use hz_line::{Mark, Token, Unread};
+use std::alloc::Global;
+use std::marker::Model;
+
+/// An assignment `name = word`: the node that has the name and the bit that the word is, if there are such.
+#[derive(Debug, Drop)]
+pub(crate) struct Assigned {
+    pub(crate) node: Option<u32>,
+    pub(crate) bit: Option<bool>,
+}
+
+impl Model for Assigned {
+    ghost use Rattle.hz_text.specs.Assignment.{Assigned};
+
+    ghost Value = { Assigned };
+
+    ghost view = { λ inside. record { node = inside.node; bit = inside.bit } };
+}
+
+/// Which nodes a statement may assign.
+#[derive(Clone, Copy, Debug)]
+pub(crate) enum Allowed {
+    Nodes,
+    Inputs,
+    Gates,
+}
+
+// The assignments that tokens are.
+pub(crate) fn read_assignments(
+    alloc: Global,
+    circuit: &Circuit,
+    tokens: &[Token],
+) -> Result<Vec<Assigned>, Unread>
+    ensures read { MatchResult result
+        (λ read. assigned_by circuit.now (map token_of tokens.now) ≡ Some read.items)
+        (λ why. IsUnread (assigned_by circuit.now (map token_of tokens.now)) why) }
+    ensures below { IfOk result (λ read. AreBelow (length circuit.now.names) read.items) }
+{
+    let mut read = Vec::new(alloc);
+    let mut rest = tokens;
+    while let [
+        Token::Word(name),
+        Token::Sign(Mark::Equals),
+        Token::Word(word),
+        after @ ..,
+    ] = rest
+    {
+        read.push(assignment(circuit, name, word))?;
+        rest = after;
+    }
+    if rest.is_empty() {
+        Ok(read)
+    } else {
+        Err(Unread::Form)
+    }
+}
+
+// The assignment of a word to a name.
+fn assignment(circuit: &Circuit, name: &[u8], word: &[u8]) -> Assigned
+    ensures value { result ≡ assigned_of circuit.now (record { name = name.now; word = word.now }) }
+    ensures below { IfSome result.node (λ node. node < length circuit.now.names) }
+{
+    Assigned {
+        node: circuit.find(name),
+        bit: bit(word),
+    }
+}
+
+// The bit that a word is.
+fn bit(word: &[u8]) -> Option<bool>
+    ensures { result ≡ bit_of word.now }
+{
+    if word == b"0".as_slice() {
+        Some(false)
+    } else if word == b"1".as_slice() {
+        Some(true)
+    } else {
+        None
+    }
+}
+
+// Whether some assignment is to what may not be assigned.
+pub(crate) fn any_unknown(all: &[Assigned], allowed: Allowed, inputs: u32) -> bool
+    ensures { result ≡ any_unknown inputs (allowed_by allowed) all.now }
+{
+    all.iter()
+        .any(|assigned| is_unknown(assigned.node, allowed, inputs))
+}
+
+// Whether this may not be assigned.
+fn is_unknown(node: Option<u32>, allowed: Allowed, inputs: u32) -> bool
+    ensures { result ≡ is_unknown inputs (allowed_by allowed) node }
+{
+    let Some(node) = node else { return true };
+    match allowed {
+        Allowed::Nodes => false,
+        Allowed::Inputs => inputs <= node,
+        Allowed::Gates => node < inputs,
+    }
+}
+
+// Whether a word is assigned that is no bit.
+pub(crate) fn any_without_bit(all: &[Assigned]) -> bool
+    ensures { result ≡ any_bitless all.now }
+{
+    all.iter().any(|assigned| assigned.bit.is_none())
+}
+
+// Whether a node is assigned twice. Each node that is assigned gets this mark, which is above all earlier ones.
+pub(crate) fn repeats(all: &[Assigned], marks: &mut [usize], mark: usize) -> bool
+    requires nodes { AreBelow (length marks.old) all.now }
+    requires above { EachIndex marks.old (λ node. slice_index marks.old node < mark) }
+    ensures repeats { result ≡ repeats_node all.now }
+    ensures above { EachIndex marks.new (λ node. slice_index marks.new node ≤ mark) }
+{
+    for assigned in all {
+        if let Some(node) = assigned.node {
+            if marks[node as usize] == mark {
+                return true;
+            }
+            marks[node as usize] = mark;
+        }
+    }
+    false
+}
+
+// The least of the first so many nodes that is not assigned.
+pub(crate) fn least_unassigned(
+    alloc: Global,
+    all: &[Assigned],
+    nodes: u32,
+) -> Result<Option<u32>, Memory>
+    ensures { IfOk result (λ missing. missing ≡ least_unassigned nodes all.now) }
+{
+    let listed = listed_nodes(alloc, all, nodes)?;
+    match first_unlisted(listed.as_slice()) {
+        Some(node) => Ok(Some(node as u32)),
+        None => Ok(None),
+    }
+}
+
+fn first_unlisted(listed: &[bool]) -> Option<usize>
+    ensures first { result ≡ position not listed.now }
+    ensures within { IfSome result (λ node. node < length listed.now) }
+{
+    listed.iter().position(|listed| !*listed)
+}
+
+// For each of the first so many nodes, whether it is assigned.
+fn listed_nodes(alloc: Global, all: &[Assigned], nodes: u32) -> Result<Vec<bool>, Memory>
+    ensures listed { IfOk result (λ listed. listed.items ≡ map (assigns all.now) (range_with_len 0 nodes)) }
+    ensures len { IfOk result (λ listed. vec_len listed ≡ nodes) }
+{
+    let mut listed = vec![in alloc; false; nodes as usize]?;
+    for assigned in all {
+        mark(listed.as_mut_slice(), assigned.node);
+    }
+    Ok(listed)
+}
+
+// Marks a node, if there is one among those of the list.
+fn mark(marks: &mut [bool], node: Option<u32>)
+    ensures { marks.new ≡ marked marks.old node }
+{
+    let Some(node) = node else { return };
+    let node = node as usize;
+    if node < marks.len() {
+        marks[node] = true;
+    }
+}

@@ -1,0 +1,195 @@
+// What all texts of statements share: the frame that reads one, and the passes that are the same for each.
+
+ghost use Rattle.std.specs.Prelude.{◌≡◌, ◌≤◌, length, map, All, Some, None, IfOk, MatchResult};
+ghost use Rattle.hz_line.specs.Reading.{entered_by, IsUnread};
+ghost use Rattle.hz_line.specs.Statement.{first_line};
+ghost use Rattle.hz_line.specs.Token.{token_of};
+ghost use Rattle.hz_text.specs.Rules.{AreBelow, repeats_node, first_fault_in, first_fault_of, IsAnswer, IsChecked};
+
+use crate::assignments::{Assigned, repeats};
+use crate::fault::{TextFault, refuse};
+use crate::limit::MAX_TEXT;
+use hz_core::Memory;
+use hz_line::{Grammar, Numbered, Token, Unread, read_statements};
+use std::alloc::Global;
+
+/// A text of statements that assign bits to nodes of a circuit: its grammar, and the passes over its statements that find
+/// its faults.
+///
+/// `Held`, `Context`, `stated` and `grammar` are as in [`Grammar`]. `rules` are what the passes answer, and `node_count` is
+/// above each node that a statement assigns.
+pub(crate) trait Text<'t>: Drop {
+    ghost use Rattle.std.specs.Prelude.{ℕ, List, Option};
+    ghost use Rattle.hz_line.specs.Token.{TokenOf};
+    ghost use Rattle.hz_text.specs.Rules.{Rules};
+
+    type Held: Drop;
+
+    ghost Context: { Type 0 };
+
+    ghost context: { Self → Context };
+
+    ghost Stated: { Type 0 };
+
+    ghost stated: { Self.Held → Stated };
+
+    ghost grammar: { Context → List TokenOf → Option Stated };
+
+    ghost rules: { Context → Rules Stated };
+
+    ghost node_count: { Context → ℕ };
+
+    // The statement that tokens are.
+    fn statement(&mut self, tokens: &[Token<'t>]) -> Result<Self::Held, Unread>
+        ensures read { MatchResult result
+            (λ held. grammar (context self.old) (map token_of tokens.now) ≡ Some (stated held))
+            (λ why. IsUnread (grammar (context self.old) (map token_of tokens.now)) why) }
+        ensures below { IfOk result (λ held. AreBelow (node_count (context self.old)) ((rules (context self.old)).assigned (stated held))) }
+        ensures same { context self.new ≡ context self.old };
+
+    // The number of nodes.
+    fn node_count(&self) -> u32
+        ensures { result ≡ node_count (context self.now) };
+
+    // What a statement assigns.
+    fn assigned<'h>(&self, held: &'h Self::Held) -> &'h [Assigned]
+        ensures { result.now ≡ (rules (context self.now)).assigned (stated held.now) };
+
+    // Whether a statement names what is not there or may not be named.
+    fn is_unknown(&self, held: &Self::Held) -> bool
+        ensures { result ≡ (rules (context self.now)).unknown (stated held.now) };
+
+    // Whether a statement has a word that is to be a bit and is none.
+    fn lacks_bit(&self, held: &Self::Held) -> bool
+        ensures { result ≡ (rules (context self.now)).bitless (stated held.now) };
+
+    // The least node that has to be assigned and is not.
+    fn least_missing(
+        &self,
+        alloc: Global,
+        entries: &[Numbered<Self::Held>],
+    ) -> Result<Option<u32>, Memory>
+        ensures { IfOk result (λ node. node ≡ (rules (context self.now)).missing (map (entered_by stated) entries.now)) };
+
+    // The line that breaks the order.
+    fn first_out_of_order(&self, entries: &[Numbered<Self::Held>]) -> Option<u32>
+        ensures { result ≡ (rules (context self.now)).order (map (entered_by stated) entries.now) };
+
+    // The line that passes a limit.
+    fn line_beyond(&self, entries: &[Numbered<Self::Held>]) -> Option<u32>
+        ensures { result ≡ (rules (context self.now)).beyond (map (entered_by stated) entries.now) };
+}
+
+// The lines of a text, as a grammar.
+#[derive(Drop)]
+struct Lines<T> {
+    text: T,
+}
+
+impl<'t, T: Text<'t>> Grammar<'t> for Lines<T> {
+    ghost use Rattle.hz_text.specs.Rules.{AreBelow};
+
+    type Held = T::Held;
+
+    ghost Context = { T.Context };
+
+    ghost context = { λ lines. T.context lines.text };
+
+    ghost Stated = { T.Stated };
+
+    ghost stated = { T.stated };
+
+    ghost grammar = { T.grammar };
+
+    ghost IsSound = { λ context held. AreBelow (T.node_count context) ((T.rules context).assigned (T.stated held)) };
+
+    fn statement(&mut self, tokens: &[Token<'t>]) -> Result<T::Held, Unread> {
+        self.text.statement(tokens)
+    }
+}
+
+// The statements of a text in which no fault stands.
+pub(crate) fn read_text<'t, T: Text<'t>>(
+    alloc: Global,
+    reader: T,
+    text: &'t [u8],
+) -> Result<Vec<Numbered<T::Held>>, TextFault>
+    requires { length text.now ≤ MAX_TEXT }
+    ensures checked { MatchResult result
+        (λ read. IsChecked (T.grammar (T.context reader)) (T.rules (T.context reader)) text.now (map (entered_by T.stated) read.items))
+        (λ fault. IsAnswer (first_fault_of (T.grammar (T.context reader)) (T.rules (T.context reader)) text.now) fault) }
+    ensures below { IfOk result (λ read. All (λ entry. AreBelow (T.node_count (T.context reader)) ((T.rules (T.context reader)).assigned (T.stated entry.held))) read.items) }
+{
+    let mut lines = Lines { text: reader };
+    let entries = read_statements(alloc, &mut lines, text)?;
+    check(alloc, &lines.text, entries.as_slice())?;
+    Ok(entries)
+}
+
+// Whether statements are without a fault: one pass for each, in the order of their numbers.
+fn check<'t, T: Text<'t>>(
+    alloc: Global,
+    reader: &T,
+    entries: &[Numbered<T::Held>],
+) -> Result<(), TextFault>
+    requires { All (λ entry. AreBelow (T.node_count (T.context reader.now)) ((T.rules (T.context reader.now)).assigned (T.stated entry.held))) entries.now }
+    ensures { MatchResult result
+        (λ _. first_fault_in (T.rules (T.context reader.now)) (map (entered_by T.stated) entries.now) ≡ None)
+        (λ fault. IsAnswer (first_fault_in (T.rules (T.context reader.now)) (map (entered_by T.stated) entries.now)) fault) }
+{
+    let unknown = first_unknown(reader, entries);
+    refuse(unknown, |line| TextFault::Unknown { line })?;
+    let twice = first_twice(alloc, reader, entries)?;
+    refuse(twice, |line| TextFault::Twice { line })?;
+    let missing = reader.least_missing(alloc, entries)?;
+    refuse(missing, |node| TextFault::Missing { node })?;
+    let bitless = first_without_bit(reader, entries);
+    refuse(bitless, |line| TextFault::Bit { line })?;
+    let order = reader.first_out_of_order(entries);
+    refuse(order, |line| TextFault::Order { line })?;
+    let beyond = reader.line_beyond(entries);
+    refuse(beyond, |line| TextFault::TooMany { line })
+}
+
+// The line of the first statement that names what is not there or may not be named.
+fn first_unknown<'t, T: Text<'t>>(reader: &T, entries: &[Numbered<T::Held>]) -> Option<u32>
+    ensures { result ≡ first_line (T.rules (T.context reader.now)).unknown (map (entered_by T.stated) entries.now) }
+{
+    for entry in entries {
+        if reader.is_unknown(&entry.held) {
+            return Some(entry.line);
+        }
+    }
+    None
+}
+
+// The line of the first statement that assigns a node twice.
+fn first_twice<'t, T: Text<'t>>(
+    alloc: Global,
+    reader: &T,
+    entries: &[Numbered<T::Held>],
+) -> Result<Option<u32>, Memory>
+    requires { All (λ entry. AreBelow (T.node_count (T.context reader.now)) ((T.rules (T.context reader.now)).assigned (T.stated entry.held))) entries.now }
+    ensures { IfOk result (λ line. line ≡ first_line (λ statement. repeats_node ((T.rules (T.context reader.now)).assigned statement)) (map (entered_by T.stated) entries.now)) }
+{
+    let mut marks = vec![in alloc; 0; reader.node_count() as usize]?;
+    for (index, entry) in entries.iter().enumerate() {
+        let assigned = reader.assigned(&entry.held);
+        if repeats(assigned, marks.as_mut_slice(), index + 1) {
+            return Ok(Some(entry.line));
+        }
+    }
+    Ok(None)
+}
+
+// The line of the first statement that has a word that is to be a bit and is none.
+fn first_without_bit<'t, T: Text<'t>>(reader: &T, entries: &[Numbered<T::Held>]) -> Option<u32>
+    ensures { result ≡ first_line (T.rules (T.context reader.now)).bitless (map (entered_by T.stated) entries.now) }
+{
+    for entry in entries {
+        if reader.lacks_bit(&entry.held) {
+            return Some(entry.line);
+        }
+    }
+    None
+}
