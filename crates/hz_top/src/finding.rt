@@ -67,7 +67,14 @@ fn find_counted<L: Ledger>(
     // A getter of the network tells that its circuit is one, on which the proof stands.
     let _variables = net.len();
     let reached = find_reached(alloc, net, start, input, &mut front, &mut steps)?;
-    let lasting = find_lasting(alloc, net, input, reached.a.as_slice(), &mut front, &mut steps)?;
+    let lasting = find_lasting(
+        alloc,
+        net,
+        input,
+        reached.a.as_slice(),
+        &mut front,
+        &mut steps,
+    )?;
     Ok(Finding {
         a: reached.a,
         rounds_a: reached.rounds,
