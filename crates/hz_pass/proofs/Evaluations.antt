@@ -1,5 +1,5 @@
 -- One variable more in a round: what is known of the round stays known.
-use Rattle.std.proofs.Common.{◌≡◌, ◌≢◌, ℕ, zero, suc, ◌+◌, ◌<◌, ◌≤◌, ◌⊎◌, Bool, List, [], ◌∷◌, ◌++◌, length, set, refl, sym, ap, ◌∙◌, subst, arith, inl, inr}
+use Rattle.std.proofs.Common.{◌≡◌, ◌≢◌, ℕ, ◌+◌, ◌<◌, Bool, List, [], ◌∷◌, ◌++◌, length, set, refl, sym, ap, ◌∙◌, subst, arith, inl, inr}
 use Rattle.std.specs.Prelude.{Contains}
 use Rattle.std.proofs.lemmas.Bool.{cases_eq}
 use Rattle.std.proofs.lemmas.List.{get_or-set_same, get_or-set_other, length-set}
@@ -13,7 +13,9 @@ use Rattle.hz_pass.specs.Frontier.{next_value, Falls, IsMade, ListsChanges, is_o
 use Rattle.hz_pass.proofs.Values.{falls-at, closes, open_weight-set, open_weight-ones, sum_by-ones}
 
 -- no variable is evaluated
-pub round-begin : (rule : Rule) (net : List Driver) (input : List Bool) (state : List Tri) → IsRoundSoFar rule net input state state []
+pub round-begin :
+    (rule : Rule) (net : List Driver) (input : List Bool) (state : List Tri) →
+    IsRoundSoFar rule net input state state []
 round-begin rule net input state = record {
   long = refl;
   either = λ i. inl refl;
@@ -42,7 +44,11 @@ lists-more state next changed i value lists inside was differ = record {
   ];
 }
 
-module _ (rule : Rule) (net : List Driver) (input : List Bool) (state next : List Tri) (changed : List ℕ) (i : ℕ) (value : Tri) (long : length state ≡ length net) (inside : i < length net) (falls : Falls rule net input state) (so_far : IsRoundSoFar rule net input state next changed) (is : value ≡ next_value rule (value_at state i) (excitation3 net input state i)) (differ : value_at next i ≢ value) where
+module _
+    {rule : Rule} {net : List Driver} {input : List Bool} {state next : List Tri} {changed : List ℕ} {i : ℕ} {value : Tri}
+    (long : length state ≡ length net) (inside : i < length net) (falls : Falls rule net input state)
+    (so_far : IsRoundSoFar rule net input state next changed)
+    (is : value ≡ next_value rule (value_at state i) (excitation3 net input state i)) (differ : value_at next i ≢ value) where
   -- it was not evaluated before
   was : value_at next i ≡ value_at state i
   was = elim (so_far.either i) [ inl e ↦ e | inr made ↦ absurd (differ (made ∙ sym is)) ]
@@ -55,8 +61,9 @@ module _ (rule : Rule) (net : List Driver) (input : List Bool) (state next : Lis
 
   lost : (weight : ℕ → ℕ) → weight (0 + i) + open_weight rule weight (set next i value) ≡ open_weight rule weight next
   lost weight =
-      let shut = closes rule (value_at state i) (excitation3 net input state i) (falls-at rule net input state i inside falls) changes in
-      open_weight-set rule weight 0 next i value within (ap (λ (v : Tri). is_open rule v) was ∙ shut.0) (ap (λ (v : Tri). is_open rule v) is ∙ shut.1)
+      let excited = excitation3 net input state i in
+      let shut = closes rule (value_at state i) excited (falls-at rule net input state i inside falls) changes in
+      open_weight-set rule weight 0 next i value within (ap (is_open rule) was ∙ shut.0) (ap (is_open rule) is ∙ shut.1)
 
   -- there is room for it among the variables that changed
   pub room-for-change : length changed < length net
@@ -81,7 +88,13 @@ module _ (rule : Rule) (net : List Driver) (input : List Bool) (state next : Lis
       ]
     ];
     lists = lists-more state next changed i value so_far.lists within was (λ e. changes (sym is ∙ e));
-    balance = λ weight. omega (arith, sum_by_push weight changed i, lost weight, so_far.balance weight, ap weight (let same : 0 + i ≡ i = omega arith in same));
+    balance = λ weight. omega (
+      arith,
+      sum_by_push weight changed i,
+      lost weight,
+      so_far.balance weight,
+      ap weight (let same : 0 + i ≡ i = omega arith in same),
+    );
   }
 
   pub made-here : IsMade rule net input state (set next i value) i

@@ -1,5 +1,5 @@
 -- The rounds of a pass: what is known after some of them, and that a round more keeps it.
-use Rattle.std.proofs.Common.{◌≡◌, ◌≢◌, ℕ, zero, suc, ◌+◌, ◌-◌, ◌<◌, ◌≤◌, Bool, true, false, List, [], ◌∷◌, length, slice_index, refl, sym, ap, ◌∙◌, subst, arith, inl, inr}
+use Rattle.std.proofs.Common.{◌≡◌, ◌≢◌, ℕ, zero, suc, ◌+◌, ◌-◌, ◌<◌, ◌≤◌, Bool, false, List, length, slice_index, refl, sym, ap, ◌∙◌, subst, arith, inl, inr}
 use Rattle.std.proofs.lemmas.Bool.{cases_lt, false≢true}
 use Rattle.hz_core.specs.declared.tri.Tri.{Tri}
 use Rattle.hz_net.specs.Network.{Driver, value_at, excitation3}
@@ -14,13 +14,16 @@ pub record IsNotedAfter (number : ℕ) (state next : List Tri) (i before after :
   pub changed : value_at next i ≢ value_at state i → after ≡ number
 
 -- what is known after some rounds, each of which changed something
-pub record PassSoFar (rule : Rule) (net : List Driver) (input : List Bool) (first : List Tri) (round : ℕ) (state : List Tri) (noted : List ℕ) : Type 0 where
+pub record PassSoFar
+    (rule : Rule) (net : List Driver) (input : List Bool) (first : List Tri) (round : ℕ) (state : List Tri) (noted : List ℕ) : Type 0 where
   pub now : state ≡ states_of rule net input first round
   pub least : (k : ℕ) → 1 ≤ k → k ≤ round → states_of rule net input first k ≢ states_of rule net input first (k - 1)
   pub few : round + open_weight rule (λ i. 1) state ≤ length net
   pub firsts : AreFirstRounds (states_of rule net input first) state noted
 
-module _ (rule : Rule) (net : List Driver) (input : List Bool) (first : List Tri) (long : length first ≡ length net) (falls : Falls rule net input first) where
+module _
+    (rule : Rule) (net : List Driver) (input : List Bool) (first : List Tri) (long : length first ≡ length net)
+    (falls : Falls rule net input first) where
   pub length-states : (round : ℕ) → length (states_of rule net input first round) ≡ length net
   length-states zero = long
   length-states (suc round) = length-next_state rule net input (states_of rule net input first round) (length-states round)
@@ -30,18 +33,10 @@ module _ (rule : Rule) (net : List Driver) (input : List Bool) (first : List Tri
   falls-states (suc round) =
       falls-after rule net input (states_of rule net input first round) (states_of rule net input first (suc round)) refl (falls-states round)
 
-  pub pass-long : {round : ℕ} {state : List Tri} {noted : List ℕ} → PassSoFar rule net input first round state noted → length state ≡ length net
-  pass-long {round} so_far = ap (length {A = Tri}) so_far.now ∙ length-states round
-
-  pub pass-falls : {round : ℕ} {state : List Tri} {noted : List ℕ} → PassSoFar rule net input first round state noted → Falls rule net input state
-  pass-falls {round} so_far = subst (Falls rule net input) (sym so_far.now) (falls-states round)
-
-  -- the rounds so far are no more than the variables
-  pub pass-bound : {round : ℕ} {state : List Tri} {noted : List ℕ} → PassSoFar rule net input first round state noted → round ≤ length net
-  pass-bound so_far = omega (arith, so_far.few)
-
   -- a variable that can't change keeps its value
-  closed-next : (i round : ℕ) → i < length net → is_open rule (value_at (states_of rule net input first round) i) ≡ false → value_at (states_of rule net input first (suc round)) i ≡ value_at (states_of rule net input first round) i
+  closed-next :
+      (i round : ℕ) → i < length net → is_open rule (value_at (states_of rule net input first round) i) ≡ false →
+      value_at (states_of rule net input first (suc round)) i ≡ value_at (states_of rule net input first round) i
   closed-next i round inside closed =
       let state = states_of rule net input first round in
       elim (same-or-differ (value_at (states_of rule net input first (suc round)) i) (value_at state i)) [
@@ -53,7 +48,9 @@ module _ (rule : Rule) (net : List Driver) (input : List Bool) (first : List Tri
             )
       ]
 
-  closed-on : (i round more : ℕ) → i < length net → is_open rule (value_at (states_of rule net input first round) i) ≡ false → value_at (states_of rule net input first (more + round)) i ≡ value_at (states_of rule net input first round) i
+  closed-on :
+      (i round more : ℕ) → i < length net → is_open rule (value_at (states_of rule net input first round) i) ≡ false →
+      value_at (states_of rule net input first (more + round)) i ≡ value_at (states_of rule net input first round) i
   closed-on i round zero inside closed =
       ap (λ (n : ℕ). value_at (states_of rule net input first n) i) (let same : zero + round ≡ round = omega arith in same)
   closed-on i round (suc more) inside closed =
@@ -61,12 +58,36 @@ module _ (rule : Rule) (net : List Driver) (input : List Bool) (first : List Tri
       ap (λ (n : ℕ). value_at (states_of rule net input first n) i) (let same : suc more + round ≡ suc (more + round) = omega arith in same)
       ∙ (closed-next i (more + round) inside (ap (is_open rule) earlier ∙ closed) ∙ earlier)
 
-  pub closed-later : (i round later : ℕ) → i < length net → round ≤ later → is_open rule (value_at (states_of rule net input first round) i) ≡ false → value_at (states_of rule net input first later) i ≡ value_at (states_of rule net input first round) i
+  pub closed-later :
+      (i round later : ℕ) → i < length net → round ≤ later →
+      is_open rule (value_at (states_of rule net input first round) i) ≡ false →
+      value_at (states_of rule net input first later) i ≡ value_at (states_of rule net input first round) i
   closed-later i round later inside order closed =
       ap (λ (n : ℕ). value_at (states_of rule net input first n) i) (let sum : later ≡ (later - round) + round = omega (arith, order) in sum)
       ∙ closed-on i round (later - round) inside closed
 
-  pub pass-begin : (noted : List ℕ) → length noted ≡ length net → ((i : ℕ) → slice_index noted i ≡ 0) → PassSoFar rule net input first 0 first noted
+module _
+    {rule : Rule} {net : List Driver} {input : List Bool} {first : List Tri} (long : length first ≡ length net)
+    (falls : Falls rule net input first) where
+  pub pass-long :
+      {round : ℕ} {state : List Tri} {noted : List ℕ} → PassSoFar rule net input first round state noted →
+      length state ≡ length net
+  pass-long {round} so_far = ap (length {A = Tri}) so_far.now ∙ length-states rule net input first long falls round
+
+  pub pass-falls :
+      {round : ℕ} {state : List Tri} {noted : List ℕ} → PassSoFar rule net input first round state noted →
+      Falls rule net input state
+  pass-falls {round} so_far = subst (Falls rule net input) (sym so_far.now) (falls-states rule net input first long falls round)
+
+  -- the rounds so far are no more than the variables
+  pub pass-bound :
+      {round : ℕ} {state : List Tri} {noted : List ℕ} → PassSoFar rule net input first round state noted →
+      round ≤ length net
+  pass-bound so_far = omega (arith, so_far.few)
+
+  pub pass-begin :
+      (noted : List ℕ) → length noted ≡ length net → ((i : ℕ) → slice_index noted i ≡ 0) →
+      PassSoFar rule net input first 0 first noted
   pass-begin noted noted_long none = record {
     now = refl;
     least = λ k some few. absurd (omega (arith, some, few));
@@ -84,28 +105,38 @@ module _ (rule : Rule) (net : List Driver) (input : List Bool) (first : List Tri
       IsRound rule net input state next changed → value_at next i ≢ value_at state i →
       IsFirstRound (states_of rule net input first) i (λ value. value ≡ value_at next i) (suc round)
   first-changed i round state next changed inside now made differ =
-      let state_long : length state ≡ length net = ap (length {A = Tri}) now ∙ length-states round in
+      let state_long : length state ≡ length net = ap (length {A = Tri}) now ∙ length-states rule net input first long falls round in
       let is : value_at next i ≡ next_value rule (value_at state i) (excitation3 net input state i) =
       ap (λ (values : List Tri). value_at values i) made.made ∙ at-next_state rule net input state i state_long inside in
-      let state_falls : Falls rule net input state = subst (Falls rule net input) (sym now) (falls-states round) in
+      let state_falls : Falls rule net input state = subst (Falls rule net input) (sym now) (falls-states rule net input first long falls round) in
       let closed : is_open rule (value_at next i) ≡ false =
       ap (is_open rule) is ∙ (closes rule (value_at state i) (excitation3 net input state i) (falls-at rule net input state i inside state_falls) (λ e. differ (is ∙ e))).1 in
       record {
         there = ap (λ (values : List Tri). value_at values i) (ap (next_state rule net input) (sym now) ∙ sym made.made);
         least = λ k early there.
-            let stays = closed-later i k round inside (omega (arith, early)) (ap (is_open rule) there ∙ closed) in
+            let stays = closed-later rule net input first long falls i k round inside (omega (arith, early)) (ap (is_open rule) there ∙ closed) in
             differ (sym there ∙ (sym stays ∙ ap (λ (values : List Tri). value_at values i) (sym now)));
       }
 
-  pass-step : (round : ℕ) (state next : List Tri) (changed noted after : List ℕ) → PassSoFar rule net input first round state noted → IsRound rule net input state next changed → state ≢ next → 1 ≤ length changed → length after ≡ length noted → ((i : ℕ) → i < length net → IsNotedAfter (suc round) state next i (slice_index noted i) (slice_index after i)) → PassSoFar rule net input first (suc round) next after
+  pass-step :
+      (round : ℕ) (state next : List Tri) (changed noted after : List ℕ) →
+      PassSoFar rule net input first round state noted → IsRound rule net input state next changed → state ≢ next →
+      1 ≤ length changed → length after ≡ length noted →
+      ((i : ℕ) → i < length net → IsNotedAfter (suc round) state next i (slice_index noted i) (slice_index after i)) →
+      PassSoFar rule net input first (suc round) next after
   pass-step round state next changed noted after so_far made differ some after_long each =
       let now : next ≡ states_of rule net input first (suc round) = made.made ∙ ap (next_state rule net input) so_far.now in
       let state_long : length state ≡ length net = pass-long so_far in
-      let next_long : length next ≡ length net = ap (length {A = Tri}) now ∙ length-states (suc round) in
+      let next_long : length next ≡ length net = ap (length {A = Tri}) now ∙ length-states rule net input first long falls (suc round) in
       record {
         now = now;
         least = λ k once few. elim (cases_lt round k) [
-          | inl last ↦ (λ e. differ (so_far.now ∙ (ap (states_of rule net input first) (let same : round ≡ k - 1 = omega (arith, last, few) in same) ∙ (sym e ∙ (ap (states_of rule net input first) (let same : k ≡ suc round = omega (arith, last, few) in same) ∙ sym now)))))
+          | inl last ↦ (λ e. differ (
+              so_far.now ∙
+              (ap (states_of rule net input first) (let same : round ≡ k - 1 = omega (arith, last, few) in same) ∙
+              (sym e ∙
+              (ap (states_of rule net input first) (let same : k ≡ suc round = omega (arith, last, few) in same) ∙ sym now)))
+              ))
           | inr early ↦ so_far.least k once early
         ];
         few = omega (arith, so_far.few, made.balance (λ i. 1), sum_by-ones changed, some);
@@ -124,18 +155,27 @@ module _ (rule : Rule) (net : List Driver) (input : List Bool) (first : List Tri
       }
 
   -- one round more, as the loop counts: by the number of the next round
-  pub pass-on : (number : ℕ) (state next state' : List Tri) (changed noted after : List ℕ) → 1 ≤ number → PassSoFar rule net input first (number - 1) state noted → IsRound rule net input state next changed → state ≢ next → 1 ≤ length changed → state' ≡ next → length after ≡ length noted → ((i : ℕ) → i < length net → IsNotedAfter number state next i (slice_index noted i) (slice_index after i)) → PassSoFar rule net input first (number + 1 - 1) state' after
-  pass-on number state next state' changed noted after one so_far made differ some same after_long each =
+  pub pass-on :
+      {number : ℕ} {state next state' : List Tri} {changed noted after : List ℕ} → 1 ≤ number →
+      PassSoFar rule net input first (number - 1) state noted → IsRound rule net input state next changed → state ≢ next →
+      1 ≤ length changed → state' ≡ next → length after ≡ length noted →
+      ((i : ℕ) → i < length net → IsNotedAfter number state next i (slice_index noted i) (slice_index after i)) →
+      PassSoFar rule net input first (number + 1 - 1) state' after
+  pass-on {number} {state} {next} {state'} {changed} {noted} {after} one so_far made differ some same after_long each =
       let later : suc (number - 1) ≡ number + 1 - 1 = omega (arith, one) in
       let now : number ≡ suc (number - 1) = omega (arith, one) in
       subst (λ (n : ℕ). PassSoFar rule net input first n state' after) later
       (subst (λ (s : List Tri). PassSoFar rule net input first (suc (number - 1)) s after) (sym same)
-      (pass-step (number - 1) state next changed noted after so_far made differ some after_long
-      (λ i inside. subst (λ (n : ℕ). IsNotedAfter n state next i (slice_index noted i) (slice_index after i)) now (each i inside))))
+      (pass-step (number - 1) state next changed noted after so_far made differ some after_long (λ i inside.
+      subst (λ (n : ℕ). IsNotedAfter n state next i (slice_index noted i) (slice_index after i)) now (each i inside))))
 
   -- the round that changes nothing is the last
-  pub pass-done : (number : ℕ) (state next : List Tri) (changed noted : List ℕ) → 1 ≤ number → PassSoFar rule net input first (number - 1) state noted → IsRound rule net input state next changed → state ≡ next → AreRounds (states_of rule net input first) number × (state ≡ states_of rule net input first number) × (number ≤ length net + 1)
-  pass-done number state next changed noted one so_far made same =
+  pub pass-done :
+      {number : ℕ} {state next : List Tri} {changed noted : List ℕ} → 1 ≤ number →
+      PassSoFar rule net input first (number - 1) state noted → IsRound rule net input state next changed → state ≡ next →
+      AreRounds (states_of rule net input first) number × (state ≡ states_of rule net input first number) ×
+      (number ≤ length net + 1)
+  pass-done {number} {state} {next} one so_far made same =
       let round = number - 1 in
       let last : number ≡ suc round = omega (arith, one) in
       let now : next ≡ states_of rule net input first number =

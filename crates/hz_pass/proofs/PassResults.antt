@@ -1,33 +1,38 @@
 -- What the rounds of a pass say of Algorithms A and B: results, ranks and settling rounds.
 use Rattle.std.proofs.Common.{◌≡◌, ◌≢◌, ℕ, zero, suc, ◌-◌, ◌<◌, ◌≤◌, Bool, false, List, length, map, slice_index, refl, sym, ap, ◌∙◌, subst, arith, inl, inr}
 use Rattle.std.proofs.lemmas.Bool.{cases_lt}
-use Rattle.std.proofs.lemmas.List.{length-map}
 use Rattle.hz_core.specs.declared.tri.Tri.{Tri}
 use Rattle.hz_core.specs.declared.tri.Tri.TheVariants.{Zero, One, Unknown}
 use Rattle.hz_core.specs.Ternary.{tri_of, AllBelow}
-use Rattle.hz_net.specs.Network.{Driver, value_at, bit_at}
-use Rattle.hz_net.specs.Passes.{excitations, algorithm_a, algorithm_b, AreRounds, IsFirstRound, IsUnknown, IsKnown, IsRank, IsSettlingRound, AreRanks, AreSettlingRounds}
+use Rattle.hz_net.specs.Network.{Driver, value_at}
+use Rattle.hz_net.specs.Passes.{excitations, algorithm_a, algorithm_b, AreRounds, IsFirstRound, IsKnown, IsRank, IsSettlingRound, AreRanks, AreSettlingRounds}
 use Rattle.hz_net.proofs.Ranks.{unknown-or-start, at-tri_of}
 use Rattle.hz_pass.specs.declared.round.Rule.TheVariants.{Join, Replace}
 use Rattle.hz_pass.specs.Frontier.{next_state, states_of, AreFirstRounds, is_open}
 use Rattle.hz_pass.proofs.PassLoop.{length-states, closed-later}
 
 -- sequences with the same states have the same rounds
-rounds-same : {sequence other : ℕ → List Tri} {rounds : ℕ} → ((k : ℕ) → sequence k ≡ other k) → AreRounds sequence rounds → AreRounds other rounds
+rounds-same :
+    {sequence other : ℕ → List Tri} {rounds : ℕ} → ((k : ℕ) → sequence k ≡ other k) → AreRounds sequence rounds →
+    AreRounds other rounds
 rounds-same {rounds = rounds} same are = record {
   some = are.some;
   settled = sym (same rounds) ∙ (are.settled ∙ same (rounds - 1));
   least = λ k some few e. are.least k some few (same k ∙ (e ∙ sym (same (k - 1))));
 }
 
-first-same : {sequence other : ℕ → List Tri} {i first : ℕ} {has : Tri → Type 0} → ((k : ℕ) → sequence k ≡ other k) → IsFirstRound sequence i has first → IsFirstRound other i has first
+first-same :
+    {sequence other : ℕ → List Tri} {i first : ℕ} {has : Tri → Type 0} → ((k : ℕ) → sequence k ≡ other k) →
+    IsFirstRound sequence i has first → IsFirstRound other i has first
 first-same {i = i} {first} {has} same is = record {
   there = subst (λ (values : List Tri). has (value_at values i)) (same first) is.there;
   least = λ k early there. is.least k early (subst (λ (values : List Tri). has (value_at values i)) (sym (same k)) there);
 }
 
 -- a value that is there from the beginning
-first-zero : {sequence : ℕ → List Tri} {i first : ℕ} {value : Tri} → value_at (sequence 0) i ≡ value → IsFirstRound sequence i (λ v. v ≡ value) first → first ≡ 0
+first-zero :
+    {sequence : ℕ → List Tri} {i first : ℕ} {value : Tri} → value_at (sequence 0) i ≡ value →
+    IsFirstRound sequence i (λ v. v ≡ value) first → first ≡ 0
 first-zero {first = first} begins is = elim (cases_lt 0 first) [
   | inl later ↦ absurd (is.least 0 later begins)
   | inr none ↦ omega (arith, none)
@@ -35,27 +40,38 @@ first-zero {first = first} begins is = elim (cases_lt 0 first) [
 
 -- Algorithm A
 
-states-a : (net : List Driver) (input start : List Bool) (round : ℕ) → states_of Join net input (map tri_of start) round ≡ algorithm_a net input start round
+states-a :
+    (net : List Driver) (input start : List Bool) (round : ℕ) →
+    states_of Join net input (map tri_of start) round ≡ algorithm_a net input start round
 states-a net input start zero = refl
 states-a net input start (suc round) = ap (next_state Join net input) (states-a net input start round)
 
-pub rounds-a : (net : List Driver) (input start : List Bool) (first : List Tri) (rounds : ℕ) → first ≡ map tri_of start → AreRounds (states_of Join net input first) rounds → AreRounds (algorithm_a net input start) rounds
+pub rounds-a :
+    (net : List Driver) (input start : List Bool) (first : List Tri) (rounds : ℕ) → first ≡ map tri_of start →
+    AreRounds (states_of Join net input first) rounds → AreRounds (algorithm_a net input start) rounds
 rounds-a net input start first rounds begun are =
     rounds-same (states-a net input start) (subst (λ (values : List Tri). AreRounds (states_of Join net input values) rounds) begun are)
 
-pub result-a : (net : List Driver) (input start : List Bool) (first result : List Tri) (rounds : ℕ) → first ≡ map tri_of start → result ≡ states_of Join net input first rounds → result ≡ algorithm_a net input start rounds
+pub result-a :
+    (net : List Driver) (input start : List Bool) (first result : List Tri) (rounds : ℕ) → first ≡ map tri_of start →
+    result ≡ states_of Join net input first rounds → result ≡ algorithm_a net input start rounds
 result-a net input start first result rounds begun is =
     is ∙ (ap (λ (values : List Tri). states_of Join net input values rounds) begun ∙ states-a net input start rounds)
 
 module _ (net : List Driver) (input start : List Bool) (long : length start ≡ length net) where
   -- what is known in a state is known from the beginning
-  known-start : (i rounds : ℕ) (value : Tri) → value_at (algorithm_a net input start rounds) i ≡ value → value ≢ Unknown → value_at (algorithm_a net input start 0) i ≡ value
+  known-start :
+      (i rounds : ℕ) (value : Tri) → value_at (algorithm_a net input start rounds) i ≡ value → value ≢ Unknown →
+      value_at (algorithm_a net input start 0) i ≡ value
   known-start i rounds value is known = elim (unknown-or-start net input start long i rounds) [
     | inl unknown ↦ absurd (known (sym is ∙ unknown))
     | inr begun ↦ at-tri_of start i ∙ (sym begun ∙ is)
   ]
 
-  rank-is : (i rounds rank : ℕ) (value : Tri) → value_at (algorithm_a net input start rounds) i ≡ value → IsFirstRound (algorithm_a net input start) i (λ v. v ≡ value) rank → IsRank (algorithm_a net input start) i value rank
+  rank-is :
+      (i rounds rank : ℕ) (value : Tri) → value_at (algorithm_a net input start rounds) i ≡ value →
+      IsFirstRound (algorithm_a net input start) i (λ v. v ≡ value) rank →
+      IsRank (algorithm_a net input start) i value rank
   rank-is i rounds rank Zero is first = first-zero (known-start i rounds Zero is (λ e. cc)) first
   rank-is i rounds rank One is first = first-zero (known-start i rounds One is (λ e. cc)) first
   rank-is i rounds rank Unknown is first = first
@@ -76,24 +92,37 @@ module _ (net : List Driver) (input start : List Bool) (long : length start ≡ 
 
 -- Algorithm B
 
-states-b : (net : List Driver) (input : List Bool) (first : List Tri) (round : ℕ) → states_of Replace net input first round ≡ algorithm_b net input first round
+states-b :
+    (net : List Driver) (input : List Bool) (first : List Tri) (round : ℕ) →
+    states_of Replace net input first round ≡ algorithm_b net input first round
 states-b net input first zero = refl
 states-b net input first (suc round) = ap (excitations net input) (states-b net input first round)
 
-pub rounds-b : (net : List Driver) (input : List Bool) (first : List Tri) (rounds : ℕ) → AreRounds (states_of Replace net input first) rounds → AreRounds (algorithm_b net input first) rounds
+pub rounds-b :
+    (net : List Driver) (input : List Bool) (first : List Tri) (rounds : ℕ) →
+    AreRounds (states_of Replace net input first) rounds → AreRounds (algorithm_b net input first) rounds
 rounds-b net input first rounds are = rounds-same (states-b net input first) are
 
-pub result-b : (net : List Driver) (input : List Bool) (first result : List Tri) (rounds : ℕ) → result ≡ states_of Replace net input first rounds → result ≡ algorithm_b net input first rounds
+pub result-b :
+    (net : List Driver) (input : List Bool) (first result : List Tri) (rounds : ℕ) →
+    result ≡ states_of Replace net input first rounds → result ≡ algorithm_b net input first rounds
 result-b net input first result rounds is = is ∙ states-b net input first rounds
 
-module _ (net : List Driver) (input : List Bool) (first : List Tri) (long : length first ≡ length net) (below : AllBelow (excitations net input first) first) (i rounds : ℕ) (inside : i < length net) where
+module _
+    (net : List Driver) (input : List Bool) (first : List Tri) (long : length first ≡ length net)
+    (below : AllBelow (excitations net input first) first) (i rounds : ℕ) (inside : i < length net) where
   -- a variable that is known in some round keeps its value
-  known-stays : (k : ℕ) (value : Tri) → value_at (states_of Replace net input first k) i ≡ value → k ≤ rounds → is_open Replace value ≡ false → value_at (states_of Replace net input first rounds) i ≡ value
+  known-stays :
+      (k : ℕ) (value : Tri) → value_at (states_of Replace net input first k) i ≡ value → k ≤ rounds →
+      is_open Replace value ≡ false → value_at (states_of Replace net input first rounds) i ≡ value
   known-stays k value is order closed =
       closed-later Replace net input first long below i k rounds inside order (ap (is_open Replace) is ∙ closed) ∙ is
 
   -- the first round with a known value is the first in which the variable is known
-  first-known : (value : Tri) (round : ℕ) → value_at (states_of Replace net input first rounds) i ≡ value → is_open Replace value ≡ false → IsFirstRound (states_of Replace net input first) i (λ v. v ≡ value) round → IsFirstRound (states_of Replace net input first) i IsKnown round
+  first-known :
+      (value : Tri) (round : ℕ) → value_at (states_of Replace net input first rounds) i ≡ value →
+      is_open Replace value ≡ false → IsFirstRound (states_of Replace net input first) i (λ v. v ≡ value) round →
+      IsFirstRound (states_of Replace net input first) i IsKnown round
   first-known value round is closed firsts = record {
     there = λ unknown. known value closed (sym firsts.there ∙ unknown);
     least = λ k early known_then.
@@ -115,14 +144,20 @@ module _ (net : List Driver) (input : List Bool) (first : List Tri) (long : leng
       closed-known One known = refl
       closed-known Unknown known = absurd (known refl)
 
-  settling-is : (begun value : Tri) (round : ℕ) → value_at first i ≡ begun → value_at (states_of Replace net input first rounds) i ≡ value → IsFirstRound (states_of Replace net input first) i (λ v. v ≡ value) round → IsSettlingRound (states_of Replace net input first) i begun value round
+  settling-is :
+      (begun value : Tri) (round : ℕ) → value_at first i ≡ begun →
+      value_at (states_of Replace net input first rounds) i ≡ value →
+      IsFirstRound (states_of Replace net input first) i (λ v. v ≡ value) round →
+      IsSettlingRound (states_of Replace net input first) i begun value round
   settling-is Unknown Zero round begins is firsts = first-known Zero round is refl firsts
   settling-is Unknown One round begins is firsts = first-known One round is refl firsts
   settling-is Unknown Unknown round begins is firsts = first-zero begins firsts
   settling-is Zero value round begins is firsts = first-zero (begins ∙ (sym (known-stays 0 Zero begins (omega arith) refl) ∙ is)) firsts
   settling-is One value round begins is firsts = first-zero (begins ∙ (sym (known-stays 0 One begins (omega arith) refl) ∙ is)) firsts
 
-settling-same : {sequence other : ℕ → List Tri} (i : ℕ) (begun value : Tri) (round : ℕ) → ((k : ℕ) → sequence k ≡ other k) → IsSettlingRound sequence i begun value round → IsSettlingRound other i begun value round
+settling-same :
+    {sequence other : ℕ → List Tri} (i : ℕ) (begun value : Tri) (round : ℕ) → ((k : ℕ) → sequence k ≡ other k) →
+    IsSettlingRound sequence i begun value round → IsSettlingRound other i begun value round
 settling-same i Unknown Zero round same is = first-same same is
 settling-same i Unknown One round same is = first-same same is
 settling-same i Unknown Unknown round same is = is

@@ -1,5 +1,5 @@
 -- The values that a round changed, taken over into the state, and the round noted at them.
-use Rattle.std.proofs.Common.{◌≡◌, ◌≢◌, ℕ, zero, suc, ◌+◌, ◌<◌, ◌≤◌, Bool, List, [], ◌∷◌, length, set, slice_index, get_or, replicate, All, refl, sym, ap, ◌∙◌, subst, arith, inl, inr}
+use Rattle.std.proofs.Common.{◌≡◌, ◌≢◌, ℕ, zero, suc, ◌<◌, ◌≤◌, Bool, List, [], ◌∷◌, length, set, slice_index, get_or, replicate, All, refl, sym, ap, ◌∙◌, subst, arith, inl, inr}
 use Rattle.std.specs.Prelude.{Contains, fold, slice_set}
 use Rattle.std.proofs.lemmas.Bool.{cases_eq, cases_lt}
 use Rattle.std.proofs.lemmas.List.{get_or-set_same, get_or-set_other, get_or_past, get_or-replicate, length-replicate, length-set}
@@ -8,7 +8,7 @@ use Rattle.hz_core.specs.declared.tri.Tri.{Tri}
 use Rattle.hz_core.specs.declared.tri.Tri.TheVariants.{Zero}
 use Rattle.hz_net.specs.Network.{Driver, value_at}
 use Rattle.hz_pass.specs.declared.round.Rule.{Rule}
-use Rattle.hz_pass.specs.Frontier.{next_state, ListsChanges, IsQuiet, IsRound, taken_over}
+use Rattle.hz_pass.specs.Frontier.{IsQuiet, IsRound, taken_over}
 use Rattle.hz_pass.proofs.Places.{same-values}
 use Rattle.hz_pass.proofs.WholeRounds.{quiet-after}
 use Rattle.hz_pass.proofs.Values.{same-or-differ, length-next_state}
@@ -34,7 +34,9 @@ none-noted noted count fresh i = ap (λ (rounds : List ℕ). slice_index rounds 
 ])
 
 -- what has the new value already keeps it
-taken-kept : (next state : List Tri) (list : List ℕ) (i : ℕ) → i < length state → value_at state i ≡ value_at next i → value_at (taken_over next state list) i ≡ value_at next i
+taken-kept :
+    (next state : List Tri) (list : List ℕ) (i : ℕ) → i < length state → value_at state i ≡ value_at next i →
+    value_at (taken_over next state list) i ≡ value_at next i
 taken-kept next state [] i inside is = is
 taken-kept next state (x ∷ list) i inside is =
     taken-kept next (set state x (value_at next x)) list i (omega (arith, inside, length-set state x (value_at next x)))
@@ -44,7 +46,9 @@ taken-kept next state (x ∷ list) i inside is =
     ])
 
 -- and a listed variable gets it
-taken-listed : (next state : List Tri) (list : List ℕ) (i : ℕ) → i < length state → Contains list i → value_at (taken_over next state list) i ≡ value_at next i
+taken-listed :
+    (next state : List Tri) (list : List ℕ) (i : ℕ) → i < length state → Contains list i →
+    value_at (taken_over next state list) i ≡ value_at next i
 taken-listed next state [] i inside there = absurd (omega (arith, there.1))
 taken-listed next state (x ∷ list) i inside (zero, few, e) =
     subst (λ (n : ℕ). value_at (taken_over next state (x ∷ list)) n ≡ value_at next n) e
@@ -52,7 +56,9 @@ taken-listed next state (x ∷ list) i inside (zero, few, e) =
 taken-listed next state (x ∷ list) i inside (suc k, few, e) =
     taken-listed next (set state x (value_at next x)) list i (omega (arith, inside, length-set state x (value_at next x))) (k, omega (arith, few), e)
 
-noted-kept : (round : ℕ) (noted list : List ℕ) (i : ℕ) → i < length noted → slice_index noted i ≡ round → slice_index (noted_at round noted list) i ≡ round
+noted-kept :
+    (round : ℕ) (noted list : List ℕ) (i : ℕ) → i < length noted → slice_index noted i ≡ round →
+    slice_index (noted_at round noted list) i ≡ round
 noted-kept round noted [] i inside is = is
 noted-kept round noted (x ∷ list) i inside is =
     noted-kept round (set noted x round) list i (omega (arith, inside, length-set noted x round))
@@ -61,7 +67,9 @@ noted-kept round noted (x ∷ list) i inside is =
       | inr other ↦ get_or-set_other noted x i round 0 other ∙ is
     ])
 
-noted-listed : (round : ℕ) (noted list : List ℕ) (i : ℕ) → i < length noted → Contains list i → slice_index (noted_at round noted list) i ≡ round
+noted-listed :
+    (round : ℕ) (noted list : List ℕ) (i : ℕ) → i < length noted → Contains list i →
+    slice_index (noted_at round noted list) i ≡ round
 noted-listed round noted [] i inside there = absurd (omega (arith, there.1))
 noted-listed round noted (x ∷ list) i inside (zero, few, e) =
     subst (λ (n : ℕ). slice_index (noted_at round noted (x ∷ list)) n ≡ round) e
@@ -69,7 +77,9 @@ noted-listed round noted (x ∷ list) i inside (zero, few, e) =
 noted-listed round noted (x ∷ list) i inside (suc k, few, e) =
     noted-listed round (set noted x round) list i (omega (arith, inside, length-set noted x round)) (k, omega (arith, few), e)
 
-noted-other : (round : ℕ) (noted list : List ℕ) (i : ℕ) → (Contains list i → ⊥) → slice_index (noted_at round noted list) i ≡ slice_index noted i
+noted-other :
+    (round : ℕ) (noted list : List ℕ) (i : ℕ) → (Contains list i → ⊥) →
+    slice_index (noted_at round noted list) i ≡ slice_index noted i
 noted-other round noted [] i none = refl
 noted-other round noted (x ∷ list) i none =
     let other : i ≢ x = λ e. none (0, omega arith, sym e) in
@@ -79,7 +89,9 @@ pub some-long : (list : List ℕ) → list ≢ [] → 1 ≤ length list
 some-long [] some = absurd (some refl)
 some-long (x ∷ list) some = omega arith
 
-module _ {rule : Rule} {net : List Driver} {input : List Bool} {state next : List Tri} {changed : List ℕ} (long : length state ≡ length net) (round : IsRound rule net input state next changed) where
+module _
+    {rule : Rule} {net : List Driver} {input : List Bool} {state next : List Tri} {changed : List ℕ}
+    (long : length state ≡ length net) (round : IsRound rule net input state next changed) where
   -- with what changed the state is the next one
   pub taken-over : taken_over next state changed ≡ next
   taken-over =
@@ -93,20 +105,23 @@ module _ {rule : Rule} {net : List Driver} {input : List Bool} {state next : Lis
       ])
 
   -- the round is noted where it changed something, and only there
-  pub noted-over : (number : ℕ) (noted : List ℕ) → length noted ≡ length net → (i : ℕ) → i < length net → IsNotedAfter number state next i (slice_index noted i) (slice_index (noted_at number noted changed) i)
+  pub noted-over :
+      (number : ℕ) (noted : List ℕ) → length noted ≡ length net → (i : ℕ) → i < length net →
+      IsNotedAfter number state next i (slice_index noted i) (slice_index (noted_at number noted changed) i)
   noted-over number noted noted_long i inside = record {
     same = λ e. noted-other number noted changed i (λ there. round.lists.each i there e);
     changed = λ differ. noted-listed number noted changed i (omega (arith, inside, noted_long)) (round.lists.every i differ);
   }
 
   -- the same with what a call was handed
-  pub state-after : (list : List ℕ) (after : List Tri) → list ≡ changed → after ≡ taken_over next state list → after ≡ next
-  state-after list after same taken = taken ∙ (ap (taken_over next state) same ∙ taken-over)
+  pub state-after :
+      {list : List ℕ} {after : List Tri} → list ≡ changed → after ≡ taken_over next state list → after ≡ next
+  state-after same taken = taken ∙ (ap (taken_over next state) same ∙ taken-over)
 
   pub noted-after :
-      (number : ℕ) (noted list after : List ℕ) → length noted ≡ length net → list ≡ changed → after ≡ noted_at number noted list →
+      (number : ℕ) (noted : List ℕ) {list after : List ℕ} → length noted ≡ length net → list ≡ changed → after ≡ noted_at number noted list →
       (i : ℕ) → i < length net → IsNotedAfter number state next i (slice_index noted i) (slice_index after i)
-  noted-after number noted list after noted_long same taken i inside =
+  noted-after number noted {list} {after} noted_long same taken i inside =
       subst (λ (rounds : List ℕ). IsNotedAfter number state next i (slice_index noted i) (slice_index rounds i)) (sym (taken ∙ ap (noted_at number noted) same))
       (noted-over number noted noted_long i inside)
 
@@ -139,8 +154,8 @@ module _ {rule : Rule} {net : List Driver} {input : List Bool} {state next : Lis
         | inr out ↦ absurd (round.lists.each i there (get_or_past next i Zero (omega (arith, out, next_long, long)) ∙ sym (get_or_past state i Zero (omega (arith, out, long)))))
       ]
 
-  pub changed-all : (count : ℕ) (list : List ℕ) → length net ≡ count → list ≡ changed → All (λ i. i < count) list
-  changed-all count list same is =
+  pub changed-all : {count : ℕ} {list : List ℕ} → length net ≡ count → list ≡ changed → All (λ i. i < count) list
+  changed-all {count} {list} same is =
       subst (λ (n : ℕ). All (λ i. i < n) list) same
       (subst (All (λ i. i < length net)) (sym is)
       (All-from_get_or (λ (i : ℕ). i < length net) changed 0 (λ k few. changed-inside (get_or changed k 0) (Contains-get_or changed k 0 few))))
@@ -150,7 +165,8 @@ module _ {rule : Rule} {net : List Driver} {input : List Bool} {state next : Lis
   next-long = ap (length {A = Tri}) round.made ∙ length-next_state rule net input state long
 
   -- after the round, what reads nothing that changed stays
-  pub quiet-list : (list : List ℕ) (after : List Tri) → list ≡ changed → after ≡ next → IsQuiet rule net input after list
-  quiet-list list after same is =
+  pub quiet-list :
+      {list : List ℕ} {after : List Tri} → list ≡ changed → after ≡ next → IsQuiet rule net input after list
+  quiet-list {list} {after} same is =
       subst (λ (values : List Tri). IsQuiet rule net input values list) (sym is)
       (subst (IsQuiet rule net input next) (sym same) (quiet-after long round))

@@ -8,11 +8,11 @@ use Rattle.hz_core.specs.Ternary.{is_below}
 use Rattle.hz_core.specs.contracts.tri.TriPartialEq.TheImpl.{eq-value}
 use Rattle.hz_core.proofs.Refinements.{get_or-AllBelow}
 use Rattle.hz_net.specs.Network.{Driver, value_at, excitation3}
-use Rattle.hz_net.specs.Passes.{excitations, join_each}
+use Rattle.hz_net.specs.Passes.{excitations}
 use Rattle.hz_net.proofs.Excitations.{length-excitations, at-excitations, length-join_each, at-join_each, AllBelow-excitations}
 use Rattle.hz_pass.specs.declared.round.Rule.{Rule}
 use Rattle.hz_pass.specs.declared.round.Rule.TheVariants.{Join, Replace}
-use Rattle.hz_pass.specs.Frontier.{next_value, next_state, Falls, is_open, open_weight_from, open_weight}
+use Rattle.hz_pass.specs.Frontier.{next_value, next_state, Falls, is_open, open_weight_from}
 
 -- two values are the same or differ
 pub same-or-differ : (value other : Tri) → (value ≡ other) ⊎ (value ≢ other)
@@ -76,7 +76,9 @@ at-next_state Join net input state i long inside =
 at-next_state Replace net input state i long inside = at-excitations net input state i inside
 
 -- the same excitation once more changes nothing
-pub once-more : (rule : Rule) (value excited : Tri) → next_value rule (next_value rule value excited) excited ≡ next_value rule value excited
+pub once-more :
+    (rule : Rule) (value excited : Tri) →
+    next_value rule (next_value rule value excited) excited ≡ next_value rule value excited
 once-more Join Zero Zero = refl
 once-more Join Zero One = refl
 once-more Join Zero Unknown = refl
@@ -89,7 +91,9 @@ once-more Join Unknown Unknown = refl
 once-more Replace value excited = refl
 
 -- a variable that changes could change, and can't any more
-pub closes : (rule : Rule) (value excited : Tri) → FallsAt rule value excited → next_value rule value excited ≢ value → (is_open rule value ≡ true) × (is_open rule (next_value rule value excited) ≡ false)
+pub closes :
+    (rule : Rule) (value excited : Tri) → FallsAt rule value excited → next_value rule value excited ≢ value →
+    (is_open rule value ≡ true) × (is_open rule (next_value rule value excited) ≡ false)
 closes Join Zero Zero falls differ = absurd (differ refl)
 closes Join Zero One falls differ = (refl, refl)
 closes Join Zero Unknown falls differ = (refl, refl)
@@ -130,7 +134,8 @@ open_weight-set rule weight first (other ∷ values) (suc i) value inside opens 
     )
 
 -- weights of one: as many as there are
-pub open_weight-ones : (rule : Rule) (first : ℕ) (values : List Tri) → open_weight_from rule (λ i. 1) first values ≤ length values
+pub open_weight-ones :
+    (rule : Rule) (first : ℕ) (values : List Tri) → open_weight_from rule (λ i. 1) first values ≤ length values
 open_weight-ones rule first [] = omega arith
 open_weight-ones rule first (value ∷ values) =
     omega (arith, at-most-one (is_open rule value), open_weight-ones rule (suc first) values)

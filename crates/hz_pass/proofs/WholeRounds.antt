@@ -1,10 +1,10 @@
 -- A round that evaluates every variable, or the readers of what the round before changed, makes the whole next state.
-use Rattle.std.proofs.Common.{◌≡◌, ◌≢◌, ℕ, ◌<◌, ◌≤◌, Bool, List, length, sym, ap, ◌∙◌, arith, inl, inr}
+use Rattle.std.proofs.Common.{◌≡◌, ℕ, ◌<◌, Bool, List, length, sym, ap, ◌∙◌, arith, inl, inr}
 use Rattle.std.specs.Prelude.{Contains}
 use Rattle.hz_core.specs.declared.tri.Tri.{Tri}
 use Rattle.hz_core.specs.Netlist.{Netlist, IsCircuit}
 use Rattle.hz_net.specs.Network.{Driver, network_of, driver_at, value_at, excitation3}
-use Rattle.hz_net.specs.Reads.{Reads, readers_of}
+use Rattle.hz_net.specs.Reads.{readers_of}
 use Rattle.hz_net.proofs.Readers.{driven3-same, reads-reader}
 use Rattle.hz_pass.specs.declared.round.Rule.{Rule}
 use Rattle.hz_pass.specs.Frontier.{next_value, next_state, IsMade, IsQuiet, IsRoundSoFar, IsRound}

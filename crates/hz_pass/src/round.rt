@@ -144,7 +144,13 @@ impl Round<'_> {
 }
 
 // Takes the changed values over into the state, and notes the round at each of them.
-pub(crate) fn take_over(changed: &[u32], next: &[Tri], round: u32, state: &mut [Tri], noted: &mut [u32])
+pub(crate) fn take_over(
+    changed: &[u32],
+    next: &[Tri],
+    round: u32,
+    state: &mut [Tri],
+    noted: &mut [u32],
+)
     requires inside { All (λ var. var < length next.now) changed.now }
     requires state { length state.old ≡ length next.now }
     requires noted { length noted.old ≡ length next.now }

@@ -1,4 +1,4 @@
-use Rattle.std.proofs.Common.{◌<◌, ◌∙◌, ℕ, arith, inl, inr, ap, subst, sym}
+use Rattle.std.proofs.Common.{◌∙◌, ℕ, arith, inl, inr, subst}
 use Rattle.std.proofs.lemmas.Bool.{cases_lt}
 use Rattle.hz_net.specs.Network.{network_of}
 use Rattle.hz_pass.specs.Frontier.{IsMade}

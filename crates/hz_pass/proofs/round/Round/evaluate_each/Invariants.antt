@@ -1,4 +1,4 @@
-use Rattle.std.proofs.Common.{◌≡◌, ◌+◌, ◌<◌, ℕ, get_or, length}
+use Rattle.std.proofs.Common.{◌≡◌, ◌+◌, ◌<◌, ℕ, get_or}
 use Rattle.std.specs.Prelude.{vec_capacity}
 use Rattle.hz_net.specs.Network.{network_of}
 use Rattle.hz_pass.specs.Frontier.{IsMade, IsRoundSoFar}

@@ -1,4 +1,4 @@
-use Rattle.std.proofs.Common.{◌≡◌, ◌+◌, ◌<◌, ℕ, get_or, take, length}
+use Rattle.std.proofs.Common.{◌≡◌, ◌+◌, ◌<◌, ℕ, get_or, take}
 use Rattle.std.specs.Prelude.{Contains, sum_by, vec_capacity}
 use Rattle.hz_net.specs.Network.{network_of}
 use Rattle.hz_net.specs.Reads.{readers_of}
