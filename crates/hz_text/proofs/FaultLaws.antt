@@ -12,7 +12,7 @@ use Rattle.std.proofs.lemmas.Option.{same_Some}
 use Rattle.hz_core.specs.Netlist.{Netlist, node_named}
 use Rattle.hz_gmw.specs.Least.{IsLeastOf}
 use Rattle.hz_line.specs.Line.{lines_of}
-use Rattle.hz_line.specs.Statement.{Numbered, first_line, numbered_statements, first_malformed}
+use Rattle.hz_line.specs.Statement.{Numbered, PassesOn, first_line, numbered_statements, first_malformed}
 use Rattle.hz_line.proofs.StatementLemmas.{Ascends, numbered_from-Ascends, PassesOn-above, first_line-Some, first_line-None, meaning_at-first, meaning_at-none, numbered_from-map, first_malformed-map}
 use Rattle.hz_text.specs.Statement.{Statement, statement_of, statements_of}
 use Rattle.hz_text.specs.declared.fault.TextFault.TheVariants.{Form, Unknown, Twice, Missing, Bit, Order, TooMany}
@@ -22,22 +22,13 @@ use Rattle.hz_text.specs.ScriptFault.{looked_statements, allowed_in, has_unknown
 use Rattle.hz_text.specs.Rules.{nodes_of, least_unassigned, first_fault_of}
 use Rattle.hz_text.specs.ScriptRules.{has_node_twice, least_missing, first_out_of_order, last_beyond, script_rules, first_fault}
 use Rattle.hz_text.proofs.BuildLemmas.{or_parts}
-use Rattle.hz_text.proofs.LeastFault.{unanswered, NoneBelow, Outcome, outcome-step, any_number, none_past, answers_first, option_or-None, answers_itself}
+use Rattle.hz_text.proofs.LeastFault.{unanswered, Outcome, answers_first, answers_itself}
+use Rattle.hz_text.proofs.TextLaws.{Judged, looked-Ascends, answers_malformed, text-outcome, twice-line}
 use Rattle.hz_text.proofs.NodeLemmas.{marks_of, length-marks, get_or-marks}
 
 -- the statements that the reader reads are those of the text, looked up
 pub looked_statements-read : (netlist : Netlist) (text : List ℕ) → numbered_statements (looked_by netlist) text ≡ looked_statements netlist text
 looked_statements-read netlist text = numbered_from-map (looked_of netlist) statement_of 1 (lines_of text)
-
-looked-Ascends : (netlist : Netlist) (text : List ℕ) → Ascends 1 (looked_statements netlist text)
-looked-Ascends netlist text = subst (Ascends 1) (looked_statements-read netlist text) (numbered_from-Ascends (looked_by netlist) 1 (lines_of text))
-
-formed : (netlist : Netlist) (text : List ℕ) (answer : Option ℕ) → first_malformed (looked_by netlist) 1 (lines_of text) ≡ answer → first_malformed statement_of 1 (lines_of text) ≡ answer
-formed netlist text answer e = sym (first_malformed-map (looked_of netlist) statement_of 1 (lines_of text)) ∙ e
-
-answers_malformed : (netlist : Netlist) (text : List ℕ) (answer : Option ℕ) → first_malformed (looked_by netlist) 1 (lines_of text) ≡ answer → IsLeastOf (λ line. Stands netlist text (Form line)) answer
-answers_malformed netlist text None e = meaning_at-none statement_of text (formed netlist text None e)
-answers_malformed netlist text (Some line) e = let at = meaning_at-first statement_of text line (formed netlist text (Some line) e) in record { here = at.0; least = at.1 }
 
 -- the first input that is not assigned
 pub record IsLeastUnassigned (inputs : ℕ) (all : List Assigned) (node : ℕ) : Type 0 where
@@ -213,59 +204,32 @@ twice-names netlist allowed (first ∷ later) h =
     step : AllKnown netlist allowed later → (k : ℕ) × (node_named netlist first.name ≡ Some k) → has_repeat nat_eq (nodes_of (map (assigned_of netlist) later)) ≡ has_repeat bytes_eq (map (λ assignment. assignment.name) later) → has_repeat nat_eq (nodes_of (map (assigned_of netlist) (first ∷ later))) ≡ has_repeat bytes_eq (map (λ assignment. assignment.name) (first ∷ later))
     step rest (k, is) ih = rw is (ap (λ b. b || has_repeat nat_eq (nodes_of (map (assigned_of netlist) later))) (any-names netlist allowed first.name k later is rest) ∙ ap (λ b. list_any (bytes_eq first.name) (map (λ assignment. assignment.name) later) || b) ih)
 
-pub first_line-cons : {S : Type 0} (test : S → Bool) (first : Numbered S) (later : List (Numbered S)) → first_line test (first ∷ later) ≡ cond (test first.statement) (Some first.line) (first_line test later)
-first_line-cons test first later = by_test (test first.statement) refl
-  where
-    by_test : (b : Bool) → test first.statement ≡ b → first_line test (first ∷ later) ≡ cond b (Some first.line) (first_line test later)
-    by_test true t = rw t refl
-    by_test false t = rw t refl
-
-twice-line : (netlist : Netlist) (statements : List (Numbered Statement)) → first_line (has_unknown netlist.inputs) (map (looked_up netlist) statements) ≡ None → first_line has_node_twice (map (looked_up netlist) statements) ≡ first_line has_twice statements
-twice-line netlist [] e = refl
-twice-line netlist (first ∷ later) e =
-    by_test (has_unknown netlist.inputs (looked_of netlist first.statement)) refl (sym (first_line-cons (has_unknown netlist.inputs) (looked_up netlist first) (map (looked_up netlist) later)) ∙ e) (twice-line netlist later)
-  where
-    by_test : (b : Bool) → has_unknown netlist.inputs (looked_of netlist first.statement) ≡ b → cond b (Some first.line) (first_line (has_unknown netlist.inputs) (map (looked_up netlist) later)) ≡ None → (first_line (has_unknown netlist.inputs) (map (looked_up netlist) later) ≡ None → first_line has_node_twice (map (looked_up netlist) later) ≡ first_line has_twice later) → first_line has_node_twice (map (looked_up netlist) (first ∷ later)) ≡ first_line has_twice (first ∷ later)
-    by_test true t w ih = cc
-    by_test false t w ih =
-        first_line-cons has_node_twice (looked_up netlist first) (map (looked_up netlist) later)
-        ∙ ap (λ b. cond b (Some first.line) (first_line has_node_twice (map (looked_up netlist) later))) (twice-names netlist (allowed_in first.statement.keyword) first.statement.assignments t)
-        ∙ ap (λ rest. cond (has_twice first.statement) (Some first.line) rest) (ih w)
-        ∙ sym (first_line-cons has_twice first later)
-
--- what the passes answer over the statements of a text without a malformed line
-passes-outcome : (netlist : Netlist) (text : List ℕ) → NoneBelow (Stands netlist text) 2 → Outcome (Stands netlist text) (first_fault netlist.inputs (looked_statements netlist text))
-passes-outcome netlist text below =
-    let stands = Stands netlist text in
+-- each pass answers the least place of its fault
+judged : (netlist : Netlist) (text : List ℕ) → Judged (Stands netlist text) (script_rules netlist.inputs) (first_malformed (looked_by netlist) 1 (lines_of text)) (looked_statements netlist text)
+judged netlist text =
     let inputs = netlist.inputs in
     let looked = looked_statements netlist text in
-    let up = looked-Ascends netlist text in
-    let last : IsOrdered looked → NoneBelow stands 7 → Outcome stands (option_map TooMany (last_beyond looked)) = λ ordered below7.
+    let up = looked-Ascends (looked_of netlist) statement_of text in
     let P : Option ℕ → Type 0 = λ answer. IsLeastOf (λ place. line_beyond looked ≡ Some place) answer in
-    subst (Outcome stands) (option_or-None (option_map TooMany (last_beyond looked)))
-    (outcome-step stands TooMany 7 (last_beyond looked) None (λ place. (refl, refl, refl)) below7
-    (subst P (line_beyond-ordered looked ordered) (answers_itself (line_beyond looked)))
-    (λ e below8. none_past stands (λ s. s) below8)) in
-    let order = λ (below6 : NoneBelow stands 6). outcome-step stands Order 6 (first_out_of_order looked) _ (λ place. (refl, refl, refl)) below6 (answers_order looked (first_out_of_order looked) up refl) (λ e. last (order-None looked e)) in
-    let bit = λ (below5 : NoneBelow stands 5). outcome-step stands Bit 5 (first_line has_no_bit looked) _ (λ place. (refl, refl, refl)) below5 (answers_first has_no_bit looked (first_line has_no_bit looked) up refl) (λ e. order) in
-    let missing = λ (below4 : NoneBelow stands 4). outcome-step stands Missing 4 (least_missing inputs looked) _ (λ place. (refl, refl, refl)) below4 (answers_missing inputs looked (least_missing inputs looked) refl) (λ e. bit) in
-    outcome-step stands Unknown 2 (first_line (has_unknown inputs) looked) _ (λ place. (refl, refl, refl)) below
-    (answers_first (has_unknown inputs) looked (first_line (has_unknown inputs) looked) up refl)
-    (λ known below3.
-    let same = twice-line netlist (statements_of text) known in
-    rw same (outcome-step stands Twice 3 (first_line has_twice (statements_of text)) _ (λ place. (refl, refl, refl)) below3
-    (answers_first has_twice (statements_of text) (first_line has_twice (statements_of text)) (numbered_from-Ascends statement_of 1 (lines_of text)) refl)
-    (λ e. missing)))
+    let Q : Option ℕ → Type 0 = IsLeastOf (PassesOn has_twice (statements_of text)) in
+    record {
+      form = answers_malformed (looked_of netlist) statement_of text;
+      unknown = answers_first (has_unknown inputs) looked (first_line (has_unknown inputs) looked) up refl;
+      twice = λ known.
+          let same = twice-line (looked_of netlist) (has_unknown inputs) has_node_twice has_twice
+          (λ statement. twice-names netlist (allowed_in statement.keyword) statement.assignments) (statements_of text) known in
+          subst Q (sym same) (answers_first has_twice (statements_of text) (first_line has_twice (statements_of text)) (numbered_from-Ascends statement_of 1 (lines_of text)) refl);
+      missing = answers_missing inputs looked (least_missing inputs looked) refl;
+      bit = answers_first has_no_bit looked (first_line has_no_bit looked) up refl;
+      order = answers_order looked (first_out_of_order looked) up refl;
+      beyond = λ none. subst P (line_beyond-ordered looked (order-None looked none)) (answers_itself (line_beyond looked));
+      memory = λ stands. stands;
+    }
 
 -- what the reader and the passes answer over a text
-pub text-outcome : (netlist : Netlist) (text : List ℕ) → Outcome (Stands netlist text) (first_fault_of (looked_by netlist) (script_rules netlist.inputs) text)
-text-outcome netlist text =
-    let stands = Stands netlist text in
-    let P : List (Numbered Looked) → Type 0 = λ statements. Outcome stands (option_or (option_map Form (first_malformed (looked_by netlist) 1 (lines_of text))) (first_fault netlist.inputs statements)) in
-    subst P (sym (looked_statements-read netlist text))
-    (outcome-step stands Form 1 (first_malformed (looked_by netlist) 1 (lines_of text)) _ (λ place. (refl, refl, refl)) (any_number stands)
-    (answers_malformed netlist text (first_malformed (looked_by netlist) 1 (lines_of text)) refl) (λ e below. passes-outcome netlist text below))
+pub script-outcome : (netlist : Netlist) (text : List ℕ) → Outcome (Stands netlist text) (first_fault_of (looked_by netlist) (script_rules netlist.inputs) text)
+script-outcome netlist text = text-outcome (looked_of netlist) statement_of text (script_rules netlist.inputs) (Stands netlist text) (judged netlist text)
 
 -- where no line is malformed and no pass has an answer
 pub clear-faultless : (netlist : Netlist) (text : List ℕ) → first_malformed (looked_by netlist) 1 (lines_of text) ≡ None → first_fault netlist.inputs (looked_statements netlist text) ≡ None → IsFaultless netlist text
-clear-faultless netlist text formed clear = unanswered (Stands netlist text) _ (text-outcome netlist text) (rw (formed, looked_statements-read netlist text, clear) refl)
+clear-faultless netlist text formed clear = unanswered (Stands netlist text) _ (script-outcome netlist text) (rw (formed, looked_statements-read netlist text, clear) refl)

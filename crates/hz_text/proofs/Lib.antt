@@ -2,6 +2,7 @@ pub mod PartLemmas
 pub mod ScriptLemmas
 pub mod NodeLemmas
 pub mod BuildLemmas
+pub mod TextLaws
 pub mod FaultLaws
 pub mod ReadLaws
 pub mod PrintLemmas

@@ -11,7 +11,8 @@ use Rattle.hz_text.specs.declared.run.order.Place.{Place}
 use Rattle.hz_text.specs.declared.run.order.Place.TheVariants as place
 use Rattle.hz_text.specs.RunStatement.{Header, Start, Input, Run, Step, Cycle, End}
 use Rattle.hz_text.specs.RunLookup.{LookedRun}
-use Rattle.hz_text.specs.RunFault.{assignments_in, is_header, is_start_line, is_input_line, is_end}
+use Rattle.hz_text.specs.RunFault.{assignments_in, is_start_line, is_input_line}
+use Rattle.hz_text.specs.OrderPass.{is_header, is_end}
 use Rattle.hz_text.specs.RunOrder.{cycle_lines, run_lines, RunShape, shape_lines, IsOrdered, MayGoOn, unnumbered, IsOutOfPlace, BreaksOrder}
 use Rattle.hz_text.specs.OrderPass.{place_after, end_out_of_order, runs_out_of_order, out_of_order_with, input_out_of_order, start_out_of_order, run_out_of_order}
 

@@ -27,7 +27,8 @@ use Rattle.hz_text.specs.ScriptText.{IsScriptOf, IsScriptFor, IsValue}
 use Rattle.hz_text.specs.Printed.{letter_of, statement_text, listed_from, script_text}
 use Rattle.hz_text.proofs.NodeLemmas.{marks_of, length-marks, get_or-marks}
 use Rattle.hz_text.proofs.BuildLemmas.{nodes_of-pairs, repeat_from_IsDistinct}
-use Rattle.hz_text.proofs.FaultLaws.{first_line-cons, clear-faultless}
+use Rattle.hz_text.proofs.FaultLaws.{clear-faultless}
+use Rattle.hz_text.proofs.TextLaws.{first_line-cons}
 use Rattle.hz_text.proofs.PrintLemmas.{listed-below}
 use Rattle.hz_text.proofs.WordLaws.{AreNodes, spelled, stated, numbered-statement, formed-statement}
 

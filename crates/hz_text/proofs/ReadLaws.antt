@@ -26,7 +26,8 @@ use Rattle.hz_text.specs.Bits.{IsPair}
 use Rattle.hz_text.specs.ScriptReading.{IsSound, IsAccepted}
 use Rattle.hz_text.specs.ScriptValue.{ScriptOf, IsChange}
 use Rattle.hz_text.specs.ScriptText.{IsScriptOf, IsScriptFor}
-use Rattle.hz_text.proofs.FaultLaws.{known, first_line-cons, unassigned-None, order-None, IsOrdered, looked_statements-read, text-outcome}
+use Rattle.hz_text.proofs.FaultLaws.{known, unassigned-None, order-None, IsOrdered, looked_statements-read, script-outcome}
+use Rattle.hz_text.proofs.TextLaws.{first_line-cons}
 use Rattle.hz_text.proofs.LeastFault.{answered, unanswered, checked-none}
 use Rattle.hz_text.proofs.BuildLemmas.{or_parts, nodes_of-pairs, IsDistinct-from_repeat}
 
@@ -193,10 +194,10 @@ accepted netlist text entries h below =
       some = omega (arith, many, ordered-some (map entered entries) (order-None (map entered entries) clear.order));
       few = omega (arith, many, short (map entered entries) clear.few);
       sound = entries-sound netlist.inputs (length netlist.names) entries clear below;
-      faultless = unanswered (Stands netlist text) _ (text-outcome netlist text) (checked-none (looked_by netlist) (script_rules netlist.inputs) text (map entered entries) h);
+      faultless = unanswered (Stands netlist text) _ (script-outcome netlist text) (checked-none (looked_by netlist) (script_rules netlist.inputs) text (map entered entries) h);
       usable = λ whole. subst P looked (λ script is. usable netlist (map entered entries) script whole clear is);
     }
 
 -- what the reader and the passes answer, as a refusal
 pub refusal : (netlist : Netlist) (text : List ℕ) (fault : TextFault) → IsAnswer (first_fault_of (looked_by netlist) (script_rules netlist.inputs) text) fault → IsRefusal netlist text fault
-refusal netlist text fault h = answered (Stands netlist text) _ fault (text-outcome netlist text) h
+refusal netlist text fault h = answered (Stands netlist text) _ fault (script-outcome netlist text) h

@@ -17,7 +17,8 @@ use Rattle.hz_text.specs.Bits.{pair_of, bits_at, IsWholeStart}
 use Rattle.hz_text.specs.RunStatement.{Header, Start, Input, Run, Step, Cycle, End}
 use Rattle.hz_text.specs.RunLookup.{RunEntry, LookedRun, run_entered, run_entered_all, run_held_by}
 use Rattle.hz_text.specs.RunValue.{RunOf, with_step_in, with_step}
-use Rattle.hz_text.specs.RunFault.{assignments_in, variables_in, names_unknown, lacks_bit, is_header, is_start_line, is_input_line, is_end, first_start, first_input}
+use Rattle.hz_text.specs.RunFault.{assignments_in, variables_in, names_unknown, lacks_bit, is_start_line, is_input_line, first_start, first_input}
+use Rattle.hz_text.specs.OrderPass.{is_header, is_end}
 use Rattle.hz_text.specs.OrderPass.{place_after, end_out_of_order, runs_out_of_order, out_of_order_with, start_out_of_order, input_out_of_order, run_out_of_order}
 use Rattle.hz_text.specs.RunRules.{beyond_from, AssignsBelow, names_node_twice, least_left_out, lesser, least_missing_node, first_run_fault}
 use Rattle.hz_text.specs.RunText.{step_of, run_statements}

@@ -26,7 +26,7 @@ use Rattle.hz_text.specs.OrderPass.{place_after_step, runs_out_of_order, run_out
 use Rattle.hz_text.specs.RunRules.{beyond_from, names_node_twice, least_missing_node, first_run_fault}
 use Rattle.hz_text.specs.RunPrinted.{all_listed, run_text_printed}
 use Rattle.hz_text.proofs.BuildLemmas.{nodes_of-pairs}
-use Rattle.hz_text.proofs.FaultLaws.{first_line-cons}
+use Rattle.hz_text.proofs.TextLaws.{first_line-cons}
 use Rattle.hz_text.proofs.PrintLemmas.{listed-below}
 use Rattle.hz_text.proofs.PrintLaws.{start-known, all-bits, inputs-known, listed-fresh, listed-whole, listed-back}
 use Rattle.hz_text.proofs.RunFaultLaws.{looked_runs-read, clear-faultless}

@@ -1,12 +1,22 @@
 -- What the pass over the order of a run text answers, by where it is.
-use Rattle.std.specs.Prelude.{ℕ, Bool, List, [], ◌∷◌, Option, Some, None, if◌then◌else◌}
+use Rattle.std.specs.Prelude.{ℕ, Bool, true, false, List, [], ◌∷◌, Option, Some, None, if◌then◌else◌}
 use Rattle.std.specs.Option.{option_map_or}
 use Rattle.hz_line.specs.Statement.{Numbered}
 use Rattle.hz_text.specs.declared.run.order.Place.{Place}
 use Rattle.hz_text.specs.declared.run.order.Place.TheVariants as place
-use Rattle.hz_text.specs.RunStatement.{Run, Step, Cycle}
+use Rattle.hz_text.specs.RunStatement.{StatementOf, Header, Run, Step, Cycle, End}
 use Rattle.hz_text.specs.RunLookup.{LookedRun}
-use Rattle.hz_text.specs.RunFault.{is_header, is_start_line, is_input_line, is_end}
+use Rattle.hz_text.specs.RunFault.{is_start_line, is_input_line}
+
+-- the statement is the header
+abbrev pub is_header : {A V : Type 0} → StatementOf A V → Bool
+is_header Header = true
+is_header _ = false
+
+-- the statement is the end
+abbrev pub is_end : {A V : Type 0} → StatementOf A V → Bool
+is_end End = true
+is_end _ = false
 
 -- a step stays where it is, and stands in a run
 abbrev pub place_after_step : Place → Option Place

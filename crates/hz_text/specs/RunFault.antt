@@ -41,22 +41,15 @@ names_twice statement = any_twice (assignments_in statement)
 abbrev pub lacks_bit : LookedRun → Bool
 lacks_bit statement = any_bitless (assignments_in statement)
 
--- the statement is the header; a start; an input line; the end
-abbrev pub is_header : {A V : Type 0} → StatementOf A V → Bool
-is_header Header = true
-is_header _ = false
-
+-- the statement is a start
 abbrev pub is_start_line : {A V : Type 0} → StatementOf A V → Bool
 is_start_line (Start assignments) = true
 is_start_line _ = false
 
+-- the statement is an input line
 abbrev pub is_input_line : {A V : Type 0} → StatementOf A V → Bool
 is_input_line (Input assignments) = true
 is_input_line _ = false
-
-abbrev pub is_end : {A V : Type 0} → StatementOf A V → Bool
-is_end End = true
-is_end _ = false
 
 -- what the first statement that passes the test assigns, if there is one
 abbrev pub first_assigned : (LookedRun → Bool) → List (Numbered LookedRun) → Option (List Assigned)

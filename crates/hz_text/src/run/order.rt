@@ -3,7 +3,8 @@
 ghost use Rattle.std.specs.Prelude.{◌≡◌};
 ghost use Rattle.hz_text.specs.declared.run.order.Place.TheVariants.{Between};
 ghost use Rattle.hz_text.specs.RunLookup.{run_held_by, run_entered_all};
-ghost use Rattle.hz_text.specs.RunFault.{is_header, is_start_line, is_input_line, is_end};
+ghost use Rattle.hz_text.specs.OrderPass.{is_header, is_end};
+ghost use Rattle.hz_text.specs.RunFault.{is_start_line, is_input_line};
 ghost use Rattle.hz_text.specs.OrderPass.{place_after_step, place_after_cycle, place_after, end_out_of_order, runs_out_of_order, input_out_of_order, start_out_of_order, run_out_of_order};
 
 use crate::run::statement::{RunEntry, RunHeld};
