@@ -1,17 +1,18 @@
 -- What each call of `Circuit` makes of a circuit is one, and what holds of the gates of a whole circuit.
-use Rattle.std.proofs.Common.{◌≡◌, ◌∙◌, refl, ℕ, ◌+◌, ◌-◌, ◌<◌, ◌≤◌, List, [], ◌∷◌, ◌++◌, length, Option, None, Some, IsTrue, All, arith, rules, length-append, add-zero}
+use Rattle.std.proofs.Common.{◌≡◌, ◌∙◌, refl, ℕ, Bool, true, false, cond, nat_le, nat_eq, get_or, subst, ◌+◌, ◌-◌, ◌<◌, ◌≤◌, List, [], ◌∷◌, ◌++◌, length, Option, None, Some, IsTrue, All, arith, rules, length-append, add-zero}
 use Rattle.std.proofs.Math.ListN.{length-set}
-use Rattle.std.specs.List.{IsDistinct}
+use Rattle.std.specs.List.{IsDistinct, list_any}
 use Rattle.std.specs.Str.{bytes_eq}
 use Rattle.std.specs.Cmp.Lexicographic.{nat_list_eq_equiv}
 use Rattle.std.proofs.lemmas.Bool.Decides.{nat_tests}
 use Rattle.std.proofs.lemmas.List.Sums.{sum_by-append, sum_by-set}
 use Rattle.std.proofs.lemmas.List.Elements.{All-nil, All-push, All-set, All-weaker}
+use Rattle.std.proofs.lemmas.Cmp.{nat_eq_equiv}
 use Rattle.std.proofs.lemmas.Map.Keys.{IsDistinct-push}
 use Rattle.hz_core.specs.declared.kind.Kind.{Kind}
 use Rattle.hz_core.specs.declared.kind.Kind.TheVariants.{And, Nand, Or, Nor, Xor, Xnor, Not, Buff}
 use Rattle.hz_core.specs.Gate.{takes}
-use Rattle.hz_core.specs.Netlist.{Gate, Netlist, IsName, IsCircuit, IsGateAmong, IsDataAmong, IsCutNumber, IsGateNumber, IsWhole, pin_count, variable_count, most_pins, primary_inputs, gate_at, node_named, empty_netlist, with_input, with_cut, with_data, with_gate, with_source, with_pin}
+use Rattle.hz_core.specs.Netlist.{Gate, Netlist, IsName, IsCircuit, IsGateAmong, IsDataAmong, IsCutNumber, IsGateNumber, IsWhole, pin_count, variable_count, most_pins, primary_inputs, data_of, gate_at, node_named, empty_netlist, with_input, with_cut, with_data, with_gate, with_source, with_pin, with_output}
 use Rattle.hz_core.proofs.ListLemmas.{list_any-from_position_none}
 
 -- what `new` makes
@@ -227,6 +228,51 @@ pub sources-at_gate :
     All (λ source. source < length netlist.names) (gate_at netlist node).sources
 sources-at_gate netlist node circuit is_gate =
     (circuit.gates (node - netlist.inputs) _ (omega (arith, circuit.nodes))).sources
+
+-- the data node of a cut stands among the cuts
+pub data_of-cut :
+    (netlist : Netlist) (cut : ℕ) → primary_inputs netlist ≤ cut →
+    data_of netlist cut ≡ get_or netlist.cuts (cut - primary_inputs netlist) None
+data_of-cut netlist cut above =
+    let is_cut : nat_le (primary_inputs netlist) cut ≡ true = grind (arith, nat_tests, above) in rw is_cut refl
+
+-- the data node of an input is a node
+pub data_of-node :
+    (netlist : Netlist) (input node : ℕ) → IsCircuit netlist → input < netlist.inputs → data_of netlist input ≡ Some node →
+    node < length netlist.names
+data_of-node netlist input node circuit inside is =
+    by_test (nat_le (primary_inputs netlist) input) refl is
+  where
+    by_test :
+        (b : Bool) → nat_le (primary_inputs netlist) input ≡ b →
+        cond b (get_or netlist.cuts (input - primary_inputs netlist) None) None ≡ Some node → node < length netlist.names
+    by_test false h is = cc
+    by_test true h is =
+        let above : primary_inputs netlist ≤ input = grind (arith, nat_tests, h) in
+        let within : input - primary_inputs netlist < length netlist.cuts = omega (arith, above, inside, circuit.cuts) in
+        subst (IsDataAmong (length netlist.names)) is (circuit.data_nodes (input - primary_inputs netlist) None within)
+
+-- what `add_output` makes
+pub IsCircuit-with_output :
+    (netlist : Netlist) (node : ℕ) → IsCircuit netlist → node < length netlist.names → IsCircuit (with_output netlist node)
+IsCircuit-with_output netlist node circuit is_node = by_test (list_any (nat_eq node) netlist.outputs) refl
+  where
+    by_test :
+        (b : Bool) → list_any (nat_eq node) netlist.outputs ≡ b →
+        IsCircuit (record netlist { outputs = cond b netlist.outputs (netlist.outputs ++ node ∷ []) })
+    by_test true h = circuit
+    by_test false h =
+        record {
+          names = circuit.names;
+          names_distinct = circuit.names_distinct;
+          nodes = circuit.nodes;
+          cuts = circuit.cuts;
+          data_nodes = circuit.data_nodes;
+          gates = circuit.gates;
+          outputs = All-push (λ node. node < length netlist.names) netlist.outputs node circuit.outputs is_node;
+          outputs_distinct = IsDistinct-push nat_eq_equiv netlist.outputs node circuit.outputs_distinct h;
+          variables = circuit.variables;
+        }
 
 -- `same_netlist`, by the lists alone
 by_parts :
