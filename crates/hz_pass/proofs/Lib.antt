@@ -4,5 +4,7 @@ pub mod SettleLoop
 pub mod ForcingLoop
 pub mod AllOpen
 pub mod Delivery
+pub mod CutLists
 pub mod ListedLoop
 pub mod CompletedLemmas
+pub mod TestStarts

@@ -1,5 +1,6 @@
 //! Rows worked by hand: what the passes find on circuits of a few gates.
 ghost use Rattle.std.specs.Prelude.{◌≡◌, length};
+ghost use Rattle.hz_core.specs.Netlist.{primary_inputs};
 ghost use Rattle.hz_net.specs.Network.{network_of};
 
 use super::{StartFault, complete, settle, spread};
@@ -150,7 +151,7 @@ fn passes_over_a_latch(rt: HostRuntime) -> Result<(), Fail> {
 
 // The start of the gate that reads itself, under a value of its input and one that it is held at.
 fn held(alloc: Global, net: &Net, input: bool, gate: Option<bool>) -> Result<Vec<bool>, StartFault>
-    requires inputs { net.now.inputs ≡ 1 }
+    requires inputs { primary_inputs net.now ≡ 1 }
     requires nodes { length net.now.names ≡ 2 }
 {
     complete(alloc, net, &[Some(input), gate])
@@ -161,7 +162,7 @@ fn starts_of_a_gate_that_reads_itself(rt: HostRuntime) -> Result<(), Fail> {
     let circuit = holding(rt.alloc())?;
     assert!(rt; circuit.whole());
     let net = Net::build(rt.alloc(), circuit)?;
-    assert_eq!(rt; net.circuit().inputs(), 1);
+    assert_eq!(rt; net.circuit().primary_inputs(), 1);
     assert_eq!(rt; net.circuit().nodes(), 2);
     let open = held(rt.alloc(), &net, false, None);
     assert_eq!(rt; open, Err(StartFault::Open { gate: 1 }));
@@ -171,5 +172,55 @@ fn starts_of_a_gate_that_reads_itself(rt: HostRuntime) -> Result<(), Fail> {
     assert!(rt; kept.is_ok_and(|state| state.as_slice() == [false, true, false, true].as_slice()));
     let forced = held(rt.alloc(), &net, true, None);
     assert!(rt; forced.is_ok_and(|state| state.as_slice() == [true; 4].as_slice()));
+    Ok(())
+}
+
+// A flip-flop behind another, whose data node is a gate: inputs a, p, q; the gate d; its wires from a and p.
+fn shift(alloc: Global) -> Result<Circuit, Memory> {
+    let mut circuit = Circuit::new(alloc);
+    let input = circuit.add_input(b"a")?;
+    let first = circuit.add_cut(b"p")?;
+    let second = circuit.add_cut(b"q")?;
+    let gate = circuit.add_gate(b"d", Kind::And)?;
+    circuit.connect(gate, input)?;
+    circuit.connect(gate, first)?;
+    circuit.set_data(first, second);
+    circuit.set_data(second, gate);
+    circuit.add_output(second)?;
+    circuit.add_output(gate)?;
+    Ok(circuit)
+}
+
+// The start of the two flip-flops, under a value of the input and one that the first is listed with.
+fn rest(
+    alloc: Global,
+    net: &Net,
+    input: bool,
+    first: Option<bool>,
+) -> Result<Vec<bool>, StartFault>
+    requires inputs { primary_inputs net.now ≡ 1 }
+    requires nodes { length net.now.names ≡ 4 }
+{
+    complete(alloc, net, &[Some(input), first, None, None])
+}
+
+// What is not listed follows along the data nodes, or is open from the first flip-flop on; a listed flip-flop may differ from its
+// data node.
+#[test]
+fn starts_of_two_flip_flops(rt: HostRuntime) -> Result<(), Fail> {
+    let circuit = shift(rt.alloc())?;
+    assert!(rt; circuit.whole());
+    let net = Net::build(rt.alloc(), circuit)?;
+    assert_eq!(rt; net.circuit().primary_inputs(), 1);
+    assert_eq!(rt; net.circuit().nodes(), 4);
+    let low = rest(rt.alloc(), &net, false, None);
+    assert!(rt; low.is_ok_and(|state| state.as_slice() == [false; 6].as_slice()));
+    let open = rest(rt.alloc(), &net, true, None);
+    assert_eq!(rt; open, Err(StartFault::Open { gate: 1 }));
+    let high = rest(rt.alloc(), &net, true, Some(true));
+    assert!(rt; high.is_ok_and(|state| state.as_slice() == [true; 6].as_slice()));
+    let other = rest(rt.alloc(), &net, false, Some(true));
+    let differs = [false, true, false, false, false, true];
+    assert!(rt; other.is_ok_and(|state| state.as_slice() == differs.as_slice()));
     Ok(())
 }
