@@ -8,6 +8,7 @@ use Rattle.hz_line.specs.declared.bytes.Class.{Class}
 use Rattle.hz_line.specs.declared.bytes.Class.TheVariants.{Blank, Hash, Sign, Letter, Forbidden}
 use Rattle.hz_line.specs.declared.bytes.Mark.TheVariants.{Open, Close, Comma, Equals}
 use Rattle.hz_line.specs.Byte.{class_of, is_letter, is_letter_class}
+use Rattle.hz_line.specs.Token.{IsWord}
 use Rattle.std.proofs.lemmas.List.{take_more, map_push, at_drop_more}
 use Rattle.hz_line.proofs.WrittenLemmas.{both}
 use Rattle.hz_bench.specs.declared.entry.Entry.{Entry}
@@ -45,11 +46,10 @@ name_bytes (byte ∷ word) h =
     let parts = both (is_letter byte) _ h in
     rw (is_name_byte-letter byte parts.0, name_bytes word parts.1) refl
 
--- a name that is not too long is one
-IsName-from_entry : (entry : Entry) → is_long entry.name.now ≡ false → IsName entry.name.now
-IsName-from_entry entry h =
-    let word = entry.worded in
-    record { some = omega (arith, word.some); short = grind (arith, nat_tests, h); bytes = name_bytes entry.name.now word.letters }
+-- a word that is not too long is a name
+pub IsName-word : (name : List ℕ) → IsWord name → is_long name ≡ false → IsName name
+IsName-word name word h =
+    record { some = omega (arith, word.some); short = grind (arith, nat_tests, h); bytes = name_bytes name word.letters }
 
 -- what a node that is added wants
 pub record IsAddable (netlist : Netlist) (name : List ℕ) : Type 0 where
@@ -60,7 +60,7 @@ pub record IsAddable (netlist : Netlist) (name : List ℕ) : Type 0 where
 addable : (netlist : Netlist) (entry : Entry) (name : List ℕ) → entry.name.now ≡ name → MayAdd netlist name → IsAddable netlist entry.name.now
 addable netlist entry name is may =
     let may' = subst (MayAdd netlist) (sym is) may in
-    record { name_is = IsName-from_entry entry may'.short; fresh = may'.fresh; room = may'.room }
+    record { name_is = IsName-word entry.name.now entry.worded may'.short; fresh = may'.fresh; room = may'.room }
 
 input_addable : (netlist : Netlist) (entry : Entry) (statement : Statement) → entry.name.now ≡ name_of statement → form_of statement ≡ Some form.Input → MayInput netlist statement → IsAddable netlist entry.name.now × (netlist.cuts ≡ []) × (netlist.gates ≡ [])
 input_addable netlist entry (Input name) is h may = (addable netlist entry name is may.0, may.1, may.2)

@@ -20,7 +20,7 @@ use Rattle.hz_bench.proofs.BuildLemmas.{entries_may}
 use Rattle.hz_bench.proofs.NetlistLemmas.{nodes_of-is, connected-is}
 
 -- the number of a name that a node has is that of a node
-number-below : (names : List (List ℕ)) (name : List ℕ) → IsSome (position (bytes_eq name) names) → number_in names name < length names
+pub number-below : (names : List (List ℕ)) (name : List ℕ) → IsSome (position (bytes_eq name) names) → number_in names name < length names
 number-below names name h = by_test (nat_lt (number_in names name) (length names)) refl h
   where
     by_test : (b : Bool) → nat_lt (number_in names name) (length names) ≡ b → IsSome (cond b (Some (number_in names name)) None) → number_in names name < length names

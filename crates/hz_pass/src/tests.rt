@@ -175,52 +175,43 @@ fn starts_of_a_gate_that_reads_itself(rt: HostRuntime) -> Result<(), Fail> {
     Ok(())
 }
 
-// A flip-flop behind another, whose data node is a gate: inputs a, p, q; the gate d; its wires from a and p.
+// A flip-flop behind another, which reads the input: inputs a, p, q.
 fn shift(alloc: Global) -> Result<Circuit, Memory> {
     let mut circuit = Circuit::new(alloc);
     let input = circuit.add_input(b"a")?;
-    let first = circuit.add_cut(b"p")?;
-    let second = circuit.add_cut(b"q")?;
-    let gate = circuit.add_gate(b"d", Kind::And)?;
-    circuit.connect(gate, input)?;
-    circuit.connect(gate, first)?;
-    circuit.set_data(first, second);
-    circuit.set_data(second, gate);
-    circuit.add_output(second)?;
-    circuit.add_output(gate)?;
+    let second = circuit.add_cut(b"p")?;
+    let first = circuit.add_cut(b"q")?;
+    circuit.set_data(second, first);
+    circuit.set_data(first, input);
+    circuit.add_output(first)?;
+    circuit.add_output(input)?;
     Ok(circuit)
 }
 
-// The start of the two flip-flops, under a value of the input and one that the first is listed with.
+// The start of the two flip-flops, under a value of the input and one that the second is listed with.
 fn rest(
     alloc: Global,
     net: &Net,
     input: bool,
-    first: Option<bool>,
+    second: Option<bool>,
 ) -> Result<Vec<bool>, StartFault>
     requires inputs { primary_inputs net.now ≡ 1 }
-    requires nodes { length net.now.names ≡ 4 }
+    requires nodes { length net.now.names ≡ 3 }
 {
-    complete(alloc, net, &[Some(input), first, None, None])
+    complete(alloc, net, &[Some(input), second, None])
 }
 
-// What is not listed follows along the data nodes, or is open from the first flip-flop on; a listed flip-flop may differ from its
-// data node.
+// What is not listed follows along the data nodes; a listed flip-flop may differ from its data node.
 #[test]
 fn starts_of_two_flip_flops(rt: HostRuntime) -> Result<(), Fail> {
     let circuit = shift(rt.alloc())?;
     assert!(rt; circuit.whole());
     let net = Net::build(rt.alloc(), circuit)?;
     assert_eq!(rt; net.circuit().primary_inputs(), 1);
-    assert_eq!(rt; net.circuit().nodes(), 4);
-    let low = rest(rt.alloc(), &net, false, None);
-    assert!(rt; low.is_ok_and(|state| state.as_slice() == [false; 6].as_slice()));
-    let open = rest(rt.alloc(), &net, true, None);
-    assert_eq!(rt; open, Err(StartFault::Open { gate: 1 }));
-    let high = rest(rt.alloc(), &net, true, Some(true));
-    assert!(rt; high.is_ok_and(|state| state.as_slice() == [true; 6].as_slice()));
-    let other = rest(rt.alloc(), &net, false, Some(true));
-    let differs = [false, true, false, false, false, true];
-    assert!(rt; other.is_ok_and(|state| state.as_slice() == differs.as_slice()));
+    assert_eq!(rt; net.circuit().nodes(), 3);
+    let followed = rest(rt.alloc(), &net, true, None);
+    assert!(rt; followed.is_ok_and(|state| state.as_slice() == [true; 3].as_slice()));
+    let listed = rest(rt.alloc(), &net, true, Some(false));
+    assert!(rt; listed.is_ok_and(|state| state.as_slice() == [true, false, true].as_slice()));
     Ok(())
 }

@@ -9,7 +9,7 @@ use Rattle.std.proofs.lemmas.Bool.Decides.{nat_tests}
 use Rattle.std.proofs.lemmas.Bool.{cases_lt, ltb-false}
 use Rattle.std.specs.Prelude.{◌⊎◌}
 use Rattle.std.proofs.lemmas.Option.{same_Some}
-use Rattle.hz_core.specs.Netlist.{Netlist, node_named}
+use Rattle.hz_core.specs.Netlist.{Netlist, node_named, primary_inputs}
 use Rattle.hz_gmw.specs.Least.{IsLeastOf}
 use Rattle.hz_line.specs.Line.{lines_of}
 use Rattle.hz_line.specs.Statement.{Numbered, first_line, numbered_statements, first_malformed}
@@ -243,10 +243,11 @@ twice-line netlist (first ∷ later) e =
         ∙ sym (first_line-cons has_twice first later)
 
 -- what the passes answer over the statements of a text without a malformed line
-passes-outcome : (netlist : Netlist) (text : List ℕ) → NoneBelow (Stands netlist text) 2 → Outcome (Stands netlist text) (first_fault netlist.inputs (looked_statements netlist text))
+passes-outcome : (netlist : Netlist) (text : List ℕ) → NoneBelow (Stands netlist text) 2 → Outcome (Stands netlist text) (first_fault netlist.inputs (primary_inputs netlist) (looked_statements netlist text))
 passes-outcome netlist text below =
     let stands = Stands netlist text in
     let inputs = netlist.inputs in
+    let primary = primary_inputs netlist in
     let looked = looked_statements netlist text in
     let up = looked-Ascends netlist text in
     let last : IsOrdered looked → NoneBelow stands 7 → Outcome stands (option_map TooMany (last_beyond looked)) = λ ordered below7.
@@ -257,7 +258,7 @@ passes-outcome netlist text below =
     (λ e below8. none_past stands (λ s. s) below8)) in
     let order = λ (below6 : NoneBelow stands 6). outcome-step stands Order 6 (first_out_of_order looked) _ (λ place. (refl, refl, refl)) below6 (answers_order looked (first_out_of_order looked) up refl) (λ e. last (order-None looked e)) in
     let bit = λ (below5 : NoneBelow stands 5). outcome-step stands Bit 5 (first_line has_no_bit looked) _ (λ place. (refl, refl, refl)) below5 (answers_first has_no_bit looked (first_line has_no_bit looked) up refl) (λ e. order) in
-    let missing = λ (below4 : NoneBelow stands 4). outcome-step stands Missing 4 (least_missing inputs looked) _ (λ place. (refl, refl, refl)) below4 (answers_missing inputs looked (least_missing inputs looked) refl) (λ e. bit) in
+    let missing = λ (below4 : NoneBelow stands 4). outcome-step stands Missing 4 (least_missing primary looked) _ (λ place. (refl, refl, refl)) below4 (answers_missing primary looked (least_missing primary looked) refl) (λ e. bit) in
     outcome-step stands Unknown 2 (first_line (has_unknown inputs) looked) _ (λ place. (refl, refl, refl)) below
     (answers_first (has_unknown inputs) looked (first_line (has_unknown inputs) looked) up refl)
     (λ known below3.
@@ -267,6 +268,6 @@ passes-outcome netlist text below =
     (λ e. missing)))
 
 -- where no line is malformed
-pub formed-outcome : (netlist : Netlist) (text : List ℕ) → first_malformed (looked_by netlist) 1 (lines_of text) ≡ None → Outcome (Stands netlist text) (first_fault netlist.inputs (looked_statements netlist text))
+pub formed-outcome : (netlist : Netlist) (text : List ℕ) → first_malformed (looked_by netlist) 1 (lines_of text) ≡ None → Outcome (Stands netlist text) (first_fault netlist.inputs (primary_inputs netlist) (looked_statements netlist text))
 formed-outcome netlist text formed =
     outcome-step (Stands netlist text) Form 1 None _ (λ place. (refl, refl, refl)) (any_number (Stands netlist text)) (answers_malformed netlist text None formed) (λ e below. passes-outcome netlist text below)

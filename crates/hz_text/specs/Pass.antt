@@ -50,12 +50,12 @@ marked marks (Some node) = slice_set marks node true
 abbrev pub last_beyond : List (Numbered Looked) → Option ℕ
 last_beyond statements = option_map (λ numbered. numbered.line) (slice_get statements 10001)
 
--- what the passes answer, one after the other
-abbrev pub first_fault : ℕ → List (Numbered Looked) → Option TextFault
-first_fault inputs statements =
+-- what the passes answer, one after the other, for so many inputs, of which so many are primary
+abbrev pub first_fault : ℕ → ℕ → List (Numbered Looked) → Option TextFault
+first_fault inputs primary statements =
     option_or (option_map Unknown (first_line (has_unknown inputs) statements))
     (option_or (option_map Twice (first_line has_node_twice statements))
-    (option_or (option_map Missing (least_missing inputs statements))
+    (option_or (option_map Missing (least_missing primary statements))
     (option_or (option_map Bit (first_line has_no_bit statements))
     (option_or (option_map Order (first_out_of_order statements))
     (option_map TooMany (last_beyond statements))))))

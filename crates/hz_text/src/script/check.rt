@@ -15,12 +15,13 @@ pub(crate) fn check(
     alloc: Global,
     entries: &[Entry],
     inputs: u32,
+    primary_inputs: u32,
     nodes: u32,
 ) -> Result<(), TextFault>
     requires { All (λ entry. AreBelow nodes entry.held.assigned.items) entries.now }
     ensures { MatchResult result
-        (λ _. first_fault inputs (entered_all entries.now) ≡ None)
-        (λ fault. IsAnswer (first_fault inputs (entered_all entries.now)) fault) }
+        (λ _. first_fault inputs primary_inputs (entered_all entries.now) ≡ None)
+        (λ fault. IsAnswer (first_fault inputs primary_inputs (entered_all entries.now)) fault) }
 {
     if let Some(line) = first_unknown(entries, inputs) {
         return Err(TextFault::Unknown { line });
@@ -31,7 +32,7 @@ pub(crate) fn check(
     if let Some(line) = twice {
         return Err(TextFault::Twice { line });
     }
-    let Ok(missing) = least_missing(alloc, entries, inputs) else {
+    let Ok(missing) = least_missing(alloc, entries, primary_inputs) else {
         return Err(TextFault::Memory);
     };
     if let Some(node) = missing {

@@ -14,7 +14,7 @@ use hz_core::Circuit;
 use std::alloc::Global;
 
 /// Reads a script of a circuit: a line `start`, then lines `change`, each with assignments `name = bit`. The start lists
-/// every input and may list gates; a change lists inputs. Keywords may be in any letter case.
+/// every primary input and may list cuts and gates; a change lists inputs. Keywords may be in any letter case.
 ///
 /// It takes time linear in the text and the circuit.
 pub fn read_script(alloc: Global, circuit: &Circuit, text: &[u8]) -> Result<Script, TextFault>
@@ -41,6 +41,12 @@ fn read_accepted(alloc: Global, circuit: &Circuit, text: &[u8]) -> Result<Vec<En
         (λ fault. IsRefusal circuit.now text.now fault) }
 {
     let entries = read_entries(alloc, circuit, text)?;
-    check(alloc, entries.as_slice(), circuit.inputs(), circuit.nodes())?;
+    check(
+        alloc,
+        entries.as_slice(),
+        circuit.inputs(),
+        circuit.primary_inputs(),
+        circuit.nodes(),
+    )?;
     Ok(entries)
 }
