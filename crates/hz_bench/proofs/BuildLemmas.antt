@@ -1,18 +1,20 @@
 -- When a node or a pin may be added.
-use Rattle.std.proofs.Common.{Some, ◌≡◌, ◌∙◌, ℕ, ◌+◌, ◌<◌, List, [], ◌∷◌, Bool, true, false, ◌++◌, ◌||◌, ◌&&◌, ◌==◌, cond, nat_le, None, length, map, take, drop, fold, get_or, refl, sym, ap, subst, arith}
+use Rattle.std.proofs.Common.{Option, Some, ◌≡◌, ◌∙◌, ℕ, ◌+◌, ◌<◌, List, [], ◌∷◌, Bool, true, false, ◌++◌, ◌||◌, ◌&&◌, ◌==◌, cond, nat_le, None, length, map, take, drop, fold, get_or, refl, sym, ap, subst, arith}
 use Rattle.std.specs.List.{list_all}
 use Rattle.std.proofs.lemmas.Bool.Decides.{nat_tests}
+use Rattle.hz_core.specs.declared.kind.Kind.{Kind}
 use Rattle.hz_core.specs.Netlist.{Netlist, IsName, is_name_byte, node_named, variable_count}
 use Rattle.hz_line.specs.Byte.{Class, Blank, Hash, Sign, Letter, Forbidden, class_of, is_letter, is_letter_class}
 use Rattle.hz_line.specs.declared.bytes.Mark.TheVariants.{Open, Close, Comma, Equals}
+use Rattle.hz_line.specs.Token.{IsWord}
 use Rattle.std.proofs.lemmas.List.{take_more, map_push, at_drop_more}
 use Rattle.hz_line.proofs.WrittenLemmas.{both}
 use Rattle.hz_bench.specs.declared.entry.Entry.{Entry}
-use Rattle.hz_bench.specs.Built.{MayAdd, MayInput, MayGate, MaySteps}
+use Rattle.hz_bench.specs.Built.{MayAdd, MayInput, MayCut, MayGate, MaySteps}
 use Rattle.hz_bench.specs.Entry.{stated, statement_list}
 use Rattle.hz_bench.specs.declared.forms.Form.TheVariants as form
-use Rattle.hz_bench.specs.declared.forms.KindWord.{KindWord}
-use Rattle.hz_bench.specs.Statement.{Statement, Input, Output, Gate, name_of, form_of, is_long}
+use Rattle.hz_bench.specs.Form.{form_of}
+use Rattle.hz_bench.specs.Statement.{Statement, Input, Output, FlipFlop, Gate, name_of, is_long}
 use Rattle.hz_bench.proofs.EntryLemmas.{entry-formed, entry-named}
 
 past : (test : Bool) (class rest : Class) → is_letter_class class ≡ false → is_letter_class (cond test class rest) ≡ true → (test ≡ false) × (is_letter_class rest ≡ true)
@@ -42,11 +44,10 @@ name_bytes (byte ∷ word) h =
     let parts = both (is_letter byte) _ h in
     rw (is_name_byte-letter byte parts.0, name_bytes word parts.1) refl
 
--- a name that is not too long is one
-IsName-from_entry : (entry : Entry) → is_long entry.name.now ≡ false → IsName entry.name.now
-IsName-from_entry entry h =
-    let word = entry.worded in
-    record { some = omega (arith, word.some); short = grind (arith, nat_tests, h); bytes = name_bytes entry.name.now word.letters }
+-- a word that is not too long is a name
+pub IsName-word : (name : List ℕ) → IsWord name → is_long name ≡ false → IsName name
+IsName-word name word h =
+    record { some = omega (arith, word.some); short = grind (arith, nat_tests, h); bytes = name_bytes name word.letters }
 
 -- what a node that is added wants
 pub record IsAddable (netlist : Netlist) (name : List ℕ) : Type 0 where
@@ -57,23 +58,34 @@ pub record IsAddable (netlist : Netlist) (name : List ℕ) : Type 0 where
 addable : (netlist : Netlist) (entry : Entry) (name : List ℕ) → entry.name.now ≡ name → MayAdd netlist name → IsAddable netlist entry.name.now
 addable netlist entry name is may =
     let may' = subst (MayAdd netlist) (sym is) may in
-    record { name_is = IsName-from_entry entry may'.short; fresh = may'.fresh; room = may'.room }
+    record { name_is = IsName-word entry.name.now entry.worded may'.short; fresh = may'.fresh; room = may'.room }
 
-input_addable : (netlist : Netlist) (entry : Entry) (statement : Statement) → entry.name.now ≡ name_of statement → form_of statement ≡ Some form.Input → MayInput netlist statement → IsAddable netlist entry.name.now × (netlist.gates ≡ [])
-input_addable netlist entry (Input name) is h may = (addable netlist entry name is may.0, may.1)
+input_addable : (netlist : Netlist) (entry : Entry) (statement : Statement) → entry.name.now ≡ name_of statement → form_of statement ≡ Some form.Input → MayInput netlist statement → IsAddable netlist entry.name.now × (netlist.cuts ≡ []) × (netlist.gates ≡ [])
+input_addable netlist entry (Input name) is h may = (addable netlist entry name is may.0, may.1, may.2)
 input_addable netlist entry (Output name) is h may = cc
+input_addable netlist entry (FlipFlop name sources) is h may = cc
 input_addable netlist entry (Gate name kind sources) is h may = cc
 
-pub entry-input : (netlist : Netlist) (entry : Entry) → entry.form ≡ form.Input → MayInput netlist (stated entry) → IsAddable netlist entry.name.now × (netlist.gates ≡ [])
+pub entry-input : (netlist : Netlist) (entry : Entry) → entry.form ≡ form.Input → MayInput netlist (stated entry) → IsAddable netlist entry.name.now × (netlist.cuts ≡ []) × (netlist.gates ≡ [])
 entry-input netlist entry h may = input_addable netlist entry (stated entry) (entry-named entry) (sym (entry-formed entry) ∙ ap Some h) may
 
-gate_addable : (netlist : Netlist) (entry : Entry) (word : KindWord) (statement : Statement) → entry.name.now ≡ name_of statement → form_of statement ≡ Some (form.Gate word) → MayGate netlist statement → IsAddable netlist entry.name.now
-gate_addable netlist entry word (Input name) is h may = cc
-gate_addable netlist entry word (Output name) is h may = cc
-gate_addable netlist entry word (Gate name kind sources) is h may = addable netlist entry name is may
+cut_addable : (netlist : Netlist) (entry : Entry) (statement : Statement) → entry.name.now ≡ name_of statement → form_of statement ≡ Some form.FlipFlop → MayCut netlist statement → IsAddable netlist entry.name.now × (netlist.gates ≡ [])
+cut_addable netlist entry (Input name) is h may = cc
+cut_addable netlist entry (Output name) is h may = cc
+cut_addable netlist entry (FlipFlop name sources) is h may = (addable netlist entry name is may.0, may.1)
+cut_addable netlist entry (Gate name kind sources) is h may = cc
 
-pub entry-gate : (netlist : Netlist) (entry : Entry) (word : KindWord) → entry.form ≡ form.Gate word → MayGate netlist (stated entry) → IsAddable netlist entry.name.now
-entry-gate netlist entry word h may = gate_addable netlist entry word (stated entry) (entry-named entry) (sym (entry-formed entry) ∙ ap Some h) may
+pub entry-cut : (netlist : Netlist) (entry : Entry) → entry.form ≡ form.FlipFlop → MayCut netlist (stated entry) → IsAddable netlist entry.name.now × (netlist.gates ≡ [])
+entry-cut netlist entry h may = cut_addable netlist entry (stated entry) (entry-named entry) (sym (entry-formed entry) ∙ ap Some h) may
+
+gate_addable : (netlist : Netlist) (entry : Entry) (kind : Option Kind) (statement : Statement) → entry.name.now ≡ name_of statement → form_of statement ≡ Some (form.Gate kind) → MayGate netlist statement → IsAddable netlist entry.name.now
+gate_addable netlist entry kind (Input name) is h may = cc
+gate_addable netlist entry kind (Output name) is h may = cc
+gate_addable netlist entry kind (FlipFlop name sources) is h may = cc
+gate_addable netlist entry kind (Gate name other sources) is h may = addable netlist entry name is may
+
+pub entry-gate : (netlist : Netlist) (entry : Entry) (kind : Option Kind) → entry.form ≡ form.Gate kind → MayGate netlist (stated entry) → IsAddable netlist entry.name.now
+entry-gate netlist entry kind h may = gate_addable netlist entry kind (stated entry) (entry-named entry) (sym (entry-formed entry) ∙ ap Some h) may
 
 fold-append : {A B : Type 0} (step : A → B → A) (start : A) (front back : List B) → fold step start (front ++ back) ≡ fold step (fold step start front) back
 fold-append step start [] back = refl

@@ -11,10 +11,10 @@ use Rattle.std.proofs.lemmas.Slice.Eq.{bytes_eq-Decides}
 use Rattle.hz_line.specs.Statement.{Numbered}
 use Rattle.hz_bench.specs.declared.fault.BenchFault.{BenchFault}
 use Rattle.hz_bench.specs.declared.fault.BenchFault.TheVariants as fault
-use Rattle.hz_bench.specs.Check.{has_unknown_kind, has_clocked_kind, has_wrong_pins, pin_count, uses_undefined, first_that, fault_or, too_many, first_fault}
+use Rattle.hz_bench.specs.Check.{uses_undefined, first_that, fault_or, too_many, first_fault}
 use Rattle.hz_bench.specs.Definition.{defines, definer, defined_names}
-use Rattle.hz_bench.specs.Netlist.{input_names, gate_names, node_names}
-use Rattle.hz_bench.specs.Statement.{Statement, Input, Output, Gate, defined_name, used_names, has_long_name}
+use Rattle.hz_bench.specs.Netlist.{input_names, cut_names, gate_names, all_inputs, node_names}
+use Rattle.hz_bench.specs.Statement.{Statement, Input, Output, FlipFlop, Gate, defined_name, used_names, has_long_name, has_unknown_kind, has_wrong_pins, pin_count}
 use Rattle.hz_bench.specs.Text.{variables_of, variables_among}
 use Rattle.hz_bench.specs.Twice.{twice_or, earlier_line, twice_after, twice_fault}
 use Rattle.hz_bench.proofs.DefinitionLemmas.{plain, definer-cons, defined_names-push}
@@ -33,9 +33,9 @@ UsesKnown names statement = AllByRecursion (λ name. list_any (bytes_eq name) na
 pub record IsChecked (statements : List Statement) : Type 0 where
   pub short : AllByRecursion (λ statement. has_long_name statement ≡ false) statements
   pub known : AllByRecursion (λ statement. has_unknown_kind statement ≡ false) statements
-  pub unclocked : AllByRecursion (λ statement. has_clocked_kind statement ≡ false) statements
   pub inputs_apart : Apart [] (input_names statements)
-  pub gates_apart : Apart (input_names statements) (gate_names statements)
+  pub cuts_apart : Apart (input_names statements) (cut_names statements)
+  pub gates_apart : Apart (all_inputs statements) (gate_names statements)
   pub pins : AllByRecursion (λ statement. has_wrong_pins statement ≡ false) statements
   pub defined : AllByRecursion (UsesKnown (node_names statements)) statements
   pub few : variables_of statements ≤ 200000
@@ -85,6 +85,7 @@ definer-absent (first ∷ rest) name e = by_statement first.statement (sym (defi
     by_statement : (statement : Statement) → cond (defines name statement) (Some first.line) (definer rest name) ≡ None → (definer rest name ≡ None → list_any (bytes_eq name) (defined_names (plain rest)) ≡ false) → list_any (bytes_eq name) (defined_names (statement ∷ plain rest)) ≡ false
     by_statement (Input other) e ih = by_test (bytes_eq other name) other refl e ih
     by_statement (Output other) e ih = ih e
+    by_statement (FlipFlop other sources) e ih = by_test (bytes_eq other name) other refl e ih
     by_statement (Gate other kind sources) e ih = by_test (bytes_eq other name) other refl e ih
 
 -- where no name is defined twice, the defined names are apart
@@ -96,6 +97,7 @@ apart-from_twice seen (next ∷ rest) e =
     by_statement : (statement : Statement) → earlier_line seen (defined_name statement) ≡ None → Apart (defined_names (plain seen) ++ defined_names (statement ∷ [])) (defined_names (plain rest)) → Apart (defined_names (plain seen)) (defined_names (statement ∷ plain rest))
     by_statement (Input name) none h = (definer-absent seen name none, h)
     by_statement (Output name) none h = subst (λ names. Apart names (defined_names (plain rest))) (append-nil (defined_names (plain seen))) h
+    by_statement (FlipFlop name sources) none h = (definer-absent seen name none, h)
     by_statement (Gate name kind sources) none h = (definer-absent seen name none, h)
 
     by_line : (earlier : Option ℕ) → earlier_line seen (defined_name next.statement) ≡ earlier → twice_or next.line earlier (twice_after (seen ++ next ∷ []) rest) ≡ None → (twice_after (seen ++ next ∷ []) rest ≡ None → Apart (defined_names (plain (seen ++ next ∷ []))) (defined_names (plain rest))) → Apart (defined_names (plain seen)) (defined_names (next.statement ∷ plain rest))
@@ -135,6 +137,8 @@ inputs_apart inputs defined (Input other ∷ rest) within h = (
   inputs_apart (inputs ++ other ∷ []) (defined ++ other ∷ []) rest (λ name away. (let parts = absent-parts defined other name away in absent-more inputs other name (within name parts.0) parts.1)) h.1,
 )
 inputs_apart inputs defined (Output other ∷ rest) within h = inputs_apart inputs defined rest within h
+inputs_apart inputs defined (FlipFlop other sources ∷ rest) within h =
+    inputs_apart inputs (defined ++ other ∷ []) rest (λ name away. within name (absent-parts defined other name away).0) h.1
 inputs_apart inputs defined (Gate other kind sources ∷ rest) within h =
     inputs_apart inputs (defined ++ other ∷ []) rest (λ name away. within name (absent-parts defined other name away).0) h.1
 
@@ -144,26 +148,67 @@ no_later_input defined name [] here h = refl
 no_later_input defined name (Input other ∷ rest) here h =
     neither (bytes_eq name other) _ (other_name defined name other here h.0) (no_later_input (defined ++ other ∷ []) name rest (present-more defined other name here) h.1)
 no_later_input defined name (Output other ∷ rest) here h = no_later_input defined name rest here h
+no_later_input defined name (FlipFlop other sources ∷ rest) here h = no_later_input (defined ++ other ∷ []) name rest (present-more defined other name here) h.1
 no_later_input defined name (Gate other kind sources ∷ rest) here h = no_later_input (defined ++ other ∷ []) name rest (present-more defined other name here) h.1
 
--- the gates are apart from all inputs and from the gates before them
-gates_apart : (nodes defined : List (List ℕ)) (statements : List Statement) → ((name : List ℕ) → list_any (bytes_eq name) defined ≡ false → list_any (bytes_eq name) (input_names statements) ≡ false → list_any (bytes_eq name) nodes ≡ false) → Apart defined (defined_names statements) → Apart nodes (gate_names statements)
+-- nor a later flip-flop's
+no_later_cut : (defined : List (List ℕ)) (name : List ℕ) (statements : List Statement) → list_any (bytes_eq name) defined ≡ true → Apart defined (defined_names statements) → list_any (bytes_eq name) (cut_names statements) ≡ false
+no_later_cut defined name [] here h = refl
+no_later_cut defined name (Input other ∷ rest) here h = no_later_cut (defined ++ other ∷ []) name rest (present-more defined other name here) h.1
+no_later_cut defined name (Output other ∷ rest) here h = no_later_cut defined name rest here h
+no_later_cut defined name (FlipFlop other sources ∷ rest) here h =
+    neither (bytes_eq name other) _ (other_name defined name other here h.0) (no_later_cut (defined ++ other ∷ []) name rest (present-more defined other name here) h.1)
+no_later_cut defined name (Gate other kind sources ∷ rest) here h = no_later_cut (defined ++ other ∷ []) name rest (present-more defined other name here) h.1
+
+-- the flip-flops are apart from all inputs and from the flip-flops before them
+cuts_apart : (nodes defined : List (List ℕ)) (statements : List Statement) → ((name : List ℕ) → list_any (bytes_eq name) defined ≡ false → list_any (bytes_eq name) (input_names statements) ≡ false → list_any (bytes_eq name) nodes ≡ false) → Apart defined (defined_names statements) → Apart nodes (cut_names statements)
+cuts_apart nodes defined [] within h = tt
+cuts_apart nodes defined (Input other ∷ rest) within h =
+    cuts_apart nodes (defined ++ other ∷ []) rest (λ name away none. (let parts = absent-parts defined other name away in within name parts.0 (neither (bytes_eq name other) _ parts.1 none))) h.1
+cuts_apart nodes defined (Output other ∷ rest) within h = cuts_apart nodes defined rest within h
+cuts_apart nodes defined (FlipFlop other sources ∷ rest) within h = (
+  within other h.0 (no_later_input (defined ++ other ∷ []) other rest (present-last defined other) h.1),
+  cuts_apart (nodes ++ other ∷ []) (defined ++ other ∷ []) rest (λ name away none. (let parts = absent-parts defined other name away in absent-more nodes other name (within name parts.0 none) parts.1)) h.1,
+)
+cuts_apart nodes defined (Gate other kind sources ∷ rest) within h =
+    cuts_apart nodes (defined ++ other ∷ []) rest (λ name away none. within name (absent-parts defined other name away).0 none) h.1
+
+-- the gates are apart from all inputs, from all flip-flops and from the gates before them
+gates_apart : (nodes defined : List (List ℕ)) (statements : List Statement)
+    → ((name : List ℕ) → list_any (bytes_eq name) defined ≡ false → list_any (bytes_eq name) (input_names statements) ≡ false → list_any (bytes_eq name) (cut_names statements) ≡ false → list_any (bytes_eq name) nodes ≡ false)
+    → Apart defined (defined_names statements) → Apart nodes (gate_names statements)
 gates_apart nodes defined [] within h = tt
 gates_apart nodes defined (Input other ∷ rest) within h =
-    gates_apart nodes (defined ++ other ∷ []) rest (λ name away none. (let parts = absent-parts defined other name away in within name parts.0 (neither (bytes_eq name other) _ parts.1 none))) h.1
+    gates_apart nodes (defined ++ other ∷ []) rest (λ name away none also. (let parts = absent-parts defined other name away in within name parts.0 (neither (bytes_eq name other) _ parts.1 none) also)) h.1
 gates_apart nodes defined (Output other ∷ rest) within h = gates_apart nodes defined rest within h
+gates_apart nodes defined (FlipFlop other sources ∷ rest) within h =
+    gates_apart nodes (defined ++ other ∷ []) rest (λ name away none also. (let parts = absent-parts defined other name away in within name parts.0 none (neither (bytes_eq name other) _ parts.1 also))) h.1
 gates_apart nodes defined (Gate other kind sources ∷ rest) within h = (
-  within other h.0 (no_later_input (defined ++ other ∷ []) other rest (present-last defined other) h.1),
-  gates_apart (nodes ++ other ∷ []) (defined ++ other ∷ []) rest (λ name away none. (let parts = absent-parts defined other name away in absent-more nodes other name (within name parts.0 none) parts.1)) h.1,
+  within other h.0 (no_later_input (defined ++ other ∷ []) other rest (present-last defined other) h.1) (no_later_cut (defined ++ other ∷ []) other rest (present-last defined other) h.1),
+  gates_apart (nodes ++ other ∷ []) (defined ++ other ∷ []) rest (λ name away none also. (let parts = absent-parts defined other name away in absent-more nodes other name (within name parts.0 none also) parts.1)) h.1,
 )
+
+-- a name is a node's where it is an input's, a flip-flop's or a gate's
+nodes_any : (name : List ℕ) (statements : List Statement) → list_any (bytes_eq name) (node_names statements) ≡ ((list_any (bytes_eq name) (input_names statements) || list_any (bytes_eq name) (cut_names statements)) || list_any (bytes_eq name) (gate_names statements))
+nodes_any name statements =
+    list_any-append (bytes_eq name) (all_inputs statements) (gate_names statements)
+    ∙ ap (λ b. b || list_any (bytes_eq name) (gate_names statements)) (list_any-append (bytes_eq name) (input_names statements) (cut_names statements))
 
 -- a name that some statement defines is a node's
 present_node : (statement : Statement) (rest : List Statement) (name : List ℕ) → list_any (bytes_eq name) (node_names rest) ≡ true → list_any (bytes_eq name) (node_names (statement ∷ rest)) ≡ true
 present_node (Input other) rest name h = second_of_two (bytes_eq name other) _ h
 present_node (Output other) rest name h = h
+present_node (FlipFlop other sources) rest name h =
+    nodes_any name (FlipFlop other sources ∷ rest)
+    ∙ by_part (list_any (bytes_eq name) (input_names rest)) (bytes_eq name other) (list_any (bytes_eq name) (cut_names rest)) (list_any (bytes_eq name) (gate_names rest)) (sym (nodes_any name rest) ∙ h)
+  where
+    by_part : (a b c d : Bool) → ((a || c) || d) ≡ true → ((a || (b || c)) || d) ≡ true
+    by_part true b c d h = refl
+    by_part false true c d h = refl
+    by_part false false c d h = h
 present_node (Gate other kind sources) rest name h =
-    list_any-append (bytes_eq name) (input_names rest) (other ∷ gate_names rest)
-    ∙ by_part (list_any (bytes_eq name) (input_names rest)) (bytes_eq name other) (list_any (bytes_eq name) (gate_names rest)) (sym (list_any-append (bytes_eq name) (input_names rest) (gate_names rest)) ∙ h)
+    nodes_any name (Gate other kind sources ∷ rest)
+    ∙ by_part (list_any (bytes_eq name) (input_names rest) || list_any (bytes_eq name) (cut_names rest)) (bytes_eq name other) (list_any (bytes_eq name) (gate_names rest)) (sym (nodes_any name rest) ∙ h)
   where
     by_part : (a b c : Bool) → (a || c) ≡ true → (a || (b || c)) ≡ true
     by_part true b c h = refl
@@ -173,9 +218,13 @@ present_node (Gate other kind sources) rest name h =
 defined_node : (statement : Statement) (rest : List Statement) (name : List ℕ) → defines name statement ≡ true → list_any (bytes_eq name) (node_names (statement ∷ rest)) ≡ true
 defined_node (Input other) rest name h = first_of_two (bytes_eq name other) _ (same_name name other ∙ h)
 defined_node (Output other) rest name h = cc
+defined_node (FlipFlop other sources) rest name h =
+    nodes_any name (FlipFlop other sources ∷ rest)
+    ∙ first_of_two _ (list_any (bytes_eq name) (gate_names rest))
+    (second_of_two (list_any (bytes_eq name) (input_names rest)) _ (first_of_two (bytes_eq name other) _ (same_name name other ∙ h)))
 defined_node (Gate other kind sources) rest name h =
-    list_any-append (bytes_eq name) (input_names rest) (other ∷ gate_names rest)
-    ∙ second_of_two (list_any (bytes_eq name) (input_names rest)) _ (first_of_two (bytes_eq name other) _ (same_name name other ∙ h))
+    nodes_any name (Gate other kind sources ∷ rest)
+    ∙ second_of_two (list_any (bytes_eq name) (input_names rest) || list_any (bytes_eq name) (cut_names rest)) _ (first_of_two (bytes_eq name other) _ (same_name name other ∙ h))
 
 definer-node : (statements : List (Numbered Statement)) (name : List ℕ) → is_some (definer statements name) ≡ true → list_any (bytes_eq name) (node_names (plain statements)) ≡ true
 definer-node [] name h = cc
@@ -214,22 +263,25 @@ few_enough variables h = by_test (nat_lt 200000 variables) refl h
     by_test true t h = cc
     by_test false t h = grind (arith, nat_tests, t)
 
+-- a name that is neither an input's nor a flip-flop's
+no_input : (statements : List Statement) (name : List ℕ) → list_any (bytes_eq name) [] ≡ false → list_any (bytes_eq name) (input_names statements) ≡ false → list_any (bytes_eq name) (cut_names statements) ≡ false → list_any (bytes_eq name) (all_inputs statements) ≡ false
+no_input statements name away none also = list_any-append (bytes_eq name) (input_names statements) (cut_names statements) ∙ neither _ _ none also
+
 -- what no fault tells
 pub checked : (statements : List (Numbered Statement)) → first_fault statements ≡ None → IsChecked (plain statements)
 checked statements h =
     let a = fault_or-none (λ found. fault.Name found.line) (first_that has_long_name statements) _ h in
     let b = fault_or-none (λ found. fault.KindUnknown found.line) (first_that has_unknown_kind statements) _ a.1 in
-    let c = fault_or-none (λ found. fault.Clocked found.line) (first_that has_clocked_kind statements) _ b.1 in
-    let d = option_or-none (twice_fault statements) _ c.1 in
+    let d = option_or-none (twice_fault statements) _ b.1 in
     let e = fault_or-none (λ found. fault.Pins found.line (pin_count found.statement)) (first_that has_wrong_pins statements) _ d.1 in
     let f = fault_or-none (λ found. fault.Undefined found.line) (first_that (uses_undefined statements) statements) _ e.1 in
     let apart = apart-from_twice [] statements d.0 in
     record {
       short = each_fails has_long_name statements a.0;
       known = each_fails has_unknown_kind statements b.0;
-      unclocked = each_fails has_clocked_kind statements c.0;
       inputs_apart = inputs_apart [] [] (plain statements) (λ name away. away) apart;
-      gates_apart = gates_apart (input_names (plain statements)) [] (plain statements) (λ name away none. none) apart;
+      cuts_apart = cuts_apart (input_names (plain statements)) [] (plain statements) (λ name away none. none) apart;
+      gates_apart = gates_apart (all_inputs (plain statements)) [] (plain statements) (no_input (plain statements)) apart;
       pins = each_fails has_wrong_pins statements e.0;
       defined = each_known statements (plain statements) (each_fails (uses_undefined statements) statements f.0);
       few = (let few = few_enough (variables_among statements) f.1 in let same = variables_of-statements statements in omega (arith, few, same));
@@ -245,5 +297,7 @@ Apart-append names (first ∷ front) back h more =
 pub nodes_apart : (statements : List (Numbered Statement)) → twice_fault statements ≡ None → Apart [] (node_names (plain statements))
 nodes_apart statements h =
     let apart = apart-from_twice [] statements h in
-    Apart-append [] (input_names (plain statements)) (gate_names (plain statements))
-    (inputs_apart [] [] (plain statements) (λ name away. away) apart) (gates_apart (input_names (plain statements)) [] (plain statements) (λ name away none. none) apart)
+    let inputs = Apart-append [] (input_names (plain statements)) (cut_names (plain statements))
+    (inputs_apart [] [] (plain statements) (λ name away. away) apart) (cuts_apart (input_names (plain statements)) [] (plain statements) (λ name away none. none) apart) in
+    Apart-append [] (all_inputs (plain statements)) (gate_names (plain statements))
+    inputs (gates_apart (all_inputs (plain statements)) [] (plain statements) (no_input (plain statements)) apart)

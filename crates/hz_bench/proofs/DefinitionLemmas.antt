@@ -9,7 +9,7 @@ use Rattle.std.specs.List.{list_any}
 use Rattle.std.specs.Str.{bytes_eq}
 use Rattle.hz_line.specs.Statement.{Numbered}
 use Rattle.hz_bench.specs.Definition.{is_that, defines, definer, defined_names, line_for, line_for_defined, IsPut, IsTableOf}
-use Rattle.hz_bench.specs.Statement.{Statement, Input, Output, Gate, defined_name, is_node}
+use Rattle.hz_bench.specs.Statement.{Statement, Input, Output, FlipFlop, Gate, defined_name, is_node}
 use Rattle.hz_bench.specs.Twice.{twice_or, earlier_line, twice_after, twice_fault}
 
 pub definer-cons : (first : Numbered Statement) (rest : List (Numbered Statement)) (name : List ℕ) → definer (first ∷ rest) name ≡ cond (defines name first.statement) (Some first.line) (definer rest name)
@@ -61,6 +61,7 @@ defined_names-push (first ∷ seen) next = by_statement first.statement (defined
     by_statement : (statement : Statement) → defined_names (plain (seen ++ next ∷ [])) ≡ defined_names (plain seen) ++ defined_names (next.statement ∷ []) → defined_names (statement ∷ plain (seen ++ next ∷ [])) ≡ defined_names (statement ∷ plain seen) ++ defined_names (next.statement ∷ [])
     by_statement (Input name) ih = ap (λ rest. name ∷ rest) ih
     by_statement (Output name) ih = ih
+    by_statement (FlipFlop name sources) ih = ap (λ rest. name ∷ rest) ih
     by_statement (Gate name kind sources) ih = ap (λ rest. name ∷ rest) ih
 
 -- the first line that defines a name again, with one statement more
@@ -92,6 +93,7 @@ undefined-table lines statements names table = any-same (λ name. not (is_some (
 pub undefined-no_node : (statement : Statement) → is_node statement ≡ false → defined_name statement ≡ None
 undefined-no_node (Input name) h = cc
 undefined-no_node (Output name) h = refl
+undefined-no_node (FlipFlop name sources) h = cc
 undefined-no_node (Gate name kind sources) h = cc
 
 -- a name as a list, if there is one
@@ -103,9 +105,11 @@ option_or_list (Some name) = name ∷ []
 pub names-same : (statement : Statement) → defined_name statement ≡ None → defined_names (statement ∷ []) ≡ []
 names-same (Input name) h = cc
 names-same (Output name) h = refl
+names-same (FlipFlop name sources) h = cc
 names-same (Gate name kind sources) h = cc
 
 pub names-more : (statement : Statement) (name : List ℕ) → defined_name statement ≡ Some name → defined_names (statement ∷ []) ≡ name ∷ []
 names-more (Input other) name h = ap (λ defined. option_or_list defined) h
 names-more (Output other) name h = cc
+names-more (FlipFlop other sources) name h = ap (λ defined. option_or_list defined) h
 names-more (Gate other kind sources) name h = ap (λ defined. option_or_list defined) h

@@ -1,19 +1,22 @@
 -- Entries as statements, and with their lines.
-use Rattle.std.proofs.Common.{◌≡◌, ◌∙◌, ℕ, ◌<◌, Bool, List, Some, length, get_or, refl, sym, ap, arith}
+use Rattle.std.proofs.Common.{◌≡◌, ◌∙◌, ℕ, ◌<◌, List, Some, length, get_or, refl, sym, ap, arith}
 use Rattle.std.proofs.lemmas.List.{get_or-map, length-map}
 use Rattle.hz_bench.specs.declared.entry.Entry.{Entry}
 use Rattle.hz_bench.specs.declared.forms.Form.{Form}
 use Rattle.hz_bench.specs.declared.forms.Form.TheVariants as form
 use Rattle.hz_bench.specs.Entry.{stated, numbered_of, numbered_list}
-use Rattle.hz_bench.specs.Statement.{defined_name, name_of, form_of, has_form, statement_with}
+use Rattle.hz_bench.specs.Form.{form_of, statement_with}
+use Rattle.hz_bench.specs.Statement.{defined_name, name_of}
 
 -- a statement has the name and the form that it is made with
 name_of-statement_with : (name : List ℕ) (made : Form) (part : List ℕ) → name ≡ name_of (statement_with name made part)
 name_of-statement_with name form.Input part = refl
+name_of-statement_with name form.FlipFlop part = refl
 name_of-statement_with name (form.Gate kind) part = refl
 
 form_of-statement_with : (name : List ℕ) (made : Form) (part : List ℕ) → Some made ≡ form_of (statement_with name made part)
 form_of-statement_with name form.Input part = refl
+form_of-statement_with name form.FlipFlop part = refl
 form_of-statement_with name (form.Gate kind) part = refl
 
 -- so an entry has those of its statement
@@ -23,16 +26,10 @@ entry-named entry = name_of-statement_with entry.name.now entry.form entry.sourc
 pub entry-formed : (entry : Entry) → Some entry.form ≡ form_of (stated entry)
 entry-formed entry = form_of-statement_with entry.name.now entry.form entry.sources.now
 
-has_form-statement_with : (test : Form → Bool) (name : List ℕ) (made : Form) (part : List ℕ) → has_form test (statement_with name made part) ≡ test made
-has_form-statement_with test name form.Input part = refl
-has_form-statement_with test name (form.Gate kind) part = refl
-
-pub entry-has_form : (test : Form → Bool) (entry : Entry) → has_form test (stated entry) ≡ test entry.form
-entry-has_form test entry = has_form-statement_with test entry.name.now entry.form entry.sources.now
-
 -- and defines its name
 defined_name-statement_with : (name : List ℕ) (made : Form) (part : List ℕ) → defined_name (statement_with name made part) ≡ Some name
 defined_name-statement_with name form.Input part = refl
+defined_name-statement_with name form.FlipFlop part = refl
 defined_name-statement_with name (form.Gate kind) part = refl
 
 pub entry-defines : (entry : Entry) → defined_name (stated entry) ≡ Some entry.name.now

@@ -11,11 +11,11 @@ use Rattle.hz_line.specs.Line.{lines_of}
 use Rattle.hz_line.specs.Statement.{Malformed, Numbered, first_malformed}
 use Rattle.hz_line.proofs.StatementLemmas.{Ascends, numbered_from-Ascends, meaning_at-first, meaning_at-none, find-Some, find-None, stated, stating, first_line-found, first_line-unfound, Ascends-front, Ascends-before}
 use Rattle.hz_bench.specs.declared.fault.BenchFault.{BenchFault}
-use Rattle.hz_bench.specs.declared.fault.BenchFault.TheVariants.{Form, Name, KindUnknown, Clocked, Twice, Pins, Undefined, TooMany, Memory}
-use Rattle.hz_bench.specs.Check.{has_unknown_kind, has_clocked_kind, has_wrong_pins, pin_count, uses_undefined, fault_or, too_many, first_fault}
+use Rattle.hz_bench.specs.declared.fault.BenchFault.TheVariants.{Form, Name, KindUnknown, Twice, Pins, Undefined, TooMany, Memory}
+use Rattle.hz_bench.specs.Check.{uses_undefined, fault_or, too_many, first_fault}
 use Rattle.hz_bench.specs.Definition.{is_that, defines, definer}
 use Rattle.hz_bench.specs.Fault.{States, HasThat, Defines, Uses, IsSecond, Stands, number_of, line_of, ComesFirst, IsLeastFault, IsFaultless}
-use Rattle.hz_bench.specs.Statement.{Statement, statement_of, defined_name, used_names, has_long_name}
+use Rattle.hz_bench.specs.Statement.{Statement, statement_of, defined_name, used_names, has_long_name, has_unknown_kind, has_wrong_pins, pin_count}
 use Rattle.hz_bench.specs.Text.{meaning_at, numbered_statements, statements_of, variables_of, variables_among}
 use Rattle.hz_bench.specs.Twice.{twice_or, earlier_line, twice_after, twice_fault}
 use Rattle.hz_bench.proofs.DefinitionLemmas.{definer-append, definer-cons}
@@ -34,7 +34,7 @@ ByNumber text zero line = ⊥
 ByNumber text (suc zero) line = meaning_at text line ≡ Malformed
 ByNumber text (suc (suc zero)) line = HasThat has_long_name text line
 ByNumber text (suc (suc (suc zero))) line = HasThat has_unknown_kind text line
-ByNumber text (suc (suc (suc (suc zero)))) line = HasThat has_clocked_kind text line
+ByNumber text (suc (suc (suc (suc zero)))) line = ⊥
 ByNumber text (suc (suc (suc (suc (suc zero))))) line = (first : ℕ) × ((name : List ℕ) × IsSecond text line first name)
 ByNumber text (suc (suc (suc (suc (suc (suc zero)))))) line = HasThat has_wrong_pins text line
 ByNumber text (suc (suc (suc (suc (suc (suc (suc zero))))))) line = (name : List ℕ) × Uses text line name × ((other : ℕ) → ¬ Defines text other name)
@@ -45,7 +45,6 @@ by_number : (text : List ℕ) (fault : BenchFault) → Stands text fault → ByN
 by_number text (Form line) p = p
 by_number text (Name line) p = p
 by_number text (KindUnknown line) p = p
-by_number text (Clocked line) p = p
 by_number text (Twice line first) p = (first, p)
 by_number text (Pins line count) p = (p.0, p.1, p.2)
 by_number text (Undefined line) p = p
@@ -60,7 +59,6 @@ none_below-one : (text : List ℕ) → NoneBelow text 1
 none_below-one text (Form line) p = lit≤ tt
 none_below-one text (Name line) p = lit≤ tt
 none_below-one text (KindUnknown line) p = lit≤ tt
-none_below-one text (Clocked line) p = lit≤ tt
 none_below-one text (Twice line first) p = lit≤ tt
 none_below-one text (Pins line count) p = lit≤ tt
 none_below-one text (Undefined line) p = lit≤ tt
@@ -80,7 +78,6 @@ none_below-end : (text : List ℕ) → NoneBelow text 9 → IsFaultless text
 none_below-end text low (Form line) p = absurd (omega (arith, low (Form line) p))
 none_below-end text low (Name line) p = absurd (omega (arith, low (Name line) p))
 none_below-end text low (KindUnknown line) p = absurd (omega (arith, low (KindUnknown line) p))
-none_below-end text low (Clocked line) p = absurd (omega (arith, low (Clocked line) p))
 none_below-end text low (Twice line first) p = absurd (omega (arith, low (Twice line first) p))
 none_below-end text low (Pins line count) p = absurd (omega (arith, low (Pins line count) p))
 none_below-end text low (Undefined line) p = absurd (omega (arith, low (Undefined line) p))
@@ -298,8 +295,7 @@ first_fault-outcome text low2 =
     let all = numbered_statements text in
     outcome-found text 2 (λ numbered. has_long_name numbered.statement) (λ found. Name found.line) _ _ low2 (λ found. refl) (λ found. refl) (λ found states p. (found.statement, states, p)) (λ line p. p) refl
     (λ none low3. outcome-found text 3 (λ numbered. has_unknown_kind numbered.statement) (λ found. KindUnknown found.line) _ _ low3 (λ found. refl) (λ found. refl) (λ found states p. (found.statement, states, p)) (λ line p. p) refl
-    (λ none low4. outcome-found text 4 (λ numbered. has_clocked_kind numbered.statement) (λ found. Clocked found.line) _ _ low4 (λ found. refl) (λ found. refl) (λ found states p. (found.statement, states, p)) (λ line p. p) refl
-    (λ none low5. subst (Outcome text) (sym (twice-found text _)) (outcome-found text 5 (is_second all) (second_fault all) _ _ low5 (λ found. refl) (λ found. refl) (second-stands text) (second-has text) refl
+    (λ none low4. subst (Outcome text) (sym (twice-found text _)) (outcome-found text 5 (is_second all) (second_fault all) _ _ (none_below-next text 4 low4 (λ line p. p)) (λ found. refl) (λ found. refl) (second-stands text) (second-has text) refl
     (λ none low6. outcome-found text 6 (λ numbered. has_wrong_pins numbered.statement) (λ found. Pins found.line (pin_count found.statement)) _ _ low6 (λ found. refl) (λ found. refl) (λ found states p. (found.statement, states, p, refl)) (λ line p. p) refl
     (λ none low7. outcome-found text 7 (λ numbered. uses_undefined all numbered.statement) (λ found. Undefined found.line) _ _ low7 (λ found. refl) (λ found. refl) (undefined-stands text) (undefined-has text) refl
-    (λ none low8. outcome-many text (variables_among all) (variables_of-statements all) low8)))))))
+    (λ none low8. outcome-many text (variables_among all) (variables_of-statements all) low8))))))

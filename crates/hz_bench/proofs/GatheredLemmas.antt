@@ -6,7 +6,6 @@ use Rattle.std.proofs.lemmas.List.{append-nil}
 use Rattle.std.proofs.lemmas.List.Elements.{filter-append}
 use Rattle.std.proofs.lemmas.List.Folds.{find-append}
 use Rattle.hz_line.specs.Statement.{Numbered, first_line}
-use Rattle.hz_bench.specs.declared.forms.KindWord.TheVariants.{Unknown}
 use Rattle.hz_bench.specs.declared.notes.Notes.{Notes}
 use Rattle.hz_bench.specs.declared.notes.Redefinition.{Redefinition}
 use Rattle.hz_bench.specs.declared.parse.Statements.{Statements}
@@ -120,7 +119,7 @@ module _ (test : List (List ℕ) → Bool) where
       ap first_source (asked-same statements more aside.nodes aside.waiting) ∙ option_or-nothing (first_source (asked statements))
       ∙ sym (ap (λ list. option_or (first_source (asked statements)) (first_source list)) aside.none)
   placed-line one statements more grows none fails (inr (inr (inl waits))) =
-      let last : Numbered Statement = record { line = one.line; statement = Gate [] Unknown (sources_of one.statement) } in
+      let last : Numbered Statement = record { line = one.line; statement = Gate [] None (sources_of one.statement) } in
       let after : asked more ≡ asked statements ++ last ∷ [] =
       ap (λ nodes. numbered_list nodes ++ waiting_list more.waiting.items) waits.nodes
       ∙ ap (λ behind. numbered_list statements.nodes.items ++ behind) waits.waiting

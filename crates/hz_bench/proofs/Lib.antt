@@ -4,6 +4,7 @@ pub mod ConnectLemmas
 pub mod DefinitionLemmas
 pub mod EntryLemmas
 pub mod FaultLaws
+pub mod FaultlessLaws
 pub mod GatheredLemmas
 pub mod MayLemmas
 pub mod NetlistLemmas

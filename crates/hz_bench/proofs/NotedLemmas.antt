@@ -7,10 +7,10 @@ use Rattle.std.proofs.lemmas.List.{map-append}
 use Rattle.hz_line.specs.Statement.{Numbered, first_line}
 use Rattle.hz_bench.specs.declared.notes.Notes.{Notes}
 use Rattle.hz_bench.specs.declared.notes.WrongPins.{WrongPins}
-use Rattle.hz_bench.specs.Check.{has_unknown_kind, has_clocked_kind, has_wrong_pins, first_that}
-use Rattle.hz_bench.specs.Noted.{inputs_among, notes_of, noted, first_of, wrong_or, wrong_pins_of}
-use Rattle.hz_bench.specs.Netlist.{input_names}
-use Rattle.hz_bench.specs.Statement.{Statement, Input, Output, Gate, has_long_name, variables_in}
+use Rattle.hz_bench.specs.Check.{first_that}
+use Rattle.hz_bench.specs.Noted.{inputs_among, cuts_among, notes_of, noted, first_of, wrong_or, wrong_pins_of}
+use Rattle.hz_bench.specs.Netlist.{input_names, cut_names}
+use Rattle.hz_bench.specs.Statement.{Statement, Input, Output, FlipFlop, Gate, has_long_name, variables_in, has_unknown_kind, has_wrong_pins}
 use Rattle.hz_bench.specs.Text.{variables_among, variables_of}
 
 -- the line of what was found, or of one more where it passes
@@ -51,7 +51,15 @@ input_names-append : (statements more : List Statement) → input_names (stateme
 input_names-append [] more = refl
 input_names-append (Input name ∷ rest) more = ap (λ names. name ∷ names) (input_names-append rest more)
 input_names-append (Output name ∷ rest) more = input_names-append rest more
+input_names-append (FlipFlop name sources ∷ rest) more = input_names-append rest more
 input_names-append (Gate name kind sources ∷ rest) more = input_names-append rest more
+
+cut_names-append : (statements more : List Statement) → cut_names (statements ++ more) ≡ cut_names statements ++ cut_names more
+cut_names-append [] more = refl
+cut_names-append (Input name ∷ rest) more = cut_names-append rest more
+cut_names-append (Output name ∷ rest) more = cut_names-append rest more
+cut_names-append (FlipFlop name sources ∷ rest) more = ap (λ names. name ∷ names) (cut_names-append rest more)
+cut_names-append (Gate name kind sources ∷ rest) more = cut_names-append rest more
 
 inputs-push : (statements : List (Numbered Statement)) (one : Numbered Statement) → inputs_among (statements ++ one ∷ []) ≡ inputs_among statements + inputs_among (one ∷ [])
 inputs-push statements one =
@@ -59,22 +67,29 @@ inputs-push statements one =
     ∙ ap length (input_names-append (map (λ (numbered : Numbered Statement). numbered.statement) statements) (one.statement ∷ []))
     ∙ length-append (input_names (map (λ (numbered : Numbered Statement). numbered.statement) statements)) (input_names (one.statement ∷ []))
 
--- each input is a variable
-pub inputs_few : (statements : List (Numbered Statement)) → inputs_among statements ≤ variables_among statements
+cuts-push : (statements : List (Numbered Statement)) (one : Numbered Statement) → cuts_among (statements ++ one ∷ []) ≡ cuts_among statements + cuts_among (one ∷ [])
+cuts-push statements one =
+    ap (λ (all : List Statement). length (cut_names all)) (map-append (λ (numbered : Numbered Statement). numbered.statement) statements (one ∷ []))
+    ∙ ap length (cut_names-append (map (λ (numbered : Numbered Statement). numbered.statement) statements) (one.statement ∷ []))
+    ∙ length-append (cut_names (map (λ (numbered : Numbered Statement). numbered.statement) statements)) (cut_names (one.statement ∷ []))
+
+-- each input and each flip-flop is a variable
+pub inputs_few : (statements : List (Numbered Statement)) → inputs_among statements + cuts_among statements ≤ variables_among statements
 inputs_few [] = omega arith
 inputs_few (first ∷ rest) = by_statement first.statement (inputs_few rest) (sum_by-cons (λ (numbered : Numbered Statement). variables_in numbered.statement) first rest)
   where
-    by_statement : (statement : Statement) → inputs_among rest ≤ variables_among rest → variables_among (first ∷ rest) ≡ variables_in statement + variables_among rest
-        → length (input_names (statement ∷ map (λ (numbered : Numbered Statement). numbered.statement) rest)) ≤ variables_among (first ∷ rest)
+    by_statement : (statement : Statement) → inputs_among rest + cuts_among rest ≤ variables_among rest → variables_among (first ∷ rest) ≡ variables_in statement + variables_among rest
+        → length (input_names (statement ∷ map (λ (numbered : Numbered Statement). numbered.statement) rest)) + length (cut_names (statement ∷ map (λ (numbered : Numbered Statement). numbered.statement) rest)) ≤ variables_among (first ∷ rest)
     by_statement (Input name) h e = omega (arith, h, e)
     by_statement (Output name) h e = omega (arith, h, e)
+    by_statement (FlipFlop name sources) h e = omega (arith, h, e)
     by_statement (Gate name kind sources) h e = omega (arith, h, e)
 
-notes_by_parts : {long unknown clocked long' unknown' clocked' : Option ℕ} {wrong wrong' : Option WrongPins} {inputs inputs' variables variables' : ℕ} → long ≡ long' → unknown ≡ unknown' → clocked ≡ clocked' → wrong ≡ wrong' → inputs ≡ inputs' → variables ≡ variables'
-    → ◌≡◌ {A = Notes} (record { long_name = long; unknown_kind = unknown; clocked_kind = clocked; wrong_pins = wrong; inputs = inputs; variables = variables }) (record { long_name = long'; unknown_kind = unknown'; clocked_kind = clocked'; wrong_pins = wrong'; inputs = inputs'; variables = variables' })
+notes_by_parts : {long unknown long' unknown' : Option ℕ} {wrong wrong' : Option WrongPins} {inputs inputs' cuts cuts' variables variables' : ℕ} → long ≡ long' → unknown ≡ unknown' → wrong ≡ wrong' → inputs ≡ inputs' → cuts ≡ cuts' → variables ≡ variables'
+    → ◌≡◌ {A = Notes} (record { long_name = long; unknown_kind = unknown; wrong_pins = wrong; inputs = inputs; cuts = cuts; variables = variables }) (record { long_name = long'; unknown_kind = unknown'; wrong_pins = wrong'; inputs = inputs'; cuts = cuts'; variables = variables' })
 notes_by_parts a b c d e f = cc
 
 -- the notes of statements with one more
 pub notes_of-push : (statements : List (Numbered Statement)) (one : Numbered Statement) → notes_of (statements ++ one ∷ []) ≡ noted (notes_of statements) one
 notes_of-push statements one =
-    notes_by_parts (first_line-push has_long_name statements one) (first_line-push has_unknown_kind statements one) (first_line-push has_clocked_kind statements one) (wrong_pins-push statements one) (inputs-push statements one) (variables-push statements one)
+    notes_by_parts (first_line-push has_long_name statements one) (first_line-push has_unknown_kind statements one) (wrong_pins-push statements one) (inputs-push statements one) (cuts-push statements one) (variables-push statements one)

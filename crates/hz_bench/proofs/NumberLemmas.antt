@@ -9,8 +9,9 @@ use Rattle.hz_bench.specs.declared.forms.Form.{Form}
 use Rattle.hz_bench.specs.declared.forms.Form.TheVariants as form
 use Rattle.hz_bench.specs.Definition.{defined_names}
 use Rattle.hz_bench.specs.Entry.{stated, numbered_list, statement_list}
-use Rattle.hz_bench.specs.Netlist.{input_names, gate_names, node_names, number_in}
-use Rattle.hz_bench.specs.Statement.{Statement, Input, Output, Gate, form_of}
+use Rattle.hz_bench.specs.Netlist.{input_names, cut_names, gate_names, node_names, number_in}
+use Rattle.hz_bench.specs.Form.{form_of}
+use Rattle.hz_bench.specs.Statement.{Statement, Input, Output, FlipFlop, Gate}
 use Rattle.hz_bench.specs.Twice.{twice_fault}
 use Rattle.hz_bench.proofs.EntryLemmas.{entry-formed}
 use Rattle.hz_bench.proofs.CheckedLemmas.{Apart, either, nodes_apart}
@@ -20,25 +21,27 @@ use Rattle.hz_bench.proofs.NetlistLemmas.{statement_list-numbered}
 abbrev pub forms_of : List Entry → List (Option Form)
 forms_of entries = map (λ entry. Some entry.form) entries
 
--- the numbers of inputs and gates, of which the next have these
-abbrev pub numbers_from : ℕ → ℕ → List (Option Form) → List ℕ
-numbers_from input gate [] = []
-numbers_from input gate (Some form.Input ∷ rest) = input ∷ numbers_from (suc input) gate rest
-numbers_from input gate (None ∷ rest) = numbers_from input gate rest
-numbers_from input gate (Some (form.Gate kind) ∷ rest) = gate ∷ numbers_from input (suc gate) rest
+-- the numbers of inputs, flip-flops and gates, of which the next have these
+abbrev pub numbers_from : ℕ → ℕ → ℕ → List (Option Form) → List ℕ
+numbers_from input cut gate [] = []
+numbers_from input cut gate (None ∷ rest) = numbers_from input cut gate rest
+numbers_from input cut gate (Some form.Input ∷ rest) = input ∷ numbers_from (suc input) cut gate rest
+numbers_from input cut gate (Some form.FlipFlop ∷ rest) = cut ∷ numbers_from input (suc cut) gate rest
+numbers_from input cut gate (Some (form.Gate kind) ∷ rest) = gate ∷ numbers_from input cut (suc gate) rest
 
 forms-stated : (entries : List Entry) → forms_of entries ≡ map form_of (statement_list entries)
 forms-stated [] = refl
 forms-stated (entry ∷ rest) = ap (λ one. one ∷ forms_of rest) (entry-formed entry) ∙ ap (λ forms. form_of (stated entry) ∷ forms) (forms-stated rest)
 
--- there are no more inputs than statements
-inputs_within : (statements : List Statement) → length (input_names statements) ≤ length statements
+-- there are no more inputs and flip-flops than statements
+inputs_within : (statements : List Statement) → length (input_names statements) + length (cut_names statements) ≤ length statements
 inputs_within [] = omega arith
 inputs_within (Input name ∷ rest) = let h = inputs_within rest in omega arith
 inputs_within (Output name ∷ rest) = let h = inputs_within rest in omega arith
+inputs_within (FlipFlop name sources ∷ rest) = let h = inputs_within rest in omega arith
 inputs_within (Gate name kind sources ∷ rest) = let h = inputs_within rest in omega arith
 
-pub inputs_few : (entries : List Entry) → length (input_names (statement_list entries)) ≤ length entries
+pub inputs_few : (entries : List Entry) → length (input_names (statement_list entries)) + length (cut_names (statement_list entries)) ≤ length entries
 inputs_few entries = omega (arith, inputs_within (statement_list entries), length-map entries stated)
 
 -- a name that is apart from all before it is absent there
@@ -59,29 +62,49 @@ numbered : (names front back : List (List ℕ)) (name : List ℕ) → Apart [] n
 numbered names front back name apart is =
     ap (λ all. number_in all name) is ∙ placed front back name (Apart-absent [] front back name (subst (Apart []) is apart))
 
-numbers_placed : (names inputs gates : List (List ℕ)) (statements : List Statement) (input gate : ℕ) → Apart [] names → names ≡ (inputs ++ input_names statements) ++ (gates ++ gate_names statements)
-    → length inputs ≡ input → length ((inputs ++ input_names statements) ++ gates) ≡ gate → numbers_from input gate (map form_of statements) ≡ map (number_in names) (defined_names statements)
-numbers_placed names inputs gates [] input gate apart is first next = refl
-numbers_placed names inputs gates (Input name ∷ rest) input gate apart is first next =
+numbers_placed : (names inputs cuts gates : List (List ℕ)) (statements : List Statement) (input cut gate : ℕ) → Apart [] names
+    → names ≡ ((inputs ++ input_names statements) ++ (cuts ++ cut_names statements)) ++ (gates ++ gate_names statements)
+    → length inputs ≡ input → length ((inputs ++ input_names statements) ++ cuts) ≡ cut → length (((inputs ++ input_names statements) ++ (cuts ++ cut_names statements)) ++ gates) ≡ gate
+    → numbers_from input cut gate (map form_of statements) ≡ map (number_in names) (defined_names statements)
+numbers_placed names inputs cuts gates [] input cut gate apart is first second third = refl
+numbers_placed names inputs cuts gates (Input name ∷ rest) input cut gate apart is first second third =
+    let back = cuts ++ cut_names rest in
+    let last = gates ++ gate_names rest in
     let moved : inputs ++ name ∷ input_names rest ≡ (inputs ++ name ∷ []) ++ input_names rest = sym (append_assoc inputs (name ∷ []) (input_names rest)) in
-    let here = numbered names inputs (input_names rest ++ (gates ++ gate_names rest)) name apart (is ∙ append_assoc inputs (name ∷ input_names rest) (gates ++ gate_names rest)) in
-    ap (λ number. number ∷ numbers_from (suc input) gate (map form_of rest)) (sym (here ∙ first))
-    ∙ ap (λ numbers. number_in names name ∷ numbers) (numbers_placed names (inputs ++ name ∷ []) gates rest (suc input) gate apart
-    (is ∙ ap (λ front. front ++ (gates ++ gate_names rest)) moved) (omega (arith, first, length-append inputs (name ∷ []))) (sym (ap (λ front. length (front ++ gates)) moved) ∙ next))
-numbers_placed names inputs gates (Output name ∷ rest) input gate apart is first next = numbers_placed names inputs gates rest input gate apart is first next
-numbers_placed names inputs gates (Gate name kind sources ∷ rest) input gate apart is first next =
+    let here = numbered names inputs ((input_names rest ++ back) ++ last) name apart
+    (is ∙ ap (λ front. front ++ last) (append_assoc inputs (name ∷ input_names rest) back) ∙ append_assoc inputs (name ∷ input_names rest ++ back) last) in
+    ap (λ number. number ∷ numbers_from (suc input) cut gate (map form_of rest)) (sym (here ∙ first))
+    ∙ ap (λ numbers. number_in names name ∷ numbers) (numbers_placed names (inputs ++ name ∷ []) cuts gates rest (suc input) cut gate apart
+    (is ∙ ap (λ front. (front ++ back) ++ last) moved) (omega (arith, first, length-append inputs (name ∷ [])))
+    (sym (ap (λ front. length (front ++ cuts)) moved) ∙ second) (sym (ap (λ front. length ((front ++ back) ++ gates)) moved) ∙ third))
+numbers_placed names inputs cuts gates (Output name ∷ rest) input cut gate apart is first second third = numbers_placed names inputs cuts gates rest input cut gate apart is first second third
+numbers_placed names inputs cuts gates (FlipFlop name sources ∷ rest) input cut gate apart is first second third =
     let front = inputs ++ input_names rest in
+    let last = gates ++ gate_names rest in
+    let moved : cuts ++ name ∷ cut_names rest ≡ (cuts ++ name ∷ []) ++ cut_names rest = sym (append_assoc cuts (name ∷ []) (cut_names rest)) in
+    let here = numbered names (front ++ cuts) (cut_names rest ++ last) name apart
+    (is ∙ ap (λ all. all ++ last) (sym (append_assoc front cuts (name ∷ cut_names rest))) ∙ append_assoc (front ++ cuts) (name ∷ cut_names rest) last) in
+    let longer : length (front ++ (cuts ++ name ∷ [])) ≡ suc cut = omega (arith, second, length-append front cuts, length-append front (cuts ++ name ∷ []), length-append cuts (name ∷ [])) in
+    ap (λ number. number ∷ numbers_from input (suc cut) gate (map form_of rest)) (sym (here ∙ second))
+    ∙ ap (λ numbers. number_in names name ∷ numbers) (numbers_placed names inputs (cuts ++ name ∷ []) gates rest input (suc cut) gate apart
+    (is ∙ ap (λ back. (front ++ back) ++ last) moved) first longer (sym (ap (λ back. length ((front ++ back) ++ gates)) moved) ∙ third))
+numbers_placed names inputs cuts gates (Gate name kind sources ∷ rest) input cut gate apart is first second third =
+    let front = (inputs ++ input_names rest) ++ (cuts ++ cut_names rest) in
     let here = numbered names (front ++ gates) (gate_names rest) name apart (is ∙ sym (append_assoc front gates (name ∷ gate_names rest))) in
-    let longer : length (front ++ (gates ++ name ∷ [])) ≡ suc gate = omega (arith, next, length-append front gates, length-append front (gates ++ name ∷ []), length-append gates (name ∷ [])) in
-    ap (λ number. number ∷ numbers_from input (suc gate) (map form_of rest)) (sym (here ∙ next))
-    ∙ ap (λ numbers. number_in names name ∷ numbers) (numbers_placed names inputs (gates ++ name ∷ []) rest input (suc gate) apart
-    (is ∙ ap (λ back. front ++ back) (sym (append_assoc gates (name ∷ []) (gate_names rest)))) first longer)
+    let longer : length (front ++ (gates ++ name ∷ [])) ≡ suc gate = omega (arith, third, length-append front gates, length-append front (gates ++ name ∷ []), length-append gates (name ∷ [])) in
+    ap (λ number. number ∷ numbers_from input cut (suc gate) (map form_of rest)) (sym (here ∙ third))
+    ∙ ap (λ numbers. number_in names name ∷ numbers) (numbers_placed names inputs cuts (gates ++ name ∷ []) rest input cut (suc gate) apart
+    (is ∙ ap (λ back. front ++ back) (sym (append_assoc gates (name ∷ []) (gate_names rest)))) first second longer)
 
 -- the numbers that are counted are those of the defined names
 pub numbers-known : (entries : List Entry) → twice_fault (numbered_list entries) ≡ None
-    → numbers_from 0 (length (input_names (statement_list entries))) (forms_of entries) ≡ map (number_in (node_names (statement_list entries))) (defined_names (statement_list entries))
+    → numbers_from 0 (length (input_names (statement_list entries))) (length (input_names (statement_list entries)) + length (cut_names (statement_list entries))) (forms_of entries)
+    ≡ map (number_in (node_names (statement_list entries))) (defined_names (statement_list entries))
 numbers-known entries once =
     let statements = statement_list entries in
+    let inputs = input_names statements in
+    let cuts = cut_names statements in
     let apart = subst (λ (all : List Statement). Apart [] (node_names all)) (statement_list-numbered entries) (nodes_apart (numbered_list entries) once) in
-    ap (numbers_from 0 (length (input_names statements))) (forms-stated entries)
-    ∙ numbers_placed (node_names statements) [] [] statements 0 (length (input_names statements)) apart refl refl (ap length (append-nil (input_names statements)))
+    ap (numbers_from 0 (length inputs) (length inputs + length cuts)) (forms-stated entries)
+    ∙ numbers_placed (node_names statements) [] [] [] statements 0 (length inputs) (length inputs + length cuts) apart refl refl (ap length (append-nil inputs))
+    (ap length (append-nil (inputs ++ cuts)) ∙ length-append inputs cuts)

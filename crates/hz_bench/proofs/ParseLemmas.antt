@@ -1,5 +1,5 @@
 -- Reading the statements of a text line by line.
-use Rattle.std.proofs.Common.{◌≡◌, ◌∙◌, ℕ, ◌+◌, ◌≤◌, suc, List, [], ◌∷◌, ◌++◌, Option, Some, None, option_map, length, map, refl, sym, ap, arith, add-one, append_assoc, IfSome, is_some, lit≤, subst}
+use Rattle.std.proofs.Common.{◌≡◌, ◌∙◌, ℕ, ◌+◌, ◌≤◌, suc, List, [], ◌∷◌, ◌++◌, Option, Some, None, option_map, length, map, refl, sym, ap, arith, add-one, append_assoc, IfSome, is_some, lit≤, subst, Bool, true, false, cond}
 use Rattle.std.specs.Borrow.{Bor}
 use Rattle.std.specs.Map.{lookup}
 use Rattle.std.specs.Str.{bytes_eq}
@@ -12,12 +12,11 @@ use Rattle.hz_line.specs.Token.{TokenOf, WordOf, MarkOf, tokens_of}
 use Rattle.hz_line.proofs.TokenLemmas.{tokens_of-length}
 use Rattle.hz_bench.specs.declared.notes.Notes.{Notes}
 use Rattle.hz_bench.specs.declared.parse.Statements.{Statements}
-use Rattle.hz_bench.specs.declared.forms.KindWord.{KindWord}
 use Rattle.hz_bench.specs.Entry.{numbered_list, numbered_outputs, waiting_list}
 use Rattle.hz_bench.specs.Gathered.{AreGathered, IsNothingRead, IsSorted}
 use Rattle.hz_bench.specs.Pass.{IsParsed}
 use Rattle.hz_bench.specs.FaultIn.{again_fault}
-use Rattle.hz_bench.specs.Statement.{Statement, Input, Output, Gate, statement_of, names_of, Port, InputPort, OutputPort, port_word, port_of, kind_word_of, variables_in, words_of, sources_of}
+use Rattle.hz_bench.specs.Statement.{Statement, Input, Output, FlipFlop, Gate, statement_of, names_of, Port, InputPort, OutputPort, port_word, port_of, defined_by, is_flip_flop, kind_named, variables_in, words_of, sources_of}
 use Rattle.hz_bench.specs.Text.{meaning_of, numbered_statements, variables_among}
 use Rattle.hz_bench.proofs.GatheredLemmas.{gathered-more}
 use Rattle.hz_bench.proofs.NotedLemmas.{inputs_few, variables_of-statements, variables-push}
@@ -83,21 +82,28 @@ port_weight : (name : List ℕ) (made : Option Port) (statement : Statement) →
 port_weight name None statement h = cc
 port_weight name (Some InputPort) (Input other) h = lit≤ tt
 port_weight name (Some InputPort) (Output other) h = lit≤ tt
+port_weight name (Some InputPort) (FlipFlop other sources) h = cc
 port_weight name (Some InputPort) (Gate other kind sources) h = cc
 port_weight name (Some OutputPort) (Input other) h = lit≤ tt
 port_weight name (Some OutputPort) (Output other) h = lit≤ tt
+port_weight name (Some OutputPort) (FlipFlop other sources) h = cc
 port_weight name (Some OutputPort) (Gate other kind sources) h = cc
 
-gate_weight : (name : List ℕ) (kind : KindWord) (rest : List TokenOf) (names : Option (List (List ℕ))) (statement : Statement) → names ≡ names_of rest → option_map (λ (sources : List (List ℕ)). Gate name kind sources) names ≡ Some statement → variables_in statement ≤ length rest + 4
-gate_weight name kind rest None statement same h = cc
-gate_weight name kind rest (Some names) (Input other) same h = cc
-gate_weight name kind rest (Some names) (Output other) same h = cc
-gate_weight name kind rest (Some names) (Gate other word sources) same h =
-    let list = IsNameList-from_some rest (ap is_some (sym same)) in
-    let words : words_of rest ≡ sources = cc (list.words, same, h) in
-    let twice = list.twice in
-    let few : length sources + length sources ≡ length rest = omega (arith, ap length words, twice) in
-    omega arith
+gate_weight : (name word : List ℕ) (rest : List TokenOf) (names : Option (List (List ℕ))) (statement : Statement) → names ≡ names_of rest → option_map (defined_by name word) names ≡ Some statement → variables_in statement ≤ length rest + 4
+gate_weight name word rest None statement same h = cc
+gate_weight name word rest (Some names) statement same h = by_word (is_flip_flop word) h
+  where
+    by_word : (b : Bool) → Some (cond b (FlipFlop name names) (Gate name (kind_named word) names)) ≡ Some statement → variables_in statement ≤ length rest + 4
+    by_word true h =
+        let is : FlipFlop name names ≡ statement = cc h in
+        subst (λ (one : Statement). variables_in one ≤ length rest + 4) is (omega arith)
+    by_word false h =
+        let is : Gate name (kind_named word) names ≡ statement = cc h in
+        let list = IsNameList-from_some rest (ap is_some (sym same)) in
+        let words : words_of rest ≡ names = cc (list.words, same) in
+        let twice = list.twice in
+        let few : length names + length names ≡ length rest = omega (arith, ap length words, twice) in
+        subst (λ (one : Statement). variables_in one ≤ length rest + 4) is (omega arith)
 
 -- only a head of two words, each with a mark after it, begins a statement
 statement_weight : (tokens : List TokenOf) (statement : Statement) → statement_of tokens ≡ Some statement → variables_in statement ≤ length tokens
@@ -124,7 +130,7 @@ statement_weight (WordOf first ∷ MarkOf Equals ∷ WordOf second ∷ MarkOf Cl
 statement_weight (WordOf first ∷ MarkOf Equals ∷ WordOf second ∷ MarkOf Comma ∷ rest) statement h = cc
 statement_weight (WordOf first ∷ MarkOf Equals ∷ WordOf second ∷ MarkOf Equals ∷ rest) statement h = cc
 statement_weight (WordOf first ∷ MarkOf Equals ∷ WordOf second ∷ MarkOf Open ∷ rest) statement h =
-    let few = gate_weight first (kind_word_of second) rest (names_of rest) statement refl h in omega arith
+    let few = gate_weight first second rest (names_of rest) statement refl h in omega arith
 
 found_weight : (tokens : List TokenOf) (found : Option Statement) (statement : Statement) → found ≡ statement_of tokens → meaning_by found ≡ Means statement → variables_in statement ≤ length tokens
 found_weight tokens None statement same h = cc
@@ -174,8 +180,8 @@ variables_fit text statements statement line first left whole was shorter meanin
     let v = was.variables in
     omega arith
 
--- no more inputs were noted than variables
-pub inputs_noted : (text : List ℕ) (statements : Statements) (line : ℕ) (left : Option (Bor (List ℕ))) → IsParsing text statements line left → statements.notes.inputs ≤ statements.notes.variables
+-- no more inputs and flip-flops were noted than variables
+pub inputs_noted : (text : List ℕ) (statements : Statements) (line : ℕ) (left : Option (Bor (List ℕ))) → IsParsing text statements line left → statements.notes.inputs + statements.notes.cuts ≤ statements.notes.variables
 inputs_noted text statements line left was = rw (was.gathered.notes) (inputs_few was.done)
 
 -- a line with a statement

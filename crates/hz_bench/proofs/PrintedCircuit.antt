@@ -1,24 +1,25 @@
 -- A printed text stands for its circuit.
-use Rattle.std.proofs.Common.{◌≡◌, ◌∙◌, ℕ, ◌+◌, ◌<◌, ◌≤◌, suc, false, List, [], ◌∷◌, ◌++◌, length, map, take, drop, fold, get_or, refl, ap, sym, arith, append_assoc, append-nil, drop-cons, take-append-drop, length-take-le, drop_of_length-le}
+use Rattle.std.proofs.Common.{◌≡◌, ◌∙◌, ℕ, ◌+◌, ◌<◌, ◌≤◌, suc, true, false, List, [], ◌∷◌, ◌++◌, Option, None, Some, IsTrue, length, length-append, add-zero, subst, map, take, drop, fold, get_or, refl, ap, sym, arith, append_assoc, append-nil, drop-cons, take-append-drop, length-take-le, drop_of_length-le}
 use Rattle.std.specs.List.{All, IsDistinct, list_any}
 use Rattle.std.specs.Prelude.{nat_eq}
 use Rattle.std.specs.Str.{bytes_eq}
 use Rattle.std.specs.Cmp.Lexicographic.{nat_list_eq_equiv}
 use Rattle.std.proofs.lemmas.Bool.Decides.{nat_tests}
-use Rattle.std.proofs.lemmas.List.{get_or_at, get_or_append_left}
+use Rattle.std.proofs.lemmas.List.{get_or_at, get_or_append_left, length-map}
 use Rattle.std.proofs.lemmas.List.Folds.{list_any_none}
-use Rattle.std.proofs.lemmas.List.Elements.{All-head, All-tail}
+use Rattle.std.proofs.lemmas.List.Elements.{All-nil, All-cons, All-head, All-tail}
 use Rattle.std.proofs.lemmas.List.Sums.{position_or_len_is}
 use Rattle.std.proofs.lemmas.Map.Keys.{apart_from_distinct}
-use Rattle.hz_core.specs.Netlist.{Netlist, Gate as GateOf, IsCircuit, IsGateAmong, IsWhole}
+use Rattle.hz_core.specs.Netlist.{Netlist, Gate as GateOf, IsCircuit, IsDataAmong, IsGateAmong, IsWhole, has_output, primary_inputs}
 use Rattle.hz_core.proofs.CircuitLemmas.{same_netlist}
 use Rattle.hz_line.specs.Line.{lines_of}
 use Rattle.hz_line.specs.Statement.{Meaning, Nothing, Malformed, Means, Numbered, with_meaning, numbered_from}
-use Rattle.hz_bench.specs.Netlist.{input_names, gate_names, output_names, node_names, number_in, gates_of, add_once, each_once, netlist_of}
+use Rattle.hz_bench.specs.Netlist.{input_names, cut_names, data_names, data_nodes, gate_names, output_names, all_inputs, node_names, number_in, gates_of, add_once, each_once, netlist_of}
 use Rattle.hz_bench.specs.Statement.{InputPort, OutputPort, Statement, statement_of}
 use Rattle.hz_bench.specs.Text.{meaning_of, statements_of}
 use Rattle.hz_bench.specs.Printed.{name_at, printed}
-use Rattle.hz_bench.proofs.PrintedLines.{ports, gate_statements, statements_for, IsReadAs, printed-IsReadAs}
+use Rattle.hz_bench.proofs.NetlistLemmas.{each_once-append}
+use Rattle.hz_bench.proofs.PrintedLines.{ports, cut_statements, gate_statements, statements_for, IsReadAs, printed-IsReadAs}
 
 -- the statements among what lines are
 abbrev pub meant : List (Meaning Statement) → List Statement
@@ -58,29 +59,87 @@ numbers_back names (node ∷ nodes) distinct below =
     let P : ℕ → Type 0 = λ node. node < length names in
     rw (number_back names node distinct (All-head P node nodes below)) (ap (λ rest. node ∷ rest) (numbers_back names nodes distinct (All-tail P node nodes below)))
 
--- what the first of these statements add to a circuit: inputs, gates, outputs by their names, and gates
-record Adds (names : List (List ℕ)) (first rest : List Statement) (inputs gates outputs : List (List ℕ)) (made : List GateOf) : Type 0 where
+-- the names of so many nodes, the first of which is this one
+abbrev pub named_from : List (List ℕ) → ℕ → List ℕ → List (List ℕ)
+named_from names node [] = []
+named_from names node (one ∷ more) = name_at names node ∷ named_from names (suc node) more
+
+pub named_from-drop : (names : List (List ℕ)) (node : ℕ) (more : List ℕ) → node + length more ≤ length names → drop node names ≡ named_from names node more ++ drop (node + length more) names
+named_from-drop names node [] room = ap (λ n. drop n names) (sym (add-zero node))
+named_from-drop names node (one ∷ more) room =
+    let moved : suc node + length more ≡ node + suc (length more) = omega arith in
+    drop-cons names node [] (omega (arith, room)) ∙ ap (λ rest. name_at names node ∷ rest) (named_from-drop names (suc node) more (omega (arith, room)) ∙ ap (λ n. named_from names (suc node) more ++ drop n names) moved)
+
+pub length-named_from : (names : List (List ℕ)) (node : ℕ) (more : List ℕ) → length (named_from names node more) ≡ length more
+length-named_from names node [] = refl
+length-named_from names node (one ∷ more) = ap suc (length-named_from names (suc node) more)
+
+-- the cuts of a whole circuit have these data nodes
+pub record AreSet (count : ℕ) (outputs : List ℕ) (cuts : List (Option ℕ)) : Type 0 where
+  pub nodes : List ℕ
+  pub are : cuts ≡ map Some nodes
+  pub below : All (λ node. node < count) nodes
+  pub there : All (λ node. IsTrue (list_any (nat_eq node) outputs)) nodes
+
+pub are_set : (count : ℕ) (outputs : List ℕ) (cuts : List (Option ℕ)) → All (IsDataAmong count) cuts → All (λ node. IsTrue (has_output outputs node)) cuts → AreSet count outputs cuts
+are_set count outputs [] below there = record { nodes = []; are = refl; below = All-nil (λ node. node < count); there = All-nil (λ node. IsTrue (list_any (nat_eq node) outputs)) }
+are_set count outputs (None ∷ rest) below there = let P : Option ℕ → Type 0 = λ node. IsTrue (has_output outputs node) in absurd (no_output (All-head P None rest there))
+  where
+    no_output : IsTrue (has_output outputs None) → ⊥
+    no_output h = cc
+are_set count outputs (Some node ∷ rest) below there =
+    let P = IsDataAmong count in
+    let Q : Option ℕ → Type 0 = λ node. IsTrue (has_output outputs node) in
+    let ih = are_set count outputs rest (All-tail P (Some node) rest below) (All-tail Q (Some node) rest there) in
+    record {
+      nodes = node ∷ ih.nodes;
+      are = ap (λ all. Some node ∷ all) ih.are;
+      below = All-cons (λ node. node < count) node ih.nodes (All-head P (Some node) rest below) ih.below;
+      there = All-cons (λ node. IsTrue (list_any (nat_eq node) outputs)) node ih.nodes (All-head Q (Some node) rest there) ih.there;
+    }
+
+pub set_nodes : (netlist : Netlist) → IsCircuit netlist → IsWhole netlist → AreSet (length netlist.names) netlist.outputs netlist.cuts
+set_nodes netlist circuit whole = are_set (length netlist.names) netlist.outputs netlist.cuts circuit.data_nodes whole.cuts
+
+-- what the first of these statements add to a circuit: inputs, flip-flops, the names that these read, gates and outputs by their
+-- names, and gates
+record Adds (names : List (List ℕ)) (first rest : List Statement) (inputs cuts sources gates outputs : List (List ℕ)) (made : List GateOf) : Type 0 where
   inputs_are : input_names (first ++ rest) ≡ inputs ++ input_names rest
+  cuts_are : cut_names (first ++ rest) ≡ cuts ++ cut_names rest
+  sources_are : data_names (first ++ rest) ≡ sources ++ data_names rest
   gates_are : gate_names (first ++ rest) ≡ gates ++ gate_names rest
   outputs_are : output_names (first ++ rest) ≡ outputs ++ output_names rest
   made_are : gates_of names (first ++ rest) ≡ made ++ gates_of names rest
 
-inputs_add : (names inputs : List (List ℕ)) (rest : List Statement) → Adds names (ports InputPort inputs) rest inputs [] [] []
-inputs_add names [] rest = record { inputs_are = refl; gates_are = refl; outputs_are = refl; made_are = refl }
+inputs_add : (names inputs : List (List ℕ)) (rest : List Statement) → Adds names (ports InputPort inputs) rest inputs [] [] [] [] []
+inputs_add names [] rest = record { inputs_are = refl; cuts_are = refl; sources_are = refl; gates_are = refl; outputs_are = refl; made_are = refl }
 inputs_add names (name ∷ inputs) rest =
     let ih = inputs_add names inputs rest in
-    record { inputs_are = ap (λ all. name ∷ all) ih.inputs_are; gates_are = ih.gates_are; outputs_are = ih.outputs_are; made_are = ih.made_are }
+    record { inputs_are = ap (λ all. name ∷ all) ih.inputs_are; cuts_are = ih.cuts_are; sources_are = ih.sources_are; gates_are = ih.gates_are; outputs_are = ih.outputs_are; made_are = ih.made_are }
 
-outputs_add : (names outputs : List (List ℕ)) (rest : List Statement) → Adds names (ports OutputPort outputs) rest [] [] outputs []
-outputs_add names [] rest = record { inputs_are = refl; gates_are = refl; outputs_are = refl; made_are = refl }
+outputs_add : (names outputs : List (List ℕ)) (rest : List Statement) → Adds names (ports OutputPort outputs) rest [] [] [] [] outputs []
+outputs_add names [] rest = record { inputs_are = refl; cuts_are = refl; sources_are = refl; gates_are = refl; outputs_are = refl; made_are = refl }
 outputs_add names (name ∷ outputs) rest =
     let ih = outputs_add names outputs rest in
-    record { inputs_are = ih.inputs_are; gates_are = ih.gates_are; outputs_are = ap (λ all. name ∷ all) ih.outputs_are; made_are = ih.made_are }
+    record { inputs_are = ih.inputs_are; cuts_are = ih.cuts_are; sources_are = ih.sources_are; gates_are = ih.gates_are; outputs_are = ap (λ all. name ∷ all) ih.outputs_are; made_are = ih.made_are }
 
-gates_add : (names : List (List ℕ)) (node : ℕ) (gates : List GateOf) → IsDistinct bytes_eq names → node + length gates ≡ length names → All (IsGateAmong (length names)) gates → Adds names (gate_statements names node gates) [] [] (drop node names) [] gates
+cuts_add : (names : List (List ℕ)) (node : ℕ) (nodes : List ℕ) (rest : List Statement) → Adds names (cut_statements names node (map Some nodes)) rest [] (named_from names node nodes) (map (name_at names) nodes) [] [] []
+cuts_add names node [] rest = record { inputs_are = refl; cuts_are = refl; sources_are = refl; gates_are = refl; outputs_are = refl; made_are = refl }
+cuts_add names node (source ∷ nodes) rest =
+    let ih = cuts_add names (suc node) nodes rest in
+    record {
+      inputs_are = ih.inputs_are;
+      cuts_are = ap (λ all. name_at names node ∷ all) ih.cuts_are;
+      sources_are = ap (λ all. name_at names source ∷ all) ih.sources_are;
+      gates_are = ih.gates_are;
+      outputs_are = ih.outputs_are;
+      made_are = ih.made_are;
+    }
+
+gates_add : (names : List (List ℕ)) (node : ℕ) (gates : List GateOf) → IsDistinct bytes_eq names → node + length gates ≡ length names → All (IsGateAmong (length names)) gates → Adds names (gate_statements names node gates) [] [] [] [] (drop node names) [] gates
 gates_add names node [] distinct all among =
     let none : drop node names ≡ [] = drop_of_length-le names (omega (arith, all)) in
-    record { inputs_are = refl; gates_are = rw none refl; outputs_are = refl; made_are = refl }
+    record { inputs_are = refl; cuts_are = refl; sources_are = refl; gates_are = rw none refl; outputs_are = refl; made_are = refl }
 gates_add names node (gate ∷ rest) distinct all among =
     let P = IsGateAmong (length names) in
     let ih = gates_add names (suc node) rest distinct (omega (arith, all)) (All-tail P gate rest among) in
@@ -88,10 +147,20 @@ gates_add names node (gate ∷ rest) distinct all among =
     let below : node < length names = omega (arith, all) in
     record {
       inputs_are = ih.inputs_are;
+      cuts_are = ih.cuts_are;
+      sources_are = ih.sources_are;
       gates_are = ap (λ later. name_at names node ∷ later) ih.gates_are ∙ ap (λ later. later ++ []) (sym (drop-cons names node [] below));
       outputs_are = ih.outputs_are;
       made_are = rw sources (ap (λ later. gate ∷ later) ih.made_are);
     }
+
+-- numbers that are there already are not added
+still : (done nodes : List ℕ) → All (λ node. IsTrue (list_any (nat_eq node) done)) nodes → fold add_once done nodes ≡ done
+still done [] there = refl
+still done (node ∷ nodes) there =
+    let P : ℕ → Type 0 = λ node. IsTrue (list_any (nat_eq node) done) in
+    let here : list_any (nat_eq node) done ≡ true = All-head P node nodes there in
+    rw here (still done nodes (All-tail P node nodes there))
 
 flip : (a b : ℕ) → nat_eq a b ≡ false → nat_eq b a ≡ false
 flip a b h = grind (arith, nat_tests, h)
@@ -113,34 +182,54 @@ once done (next ∷ rest) distinct =
     longer (first ∷ done) next rest = let ih = longer done next rest in omega arith
 
 -- the circuit of a circuit's statements is this circuit
-circuit_back : (netlist : Netlist) → IsCircuit netlist → netlist_of (statements_for netlist) ≡ netlist
-circuit_back netlist circuit =
+circuit_back : (netlist : Netlist) → IsCircuit netlist → IsWhole netlist → netlist_of (statements_for netlist) ≡ netlist
+circuit_back netlist circuit whole =
     let names = netlist.names in
+    let primary = primary_inputs netlist in
     let statements = statements_for netlist in
-    let inputs = take netlist.inputs names in
+    let set = set_nodes netlist circuit whole in
+    let count : length netlist.cuts ≡ length set.nodes = ap length set.are ∙ length-map set.nodes Some in
+    let total : primary + length set.nodes ≡ netlist.inputs = omega (arith, count, circuit.cuts) in
+    let inputs = take primary names in
+    let cuts = named_from names primary set.nodes in
+    let sources = map (name_at names) set.nodes in
     let outputs = map (name_at names) netlist.outputs in
     let last = gate_statements names netlist.inputs netlist.gates in
-    let few : netlist.inputs ≤ length names = omega (arith, circuit.nodes) in
-    let third = gates_add names netlist.inputs netlist.gates circuit.names_distinct (sym circuit.nodes) circuit.gates in
-    let second = outputs_add names outputs last in
-    let first = inputs_add names inputs (ports OutputPort outputs ++ last) in
+    let middle = cut_statements names primary netlist.cuts in
     let nil : last ++ [] ≡ last = append-nil last in
-    let ins : input_names statements ≡ inputs = first.inputs_are ∙ ap (λ all. inputs ++ all) (second.inputs_are ∙ rw nil at third.inputs_are) ∙ append-nil inputs in
-    let gates : gate_names statements ≡ drop netlist.inputs names = first.gates_are ∙ second.gates_are ∙ (rw nil at third.gates_are) ∙ append-nil (drop netlist.inputs names) in
-    let outs : output_names statements ≡ outputs = first.outputs_are ∙ second.outputs_are ∙ ap (λ all. outputs ++ all) (rw nil at third.outputs_are) ∙ append-nil outputs in
-    let made : gates_of names statements ≡ netlist.gates = first.made_are ∙ second.made_are ∙ (rw nil at third.made_are) ∙ append-nil netlist.gates in
-    let nodes : node_names statements ≡ names = ap (λ all. all ++ gate_names statements) ins ∙ ap (λ all. inputs ++ all) gates ∙ take-append-drop netlist.inputs names in
+    let fourth = gates_add names netlist.inputs netlist.gates circuit.names_distinct (sym circuit.nodes) circuit.gates in
+    let third : Adds names middle last [] cuts sources [] [] [] = subst (λ all. Adds names (cut_statements names primary all) last [] cuts sources [] [] []) (sym set.are) (cuts_add names primary set.nodes last) in
+    let second = outputs_add names outputs (middle ++ last) in
+    let first = inputs_add names inputs (ports OutputPort outputs ++ (middle ++ last)) in
+    let ins : input_names statements ≡ inputs = first.inputs_are ∙ ap (λ all. inputs ++ all) (second.inputs_are ∙ third.inputs_are ∙ rw nil at fourth.inputs_are) ∙ append-nil inputs in
+    let cut : cut_names statements ≡ cuts = first.cuts_are ∙ second.cuts_are ∙ third.cuts_are ∙ ap (λ all. cuts ++ all) (rw nil at fourth.cuts_are) ∙ append-nil cuts in
+    let read : data_names statements ≡ sources = first.sources_are ∙ second.sources_are ∙ third.sources_are ∙ ap (λ all. sources ++ all) (rw nil at fourth.sources_are) ∙ append-nil sources in
+    let gates : gate_names statements ≡ drop netlist.inputs names = first.gates_are ∙ second.gates_are ∙ third.gates_are ∙ (rw nil at fourth.gates_are) ∙ append-nil (drop netlist.inputs names) in
+    let outs : output_names statements ≡ outputs = first.outputs_are ∙ second.outputs_are ∙ ap (λ all. outputs ++ all) (third.outputs_are ∙ rw nil at fourth.outputs_are) ∙ append-nil outputs in
+    let made : gates_of names statements ≡ netlist.gates = first.made_are ∙ second.made_are ∙ third.made_are ∙ (rw nil at fourth.made_are) ∙ append-nil netlist.gates in
+    let front : all_inputs statements ≡ inputs ++ cuts = ap (λ all. all ++ cut_names statements) ins ∙ ap (λ all. inputs ++ all) cut in
+    let behind : cuts ++ drop netlist.inputs names ≡ drop primary names = sym (named_from-drop names primary set.nodes (omega (arith, total, circuit.nodes)) ∙ ap (λ n. cuts ++ drop n names) total) in
+    let nodes : node_names statements ≡ names =
+    ap (λ all. all ++ gate_names statements) front ∙ ap (λ all. (inputs ++ cuts) ++ all) gates ∙ append_assoc inputs cuts (drop netlist.inputs names)
+    ∙ ap (λ all. inputs ++ all) behind ∙ take-append-drop primary names in
+    let few = length-take-le primary names (omega (arith, circuit.nodes)) in
+    let nodes_are : data_nodes (node_names statements) statements ≡ set.nodes =
+    ap (λ all. data_nodes all statements) nodes ∙ ap (map (number_in names)) read ∙ numbers_back names set.nodes circuit.names_distinct set.below in
     same_netlist (netlist_of statements) netlist nodes
-    (ap length ins ∙ length-take-le netlist.inputs names few)
+    (ap length front ∙ omega (arith, length-append inputs cuts, few, length-named_from names primary set.nodes, total))
+    (ap (map Some) nodes_are ∙ sym set.are)
     (ap (λ all. gates_of all statements) nodes ∙ made)
     (
-    ap (λ all. each_once (map (number_in all) (output_names statements))) nodes
-    ∙ ap (λ all. each_once (map (number_in names) all)) outs
-    ∙ ap each_once (numbers_back names netlist.outputs circuit.names_distinct circuit.outputs)
-    ∙ once [] netlist.outputs circuit.outputs_distinct
+    ap (λ all. each_once (map (number_in all) (output_names statements) ++ data_nodes all statements)) nodes
+    ∙ ap (λ all. each_once (map (number_in names) all ++ data_nodes names statements)) outs
+    ∙ ap (λ all. each_once (all ++ data_nodes names statements)) (numbers_back names netlist.outputs circuit.names_distinct circuit.outputs)
+    ∙ ap (λ all. each_once (netlist.outputs ++ all)) (ap (λ all. data_nodes all statements) (sym nodes) ∙ nodes_are)
+    ∙ each_once-append [] netlist.outputs set.nodes
+    ∙ ap (λ all. fold add_once all set.nodes) (once [] netlist.outputs circuit.outputs_distinct)
+    ∙ still netlist.outputs set.nodes set.there
     )
 
 -- a printed text stands for its circuit
 pub printed-circuit : (netlist : Netlist) → IsCircuit netlist → IsWhole netlist → netlist_of (statements_of (printed netlist)) ≡ netlist
 printed-circuit netlist circuit whole =
-    ap netlist_of (IsReadAs-statements (printed netlist) (statements_for netlist) (printed-IsReadAs netlist circuit whole)) ∙ circuit_back netlist circuit
+    ap netlist_of (IsReadAs-statements (printed netlist) (statements_for netlist) (printed-IsReadAs netlist circuit whole)) ∙ circuit_back netlist circuit whole

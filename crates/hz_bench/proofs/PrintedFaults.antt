@@ -11,19 +11,18 @@ use Rattle.std.proofs.lemmas.List.Elements.{All-nil, All-cons, All-append, All-m
 use Rattle.std.proofs.lemmas.List.Sums.{sum_by-append, sum_by-cons}
 use Rattle.std.proofs.lemmas.Map.Keys.{apart_from_distinct}
 use Rattle.hz_core.specs.Gate.{takes}
-use Rattle.hz_core.specs.Netlist.{Netlist, Gate as GateOf, IsName, IsCircuit, IsGateAmong, IsWhole, variable_count}
+use Rattle.hz_core.specs.Netlist.{Netlist, Gate as GateOf, IsName, IsCircuit, IsGateAmong, IsWhole, primary_inputs, variable_count}
 use Rattle.hz_core.proofs.CircuitLemmas.{takes-from_bounds}
 use Rattle.hz_line.specs.Line.{lines_of}
 use Rattle.hz_line.specs.Statement.{Meaning, Nothing, Malformed, Means}
 use Rattle.hz_bench.specs.declared.fault.BenchFault.{BenchFault}
-use Rattle.hz_bench.specs.declared.fault.BenchFault.TheVariants.{Form, Name, KindUnknown, Clocked, Twice, Pins, Undefined, TooMany, Memory}
-use Rattle.hz_bench.specs.Check.{has_unknown_kind, has_clocked_kind, has_wrong_pins}
+use Rattle.hz_bench.specs.declared.fault.BenchFault.TheVariants.{Form, Name, KindUnknown, Twice, Pins, Undefined, TooMany, Memory}
 use Rattle.hz_bench.specs.Fault.{States, HasThat, Defines, Uses, IsSecond, IsFaultless, IsAnswer}
-use Rattle.hz_bench.specs.Statement.{InputPort, OutputPort, Statement, Input, Output, Gate, defined_name, used_names, has_long_name, is_long, variables_in, port_of}
+use Rattle.hz_bench.specs.Statement.{InputPort, OutputPort, Statement, Input, Output, FlipFlop, Gate, defined_name, used_names, has_long_name, is_long, variables_in, port_of, has_unknown_kind, has_wrong_pins}
 use Rattle.hz_bench.specs.Text.{meaning_of, meaning_at, variables_of}
 use Rattle.hz_bench.specs.Printed.{name_at, printed}
-use Rattle.hz_bench.proofs.PrintedLines.{ports, HasPin, gate_statement, gate_statements, statements_for, IsReadAs, printed-IsReadAs}
-use Rattle.hz_bench.proofs.PrintedCircuit.{IsReadAs-statements}
+use Rattle.hz_bench.proofs.PrintedLines.{ports, HasPin, cut_statements, gate_statement, gate_statements, statements_for, IsReadAs, printed-IsReadAs}
+use Rattle.hz_bench.proofs.PrintedCircuit.{IsReadAs-statements, named_from, named_from-drop, set_nodes}
 
 -- what a line is, where the lines are these statements
 abbrev line_at : List Statement → ℕ → Meaning Statement
@@ -72,6 +71,8 @@ defined_on [] name other (k, l, e) = absurd (omega (arith, l))
 defined_on (Input first ∷ rest) name other (zero, l, e) = (0, omega arith, ap Some e)
 defined_on (Input first ∷ rest) name other (suc k, l, e) = let ih = defined_on rest name other (k, omega (arith, l), e) in (suc ih.0, omega (arith, ih.1), ih.2)
 defined_on (Output first ∷ rest) name other h = let ih = defined_on rest name other h in (suc ih.0, omega (arith, ih.1), ih.2)
+defined_on (FlipFlop first sources ∷ rest) name other (zero, l, e) = (0, omega arith, ap Some e)
+defined_on (FlipFlop first sources ∷ rest) name other (suc k, l, e) = let ih = defined_on rest name other (k, omega (arith, l), e) in (suc ih.0, omega (arith, ih.1), ih.2)
 defined_on (Gate first kind sources ∷ rest) name other (zero, l, e) = (0, omega arith, ap Some e)
 defined_on (Gate first kind sources ∷ rest) name other (suc k, l, e) = let ih = defined_on rest name other (k, omega (arith, l), e) in (suc ih.0, omega (arith, ih.1), ih.2)
 
@@ -81,6 +82,8 @@ is_defined (Input first ∷ rest) zero name other below h = (0, omega arith, cc)
 is_defined (Input first ∷ rest) (suc above) name other below h = let ih = is_defined rest above name other (omega (arith, below)) h in (suc ih.0, omega (arith, ih.1), ih.2)
 is_defined (Output first ∷ rest) zero name other below h = cc
 is_defined (Output first ∷ rest) (suc above) name other below h = is_defined rest above name other (omega (arith, below)) h
+is_defined (FlipFlop first sources ∷ rest) zero name other below h = (0, omega arith, cc)
+is_defined (FlipFlop first sources ∷ rest) (suc above) name other below h = let ih = is_defined rest above name other (omega (arith, below)) h in (suc ih.0, omega (arith, ih.1), ih.2)
 is_defined (Gate first kind sources ∷ rest) zero name other below h = (0, omega arith, cc)
 is_defined (Gate first kind sources ∷ rest) (suc above) name other below h = let ih = is_defined rest above name other (omega (arith, below)) h in (suc ih.0, omega (arith, ih.1), ih.2)
 
@@ -88,6 +91,7 @@ later_distinct : (first : Statement) (rest : List Statement) → IsDistinct byte
 unfolding IsDistinct
 later_distinct (Input name) rest h = h.1
 later_distinct (Output name) rest h = h
+later_distinct (FlipFlop name sources) rest h = h.1
 later_distinct (Gate name kind sources) rest h = h.1
 
 true-false : true ≡ false → ⊥
@@ -101,6 +105,7 @@ head_only first name names h e (k, l, at) =
 first_only : (first : Statement) (rest : List Statement) (name : List ℕ) → IsDistinct bytes_eq (defined_names (first ∷ rest)) → defined_name first ≡ Some name → Contains (defined_names rest) name → ⊥
 first_only (Input other) rest name h e at = let same : other ≡ name = cc in head_only other name (defined_names rest) h same at
 first_only (Output other) rest name h e at = cc
+first_only (FlipFlop other sources) rest name h e at = let same : other ≡ name = cc in head_only other name (defined_names rest) h same at
 first_only (Gate other kind sources) rest name h e at = let same : other ≡ name = cc in head_only other name (defined_names rest) h same at
 
 -- names that differ are defined once
@@ -116,7 +121,6 @@ defined_once (first ∷ rest) name (suc low) (suc high) one other h l below here
 record IsSound (names : List (List ℕ)) (statement : Statement) : Type 0 where
   short : has_long_name statement ≡ false
   known : has_unknown_kind statement ≡ false
-  unclocked : has_clocked_kind statement ≡ false
   pins : has_wrong_pins statement ≡ false
   uses : All (Contains names) (used_names statement)
 
@@ -150,7 +154,6 @@ faultless names text statements read sound defined distinct few (Form zero) h = 
 faultless names text statements read sound defined distinct few (Form (suc above)) h = formed statements above (sym (meaning_read text statements above read) ∙ h)
 faultless names text statements read sound defined distinct few (Name line) h = passes_none names text statements has_long_name line read sound (λ statement is. is.short) h
 faultless names text statements read sound defined distinct few (KindUnknown line) h = passes_none names text statements has_unknown_kind line read sound (λ statement is. is.known) h
-faultless names text statements read sound defined distinct few (Clocked line) h = passes_none names text statements has_clocked_kind line read sound (λ statement is. is.unclocked) h
 faultless names text statements read sound defined distinct few (Twice line first) h = twice_none text statements line first h.0 read (subst (IsDistinct bytes_eq) (sym defined) distinct) h.1
 faultless names text statements read sound defined distinct few (Pins line count) h = passes_none names text statements has_wrong_pins line read sound (λ statement is. is.pins) (h.0, h.1, h.2)
 faultless names text statements read sound defined distinct few (Undefined line) h = undefined_none names text statements line h.0 read sound defined h.1 h.2
@@ -165,10 +168,10 @@ short_names [] named = refl
 short_names (name ∷ names) named = rw (short_name name (All-head IsName name names named)) (short_names names (All-tail IsName name names named))
 
 input_sound : (names : List (List ℕ)) (name : List ℕ) → IsName name → IsSound names (Input name)
-input_sound names name is = record { short = rw (short_name name is) refl; known = refl; unclocked = refl; pins = refl; uses = All-nil (Contains names) }
+input_sound names name is = record { short = rw (short_name name is) refl; known = refl; pins = refl; uses = All-nil (Contains names) }
 
 output_sound : (names : List (List ℕ)) (name : List ℕ) → IsName name → Contains names name → IsSound names (Output name)
-output_sound names name is among = record { short = rw (short_name name is) refl; known = refl; unclocked = refl; pins = refl; uses = All-cons (Contains names) name [] among (All-nil (Contains names)) }
+output_sound names name is among = record { short = rw (short_name name is) refl; known = refl; pins = refl; uses = All-cons (Contains names) name [] among (All-nil (Contains names)) }
 
 -- a node's name is among the names
 node_among : (names : List (List ℕ)) (node : ℕ) → node < length names → Contains names (name_at names node)
@@ -180,7 +183,6 @@ gate_sound names name gate named is among some =
     record {
       short = rw (short_name name is) (short_names (map (name_at names) gate.sources) sources);
       known = refl;
-      unclocked = refl;
       pins = ap (λ count. not (takes gate.kind count)) (length-map gate.sources (name_at names)) ∙ ap not (takes-from_bounds gate.kind (length gate.sources) some among.pins);
       uses = All-map (Contains names) (name_at names) gate.sources (λ k d below. node_among names _ (among.sources k d below));
     }
@@ -192,19 +194,39 @@ gates_sound names node (gate ∷ rest) named room among pins =
     All-cons (IsSound names) (gate_statement names (name_at names node) gate) (gate_statements names (suc node) rest) first
     (gates_sound names (suc node) rest named (omega (arith, room)) (All-tail (IsGateAmong (length names)) gate rest among) (All-tail HasPin gate rest pins))
 
+cut_sound : (names : List (List ℕ)) (name source : List ℕ) → IsName name → IsName source → Contains names source → IsSound names (FlipFlop name (source ∷ []))
+cut_sound names name source first second among =
+    record { short = rw (short_name name first, short_name source second) refl; known = refl; pins = refl; uses = All-cons (Contains names) source [] among (All-nil (Contains names)) }
+
+cuts_sound : (names : List (List ℕ)) (node : ℕ) (nodes : List ℕ) → All IsName names → node + length nodes ≤ length names → All (λ node. node < length names) nodes → All (IsSound names) (cut_statements names node (map Some nodes))
+cuts_sound names node [] named room below = All-nil (IsSound names)
+cuts_sound names node (source ∷ nodes) named room below =
+    let P : ℕ → Type 0 = λ node. node < length names in
+    let here = All-head P source nodes below in
+    let first = cut_sound names (name_at names node) (name_at names source) (named node [] (omega (arith, room))) (named source [] here) (node_among names source here) in
+    All-cons (IsSound names) (FlipFlop (name_at names node) (name_at names source ∷ [])) (cut_statements names (suc node) (map Some nodes)) first
+    (cuts_sound names (suc node) nodes named (omega (arith, room)) (All-tail P source nodes below))
+
 statements_sound : (netlist : Netlist) → IsCircuit netlist → IsWhole netlist → All (IsSound netlist.names) (statements_for netlist)
 statements_sound netlist circuit whole =
     let names = netlist.names in
+    let primary = primary_inputs netlist in
     let P = IsSound names in
-    let inputs = take netlist.inputs names in
+    let set = set_nodes netlist circuit whole in
+    let count : length netlist.cuts ≡ length set.nodes = ap length set.are ∙ length-map set.nodes Some in
+    let inputs = take primary names in
     let outputs = map (name_at names) netlist.outputs in
+    let cuts = cut_statements names primary netlist.cuts in
     let gates = gate_statements names netlist.inputs netlist.gates in
-    let named = All-take IsName netlist.inputs names circuit.names in
+    let named = All-take IsName primary names circuit.names in
     let first = All-map P (λ name. port_of name InputPort) inputs (λ k d below. input_sound names _ (named k d below)) in
     let second = All-map P (λ name. port_of name OutputPort) outputs (All-map (λ name. P (Output name)) (name_at names) netlist.outputs
     (λ k d below. output_sound names _ (circuit.names _ [] (circuit.outputs k d below)) (node_among names _ (circuit.outputs k d below)))) in
-    let third = gates_sound names netlist.inputs netlist.gates circuit.names (omega (arith, circuit.nodes)) circuit.gates whole in
-    All-append P (ports InputPort inputs) (ports OutputPort outputs ++ gates) first (All-append P (ports OutputPort outputs) gates second third)
+    let third = subst (λ all. All P (cut_statements names primary all)) (sym set.are)
+    (cuts_sound names primary set.nodes circuit.names (omega (arith, count, circuit.cuts, circuit.nodes)) set.below) in
+    let fourth = gates_sound names netlist.inputs netlist.gates circuit.names (omega (arith, circuit.nodes)) circuit.gates whole.gates in
+    All-append P (ports InputPort inputs) (ports OutputPort outputs ++ (cuts ++ gates)) first
+    (All-append P (ports OutputPort outputs) (cuts ++ gates) second (All-append P cuts gates third fourth))
 
 inputs_define : (names : List (List ℕ)) → defined_names (ports InputPort names) ≡ names
 inputs_define [] = refl
@@ -220,16 +242,29 @@ gates_define names node (gate ∷ rest) all =
     let below : node < length names = omega (arith, all) in
     ap (λ later. name_at names node ∷ later) (gates_define names (suc node) rest (omega (arith, all))) ∙ sym (drop-cons names node [] below)
 
+cuts_define : (names : List (List ℕ)) (node : ℕ) (nodes : List ℕ) → defined_names (cut_statements names node (map Some nodes)) ≡ named_from names node nodes
+cuts_define names node [] = refl
+cuts_define names node (source ∷ nodes) = ap (λ later. name_at names node ∷ later) (cuts_define names (suc node) nodes)
+
 -- the statements of a circuit define the names of its nodes
-nodes_define : (netlist : Netlist) → IsCircuit netlist → defined_names (statements_for netlist) ≡ netlist.names
-nodes_define netlist circuit =
+nodes_define : (netlist : Netlist) → IsCircuit netlist → IsWhole netlist → defined_names (statements_for netlist) ≡ netlist.names
+nodes_define netlist circuit whole =
     let names = netlist.names in
-    let inputs = take netlist.inputs names in
+    let primary = primary_inputs netlist in
+    let set = set_nodes netlist circuit whole in
+    let count : length netlist.cuts ≡ length set.nodes = ap length set.are ∙ length-map set.nodes Some in
+    let total : primary + length set.nodes ≡ netlist.inputs = omega (arith, count, circuit.cuts) in
+    let inputs = take primary names in
     let outputs = map (name_at names) netlist.outputs in
+    let cuts = cut_statements names primary netlist.cuts in
     let gates = gate_statements names netlist.inputs netlist.gates in
-    filter_map-append defined_name (ports InputPort inputs) (ports OutputPort outputs ++ gates)
-    ∙ ap (λ later. defined_names (ports InputPort inputs) ++ later) (filter_map-append defined_name (ports OutputPort outputs) gates)
-    ∙ rw (inputs_define inputs, outputs_define outputs, gates_define names netlist.inputs netlist.gates (sym circuit.nodes)) (take-append-drop netlist.inputs names)
+    let defined : defined_names cuts ≡ named_from names primary set.nodes = ap (λ all. defined_names (cut_statements names primary all)) set.are ∙ cuts_define names primary set.nodes in
+    let behind : named_from names primary set.nodes ++ drop netlist.inputs names ≡ drop primary names =
+    sym (named_from-drop names primary set.nodes (omega (arith, total, circuit.nodes)) ∙ ap (λ n. named_from names primary set.nodes ++ drop n names) total) in
+    filter_map-append defined_name (ports InputPort inputs) (ports OutputPort outputs ++ (cuts ++ gates))
+    ∙ ap (λ later. defined_names (ports InputPort inputs) ++ later) (filter_map-append defined_name (ports OutputPort outputs) (cuts ++ gates))
+    ∙ ap (λ later. defined_names (ports InputPort inputs) ++ (defined_names (ports OutputPort outputs) ++ later)) (filter_map-append defined_name cuts gates)
+    ∙ rw (inputs_define inputs, outputs_define outputs, defined, gates_define names netlist.inputs netlist.gates (sym circuit.nodes), behind) (take-append-drop primary names)
 
 inputs_count : (names : List (List ℕ)) → variables_of (ports InputPort names) ≡ length names
 inputs_count [] = refl
@@ -247,29 +282,40 @@ gates_count names node (gate ∷ rest) =
     let first = sum_by-cons variables_in (gate_statement names (name_at names node) gate) (gate_statements names (suc node) rest) in
     omega (arith, ih, pins, first, sum_by-cons (λ (gate : GateOf). length gate.sources) gate rest)
 
+cuts_count : (names : List (List ℕ)) (node : ℕ) (nodes : List ℕ) → variables_of (cut_statements names node (map Some nodes)) ≡ length nodes
+cuts_count names node [] = refl
+cuts_count names node (source ∷ nodes) =
+    let first = sum_by-cons variables_in (FlipFlop (name_at names node) (name_at names source ∷ [])) (cut_statements names (suc node) (map Some nodes)) in
+    omega (arith, first, cuts_count names (suc node) nodes)
+
 -- they count its variables
-nodes_count : (netlist : Netlist) → IsCircuit netlist → variables_of (statements_for netlist) ≡ variable_count netlist
-nodes_count netlist circuit =
+nodes_count : (netlist : Netlist) → IsCircuit netlist → IsWhole netlist → variables_of (statements_for netlist) ≡ variable_count netlist
+nodes_count netlist circuit whole =
     let names = netlist.names in
-    let inputs = take netlist.inputs names in
+    let primary = primary_inputs netlist in
+    let set = set_nodes netlist circuit whole in
+    let count : length netlist.cuts ≡ length set.nodes = ap length set.are ∙ length-map set.nodes Some in
+    let inputs = take primary names in
     let outputs = map (name_at names) netlist.outputs in
+    let cuts = cut_statements names primary netlist.cuts in
     let gates = gate_statements names netlist.inputs netlist.gates in
-    let first = sum_by-append variables_in (ports InputPort inputs) (ports OutputPort outputs ++ gates) in
-    let second = sum_by-append variables_in (ports OutputPort outputs) gates in
-    let few = length-take-le netlist.inputs names (omega (arith, circuit.nodes)) in
-    omega (arith, first, second, inputs_count inputs, outputs_count outputs, gates_count names netlist.inputs netlist.gates, few, circuit.nodes)
+    let first = sum_by-append variables_in (ports InputPort inputs) (ports OutputPort outputs ++ (cuts ++ gates)) in
+    let second = sum_by-append variables_in (ports OutputPort outputs) (cuts ++ gates) in
+    let third = sum_by-append variables_in cuts gates in
+    let made : variables_of cuts ≡ length set.nodes = ap (λ all. variables_of (cut_statements names primary all)) set.are ∙ cuts_count names primary set.nodes in
+    let few = length-take-le primary names (omega (arith, circuit.nodes)) in
+    omega (arith, first, second, third, inputs_count inputs, outputs_count outputs, made, count, gates_count names netlist.inputs netlist.gates, few, circuit.nodes, circuit.cuts)
 
 -- a printed text has no fault
 pub printed-faultless : (netlist : Netlist) → IsCircuit netlist → IsWhole netlist → IsFaultless (printed netlist)
 printed-faultless netlist circuit whole =
-    faultless netlist.names (printed netlist) (statements_for netlist) (printed-IsReadAs netlist circuit whole) (statements_sound netlist circuit whole) (nodes_define netlist circuit) circuit.names_distinct (omega (arith, nodes_count netlist circuit, circuit.variables))
+    faultless netlist.names (printed netlist) (statements_for netlist) (printed-IsReadAs netlist circuit whole) (statements_sound netlist circuit whole) (nodes_define netlist circuit whole) circuit.names_distinct (omega (arith, nodes_count netlist circuit whole, circuit.variables))
 
 -- so what is answered in place of its circuit is want of memory
 pub memory_alone : (text : List ℕ) (fault : BenchFault) → IsFaultless text → IsAnswer text fault → fault ≡ Memory
 memory_alone text (Form line) none h = absurd (none (Form line) h.stands)
 memory_alone text (Name line) none h = absurd (none (Name line) h.stands)
 memory_alone text (KindUnknown line) none h = absurd (none (KindUnknown line) h.stands)
-memory_alone text (Clocked line) none h = absurd (none (Clocked line) h.stands)
 memory_alone text (Twice line first) none h = absurd (none (Twice line first) h.stands)
 memory_alone text (Pins line count) none h = absurd (none (Pins line count) h.stands)
 memory_alone text (Undefined line) none h = absurd (none (Undefined line) h.stands)

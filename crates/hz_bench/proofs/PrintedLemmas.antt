@@ -1,8 +1,8 @@
 -- A printed text, line by line.
-use Rattle.std.proofs.Common.{◌≡◌, ◌∙◌, ℕ, ◌+◌, ◌-◌, ◌<◌, ◌≤◌, suc, List, [], ◌∷◌, ◌++◌, length, map, take, get_or, sym, ap, arith, append_assoc, codes, add-zero}
+use Rattle.std.proofs.Common.{◌≡◌, ◌∙◌, ℕ, ◌+◌, ◌-◌, ◌<◌, ◌≤◌, suc, List, [], ◌∷◌, ◌++◌, Option, None, length, map, take, get_or, sym, ap, arith, append_assoc, codes, add-zero}
 use Rattle.std.proofs.lemmas.List.{take_more, map_push, append-nil, length-take-le}
 use Rattle.hz_core.specs.Netlist.{Gate}
-use Rattle.hz_bench.specs.Printed.{name_at, port_line, port_lines, more_sources, gate_line, gate_lines}
+use Rattle.hz_bench.specs.Printed.{name_at, port_line, port_lines, more_sources, cut_lines, cut_text, gate_line, gate_lines}
 
 -- a text with a piece more
 pub text_more : (old now new front back whole : List ℕ) → now ≡ old ++ front → new ≡ now ++ back → whole ≡ front ++ back → new ≡ old ++ whole
@@ -43,3 +43,22 @@ gates_more names inputs gates node other low high =
     ap (λ count. gate_lines names inputs (take count gates)) next ∙ ap (gate_lines names inputs) (take_more gates (node - inputs) other inside)
     ∙ gate_lines-push names inputs (take (node - inputs) gates) (get_or gates (node - inputs) other)
     ∙ ap (λ at. gate_lines names inputs (take (node - inputs) gates) ++ gate_line names (name_at names at) (get_or gates (node - inputs) other)) place
+
+cut_lines-push : (names : List (List ℕ)) (node : ℕ) (cuts : List (Option ℕ)) (cut : Option ℕ) → cut_lines names node (cuts ++ cut ∷ []) ≡ cut_lines names node cuts ++ cut_text names (name_at names (node + length cuts)) cut
+cut_lines-push names node [] cut = append-nil (cut_text names (name_at names node) cut) ∙ ap (λ place. cut_text names (name_at names place) cut) (sym (add-zero node))
+cut_lines-push names node (first ∷ cuts) cut =
+    ap (λ rest. cut_text names (name_at names node) first ++ rest) (cut_lines-push names (suc node) cuts cut ∙ ap (λ place. cut_lines names (suc node) cuts ++ cut_text names (name_at names place) cut) (shift node (length cuts)))
+    ∙ sym (append_assoc (cut_text names (name_at names node) first) (cut_lines names (suc node) cuts) (cut_text names (name_at names (node + suc (length cuts))) cut))
+  where
+    shift : (a b : ℕ) → suc a + b ≡ a + suc b
+    shift a b = omega arith
+
+pub cuts_more : (names : List (List ℕ)) (first : ℕ) (cuts : List (Option ℕ)) (node : ℕ) → first ≤ node → node < first + length cuts
+    → cut_lines names first (take (node + 1 - first) cuts) ≡ cut_lines names first (take (node - first) cuts) ++ cut_text names (name_at names node) (get_or cuts (node - first) None)
+cuts_more names first cuts node low high =
+    let inside : node - first < length cuts = omega arith in
+    let next : node + 1 - first ≡ (node - first) + 1 = omega arith in
+    let place : first + length (take (node - first) cuts) ≡ node = let short = length-take-le (node - first) cuts (omega arith) in omega arith in
+    ap (λ count. cut_lines names first (take count cuts)) next ∙ ap (cut_lines names first) (take_more cuts (node - first) None inside)
+    ∙ cut_lines-push names first (take (node - first) cuts) (get_or cuts (node - first) None)
+    ∙ ap (λ at. cut_lines names first (take (node - first) cuts) ++ cut_text names (name_at names at) (get_or cuts (node - first) None)) place

@@ -1,5 +1,5 @@
 -- What the lines of a printed text are.
-use Rattle.std.proofs.Common.{◌≡◌, ◌∙◌, ℕ, ◌+◌, ◌<◌, ◌≤◌, suc, true, false, List, [], ◌∷◌, ◌++◌, Some, length, map, take, codes, refl, ap, sym, arith, append_assoc}
+use Rattle.std.proofs.Common.{◌≡◌, ◌∙◌, ℕ, ◌+◌, ◌<◌, ◌≤◌, suc, true, false, List, [], ◌∷◌, ◌++◌, Option, None, Some, length, map, take, codes, refl, ap, sym, arith, append_assoc}
 use Rattle.std.specs.List.{list_all, All}
 use Rattle.std.specs.Option.{option_map}
 use Rattle.std.proofs.lemmas.List.{map-append}
@@ -7,17 +7,16 @@ use Rattle.std.proofs.lemmas.List.Folds.{list_all-append}
 use Rattle.std.proofs.lemmas.List.Elements.{All-head, All-tail, All-take, All-map}
 use Rattle.hz_core.specs.declared.kind.Kind.{Kind}
 use Rattle.hz_core.specs.declared.kind.Kind.TheVariants.{And, Nand, Or, Nor, Xor, Xnor, Not, Buff}
-use Rattle.hz_core.specs.Netlist.{Netlist, Gate as GateOf, IsName, IsCircuit, IsGateAmong, IsWhole}
+use Rattle.hz_core.specs.Netlist.{Netlist, Gate as GateOf, IsName, IsCircuit, IsDataAmong, IsGateAmong, IsWhole, primary_inputs}
 use Rattle.hz_line.specs.declared.bytes.Mark.TheVariants.{Open, Close, Comma, Equals}
 use Rattle.hz_line.specs.Byte.{class_of, is_letter}
 use Rattle.hz_line.specs.Line.{lines_of}
 use Rattle.hz_line.specs.Token.{TokenOf, WordOf, MarkOf, tokens_of, with_token, begins_in_word}
 use Rattle.hz_line.specs.Statement.{Meaning, Nothing, Means, meaning_of_tokens}
 use Rattle.hz_line.proofs.WrittenLemmas.{tokens_of-open, tokens_of-close, tokens_of-comma, tokens_of-equals, tokens_of-space, is_letter-separators, tokens_of-word_before, is_inline, word_bytes, lines_of-written}
-use Rattle.hz_bench.specs.declared.forms.KindWord.TheVariants.{Known}
-use Rattle.hz_bench.specs.Statement.{Port, InputPort, OutputPort, Statement, Gate, kind_word_of, port_word, port_of, names_of, statement_of}
+use Rattle.hz_bench.specs.Statement.{Port, InputPort, OutputPort, Statement, Gate, kind_named, port_word, port_of, names_of, statement_of, FlipFlop, is_flip_flop}
 use Rattle.hz_bench.specs.Text.{meaning_of}
-use Rattle.hz_bench.specs.Printed.{name_at, kind_name, port_line, port_lines, more_sources, source_list, gate_head, gate_line, gate_lines, printed}
+use Rattle.hz_bench.specs.Printed.{name_at, kind_name, port_line, port_lines, cut_line, cut_lines, more_sources, source_list, gate_head, gate_line, gate_lines, printed}
 
 -- a word that stands within a line
 pub record IsWritten (word : List ℕ) : Type 0 where
@@ -41,8 +40,8 @@ IsWritten-kind Xnor = record { some = omega arith; letters = refl; inline = refl
 IsWritten-kind Not = record { some = omega arith; letters = refl; inline = refl }
 IsWritten-kind Buff = record { some = omega arith; letters = refl; inline = refl }
 
-kind_back : (kind : Kind) → kind_word_of (kind_name kind) ≡ Known kind
-unfolding kind_word_of
+kind_back : (kind : Kind) → kind_named (kind_name kind) ≡ Some kind
+unfolding kind_named
 kind_back And = refl
 kind_back Nand = refl
 kind_back Or = refl
@@ -51,6 +50,23 @@ kind_back Xor = refl
 kind_back Xnor = refl
 kind_back Not = refl
 kind_back Buff = refl
+
+-- no kind is written as a flip-flop
+no_flip_flop : (kind : Kind) → is_flip_flop (kind_name kind) ≡ false
+unfolding is_flip_flop
+no_flip_flop And = refl
+no_flip_flop Nand = refl
+no_flip_flop Or = refl
+no_flip_flop Nor = refl
+no_flip_flop Xor = refl
+no_flip_flop Xnor = refl
+no_flip_flop Not = refl
+no_flip_flop Buff = refl
+
+-- the word of a flip-flop
+flip_flop_word : IsWritten (codes "DFF") × (is_flip_flop (codes "DFF") ≡ true)
+unfolding class_of is_flip_flop
+flip_flop_word = (record { some = omega arith; letters = refl; inline = refl }, refl)
 
 -- a word that makes an input or an output of a name
 record IsPortWord (word : List ℕ) (made : Port) : Type 0 where
@@ -175,6 +191,58 @@ sources_inline names (first ∷ rest) named below =
     let word = node_written names first named (All-head P first rest below) in
     rw (list_all-append is_inline (name_at names first) (more_sources names rest), word.inline, further_inline names rest named (All-tail P first rest below)) refl
 
+-- the line of a flip-flop, before its line feed
+abbrev cut_body : List ℕ → List ℕ → List ℕ
+cut_body name source = name ++ (32 ∷ 61 ∷ 32 ∷ codes "DFF" ++ (40 ∷ (source ++ 41 ∷ [])))
+
+cut_split : (name source : List ℕ) → cut_line name source ≡ cut_body name source ++ 10 ∷ []
+unfolding cut_line
+cut_split name source =
+    let front = 32 ∷ 61 ∷ 32 ∷ codes "DFF" ++ 40 ∷ [] in
+    sym (append_assoc name (front ++ (source ++ 41 ∷ [])) (10 ∷ []) ∙ ap (λ back. name ++ (front ++ back)) (append_assoc source (41 ∷ []) (10 ∷ [])))
+
+cut_tokens : (name source : List ℕ) → IsWritten name → IsWritten source → tokens_of (cut_body name source) ≡ Some (WordOf name ∷ MarkOf Equals ∷ WordOf (codes "DFF") ∷ MarkOf Open ∷ WordOf source ∷ MarkOf Close ∷ [])
+cut_tokens name source first second =
+    let word = codes "DFF" in
+    let spelled = flip_flop_word.0 in
+    let back = 40 ∷ (source ++ 41 ∷ []) in
+    let last = tokens_of-word_before source (41 ∷ []) second.some second.letters is_letter-separators.2 ∙ ap (with_token (WordOf source)) (tokens_of-close []) in
+    let kind_first = tokens_of-word_before word back spelled.some spelled.letters is_letter-separators.1
+    ∙ ap (with_token (WordOf word)) (tokens_of-open (source ++ 41 ∷ []) ∙ ap (with_token (MarkOf Open)) last) in
+    let equals_first = tokens_of-space (61 ∷ 32 ∷ word ++ back) ∙ tokens_of-equals (32 ∷ word ++ back) ∙ ap (with_token (MarkOf Equals)) (tokens_of-space (word ++ back) ∙ kind_first) in
+    tokens_of-word_before name (32 ∷ 61 ∷ 32 ∷ word ++ back) first.some first.letters is_letter-separators.0
+    ∙ ap (with_token (WordOf name)) equals_first
+
+cut_inline : (name source : List ℕ) → IsWritten name → IsWritten source → list_all is_inline (cut_body name source) ≡ true
+cut_inline name source first second =
+    let back : list_all is_inline (source ++ 41 ∷ []) ≡ true = rw (list_all-append is_inline source (41 ∷ []), second.inline) refl in
+    rw (list_all-append is_inline name (32 ∷ 61 ∷ 32 ∷ codes "DFF" ++ (40 ∷ (source ++ 41 ∷ []))), first.inline, back) refl
+
+cut_read : (name source rest : List ℕ) → IsWritten name → IsWritten source → meanings_of (cut_line name source ++ rest) ≡ Means (FlipFlop name (source ∷ [])) ∷ meanings_of rest
+cut_read name source rest first second =
+    ap (λ line. meanings_of (line ++ rest)) (cut_split name source)
+    ∙ one_line (cut_body name source) rest (FlipFlop name (source ∷ [])) (cut_inline name source first second)
+    (ap (meaning_of_tokens statement_of) (cut_tokens name source first second) ∙ rw flip_flop_word.1 refl)
+
+-- cuts as statements, the first of which is this node
+abbrev pub cut_statements : List (List ℕ) → ℕ → List (Option ℕ) → List Statement
+cut_statements names node [] = []
+cut_statements names node (None ∷ rest) = cut_statements names (suc node) rest
+cut_statements names node (Some source ∷ rest) = FlipFlop (name_at names node) (name_at names source ∷ []) ∷ cut_statements names (suc node) rest
+
+cuts_read : (names : List (List ℕ)) (node : ℕ) (cuts : List (Option ℕ)) (rest : List ℕ) → All IsName names → node + length cuts ≤ length names → All (IsDataAmong (length names)) cuts
+    → meanings_of (cut_lines names node cuts ++ rest) ≡ map Means (cut_statements names node cuts) ++ meanings_of rest
+cuts_read names node [] rest named room among = refl
+cuts_read names node (None ∷ cuts) rest named room among =
+    cuts_read names (suc node) cuts rest named (omega (arith, room)) (All-tail (IsDataAmong (length names)) None cuts among)
+cuts_read names node (Some source ∷ cuts) rest named room among =
+    let P = IsDataAmong (length names) in
+    ap meanings_of (append_assoc (cut_line (name_at names node) (name_at names source)) (cut_lines names (suc node) cuts) rest)
+    ∙ cut_read (name_at names node) (name_at names source) (cut_lines names (suc node) cuts ++ rest)
+    (node_written names node named (omega (arith, room))) (node_written names source named (All-head P (Some source) cuts among))
+    ∙ ap (λ later. Means (FlipFlop (name_at names node) (name_at names source ∷ [])) ∷ later)
+    (cuts_read names (suc node) cuts rest named (omega (arith, room)) (All-tail P (Some source) cuts among))
+
 head_tokens : (name rest : List ℕ) (kind : Kind) → IsWritten name → tokens_of (gate_head name kind ++ rest) ≡ with_token (WordOf name) (with_token (MarkOf Equals) (with_token (WordOf (kind_name kind)) (with_token (MarkOf Open) (tokens_of rest))))
 unfolding gate_head
 head_tokens name rest kind written =
@@ -203,14 +271,14 @@ gate_split names name gate =
 
 -- a gate as a statement
 abbrev pub gate_statement : List (List ℕ) → List ℕ → GateOf → Statement
-gate_statement names name gate = Gate name (Known gate.kind) (map (name_at names) gate.sources)
+gate_statement names name gate = Gate name (Some gate.kind) (map (name_at names) gate.sources)
 
 gate_meaning : (names : List (List ℕ)) (name : List ℕ) (gate : GateOf) → All IsName names → IsWritten name → AreNodes names gate.sources → 1 ≤ length gate.sources → meaning_of (gate_body names name gate) ≡ Means (gate_statement names name gate)
 gate_meaning names name gate named written below some =
     let list = sources_tokens names gate.sources named below some in
     ap (meaning_of_tokens statement_of) (head_tokens name (source_list names gate.sources ++ 41 ∷ []) gate.kind written)
     ∙ ap (λ tokens. meaning_of_tokens statement_of (with_token (WordOf name) (with_token (MarkOf Equals) (with_token (WordOf (kind_name gate.kind)) (with_token (MarkOf Open) tokens))))) list.1
-    ∙ rw (list.2, kind_back gate.kind) refl
+    ∙ rw (list.2, no_flip_flop gate.kind, kind_back gate.kind) refl
 
 gate_inline : (names : List (List ℕ)) (name : List ℕ) (gate : GateOf) → All IsName names → IsWritten name → AreNodes names gate.sources → list_all is_inline (gate_body names name gate) ≡ true
 gate_inline names name gate named written below =
@@ -240,32 +308,46 @@ gates_read names node (gate ∷ rest) named room among pins =
     ∙ ap (λ later. Means (gate_statement names (name_at names node) gate) ∷ later)
     (gates_read names (suc node) rest named (omega (arith, room)) (All-tail (IsGateAmong (length names)) gate rest among) (All-tail HasPin gate rest pins))
 
--- a circuit as statements: its inputs, its outputs and its gates
+-- a circuit as statements: its primary inputs, its outputs, its cuts and its gates
 abbrev pub statements_for : Netlist → List Statement
 statements_for netlist =
-    ports InputPort (take netlist.inputs netlist.names)
+    ports InputPort (take (primary_inputs netlist) netlist.names)
     ++ (ports OutputPort (map (name_at netlist.names) netlist.outputs)
-    ++ gate_statements netlist.names netlist.inputs netlist.gates)
+    ++ (cut_statements netlist.names (primary_inputs netlist) netlist.cuts
+    ++ gate_statements netlist.names netlist.inputs netlist.gates))
 
 -- each line of the text is one of these statements, in order, and the last line is empty
 abbrev pub IsReadAs : List ℕ → List Statement → Type 0
 IsReadAs text statements = meanings_of text ≡ map Means statements ++ Nothing ∷ []
 
+means_append : (front back : List Statement) (last : List (Meaning Statement)) → map Means (front ++ back) ++ last ≡ map Means front ++ (map Means back ++ last)
+means_append front back last = ap (λ all. all ++ last) (map-append Means front back) ∙ append_assoc (map Means front) (map Means back) last
+
 pub printed-IsReadAs : (netlist : Netlist) → IsCircuit netlist → IsWhole netlist → IsReadAs (printed netlist) (statements_for netlist)
 unfolding printed
 printed-IsReadAs netlist circuit whole =
     let names = netlist.names in
-    let inputs = take netlist.inputs names in
+    let primary = primary_inputs netlist in
+    let end : List (Meaning Statement) = Nothing ∷ [] in
+    let inputs = take primary names in
     let outputs = map (name_at names) netlist.outputs in
+    let cuts = cut_statements names primary netlist.cuts in
     let gates = gate_statements names netlist.inputs netlist.gates in
-    let last = gates_read names netlist.inputs netlist.gates circuit.names (omega (arith, circuit.nodes)) circuit.gates whole in
+    let input_lines = port_lines (codes "INPUT") inputs in
+    let output_lines = port_lines (codes "OUTPUT") outputs in
+    let cut_text = cut_lines names primary netlist.cuts in
+    let gate_text = gate_lines names netlist.inputs netlist.gates in
+    let last = gates_read names netlist.inputs netlist.gates circuit.names (omega (arith, circuit.nodes)) circuit.gates whole.gates in
+    let third = cuts_read names primary netlist.cuts gate_text circuit.names (omega (arith, circuit.nodes, circuit.cuts)) circuit.data_nodes
+    ∙ ap (λ later. map Means cuts ++ later) last in
     let outputs_named = All-map IsName (name_at names) netlist.outputs (λ k d below. circuit.names _ [] (circuit.outputs k d below)) in
-    let middle = ports_read (codes "OUTPUT") OutputPort outputs (gate_lines names netlist.inputs netlist.gates) output_word outputs_named in
-    ap meanings_of (append_assoc (port_lines (codes "INPUT") inputs) (port_lines (codes "OUTPUT") outputs) (gate_lines names netlist.inputs netlist.gates))
-    ∙ ports_read (codes "INPUT") InputPort inputs (port_lines (codes "OUTPUT") outputs ++ gate_lines names netlist.inputs netlist.gates) input_word (All-take IsName netlist.inputs names circuit.names)
-    ∙ ap (λ later. map Means (ports InputPort inputs) ++ later) (middle ∙ ap (λ later. map Means (ports OutputPort outputs) ++ later) last)
+    let second = ports_read (codes "OUTPUT") OutputPort outputs (cut_text ++ gate_text) output_word outputs_named
+    ∙ ap (λ later. map Means (ports OutputPort outputs) ++ later) third in
+    ap meanings_of (append_assoc (input_lines ++ output_lines) cut_text gate_text ∙ append_assoc input_lines output_lines (cut_text ++ gate_text))
+    ∙ ports_read (codes "INPUT") InputPort inputs (output_lines ++ (cut_text ++ gate_text)) input_word (All-take IsName primary names circuit.names)
+    ∙ ap (λ later. map Means (ports InputPort inputs) ++ later) second
     ∙ sym (
-    ap (λ all. all ++ Nothing ∷ []) (map-append Means (ports InputPort inputs) (ports OutputPort outputs ++ gates) ∙ ap (λ all. map Means (ports InputPort inputs) ++ all) (map-append Means (ports OutputPort outputs) gates))
-    ∙ append_assoc (map Means (ports InputPort inputs)) (map Means (ports OutputPort outputs) ++ map Means gates) (Nothing ∷ [])
-    ∙ ap (λ all. map Means (ports InputPort inputs) ++ all) (append_assoc (map Means (ports OutputPort outputs)) (map Means gates) (Nothing ∷ []))
+    means_append (ports InputPort inputs) (ports OutputPort outputs ++ (cuts ++ gates)) end
+    ∙ ap (λ later. map Means (ports InputPort inputs) ++ later) (means_append (ports OutputPort outputs) (cuts ++ gates) end
+    ∙ ap (λ later. map Means (ports OutputPort outputs) ++ later) (means_append cuts gates end))
     )

@@ -4,11 +4,10 @@ use Rattle.std.specs.Prelude.{◌⊎◌}
 use Rattle.hz_bench.specs.declared.notes.Notes.{Notes}
 use Rattle.hz_bench.specs.declared.parse.Statements.{Statements}
 use Rattle.hz_bench.specs.declared.fault.BenchFault.{BenchFault}
-use Rattle.hz_bench.specs.declared.fault.BenchFault.TheVariants.{Form, Name, KindUnknown, Clocked, Twice, Pins, Undefined, TooMany, Memory}
-use Rattle.hz_bench.specs.Check.{pin_count}
+use Rattle.hz_bench.specs.declared.fault.BenchFault.TheVariants.{Form, Name, KindUnknown, Twice, Pins, Undefined, TooMany, Memory}
 use Rattle.hz_bench.specs.Fault.{Defines, Stands, number_of, line_of, ComesFirst, IsLeastFault, IsAnswer}
 use Rattle.hz_bench.specs.Pass.{IsParsed, IsParseFault, IsAccepted}
-use Rattle.hz_bench.specs.Statement.{defined_name}
+use Rattle.hz_bench.specs.Statement.{defined_name, pin_count}
 use Rattle.hz_bench.specs.Text.{meaning_at, statement_meant, numbered_statements, statements_of, variables_of}
 use Rattle.hz_bench.specs.Twice.{IsFoundOrMemory, earlier_line}
 use Rattle.hz_bench.proofs.CheckedLemmas.{checked}
@@ -23,7 +22,6 @@ pub parse-answer : (text : List ℕ) (fault : BenchFault) → IsParseFault text 
 parse-answer text (Form line) h = form-least text line h
 parse-answer text (Name line) h = absurd h
 parse-answer text (KindUnknown line) h = absurd h
-parse-answer text (Clocked line) h = absurd h
 parse-answer text (Twice line first) h = absurd h
 parse-answer text (Pins line count) h = absurd h
 parse-answer text (Undefined line) h = absurd h
@@ -39,7 +37,6 @@ pub check-answer : (text : List ℕ) (statements : Statements) (fault : BenchFau
 check-answer text statements (Form line) parsed h = check-outcome text statements (Some (Form line)) parsed h
 check-answer text statements (Name line) parsed h = check-outcome text statements (Some (Name line)) parsed h
 check-answer text statements (KindUnknown line) parsed h = check-outcome text statements (Some (KindUnknown line)) parsed h
-check-answer text statements (Clocked line) parsed h = check-outcome text statements (Some (Clocked line)) parsed h
 check-answer text statements (Twice line first) parsed h = check-outcome text statements (Some (Twice line first)) parsed h
 check-answer text statements (Pins line count) parsed h = check-outcome text statements (Some (Pins line count)) parsed h
 check-answer text statements (Undefined line) parsed h = check-outcome text statements (Some (Undefined line)) parsed h
@@ -67,17 +64,15 @@ fault_at text number line =
     if number == 1 then Form line
     else (if number == 2 then Name line
     else (if number == 3 then KindUnknown line
-    else (if number == 4 then Clocked line
     else (if number == 5 then Twice line (line_found (earlier_line (numbered_statements text) (defined_name statement)))
     else (if number == 6 then Pins line (pin_count statement)
     else (if number == 7 then Undefined line
-    else (if number == 8 then TooMany (variables_of (statements_of text)) else Memory)))))))
+    else (if number == 8 then TooMany (variables_of (statements_of text)) else Memory))))))
 
 fault_at-back : (text : List ℕ) (fault : BenchFault) → Stands text fault → fault_at text (number_of fault) (line_of fault) ≡ fault
 fault_at-back text (Form line) p = refl
 fault_at-back text (Name line) p = refl
 fault_at-back text (KindUnknown line) p = refl
-fault_at-back text (Clocked line) p = refl
 fault_at-back text (Twice line first) (name, second) = by_statement second.here
   where
     by_statement : Defines text line name → fault_at text 5 line ≡ Twice line first
@@ -105,7 +100,6 @@ pub answer-exact : (text : List ℕ) (fault other : BenchFault) → IsAnswer tex
 answer-exact text (Form line) other h l = inl (least-unique text (Form line) other h l)
 answer-exact text (Name line) other h l = inl (least-unique text (Name line) other h l)
 answer-exact text (KindUnknown line) other h l = inl (least-unique text (KindUnknown line) other h l)
-answer-exact text (Clocked line) other h l = inl (least-unique text (Clocked line) other h l)
 answer-exact text (Twice line first) other h l = inl (least-unique text (Twice line first) other h l)
 answer-exact text (Pins line count) other h l = inl (least-unique text (Pins line count) other h l)
 answer-exact text (Undefined line) other h l = inl (least-unique text (Undefined line) other h l)

@@ -15,20 +15,20 @@ use Rattle.hz_bench.specs.declared.fault.BenchFault.TheVariants as fault
 use Rattle.hz_bench.specs.declared.notes.Notes.{Notes}
 use Rattle.hz_bench.specs.declared.notes.Redefinition.{Redefinition}
 use Rattle.hz_bench.specs.declared.parse.Statements.{Statements}
-use Rattle.hz_bench.specs.Built.{Connecting, after_input, after_gate, after_pins, after_output, nodes_of, connected, built, MaySteps, MayInput, MayGate, MayPins, MayOutput, MayBuild}
-use Rattle.hz_bench.specs.Check.{has_unknown_kind, has_clocked_kind, has_wrong_pins, pin_count, reads_undefined, uses_undefined, first_that, fault_or, too_many, first_fault, earlier}
+use Rattle.hz_bench.specs.Built.{Connecting, after_input, after_cut, after_gate, after_pins, after_output, inputs_of, nodes_of, unconnected, connected, with_data_outputs, built, MaySteps, MayInput, MayCut, MayGate, MayPins, MayOutput, MayBuild}
+use Rattle.hz_bench.specs.Check.{reads_undefined, uses_undefined, first_that, fault_or, too_many, first_fault, earlier}
 use Rattle.hz_bench.specs.Definition.{is_that, is_missing, defines, definer, defined_names, IsTableOf}
 use Rattle.hz_bench.specs.Entry.{numbered_of, numbered_list, numbered_outputs, statement_list, output_list}
-use Rattle.hz_bench.specs.Netlist.{input_names}
+use Rattle.hz_bench.specs.Netlist.{input_names, cut_names}
 use Rattle.hz_bench.specs.Noted.{wrong_pins_of, notes_of}
 use Rattle.hz_bench.specs.Gathered.{AreGathered}
 use Rattle.hz_bench.specs.Pass.{IsListed, IsParsed}
 use Rattle.hz_bench.specs.FaultIn.{again_fault, asked, fault_in, last_fault, pins_fault, unknown_line, uses_missing}
-use Rattle.hz_bench.specs.Statement.{Statement, Input, Output, Gate, statement_of, is_node, is_output, defined_name, sources_of, used_names, has_long_name, variables_in}
+use Rattle.hz_bench.specs.Statement.{Statement, Input, Output, FlipFlop, Gate, statement_of, is_node, is_output, defined_name, sources_of, used_names, has_long_name, variables_in, has_unknown_kind, has_wrong_pins, pin_count}
 use Rattle.hz_bench.specs.Text.{numbered_statements, statements_of, nodes_among, outputs_among, variables_among}
 use Rattle.hz_bench.specs.Twice.{twice_or, earlier_line, twice_after, twice_fault}
 use Rattle.hz_bench.proofs.DefinitionLemmas.{plain, any-same, option_or-none, definer-append, definer-push, undefined-no_node}
-use Rattle.hz_bench.proofs.NetlistLemmas.{nodes_of-is, statement_list-numbered, output_list-numbered}
+use Rattle.hz_bench.proofs.NetlistLemmas.{statement_list-numbered, output_list-numbered}
 
 -- the first line that uses a name which no node defines
 abbrev pub undefined_line : List (Numbered Statement) → List (Numbered Statement) → Option ℕ
@@ -39,11 +39,10 @@ abbrev pub sorted_fault : List (Numbered Statement) → List (Numbered Statement
 sorted_fault nodes outputs notes =
     option_or (option_map fault.Name notes.long_name)
     (option_or (option_map fault.KindUnknown notes.unknown_kind)
-    (option_or (option_map fault.Clocked notes.clocked_kind)
     (option_or (twice_fault nodes)
     (option_or (option_map pins_fault notes.wrong_pins)
     (option_or (option_map fault.Undefined (undefined_line nodes outputs))
-    (too_many notes.variables))))))
+    (too_many notes.variables)))))
 
 -- the statements that pass a test, with their lines
 abbrev kept : (Statement → Bool) → List (Numbered Statement) → List (Numbered Statement)
@@ -73,49 +72,68 @@ may-kept {A} May step keeps still now (first ∷ rest) h = by_test (keeps first.
 inputs_still : IsStill after_input is_node
 inputs_still now (Input name) h = cc
 inputs_still now (Output name) h = refl
+inputs_still now (FlipFlop name sources) h = refl
 inputs_still now (Gate name kind sources) h = refl
+
+cuts_still : IsStill after_cut is_node
+cuts_still now (Input name) h = refl
+cuts_still now (Output name) h = refl
+cuts_still now (FlipFlop name sources) h = cc
+cuts_still now (Gate name kind sources) h = refl
 
 gates_still : IsStill after_gate is_node
 gates_still now (Input name) h = refl
 gates_still now (Output name) h = refl
+gates_still now (FlipFlop name sources) h = refl
 gates_still now (Gate name kind sources) h = cc
 
 pins_still : IsStill after_pins is_node
 pins_still now (Input name) h = refl
 pins_still now (Output name) h = refl
+pins_still now (FlipFlop name sources) h = cc
 pins_still now (Gate name kind sources) h = cc
 
 outputs_still : IsStill after_output is_output
 outputs_still now (Input name) h = refl
 outputs_still now (Output name) h = cc
+outputs_still now (FlipFlop name sources) h = refl
 outputs_still now (Gate name kind sources) h = refl
 
 inputs-kept : (statements : List (Numbered Statement)) → fold after_input empty_netlist (plain (nodes_among statements)) ≡ fold after_input empty_netlist (plain statements)
 inputs-kept statements = fold-kept after_input is_node inputs_still empty_netlist statements
 
+inputs_of-kept : (statements : List (Numbered Statement)) → inputs_of (plain (nodes_among statements)) ≡ inputs_of (plain statements)
+inputs_of-kept statements =
+    ap (λ now. fold after_cut now (plain (nodes_among statements))) (inputs-kept statements)
+    ∙ fold-kept after_cut is_node cuts_still (fold after_input empty_netlist (plain statements)) statements
+
 nodes_of-kept : (statements : List (Numbered Statement)) → nodes_of (plain (nodes_among statements)) ≡ nodes_of (plain statements)
 nodes_of-kept statements =
-    ap (λ now. fold after_gate now (plain (nodes_among statements))) (inputs-kept statements)
-    ∙ fold-kept after_gate is_node gates_still (fold after_input empty_netlist (plain statements)) statements
+    ap (λ now. fold after_gate now (plain (nodes_among statements))) (inputs_of-kept statements)
+    ∙ fold-kept after_gate is_node gates_still (inputs_of (plain statements)) statements
 
 connected-kept : (statements : List (Numbered Statement)) → connected (nodes_of (plain (nodes_among statements))) (plain (nodes_among statements)) ≡ connected (nodes_of (plain statements)) (plain statements)
 connected-kept statements =
     ap (λ now. connected now (plain (nodes_among statements))) (nodes_of-kept statements)
-    ∙ ap (λ (now : Connecting). now.netlist) (fold-kept after_pins is_node pins_still (record { netlist = nodes_of (plain statements); gate = (nodes_of (plain statements)).inputs }) statements)
+    ∙ ap (λ (now : Connecting). now.netlist) (fold-kept after_pins is_node pins_still (unconnected (nodes_of (plain statements))) statements)
 
 -- the circuit of the nodes and the outputs is that of all statements
 built-kept : (statements : List (Numbered Statement)) → built (plain (nodes_among statements)) (plain (outputs_among statements)) ≡ built (plain statements) (plain statements)
 built-kept statements =
+    ap with_data_outputs (
     ap (λ now. fold after_output now (plain (outputs_among statements))) (connected-kept statements)
     ∙ fold-kept after_output is_output outputs_still (connected (nodes_of (plain statements)) (plain statements)) statements
+    )
 
 may_build-kept : (statements : List (Numbered Statement)) → MayBuild (plain statements) (plain statements) → MayBuild (plain (nodes_among statements)) (plain (outputs_among statements))
 may_build-kept statements may = record {
   inputs = may-kept MayInput after_input is_node inputs_still empty_netlist statements may.inputs;
-  gates = subst (λ now. MaySteps MayGate after_gate now (plain (nodes_among statements))) (sym (inputs-kept statements))
-      (may-kept MayGate after_gate is_node gates_still (fold after_input empty_netlist (plain statements)) statements may.gates);
-  pins = subst (λ (now : Netlist). MaySteps MayPins after_pins (record { netlist = now; gate = now.inputs }) (plain (nodes_among statements))) (sym (nodes_of-kept statements))
-      (may-kept MayPins after_pins is_node pins_still (record { netlist = nodes_of (plain statements); gate = (nodes_of (plain statements)).inputs }) statements may.pins);
+  cuts = subst (λ now. MaySteps MayCut after_cut now (plain (nodes_among statements))) (sym (inputs-kept statements))
+      (may-kept MayCut after_cut is_node cuts_still (fold after_input empty_netlist (plain statements)) statements may.cuts);
+  gates = subst (λ now. MaySteps MayGate after_gate now (plain (nodes_among statements))) (sym (inputs_of-kept statements))
+      (may-kept MayGate after_gate is_node gates_still (inputs_of (plain statements)) statements may.gates);
+  pins = subst (λ (now : Netlist). MaySteps MayPins after_pins (unconnected now) (plain (nodes_among statements))) (sym (nodes_of-kept statements))
+      (may-kept MayPins after_pins is_node pins_still (unconnected (nodes_of (plain statements))) statements may.pins);
   outputs_may = subst (λ now. MaySteps MayOutput after_output now (plain (outputs_among statements))) (sym (connected-kept statements))
       (may-kept MayOutput after_output is_output outputs_still (connected (nodes_of (plain statements)) (plain statements)) statements may.outputs_may);
 }
@@ -134,13 +152,42 @@ built-sorted text statements nodes outputs =
     ∙ sym (ap (built (plain (nodes_among (numbered_statements text)))) (outputs_read text statements outputs))
     ∙ built-kept (numbered_statements text)
 
--- the inputs that were noted are those among the nodes
+-- the inputs and the flip-flops are nodes
+input_names-kept : (statements : List (Numbered Statement)) → input_names (plain (nodes_among statements)) ≡ input_names (plain statements)
+input_names-kept [] = refl
+input_names-kept (first ∷ rest) = by_statement first.statement (input_names-kept rest)
+  where
+    by_statement : (statement : Statement) → input_names (plain (nodes_among rest)) ≡ input_names (plain rest)
+        → input_names (plain (cond (is_node statement) (record { line = first.line; statement = statement } ∷ nodes_among rest) (nodes_among rest))) ≡ input_names (statement ∷ plain rest)
+    by_statement (Input name) ih = ap (λ names. name ∷ names) ih
+    by_statement (Output name) ih = ih
+    by_statement (FlipFlop name sources) ih = ih
+    by_statement (Gate name kind sources) ih = ih
+
+cut_names-kept : (statements : List (Numbered Statement)) → cut_names (plain (nodes_among statements)) ≡ cut_names (plain statements)
+cut_names-kept [] = refl
+cut_names-kept (first ∷ rest) = by_statement first.statement (cut_names-kept rest)
+  where
+    by_statement : (statement : Statement) → cut_names (plain (nodes_among rest)) ≡ cut_names (plain rest)
+        → cut_names (plain (cond (is_node statement) (record { line = first.line; statement = statement } ∷ nodes_among rest) (nodes_among rest))) ≡ cut_names (statement ∷ plain rest)
+    by_statement (Input name) ih = ih
+    by_statement (Output name) ih = ih
+    by_statement (FlipFlop name sources) ih = ap (λ names. name ∷ names) ih
+    by_statement (Gate name kind sources) ih = ih
+
+-- those that were noted are those among the nodes
 inputs-sorted : (text : List ℕ) (statements : Statements) → IsParsed text statements → numbered_list statements.nodes.items ≡ nodes_among (numbered_statements text) → statements.notes.inputs ≡ length (input_names (statement_list statements.nodes.items))
 inputs-sorted text statements parsed nodes =
     let all = numbered_statements text in
     ap (λ (notes : Notes). notes.inputs) parsed.gathered.notes
-    ∙ ap (λ (netlist : Netlist). netlist.inputs) (sym (nodes_of-is (plain all)).0 ∙ sym (inputs-kept all) ∙ (nodes_of-is (plain (nodes_among all))).0)
+    ∙ ap length (sym (input_names-kept all))
     ∙ ap (λ list. length (input_names list)) (nodes_read text statements nodes)
+
+cuts-sorted : (text : List ℕ) (statements : Statements) → IsParsed text statements → numbered_list statements.nodes.items ≡ nodes_among (numbered_statements text) → statements.notes.cuts ≡ length (cut_names (statement_list statements.nodes.items))
+cuts-sorted text statements parsed nodes =
+    ap (λ (notes : Notes). notes.cuts) parsed.gathered.notes
+    ∙ ap length (sym (cut_names-kept (numbered_statements text)))
+    ∙ ap (λ list. length (cut_names list)) (nodes_read text statements nodes)
 
 pub may_build-sorted : (text : List ℕ) (statements : Statements) → numbered_list statements.nodes.items ≡ nodes_among (numbered_statements text) → numbered_outputs statements.outputs.items ≡ outputs_among (numbered_statements text)
     → MayBuild (statements_of text) (statements_of text) → MayBuild (statement_list statements.nodes.items) (output_list statements.outputs.items)
@@ -259,6 +306,7 @@ undefined-kept statements names = any-same (λ name. not (is_some (definer (node
 node_sources : (statement : Statement) → is_node statement ≡ true → sources_of statement ≡ used_names statement
 node_sources (Input name) h = refl
 node_sources (Output name) h = cc
+node_sources (FlipFlop name sources) h = refl
 node_sources (Gate name kind sources) h = refl
 
 -- the first use of an undefined name, by nodes and outputs
@@ -281,6 +329,7 @@ defined_names-kept (first ∷ rest) = by_statement first.statement (defined_name
         → defined_names (plain (cond (is_node statement) (record { line = first.line; statement = statement } ∷ nodes_among rest) (nodes_among rest))) ≡ defined_names (statement ∷ plain rest)
     by_statement (Input name) ih = ap (λ names. name ∷ names) ih
     by_statement (Output name) ih = ih
+    by_statement (FlipFlop name sources) ih = ap (λ names. name ∷ names) ih
     by_statement (Gate name kind sources) ih = ap (λ names. name ∷ names) ih
 
 -- there are no more nodes than variables
@@ -292,6 +341,7 @@ nodes_few (first ∷ rest) = by_statement first.statement (nodes_few rest) (sum_
         → length (cond (is_node statement) (first ∷ nodes_among rest) (nodes_among rest)) ≤ variables_among (first ∷ rest)
     by_statement (Input name) h e = omega (arith, h, e)
     by_statement (Output name) h e = omega (arith, h, e)
+    by_statement (FlipFlop name sources) h e = omega (arith, h, e)
     by_statement (Gate name kind sources) h e = omega (arith, h, e)
 
 -- where there are not too many variables, and no name is defined again, the nodes that were read are all, with a table of their names
@@ -307,6 +357,7 @@ listed text statements parsed once few =
       few = omega (arith, counted, same, nodes_few all, variables, few);
       none_waits = gathered.none_waits few;
       inputs = inputs-sorted text statements parsed nodes;
+      cuts = cuts-sorted text statements parsed nodes;
       once = ap twice_fault nodes ∙ twice_after-kept [] [] all (λ name. refl) ∙ sym gathered.again ∙ ap (option_map again_fault) once;
       table = λ name. gathered.table once name ∙ sym (definer-kept all name) ∙ sym (ap (λ list. definer list name) nodes);
       names = gathered.names once ∙ sym (defined_names-kept all) ∙ ap defined_names (nodes_read text statements nodes);
@@ -331,8 +382,7 @@ sorted_fault-kept statements h =
     let pins = ap (option_or (option_map pins_fault (option_map wrong_pins_of (first_that has_wrong_pins statements)))) undefined
     ∙ pins-fault (first_that has_wrong_pins statements) _ in
     let twice = twice-fault statements _ _ pins in
-    let clocked = ap (option_or (option_map fault.Clocked (first_line has_clocked_kind statements))) twice ∙ line-fault fault.Clocked (first_that has_clocked_kind statements) _ in
-    let kinds = ap (option_or (option_map fault.KindUnknown (first_line has_unknown_kind statements))) clocked ∙ line-fault fault.KindUnknown (first_that has_unknown_kind statements) _ in
+    let kinds = ap (option_or (option_map fault.KindUnknown (first_line has_unknown_kind statements))) twice ∙ line-fault fault.KindUnknown (first_that has_unknown_kind statements) _ in
     ap (option_or (option_map fault.Name (first_line has_long_name statements))) kinds ∙ line-fault fault.Name (first_that has_long_name statements) _
 
 -- a name is missing in the table of all names where no node defines it
@@ -370,7 +420,7 @@ pub fault_in-first : (text : List ℕ) (statements : Statements) → IsParsed te
 fault_in-first text statements parsed =
     let all = numbered_statements text in
     let notes = statements.notes in
-    ap (option_or (option_map fault.Name notes.long_name)) (ap (option_or (option_map fault.KindUnknown notes.unknown_kind)) (ap (option_or (option_map fault.Clocked notes.clocked_kind))
-    (behind-again all statements (option_map pins_fault notes.wrong_pins) parsed.gathered)))
+    ap (option_or (option_map fault.Name notes.long_name)) (ap (option_or (option_map fault.KindUnknown notes.unknown_kind))
+    (behind-again all statements (option_map pins_fault notes.wrong_pins) parsed.gathered))
     ∙ ap (sorted_fault (nodes_among all) (outputs_among all)) parsed.gathered.notes
     ∙ sorted_fault-kept all (numbered_from-Ascends statement_of 1 (lines_of text))

@@ -1,5 +1,5 @@
 -- The statement that a line means, from the head of its tokens.
-use Rattle.std.proofs.Common.{◌≡◌, ◌∙◌, ℕ, ◌*◌, ◌||◌, List, [], ◌∷◌, Bool, true, false, Option, Some, None, option_map, is_some, length, refl, sym, ap, subst, arith, IfSome, true≢false}
+use Rattle.std.proofs.Common.{◌≡◌, ◌∙◌, ℕ, ◌*◌, ◌||◌, List, [], ◌∷◌, Bool, true, false, Option, Some, None, option_map, is_some, cond, length, refl, sym, ap, subst, arith, IfSome, true≢false}
 use Rattle.std.specs.List.{list_any}
 use Rattle.hz_line.specs.declared.bytes.Mark.{Mark}
 use Rattle.hz_line.specs.declared.bytes.Mark.TheVariants.{Open, Close, Comma, Equals}
@@ -10,7 +10,8 @@ use Rattle.hz_bench.specs.declared.forms.Form.TheVariants as form
 use Rattle.hz_bench.specs.declared.statement.Head.{Head}
 use Rattle.hz_bench.specs.declared.statement.NameList.{NameList}
 use Rattle.hz_bench.specs.Head.{has_marked_first, head_tokens, names_by, noted_names, no_names}
-use Rattle.hz_bench.specs.Statement.{Gate, statement_of, names_of, words_of, Port, port_word, port_of, kind_word_of, has_long_name, is_long, statement_with, words_by, are_marked, are_marked_words}
+use Rattle.hz_bench.specs.Form.{form_named, statement_with}
+use Rattle.hz_bench.specs.Statement.{Gate, statement_of, names_of, words_of, Port, port_word, port_of, kind_named, has_long_name, is_long, words_by, are_marked, are_marked_words, FlipFlop, name_of, sources_of, defined_by, is_flip_flop, words_in}
 use Rattle.hz_bench.specs.Text.{meaning_of}
 
 or_false : (a : Bool) → (a || false) ≡ a
@@ -20,6 +21,38 @@ or_false false = refl
 -- an input has one name
 pub port_long : (name : List ℕ) → has_long_name (statement_with name form.Input []) ≡ is_long name
 port_long name = or_false (is_long name)
+
+-- what the word in the kind's place makes of a name and of the words of a part of a line
+pub stated_by : (name word part : List ℕ) → statement_with name (form_named word) part ≡ defined_by name word (words_in part)
+stated_by name word part = by_word (is_flip_flop word)
+  where
+    by_word : (b : Bool) → statement_with name (cond b form.FlipFlop (form.Gate (kind_named word))) part ≡ cond b (FlipFlop name (words_in part)) (Gate name (kind_named word) (words_in part))
+    by_word true = refl
+    by_word false = refl
+
+-- it reads these words
+sources_by : (name word : List ℕ) (sources : List (List ℕ)) → sources_of (defined_by name word sources) ≡ sources
+sources_by name word sources = by_word (is_flip_flop word)
+  where
+    by_word : (b : Bool) → sources_of (cond b (FlipFlop name sources) (Gate name (kind_named word) sources)) ≡ sources
+    by_word true = refl
+    by_word false = refl
+
+named_by : (name word : List ℕ) (sources : List (List ℕ)) → name_of (defined_by name word sources) ≡ name
+named_by name word sources = by_word (is_flip_flop word)
+  where
+    by_word : (b : Bool) → name_of (cond b (FlipFlop name sources) (Gate name (kind_named word) sources)) ≡ name
+    by_word true = refl
+    by_word false = refl
+
+pub sources_with : (name word part : List ℕ) → sources_of (statement_with name (form_named word) part) ≡ words_in part
+sources_with name word part = ap sources_of (stated_by name word part) ∙ sources_by name word (words_in part)
+
+pub long_with : (name word part : List ℕ) → has_long_name (statement_with name (form_named word) part) ≡ (is_long name || list_any is_long (words_in part))
+long_with name word part =
+    ap has_long_name (stated_by name word part)
+    ∙ ap (λ first. is_long first || list_any is_long (sources_of (defined_by name word (words_in part)))) (named_by name word (words_in part))
+    ∙ ap (λ sources. is_long name || list_any is_long sources) (sources_by name word (words_in part))
 
 -- a list of names in words
 pub record IsNameList (tokens : List TokenOf) : Type 0 where
@@ -82,12 +115,12 @@ listed_by tokens (Some names) noted e h =
 pub IsListed-from_noted : (tokens : Option (List TokenOf)) (noted : NameList) → option_map (noted_names no_names) (names_by tokens) ≡ Some noted → IsListed tokens noted
 IsListed-from_noted tokens noted h = listed_by tokens (names_by tokens) noted refl h
 
--- a gate
-pub gate_meant : (text : List ℕ) (head : Head) (names : List (List ℕ)) → tokens_of text ≡ head_tokens head → head.mark ≡ Equals → head.next ≡ Open → names_by (tokens_of head.rest.now) ≡ Some names → meaning_of text ≡ Means (Gate head.first.now (kind_word_of head.second.now) names)
+-- a flip-flop or a gate
+pub gate_meant : (text : List ℕ) (head : Head) (names : List (List ℕ)) → tokens_of text ≡ head_tokens head → head.mark ≡ Equals → head.next ≡ Open → names_by (tokens_of head.rest.now) ≡ Some names → meaning_of text ≡ Means (defined_by head.first.now head.second.now names)
 gate_meant text head names tokens equals opened listed =
     ap (meaning_of_tokens statement_of) tokens ∙ rw (equals, opened) (meant (tokens_of head.rest.now) listed)
   where
-    meant : (rest : Option (List TokenOf)) → names_by rest ≡ Some names → meaning_of_tokens statement_of (headed head.first.now Equals head.second.now Open rest) ≡ Means (Gate head.first.now (kind_word_of head.second.now) names)
+    meant : (rest : Option (List TokenOf)) → names_by rest ≡ Some names → meaning_of_tokens statement_of (headed head.first.now Equals head.second.now Open rest) ≡ Means (defined_by head.first.now head.second.now names)
     meant None h = cc
     meant (Some rest) h = rw h refl
 

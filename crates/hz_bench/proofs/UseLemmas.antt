@@ -19,7 +19,7 @@ use Rattle.hz_bench.specs.Definition.{definer, defined_names, names_in, IsTableO
 use Rattle.hz_bench.specs.Entry.{numbered_list, numbered_output, numbered_outputs, statement_list, output_list, waiting_list}
 use Rattle.hz_bench.specs.Netlist.{node_names, output_names, number_in}
 use Rattle.hz_bench.specs.FaultIn.{asked, unknown_line}
-use Rattle.hz_bench.specs.Statement.{Statement, Input, Output, Gate, sources_of, used_names}
+use Rattle.hz_bench.specs.Statement.{Statement, Input, Output, FlipFlop, Gate, sources_of, used_names}
 use Rattle.hz_bench.specs.Uses.{pins_in, number_for, is_unnumbered, numbers_of, pin_numbers}
 use Rattle.hz_bench.proofs.CheckedLemmas.{either, each_fails}
 use Rattle.hz_bench.proofs.DefinitionLemmas.{plain}
@@ -113,6 +113,7 @@ output_numbers-known number names known (Input name ∷ rest) h = output_numbers
 output_numbers-known number names known (Output name ∷ rest) h =
     ap (λ one. one ∷ numbers_of number (output_names rest)) (known name (either (is_unnumbered number name) false h.0).0)
     ∙ ap (λ back. number_in names name ∷ back) (output_numbers-known number names known rest h.1)
+output_numbers-known number names known (FlipFlop name sources ∷ rest) h = output_numbers-known number names known rest h.1
 output_numbers-known number names known (Gate name kind sources ∷ rest) h = output_numbers-known number names known rest h.1
 
 -- no line passes a test that finds none

@@ -1,30 +1,14 @@
 -- The checks of statements, and the first fault of all in the order of their numbers.
-use Rattle.std.specs.Prelude.{ℕ, min, Bool, not, nat_lt, List, length, find, Option, Some, None, is_some, if◌then◌else◌}
+use Rattle.std.specs.Prelude.{ℕ, min, Bool, not, nat_lt, List, find, Option, Some, None, is_some, if◌then◌else◌}
 use Rattle.std.specs.Option.{option_or}
 use Rattle.std.specs.List.{list_any}
 use Rattle.hz_line.specs.Statement.{Numbered}
 use Rattle.hz_bench.specs.Definition.{definer}
-use Rattle.hz_bench.specs.Statement.{Statement, has_form, sources_of, used_names, has_long_name, is_unknown, is_clocked, refuses_pins}
+use Rattle.hz_bench.specs.Statement.{Statement, sources_of, used_names, has_long_name, has_unknown_kind, has_wrong_pins, pin_count}
 use Rattle.hz_bench.specs.Text.{variables_among}
 use Rattle.hz_bench.specs.Twice.{twice_fault}
 use Rattle.hz_bench.specs.declared.fault.BenchFault.{BenchFault}
 use Rattle.hz_bench.specs.declared.fault.BenchFault.TheVariants as fault
-
--- how many pins a gate has
-abbrev pub pin_count : Statement → ℕ
-pin_count statement = length (sources_of statement)
-
--- the kind of the statement does not take its pins
-abbrev pub has_wrong_pins : Statement → Bool
-has_wrong_pins statement = has_form (λ form. refuses_pins form (pin_count statement)) statement
-
--- the kind of the statement is none
-abbrev pub has_unknown_kind : Statement → Bool
-has_unknown_kind statement = has_form is_unknown statement
-
--- the statement is a flip-flop
-abbrev pub has_clocked_kind : Statement → Bool
-has_clocked_kind statement = has_form is_clocked statement
 
 -- the statement uses a name that none of these defines
 abbrev pub uses_undefined : List (Numbered Statement) → Statement → Bool
@@ -52,11 +36,10 @@ abbrev pub first_fault : List (Numbered Statement) → Option BenchFault
 first_fault statements =
     fault_or (λ found. fault.Name found.line) (first_that has_long_name statements)
     (fault_or (λ found. fault.KindUnknown found.line) (first_that has_unknown_kind statements)
-    (fault_or (λ found. fault.Clocked found.line) (first_that has_clocked_kind statements)
     (option_or (twice_fault statements)
     (fault_or (λ found. fault.Pins found.line (pin_count found.statement)) (first_that has_wrong_pins statements)
     (fault_or (λ found. fault.Undefined found.line) (first_that (uses_undefined statements) statements)
-    (too_many (variables_among statements)))))))
+    (too_many (variables_among statements))))))
 
 -- the earlier of two lines, where both are there
 abbrev pub earlier : Option ℕ → Option ℕ → Option ℕ

@@ -6,7 +6,7 @@ use Rattle.hz_bench.specs.declared.entry.Entry.{Entry}
 use Rattle.hz_core.specs.declared.name.Name.{Name}
 use Rattle.hz_line.specs.Statement.{Numbered, first_line}
 use Rattle.hz_bench.specs.Entry.{stated}
-use Rattle.hz_bench.specs.Statement.{Statement, Input, Output, Gate, defined_name}
+use Rattle.hz_bench.specs.Statement.{Statement, Input, Output, FlipFlop, Gate, defined_name}
 
 -- the name is the one that is defined, if one is
 abbrev pub is_that : List ℕ → Option (List ℕ) → Bool
@@ -26,6 +26,7 @@ abbrev pub defined_names : List Statement → List (List ℕ)
 defined_names [] = []
 defined_names (Input name ∷ rest) = name ∷ defined_names rest
 defined_names (Output name ∷ rest) = defined_names rest
+defined_names (FlipFlop name sources ∷ rest) = name ∷ defined_names rest
 defined_names (Gate name kind sources ∷ rest) = name ∷ defined_names rest
 
 -- the names in a table, in order

@@ -1,13 +1,13 @@
 -- The statement of an entry.
-use Rattle.std.specs.Prelude.{List, [], map}
+use Rattle.std.specs.Prelude.{List, [], map, None}
 use Rattle.hz_line.specs.Statement.{Numbered}
 use Rattle.hz_bench.specs.declared.entry.Entry.{Entry}
 use Rattle.hz_bench.specs.declared.entry.Line.{Line}
 use Rattle.hz_bench.specs.declared.entry.Line.TheVariants as line
 use Rattle.hz_bench.specs.declared.entry.OutputLine.{OutputLine}
 use Rattle.hz_bench.specs.declared.entry.Waiting.{Waiting}
-use Rattle.hz_bench.specs.declared.forms.KindWord.TheVariants.{Unknown}
-use Rattle.hz_bench.specs.Statement.{Statement, Output, Gate, statement_with, words_in}
+use Rattle.hz_bench.specs.Form.{statement_with}
+use Rattle.hz_bench.specs.Statement.{Statement, Output, Gate, words_in}
 
 -- the statement that an entry is
 abbrev pub stated : Entry → Statement
@@ -34,11 +34,11 @@ abbrev pub numbered_line : Line → Numbered Statement
 numbered_line (line.Node entry) = numbered_of entry
 numbered_line (line.Output output) = numbered_output output
 
--- a gate that waits, as a statement with its line: its sources matter, and not its name or its kind
+-- a flip-flop or a gate that waits, as a statement with its line: its sources matter, and not its name or its kind
 abbrev pub numbered_waiting : Waiting → Numbered Statement
-numbered_waiting gate = record { line = gate.line; statement = Gate [] Unknown (words_in gate.sources.now) }
+numbered_waiting gate = record { line = gate.line; statement = Gate [] None (words_in gate.sources.now) }
 
--- gates that wait, as statements with their lines
+-- those that wait, as statements with their lines
 abbrev pub waiting_list : List Waiting → List (Numbered Statement)
 waiting_list waiting = map numbered_waiting waiting
 

@@ -2,9 +2,8 @@
 use Rattle.std.specs.Prelude.{◌≡◌, ℕ, ◌<◌, ◌≤◌, ◌⊎◌, Bool, true, List, Some, Contains}
 use Rattle.hz_line.specs.Statement.{Malformed, Means}
 use Rattle.hz_bench.specs.declared.fault.BenchFault.{BenchFault}
-use Rattle.hz_bench.specs.declared.fault.BenchFault.TheVariants.{Form, Name, KindUnknown, Clocked, Twice, Pins, Undefined, TooMany, Memory}
-use Rattle.hz_bench.specs.Check.{has_unknown_kind, has_clocked_kind, has_wrong_pins, pin_count}
-use Rattle.hz_bench.specs.Statement.{Statement, defined_name, used_names, has_long_name}
+use Rattle.hz_bench.specs.declared.fault.BenchFault.TheVariants.{Form, Name, KindUnknown, Twice, Pins, Undefined, TooMany, Memory}
+use Rattle.hz_bench.specs.Statement.{Statement, defined_name, used_names, has_long_name, has_unknown_kind, has_wrong_pins, pin_count}
 use Rattle.hz_bench.specs.Text.{meaning_at, statements_of, variables_of}
 
 -- the line has a statement
@@ -35,19 +34,17 @@ abbrev pub Stands : List ℕ → BenchFault → Type 0
 Stands text (Form line) = meaning_at text line ≡ Malformed
 Stands text (Name line) = HasThat has_long_name text line
 Stands text (KindUnknown line) = HasThat has_unknown_kind text line
-Stands text (Clocked line) = HasThat has_clocked_kind text line
 Stands text (Twice line first) = (name : List ℕ) × IsSecond text line first name
 Stands text (Pins line count) = (statement : Statement) × States text line statement × (has_wrong_pins statement ≡ true) × (pin_count statement ≡ count)
 Stands text (Undefined line) = (name : List ℕ) × Uses text line name × ((other : ℕ) → ¬ Defines text other name)
 Stands text (TooMany variables) = (200000 < variables) × (variables_of (statements_of text) ≡ variables)
 Stands text Memory = ⊥
 
--- the number of a fault
+-- the number of a fault; 4 is not used
 abbrev pub number_of : BenchFault → ℕ
 number_of (Form line) = 1
 number_of (Name line) = 2
 number_of (KindUnknown line) = 3
-number_of (Clocked line) = 4
 number_of (Twice line first) = 5
 number_of (Pins line count) = 6
 number_of (Undefined line) = 7
@@ -59,7 +56,6 @@ abbrev pub line_of : BenchFault → ℕ
 line_of (Form line) = line
 line_of (Name line) = line
 line_of (KindUnknown line) = line
-line_of (Clocked line) = line
 line_of (Twice line first) = line
 line_of (Pins line count) = line
 line_of (Undefined line) = line
@@ -85,7 +81,6 @@ IsAnswer text Memory = Unit {0}
 IsAnswer text (Form line) = IsLeastFault text (Form line)
 IsAnswer text (Name line) = IsLeastFault text (Name line)
 IsAnswer text (KindUnknown line) = IsLeastFault text (KindUnknown line)
-IsAnswer text (Clocked line) = IsLeastFault text (Clocked line)
 IsAnswer text (Twice line first) = IsLeastFault text (Twice line first)
 IsAnswer text (Pins line count) = IsLeastFault text (Pins line count)
 IsAnswer text (Undefined line) = IsLeastFault text (Undefined line)

@@ -15,7 +15,7 @@ use Rattle.hz_bench.specs.Definition.{is_missing}
 use Rattle.hz_bench.specs.Entry.{numbered_list, numbered_outputs, waiting_list}
 use Rattle.hz_bench.specs.Statement.{Statement, sources_of, used_names}
 
--- a gate with wrong pins as a fault
+-- a flip-flop or a gate with wrong pins as a fault
 abbrev pub pins_fault : WrongPins → BenchFault
 pins_fault wrong = fault.Pins wrong.line wrong.count
 
@@ -31,7 +31,7 @@ reads_missing table statement = list_any (is_missing table) (sources_of statemen
 abbrev pub uses_missing : {S : Type 0} → HashMap Name ℕ S → Statement → Bool
 uses_missing table statement = list_any (is_missing table) (used_names statement)
 
--- the statements whose sources may be undefined: the nodes, and behind them the gates that wait
+-- the statements whose sources may be undefined: the nodes, and behind them those that wait
 abbrev pub asked : Statements → List (Numbered Statement)
 asked statements = numbered_list statements.nodes.items ++ waiting_list statements.waiting.items
 
@@ -56,6 +56,5 @@ abbrev pub fault_in : Statements → Option BenchFault
 fault_in statements =
     option_or (option_map fault.Name statements.notes.long_name)
     (option_or (option_map fault.KindUnknown statements.notes.unknown_kind)
-    (option_or (option_map fault.Clocked statements.notes.clocked_kind)
     (option_or (option_map again_fault statements.again)
-    (option_or (option_map pins_fault statements.notes.wrong_pins) (last_fault statements)))))
+    (option_or (option_map pins_fault statements.notes.wrong_pins) (last_fault statements))))

@@ -3,7 +3,6 @@ use Rattle.std.specs.Prelude.{◌≡◌, ℕ, ◌<◌, ◌≤◌, ◌⊎◌, Boo
 use Rattle.std.specs.List.{list_any}
 use Rattle.hz_line.specs.Statement.{Numbered, first_line}
 use Rattle.hz_bench.specs.declared.entry.Entry.{Entry}
-use Rattle.hz_bench.specs.declared.forms.KindWord.TheVariants.{Unknown}
 use Rattle.hz_bench.specs.declared.notes.Redefinition.{Redefinition}
 use Rattle.hz_bench.specs.declared.parse.Statements.{Statements}
 use Rattle.hz_bench.specs.Definition.{definer, defined_names, line_for_defined, names_in, IsEmptyTable, IsPut, IsTableOf}
@@ -60,7 +59,7 @@ pub record IsWaiting (old : Statements) (next : Numbered Statement) (new : State
   pub many : 200000 < new.notes.variables
   pub node : nodes_among (next ∷ []) ≡ next ∷ []
   pub nodes : new.nodes.items ≡ old.nodes.items
-  pub waiting : waiting_list new.waiting.items ≡ waiting_list old.waiting.items ++ record { line = next.line; statement = Gate [] Unknown (sources_of next.statement) } ∷ []
+  pub waiting : waiting_list new.waiting.items ≡ waiting_list old.waiting.items ++ record { line = next.line; statement = Gate [] None (sources_of next.statement) } ∷ []
 
 -- there are too many variables, and the next statement was left out: the table has all names that it reads, or a name is defined
 -- again, and it does not matter any more which are not
@@ -74,7 +73,7 @@ pub record IsLeftOut (old : Statements) (next : Numbered Statement) (new : State
 abbrev pub IsPlaced : Statements → Numbered Statement → Statements → Type 0
 IsPlaced old next new = IsKept old next new ⊎ (IsAside old next new ⊎ (IsWaiting old next new ⊎ IsLeftOut old next new))
 
--- the next statement was added to those before it: to the nodes or the gates that wait, unless it is left out, or to the
+-- the next statement was added to those before it: to the nodes or those that wait, unless it is left out, or to the
 -- outputs; to the names; and to the notes
 pub record IsSorted (old : Statements) (next : Numbered Statement) (new : Statements) : Type 0 where
   pub placed : IsPlaced old next new

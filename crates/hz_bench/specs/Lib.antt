@@ -1,4 +1,5 @@
 pub mod Statement
+pub mod Form
 pub mod Text
 pub mod Entry
 pub mod Head

@@ -1,26 +1,47 @@
 -- The circuit of statements.
-use Rattle.std.specs.Prelude.{ℕ, List, [], ◌∷◌, ◌++◌, length, map, fold, nat_eq, if◌then◌else◌}
-use Rattle.std.specs.List.{list_any, position_or_len}
+use Rattle.std.specs.Prelude.{ℕ, List, [], ◌∷◌, ◌++◌, length, map, fold, nat_eq, Option, Some, if◌then◌else◌}
+use Rattle.std.specs.List.{list_any, position_or_len, slice_index_or}
+use Rattle.std.specs.Option.{unwrap_or}
 use Rattle.std.specs.Str.{bytes_eq}
 use Rattle.hz_core.specs.declared.kind.Kind.{Kind}
 use Rattle.hz_core.specs.declared.kind.Kind.TheVariants.{And}
 use Rattle.hz_core.specs.Netlist as netlist
-use Rattle.hz_bench.specs.declared.forms.KindWord.{KindWord}
-use Rattle.hz_bench.specs.declared.forms.KindWord.TheVariants.{Known, Clocked, Unknown}
-use Rattle.hz_bench.specs.Statement.{Statement, Input, Output, Gate}
+use Rattle.hz_bench.specs.Statement.{Statement, Input, Output, FlipFlop, Gate}
 
 -- the names of the inputs, in order
 abbrev pub input_names : List Statement → List (List ℕ)
 input_names [] = []
 input_names (Input name ∷ rest) = name ∷ input_names rest
 input_names (Output name ∷ rest) = input_names rest
+input_names (FlipFlop name sources ∷ rest) = input_names rest
 input_names (Gate name kind sources ∷ rest) = input_names rest
+
+-- the names of the flip-flops, in order
+abbrev pub cut_names : List Statement → List (List ℕ)
+cut_names [] = []
+cut_names (Input name ∷ rest) = cut_names rest
+cut_names (Output name ∷ rest) = cut_names rest
+cut_names (FlipFlop name sources ∷ rest) = name ∷ cut_names rest
+cut_names (Gate name kind sources ∷ rest) = cut_names rest
+
+-- the one name that a flip-flop reads
+abbrev pub data_name : List (List ℕ) → List ℕ
+data_name sources = slice_index_or sources 0 []
+
+-- the names that the flip-flops read, in order
+abbrev pub data_names : List Statement → List (List ℕ)
+data_names [] = []
+data_names (Input name ∷ rest) = data_names rest
+data_names (Output name ∷ rest) = data_names rest
+data_names (FlipFlop name sources ∷ rest) = data_name sources ∷ data_names rest
+data_names (Gate name kind sources ∷ rest) = data_names rest
 
 -- the names of the gates, in order
 abbrev pub gate_names : List Statement → List (List ℕ)
 gate_names [] = []
 gate_names (Input name ∷ rest) = gate_names rest
 gate_names (Output name ∷ rest) = gate_names rest
+gate_names (FlipFlop name sources ∷ rest) = gate_names rest
 gate_names (Gate name kind sources ∷ rest) = name ∷ gate_names rest
 
 -- the names of the outputs, in order
@@ -28,28 +49,32 @@ abbrev pub output_names : List Statement → List (List ℕ)
 output_names [] = []
 output_names (Input name ∷ rest) = output_names rest
 output_names (Output name ∷ rest) = name ∷ output_names rest
+output_names (FlipFlop name sources ∷ rest) = output_names rest
 output_names (Gate name kind sources ∷ rest) = output_names rest
+
+-- the names of the inputs of the circuit, in order: the inputs, then the flip-flops, which are cut
+abbrev pub all_inputs : List Statement → List (List ℕ)
+all_inputs statements = input_names statements ++ cut_names statements
 
 -- the names of the nodes: inputs, then gates
 abbrev pub node_names : List Statement → List (List ℕ)
-node_names statements = input_names statements ++ gate_names statements
+node_names statements = all_inputs statements ++ gate_names statements
 
 -- the number of the node with a name: its place
 abbrev pub number_in : List (List ℕ) → List ℕ → ℕ
 number_in names name = position_or_len (bytes_eq name) names
 
--- the kind that a word names; for a word that names none, which no accepted text has, AND stands in
-abbrev pub kind_of_word : KindWord → Kind
-kind_of_word (Known kind) = kind
-kind_of_word Clocked = And
-kind_of_word Unknown = And
+-- the kind of a gate; for a word that names none, which no accepted text has, AND stands in
+abbrev pub kind_of : Option Kind → Kind
+kind_of kind = unwrap_or kind And
 
 -- the gates, in order, each with the nodes that its pins read
 abbrev pub gates_of : List (List ℕ) → List Statement → List netlist.Gate
 gates_of names [] = []
 gates_of names (Input name ∷ rest) = gates_of names rest
 gates_of names (Output name ∷ rest) = gates_of names rest
-gates_of names (Gate name kind sources ∷ rest) = record { kind = kind_of_word kind; sources = map (number_in names) sources } ∷ gates_of names rest
+gates_of names (FlipFlop name sources ∷ rest) = gates_of names rest
+gates_of names (Gate name kind sources ∷ rest) = record { kind = kind_of kind; sources = map (number_in names) sources } ∷ gates_of names rest
 
 -- a number, once: it stays where it is, or comes last
 abbrev pub add_once : List ℕ → ℕ → List ℕ
@@ -59,13 +84,19 @@ add_once numbers number = if list_any (nat_eq number) numbers then numbers else 
 abbrev pub each_once : List ℕ → List ℕ
 each_once numbers = fold add_once [] numbers
 
--- the circuit of statements: inputs, gates and outputs in order, a repeated output once
+-- the data nodes of the flip-flops, in order
+abbrev pub data_nodes : List (List ℕ) → List Statement → List ℕ
+data_nodes names statements = map (number_in names) (data_names statements)
+
+-- the circuit of statements: the inputs, and then the flip-flops as cuts, each with its data node; the gates; the outputs, and then
+-- the data nodes, each once at its first place
 abbrev pub netlist_of : List Statement → netlist.Netlist
 netlist_of statements =
     let names = node_names statements in
     record {
       names = names;
-      inputs = length (input_names statements);
+      inputs = length (all_inputs statements);
+      cuts = map Some (data_nodes names statements);
       gates = gates_of names statements;
-      outputs = each_once (map (number_in names) (output_names statements));
+      outputs = each_once (map (number_in names) (output_names statements) ++ data_nodes names statements);
     }

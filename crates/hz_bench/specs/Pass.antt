@@ -5,13 +5,13 @@ use Rattle.hz_line.specs.Statement.{first_malformed}
 use Rattle.hz_core.specs.Netlist.{IsWhole}
 use Rattle.hz_bench.specs.declared.parse.Statements.{Statements}
 use Rattle.hz_bench.specs.declared.fault.BenchFault.{BenchFault}
-use Rattle.hz_bench.specs.declared.fault.BenchFault.TheVariants.{Form, Name, KindUnknown, Clocked, Twice, Pins, Undefined, TooMany, Memory}
+use Rattle.hz_bench.specs.declared.fault.BenchFault.TheVariants.{Form, Name, KindUnknown, Twice, Pins, Undefined, TooMany, Memory}
 use Rattle.hz_bench.specs.Built.{MayBuild}
 use Rattle.hz_bench.specs.Definition.{defined_names, names_in, IsTableOf}
 use Rattle.hz_bench.specs.Entry.{numbered_list, numbered_outputs, statement_list, output_list}
 use Rattle.hz_bench.specs.Fault.{IsFaultless}
 use Rattle.hz_bench.specs.Gathered.{AreGathered}
-use Rattle.hz_bench.specs.Netlist.{input_names, netlist_of}
+use Rattle.hz_bench.specs.Netlist.{input_names, cut_names, netlist_of}
 use Rattle.hz_bench.specs.Statement.{statement_of}
 use Rattle.hz_bench.specs.Text.{numbered_statements, nodes_among, outputs_among, statements_of, variables_of}
 use Rattle.hz_bench.specs.Twice.{twice_fault}
@@ -27,7 +27,6 @@ abbrev pub IsParseFault : List ℕ → BenchFault → Type 0
 IsParseFault text (Form at) = first_malformed statement_of 1 (lines_of text) ≡ Some at
 IsParseFault text (Name at) = ⊥
 IsParseFault text (KindUnknown at) = ⊥
-IsParseFault text (Clocked at) = ⊥
 IsParseFault text (Twice at first) = ⊥
 IsParseFault text (Pins at count) = ⊥
 IsParseFault text (Undefined at) = ⊥
@@ -47,6 +46,7 @@ pub record IsListed (statements : Statements) : Type 0 where
   pub few : length statements.nodes.items < 2 ^ 31
   pub none_waits : statements.waiting.items ≡ []
   pub inputs : statements.notes.inputs ≡ length (input_names (statement_list statements.nodes.items))
+  pub cuts : statements.notes.cuts ≡ length (cut_names (statement_list statements.nodes.items))
   pub once : twice_fault (numbered_list statements.nodes.items) ≡ None
   pub table : IsTableOf (numbered_list statements.nodes.items) statements.lines
   pub names : names_in statements.lines ≡ defined_names (statement_list statements.nodes.items)

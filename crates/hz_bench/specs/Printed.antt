@@ -1,9 +1,9 @@
 -- The text of a circuit.
-use Rattle.std.specs.Prelude.{ℕ, suc, List, [], ◌∷◌, ◌++◌, map, take, codes}
+use Rattle.std.specs.Prelude.{ℕ, suc, Option, Some, None, List, [], ◌∷◌, ◌++◌, map, take, codes}
 use Rattle.std.specs.List.{slice_index_or}
 use Rattle.hz_core.specs.declared.kind.Kind.{Kind}
 use Rattle.hz_core.specs.declared.kind.Kind.TheVariants.{And, Nand, Or, Nor, Xor, Xnor, Not, Buff}
-use Rattle.hz_core.specs.Netlist.{Netlist, Gate}
+use Rattle.hz_core.specs.Netlist.{Netlist, Gate, primary_inputs}
 
 -- the name of a node
 abbrev pub name_at : List (List ℕ) → ℕ → List ℕ
@@ -52,9 +52,24 @@ abbrev pub gate_lines : List (List ℕ) → ℕ → List Gate → List ℕ
 gate_lines names node [] = []
 gate_lines names node (gate ∷ rest) = gate_line names (name_at names node) gate ++ gate_lines names (suc node) rest
 
--- the text of a circuit: inputs, outputs and gates, a line each
+-- the line of a flip-flop: its name and the name that it reads
+unfoldable pub cut_line : List ℕ → List ℕ → List ℕ
+cut_line name source = name ++ (codes " = DFF(" ++ (source ++ (codes ")" ++ 10 ∷ [])))
+
+-- the line of a cut with its data node; a cut without one has none
+abbrev pub cut_text : List (List ℕ) → List ℕ → Option ℕ → List ℕ
+cut_text names name None = []
+cut_text names name (Some node) = cut_line name (name_at names node)
+
+-- the lines of cuts, the first of which is this node
+abbrev pub cut_lines : List (List ℕ) → ℕ → List (Option ℕ) → List ℕ
+cut_lines names node [] = []
+cut_lines names node (cut ∷ rest) = cut_text names (name_at names node) cut ++ cut_lines names (suc node) rest
+
+-- the text of a circuit: primary inputs, outputs, cuts and gates, a line each
 unfoldable pub printed : Netlist → List ℕ
 printed netlist =
-    port_lines (codes "INPUT") (take netlist.inputs netlist.names)
+    port_lines (codes "INPUT") (take (primary_inputs netlist) netlist.names)
     ++ port_lines (codes "OUTPUT") (map (name_at netlist.names) netlist.outputs)
+    ++ cut_lines netlist.names (primary_inputs netlist) netlist.cuts
     ++ gate_lines netlist.names netlist.inputs netlist.gates

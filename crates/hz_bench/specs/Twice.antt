@@ -2,7 +2,7 @@
 use Rattle.std.specs.Prelude.{◌≡◌, ℕ, List, [], ◌∷◌, ◌++◌, Option, Some, None}
 use Rattle.hz_line.specs.Statement.{Numbered}
 use Rattle.hz_bench.specs.declared.fault.BenchFault.{BenchFault}
-use Rattle.hz_bench.specs.declared.fault.BenchFault.TheVariants.{Form, Name, KindUnknown, Clocked, Twice, Pins, Undefined, TooMany, Memory}
+use Rattle.hz_bench.specs.declared.fault.BenchFault.TheVariants.{Form, Name, KindUnknown, Twice, Pins, Undefined, TooMany, Memory}
 use Rattle.hz_bench.specs.Statement.{Statement, defined_name}
 use Rattle.hz_bench.specs.Definition.{definer}
 
@@ -32,7 +32,6 @@ IsFoundOrMemory found Memory = Unit {0}
 IsFoundOrMemory found (Form line) = found ≡ Some (Form line)
 IsFoundOrMemory found (Name line) = found ≡ Some (Name line)
 IsFoundOrMemory found (KindUnknown line) = found ≡ Some (KindUnknown line)
-IsFoundOrMemory found (Clocked line) = found ≡ Some (Clocked line)
 IsFoundOrMemory found (Twice line first) = found ≡ Some (Twice line first)
 IsFoundOrMemory found (Pins line count) = found ≡ Some (Pins line count)
 IsFoundOrMemory found (Undefined line) = found ≡ Some (Undefined line)

@@ -1,15 +1,15 @@
 // The circuit of the statements.
 
-ghost use Rattle.std.specs.Prelude.{◌≡◌, IfOk, OnOk, fold, true};
+ghost use Rattle.std.specs.Prelude.{◌≡◌, ◌<◌, IfOk, OnOk, fold, true};
 ghost use Rattle.std.specs.List.{slice_set};
-ghost use Rattle.hz_core.specs.Netlist.{with_output};
-ghost use Rattle.hz_bench.specs.Built.{after_input, after_gate, after_pins, after_read, built, connected, AreMarked, IsNode, MayBuild, MayGate, MayInput, MayPins, MayRead, MaySteps};
+ghost use Rattle.hz_core.specs.Netlist.{data_of, with_output};
+ghost use Rattle.hz_bench.specs.Built.{after_input, after_cut, after_gate, after_pins, after_read, built, connected, unconnected, with_data_output, with_data_outputs, AreMarked, IsNode, MayBuild, MayCut, MayGate, MayInput, MayPins, MayRead, MaySteps};
 ghost use Rattle.hz_bench.specs.Entry.{stated, statement_list, output_list};
-ghost use Rattle.hz_bench.specs.Netlist.{kind_of_word};
+ghost use Rattle.hz_bench.specs.Netlist.{kind_of};
 ghost use Rattle.hz_bench.specs.Uses.{pins_in, AreUses};
 
 use crate::entry::Entry;
-use crate::forms::{Form, KindWord};
+use crate::forms::Form;
 use crate::parse::Statements;
 use crate::uses::Uses;
 use hz_core::{Circuit, Kind, Memory};
@@ -24,9 +24,11 @@ pub(crate) fn build(alloc: Global, statements: &Statements, uses: &Uses) -> Resu
     let nodes = statements.nodes.as_slice();
     let mut circuit = Circuit::new(alloc);
     add_inputs(&mut circuit, nodes)?;
+    add_cuts(&mut circuit, nodes)?;
     add_gates(&mut circuit, nodes)?;
-    connect_gates(&mut circuit, nodes, uses.pins.as_slice())?;
+    connect_nodes(&mut circuit, nodes, uses.pins.as_slice())?;
     add_outputs(alloc, &mut circuit, uses.outputs.as_slice())?;
+    add_data_outputs(&mut circuit)?;
     Ok(circuit)
 }
 
@@ -54,7 +56,35 @@ fn add_input(circuit: &mut Circuit, entry: &Entry) -> Result<(), Memory>
             circuit.add_input(entry.name)?;
             Ok(())
         }
-        Form::Gate(_) => Ok(()),
+        Form::FlipFlop | Form::Gate(_) => Ok(()),
+    }
+}
+
+// Adds the cuts, without data nodes.
+fn add_cuts(circuit: &mut Circuit, entries: &[Entry]) -> Result<(), Memory>
+    requires { MaySteps MayCut after_cut circuit.old (statement_list entries.now) }
+    ensures { OnOk result (circuit.new ≡ fold after_cut circuit.old (statement_list entries.now)) }
+{
+    for entry in entries {
+        match add_cut(circuit, entry) {
+            Ok(()) => {}
+            Err(Memory) => return Err(Memory),
+        }
+    }
+    Ok(())
+}
+
+// Adds the cut of a statement, if it is a flip-flop.
+fn add_cut(circuit: &mut Circuit, entry: &Entry) -> Result<(), Memory>
+    requires { MayCut circuit.old (stated entry.now) }
+    ensures { OnOk result (circuit.new ≡ after_cut circuit.old (stated entry.now)) }
+{
+    match entry.form {
+        Form::FlipFlop => {
+            circuit.add_cut(entry.name)?;
+            Ok(())
+        }
+        Form::Input | Form::Gate(_) => Ok(()),
     }
 }
 
@@ -78,41 +108,47 @@ fn add_gate(circuit: &mut Circuit, entry: &Entry) -> Result<(), Memory>
     ensures { OnOk result (circuit.new ≡ after_gate circuit.old (stated entry.now)) }
 {
     match entry.form {
-        Form::Gate(word) => {
-            circuit.add_gate(entry.name, kind_of(word))?;
+        Form::Gate(kind) => {
+            circuit.add_gate(entry.name, kind_of(kind))?;
             Ok(())
         }
-        Form::Input => Ok(()),
+        Form::Input | Form::FlipFlop => Ok(()),
     }
 }
 
-// The kind that a word names.
-fn kind_of(word: KindWord) -> Kind
-    ensures { result ≡ kind_of_word word }
+// The kind of a gate.
+fn kind_of(kind: Option<Kind>) -> Kind
+    ensures { result ≡ kind_of kind }
 {
-    match word {
-        KindWord::Known(kind) => kind,
-        KindWord::Clocked | KindWord::Unknown => Kind::And,
-    }
+    kind.unwrap_or(Kind::And)
 }
 
-// Connects the pins of the gates to these nodes, gate by gate.
-fn connect_gates(circuit: &mut Circuit, entries: &[Entry], pins: &[u32]) -> Result<(), Memory>
-    requires may { MaySteps MayPins after_pins (record { netlist = circuit.old; gate = circuit.old.inputs }) (statement_list entries.now) }
-    requires pins { pins.now ≡ pins_in circuit.old.names (statement_list entries.now) }
+// Gives the cuts their data nodes, and connects the pins of the gates, to these nodes, statement by statement.
+fn connect_nodes(circuit: &mut Circuit, entries: &[Entry], nodes: &[u32]) -> Result<(), Memory>
+    requires may { MaySteps MayPins after_pins (unconnected circuit.old) (statement_list entries.now) }
+    requires nodes { nodes.now ≡ pins_in circuit.old.names (statement_list entries.now) }
     ensures { OnOk result (circuit.new ≡ connected circuit.old (statement_list entries.now)) }
 {
+    let mut cut = circuit.primary_inputs();
     let mut gate = circuit.inputs();
-    let mut left = pins;
+    let mut left = nodes;
     for entry in entries {
-        if let Form::Gate(_) = entry.form {
-            let (sources, rest) = left.split_at(entry.pins);
-            match connect_gate(circuit, gate, sources) {
-                Ok(()) => {}
-                Err(Memory) => return Err(Memory),
+        match entry.form {
+            Form::Input => {}
+            Form::FlipFlop => {
+                circuit.set_data(cut, left[0]);
+                cut += 1;
+                left = &left[1..];
             }
-            gate += 1;
-            left = rest;
+            Form::Gate(_) => {
+                let (sources, rest) = left.split_at(entry.pins);
+                match connect_gate(circuit, gate, sources) {
+                    Ok(()) => {}
+                    Err(Memory) => return Err(Memory),
+                }
+                gate += 1;
+                left = rest;
+            }
         }
     }
     Ok(())
@@ -164,4 +200,28 @@ fn add_output(circuit: &mut Circuit, marks: &mut Vec<bool>, node: u32) -> Result
     circuit.add_output(node)?;
     marks[place] = true;
     Ok(())
+}
+
+// Makes the data nodes of the cuts outputs.
+fn add_data_outputs(circuit: &mut Circuit) -> Result<(), Memory>
+    ensures { OnOk result (circuit.new ≡ with_data_outputs circuit.old) }
+{
+    for cut in circuit.primary_inputs()..circuit.inputs() {
+        match add_data_output(circuit, cut) {
+            Ok(()) => {}
+            Err(Memory) => return Err(Memory),
+        }
+    }
+    Ok(())
+}
+
+// Makes the data node of a cut an output, if it has one.
+fn add_data_output(circuit: &mut Circuit, cut: u32) -> Result<(), Memory>
+    requires { cut < circuit.old.inputs }
+    ensures { OnOk result (circuit.new ≡ with_data_output circuit.old (data_of circuit.old cut)) }
+{
+    match circuit.data_of(cut) {
+        Some(node) => circuit.add_output(node),
+        None => Ok(()),
+    }
 }

@@ -2,11 +2,12 @@
 
 ghost use Rattle.std.specs.Prelude.{◌≡◌, ◌<◌, ◌^◌, length, true};
 ghost use Rattle.hz_line.specs.Token.{IsWord, tokens_of};
-ghost use Rattle.hz_bench.specs.Statement.{sources_of, has_long_name, words_in, are_marked, statement_with};
+ghost use Rattle.hz_bench.specs.Form.{statement_with};
+ghost use Rattle.hz_bench.specs.Statement.{sources_of, has_long_name, words_in, are_marked};
 
 use crate::forms::Form;
 
-/// An input or a gate, which borrows from its line. A gate's sources are read again from the line when they are needed,
+/// An input, a flip-flop or a gate, which borrows from its line. The sources are read again from the line when they are needed,
 /// so that a statement takes the same room however many pins its gate has.
 #[derive(Clone, Copy)]
 pub struct Entry<'a> {
@@ -17,9 +18,9 @@ pub struct Entry<'a> {
     pub long: bool,
     /// The name that the statement defines.
     pub name: &'a [u8],
-    /// The line from a gate's first source on; empty of an input.
+    /// The line from the first source on; empty of an input.
     pub sources: &'a [u8],
-    /// How many pins the gate has.
+    /// How many sources there are.
     pub pins: usize,
     ghost worded: { IsWord name.now },
     ghost sourced: { words_in sources.now ≡ sources_of (statement_with name.now form sources.now) },
@@ -29,13 +30,13 @@ pub struct Entry<'a> {
     ghost measured: { long ≡ has_long_name (statement_with name.now form sources.now) },
 }
 
-/// A gate of a text with too many variables, which reads a name that no line up to it defines. It waits for the names of the
+/// A flip-flop or a gate of a text with too many variables, which reads a name that no line up to it defines. It waits for the names of the
 /// lines after it.
 #[derive(Clone, Copy)]
 pub struct Waiting<'a> {
     /// The number of the line, counted from 1.
     pub line: u32,
-    /// The line from the gate's first source on.
+    /// The line from the first source on.
     pub sources: &'a [u8],
     ghost listed: { are_marked (tokens_of sources.now) ≡ true },
 }
@@ -56,7 +57,7 @@ pub struct OutputLine<'a> {
 /// A line that is a statement.
 #[derive(Clone, Copy)]
 pub enum Line<'a> {
-    /// An input or a gate.
+    /// An input, a flip-flop or a gate.
     Node(Entry<'a>),
     Output(OutputLine<'a>),
 }

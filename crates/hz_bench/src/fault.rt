@@ -2,7 +2,7 @@
 
 use thiserror::Error;
 
-/// A fault of a netlist's text. Faults are numbered in this order; where several stand in a text, the answer is one with
+/// A fault of a netlist's text. Faults are numbered in this order, 1 to 3 and 5 to 9; if several stand in a text, the answer is one with
 /// the least number and, among those, on the least line. Lines are counted from 1.
 #[derive(Clone, Copy, Debug, PartialEq, Eq, Error)]
 pub enum BenchFault {
@@ -15,19 +15,16 @@ pub enum BenchFault {
     /// A gate whose kind is none.
     #[error("line {line}: unknown kind")]
     KindUnknown { line: u32 },
-    /// A flip-flop.
-    #[error("line {line}: clocked")]
-    Clocked { line: u32 },
     /// A name that an earlier line defines; `first` is the earliest such line.
     #[error("line {line}: defined twice, first on line {first}")]
     Twice { line: u32, first: u32 },
-    /// A gate with so many pins as its kind does not take.
+    /// A gate with so many pins as its kind does not take, or a flip-flop that does not read one name.
     #[error("line {line}: pins {count}")]
     Pins { line: u32, count: u32 },
     /// A name that no line defines.
     #[error("line {line}: undefined name")]
     Undefined { line: u32 },
-    /// More than 200,000 inputs, gates and pins.
+    /// More than 200,000 inputs, flip-flops, gates and pins of gates.
     #[error("variables {variables}")]
     TooMany { variables: u32 },
     /// Memory ran out.

@@ -1,74 +1,86 @@
 // What a statement is, without its names.
 
 ghost use Rattle.std.specs.Prelude.{◌≡◌, ◌∷◌, []};
-ghost use Rattle.hz_bench.specs.Statement.{kind_word_of, is_unknown, is_clocked, refuses_pins};
+ghost use Rattle.hz_bench.specs.Form.{form_named, is_unknown, refuses_pins};
+ghost use Rattle.hz_bench.specs.Statement.{kind_named, is_flip_flop, refuses};
 
-use hz_core::Kind;
+use hz_core::{Kind, MAX_PINS};
+use hz_line::is_keyword;
 
-/// The word in the kind's place of a gate statement.
-#[derive(Clone, Copy, Debug)]
-pub enum KindWord {
-    Known(Kind),
-    /// `DFF`, a flip-flop.
-    Clocked,
-    Unknown,
-}
-
-/// Whether a node is an input or a gate.
+/// Whether a node is an input, a flip-flop or a gate; of a gate its kind, if the word in the kind's place names one.
 #[derive(Clone, Copy, Debug)]
 pub enum Form {
     Input,
-    Gate(KindWord),
+    FlipFlop,
+    Gate(Option<Kind>),
+}
+
+// The form of a flip-flop or a gate, by the word in the kind's place.
+pub(crate) fn form_named(word: &[u8]) -> Form
+    ensures { result ≡ form_named word.now }
+{
+    if is_flip_flop(word) {
+        Form::FlipFlop
+    } else {
+        Form::Gate(kind_named(word))
+    }
+}
+
+// Whether a word is that of a flip-flop, in any letter case.
+#[tactic(auto, unfolding(crate::specs::Statement::is_flip_flop))]
+fn is_flip_flop(word: &[u8]) -> bool
+    ensures { result ≡ is_flip_flop word.now }
+{
+    is_keyword(word, b"DFF")
 }
 
 // The kind that a word names, in any letter case. No kind has more than four letters.
-#[tactic(auto, unfolding(crate::specs::Statement::kind_word_of))]
-pub(crate) fn kind_word(word: &[u8]) -> KindWord
-    ensures { result ≡ kind_word_of word.now }
+#[tactic(auto, unfolding(crate::specs::Statement::kind_named))]
+fn kind_named(word: &[u8]) -> Option<Kind>
+    ensures { result ≡ kind_named word.now }
 {
     match *word {
         [a, b] => kind_of_two(a, b),
         [a, b, c] => kind_of_three(a, b, c),
         [a, b, c, d] => kind_of_four(a, b, c, d),
-        _ => KindWord::Unknown,
+        _ => None,
     }
 }
 
 // The kind that a word of these two letters names.
-#[tactic(auto, unfolding(crate::specs::Statement::kind_word_of))]
-fn kind_of_two(a: u8, b: u8) -> KindWord
-    ensures { result ≡ kind_word_of (a ∷ b ∷ []) }
+#[tactic(auto, unfolding(crate::specs::Statement::kind_named))]
+fn kind_of_two(a: u8, b: u8) -> Option<Kind>
+    ensures { result ≡ kind_named (a ∷ b ∷ []) }
 {
     match &[a.to_ascii_lowercase(), b.to_ascii_lowercase()] {
-        b"or" => KindWord::Known(Kind::Or),
-        _ => KindWord::Unknown,
+        b"or" => Some(Kind::Or),
+        _ => None,
     }
 }
 
 // The kind that a word of these three letters names.
-#[tactic(auto, unfolding(crate::specs::Statement::kind_word_of))]
-fn kind_of_three(a: u8, b: u8, c: u8) -> KindWord
-    ensures { result ≡ kind_word_of (a ∷ b ∷ c ∷ []) }
+#[tactic(auto, unfolding(crate::specs::Statement::kind_named))]
+fn kind_of_three(a: u8, b: u8, c: u8) -> Option<Kind>
+    ensures { result ≡ kind_named (a ∷ b ∷ c ∷ []) }
 {
     match &[
         a.to_ascii_lowercase(),
         b.to_ascii_lowercase(),
         c.to_ascii_lowercase(),
     ] {
-        b"and" => KindWord::Known(Kind::And),
-        b"nor" => KindWord::Known(Kind::Nor),
-        b"xor" => KindWord::Known(Kind::Xor),
-        b"not" => KindWord::Known(Kind::Not),
-        b"buf" => KindWord::Known(Kind::Buff),
-        b"dff" => KindWord::Clocked,
-        _ => KindWord::Unknown,
+        b"and" => Some(Kind::And),
+        b"nor" => Some(Kind::Nor),
+        b"xor" => Some(Kind::Xor),
+        b"not" => Some(Kind::Not),
+        b"buf" => Some(Kind::Buff),
+        _ => None,
     }
 }
 
 // The kind that a word of these four letters names.
-#[tactic(auto, unfolding(crate::specs::Statement::kind_word_of))]
-fn kind_of_four(a: u8, b: u8, c: u8, d: u8) -> KindWord
-    ensures { result ≡ kind_word_of (a ∷ b ∷ c ∷ d ∷ []) }
+#[tactic(auto, unfolding(crate::specs::Statement::kind_named))]
+fn kind_of_four(a: u8, b: u8, c: u8, d: u8) -> Option<Kind>
+    ensures { result ≡ kind_named (a ∷ b ∷ c ∷ d ∷ []) }
 {
     match &[
         a.to_ascii_lowercase(),
@@ -76,10 +88,10 @@ fn kind_of_four(a: u8, b: u8, c: u8, d: u8) -> KindWord
         c.to_ascii_lowercase(),
         d.to_ascii_lowercase(),
     ] {
-        b"nand" => KindWord::Known(Kind::Nand),
-        b"xnor" => KindWord::Known(Kind::Xnor),
-        b"buff" => KindWord::Known(Kind::Buff),
-        _ => KindWord::Unknown,
+        b"nand" => Some(Kind::Nand),
+        b"xnor" => Some(Kind::Xnor),
+        b"buff" => Some(Kind::Buff),
+        _ => None,
     }
 }
 
@@ -88,17 +100,8 @@ impl Form {
         ensures { result ≡ is_unknown self }
     {
         match self {
-            Form::Gate(KindWord::Unknown) => true,
-            _ => false,
-        }
-    }
-
-    pub(crate) fn is_clocked(self) -> bool
-        ensures { result ≡ is_clocked self }
-    {
-        match self {
-            Form::Gate(KindWord::Clocked) => true,
-            _ => false,
+            Form::Gate(kind) => kind.is_none(),
+            Form::Input | Form::FlipFlop => false,
         }
     }
 
@@ -107,8 +110,18 @@ impl Form {
     {
         match self {
             Form::Input => false,
-            Form::Gate(KindWord::Known(kind)) => !kind.takes(pins),
-            Form::Gate(_) => pins > 256,
+            Form::FlipFlop => pins != 1,
+            Form::Gate(kind) => refuses(kind, pins),
         }
+    }
+}
+
+// Whether a gate of this kind does not take so many pins.
+fn refuses(kind: Option<Kind>, pins: usize) -> bool
+    ensures { result ≡ refuses kind pins }
+{
+    match kind {
+        Some(kind) => !kind.takes(pins),
+        None => pins > MAX_PINS,
     }
 }

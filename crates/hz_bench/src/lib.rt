@@ -6,6 +6,7 @@ mod definitions;
 mod entry;
 mod fault;
 mod forms;
+mod laws;
 mod notes;
 mod parse;
 mod printing;
@@ -15,6 +16,7 @@ mod unknown;
 mod uses;
 
 pub use fault::BenchFault;
+pub use laws::faultless_text_is_circuit;
 pub use printing::print;
 pub use reading::read;
 

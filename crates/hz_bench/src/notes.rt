@@ -9,7 +9,7 @@ use crate::entry::{Entry, OutputLine};
 use crate::forms::Form;
 use crate::statement::is_long;
 
-/// A gate with so many pins as its kind does not take.
+/// A gate with so many pins as its kind does not take, or a flip-flop that does not read one name.
 #[derive(Clone, Copy, Debug)]
 pub struct WrongPins {
     pub line: u32,
@@ -24,14 +24,14 @@ pub struct Redefinition {
 }
 
 /// What is known of the statements of a text once they are read: the first line with each fault of a single statement,
-/// and how many inputs, gates and pins they bring.
+/// how many inputs and flip-flops there are, and how many inputs, flip-flops, gates and pins of gates in all.
 #[derive(Clone, Copy, Debug)]
 pub struct Notes {
     pub long_name: Option<u32>,
     pub unknown_kind: Option<u32>,
-    pub clocked_kind: Option<u32>,
     pub wrong_pins: Option<WrongPins>,
     pub inputs: u32,
+    pub cuts: u32,
     pub variables: u32,
 }
 
@@ -43,27 +43,30 @@ impl Notes {
         Notes {
             long_name: None,
             unknown_kind: None,
-            clocked_kind: None,
             wrong_pins: None,
             inputs: 0,
+            cuts: 0,
             variables: 0,
         }
     }
 
-    // Notes one input or gate more.
+    // Notes one input, flip-flop or gate more.
     pub(crate) fn add(&mut self, entry: &Entry)
-        requires inputs { self.old.inputs ≤ self.old.variables }
+        requires inputs { self.old.inputs + self.old.cuts ≤ self.old.variables }
         requires variables { self.old.variables + variables_in (stated entry.now) < 2 ^ 32 }
         ensures { self.new ≡ noted self.old (numbered_of entry.now) }
     {
         let form = entry.form;
         note_line(&mut self.long_name, entry.long, entry.line);
         note_line(&mut self.unknown_kind, form.is_unknown(), entry.line);
-        note_line(&mut self.clocked_kind, form.is_clocked(), entry.line);
         note_pins(&mut self.wrong_pins, entry);
         match form {
             Form::Input => {
                 self.inputs += 1;
+                self.variables += 1;
+            }
+            Form::FlipFlop => {
+                self.cuts += 1;
                 self.variables += 1;
             }
             Form::Gate(_) => self.variables += 1 + entry.pins as u32,
@@ -87,7 +90,7 @@ fn note_line(first: &mut Option<u32>, here: bool, line: u32)
     }
 }
 
-// Notes the pins of a gate, where they are the first that are wrong.
+// Notes the pins of an entry, where they are the first that are wrong.
 fn note_pins(first: &mut Option<WrongPins>, entry: &Entry)
     ensures { first.new ≡ wrong_or first.old (numbered_of entry.now) }
 {

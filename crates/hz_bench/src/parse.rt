@@ -19,9 +19,9 @@ use std::alloc::Global;
 /// What was read of the statements of a text.
 #[derive(Drop)]
 pub struct Statements<'a> {
-    /// The inputs and gates, in the order of the text, up to the most variables that a circuit has.
+    /// The inputs, flip-flops and gates, in the order of the text, up to the most variables that a circuit has.
     pub nodes: Vec<Entry<'a>>,
-    /// Beyond the most variables, the gates that read a name which no line up to them defines. The others are left out, since
+    /// Beyond the most variables, the flip-flops and gates that read a name which no line up to them defines. The others are left out, since
     /// all that can be wrong with their names is known.
     pub waiting: Vec<Waiting<'a>>,
     /// The lines of the outputs, in the order of the text.
@@ -30,7 +30,7 @@ pub struct Statements<'a> {
     pub notes: Notes,
     /// The first line that defines a name again. Names are not put into the table from there on.
     pub again: Option<Redefinition>,
-    /// The names that inputs and gates define, in the order of the text.
+    /// The names that these define, in the order of the text.
     pub lines: Definitions<'a>,
 }
 
@@ -86,7 +86,7 @@ impl<'a> Statements<'a> {
 
     // Adds the next statement of the text.
     fn add(&mut self, line: Line<'a>) -> Result<(), Memory>
-        requires inputs { self.old.notes.inputs ≤ self.old.notes.variables }
+        requires inputs { self.old.notes.inputs + self.old.notes.cuts ≤ self.old.notes.variables }
         requires variables { self.old.notes.variables + variables_in (numbered_line line).statement < 2 ^ 32 }
         ensures { OnOk result (IsSorted self.old (numbered_line line.entry) self.new) }
     {
@@ -96,9 +96,9 @@ impl<'a> Statements<'a> {
         }
     }
 
-    // Adds an input or a gate.
+    // Adds an input, a flip-flop or a gate.
     fn add_node(&mut self, entry: Entry<'a>) -> Result<(), Memory>
-        requires inputs { self.old.notes.inputs ≤ self.old.notes.variables }
+        requires inputs { self.old.notes.inputs + self.old.notes.cuts ≤ self.old.notes.variables }
         requires variables { self.old.notes.variables + variables_in (stated entry) < 2 ^ 32 }
         ensures { OnOk result (IsSorted self.old (numbered_of entry.entry) self.new) }
     {

@@ -4,15 +4,15 @@ ghost use Rattle.std.specs.Prelude.{◌≡◌, ◌++◌, ◌<◌, All, IfOk, OnO
 ghost use Rattle.hz_bench.specs.Fault.{IsFaultless};
 ghost use Rattle.hz_bench.specs.Netlist.{netlist_of};
 ghost use Rattle.hz_bench.specs.Text.{statements_of};
-ghost use Rattle.hz_core.specs.Netlist.{IsCircuit, IsGateNumber, IsWhole, gate_at};
-ghost use Rattle.hz_bench.specs.Printed.{gate_head, gate_line, gate_lines, kind_name, more_sources, name_at, port_line, port_lines, printed, source_list};
+ghost use Rattle.hz_core.specs.Netlist.{IsCircuit, IsGateNumber, IsWhole, data_of, gate_at, primary_inputs};
+ghost use Rattle.hz_bench.specs.Printed.{cut_line, cut_lines, cut_text, gate_head, gate_line, gate_lines, kind_name, more_sources, name_at, port_line, port_lines, printed, source_list};
 
 use hz_core::{Circuit, Kind, Memory};
 use std::alloc::Global;
 
-/// Prints a circuit in the .bench format: first the inputs, then the outputs, then the gates, a line each, each in order,
-/// kinds in capitals and the buffer as `BUFF`, each line ended by a line feed. Where the text has at most 16,777,216 bytes,
-/// [`crate::read`] gives the circuit back.
+/// Prints a circuit in the .bench format: first the primary inputs, then the outputs, then the cuts as flip-flops, then the gates,
+/// a line each, each in order, kinds in capitals and the buffer as `BUFF`, each line ended by a line feed. If the text has at most
+/// 16,777,216 bytes, [`crate::read`] gives the circuit back.
 #[tactic(auto, unfolding(crate::specs::Printed::printed))]
 pub fn print(alloc: Global, circuit: &Circuit) -> Result<Vec<u8>, Memory>
     requires { IsWhole circuit.now }
@@ -23,16 +23,17 @@ pub fn print(alloc: Global, circuit: &Circuit) -> Result<Vec<u8>, Memory>
     let mut text = Vec::new(alloc);
     print_inputs(&mut text, circuit)?;
     print_outputs(&mut text, circuit)?;
+    print_cuts(&mut text, circuit)?;
     print_gates(&mut text, circuit)?;
     Ok(text)
 }
 
-// Prints the inputs.
+// Prints the primary inputs.
 fn print_inputs(text: &mut Vec<u8>, circuit: &Circuit) -> Result<(), Memory>
     ensures circuit { IsCircuit circuit.now }
-    ensures text { OnOk result (text.new.items ≡ text.old.items ++ port_lines (codes "INPUT") (take circuit.now.inputs circuit.now.names)) }
+    ensures text { OnOk result (text.new.items ≡ text.old.items ++ port_lines (codes "INPUT") (take (primary_inputs circuit.now) circuit.now.names)) }
 {
-    for node in 0..circuit.inputs() {
+    for node in 0..circuit.primary_inputs() {
         match print_port(text, b"INPUT", circuit, node) {
             Ok(()) => {}
             Err(Memory) => return Err(Memory),
@@ -64,6 +65,41 @@ fn print_port(text: &mut Vec<u8>, word: &[u8], circuit: &Circuit, node: u32) -> 
     put(text, word)?;
     put(text, b"(")?;
     put(text, circuit.name(node))?;
+    put(text, b")\n")
+}
+
+// Prints the cuts.
+fn print_cuts(text: &mut Vec<u8>, circuit: &Circuit) -> Result<(), Memory>
+    ensures { OnOk result (text.new.items ≡ text.old.items ++ cut_lines circuit.now.names (primary_inputs circuit.now) circuit.now.cuts) }
+{
+    for cut in circuit.primary_inputs()..circuit.inputs() {
+        match print_cut(text, circuit, cut) {
+            Ok(()) => {}
+            Err(Memory) => return Err(Memory),
+        }
+    }
+    Ok(())
+}
+
+// Prints the line of a cut.
+fn print_cut(text: &mut Vec<u8>, circuit: &Circuit, cut: u32) -> Result<(), Memory>
+    requires { cut < circuit.now.inputs }
+    ensures { OnOk result (text.new.items ≡ text.old.items ++ cut_text circuit.now.names (name_at circuit.now.names cut) (data_of circuit.now cut)) }
+{
+    match circuit.data_of(cut) {
+        Some(node) => print_flip_flop(text, circuit.name(cut), circuit.name(node)),
+        None => Ok(()),
+    }
+}
+
+// Prints the line of a flip-flop with this name, which reads this source.
+#[tactic(auto, unfolding(crate::specs::Printed::cut_line))]
+fn print_flip_flop(text: &mut Vec<u8>, name: &[u8], source: &[u8]) -> Result<(), Memory>
+    ensures { OnOk result (text.new.items ≡ text.old.items ++ cut_line name.now source.now) }
+{
+    put(text, name)?;
+    put(text, b" = DFF(")?;
+    put(text, source)?;
     put(text, b")\n")
 }
 

@@ -23,9 +23,10 @@ use std::alloc::Global;
 /// Reads a netlist in the .bench format.
 ///
 /// A text is cut into lines, a comment from `#` on is left out, and each line that has tokens is one statement:
-/// `INPUT(name)`, `OUTPUT(name)` or `name = KIND(name, ..)`. `INPUT`, `OUTPUT` and the kinds are read in any letter
-/// case, `BUF` equals `BUFF`, and names may be used before they are defined. The circuit has the inputs, the gates and
-/// the outputs each in the order of the text. It takes time linear in the text.
+/// `INPUT(name)`, `OUTPUT(name)`, `name = DFF(name)` or `name = KIND(name, ..)`. `INPUT`, `OUTPUT`, `DFF` and the kinds
+/// are read in any letter case, `BUF` equals `BUFF`, and names may be used before they are defined. The circuit has the inputs,
+/// the gates and the outputs each in the order of the text. A flip-flop is cut: it is an input after all others, and the node that it
+/// reads is an output after all others. It takes time linear in the text.
 pub fn read(alloc: Global, text: &[u8]) -> Result<Circuit, BenchFault>
     requires { length text.now ≤ 16777216 }
     ensures circuit { IfOk result (λ circuit. circuit ≡ netlist_of (statements_of text.now)) }
@@ -74,9 +75,6 @@ fn check(alloc: Global, statements: &Statements) -> Result<Uses, BenchFault>
     }
     if let Some(line) = notes.unknown_kind {
         return Err(BenchFault::KindUnknown { line });
-    }
-    if let Some(line) = notes.clocked_kind {
-        return Err(BenchFault::Clocked { line });
     }
     if let Some(Redefinition { line, first }) = statements.again {
         return Err(BenchFault::Twice { line, first });

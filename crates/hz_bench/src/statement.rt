@@ -6,7 +6,7 @@ ghost use Rattle.hz_bench.specs.Head.{IsRead, IsMarkedFirst, IsHeadOf, head_toke
 ghost use Rattle.hz_bench.specs.Statement.{is_long};
 
 use crate::entry::{Entry, Line, OutputLine};
-use crate::forms::{Form, kind_word};
+use crate::forms::{Form, form_named};
 use hz_line::{Mark, first_mark, first_word, is_bare, is_keyword};
 
 /// The statement of a line, if it has one. It takes no memory.
@@ -103,7 +103,7 @@ fn port<'a>(line: u32, text: &'a [u8], head: &Head<'a>) -> Option<Line<'a>>
     }
 }
 
-// The gate `NAME = KIND ( NAME , .. NAME )`.
+// The flip-flop or gate `NAME = KIND ( NAME , .. NAME )`.
 fn gate<'a>(line: u32, text: &'a [u8], head: &Head<'a>) -> Option<Line<'a>>
     requires tokens { tokens_of text.now ≡ head_tokens head.now }
     requires equals { head.now.mark ≡ Mark.Equals }
@@ -114,7 +114,7 @@ fn gate<'a>(line: u32, text: &'a [u8], head: &Head<'a>) -> Option<Line<'a>>
     let names = names(head.rest)?;
     Some(Line::Node(Entry {
         line,
-        form: Form::Gate(kind_word(head.second)),
+        form: form_named(head.second),
         long: names.has_long_after(head.first),
         name: head.first,
         sources: head.rest,

@@ -28,7 +28,10 @@ fn refuses(rt: HostRuntime) -> Result<(), Fail> {
             b"INPUT(a)\nOUTPUT(g)\ng = FOO(a)\n",
             BenchFault::KindUnknown { line: 3 },
         ),
-        (b"INPUT(a)\ng = dff(a)\n", BenchFault::Clocked { line: 2 }),
+        (
+            b"INPUT(a)\ng = dff(a, a)\n",
+            BenchFault::Pins { line: 2, count: 2 },
+        ),
         (
             b"INPUT(a)\ng = NOT(a)\n#\n#\ng = BUF(a)\n",
             BenchFault::Twice { line: 5, first: 2 },
@@ -50,8 +53,8 @@ fn refuses(rt: HostRuntime) -> Result<(), Fail> {
         (b"INPUT(a)\r\r\n", BenchFault::Form { line: 1 }),
         (b"INPUT(a)\xff#\n", BenchFault::Form { line: 1 }),
         (
-            b"g = DFF(h)\nf = FOO(g)\n",
-            BenchFault::KindUnknown { line: 2 },
+            b"g = DFF(h)\nf = AND(g)\n",
+            BenchFault::Undefined { line: 1 },
         ),
         (
             b"INPUT(a)\nOUTPUT(h)\nINPUT(a)\n",
@@ -81,6 +84,17 @@ fn prints(rt: HostRuntime) -> Result<(), Fail> {
         b"INPUT(a)\nINPUT($b[1])\nOUTPUT(h)\nOUTPUT(a)\nc = AND(a, a, $b[1])\nd = NAND(c)\ne = OR(d)\nf = NOR(e)\ng = XOR(f, g)\nh = XNOR(g)\ni = NOT(h)\nj = BUFF(i)\n";
     let again = printed(rt.alloc(), text)?;
     assert_eq!(rt; again.as_slice(), text.as_slice());
+    Ok(())
+}
+
+#[test]
+fn cuts_flip_flops(rt: HostRuntime) -> Result<(), Fail> {
+    let again = printed(
+        rt.alloc(),
+        b"INPUT(a)\nOUTPUT(y)\nq = dff(d)\nd = AND(a, q)\ny = NOT(q)\n",
+    )?;
+    let plain = b"INPUT(a)\nOUTPUT(y)\nOUTPUT(d)\nq = DFF(d)\nd = AND(a, q)\ny = NOT(q)\n";
+    assert_eq!(rt; again.as_slice(), plain.as_slice());
     Ok(())
 }
 

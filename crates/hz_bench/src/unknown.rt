@@ -24,7 +24,7 @@ pub(crate) fn first_unknown(statements: &Statements) -> Option<u32>
     earlier(source, output)
 }
 
-// The line of the first gate with a source that the table does not have. Those that wait come after all others.
+// The line of the first flip-flop or gate with a source that the table does not have. Those that wait come after all others.
 #[tactic(auto, using(crate::proofs::GatheredLemmas::first_line_append))]
 fn first_unknown_source(statements: &Statements) -> Option<u32>
     ensures { result ≡ unknown_source statements.now }
@@ -47,7 +47,7 @@ fn first_unknown_entry(nodes: &[Entry], lines: &Definitions) -> Option<u32>
     None
 }
 
-// The same of gates that wait.
+// The same of those that wait.
 fn first_unknown_waiting(waiting: &[Waiting], lines: &Definitions) -> Option<u32>
     ensures { result ≡ first_line (reads_missing lines.now) (waiting_list waiting.now) }
 {

@@ -7,7 +7,7 @@ ghost use Rattle.indexmap.specs.IndexMap.{index_map_len};
 ghost use Rattle.hz_bench.specs.Check.{earlier};
 ghost use Rattle.hz_bench.specs.Definition.{defined_names};
 ghost use Rattle.hz_bench.specs.Entry.{stated, numbered_list, numbered_outputs, statement_list, output_list};
-ghost use Rattle.hz_bench.specs.Netlist.{input_names, node_names, output_names, number_in};
+ghost use Rattle.hz_bench.specs.Netlist.{input_names, cut_names, node_names, output_names, number_in};
 ghost use Rattle.hz_bench.specs.Pass.{IsListed};
 ghost use Rattle.hz_bench.specs.FaultIn.{unknown_line};
 ghost use Rattle.hz_bench.specs.Statement.{sources_of, used_names};
@@ -18,6 +18,7 @@ use crate::definitions::{Definitions, place_of};
 use crate::entry::{Entry, OutputLine};
 use crate::fault::BenchFault;
 use crate::forms::Form;
+use crate::notes::Notes;
 use crate::parse::Statements;
 use crate::statement::marked_word;
 use hz_core::Memory;
@@ -26,7 +27,7 @@ use std::alloc::Global;
 /// The nodes that statements use, by their numbers.
 #[derive(Drop)]
 pub struct Uses {
-    /// The node that each pin reads, gate by gate in the order of the text.
+    /// The node that each pin or flip-flop reads, in the order of the text.
     pub pins: Vec<u32>,
     /// The node of each output line.
     pub outputs: Vec<u32>,
@@ -41,7 +42,7 @@ pub(crate) fn resolve(alloc: Global, statements: &Statements) -> Result<Uses, Be
 {
     let nodes = statements.nodes.as_slice();
     let lines = &statements.lines;
-    let Ok(numbers) = number_nodes(alloc, nodes, statements.notes.inputs) else {
+    let Ok(numbers) = number_nodes(alloc, nodes, &statements.notes) else {
         return Err(BenchFault::Memory);
     };
     let mut uses = Uses {
@@ -76,10 +77,11 @@ pub(crate) fn earlier(one: Option<u32>, other: Option<u32>) -> Option<u32>
     }
 }
 
-// The number of each node in the order of the text: inputs, of which there are so many, are numbered before gates.
-fn number_nodes(alloc: Global, nodes: &[Entry], inputs: u32) -> Result<Vec<u32>, Memory>
+// The number of each node in the order of the text: inputs are numbered before flip-flops, and these before gates.
+fn number_nodes(alloc: Global, nodes: &[Entry], notes: &Notes) -> Result<Vec<u32>, Memory>
     requires few { length nodes.now < 2 ^ 31 }
-    requires inputs { inputs ≡ length (input_names (statement_list nodes.now)) }
+    requires inputs { notes.now.inputs ≡ length (input_names (statement_list nodes.now)) }
+    requires cuts { notes.now.cuts ≡ length (cut_names (statement_list nodes.now)) }
     requires once { twice_fault (numbered_list nodes.now) ≡ None }
     ensures { IfOk result (λ numbers. numbers.items ≡ map (number_in (node_names (statement_list nodes.now))) (defined_names (statement_list nodes.now))) }
 {
@@ -87,7 +89,8 @@ fn number_nodes(alloc: Global, nodes: &[Entry], inputs: u32) -> Result<Vec<u32>,
         return Err(Memory);
     };
     let mut input = 0u32;
-    let mut gate = inputs;
+    let mut cut = notes.inputs;
+    let mut gate = notes.inputs + notes.cuts;
     for entry in nodes {
         match entry.form {
             Form::Input => {
@@ -95,6 +98,12 @@ fn number_nodes(alloc: Global, nodes: &[Entry], inputs: u32) -> Result<Vec<u32>,
                     return Err(Memory);
                 };
                 input += 1;
+            }
+            Form::FlipFlop => {
+                let Ok(()) = numbers.push(cut) else {
+                    return Err(Memory);
+                };
+                cut += 1;
             }
             Form::Gate(_) => {
                 let Ok(()) = numbers.push(gate) else {
@@ -107,7 +116,7 @@ fn number_nodes(alloc: Global, nodes: &[Entry], inputs: u32) -> Result<Vec<u32>,
     Ok(numbers)
 }
 
-// The nodes that the pins read, or the line of the first gate with a source that the table does not have.
+// The nodes that pins and flip-flops read, or the line of the first of them with a source that the table does not have.
 fn resolve_pins(
     nodes: &[Entry],
     lines: &Definitions,
@@ -128,7 +137,7 @@ fn resolve_pins(
     Ok(None)
 }
 
-// The nodes that the pins of a statement read; whether the table does not have some source.
+// The nodes that a statement reads; whether the table does not have some source.
 fn resolve_sources(
     entry: &Entry,
     lines: &Definitions,

@@ -7,9 +7,9 @@ use Rattle.hz_core.specs.declared.kind.Kind.{Kind}
 use Rattle.hz_core.specs.declared.kind.Kind.TheVariants.{And}
 use Rattle.hz_core.specs.declared.circuit.Circuit.TheInside.{Inside}
 use Rattle.hz_core.specs.Inside.{netlist_of, HoldsCircuit}
-use Rattle.hz_core.specs.Netlist.{Gate, Netlist, IsName, IsCircuit, IsGateNumber, pin_count, variable_count, most_pins, gate_at, node_named, empty_netlist, with_input, with_gate, with_source, with_pin}
+use Rattle.hz_core.specs.Netlist.{Gate, Netlist, IsName, IsCircuit, IsGateNumber, pin_count, variable_count, most_pins, gate_at, node_named, empty_netlist, with_input, with_cut, with_gate, with_source, with_pin}
 use Rattle.hz_core.proofs.ListLemmas.{names_grow, get_or-default}
-use Rattle.hz_core.proofs.CircuitLemmas.{IsCircuit-empty, IsCircuit-with_input, IsCircuit-with_gate, IsCircuit-with_pin, pin_count-with_gate, pin_count-with_pin, same_netlist}
+use Rattle.hz_core.proofs.CircuitLemmas.{IsCircuit-empty, IsCircuit-with_input, IsCircuit-with_cut, IsCircuit-with_gate, IsCircuit-with_pin, pin_count-with_gate, pin_count-with_pin, same_netlist}
 
 -- the names after a new one came
 name_came :
@@ -33,17 +33,18 @@ circuit_of fields netlist same holds = subst IsCircuit same holds.circuit
 
 -- the fields of a new circuit
 pub HoldsCircuit-empty :
-    (fields : Inside) → fields.names.keys ≡ [] → fields.inputs ≡ 0 → fields.gates.items ≡ [] → fields.outputs.keys ≡ [] →
-    fields.pins ≡ 0 → HoldsCircuit fields
-HoldsCircuit-empty fields names inputs gates outputs pins =
+    (fields : Inside) → fields.names.keys ≡ [] → fields.inputs ≡ 0 → fields.cuts.items ≡ [] → fields.gates.items ≡ [] →
+    fields.outputs.keys ≡ [] → fields.pins ≡ 0 → HoldsCircuit fields
+HoldsCircuit-empty fields names inputs cuts gates outputs pins =
     holds_circuit fields empty_netlist
-    (same_netlist (netlist_of fields) empty_netlist names inputs gates outputs)
+    (same_netlist (netlist_of fields) empty_netlist names inputs cuts gates outputs)
     IsCircuit-empty pins
 
 -- the fields from old to new, where an input came
 pub record InputComes (old new : Inside) (key : List ℕ) : Type 0 where
   pub names : new.names.keys ≡ insert_key bytes_eq old.names.keys key
   pub inputs : new.inputs ≡ old.inputs + 1
+  pub cuts : new.cuts.items ≡ old.cuts.items
   pub gates : new.gates.items ≡ old.gates.items
   pub outputs : new.outputs.keys ≡ old.outputs.keys
   pub pins : new.pins ≡ old.pins
@@ -54,7 +55,7 @@ pub view-InputComes :
     node_named netlist name ≡ None → key ≡ name → InputComes old new key → netlist_of new ≡ with_input netlist name
 view-InputComes old new netlist key name same fresh is comes =
     same_netlist (netlist_of new) (with_input (netlist_of old) name) (name_came old new netlist key name same fresh is comes.names)
-    comes.inputs comes.gates comes.outputs ∙ ap (λ n. with_input n name) same
+    comes.inputs comes.cuts comes.gates comes.outputs ∙ ap (λ n. with_input n name) same
 
 -- and the invariant holds again
 pub HoldsCircuit-InputComes :
@@ -66,10 +67,38 @@ HoldsCircuit-InputComes old new netlist key name same fresh is comes holds is_na
     (IsCircuit-with_input netlist name (circuit_of old netlist same holds) is_name fresh no_gate room)
     (comes.pins ∙ holds.counted ∙ ap pin_count same)
 
+-- the fields from old to new, where a cut came
+pub record CutComes (old new : Inside) (key : List ℕ) : Type 0 where
+  pub names : new.names.keys ≡ insert_key bytes_eq old.names.keys key
+  pub inputs : new.inputs ≡ old.inputs + 1
+  pub cuts : new.cuts.items ≡ old.cuts.items ++ None ∷ []
+  pub gates : new.gates.items ≡ old.gates.items
+  pub outputs : new.outputs.keys ≡ old.outputs.keys
+  pub pins : new.pins ≡ old.pins
+
+-- then the circuit is the definition's
+pub view-CutComes :
+    (old new : Inside) (netlist : Netlist) (key name : List ℕ) → netlist_of old ≡ netlist →
+    node_named netlist name ≡ None → key ≡ name → CutComes old new key → netlist_of new ≡ with_cut netlist name
+view-CutComes old new netlist key name same fresh is comes =
+    same_netlist (netlist_of new) (with_cut (netlist_of old) name) (name_came old new netlist key name same fresh is comes.names)
+    comes.inputs comes.cuts comes.gates comes.outputs ∙ ap (λ n. with_cut n name) same
+
+-- and the invariant holds again
+pub HoldsCircuit-CutComes :
+    (old new : Inside) (netlist : Netlist) (key name : List ℕ) → netlist_of old ≡ netlist →
+    node_named netlist name ≡ None → key ≡ name → CutComes old new key → HoldsCircuit old → IsName name →
+    netlist.gates ≡ [] → variable_count netlist < 200000 → HoldsCircuit new
+HoldsCircuit-CutComes old new netlist key name same fresh is comes holds is_name no_gate room =
+    holds_circuit new (with_cut netlist name) (view-CutComes old new netlist key name same fresh is comes)
+    (IsCircuit-with_cut netlist name (circuit_of old netlist same holds) is_name fresh no_gate room)
+    (comes.pins ∙ holds.counted ∙ ap pin_count same)
+
 -- the fields from old to new, where a gate came
 pub record GateComes (old new : Inside) (key : List ℕ) (kind : Kind) : Type 0 where
   pub names : new.names.keys ≡ insert_key bytes_eq old.names.keys key
   pub inputs : new.inputs ≡ old.inputs
+  pub cuts : new.cuts.items ≡ old.cuts.items
   pub gates : new.gates.items ≡ old.gates.items ++ record { kind = kind; sources = [] } ∷ []
   pub outputs : new.outputs.keys ≡ old.outputs.keys
   pub pins : new.pins ≡ old.pins
@@ -80,7 +109,7 @@ pub view-GateComes :
     node_named netlist name ≡ None → key ≡ name → GateComes old new key kind → netlist_of new ≡ with_gate netlist name kind
 view-GateComes old new netlist key name kind same fresh is comes =
     same_netlist (netlist_of new) (with_gate (netlist_of old) name kind) (name_came old new netlist key name same fresh is comes.names)
-    comes.inputs comes.gates comes.outputs ∙ ap (λ n. with_gate n name kind) same
+    comes.inputs comes.cuts comes.gates comes.outputs ∙ ap (λ n. with_gate n name kind) same
 
 -- and the invariant holds again
 pub HoldsCircuit-GateComes :
@@ -96,6 +125,7 @@ HoldsCircuit-GateComes old new netlist key name kind same fresh is comes holds i
 pub record PinComes (old new : Inside) (was : Gate) (node source : ℕ) : Type 0 where
   pub names : new.names.keys ≡ old.names.keys
   pub inputs : new.inputs ≡ old.inputs
+  pub cuts : new.cuts.items ≡ old.cuts.items
   pub gates : new.gates.items ≡ set old.gates.items (node - old.inputs) (with_source was source)
   pub read : was ≡ get_or old.gates.items (node - old.inputs) was
   pub outputs : new.outputs.keys ≡ old.outputs.keys
@@ -111,7 +141,7 @@ view-PinComes old new netlist was node source same holds is_gate comes =
     let read : was ≡ gate_at (netlist_of old) node =
     comes.read ∙ get_or-default old.gates.items (node - old.inputs) was (record { kind = And; sources = [] }) within in
     same_netlist (netlist_of new) (with_pin (netlist_of old) node source) comes.names
-    comes.inputs
+    comes.inputs comes.cuts
     (comes.gates ∙ ap (λ gate. set old.gates.items (node - old.inputs) (with_source gate source)) read)
     comes.outputs ∙ ap (λ n. with_pin n node source) same
 

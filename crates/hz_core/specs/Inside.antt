@@ -9,6 +9,7 @@ netlist_of fields =
     record {
       names = fields.names.keys;
       inputs = fields.inputs;
+      cuts = fields.cuts.items;
       gates = fields.gates.items;
       outputs = fields.outputs.keys;
     }

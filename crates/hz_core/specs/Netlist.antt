@@ -1,5 +1,5 @@
--- Circuits: named inputs, gates with their sources, and outputs.
-use Rattle.std.specs.Prelude.{◌≡◌, ℕ, ◌+◌, ◌-◌, ◌<◌, ◌≤◌, Bool, not, ◌||◌, ◌&&◌, List, [], ◌∷◌, ◌++◌, length, All, IsTrue, Option, position, sum_by, nat_le, ◌==◌, nat_eq, slice_set, if◌then◌else◌}
+-- Circuits: named inputs, flip-flops that are cut, gates with their sources, and outputs.
+use Rattle.std.specs.Prelude.{◌≡◌, ℕ, ◌+◌, ◌-◌, ◌<◌, ◌≤◌, Bool, false, not, ◌||◌, ◌&&◌, List, [], ◌∷◌, ◌++◌, length, All, IsTrue, Option, None, Some, position, sum_by, nat_le, ◌==◌, nat_eq, slice_set, if◌then◌else◌}
 use Rattle.std.specs.List.{slice_index_or, list_any, list_all, IsDistinct}
 use Rattle.std.specs.Str.{bytes_eq}
 use Rattle.hz_core.specs.declared.kind.Kind.{Kind}
@@ -10,10 +10,12 @@ pub record Gate : Type 0 where
   pub kind : Kind
   pub sources : List ℕ
 
--- A circuit. Its nodes are numbered from 0, inputs before gates; a node's number is the place of its name.
+-- A circuit. Its nodes are numbered from 0, inputs before gates; a node's number is the place of its name. The last inputs are
+-- cuts: each stands for the output of a flip-flop, and has the node that the flip-flop reads, its data node, once that is set.
 pub record Netlist : Type 0 where
   pub names : List (List ℕ)
   pub inputs : ℕ
+  pub cuts : List (Option ℕ)
   pub gates : List Gate
   pub outputs : List ℕ
 
@@ -47,6 +49,23 @@ most_pins Nor = 256
 most_pins Xor = 256
 most_pins Xnor = 256
 
+-- how many inputs are no cuts: these, the primary inputs, come first
+abbrev pub primary_inputs : Netlist → ℕ
+primary_inputs netlist = netlist.inputs - length netlist.cuts
+
+-- the node is an input that is no cut: a start must list it
+abbrev pub IsPrimaryInput : Netlist → ℕ → Type 0
+IsPrimaryInput netlist node = node < primary_inputs netlist
+
+-- the node is a cut
+abbrev pub IsCutNumber : Netlist → ℕ → Type 0
+IsCutNumber netlist node = (primary_inputs netlist ≤ node) × (node < netlist.inputs)
+
+-- the data node of a cut, if it is set; an input that is no cut has none
+abbrev pub data_of : Netlist → ℕ → Option ℕ
+data_of netlist input =
+    if nat_le (primary_inputs netlist) input then slice_index_or netlist.cuts (input - primary_inputs netlist) None else None
+
 -- the node is a gate: gates are numbered after the inputs
 abbrev pub IsGateNumber : Netlist → ℕ → Type 0
 IsGateNumber netlist node = (netlist.inputs ≤ node) × (node < length netlist.names)
@@ -61,11 +80,20 @@ node_named netlist name = position (bytes_eq name) netlist.names
 
 -- the circuit without nodes
 abbrev pub empty_netlist : Netlist
-empty_netlist = record { names = []; inputs = 0; gates = []; outputs = [] }
+empty_netlist = record { names = []; inputs = 0; cuts = []; gates = []; outputs = [] }
 
 -- the circuit with one input more, after its last node
 abbrev pub with_input : Netlist → List ℕ → Netlist
 with_input netlist name = record netlist { names = netlist.names ++ name ∷ []; inputs = netlist.inputs + 1 }
+
+-- the circuit with one cut more, which has no data node yet, after its last node
+abbrev pub with_cut : Netlist → List ℕ → Netlist
+with_cut netlist name =
+    record netlist { names = netlist.names ++ name ∷ []; inputs = netlist.inputs + 1; cuts = netlist.cuts ++ None ∷ [] }
+
+-- the circuit with this data node for a cut
+abbrev pub with_data : Netlist → ℕ → ℕ → Netlist
+with_data netlist cut node = record netlist { cuts = slice_set netlist.cuts (cut - primary_inputs netlist) (Some node) }
 
 -- the circuit with one gate more, which has no pin yet, after its last node
 abbrev pub with_gate : Netlist → List ℕ → Kind → Netlist
@@ -98,16 +126,29 @@ pub record IsGateAmong (nodes : ℕ) (gate : Gate) : Type 0 where
   pub pins : length gate.sources ≤ most_pins gate.kind
   pub sources : All (λ source. source < nodes) gate.sources
 
+-- a data node of a circuit that has so many nodes is one of them, if it is set
+abbrev pub IsDataAmong : ℕ → Option ℕ → Type 0
+IsDataAmong nodes None = Unit {0}
+IsDataAmong nodes (Some node) = node < nodes
+
 -- what holds of every circuit
 pub record IsCircuit (netlist : Netlist) : Type 0 where
   pub names : All IsName netlist.names
   pub names_distinct : IsDistinct bytes_eq netlist.names
   pub nodes : length netlist.names ≡ netlist.inputs + length netlist.gates
+  pub cuts : length netlist.cuts ≤ netlist.inputs
+  pub data_nodes : All (IsDataAmong (length netlist.names)) netlist.cuts
   pub gates : All (IsGateAmong (length netlist.names)) netlist.gates
   pub outputs : All (λ node. node < length netlist.names) netlist.outputs
   pub outputs_distinct : IsDistinct nat_eq netlist.outputs
   pub variables : variable_count netlist ≤ 200000
 
--- each gate has a pin
-abbrev pub IsWhole : Netlist → Type 0
-IsWhole netlist = All (λ gate. 1 ≤ length gate.sources) netlist.gates
+-- a cut has a data node, which is one of the outputs
+abbrev pub has_output : List ℕ → Option ℕ → Bool
+has_output outputs None = false
+has_output outputs (Some node) = list_any (nat_eq node) outputs
+
+-- each gate has a pin, and each cut has a data node, which is an output
+pub record IsWhole (netlist : Netlist) : Type 0 where
+  pub gates : All (λ gate. 1 ≤ length gate.sources) netlist.gates
+  pub cuts : All (λ node. IsTrue (has_output netlist.outputs node)) netlist.cuts

@@ -1,6 +1,7 @@
-//! Circuits: named inputs, gates with their sources, and outputs.
-ghost use Rattle.std.specs.Prelude.{◌≡◌, ◌+◌, ◌<◌, ◌≤◌, ◌↔◌, length, slice_get, Some, None, IsTrue, IfOk, OnOk, OnErr, [], All};
-ghost use Rattle.hz_core.specs.Netlist.{IsName, IsCircuit, IsGateNumber, IsWhole, node_named, variable_count, most_pins, gate_at, empty_netlist, with_input, with_gate, with_pin, with_output};
+//! Circuits: named inputs, flip-flops that are cut, gates with their sources, and outputs.
+ghost use Rattle.std.specs.Prelude.{◌≡◌, ◌+◌, ◌<◌, ◌≤◌, ◌↔◌, length, slice_get, Some, None, IsTrue, IfOk, IsOk, OnOk, OnErr, [], All, nat_eq};
+ghost use Rattle.std.specs.List.{list_any};
+ghost use Rattle.hz_core.specs.Netlist.{IsName, IsCircuit, IsCutNumber, IsGateNumber, IsWhole, node_named, variable_count, primary_inputs, most_pins, data_of, has_output, gate_at, empty_netlist, with_input, with_cut, with_data, with_gate, with_pin, with_output};
 
 use crate::gate::GateEntry;
 use crate::name::{Name, NameEntry};
@@ -18,10 +19,14 @@ pub const MAX_VARIABLES: u32 = 200_000;
 ///
 /// A node is an input or a gate. Nodes are numbered from 0 in the order in which they were added, inputs before gates, and
 /// each has a name. Each pin of a gate reads a node, its source.
+///
+/// A flip-flop is cut: its output is an input, which comes after the primary inputs, and the node that it reads is its data
+/// node. So a clocked circuit is one without flip-flops between two edges of its clock.
 #[derive(Debug, Drop)]
 pub struct Circuit {
     names: IndexSet<NameEntry, BuildHasherDefault<NameHasher>>,
     inputs: u32,
+    cuts: Vec<Option<u32>>,
     gates: Vec<GateEntry>,
     outputs: IndexSet<u32>,
     pins: u32,
@@ -47,16 +52,18 @@ impl Circuit {
         Circuit {
             names: IndexSet::with_hasher(alloc, BuildHasherDefault::new()),
             inputs: 0,
+            cuts: Vec::new(alloc),
             gates: Vec::new(alloc),
             outputs: IndexSet::new(alloc),
             pins: 0,
         }
     }
 
-    /// Adds an input, and answers its number. Inputs come before gates.
+    /// Adds a primary input, and answers its number. Primary inputs come before cuts, and cuts before gates.
     pub fn add_input(&mut self, name: &[u8]) -> Result<u32, Memory>
         requires name { IsName name.now }
         requires fresh { node_named self.old name.now ≡ None }
+        requires no_cut { self.old.cuts ≡ [] }
         requires no_gate { self.old.gates ≡ [] }
         requires room { variable_count self.old < 200000 }
         ensures ok { IfOk result (λ number. (number ≡ length self.old.names) × (self.new ≡ with_input self.old name.now)) }
@@ -71,6 +78,40 @@ impl Circuit {
         };
         self.inputs += 1;
         Ok(number)
+    }
+
+    /// Adds a cut, which has no data node yet, and answers its number.
+    pub fn add_cut(&mut self, name: &[u8]) -> Result<u32, Memory>
+        requires name { IsName name.now }
+        requires fresh { node_named self.old name.now ≡ None }
+        requires no_gate { self.old.gates ≡ [] }
+        requires room { variable_count self.old < 200000 }
+        ensures ok { IfOk result (λ number. (number ≡ length self.old.names) × (self.new ≡ with_cut self.old name.now)) }
+        ensures err { OnErr result (self.new ≡ self.old) }
+    {
+        let number = self.names.len() as u32;
+        let Ok(entry) = NameEntry::new(*self.names.allocator(), name) else {
+            return Err(Memory);
+        };
+        let Ok(()) = self.cuts.reserve(1) else {
+            return Err(Memory);
+        };
+        let Ok(_) = self.names.insert(entry) else {
+            return Err(Memory);
+        };
+        self.cuts.push_reserved(None);
+        self.inputs += 1;
+        Ok(number)
+    }
+
+    /// Makes a node the data node of a cut.
+    pub fn set_data(&mut self, cut: u32, node: u32)
+        requires cut { IsCutNumber self.old cut }
+        requires node { node < length self.old.names }
+        ensures { self.new ≡ with_data self.old cut node }
+    {
+        let place = cut as usize + self.cuts.len() - self.inputs as usize;
+        self.cuts[place] = Some(node);
     }
 
     /// Adds a gate, which has no pin yet, and answers its number.
@@ -116,6 +157,7 @@ impl Circuit {
     /// Makes a node an output. One that is an output already stays in its place.
     pub fn add_output(&mut self, node: u32) -> Result<(), Memory>
         requires { node < length self.old.names }
+        ensures there { IsTrue (list_any (nat_eq node) self.old.outputs) → IsOk result }
         ensures ok { OnOk result (self.new ≡ with_output self.old node) }
         ensures err { OnErr result (self.new ≡ self.old) }
     {
@@ -143,12 +185,33 @@ impl Circuit {
         self.names.as_slice()[node as usize].as_slice()
     }
 
-    /// The number of inputs.
+    /// The number of inputs, cuts among them.
     pub fn inputs(&self) -> u32
         ensures inputs { result ≡ self.now.inputs }
         ensures circuit { IsCircuit self.now }
     {
         self.inputs
+    }
+
+    /// The number of inputs that are no cuts. They come first.
+    pub fn primary_inputs(&self) -> u32
+        ensures inputs { result ≡ primary_inputs self.now }
+        ensures circuit { IsCircuit self.now }
+    {
+        self.inputs - self.cuts.len() as u32
+    }
+
+    /// The data node of a cut: None for an input that is no cut, and for a cut whose data node is not set.
+    pub fn data_of(&self, input: u32) -> Option<u32>
+        requires { input < self.now.inputs }
+        ensures node { result ≡ data_of self.now input }
+        ensures circuit { IsCircuit self.now }
+    {
+        let first = self.inputs - self.cuts.len() as u32;
+        if input < first {
+            return None;
+        }
+        self.cuts[(input - first) as usize]
     }
 
     /// The number of nodes.
@@ -194,12 +257,14 @@ impl Circuit {
         self.outputs.as_slice()
     }
 
-    /// Whether each gate has a pin. Then each has as many as its kind takes.
+    /// Whether each gate has a pin, and each cut a data node that is an output. Then each gate has as many pins as its kind
+    /// takes.
     pub fn whole(&self) -> bool
         ensures whole { IsTrue result ↔ IsWhole self.now }
         ensures circuit { IsCircuit self.now }
     {
         every_gate_has_pins(self.gates.as_slice())
+            && every_cut_has_output(self.cuts.as_slice(), &self.outputs)
     }
 }
 
@@ -208,6 +273,23 @@ fn every_gate_has_pins(gates: &[GateEntry]) -> bool
     ensures { IsTrue result ↔ All (λ gate. 1 ≤ length gate.sources) gates.now }
 {
     gates.iter().all(|gate| gate.has_pins())
+}
+
+// Whether each cut has a data node that is an output.
+fn every_cut_has_output(cuts: &[Option<u32>], outputs: &IndexSet<u32>) -> bool
+    ensures { IsTrue result ↔ All (λ node. IsTrue (has_output outputs.now.keys node)) cuts.now }
+{
+    cuts.iter().all(|node| is_output(outputs, *node))
+}
+
+// Whether there is a data node, and it is an output.
+fn is_output(outputs: &IndexSet<u32>, node: Option<u32>) -> bool
+    ensures { result ≡ has_output outputs.now.keys node }
+{
+    match node {
+        Some(node) => outputs.contains(&node),
+        None => false,
+    }
 }
 
 #[cfg(test)]
@@ -249,6 +331,21 @@ mod tests {
         assert_eq!(rt; circuit.sources(2), [1, 3].as_slice());
         assert_eq!(rt; circuit.sources(3), [0, 2].as_slice());
         assert_eq!(rt; circuit.outputs(), [3, 2].as_slice());
+        assert!(rt; circuit.whole());
+        Ok(())
+    }
+
+    #[test]
+    fn flip_flop_is_cut(rt: HostRuntime) -> Result<(), Fail> {
+        let mut circuit = Circuit::new(rt.alloc());
+        let cut = circuit.add_cut(b"q")?;
+        let gate = circuit.add_gate(b"d", Kind::Not)?;
+        circuit.connect(gate, cut)?;
+        assert_eq!(rt; circuit.data_of(cut), None);
+        circuit.set_data(cut, gate);
+        assert_eq!(rt; circuit.data_of(cut), Some(1));
+        assert!(rt; !circuit.whole());
+        circuit.add_output(gate)?;
         assert!(rt; circuit.whole());
         Ok(())
     }

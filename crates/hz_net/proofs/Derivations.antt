@@ -9,10 +9,10 @@ use Rattle.hz_core.specs.declared.tri.Tri.TheVariants.{Zero, One, Unknown}
 use Rattle.hz_core.specs.Ternary.{tri_of, admits, Refines, IsJoinOf}
 use Rattle.hz_core.specs.Gate.{gate_value}
 use Rattle.hz_core.specs.Extension.{extension, IsValueOver}
-use Rattle.hz_core.specs.Netlist.{Netlist, IsGateNumber, gate_at}
+use Rattle.hz_core.specs.Netlist.{Netlist, IsCutNumber, IsGateNumber, data_of, gate_at}
 use Rattle.hz_core.proofs.Refinements.{known-admits}
 use Rattle.hz_core.proofs.Extensions.{IsExtension-extension, admits-extension}
-use Rattle.hz_net.specs.Starts.{AgreeWith, Follows, IsDerivation, IsForced}
+use Rattle.hz_net.specs.Starts.{AgreeWith, TakesData, Follows, IsGiven, IsDerivation, IsForced}
 
 -- a pair of a node and its bit
 abbrev pub Pair : Type 0
@@ -50,14 +50,14 @@ Follows-within netlist listed few many gate bit within follows =
       always = λ bits agree. follows.always bits (AgreeWith-within few many (gate_at netlist gate).sources bits within agree);
     }
 
--- a pair is given by pairs where it is listed or follows from them
-abbrev pub IsGiven : Netlist → List (Option Bool) → List Pair → ℕ → Bool → Type 0
-IsGiven netlist listed pairs node bit =
-    (slice_get listed node ≡ Some (Some bit)) ⊎ Follows netlist listed pairs node bit
+TakesData-within : (netlist : Netlist) (listed : List (Option Bool)) (few many : List Pair) (cut : ℕ) (bit : Bool) → IsWithin few many → TakesData netlist listed few cut bit → TakesData netlist listed many cut bit
+TakesData-within netlist listed few many cut bit within takes =
+    record { node = takes.node; is_cut = takes.is_cut; is_data = takes.is_data; unlisted = takes.unlisted; given = within (takes.node, bit) takes.given }
 
 IsGiven-within : (netlist : Netlist) (listed : List (Option Bool)) (few many : List Pair) (node : ℕ) (bit : Bool) → IsWithin few many → IsGiven netlist listed few node bit → IsGiven netlist listed many node bit
 IsGiven-within netlist listed few many node bit within (inl value) = inl value
-IsGiven-within netlist listed few many node bit within (inr follows) = inr (Follows-within netlist listed few many node bit within follows)
+IsGiven-within netlist listed few many node bit within (inr (inl takes)) = inr (inl (TakesData-within netlist listed few many node bit within takes))
+IsGiven-within netlist listed few many node bit within (inr (inr follows)) = inr (inr (Follows-within netlist listed few many node bit within follows))
 
 -- two derivations one after the other are one
 pub IsDerivation-append : (netlist : Netlist) (listed : List (Option Bool)) (later earlier : List Pair) → IsDerivation netlist listed later → IsDerivation netlist listed earlier → IsDerivation netlist listed (later ++ earlier)
@@ -117,12 +117,24 @@ AgreeWith-consistent pairs (source ∷ sources) consistent = (
   AgreeWith-consistent pairs sources consistent,
 )
 
+-- a cut has one data node
+same_data : (netlist : Netlist) (cut node other : ℕ) → data_of netlist cut ≡ Some node → data_of netlist cut ≡ Some other → node ≡ other
+same_data netlist cut node other e f = let same : Some node ≡ Some other = sym e ∙ f in cc
+
 -- two bits that consistent pairs give to a node are equal
 IsGiven-once : (netlist : Netlist) (listed : List (Option Bool)) (pairs : List Pair) (node : ℕ) (bit other : Bool) → IsConsistent pairs → IsGiven netlist listed pairs node bit → IsGiven netlist listed pairs node other → bit ≡ other
+unfolding IsConsistent
 IsGiven-once netlist listed pairs node bit other consistent (inl e) (inl f) = cc
-IsGiven-once netlist listed pairs node bit other consistent (inl e) (inr f) = let g = f.unlisted in cc
-IsGiven-once netlist listed pairs node bit other consistent (inr e) (inl f) = let g = e.unlisted in cc
-IsGiven-once netlist listed pairs node bit other consistent (inr e) (inr f) =
+IsGiven-once netlist listed pairs node bit other consistent (inl e) (inr (inl f)) = let g = f.unlisted in cc
+IsGiven-once netlist listed pairs node bit other consistent (inl e) (inr (inr f)) = let g = f.unlisted in cc
+IsGiven-once netlist listed pairs node bit other consistent (inr (inl e)) (inl f) = let g = e.unlisted in cc
+IsGiven-once netlist listed pairs node bit other consistent (inr (inr e)) (inl f) = let g = e.unlisted in cc
+IsGiven-once netlist listed pairs node bit other consistent (inr (inl e)) (inr (inr f)) = absurd (omega (arith, e.is_cut.1, f.is_gate.0))
+IsGiven-once netlist listed pairs node bit other consistent (inr (inr e)) (inr (inl f)) = absurd (omega (arith, f.is_cut.1, e.is_gate.0))
+IsGiven-once netlist listed pairs node bit other consistent (inr (inl e)) (inr (inl f)) =
+    let same = same_data netlist node f.node e.node f.is_data e.is_data in
+    consistent e.node bit other e.given (subst (λ (n : ℕ). Contains pairs (n, other)) same f.given)
+IsGiven-once netlist listed pairs node bit other consistent (inr (inr e)) (inr (inr f)) =
     let sources = (gate_at netlist node).sources in
     let agree = AgreeWith-consistent pairs sources consistent in
     sym (e.always (map (bit_among pairs) sources) agree) ∙ f.always (map (bit_among pairs) sources) agree
@@ -225,19 +237,27 @@ forced-extension netlist listed gate pins bit is_gate unlisted forced known =
     let derived = derives-pins netlist listed (gate_at netlist gate).sources pins forced in (
       derived.0,
       (
-        inr (record {
+        inr (inr (record {
           is_gate = is_gate;
           unlisted = unlisted;
           always = λ bits agree. known-admits bit (gate_value kind bits) (subst (λ (value : Tri). IsTrue (admits value (gate_value kind bits))) known (admits-extension kind pins bits (derived.2 bits agree)));
-        }),
+        })),
         derived.1,
       ),
     )
 
--- A closed assignment of values: it agrees with the listed values, and has the value of each gate that is not listed
--- and whose extension on its sources' values is known.
+-- a cut that is not listed is forced to a bit to which its data node is forced
+pub forced-data : (netlist : Netlist) (listed : List (Option Bool)) (cut node : ℕ) (bit : Bool) → IsCutNumber netlist cut → data_of netlist cut ≡ Some node → slice_get listed cut ≡ Some None → IsForced netlist listed node bit → IsForced netlist listed cut bit
+forced-data netlist listed cut node bit is_cut is_data unlisted forced = (
+  (node, bit) ∷ forced.0,
+  (inr (inl (record { node = node; is_cut = is_cut; is_data = is_data; unlisted = unlisted; given = Contains-head (node, bit) forced.0 })), forced.1),
+)
+
+-- A closed assignment of values: it agrees with the listed values, has the known values of data nodes at the cuts that are not
+-- listed, and has the value of each gate that is not listed and whose extension on its sources' values is known.
 pub record IsClosed (netlist : Netlist) (listed : List (Option Bool)) (value : ℕ → Tri) : Type 0 where
   pub agrees : (node : ℕ) (bit : Bool) → slice_get listed node ≡ Some (Some bit) → value node ≡ tri_of bit
+  pub carries : (cut node : ℕ) (bit : Bool) → IsCutNumber netlist cut → data_of netlist cut ≡ Some node → slice_get listed cut ≡ Some None → value node ≡ tri_of bit → value cut ≡ tri_of bit
   pub closed : (gate : ℕ) (bit : Bool) → IsGateNumber netlist gate → slice_get listed gate ≡ Some None → extension (gate_at netlist gate).kind (map value (gate_at netlist gate).sources) ≡ tri_of bit → value gate ≡ tri_of bit
 
 -- bits that refine the sources' values agree with pairs that the assignment has
@@ -260,7 +280,9 @@ join-of-one set Unknown true join one = let e : false ≡ true = one false join.
 -- a closed assignment has what pairs that it has give
 closed-given : (netlist : Netlist) (listed : List (Option Bool)) (value : ℕ → Tri) (pairs : List Pair) → IsClosed netlist listed value → ((node : ℕ) (bit : Bool) → Contains pairs (node, bit) → value node ≡ tri_of bit) → (node : ℕ) (bit : Bool) → IsGiven netlist listed pairs node bit → value node ≡ tri_of bit
 closed-given netlist listed value pairs closed has node bit (inl e) = closed.agrees node bit e
-closed-given netlist listed value pairs closed has node bit (inr follows) =
+closed-given netlist listed value pairs closed has node bit (inr (inl takes)) =
+    closed.carries node takes.node bit takes.is_cut takes.is_data takes.unlisted (has takes.node bit takes.given)
+closed-given netlist listed value pairs closed has node bit (inr (inr follows)) =
     let kind = (gate_at netlist node).kind in
     let sources = (gate_at netlist node).sources in
     closed.closed node bit follows.is_gate follows.unlisted

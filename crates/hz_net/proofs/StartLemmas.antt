@@ -1,4 +1,4 @@
--- An accepted start, an open gate and an unstable gate exclude each other.
+-- An accepted start, an open node and an unstable gate exclude each other.
 use Rattle.std.proofs.Common.{◌≡◌, ℕ, suc, ◌<◌, min, Bool, false, Option, List, [], ◌∷◌, length, take, refl, sym, ap, ◌∙◌, subst, arith}
 use Rattle.std.proofs.lemmas.List.{length-take, get_or-take}
 use Rattle.hz_core.specs.Netlist.{Netlist, IsCircuit}
@@ -8,10 +8,10 @@ use Rattle.hz_net.specs.Starts.{IsCompletedStart, IsAcceptedStart, IsLeastOpen, 
 use Rattle.hz_net.proofs.Places.{length-network_of}
 use Rattle.hz_net.proofs.Derivations.{forced_once}
 
--- where a gate is open there is no completed start
+-- where a node is open there is no completed start
 pub completed-not-open : (netlist : Netlist) (listed : List (Option Bool)) (state : List Bool) (gate : ℕ) → IsCompletedStart netlist listed state → IsLeastOpen netlist listed gate → ⊥
 completed-not-open netlist listed state gate completed opened =
-    opened.is_open (bit_at state gate) (completed.forced gate opened.is_gate.1)
+    opened.is_open (bit_at state gate) (completed.forced gate opened.is_node)
 
 -- lists of one length with the same bit at each place are equal
 same-bits : (xs ys : List Bool) → length xs ≡ length ys → ((k : ℕ) → k < length xs → bit_at xs k ≡ bit_at ys k) → xs ≡ ys
@@ -44,7 +44,7 @@ accepted-not-unstable netlist listed state gate circuit accepted unstable =
     subst (λ (s : List Bool). IsUnstable (network_of netlist) (take netlist.inputs s) s gate) same unstable.is_unstable in
     moved (accepted.stable gate inside)
 
--- where a gate is open no gate is named as unstable
+-- where a node is open no gate is named as unstable
 pub open-not-unstable : (netlist : Netlist) (listed : List (Option Bool)) (open_gate gate : ℕ) → IsLeastOpen netlist listed open_gate → IsLeastUnstable netlist listed gate → ⊥
 open-not-unstable netlist listed open_gate gate opened unstable =
     completed-not-open netlist listed unstable.state open_gate unstable.completed opened

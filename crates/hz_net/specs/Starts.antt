@@ -1,7 +1,7 @@
 -- The completed start: the values that listed values force upon the nodes that are not listed.
 use Rattle.std.specs.Prelude.{◌≡◌, ℕ, ◌<◌, ◌≤◌, ◌⊎◌, Bool, Option, Some, None, List, [], ◌∷◌, length, take, Contains, slice_get}
 use Rattle.hz_core.specs.Gate.{gate_value}
-use Rattle.hz_core.specs.Netlist.{Netlist, IsGateNumber, gate_at}
+use Rattle.hz_core.specs.Netlist.{Netlist, IsCutNumber, IsGateNumber, IsPrimaryInput, data_of, gate_at}
 use Rattle.hz_net.specs.Network.{bit_at, network_of, excitation, IsUnstable, IsStable}
 use Rattle.hz_net.specs.Variables.{expanded}
 
@@ -13,18 +13,30 @@ AgreeWith pairs (source ∷ sources) [] = ⊥
 AgreeWith pairs (source ∷ sources) (bit ∷ bits) =
     ((other : Bool) → Contains pairs (source, other) → other ≡ bit) × AgreeWith pairs sources bits
 
+-- A cut that is not listed has the bit that a pair gives to its data node, as in a clocked circuit at rest.
+pub record TakesData (netlist : Netlist) (listed : List (Option Bool)) (pairs : List (ℕ × Bool)) (cut : ℕ) (bit : Bool) : Type 0 where
+  pub node : ℕ
+  pub is_cut : IsCutNumber netlist cut
+  pub is_data : data_of netlist cut ≡ Some node
+  pub unlisted : slice_get listed cut ≡ Some None
+  pub given : Contains pairs (node, bit)
+
 -- A gate that is not listed has a bit whatever its pins hold that the pairs leave open.
 pub record Follows (netlist : Netlist) (listed : List (Option Bool)) (pairs : List (ℕ × Bool)) (gate : ℕ) (bit : Bool) : Type 0 where
   pub is_gate : IsGateNumber netlist gate
   pub unlisted : slice_get listed gate ≡ Some None
   pub always : (bits : List Bool) → AgreeWith pairs (gate_at netlist gate).sources bits → gate_value (gate_at netlist gate).kind bits ≡ bit
 
--- A derivation, its newest pair first: each pair of a node and a bit is a listed value, or follows from the earlier ones.
+-- A node has a bit, given these pairs: it is listed with this bit, or it takes it from its data node, or it follows at a gate.
+abbrev pub IsGiven : Netlist → List (Option Bool) → List (ℕ × Bool) → ℕ → Bool → Type 0
+IsGiven netlist listed pairs node bit =
+    (slice_get listed node ≡ Some (Some bit)) ⊎ (TakesData netlist listed pairs node bit ⊎ Follows netlist listed pairs node bit)
+
+-- A derivation, its newest pair first: each pair of a node and a bit is given by the earlier ones.
 abbrev pub IsDerivation : Netlist → List (Option Bool) → List (ℕ × Bool) → Type 0
 IsDerivation netlist listed [] = Unit {0}
 IsDerivation netlist listed (pair ∷ earlier) =
-    ((slice_get listed pair.0 ≡ Some (Some pair.1)) ⊎ Follows netlist listed earlier pair.0 pair.1)
-    × IsDerivation netlist listed earlier
+    IsGiven netlist listed earlier pair.0 pair.1 × IsDerivation netlist listed earlier
 
 -- a node is forced to a bit where some derivation ends with this pair
 abbrev pub IsForced : Netlist → List (Option Bool) → ℕ → Bool → Type 0
@@ -35,10 +47,10 @@ IsForced netlist listed node bit =
 abbrev pub IsOpen : Netlist → List (Option Bool) → ℕ → Type 0
 IsOpen netlist listed node = (bit : Bool) → IsForced netlist listed node bit → ⊥
 
--- each input has a listed value
+-- each input that is no cut has a listed value
 abbrev pub ListsInputs : Netlist → List (Option Bool) → Type 0
 ListsInputs netlist listed =
-    (input : ℕ) → input < netlist.inputs → (bit : Bool) × (slice_get listed input ≡ Some (Some bit))
+    (input : ℕ) → IsPrimaryInput netlist input → (bit : Bool) × (slice_get listed input ≡ Some (Some bit))
 
 -- The completed start, which is there where no node is open: each node has the bit to which it is forced, each wire its
 -- source's.
@@ -57,11 +69,11 @@ pub record IsAcceptedStart (netlist : Netlist) (listed : List (Option Bool)) (st
   pub completed : IsCompletedStart netlist listed state
   pub stable : IsStable (network_of netlist) (take netlist.inputs state) state
 
--- the least gate that is open
-pub record IsLeastOpen (netlist : Netlist) (listed : List (Option Bool)) (gate : ℕ) : Type 0 where
-  pub is_gate : IsGateNumber netlist gate
-  pub is_open : IsOpen netlist listed gate
-  pub least : (other : ℕ) → other < gate → (bit : Bool) × IsForced netlist listed other bit
+-- the least node that is open: a cut or a gate
+pub record IsLeastOpen (netlist : Netlist) (listed : List (Option Bool)) (node : ℕ) : Type 0 where
+  pub is_node : node < length netlist.names
+  pub is_open : IsOpen netlist listed node
+  pub least : (other : ℕ) → other < node → (bit : Bool) × IsForced netlist listed other bit
 
 -- The least gate that is unstable at the completed start: its bit differs from its gate function of its wires.
 pub record IsLeastUnstable (netlist : Netlist) (listed : List (Option Bool)) (gate : ℕ) : Type 0 where

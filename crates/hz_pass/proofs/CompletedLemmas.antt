@@ -5,7 +5,7 @@ use Rattle.std.proofs.lemmas.List.{length-map, get_or-map, get_or-take, length-t
 use Rattle.hz_core.specs.declared.tri.Tri.{Tri}
 use Rattle.hz_core.specs.declared.tri.Tri.TheVariants.{Zero, One, Unknown}
 use Rattle.hz_core.specs.Ternary.{tri_of}
-use Rattle.hz_core.specs.Netlist.{Netlist, IsCircuit, IsGateNumber, variable_count}
+use Rattle.hz_core.specs.Netlist.{Netlist, IsCircuit, IsGateNumber, primary_inputs, variable_count}
 use Rattle.hz_net.specs.Network.{network_of, wires_of, value_at, bit_at, excitation, driven}
 use Rattle.hz_net.specs.Variables.{expanded}
 use Rattle.hz_net.specs.Starts.{IsForced, ListsInputs, IsCompletedStart, IsAcceptedStart, IsLeastOpen, IsLeastUnstable}
@@ -27,8 +27,8 @@ known-value One known = (true, refl, refl)
 known-value Unknown known = absurd (known refl)
 
 module _ (netlist : Netlist) (listed : List (Option Bool)) (values : List Tri) (circuit : IsCircuit netlist) (inputs : ListsInputs netlist listed) (forced : AreForcedValues netlist listed values) where
-  -- an input is known
-  input-known : (input : ℕ) → input < netlist.inputs → value_at values input ≢ Unknown
+  -- a primary input is known
+  input-known : (input : ℕ) → input < primary_inputs netlist → value_at values input ≢ Unknown
   input-known input few unknown =
       let given = inputs input few in
       forced.opens input (omega (arith, few, circuit.nodes)) unknown given.0 (forced-listed netlist listed input given.0 given.1)
@@ -39,25 +39,24 @@ module _ (netlist : Netlist) (listed : List (Option Bool)) (values : List Tri) (
       let bit = known-value (value_at values node) known in
       subst (IsForced netlist listed node) (sym bit.2) (forced.forced node bit.0 few bit.1)
 
-  -- the least gate that is X is the least open one
-  pub least-open : (gate : ℕ) → IsLeastUnknown netlist values gate → IsLeastOpen netlist listed gate
-  least-open gate found =
-      let is_gate = found.is_gate in
+  -- the least node that is X is the least open one
+  pub least-open : (node : ℕ) → IsLeastUnknown netlist values node → IsLeastOpen netlist listed node
+  least-open node found =
       record {
-        is_gate = is_gate;
-        is_open = forced.opens gate is_gate.1 found.is_unknown;
+        is_node = found.is_node;
+        is_open = forced.opens node found.is_node found.is_unknown;
         least = λ other less.
-            let few : other < length netlist.names = omega (arith, less, is_gate.1) in (
+            let few : other < length netlist.names = omega (arith, less, found.is_node) in (
               bit_or_zero (value_at values other),
-              node-forced other few (elim (cases_lt other netlist.inputs) [
+              node-forced other few (elim (cases_lt other (primary_inputs netlist)) [
                 | inl input ↦ input-known other input
                 | inr beyond ↦ found.least other beyond less
               ]),
             );
       }
 
-  -- where no gate is X, each node's bit and each wire's source make the completed start
-  pub completed-start : (state : List Bool) → ((gate : ℕ) → IsGateNumber netlist gate → value_at values gate ≢ Unknown) → state ≡ expanded netlist (map bit_or_zero (take (length netlist.names) values)) → IsCompletedStart netlist listed state
+  -- where no node is X, each node's bit and each wire's source make the completed start
+  pub completed-start : (state : List Bool) → ((node : ℕ) → primary_inputs netlist ≤ node → node < length netlist.names → value_at values node ≢ Unknown) → state ≡ expanded netlist (map bit_or_zero (take (length netlist.names) values)) → IsCompletedStart netlist listed state
   completed-start state known made =
       let names = length netlist.names in
       let nodes = map bit_or_zero (take names values) in
@@ -73,9 +72,9 @@ module _ (netlist : Netlist) (listed : List (Option Bool)) (values : List Tri) (
             (bit_at-expanded-node netlist nodes node nodes_long few ∙
             (get_or-map bit_or_zero (take names values) node Zero false (omega (arith, few, nodes_long, length-map (take names values) bit_or_zero)) ∙
             ap bit_or_zero (get_or-take names values node Zero few))) in
-            subst (IsForced netlist listed node) (sym bit) (node-forced node few (elim (cases_lt node netlist.inputs) [
+            subst (IsForced netlist listed node) (sym bit) (node-forced node few (elim (cases_lt node (primary_inputs netlist)) [
               | inl input ↦ input-known node input
-              | inr beyond ↦ known node (beyond, few)
+              | inr beyond ↦ known node beyond few
             ]));
         wires = made ∙ ap (expanded netlist) (sym front);
       }

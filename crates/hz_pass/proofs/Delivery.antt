@@ -1,4 +1,4 @@
--- A value that is carried along a fan-out: what is known after some wires, and that a wire more keeps it.
+-- A value that is carried along a fan-out and to cuts: what is known after some of them, and that one more keeps it.
 use Rattle.std.proofs.Common.{◌≡◌, ◌≢◌, ℕ, zero, suc, ◌+◌, ◌<◌, ◌≤◌, Bool, Option, List, [], ◌∷◌, length, drop, get_or, set, refl, sym, ap, ◌∙◌, subst, arith, length-append, cond, inl, inr}
 use Rattle.std.specs.Prelude.{Contains}
 use Rattle.std.proofs.lemmas.Bool.{cases_lt}
@@ -14,8 +14,9 @@ use Rattle.hz_net.specs.Variables.{fan_out_of}
 use Rattle.hz_net.specs.Reads.{IsWireInto}
 use Rattle.hz_net.proofs.Places.{length-network_of}
 use Rattle.hz_net.proofs.Wires.{IsWireFrom, IsWireFrom-fan_out_of, driver_at-IsWireFrom}
-use Rattle.hz_pass.specs.Forcing.{gate_extension, SetsGate, ForcedSoFar}
-use Rattle.hz_pass.proofs.ForcingLoop.{forced-wire, forced-gate}
+use Rattle.hz_pass.specs.Forcing.{gate_extension, SetsNode, ForcedSoFar, IsTaken}
+use Rattle.hz_pass.specs.CutLists.{IsDataOf}
+use Rattle.hz_pass.proofs.ForcingLoop.{forced-wire, forced-gate, forced-cut}
 
 -- what a value adds to the number of X
 abbrev counted : Tri → ℕ
@@ -39,30 +40,30 @@ unknown_count-known values i value known =
     ]
 
 -- what is known stays as it is where a gate is set
-SetsGate-keeps : (was extended : Tri) (gate : ℕ) (values values' : List Tri) (waiting waiting' : List ℕ) (node : ℕ) → value_at values gate ≡ was → SetsGate was extended gate values values' waiting waiting' → value_at values node ≢ Unknown → value_at values' node ≡ value_at values node
-SetsGate-keeps Zero extended gate values values' waiting waiting' node is sets known = ap (λ (v : List Tri). value_at v node) sets.0
-SetsGate-keeps One extended gate values values' waiting waiting' node is sets known = ap (λ (v : List Tri). value_at v node) sets.0
-SetsGate-keeps Unknown Unknown gate values values' waiting waiting' node is sets known = ap (λ (v : List Tri). value_at v node) sets.0
-SetsGate-keeps Unknown Zero gate values values' waiting waiting' node is sets known =
+SetsNode-keeps : (was extended : Tri) (gate : ℕ) (values values' : List Tri) (waiting waiting' : List ℕ) (node : ℕ) → value_at values gate ≡ was → SetsNode was extended gate values values' waiting waiting' → value_at values node ≢ Unknown → value_at values' node ≡ value_at values node
+SetsNode-keeps Zero extended gate values values' waiting waiting' node is sets known = ap (λ (v : List Tri). value_at v node) sets.0
+SetsNode-keeps One extended gate values values' waiting waiting' node is sets known = ap (λ (v : List Tri). value_at v node) sets.0
+SetsNode-keeps Unknown Unknown gate values values' waiting waiting' node is sets known = ap (λ (v : List Tri). value_at v node) sets.0
+SetsNode-keeps Unknown Zero gate values values' waiting waiting' node is sets known =
     ap (λ (v : List Tri). value_at v node) sets.0 ∙ get_or-set_other values gate node Zero Zero (λ e. known (ap (value_at values) e ∙ is))
-SetsGate-keeps Unknown One gate values values' waiting waiting' node is sets known =
+SetsNode-keeps Unknown One gate values values' waiting waiting' node is sets known =
     ap (λ (v : List Tri). value_at v node) sets.0 ∙ get_or-set_other values gate node One Zero (λ e. known (ap (value_at values) e ∙ is))
 
-SetsGate-length : (was extended : Tri) (gate : ℕ) (values values' : List Tri) (waiting waiting' : List ℕ) → SetsGate was extended gate values values' waiting waiting' → length values' ≡ length values
-SetsGate-length Zero extended gate values values' waiting waiting' sets = ap (length {A = Tri}) sets.0
-SetsGate-length One extended gate values values' waiting waiting' sets = ap (length {A = Tri}) sets.0
-SetsGate-length Unknown Unknown gate values values' waiting waiting' sets = ap (length {A = Tri}) sets.0
-SetsGate-length Unknown Zero gate values values' waiting waiting' sets = ap (length {A = Tri}) sets.0 ∙ length-set values gate Zero
-SetsGate-length Unknown One gate values values' waiting waiting' sets = ap (length {A = Tri}) sets.0 ∙ length-set values gate One
+SetsNode-length : (was extended : Tri) (gate : ℕ) (values values' : List Tri) (waiting waiting' : List ℕ) → SetsNode was extended gate values values' waiting waiting' → length values' ≡ length values
+SetsNode-length Zero extended gate values values' waiting waiting' sets = ap (length {A = Tri}) sets.0
+SetsNode-length One extended gate values values' waiting waiting' sets = ap (length {A = Tri}) sets.0
+SetsNode-length Unknown Unknown gate values values' waiting waiting' sets = ap (length {A = Tri}) sets.0
+SetsNode-length Unknown Zero gate values values' waiting waiting' sets = ap (length {A = Tri}) sets.0 ∙ length-set values gate Zero
+SetsNode-length Unknown One gate values values' waiting waiting' sets = ap (length {A = Tri}) sets.0 ∙ length-set values gate One
 
 -- a node that comes to wait was X before
-SetsGate-count : (was extended : Tri) (gate : ℕ) (values values' : List Tri) (waiting waiting' : List ℕ) → gate < length values → value_at values gate ≡ was → SetsGate was extended gate values values' waiting waiting' → unknown_count values' + length waiting' ≤ unknown_count values + length waiting
-SetsGate-count Zero extended gate values values' waiting waiting' inside is sets = omega (arith, ap unknown_count sets.0, ap (length {A = ℕ}) sets.1)
-SetsGate-count One extended gate values values' waiting waiting' inside is sets = omega (arith, ap unknown_count sets.0, ap (length {A = ℕ}) sets.1)
-SetsGate-count Unknown Unknown gate values values' waiting waiting' inside is sets = omega (arith, ap unknown_count sets.0, ap (length {A = ℕ}) sets.1)
-SetsGate-count Unknown Zero gate values values' waiting waiting' inside is sets =
+SetsNode-count : (was extended : Tri) (gate : ℕ) (values values' : List Tri) (waiting waiting' : List ℕ) → gate < length values → value_at values gate ≡ was → SetsNode was extended gate values values' waiting waiting' → unknown_count values' + length waiting' ≤ unknown_count values + length waiting
+SetsNode-count Zero extended gate values values' waiting waiting' inside is sets = omega (arith, ap unknown_count sets.0, ap (length {A = ℕ}) sets.1)
+SetsNode-count One extended gate values values' waiting waiting' inside is sets = omega (arith, ap unknown_count sets.0, ap (length {A = ℕ}) sets.1)
+SetsNode-count Unknown Unknown gate values values' waiting waiting' inside is sets = omega (arith, ap unknown_count sets.0, ap (length {A = ℕ}) sets.1)
+SetsNode-count Unknown Zero gate values values' waiting waiting' inside is sets =
     omega (arith, ap unknown_count sets.0, ap (length {A = ℕ}) sets.1, length-append waiting (gate ∷ []), unknown_count-less values gate Zero inside is (λ e. cc))
-SetsGate-count Unknown One gate values values' waiting waiting' inside is sets =
+SetsNode-count Unknown One gate values values' waiting waiting' inside is sets =
     omega (arith, ap unknown_count sets.0, ap (length {A = ℕ}) sets.1, length-append waiting (gate ∷ []), unknown_count-less values gate One inside is (λ e. cc))
 
 -- what is known after the first wires of a node's fan-out
@@ -70,7 +71,7 @@ pub record DeliveredSoFar (netlist : Netlist) (node : ℕ) (value : Tri) (first 
   pub long : length values ≡ length (network_of netlist)
   pub is : value_at values node ≡ value
   pub known : value ≢ Unknown
-  pub forced : (listed : List (Option Bool)) → length listed ≡ length netlist.names → ForcedSoFar netlist listed first first_waiting (fan_out_of netlist node) [] → ForcedSoFar netlist listed values waiting (drop count (fan_out_of netlist node)) []
+  pub forced : (listed : List (Option Bool)) → length listed ≡ length netlist.names → ForcedSoFar netlist listed first first_waiting (fan_out_of netlist node) [] [] → ForcedSoFar netlist listed values waiting (drop count (fan_out_of netlist node)) [] []
   pub fewer : unknown_count values + length waiting ≤ unknown_count first + length first_waiting
 
 pub delivered-begin : (netlist : Netlist) (node : ℕ) (values : List Tri) (waiting : List ℕ) → length values ≡ length (network_of netlist) → value_at values node ≢ Unknown → DeliveredSoFar netlist node (value_at values node) values values waiting waiting 0
@@ -85,7 +86,7 @@ wire-place netlist node count wire circuit few at =
     (from.above, omega (arith, length-network_of netlist circuit))
 
 -- one wire more
-pub delivered-step : (netlist : Netlist) (node : ℕ) (value : Tri) (first values values' : List Tri) (first_waiting waiting waiting' : List ℕ) (count wire gate : ℕ) → IsCircuit netlist → node < length netlist.names → DeliveredSoFar netlist node value first values first_waiting waiting count → count < length (fan_out_of netlist node) → wire ≡ get_or (fan_out_of netlist node) count 0 → IsGateNumber netlist gate → IsWireInto (network_of netlist) gate wire → SetsGate (value_at (set values wire value) gate) (gate_extension netlist (set values wire value) gate) gate (set values wire value) values' waiting waiting' → DeliveredSoFar netlist node value first values' first_waiting waiting' (count + 1)
+pub delivered-step : (netlist : Netlist) (node : ℕ) (value : Tri) (first values values' : List Tri) (first_waiting waiting waiting' : List ℕ) (count wire gate : ℕ) → IsCircuit netlist → node < length netlist.names → DeliveredSoFar netlist node value first values first_waiting waiting count → count < length (fan_out_of netlist node) → wire ≡ get_or (fan_out_of netlist node) count 0 → IsGateNumber netlist gate → IsWireInto (network_of netlist) gate wire → SetsNode (value_at (set values wire value) gate) (gate_extension netlist (set values wire value) gate) gate (set values wire value) values' waiting waiting' → DeliveredSoFar netlist node value first values' first_waiting waiting' (count + 1)
 delivered-step netlist node value first values values' first_waiting waiting waiting' count wire gate circuit is_node so_far few at is_gate into sets =
     let there : Contains (fan_out_of netlist node) wire = subst (Contains (fan_out_of netlist node)) (sym at) (Contains-get_or (fan_out_of netlist node) count 0 few) in
     let from : IsWireFrom netlist wire node = IsWireFrom-fan_out_of netlist wire node there in
@@ -97,23 +98,45 @@ delivered-step netlist node value first values values' first_waiting waiting wai
     let due : drop count (fan_out_of netlist node) ≡ wire ∷ drop (count + 1) (fan_out_of netlist node) =
     drop_more (fan_out_of netlist node) count 0 few ∙ ap (λ (w : ℕ). w ∷ drop (count + 1) (fan_out_of netlist node)) (sym at) in
     record {
-      long = SetsGate-length (value_at (set values wire value) gate) (gate_extension netlist (set values wire value) gate) gate (set values wire value) values' waiting waiting' sets ∙ set_long;
-      is = SetsGate-keeps (value_at (set values wire value) gate) (gate_extension netlist (set values wire value) gate) gate (set values wire value) values' waiting waiting' node refl sets (λ e. so_far.known (sym set_is ∙ e)) ∙ set_is;
+      long = SetsNode-length (value_at (set values wire value) gate) (gate_extension netlist (set values wire value) gate) gate (set values wire value) values' waiting waiting' sets ∙ set_long;
+      is = SetsNode-keeps (value_at (set values wire value) gate) (gate_extension netlist (set values wire value) gate) gate (set values wire value) values' waiting waiting' node refl sets (λ e. so_far.known (sym set_is ∙ e)) ∙ set_is;
       known = so_far.known;
       forced = λ listed same begun.
-          forced-gate netlist listed circuit same (set values wire value) values' waiting waiting' (drop (count + 1) (fan_out_of netlist node)) gate
-          (forced-wire netlist listed circuit same values waiting (drop (count + 1) (fan_out_of netlist node)) wire node gate value
-          (subst (λ (d : List ℕ). ForcedSoFar netlist listed values waiting d []) due (so_far.forced listed same begun)) so_far.is driven into)
+          forced-gate netlist listed circuit same (set values wire value) values' waiting waiting' (drop (count + 1) (fan_out_of netlist node)) [] gate
+          (forced-wire netlist listed circuit same values waiting (drop (count + 1) (fan_out_of netlist node)) [] wire node gate value
+          (subst (λ (d : List ℕ). ForcedSoFar netlist listed values waiting d [] []) due (so_far.forced listed same begun)) so_far.is driven into)
           is_gate sets;
       fewer = omega (
         arith,
         so_far.fewer,
         unknown_count-known values wire value so_far.known,
-        SetsGate-count (value_at (set values wire value) gate) (gate_extension netlist (set values wire value) gate) gate (set values wire value) values' waiting waiting' inside refl sets,
+        SetsNode-count (value_at (set values wire value) gate) (gate_extension netlist (set values wire value) gate) gate (set values wire value) values' waiting waiting' inside refl sets,
       );
     }
 
 -- all wires are done
-pub delivered-end : (netlist : Netlist) (node : ℕ) (value : Tri) (first values : List Tri) (first_waiting waiting : List ℕ) (count : ℕ) (listed : List (Option Bool)) → DeliveredSoFar netlist node value first values first_waiting waiting count → length (fan_out_of netlist node) ≤ count → length listed ≡ length netlist.names → ForcedSoFar netlist listed first first_waiting (fan_out_of netlist node) [] → ForcedSoFar netlist listed values waiting [] []
+pub delivered-end : (netlist : Netlist) (node : ℕ) (value : Tri) (first values : List Tri) (first_waiting waiting : List ℕ) (count : ℕ) (listed : List (Option Bool)) → DeliveredSoFar netlist node value first values first_waiting waiting count → length (fan_out_of netlist node) ≤ count → length listed ≡ length netlist.names → ForcedSoFar netlist listed first first_waiting (fan_out_of netlist node) [] [] → ForcedSoFar netlist listed values waiting [] [] []
 delivered-end netlist node value first values first_waiting waiting count listed so_far end same begun =
-    subst (λ (d : List ℕ). ForcedSoFar netlist listed values waiting d []) (drop_all count (fan_out_of netlist node) end) (so_far.forced listed same begun)
+    subst (λ (d : List ℕ). ForcedSoFar netlist listed values waiting d [] []) (drop_all count (fan_out_of netlist node) end) (so_far.forced listed same begun)
+
+-- no cut has taken the value yet
+pub taken-begin : (cuts : List ℕ) (value : Tri) (values : List Tri) (waiting : List ℕ) → IsTaken cuts value values values waiting waiting 0
+taken-begin cuts value values waiting =
+    record { long = refl; kept = λ var known. refl; forced = λ netlist listed node due circuit same are known begun. begun; fewer = omega arith }
+
+-- one cut more
+pub taken-step : (cuts : List ℕ) (value : Tri) (first values values' : List Tri) (first_waiting waiting waiting' : List ℕ) (count cut : ℕ) → IsTaken cuts value first values first_waiting waiting count → value ≢ Unknown → count < length cuts → cut ≡ get_or cuts count 0 → cut < length values
+    → SetsNode (value_at values cut) value cut values values' waiting waiting' → IsTaken cuts value first values' first_waiting waiting' (count + 1)
+taken-step cuts value first values values' first_waiting waiting waiting' count cut so_far known few at inside sets =
+    let was = value_at values cut in
+    let due : drop count cuts ≡ cut ∷ drop (count + 1) cuts = drop_more cuts count 0 few ∙ ap (λ (c : ℕ). c ∷ drop (count + 1) cuts) (sym at) in
+    record {
+      long = SetsNode-length was value cut values values' waiting waiting' sets ∙ so_far.long;
+      kept = λ var is_known. SetsNode-keeps was value cut values values' waiting waiting' var refl sets (λ e. is_known (sym (so_far.kept var is_known) ∙ e)) ∙ so_far.kept var is_known;
+      forced = λ netlist listed node due_wires circuit same are data_is begun.
+          let is : IsDataOf netlist node cut = subst (IsDataOf netlist node) (sym at) (are count 0 few) in
+          forced-cut netlist listed circuit same values values' waiting waiting' due_wires (drop (count + 1) cuts) node cut value
+          (subst (λ (c : List ℕ). ForcedSoFar netlist listed values waiting due_wires c []) due (so_far.forced netlist listed node due_wires circuit same are data_is begun))
+          is (so_far.kept node (λ e. known (sym data_is ∙ e)) ∙ data_is) known sets;
+      fewer = omega (arith, so_far.fewer, SetsNode-count was value cut values values' waiting waiting' inside refl sets);
+    }

@@ -18,9 +18,11 @@ use Rattle.hz_net.proofs.Wired.{pin-into, wired-network_of}
 use Rattle.hz_net.specs.Starts.{IsForced}
 use Rattle.hz_net.proofs.Places.{length-network_of, driver_at-pin}
 use Rattle.hz_net.proofs.PartLemmas.{same-parts}
-use Rattle.hz_net.proofs.Derivations.{AreForced, IsClosed, forced_once, forced-listed, forced-extension, closed-forced}
+use Rattle.hz_net.proofs.Derivations.{AreForced, IsClosed, forced_once, forced-listed, forced-data, forced-extension, closed-forced}
 use Rattle.hz_net.proofs.Wires.{IsWireFrom, IsWireFrom-driver_at, IsWireFrom-node, Contains-fan_out_of, length-at_wires, get_or-at_wires}
-use Rattle.hz_pass.specs.Forcing.{listed_value, IsListed, gate_extension, SetsGate, ForcedSoFar, AreForcedValues}
+use Rattle.hz_core.proofs.CircuitLemmas.{data_of-node}
+use Rattle.hz_pass.specs.CutLists.{IsDataOf}
+use Rattle.hz_pass.specs.Forcing.{listed_value, IsListed, gate_extension, SetsNode, ForcedSoFar, AreForcedValues}
 use Rattle.hz_pass.proofs.Places.{same-values}
 use Rattle.hz_pass.proofs.AllOpen.{extension-unknown}
 
@@ -67,32 +69,12 @@ listed-entry : (entry : Option Bool) (bit : Bool) → listed_value (Some entry) 
 listed-entry None bit e = absurd (known≢unknown Unknown bit e refl)
 listed-entry (Some known) bit e = ap Some (same-known known bit e)
 
--- the node that is next does not wait any more: its wires are due
-pub forced-pop : (netlist : Netlist) (listed : List (Option Bool)) (values : List Tri) (waiting : List ℕ) (node : ℕ) → IsCircuit netlist → ForcedSoFar netlist listed values (waiting ++ node ∷ []) [] [] → ForcedSoFar netlist listed values waiting (fan_out_of netlist node) []
-forced-pop netlist listed values waiting node circuit so_far =
-    record {
-      long = so_far.long;
-      agrees = so_far.agrees;
-      sound = so_far.sound;
-      carried = so_far.carried;
-      delivered = λ wire source driven. elim (so_far.delivered wire source driven) [
-        | inl same ↦ inl same
-        | inr (inl there) ↦ elim (Contains-push_cases waiting node source there) [
-          | inl later ↦ inr (inl later)
-          | inr next ↦ inr (inr (subst (λ (n : ℕ). Contains (fan_out_of netlist n) wire) (sym next) (Contains-fan_out_of netlist wire source (IsWireFrom-driver_at netlist wire source circuit driven))))
-        ]
-        | inr (inr none) ↦ absurd (no-element wire none)
-      ];
-      closed = so_far.closed;
-      waits = λ k d few. subst (λ (n : ℕ). (n < length netlist.names) × (value_at values n ≢ Unknown)) (get_or_append_left waiting (node ∷ []) d k few) (so_far.waits k d (omega (arith, few, length-append waiting (node ∷ []))));
-    }
-
 module _ (netlist : Netlist) (listed : List (Option Bool)) (circuit : IsCircuit netlist) (listed_long : length listed ≡ length netlist.names) where
   listed-node : (node : ℕ) (entry : Option Bool) → slice_get listed node ≡ Some entry → node < length netlist.names
   listed-node node entry e = let inside : node < length listed = slice_get_within listed node entry e in omega arith
 
   -- before any value is carried on: the listed values are set, and their nodes wait
-  pub forced-begin : (values : List Tri) (waiting : List ℕ) → IsWhole netlist → length values ≡ length (network_of netlist) → IsListed listed values waiting → ForcedSoFar netlist listed values waiting [] []
+  pub forced-begin : (values : List Tri) (waiting : List ℕ) → IsWhole netlist → length values ≡ length (network_of netlist) → IsListed listed values waiting → ForcedSoFar netlist listed values waiting [] [] []
   forced-begin values waiting whole long set_values =
       let inside : (node : ℕ) → node < length netlist.names → node < length values = λ node few. omega (arith, few, long, length-network_of netlist circuit) in
       let given : (node : ℕ) (bit : Bool) → slice_get listed node ≡ Some (Some bit) → value_at values node ≡ tri_of bit =
@@ -117,9 +99,13 @@ module _ (netlist : Netlist) (listed : List (Option Bool)) (circuit : IsCircuit 
           | inl unknown ↦ inl (wires wire source drives ∙ sym unknown)
           | inr known ↦ inr (inl (set_values.wait source known.0 (bit_listed source known.0 (IsWireFrom-node netlist wire source circuit (IsWireFrom-driver_at netlist wire source circuit drives)) known.1)))
         ];
+        open_cuts = λ cut node is unknown. elim (known-bit (value_at values node)) [
+          | inl none ↦ inl none
+          | inr known ↦ inr (inl (set_values.wait node known.0 (bit_listed node known.0 (data_of-node netlist cut node circuit is.is_cut.1 is.is_data) known.1)))
+        ];
         closed = λ gate is_gate unknown.
             let pins : length (at_wires netlist gate values) ≡ length (gate_at netlist gate).sources = length-at_wires netlist gate values circuit is_gate long in
-            let some : 1 ≤ length (gate_at netlist gate).sources = whole (gate - netlist.inputs) (record { kind = And; sources = [] }) (omega (arith, is_gate.0, is_gate.1, circuit.nodes)) in
+            let some : 1 ≤ length (gate_at netlist gate).sources = whole.gates (gate - netlist.inputs) (record { kind = And; sources = [] }) (omega (arith, is_gate.0, is_gate.1, circuit.nodes)) in
             inl (extension-unknown (gate_at netlist gate).kind (at_wires netlist gate values) (omega (arith, pins, some))
             (λ k few.
             let pin : k < length (gate_at netlist gate).sources = omega (arith, few, pins) in
@@ -130,8 +116,8 @@ module _ (netlist : Netlist) (listed : List (Option Bool)) (circuit : IsCircuit 
       }
 
   -- a wire's value is set
-  pub forced-wire : (values : List Tri) (waiting due : List ℕ) (wire node gate : ℕ) (value : Tri) → ForcedSoFar netlist listed values waiting (wire ∷ due) [] → value_at values node ≡ value → driver_at (network_of netlist) wire ≡ Source node → IsWireInto (network_of netlist) gate wire → ForcedSoFar netlist listed (set values wire value) waiting due (gate ∷ [])
-  forced-wire values waiting due wire node gate value so_far is driven into =
+  pub forced-wire : (values : List Tri) (waiting due cuts : List ℕ) (wire node gate : ℕ) (value : Tri) → ForcedSoFar netlist listed values waiting (wire ∷ due) cuts [] → value_at values node ≡ value → driver_at (network_of netlist) wire ≡ Source node → IsWireInto (network_of netlist) gate wire → ForcedSoFar netlist listed (set values wire value) waiting due cuts (gate ∷ [])
+  forced-wire values waiting due cuts wire node gate value so_far is driven into =
       let from : IsWireFrom netlist wire node = IsWireFrom-driver_at netlist wire node circuit driven in
       let above : length netlist.names ≤ wire = from.above in
       let inside : wire < length values = omega (arith, from.below, so_far.long, length-network_of netlist circuit) in
@@ -167,6 +153,12 @@ module _ (netlist : Netlist) (listed : List (Option Bool)) (circuit : IsCircuit 
             ]
           ]
         ];
+        open_cuts = λ cut source is unknown.
+            let few : source < length netlist.names = data_of-node netlist cut source circuit is.is_cut.1 is.is_data in
+            elim (so_far.open_cuts cut source is (sym (nodes cut (omega (arith, is.is_cut.1, circuit.nodes))) ∙ unknown)) [
+              | inl none ↦ inl (nodes source few ∙ none)
+              | inr there ↦ inr there
+            ];
         closed = λ other is_gate unknown. elim (cases_eq other gate) [
           | inl same ↦ inr (0, omega arith, sym same)
           | inr differ ↦ elim (so_far.closed other is_gate (sym (nodes other is_gate.1) ∙ unknown)) [
@@ -178,8 +170,8 @@ module _ (netlist : Netlist) (listed : List (Option Bool)) (circuit : IsCircuit 
       }
 
   -- a gate's pins are forced
-  pins-forced : (values : List Tri) (waiting due touched : List ℕ) (gate : ℕ) → ForcedSoFar netlist listed values waiting due touched → IsGateNumber netlist gate → AreForced netlist listed (gate_at netlist gate).sources (at_wires netlist gate values)
-  pins-forced values waiting due touched gate so_far is_gate =
+  pins-forced : (values : List Tri) (waiting due cuts touched : List ℕ) (gate : ℕ) → ForcedSoFar netlist listed values waiting due cuts touched → IsGateNumber netlist gate → AreForced netlist listed (gate_at netlist gate).sources (at_wires netlist gate values)
+  pins-forced values waiting due cuts touched gate so_far is_gate =
       AreForced-places netlist listed (gate_at netlist gate).sources (at_wires netlist gate values) (length-at_wires netlist gate values circuit is_gate so_far.long)
       (λ k bit few known.
       let source = get_or (gate_at netlist gate).sources k 0 in
@@ -191,8 +183,8 @@ module _ (netlist : Netlist) (listed : List (Option Bool)) (circuit : IsCircuit 
       ])
 
   -- a node that is X is not listed
-  unlisted : (values : List Tri) (waiting due touched : List ℕ) (node : ℕ) → ForcedSoFar netlist listed values waiting due touched → node < length netlist.names → value_at values node ≡ Unknown → slice_get listed node ≡ Some None
-  unlisted values waiting due touched node so_far few unknown =
+  unlisted : (values : List Tri) (waiting due cuts touched : List ℕ) (node : ℕ) → ForcedSoFar netlist listed values waiting due cuts touched → node < length netlist.names → value_at values node ≡ Unknown → slice_get listed node ≡ Some None
+  unlisted values waiting due cuts touched node so_far few unknown =
       let inside : node < length listed = omega (arith, few, listed_long) in
       entry (get_or listed node None) (slice_get-get_or listed node None inside)
     where
@@ -200,31 +192,60 @@ module _ (netlist : Netlist) (listed : List (Option Bool)) (circuit : IsCircuit 
       entry None e = e
       entry (Some bit) e = absurd (known≢unknown (value_at values node) bit (so_far.agrees node bit e) unknown)
 
-  -- a gate becomes known, and waits
-  forced-known : (values : List Tri) (waiting due : List ℕ) (gate : ℕ) (bit : Bool) → ForcedSoFar netlist listed values waiting due (gate ∷ []) → IsGateNumber netlist gate → value_at values gate ≡ Unknown → gate_extension netlist values gate ≡ tri_of bit → ForcedSoFar netlist listed (set values gate (tri_of bit)) (waiting ++ gate ∷ []) due []
-  forced-known values waiting due gate bit so_far is_gate unknown extended =
+  -- the node that is next does not wait any more: its wires are due, and the cuts that are not listed and whose data node it is
+  pub forced-pop : (values : List Tri) (waiting cuts : List ℕ) (node : ℕ) → ForcedSoFar netlist listed values (waiting ++ node ∷ []) [] [] [] → ((cut : ℕ) → IsDataOf netlist node cut → slice_get listed cut ≡ Some None → Contains cuts cut) → ForcedSoFar netlist listed values waiting (fan_out_of netlist node) cuts []
+  forced-pop values waiting cuts node so_far there_all =
+      record {
+        long = so_far.long;
+        agrees = so_far.agrees;
+        sound = so_far.sound;
+        carried = so_far.carried;
+        delivered = λ wire source driven. elim (so_far.delivered wire source driven) [
+          | inl same ↦ inl same
+          | inr (inl there) ↦ elim (Contains-push_cases waiting node source there) [
+            | inl later ↦ inr (inl later)
+            | inr next ↦ inr (inr (subst (λ (n : ℕ). Contains (fan_out_of netlist n) wire) (sym next) (Contains-fan_out_of netlist wire source (IsWireFrom-driver_at netlist wire source circuit driven))))
+          ]
+          | inr (inr none) ↦ absurd (no-element wire none)
+        ];
+        open_cuts = λ cut source is unknown. elim (so_far.open_cuts cut source is unknown) [
+          | inl same ↦ inl same
+          | inr (inl there) ↦ elim (Contains-push_cases waiting node source there) [
+            | inl later ↦ inr (inl later)
+            | inr next ↦ inr (inr (there_all cut (subst (λ (n : ℕ). IsDataOf netlist n cut) (sym next) is)
+                (unlisted values (waiting ++ node ∷ []) [] [] [] cut so_far (omega (arith, is.is_cut.1, circuit.nodes)) unknown)))
+          ]
+          | inr (inr none) ↦ absurd (no-element cut none)
+        ];
+        closed = so_far.closed;
+        waits = λ k d few. subst (λ (n : ℕ). (n < length netlist.names) × (value_at values n ≢ Unknown)) (get_or_append_left waiting (node ∷ []) d k few) (so_far.waits k d (omega (arith, few, length-append waiting (node ∷ []))));
+      }
+
+  -- a node that is X becomes known, and waits
+  forced-known : (values : List Tri) (waiting due cuts cuts' touched touched' : List ℕ) (node : ℕ) (bit : Bool) → ForcedSoFar netlist listed values waiting due cuts touched → node < length netlist.names → value_at values node ≡ Unknown → IsForced netlist listed node bit
+      → ((cut : ℕ) → Contains cuts cut → (node ≡ cut) ⊎ Contains cuts' cut) → ((gate : ℕ) → Contains touched gate → (node ≡ gate) ⊎ Contains touched' gate)
+      → ForcedSoFar netlist listed (set values node (tri_of bit)) (waiting ++ node ∷ []) due cuts' touched'
+  forced-known values waiting due cuts cuts' touched touched' node bit so_far few_node unknown forced less_cuts less_touched =
       let value = tri_of bit in
-      let few_gate : gate < length netlist.names = is_gate.1 in
-      let inside : gate < length values = omega (arith, few_gate, so_far.long, length-network_of netlist circuit) in
-      let here : value_at (set values gate value) gate ≡ value = get_or-set_same values gate value Zero inside in
-      let others : (var : ℕ) → var ≢ gate → value_at (set values gate value) var ≡ value_at values var = λ var other. get_or-set_other values gate var value Zero other in
-      let known : (var : ℕ) → value_at values var ≢ Unknown → value_at (set values gate value) var ≡ value_at values var = λ var is_known. others var (λ e. is_known (ap (value_at values) e ∙ unknown)) in
-      let wires : (wire source : ℕ) → driver_at (network_of netlist) wire ≡ Source source → value_at (set values gate value) wire ≡ value_at values wire =
+      let inside : node < length values = omega (arith, few_node, so_far.long, length-network_of netlist circuit) in
+      let here : value_at (set values node value) node ≡ value = get_or-set_same values node value Zero inside in
+      let others : (var : ℕ) → var ≢ node → value_at (set values node value) var ≡ value_at values var = λ var other. get_or-set_other values node var value Zero other in
+      let known : (var : ℕ) → value_at values var ≢ Unknown → value_at (set values node value) var ≡ value_at values var = λ var is_known. others var (λ e. is_known (ap (value_at values) e ∙ unknown)) in
+      let wires : (wire source : ℕ) → driver_at (network_of netlist) wire ≡ Source source → value_at (set values node value) wire ≡ value_at values wire =
       λ wire source drives.
       let above : length netlist.names ≤ wire = (IsWireFrom-driver_at netlist wire source circuit drives).above in
-      others wire (let other : wire ≢ gate = omega arith in other) in
+      others wire (let other : wire ≢ node = omega arith in other) in
       record {
-        long = length-set values gate value ∙ so_far.long;
+        long = length-set values node value ∙ so_far.long;
         agrees = λ n b e. known n (known≢unknown (value_at values n) b (so_far.agrees n b e)) ∙ so_far.agrees n b e;
-        sound = λ n b few is. elim (cases_eq n gate) [
+        sound = λ n b few is. elim (cases_eq n node) [
           | inl same ↦ (
-              let e : bit ≡ b = same-known bit b (sym here ∙ (ap (value_at (set values gate value)) (sym same) ∙ is)) in
-              subst (λ (m : ℕ). IsForced netlist listed m b) (sym same) (subst (IsForced netlist listed gate) e
-              (forced-extension netlist listed gate (at_wires netlist gate values) bit is_gate (unlisted values waiting due (gate ∷ []) gate so_far few_gate unknown) (pins-forced values waiting due (gate ∷ []) gate so_far is_gate) extended))
+              let e : bit ≡ b = same-known bit b (sym here ∙ (ap (value_at (set values node value)) (sym same) ∙ is)) in
+              subst (λ (m : ℕ). IsForced netlist listed m b) (sym same) (subst (IsForced netlist listed node) e forced)
               )
           | inr differ ↦ so_far.sound n b few (sym (others n differ) ∙ is)
         ];
-        carried = λ wire source drives. elim (cases_eq source gate) [
+        carried = λ wire source drives. elim (cases_eq source node) [
           | inl same ↦ elim (so_far.carried wire source drives) [
             | inl u ↦ inl (wires wire source drives ∙ u)
             | inr equal ↦ inl (wires wire source drives ∙ (equal ∙ (ap (value_at values) same ∙ unknown)))
@@ -234,38 +255,53 @@ module _ (netlist : Netlist) (listed : List (Option Bool)) (circuit : IsCircuit 
             | inr equal ↦ inr (wires wire source drives ∙ (equal ∙ sym (others source differ)))
           ]
         ];
-        delivered = λ wire source drives. elim (cases_eq source gate) [
-          | inl same ↦ inr (inl (subst (λ (n : ℕ). Contains (waiting ++ gate ∷ []) n) (sym same) (Contains-push waiting gate)))
+        delivered = λ wire source drives. elim (cases_eq source node) [
+          | inl same ↦ inr (inl (subst (λ (n : ℕ). Contains (waiting ++ node ∷ []) n) (sym same) (Contains-push waiting node)))
           | inr differ ↦ elim (so_far.delivered wire source drives) [
             | inl equal ↦ inl (wires wire source drives ∙ (equal ∙ sym (others source differ)))
-            | inr (inl there) ↦ inr (inl (Contains-append_left waiting (gate ∷ []) source there))
+            | inr (inl there) ↦ inr (inl (Contains-append_left waiting (node ∷ []) source there))
             | inr (inr there) ↦ inr (inr there)
           ]
         ];
-        closed = λ other other_gate is. elim (cases_eq other gate) [
-          | inl same ↦ absurd (known≢unknown (value_at (set values gate value) gate) bit here (ap (value_at (set values gate value)) (sym same) ∙ is))
-          | inr differ ↦ elim (so_far.closed other other_gate (sym (others other differ) ∙ is)) [
-            | inl same ↦ inl (ap (extension (gate_at netlist other).kind) (slice_range-set values gate (first_wire netlist other) (length (gate_at netlist other).sources) value (λ k few e. (let wrong : ⊥ = omega (arith, few_gate, e) in wrong))) ∙ same)
-            | inr there ↦ elim (Contains-head gate other [] there) [
-              | inl same ↦ absurd (differ (sym same))
-              | inr none ↦ absurd (no-element other none)
+        open_cuts = λ cut source is unknown'. elim (cases_eq cut node) [
+          | inl same ↦ absurd (known≢unknown (value_at (set values node value) node) bit here (ap (value_at (set values node value)) (sym same) ∙ unknown'))
+          | inr differ ↦ elim (cases_eq source node) [
+            | inl same ↦ inr (inl (subst (λ (n : ℕ). Contains (waiting ++ node ∷ []) n) (sym same) (Contains-push waiting node)))
+            | inr other ↦ elim (so_far.open_cuts cut source is (sym (others cut differ) ∙ unknown')) [
+              | inl none ↦ inl (others source other ∙ none)
+              | inr (inl there) ↦ inr (inl (Contains-append_left waiting (node ∷ []) source there))
+              | inr (inr there) ↦ elim (less_cuts cut there) [
+                | inl same ↦ absurd (differ (sym same))
+                | inr still ↦ inr (inr still)
+              ]
             ]
           ]
         ];
-        waits = All-push (λ (n : ℕ). (n < length netlist.names) × (value_at (set values gate value) n ≢ Unknown)) waiting gate
+        closed = λ other other_gate is. elim (cases_eq other node) [
+          | inl same ↦ absurd (known≢unknown (value_at (set values node value) node) bit here (ap (value_at (set values node value)) (sym same) ∙ is))
+          | inr differ ↦ elim (so_far.closed other other_gate (sym (others other differ) ∙ is)) [
+            | inl same ↦ inl (ap (extension (gate_at netlist other).kind) (slice_range-set values node (first_wire netlist other) (length (gate_at netlist other).sources) value (λ k few e. (let wrong : ⊥ = omega (arith, few_node, e) in wrong))) ∙ same)
+            | inr there ↦ elim (less_touched other there) [
+              | inl same ↦ absurd (differ (sym same))
+              | inr still ↦ inr still
+            ]
+          ]
+        ];
+        waits = All-push (λ (n : ℕ). (n < length netlist.names) × (value_at (set values node value) n ≢ Unknown)) waiting node
             (λ k d few. let old = so_far.waits k d few in (old.0, λ u. old.1 (sym (known (get_or waiting k d) old.1) ∙ u)))
-            (few_gate, λ u. known≢unknown (value_at (set values gate value) gate) bit here u);
+            (few_node, λ u. known≢unknown (value_at (set values node value) node) bit here u);
       }
 
   -- a gate stays as it is: it was known, or its extension is X
-  forced-same : (values : List Tri) (waiting due : List ℕ) (gate : ℕ) → ForcedSoFar netlist listed values waiting due (gate ∷ []) → (value_at values gate ≢ Unknown) ⊎ (gate_extension netlist values gate ≡ Unknown) → ForcedSoFar netlist listed values waiting due []
-  forced-same values waiting due gate so_far why =
+  forced-same : (values : List Tri) (waiting due cuts : List ℕ) (gate : ℕ) → ForcedSoFar netlist listed values waiting due cuts (gate ∷ []) → (value_at values gate ≢ Unknown) ⊎ (gate_extension netlist values gate ≡ Unknown) → ForcedSoFar netlist listed values waiting due cuts []
+  forced-same values waiting due cuts gate so_far why =
       record {
         long = so_far.long;
         agrees = so_far.agrees;
         sound = so_far.sound;
         carried = so_far.carried;
         delivered = so_far.delivered;
+        open_cuts = so_far.open_cuts;
         closed = λ other other_gate unknown. elim (so_far.closed other other_gate unknown) [
           | inl same ↦ inl same
           | inr there ↦ elim (Contains-head gate other [] there) [
@@ -279,30 +315,87 @@ module _ (netlist : Netlist) (listed : List (Option Bool)) (circuit : IsCircuit 
         waits = so_far.waits;
       }
 
-  sets-gate : (was extended : Tri) (values values' : List Tri) (waiting waiting' due : List ℕ) (gate : ℕ) → ForcedSoFar netlist listed values waiting due (gate ∷ []) → IsGateNumber netlist gate → value_at values gate ≡ was → gate_extension netlist values gate ≡ extended → SetsGate was extended gate values values' waiting waiting' → ForcedSoFar netlist listed values' waiting' due []
-  sets-gate Zero extended values values' waiting waiting' due gate so_far is_gate was is sets =
-      subst (λ (v : List Tri). ForcedSoFar netlist listed v waiting' due []) (sym sets.0) (subst (λ (w : List ℕ). ForcedSoFar netlist listed values w due []) (sym sets.1)
-      (forced-same values waiting due gate so_far (inl (λ u. (let wrong : ⊥ = cc in wrong)))))
-  sets-gate One extended values values' waiting waiting' due gate so_far is_gate was is sets =
-      subst (λ (v : List Tri). ForcedSoFar netlist listed v waiting' due []) (sym sets.0) (subst (λ (w : List ℕ). ForcedSoFar netlist listed values w due []) (sym sets.1)
-      (forced-same values waiting due gate so_far (inl (λ u. (let wrong : ⊥ = cc in wrong)))))
-  sets-gate Unknown Unknown values values' waiting waiting' due gate so_far is_gate was is sets =
-      subst (λ (v : List Tri). ForcedSoFar netlist listed v waiting' due []) (sym sets.0) (subst (λ (w : List ℕ). ForcedSoFar netlist listed values w due []) (sym sets.1)
-      (forced-same values waiting due gate so_far (inr is)))
-  sets-gate Unknown Zero values values' waiting waiting' due gate so_far is_gate was is sets =
-      subst (λ (v : List Tri). ForcedSoFar netlist listed v waiting' due []) (sym sets.0) (subst (λ (w : List ℕ). ForcedSoFar netlist listed (set values gate Zero) w due []) (sym sets.1)
-      (forced-known values waiting due gate false so_far is_gate was is))
-  sets-gate Unknown One values values' waiting waiting' due gate so_far is_gate was is sets =
-      subst (λ (v : List Tri). ForcedSoFar netlist listed v waiting' due []) (sym sets.0) (subst (λ (w : List ℕ). ForcedSoFar netlist listed (set values gate One) w due []) (sym sets.1)
-      (forced-known values waiting due gate true so_far is_gate was is))
+  -- a gate becomes known, and waits
+  gate-known : (values : List Tri) (waiting due cuts : List ℕ) (gate : ℕ) (bit : Bool) → ForcedSoFar netlist listed values waiting due cuts (gate ∷ []) → IsGateNumber netlist gate → value_at values gate ≡ Unknown → gate_extension netlist values gate ≡ tri_of bit → ForcedSoFar netlist listed (set values gate (tri_of bit)) (waiting ++ gate ∷ []) due cuts []
+  gate-known values waiting due cuts gate bit so_far is_gate unknown extended =
+      forced-known values waiting due cuts cuts (gate ∷ []) [] gate bit so_far is_gate.1 unknown
+      (forced-extension netlist listed gate (at_wires netlist gate values) bit is_gate (unlisted values waiting due cuts (gate ∷ []) gate so_far is_gate.1 unknown) (pins-forced values waiting due cuts (gate ∷ []) gate so_far is_gate) extended)
+      (λ cut there. inr there) (λ other there. Contains-head gate other [] there)
+
+  -- a cut becomes known, and waits
+  cut-known : (values : List Tri) (waiting due cuts : List ℕ) (node cut : ℕ) (bit : Bool) → ForcedSoFar netlist listed values waiting due (cut ∷ cuts) [] → IsDataOf netlist node cut → value_at values cut ≡ Unknown → value_at values node ≡ tri_of bit → ForcedSoFar netlist listed (set values cut (tri_of bit)) (waiting ++ cut ∷ []) due cuts []
+  cut-known values waiting due cuts node cut bit so_far is unknown known =
+      let few : cut < length netlist.names = omega (arith, is.is_cut.1, circuit.nodes) in
+      forced-known values waiting due (cut ∷ cuts) cuts [] [] cut bit so_far few unknown
+      (forced-data netlist listed cut node bit is.is_cut is.is_data (unlisted values waiting due (cut ∷ cuts) [] cut so_far few unknown)
+      (so_far.sound node bit (data_of-node netlist cut node circuit is.is_cut.1 is.is_data) known))
+      (λ other there. Contains-head cut other cuts there) (λ gate there. inr there)
+
+  -- a cut that is known stays as it is
+  cut-same : (values : List Tri) (waiting due cuts : List ℕ) (cut : ℕ) → ForcedSoFar netlist listed values waiting due (cut ∷ cuts) [] → value_at values cut ≢ Unknown → ForcedSoFar netlist listed values waiting due cuts []
+  cut-same values waiting due cuts cut so_far known =
+      record {
+        long = so_far.long;
+        agrees = so_far.agrees;
+        sound = so_far.sound;
+        carried = so_far.carried;
+        delivered = so_far.delivered;
+        open_cuts = λ other source is unknown. elim (so_far.open_cuts other source is unknown) [
+          | inl none ↦ inl none
+          | inr (inl there) ↦ inr (inl there)
+          | inr (inr there) ↦ elim (Contains-head cut other cuts there) [
+            | inl same ↦ absurd (known (ap (value_at values) same ∙ unknown))
+            | inr later ↦ inr (inr later)
+          ]
+        ];
+        closed = so_far.closed;
+        waits = so_far.waits;
+      }
+
+  sets-cut : (was value : Tri) (values values' : List Tri) (waiting waiting' due cuts : List ℕ) (node cut : ℕ) → ForcedSoFar netlist listed values waiting due (cut ∷ cuts) [] → IsDataOf netlist node cut → value_at values cut ≡ was → value_at values node ≡ value → value ≢ Unknown → SetsNode was value cut values values' waiting waiting' → ForcedSoFar netlist listed values' waiting' due cuts []
+  sets-cut Zero value values values' waiting waiting' due cuts node cut so_far is was data_is known sets =
+      subst (λ (v : List Tri). ForcedSoFar netlist listed v waiting' due cuts []) (sym sets.0) (subst (λ (w : List ℕ). ForcedSoFar netlist listed values w due cuts []) (sym sets.1)
+      (cut-same values waiting due cuts cut so_far (λ u. (let wrong : ⊥ = cc in wrong))))
+  sets-cut One value values values' waiting waiting' due cuts node cut so_far is was data_is known sets =
+      subst (λ (v : List Tri). ForcedSoFar netlist listed v waiting' due cuts []) (sym sets.0) (subst (λ (w : List ℕ). ForcedSoFar netlist listed values w due cuts []) (sym sets.1)
+      (cut-same values waiting due cuts cut so_far (λ u. (let wrong : ⊥ = cc in wrong))))
+  sets-cut Unknown Unknown values values' waiting waiting' due cuts node cut so_far is was data_is known sets = absurd (known refl)
+  sets-cut Unknown Zero values values' waiting waiting' due cuts node cut so_far is was data_is known sets =
+      subst (λ (v : List Tri). ForcedSoFar netlist listed v waiting' due cuts []) (sym sets.0) (subst (λ (w : List ℕ). ForcedSoFar netlist listed (set values cut Zero) w due cuts []) (sym sets.1)
+      (cut-known values waiting due cuts node cut false so_far is was data_is))
+  sets-cut Unknown One values values' waiting waiting' due cuts node cut so_far is was data_is known sets =
+      subst (λ (v : List Tri). ForcedSoFar netlist listed v waiting' due cuts []) (sym sets.0) (subst (λ (w : List ℕ). ForcedSoFar netlist listed (set values cut One) w due cuts []) (sym sets.1)
+      (cut-known values waiting due cuts node cut true so_far is was data_is))
+
+  -- what is done to a cut whose data node has this value
+  pub forced-cut : (values values' : List Tri) (waiting waiting' due cuts : List ℕ) (node cut : ℕ) (value : Tri) → ForcedSoFar netlist listed values waiting due (cut ∷ cuts) [] → IsDataOf netlist node cut → value_at values node ≡ value → value ≢ Unknown → SetsNode (value_at values cut) value cut values values' waiting waiting' → ForcedSoFar netlist listed values' waiting' due cuts []
+  forced-cut values values' waiting waiting' due cuts node cut value so_far is data_is known sets =
+      sets-cut (value_at values cut) value values values' waiting waiting' due cuts node cut so_far is refl data_is known sets
+
+  sets-gate : (was extended : Tri) (values values' : List Tri) (waiting waiting' due cuts : List ℕ) (gate : ℕ) → ForcedSoFar netlist listed values waiting due cuts (gate ∷ []) → IsGateNumber netlist gate → value_at values gate ≡ was → gate_extension netlist values gate ≡ extended → SetsNode was extended gate values values' waiting waiting' → ForcedSoFar netlist listed values' waiting' due cuts []
+  sets-gate Zero extended values values' waiting waiting' due cuts gate so_far is_gate was is sets =
+      subst (λ (v : List Tri). ForcedSoFar netlist listed v waiting' due cuts []) (sym sets.0) (subst (λ (w : List ℕ). ForcedSoFar netlist listed values w due cuts []) (sym sets.1)
+      (forced-same values waiting due cuts gate so_far (inl (λ u. (let wrong : ⊥ = cc in wrong)))))
+  sets-gate One extended values values' waiting waiting' due cuts gate so_far is_gate was is sets =
+      subst (λ (v : List Tri). ForcedSoFar netlist listed v waiting' due cuts []) (sym sets.0) (subst (λ (w : List ℕ). ForcedSoFar netlist listed values w due cuts []) (sym sets.1)
+      (forced-same values waiting due cuts gate so_far (inl (λ u. (let wrong : ⊥ = cc in wrong)))))
+  sets-gate Unknown Unknown values values' waiting waiting' due cuts gate so_far is_gate was is sets =
+      subst (λ (v : List Tri). ForcedSoFar netlist listed v waiting' due cuts []) (sym sets.0) (subst (λ (w : List ℕ). ForcedSoFar netlist listed values w due cuts []) (sym sets.1)
+      (forced-same values waiting due cuts gate so_far (inr is)))
+  sets-gate Unknown Zero values values' waiting waiting' due cuts gate so_far is_gate was is sets =
+      subst (λ (v : List Tri). ForcedSoFar netlist listed v waiting' due cuts []) (sym sets.0) (subst (λ (w : List ℕ). ForcedSoFar netlist listed (set values gate Zero) w due cuts []) (sym sets.1)
+      (gate-known values waiting due cuts gate false so_far is_gate was is))
+  sets-gate Unknown One values values' waiting waiting' due cuts gate so_far is_gate was is sets =
+      subst (λ (v : List Tri). ForcedSoFar netlist listed v waiting' due cuts []) (sym sets.0) (subst (λ (w : List ℕ). ForcedSoFar netlist listed (set values gate One) w due cuts []) (sym sets.1)
+      (gate-known values waiting due cuts gate true so_far is_gate was is))
 
   -- what is done to a gate one of whose wires was set
-  pub forced-gate : (values values' : List Tri) (waiting waiting' due : List ℕ) (gate : ℕ) → ForcedSoFar netlist listed values waiting due (gate ∷ []) → IsGateNumber netlist gate → SetsGate (value_at values gate) (gate_extension netlist values gate) gate values values' waiting waiting' → ForcedSoFar netlist listed values' waiting' due []
-  forced-gate values values' waiting waiting' due gate so_far is_gate sets =
-      sets-gate (value_at values gate) (gate_extension netlist values gate) values values' waiting waiting' due gate so_far is_gate refl refl sets
+  pub forced-gate : (values values' : List Tri) (waiting waiting' due cuts : List ℕ) (gate : ℕ) → ForcedSoFar netlist listed values waiting due cuts (gate ∷ []) → IsGateNumber netlist gate → SetsNode (value_at values gate) (gate_extension netlist values gate) gate values values' waiting waiting' → ForcedSoFar netlist listed values' waiting' due cuts []
+  forced-gate values values' waiting waiting' due cuts gate so_far is_gate sets =
+      sets-gate (value_at values gate) (gate_extension netlist values gate) values values' waiting waiting' due cuts gate so_far is_gate refl refl sets
 
   -- where all is delivered, a gate's wires have the values of its sources
-  pins-delivered : (values : List Tri) (gate : ℕ) → ForcedSoFar netlist listed values [] [] [] → IsGateNumber netlist gate → at_wires netlist gate values ≡ map (value_at values) (gate_at netlist gate).sources
+  pins-delivered : (values : List Tri) (gate : ℕ) → ForcedSoFar netlist listed values [] [] [] [] → IsGateNumber netlist gate → at_wires netlist gate values ≡ map (value_at values) (gate_at netlist gate).sources
   pins-delivered values gate so_far is_gate =
       let sources = (gate_at netlist gate).sources in
       let long : length (at_wires netlist gate values) ≡ length sources = length-at_wires netlist gate values circuit is_gate so_far.long in
@@ -318,10 +411,21 @@ module _ (netlist : Netlist) (listed : List (Option Bool)) (circuit : IsCircuit 
       ] ∙ sym (get_or-map (value_at values) sources k 0 Zero inside)))
 
   -- at the end the values are closed
-  values-closed : (values : List Tri) → ForcedSoFar netlist listed values [] [] [] → IsClosed netlist listed (value_at values)
+  values-closed : (values : List Tri) → ForcedSoFar netlist listed values [] [] [] [] → IsClosed netlist listed (value_at values)
   values-closed values so_far =
       record {
         agrees = so_far.agrees;
+        carries = λ cut node bit is_cut is_data not_listed known.
+            let few : cut < length netlist.names = omega (arith, is_cut.1, circuit.nodes) in
+            let forced : IsForced netlist listed cut bit = forced-data netlist listed cut node bit is_cut is_data not_listed (so_far.sound node bit (data_of-node netlist cut node circuit is_cut.1 is_data) known) in
+            elim (known-bit (value_at values cut)) [
+              | inl unknown ↦ elim (so_far.open_cuts cut node (record { is_cut = is_cut; is_data = is_data }) unknown) [
+                | inl none ↦ absurd (known≢unknown (value_at values node) bit known none)
+                | inr (inl none) ↦ absurd (no-element node none)
+                | inr (inr none) ↦ absurd (no-element cut none)
+              ]
+              | inr found ↦ found.1 ∙ ap tri_of (forced_once netlist listed cut found.0 bit (so_far.sound cut found.0 few found.1) forced)
+            ];
         closed = λ gate bit is_gate not_listed extended.
             let pins : gate_extension netlist values gate ≡ tri_of bit = ap (extension (gate_at netlist gate).kind) (pins-delivered values gate so_far is_gate) ∙ extended in
             elim (known-bit (value_at values gate)) [
@@ -330,14 +434,14 @@ module _ (netlist : Netlist) (listed : List (Option Bool)) (circuit : IsCircuit 
                 | inr none ↦ absurd (no-element gate none)
               ]
               | inr known ↦ (
-                  let forced : IsForced netlist listed gate bit = forced-extension netlist listed gate (at_wires netlist gate values) bit is_gate not_listed (pins-forced values [] [] [] gate so_far is_gate) pins in
+                  let forced : IsForced netlist listed gate bit = forced-extension netlist listed gate (at_wires netlist gate values) bit is_gate not_listed (pins-forced values [] [] [] [] gate so_far is_gate) pins in
                   known.1 ∙ ap tri_of (forced_once netlist listed gate known.0 bit (so_far.sound gate known.0 is_gate.1 known.1) forced)
                   )
             ];
       }
 
   -- what is set is forced, and what is X is open
-  pub forced-end : (values : List Tri) → ForcedSoFar netlist listed values [] [] [] → AreForcedValues netlist listed values
+  pub forced-end : (values : List Tri) → ForcedSoFar netlist listed values [] [] [] [] → AreForcedValues netlist listed values
   forced-end values so_far =
       record {
         long = so_far.long;
@@ -347,6 +451,6 @@ module _ (netlist : Netlist) (listed : List (Option Bool)) (circuit : IsCircuit 
       }
 
   -- the node that is next is a node, and known
-  pub next-waits : (values : List Tri) (waiting due touched : List ℕ) (node : ℕ) → ForcedSoFar netlist listed values (waiting ++ node ∷ []) due touched → (node < length netlist.names) × (value_at values node ≢ Unknown)
-  next-waits values waiting due touched node so_far =
+  pub next-waits : (values : List Tri) (waiting due cuts touched : List ℕ) (node : ℕ) → ForcedSoFar netlist listed values (waiting ++ node ∷ []) due cuts touched → (node < length netlist.names) × (value_at values node ≢ Unknown)
+  next-waits values waiting due cuts touched node so_far =
       All-contains (λ (n : ℕ). (n < length netlist.names) × (value_at values n ≢ Unknown)) (waiting ++ node ∷ []) node so_far.waits (Contains-push waiting node)

@@ -9,5 +9,7 @@ pub mod PassResults
 pub mod ForcingLoop
 pub mod AllOpen
 pub mod Delivery
+pub mod CutLists
 pub mod ListedLoop
 pub mod CompletedLemmas
+pub mod TestStarts

@@ -1,13 +1,14 @@
 -- How values are forced: what is known while they are carried from node to node.
-use Rattle.std.specs.Prelude.{◌≡◌, ◌≢◌, ℕ, suc, ◌<◌, ◌⊎◌, Bool, Option, Some, None, List, [], ◌∷◌, ◌++◌, length, All, Contains, slice_get, slice_set}
+use Rattle.std.specs.Prelude.{◌≡◌, ◌≢◌, ℕ, suc, ◌+◌, ◌<◌, ◌≤◌, ◌⊎◌, Bool, Option, Some, None, List, [], ◌∷◌, ◌++◌, length, drop, All, Contains, slice_get, slice_set}
 use Rattle.hz_core.specs.declared.tri.Tri.{Tri}
 use Rattle.hz_core.specs.declared.tri.Tri.TheVariants.{Zero, One, Unknown}
 use Rattle.hz_core.specs.Ternary.{tri_of}
 use Rattle.hz_core.specs.Extension.{extension}
-use Rattle.hz_core.specs.Netlist.{Netlist, IsGateNumber, gate_at}
+use Rattle.hz_core.specs.Netlist.{Netlist, IsCircuit, IsGateNumber, gate_at}
 use Rattle.hz_net.specs.Network.{network_of, Source, driver_at, value_at}
 use Rattle.hz_net.specs.Variables.{at_wires}
 use Rattle.hz_net.specs.Starts.{IsForced, IsOpen}
+use Rattle.hz_pass.specs.CutLists.{IsDataOf}
 
 -- the value of a node that listed values give it, X where they give none
 abbrev pub listed_value : Option (Option Bool) → Tri
@@ -25,24 +26,26 @@ pub record IsListed (listed : List (Option Bool)) (values : List Tri) (waiting :
 abbrev pub gate_extension : Netlist → List Tri → ℕ → Tri
 gate_extension netlist values gate = extension (gate_at netlist gate).kind (at_wires netlist gate values)
 
--- a gate that was X and has a known extension is set to it and waits; else nothing changes
-abbrev pub SetsGate : Tri → Tri → ℕ → List Tri → List Tri → List ℕ → List ℕ → Type 0
-SetsGate Zero extended gate values values' waiting waiting' = (values' ≡ values) × (waiting' ≡ waiting)
-SetsGate One extended gate values values' waiting waiting' = (values' ≡ values) × (waiting' ≡ waiting)
-SetsGate Unknown Unknown gate values values' waiting waiting' = (values' ≡ values) × (waiting' ≡ waiting)
-SetsGate Unknown Zero gate values values' waiting waiting' =
+-- a node that was X and has a known value is set to it and waits; else nothing changes
+abbrev pub SetsNode : Tri → Tri → ℕ → List Tri → List Tri → List ℕ → List ℕ → Type 0
+SetsNode Zero extended gate values values' waiting waiting' = (values' ≡ values) × (waiting' ≡ waiting)
+SetsNode One extended gate values values' waiting waiting' = (values' ≡ values) × (waiting' ≡ waiting)
+SetsNode Unknown Unknown gate values values' waiting waiting' = (values' ≡ values) × (waiting' ≡ waiting)
+SetsNode Unknown Zero gate values values' waiting waiting' =
     (values' ≡ slice_set values gate Zero) × (waiting' ≡ waiting ++ gate ∷ [])
-SetsGate Unknown One gate values values' waiting waiting' =
+SetsNode Unknown One gate values values' waiting waiting' =
     (values' ≡ slice_set values gate One) × (waiting' ≡ waiting ++ gate ∷ [])
 
--- What is known while values are forced, beside the nodes that wait, the wires of a node that are due, and the gates one
--- of whose wires was set: what is set is forced, and nothing else holds a gate back whose extension is known.
-pub record ForcedSoFar (netlist : Netlist) (listed : List (Option Bool)) (values : List Tri) (waiting due touched : List ℕ) : Type 0 where
+-- What is known while values are forced, beside the nodes that wait, the wires and the cuts of a node that are due, and the
+-- gates one of whose wires was set: what is set is forced, and nothing else holds a cut back whose data node is known, nor a gate
+-- whose extension is.
+pub record ForcedSoFar (netlist : Netlist) (listed : List (Option Bool)) (values : List Tri) (waiting due cuts touched : List ℕ) : Type 0 where
   pub long : length values ≡ length (network_of netlist)
   pub agrees : (node : ℕ) (bit : Bool) → slice_get listed node ≡ Some (Some bit) → value_at values node ≡ tri_of bit
   pub sound : (node : ℕ) (bit : Bool) → node < length netlist.names → value_at values node ≡ tri_of bit → IsForced netlist listed node bit
   pub carried : (wire node : ℕ) → driver_at (network_of netlist) wire ≡ Source node → (value_at values wire ≡ Unknown) ⊎ (value_at values wire ≡ value_at values node)
   pub delivered : (wire node : ℕ) → driver_at (network_of netlist) wire ≡ Source node → (value_at values wire ≡ value_at values node) ⊎ (Contains waiting node ⊎ Contains due wire)
+  pub open_cuts : (cut node : ℕ) → IsDataOf netlist node cut → value_at values cut ≡ Unknown → (value_at values node ≡ Unknown) ⊎ (Contains waiting node ⊎ Contains cuts cut)
   pub closed : (gate : ℕ) → IsGateNumber netlist gate → value_at values gate ≡ Unknown → (gate_extension netlist values gate ≡ Unknown) ⊎ Contains touched gate
   pub waits : All (λ node. (node < length netlist.names) × (value_at values node ≢ Unknown)) waiting
 
@@ -51,3 +54,11 @@ pub record AreForcedValues (netlist : Netlist) (listed : List (Option Bool)) (va
   pub long : length values ≡ length (network_of netlist)
   pub forced : (node : ℕ) (bit : Bool) → node < length netlist.names → value_at values node ≡ tri_of bit → IsForced netlist listed node bit
   pub opens : (node : ℕ) → node < length netlist.names → value_at values node ≡ Unknown → IsOpen netlist listed node
+
+-- the first cuts of a list were given a known value, and wait, if they were X: what is known stays, and the cuts of a data node that
+-- has this value are due no more
+pub record IsTaken (cuts : List ℕ) (value : Tri) (first values : List Tri) (first_waiting waiting : List ℕ) (count : ℕ) : Type 0 where
+  pub long : length values ≡ length first
+  pub kept : (var : ℕ) → value_at first var ≢ Unknown → value_at values var ≡ value_at first var
+  pub forced : (netlist : Netlist) (listed : List (Option Bool)) (node : ℕ) (due : List ℕ) → IsCircuit netlist → length listed ≡ length netlist.names → All (IsDataOf netlist node) cuts → value_at first node ≡ value → ForcedSoFar netlist listed first first_waiting due cuts [] → ForcedSoFar netlist listed values waiting due (drop count cuts) []
+  pub fewer : unknown_count values + length waiting ≤ unknown_count first + length first_waiting

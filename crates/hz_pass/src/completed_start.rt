@@ -1,7 +1,7 @@
 //! The completed start: what listed values force upon all nodes.
 ghost use Rattle.std.specs.Prelude.{◌≡◌, ◌≢◌, ℕ, ◌<◌, ◌≤◌, length, map, take, MatchResult, MatchOption, IfOk};
 ghost use Rattle.hz_core.specs.declared.tri.Tri.TheVariants.{Unknown};
-ghost use Rattle.hz_core.specs.Netlist.{IsCircuit, IsGateNumber};
+ghost use Rattle.hz_core.specs.Netlist.{IsCircuit, IsGateNumber, primary_inputs};
 ghost use Rattle.hz_net.specs.Network.{network_of, value_at, bit_at, excitation, IsUnstable};
 ghost use Rattle.hz_net.specs.Variables.{expanded};
 ghost use Rattle.hz_net.specs.Starts.{ListsInputs, IsAcceptedStart};
@@ -16,10 +16,10 @@ use thiserror::Error;
 /// Why listed values give no start.
 #[derive(Clone, Copy, Debug, PartialEq, Eq, Error)]
 pub enum StartFault {
-    /// The least gate that is open.
+    /// The least node that is open, a cut or a gate.
     #[error("open {gate}")]
     Open { gate: u32 },
-    /// The least gate that is unstable, where none is open.
+    /// The least gate that is unstable, if no node is open.
     #[error("unstable {gate}")]
     Unstable { gate: u32 },
     /// There was no memory.
@@ -29,9 +29,9 @@ pub enum StartFault {
 
 /// The start that listed values force: the value of each variable.
 ///
-/// `listed` has an entry for each node. A gate that is not listed gets the value that its function has whatever the pins
-/// hold that are not forced. The start is accepted where each gate gets a value and none is unstable. The work grows with
-/// the size of the network.
+/// `listed` has an entry for each node. A cut that is not listed gets the value of its data node, as in a clocked circuit at
+/// rest. A gate that is not listed gets the value that its function has whatever the pins hold that are not forced. The start is
+/// accepted if each cut and each gate gets a value and no gate is unstable. The work grows with the size of the network.
 pub fn complete(alloc: Global, net: &Net, listed: &[Option<bool>]) -> Result<Vec<bool>, StartFault>
     requires listed { length listed.now ≡ length net.now.names }
     requires inputs { ListsInputs net.now listed.now }
@@ -41,8 +41,8 @@ pub fn complete(alloc: Global, net: &Net, listed: &[Option<bool>]) -> Result<Vec
         return Err(StartFault::Memory);
     };
     let _variables = net.len();
-    if let Some(gate) = least_open(net, values.as_slice()) {
-        return Err(StartFault::Open { gate });
+    if let Some(node) = least_open(net, values.as_slice()) {
+        return Err(StartFault::Open { gate: node });
     }
     let Ok(state) = state_of(alloc, net, values.as_slice()) else {
         return Err(StartFault::Memory);
@@ -53,17 +53,17 @@ pub fn complete(alloc: Global, net: &Net, listed: &[Option<bool>]) -> Result<Vec
     Ok(state)
 }
 
-// The least gate that is X.
+// The least node that is X. The primary inputs are listed.
 fn least_open(net: &Net, values: &[Tri]) -> Option<u32>
     requires circuit { IsCircuit net.now }
     requires values { length values.now ≡ length (network_of net.now) }
-    ensures { MatchOption result ((gate : ℕ) → IsGateNumber net.now gate → value_at values.now gate ≢ Unknown)
-        (λ gate. IsLeastUnknown net.now values.now gate) }
+    ensures { MatchOption result ((node : ℕ) → primary_inputs net.now ≤ node → node < length net.now.names → value_at values.now node ≢ Unknown)
+        (λ node. IsLeastUnknown net.now values.now node) }
 {
     let circuit = net.circuit();
-    for gate in circuit.inputs()..circuit.nodes() {
-        if values[gate as usize] == Tri::Unknown {
-            return Some(gate);
+    for node in circuit.primary_inputs()..circuit.nodes() {
+        if values[node as usize] == Tri::Unknown {
+            return Some(node);
         }
     }
     None

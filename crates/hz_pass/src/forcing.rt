@@ -1,13 +1,15 @@
 //! Values that are forced, carried from node to node.
-ghost use Rattle.std.specs.Prelude.{◌≡◌, ◌≢◌, ◌+◌, ◌<◌, ◌≤◌, ◌^◌, [], ◌∷◌, List, Option, Bool, length, replicate, IfOk, OnOk};
+ghost use Rattle.std.specs.Prelude.{◌≡◌, ◌≢◌, ◌+◌, ◌<◌, ◌≤◌, ◌^◌, [], ◌∷◌, List, Option, Bool, All, length, replicate, IfOk, OnOk};
 ghost use Rattle.hz_core.specs.declared.tri.Tri.TheVariants.{Unknown};
 ghost use Rattle.hz_core.specs.Ternary.{unknown_count};
 ghost use Rattle.hz_core.specs.Netlist.{IsCircuit, IsGateNumber};
 ghost use Rattle.hz_net.specs.Network.{network_of, value_at};
 ghost use Rattle.hz_net.specs.Variables.{fan_out_of};
 ghost use Rattle.hz_net.specs.Reads.{IsWireInto};
-ghost use Rattle.hz_pass.specs.Forcing.{IsListed, gate_extension, SetsGate, ForcedSoFar, AreForcedValues};
+ghost use Rattle.hz_pass.specs.CutLists.{IsDataOf};
+ghost use Rattle.hz_pass.specs.Forcing.{IsListed, IsTaken, gate_extension, SetsNode, ForcedSoFar, AreForcedValues};
 
+use crate::cuts::{cuts_at, cuts_by_data};
 use hz_core::{Memory, Tri};
 use hz_net::{Net, VarKind};
 use std::alloc::Global;
@@ -27,9 +29,11 @@ pub(crate) fn forced_values(
     let Ok(mut waiting) = Vec::with_capacity(alloc, listed.len()) else {
         return Err(Memory);
     };
+    let cuts = cuts_by_data(alloc, net.circuit(), listed)?;
     set_listed(listed, values.as_mut_slice(), &mut waiting)?;
     while let Some(node) = waiting.pop() {
-        deliver(net, node, values.as_mut_slice(), &mut waiting)?;
+        let taking = cuts_at(cuts.as_slice(), node);
+        carry(net, taking, node, values.as_mut_slice(), &mut waiting)?;
     }
     Ok(values)
 }
@@ -57,6 +61,61 @@ fn set_listed(
     Ok(())
 }
 
+// Carries the value of a node on: to the cuts whose data node it is, and along its fan-out.
+fn carry(
+    net: &Net,
+    cuts: &[u32],
+    node: u32,
+    values: &mut [Tri],
+    waiting: &mut Vec<u32>,
+) -> Result<(), Memory>
+    requires circuit { IsCircuit net.now }
+    requires cuts { All (IsDataOf net.now node) cuts.now }
+    requires node { node < length net.now.names }
+    requires values { length values.old ≡ length (network_of net.now) }
+    requires known { value_at values.old node ≢ Unknown }
+    ensures forced { (listed : List (Option Bool)) → length listed ≡ length net.now.names
+        → ForcedSoFar net.now listed values.old waiting.old.items (fan_out_of net.now node) cuts.now []
+        → OnOk result (ForcedSoFar net.now listed values.new waiting.new.items [] [] []) }
+    ensures fewer { OnOk result (unknown_count values.new + length waiting.new.items ≤ unknown_count values.old + length waiting.old.items) }
+{
+    take_data(cuts, values[node as usize], values, waiting)?;
+    deliver(net, node, values, waiting)
+}
+
+// Gives the value of a data node to its cuts that are X, and lets them wait.
+fn take_data(
+    cuts: &[u32],
+    value: Tri,
+    values: &mut [Tri],
+    waiting: &mut Vec<u32>,
+) -> Result<(), Memory>
+    requires inside { All (λ cut. cut < length values.old) cuts.now }
+    requires known { value ≢ Unknown }
+    ensures { OnOk result (IsTaken cuts.now value values.old values.new waiting.old.items waiting.new.items (length cuts.now)) }
+{
+    for cut in cuts {
+        set_cut(*cut, value, values, waiting)?;
+    }
+    Ok(())
+}
+
+// Sets a cut that is X to a known value, and lets it wait.
+fn set_cut(cut: u32, value: Tri, values: &mut [Tri], waiting: &mut Vec<u32>) -> Result<(), Memory>
+    requires inside { cut < length values.old }
+    requires known { value ≢ Unknown }
+    ensures { OnOk result (SetsNode (value_at values.old cut) value cut values.old values.new waiting.old.items waiting.new.items) }
+{
+    if values[cut as usize] != Tri::Unknown {
+        return Ok(());
+    }
+    values[cut as usize] = value;
+    let Ok(()) = waiting.push(cut) else {
+        return Err(Memory);
+    };
+    Ok(())
+}
+
 // Carries the value of a node along its fan-out, and sets the gates that this forces.
 fn deliver(net: &Net, node: u32, values: &mut [Tri], waiting: &mut Vec<u32>) -> Result<(), Memory>
     requires circuit { IsCircuit net.now }
@@ -64,8 +123,8 @@ fn deliver(net: &Net, node: u32, values: &mut [Tri], waiting: &mut Vec<u32>) -> 
     requires values { length values.old ≡ length (network_of net.now) }
     requires known { value_at values.old node ≢ Unknown }
     ensures forced { (listed : List (Option Bool)) → length listed ≡ length net.now.names
-        → ForcedSoFar net.now listed values.old waiting.old.items (fan_out_of net.now node) []
-        → OnOk result (ForcedSoFar net.now listed values.new waiting.new.items [] []) }
+        → ForcedSoFar net.now listed values.old waiting.old.items (fan_out_of net.now node) [] []
+        → OnOk result (ForcedSoFar net.now listed values.new waiting.new.items [] [] []) }
     ensures fewer { OnOk result (unknown_count values.new + length waiting.new.items ≤ unknown_count values.old + length waiting.old.items) }
 {
     let value = values[node as usize];
@@ -96,7 +155,7 @@ fn set_gate(net: &Net, gate: u32, values: &mut [Tri], waiting: &mut Vec<u32>) ->
     requires circuit { IsCircuit net.now }
     requires gate { IsGateNumber net.now gate }
     requires values { length values.old ≡ length (network_of net.now) }
-    ensures { OnOk result (SetsGate (value_at values.old gate) (gate_extension net.now values.old gate) gate
+    ensures { OnOk result (SetsNode (value_at values.old gate) (gate_extension net.now values.old gate) gate
         values.old values.new waiting.old.items waiting.new.items) }
 {
     if values[gate as usize] != Tri::Unknown {

@@ -5,6 +5,7 @@
 //! | `algorithm_a` | Algorithm A, which finds what runs may change |
 //! | `algorithm_b` | Algorithm B, which finds what may stay changed |
 //! | `completed_start` | the start that listed values force, or what keeps them from one |
+//! | `cuts` | the cuts by their data nodes |
 //! | `forcing` | how values are forced from node to node |
 //! | `front` | the frontier of a pass: what a round changed, whose readers the next one evaluates |
 //! | `round`, `rounds` | one round of either, and all of them |
@@ -13,6 +14,7 @@
 mod algorithm_a;
 mod algorithm_b;
 mod completed_start;
+mod cuts;
 mod forcing;
 mod front;
 mod round;

@@ -1,5 +1,6 @@
 //! Rows worked by hand: what the passes find on circuits of a few gates.
 ghost use Rattle.std.specs.Prelude.{◌≡◌, ◌<◌, length};
+ghost use Rattle.hz_core.specs.Netlist.{primary_inputs};
 ghost use Rattle.hz_net.specs.Network.{network_of};
 
 use super::{Front, StartFault, complete, settle, spread};
@@ -164,7 +165,7 @@ fn passes_over_a_latch(rt: HostRuntime) -> Result<(), Fail> {
 
 // The start of the gate that reads itself, under a value of its input and one that it is held at.
 fn held(alloc: Global, net: &Net, input: bool, gate: Option<bool>) -> Result<Vec<bool>, StartFault>
-    requires inputs { net.now.inputs ≡ 1 }
+    requires inputs { primary_inputs net.now ≡ 1 }
     requires nodes { length net.now.names ≡ 2 }
 {
     complete(alloc, net, &[Some(input), gate])
@@ -175,7 +176,7 @@ fn starts_of_a_gate_that_reads_itself(rt: HostRuntime) -> Result<(), Fail> {
     let circuit = holding(rt.alloc())?;
     assert!(rt; circuit.whole());
     let net = Net::build(rt.alloc(), circuit)?;
-    assert_eq!(rt; net.circuit().inputs(), 1);
+    assert_eq!(rt; net.circuit().primary_inputs(), 1);
     assert_eq!(rt; net.circuit().nodes(), 2);
     let open = held(rt.alloc(), &net, false, None);
     assert_eq!(rt; open, Err(StartFault::Open { gate: 1 }));
@@ -185,5 +186,46 @@ fn starts_of_a_gate_that_reads_itself(rt: HostRuntime) -> Result<(), Fail> {
     assert!(rt; kept.is_ok_and(|state| state.as_slice() == [false, true, false, true].as_slice()));
     let forced = held(rt.alloc(), &net, true, None);
     assert!(rt; forced.is_ok_and(|state| state.as_slice() == [true; 4].as_slice()));
+    Ok(())
+}
+
+// A flip-flop behind another, which reads the input: inputs a, p, q.
+fn shift(alloc: Global) -> Result<Circuit, Memory> {
+    let mut circuit = Circuit::new(alloc);
+    let input = circuit.add_input(b"a")?;
+    let second = circuit.add_cut(b"p")?;
+    let first = circuit.add_cut(b"q")?;
+    circuit.set_data(second, first);
+    circuit.set_data(first, input);
+    circuit.add_output(first)?;
+    circuit.add_output(input)?;
+    Ok(circuit)
+}
+
+// The start of the two flip-flops, under a value of the input and one that the second is listed with.
+fn rest(
+    alloc: Global,
+    net: &Net,
+    input: bool,
+    second: Option<bool>,
+) -> Result<Vec<bool>, StartFault>
+    requires inputs { primary_inputs net.now ≡ 1 }
+    requires nodes { length net.now.names ≡ 3 }
+{
+    complete(alloc, net, &[Some(input), second, None])
+}
+
+// What is not listed follows along the data nodes; a listed flip-flop may differ from its data node.
+#[test]
+fn starts_of_two_flip_flops(rt: HostRuntime) -> Result<(), Fail> {
+    let circuit = shift(rt.alloc())?;
+    assert!(rt; circuit.whole());
+    let net = Net::build(rt.alloc(), circuit)?;
+    assert_eq!(rt; net.circuit().primary_inputs(), 1);
+    assert_eq!(rt; net.circuit().nodes(), 3);
+    let followed = rest(rt.alloc(), &net, true, None);
+    assert!(rt; followed.is_ok_and(|state| state.as_slice() == [true; 3].as_slice()));
+    let listed = rest(rt.alloc(), &net, true, Some(false));
+    assert!(rt; listed.is_ok_and(|state| state.as_slice() == [true, false, true].as_slice()));
     Ok(())
 }

@@ -9,7 +9,7 @@ use Rattle.std.proofs.lemmas.Bool.Decides.{nat_tests}
 use Rattle.std.proofs.lemmas.Bool.{cases_lt, ltb-false}
 use Rattle.std.specs.Prelude.{◌⊎◌}
 use Rattle.std.proofs.lemmas.Option.{same_Some}
-use Rattle.hz_core.specs.Netlist.{Netlist, node_named}
+use Rattle.hz_core.specs.Netlist.{Netlist, node_named, primary_inputs}
 use Rattle.hz_gmw.specs.Least.{IsLeastOf}
 use Rattle.hz_line.specs.Line.{lines_of}
 use Rattle.hz_line.specs.Statement.{Numbered, PassesOn, first_line, numbered_statements, first_malformed}
@@ -205,7 +205,7 @@ twice-names netlist allowed (first ∷ later) h =
     step rest (k, is) ih = rw is (ap (λ b. b || has_repeat nat_eq (nodes_of (map (assigned_of netlist) later))) (any-names netlist allowed first.name k later is rest) ∙ ap (λ b. list_any (bytes_eq first.name) (map (λ assignment. assignment.name) later) || b) ih)
 
 -- each pass answers the least place of its fault
-judged : (netlist : Netlist) (text : List ℕ) → Judged (Stands netlist text) (script_rules netlist.inputs) (first_malformed (looked_by netlist) 1 (lines_of text)) (looked_statements netlist text)
+judged : (netlist : Netlist) (text : List ℕ) → Judged (Stands netlist text) (script_rules netlist.inputs (primary_inputs netlist)) (first_malformed (looked_by netlist) 1 (lines_of text)) (looked_statements netlist text)
 judged netlist text =
     let inputs = netlist.inputs in
     let looked = looked_statements netlist text in
@@ -219,7 +219,7 @@ judged netlist text =
           let same = twice-line (looked_of netlist) (has_unknown inputs) has_node_twice has_twice
           (λ statement. twice-names netlist (allowed_in statement.keyword) statement.assignments) (statements_of text) known in
           subst Q (sym same) (answers_first has_twice (statements_of text) (first_line has_twice (statements_of text)) (numbered_from-Ascends statement_of 1 (lines_of text)) refl);
-      missing = answers_missing inputs looked (least_missing inputs looked) refl;
+      missing = answers_missing (primary_inputs netlist) looked (least_missing (primary_inputs netlist) looked) refl;
       bit = answers_first has_no_bit looked (first_line has_no_bit looked) up refl;
       order = answers_order looked (first_out_of_order looked) up refl;
       beyond = λ none. subst P (line_beyond-ordered looked (order-None looked none)) (answers_itself (line_beyond looked));
@@ -227,9 +227,9 @@ judged netlist text =
     }
 
 -- what the reader and the passes answer over a text
-pub script-outcome : (netlist : Netlist) (text : List ℕ) → Outcome (Stands netlist text) (first_fault_of (looked_by netlist) (script_rules netlist.inputs) text)
-script-outcome netlist text = text-outcome (looked_of netlist) statement_of text (script_rules netlist.inputs) (Stands netlist text) (judged netlist text)
+pub script-outcome : (netlist : Netlist) (text : List ℕ) → Outcome (Stands netlist text) (first_fault_of (looked_by netlist) (script_rules netlist.inputs (primary_inputs netlist)) text)
+script-outcome netlist text = text-outcome (looked_of netlist) statement_of text (script_rules netlist.inputs (primary_inputs netlist)) (Stands netlist text) (judged netlist text)
 
 -- where no line is malformed and no pass has an answer
-pub clear-faultless : (netlist : Netlist) (text : List ℕ) → first_malformed (looked_by netlist) 1 (lines_of text) ≡ None → first_fault netlist.inputs (looked_statements netlist text) ≡ None → IsFaultless netlist text
+pub clear-faultless : (netlist : Netlist) (text : List ℕ) → first_malformed (looked_by netlist) 1 (lines_of text) ≡ None → first_fault netlist.inputs (primary_inputs netlist) (looked_statements netlist text) ≡ None → IsFaultless netlist text
 clear-faultless netlist text formed clear = unanswered (Stands netlist text) _ (script-outcome netlist text) (rw (formed, looked_statements-read netlist text, clear) refl)

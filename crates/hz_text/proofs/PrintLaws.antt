@@ -11,7 +11,7 @@ use Rattle.std.proofs.lemmas.List.Sums.{position_or_len_is}
 use Rattle.std.proofs.lemmas.Map.Keys.{apart_from_distinct}
 use Rattle.std.proofs.lemmas.Option.{slice_get_past}
 use Rattle.std.proofs.lemmas.Slice.Eq.{bytes_eq-Decides}
-use Rattle.hz_core.specs.Netlist.{Netlist, IsCircuit, node_named}
+use Rattle.hz_core.specs.Netlist.{Netlist, IsCircuit, node_named, primary_inputs}
 use Rattle.hz_line.specs.Line.{lines_of}
 use Rattle.hz_line.specs.Statement.{Numbered, numbered_from, first_line, first_malformed}
 use Rattle.hz_line.proofs.StatementLemmas.{first_malformed-map}
@@ -184,9 +184,9 @@ listed-whole start inputs listed =
     let found = assigns-bit all k (rw (bit_at-listed 0 k k start (sym (zero-add k))) (listed k low)) in
     rw (get_or-marks all inputs k false low, found) refl)
 
-start-whole : (netlist : Netlist) (script : ScriptOf) → IsCircuit netlist → IsScriptFor netlist script → least_unassigned netlist.inputs (map assignment_to (listed_from 0 script.start)) ≡ None
+start-whole : (netlist : Netlist) (script : ScriptOf) → IsCircuit netlist → IsScriptFor netlist script → least_unassigned (primary_inputs netlist) (map assignment_to (listed_from 0 script.start)) ≡ None
 start-whole netlist script whole h =
-    let inputs = netlist.inputs in
+    let inputs = primary_inputs netlist in
     listed-whole script.start inputs (λ k low.
     let long : inputs ≤ length script.start = omega (arith, h.nodes, whole.nodes) in
     rw (get_or-take inputs script.start k None low) at (h.inputs k None (omega (arith, low, length-take-le inputs script.start long))))
@@ -199,7 +199,7 @@ changes_back : (changes : List (List (ℕ × Bool))) (line : ℕ) → map (map a
 changes_back [] line = refl
 changes_back (change ∷ changes) line = ap (λ rest. map assignment_to change ∷ rest) (changes_back changes (suc line))
 
-sent-clear : (netlist : Netlist) (script : ScriptOf) → IsCircuit netlist → IsScriptFor netlist script → first_fault netlist.inputs (script_sent script) ≡ None
+sent-clear : (netlist : Netlist) (script : ScriptOf) → IsCircuit netlist → IsScriptFor netlist script → first_fault netlist.inputs (primary_inputs netlist) (script_sent script) ≡ None
 sent-clear netlist script whole h =
     let inputs = netlist.inputs in
     let start : Numbered Looked = record { line = 1; statement = sent Start (listed_from 0 script.start) } in
@@ -215,7 +215,7 @@ sent-clear netlist script whole h =
 pub printed-faultless : (netlist : Netlist) (script : ScriptOf) → IsCircuit netlist → IsScriptFor netlist script → IsFaultless netlist (script_text netlist script)
 printed-faultless netlist script whole h =
     let text = script_text netlist script in
-    let none : first_fault netlist.inputs (looked_statements netlist text) ≡ None = ap (first_fault netlist.inputs) (script_read netlist script whole h) ∙ sent-clear netlist script whole h in
+    let none : first_fault netlist.inputs (primary_inputs netlist) (looked_statements netlist text) ≡ None = ap (first_fault netlist.inputs (primary_inputs netlist)) (script_read netlist script whole h) ∙ sent-clear netlist script whole h in
     clear-faultless netlist text (first_malformed-map (looked_of netlist) statement_of 1 (lines_of text) ∙ script_formed netlist script whole h) none
 
 -- what a start lists is read back

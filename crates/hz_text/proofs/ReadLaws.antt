@@ -11,7 +11,7 @@ use Rattle.std.proofs.lemmas.Bool.{cases_lt}
 use Rattle.std.specs.Prelude.{◌⊎◌}
 use Rattle.std.proofs.lemmas.Bool.Decides.{nat_tests}
 use Rattle.std.proofs.lemmas.Option.{none-some, slice_get-get_or}
-use Rattle.hz_core.specs.Netlist.{Netlist, IsCircuit}
+use Rattle.hz_core.specs.Netlist.{Netlist, IsCircuit, primary_inputs}
 use Rattle.hz_line.specs.Statement.{Numbered, first_line}
 use Rattle.hz_text.specs.Statement.{Keyword, Start, Change}
 use Rattle.hz_text.specs.declared.fault.TextFault.{TextFault}
@@ -32,10 +32,10 @@ use Rattle.hz_text.proofs.LeastFault.{answered, unanswered, checked-none}
 use Rattle.hz_text.proofs.BuildLemmas.{or_parts, nodes_of-pairs, IsDistinct-from_repeat}
 
 -- no pass has an answer
-pub record IsClear (inputs : ℕ) (statements : List (Numbered Looked)) : Type 0 where
+pub record IsClear (inputs primary : ℕ) (statements : List (Numbered Looked)) : Type 0 where
   pub unknown : first_line (has_unknown inputs) statements ≡ None
   pub twice : first_line has_node_twice statements ≡ None
-  pub missing : least_missing inputs statements ≡ None
+  pub missing : least_missing primary statements ≡ None
   pub bit : first_line has_no_bit statements ≡ None
   pub order : first_out_of_order statements ≡ None
   pub few : last_beyond statements ≡ None
@@ -48,11 +48,11 @@ pub none_last : (kind : ℕ → TextFault) (answer : Option ℕ) → option_map 
 none_last kind None h = refl
 none_last kind (Some place) h = cc
 
-pub clear-from : (inputs : ℕ) (statements : List (Numbered Looked)) → first_fault inputs statements ≡ None → IsClear inputs statements
-clear-from inputs statements h =
+pub clear-from : (inputs primary : ℕ) (statements : List (Numbered Looked)) → first_fault inputs primary statements ≡ None → IsClear inputs primary statements
+clear-from inputs primary statements h =
     let a = none_parts Unknown (first_line (has_unknown inputs) statements) _ h in
     let b = none_parts Twice (first_line has_node_twice statements) _ a.1 in
-    let c = none_parts Missing (least_missing inputs statements) _ b.1 in
+    let c = none_parts Missing (least_missing primary statements) _ b.1 in
     let d = none_parts Bit (first_line has_no_bit statements) _ c.1 in
     let e = none_parts Order (first_out_of_order statements) _ d.1 in
     record { unknown = a.0; twice = b.0; missing = c.0; bit = d.0; order = e.0; few = none_last TooMany (last_beyond statements) e.1 }
@@ -94,8 +94,8 @@ All-unmap P f xs h = λ k d l. subst P (get_or-map f xs k d (f d) l) (h k (f d) 
 pub read-looked : (netlist : Netlist) (text : List ℕ) (entries : List Entry) → IsRead (looked_by netlist) text (map entered entries) → map entered entries ≡ looked_statements netlist text
 read-looked netlist text entries h = sym h.statements ∙ looked_statements-read netlist text
 
-pub entries-sound : (inputs nodes : ℕ) (entries : List Entry) → IsClear inputs (map entered entries) → All (λ entry. AreBelow nodes entry.held.assigned.items) entries → All (λ entry. IsSound nodes (held_by entry.held)) entries
-entries-sound inputs nodes entries h below =
+pub entries-sound : (inputs primary nodes : ℕ) (entries : List Entry) → IsClear inputs primary (map entered entries) → All (λ entry. AreBelow nodes entry.held.assigned.items) entries → All (λ entry. IsSound nodes (held_by entry.held)) entries
+entries-sound inputs primary nodes entries h below =
     let U : Numbered Looked → Type 0 = λ numbered. has_unknown inputs numbered.statement ≡ false in
     let B : Numbered Looked → Type 0 = λ numbered. has_no_bit numbered.statement ≡ false in
     let T : Numbered Looked → Type 0 = λ numbered. has_node_twice numbered.statement ≡ false in
@@ -151,7 +151,7 @@ change-input inputs looked change e start unknown twice =
     }
 
 -- a script of accepted statements can be used
-usable : (netlist : Netlist) (statements : List (Numbered Looked)) (script : ScriptOf) → IsCircuit netlist → IsClear netlist.inputs statements → IsScriptOf (length netlist.names) statements script → IsScriptFor netlist script
+usable : (netlist : Netlist) (statements : List (Numbered Looked)) (script : ScriptOf) → IsCircuit netlist → IsClear netlist.inputs (primary_inputs netlist) statements → IsScriptOf (length netlist.names) statements script → IsScriptFor netlist script
 usable netlist [] script whole h is = absurd is
 usable netlist (first ∷ later) script whole h is =
     let nodes = length netlist.names in
@@ -159,9 +159,10 @@ usable netlist (first ∷ later) script whole h is =
     let ordered : IsOrdered (first ∷ later) = order-None (first ∷ later) h.order in
     let all = first.statement.assigned in
     let long : length script.start ≡ nodes = ap length is.start ∙ length-map (range_with_len 0 nodes) (bit_at all) ∙ length-range_with_len 0 nodes in
-    let within : inputs ≤ nodes = omega (arith, whole.nodes) in
+    let primary = primary_inputs netlist in
+    let within : primary ≤ nodes = omega (arith, whole.nodes) in
     let bits : has_no_bit first.statement ≡ false = All-head (λ (numbered : Numbered Looked). has_no_bit numbered.statement ≡ false) first later (All-from_first_line has_no_bit (first ∷ later) h.bit) in
-    let missing : least_unassigned inputs all ≡ None = rw ordered.0 at h.missing in
+    let missing : least_unassigned primary all ≡ None = rw ordered.0 at h.missing in
     let unknown = All-tail (λ (numbered : Numbered Looked). has_unknown inputs numbered.statement ≡ false) first later (All-from_first_line (has_unknown inputs) (first ∷ later) h.unknown) in
     let twice = All-tail (λ (numbered : Numbered Looked). has_node_twice numbered.statement ≡ false) first later (All-from_first_line has_node_twice (first ∷ later) h.twice) in
     let starts = All-from_first_line is_start later ordered.1 in
@@ -169,9 +170,9 @@ usable netlist (first ∷ later) script whole h is =
     record {
       nodes = long;
       inputs = λ k d l.
-          let low : k < inputs = omega (arith, l, length-take-le inputs script.start (omega (arith, long, within))) in
-          rw (get_or-take inputs script.start k d low, is.start, get_or-map-range_with_len (bit_at all) 0 nodes k k d (omega (arith, low, within)) (zero-add k))
-          (bit-some all k (unassigned-None inputs all missing k low) bits);
+          let low : k < primary = omega (arith, l, length-take-le primary script.start (omega (arith, long, within))) in
+          rw (get_or-take primary script.start k d low, is.start, get_or-map-range_with_len (bit_at all) 0 nodes k k d (omega (arith, low, within)) (zero-add k))
+          (bit-some all k (unassigned-None primary all missing k low) bits);
       changes = λ k d l.
           let at : k < length later = omega (arith, l, many) in
           change-input inputs ((get_or later k first).statement) (get_or script.changes k d)
@@ -182,10 +183,10 @@ usable netlist (first ∷ later) script whole h is =
 
 -- what a text is in which the passes find nothing
 pub accepted :
-    (netlist : Netlist) (text : List ℕ) (entries : List Entry) → IsChecked (looked_by netlist) (script_rules netlist.inputs) text (map entered entries) →
+    (netlist : Netlist) (text : List ℕ) (entries : List Entry) → IsChecked (looked_by netlist) (script_rules netlist.inputs (primary_inputs netlist)) text (map entered entries) →
     All (λ entry. AreBelow (length netlist.names) entry.held.assigned.items) entries → IsAccepted netlist text entries
 accepted netlist text entries h below =
-    let clear = clear-from netlist.inputs (map entered entries) h.clear in
+    let clear = clear-from netlist.inputs (primary_inputs netlist) (map entered entries) h.clear in
     let looked = read-looked netlist text entries h.read in
     let many = length-map entries entered in
     let P : List (Numbered Looked) → Type 0 = λ statements. (script : ScriptOf) → IsScriptOf (length netlist.names) statements script → IsScriptFor netlist script in
@@ -193,11 +194,11 @@ accepted netlist text entries h below =
       statements = looked;
       some = omega (arith, many, ordered-some (map entered entries) (order-None (map entered entries) clear.order));
       few = omega (arith, many, short (map entered entries) clear.few);
-      sound = entries-sound netlist.inputs (length netlist.names) entries clear below;
-      faultless = unanswered (Stands netlist text) _ (script-outcome netlist text) (checked-none (looked_by netlist) (script_rules netlist.inputs) text (map entered entries) h);
+      sound = entries-sound netlist.inputs (primary_inputs netlist) (length netlist.names) entries clear below;
+      faultless = unanswered (Stands netlist text) _ (script-outcome netlist text) (checked-none (looked_by netlist) (script_rules netlist.inputs (primary_inputs netlist)) text (map entered entries) h);
       usable = λ whole. subst P looked (λ script is. usable netlist (map entered entries) script whole clear is);
     }
 
 -- what the reader and the passes answer, as a refusal
-pub refusal : (netlist : Netlist) (text : List ℕ) (fault : TextFault) → IsAnswer (first_fault_of (looked_by netlist) (script_rules netlist.inputs) text) fault → IsRefusal netlist text fault
+pub refusal : (netlist : Netlist) (text : List ℕ) (fault : TextFault) → IsAnswer (first_fault_of (looked_by netlist) (script_rules netlist.inputs (primary_inputs netlist)) text) fault → IsRefusal netlist text fault
 refusal netlist text fault h = answered (Stands netlist text) _ fault (script-outcome netlist text) h

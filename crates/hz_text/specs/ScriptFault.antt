@@ -1,7 +1,7 @@
 -- The faults of a script's text.
 use Rattle.std.specs.Prelude.{◌≡◌, ℕ, ◌<◌, Bool, true, false, not, List, [], ◌∷◌, map, filter, slice_get, Option, Some, ◌⊎◌}
 use Rattle.std.specs.Option.{option_map}
-use Rattle.hz_core.specs.Netlist.{Netlist}
+use Rattle.hz_core.specs.Netlist.{Netlist, primary_inputs}
 use Rattle.hz_line.specs.Statement.{Numbered, PassesOn, Malformed, meaning_at}
 use Rattle.hz_text.specs.declared.fault.TextFault.{TextFault}
 use Rattle.hz_text.specs.declared.fault.TextFault.TheVariants.{Form, Unknown, Twice, Missing, Bit, Order, TooMany, Memory}
@@ -40,11 +40,11 @@ is_start_word Change = false
 abbrev pub is_start : Looked → Bool
 is_start looked = is_start_word looked.keyword
 
--- the first statement is a start and does not assign this input
+-- the first statement is a start and does not assign this input, which is one of so many primary inputs
 abbrev pub IsMissing : ℕ → List (Numbered Looked) → ℕ → Type 0
-IsMissing inputs [] node = ⊥
-IsMissing inputs (first ∷ later) node =
-    (is_start first.statement ≡ true) × (node < inputs) × (assigns first.statement.assigned node ≡ false)
+IsMissing primary [] node = ⊥
+IsMissing primary (first ∷ later) node =
+    (is_start first.statement ≡ true) × (node < primary) × (assigns first.statement.assigned node ≡ false)
 
 -- the first statement, on this line, is no start, or a later one, on this line, is; line 0 where there is no statement
 abbrev pub IsOutOfOrder : List (Numbered Looked) → ℕ → Type 0
@@ -62,7 +62,7 @@ abbrev pub Stands : Netlist → List ℕ → TextFault → Type 0
 Stands netlist text (Form line) = meaning_at statement_of text line ≡ Malformed
 Stands netlist text (Unknown line) = PassesOn (has_unknown netlist.inputs) (looked_statements netlist text) line
 Stands netlist text (Twice line) = PassesOn has_twice (statements_of text) line
-Stands netlist text (Missing node) = IsMissing netlist.inputs (looked_statements netlist text) node
+Stands netlist text (Missing node) = IsMissing (primary_inputs netlist) (looked_statements netlist text) node
 Stands netlist text (Bit line) = PassesOn has_no_bit (looked_statements netlist text) line
 Stands netlist text (Order line) = IsOutOfOrder (looked_statements netlist text) line
 Stands netlist text (TooMany line) = line_beyond (looked_statements netlist text) ≡ Some line

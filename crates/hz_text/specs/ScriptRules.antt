@@ -11,10 +11,10 @@ use Rattle.hz_text.specs.ScriptFault.{is_start, has_unknown, has_no_bit}
 abbrev pub has_node_twice : Looked → Bool
 has_node_twice looked = repeats_node looked.assigned
 
--- the least input that a first start does not assign
+-- the least of so many primary inputs that a first start does not assign
 abbrev pub least_missing : ℕ → List (Numbered Looked) → Option ℕ
-least_missing inputs [] = None
-least_missing inputs (first ∷ later) = if is_start first.statement then least_unassigned inputs first.statement.assigned else None
+least_missing primary [] = None
+least_missing primary (first ∷ later) = if is_start first.statement then least_unassigned primary first.statement.assigned else None
 
 -- the line that breaks the order first
 abbrev pub first_out_of_order : List (Numbered Looked) → Option ℕ
@@ -25,17 +25,17 @@ first_out_of_order (first ∷ later) = if is_start first.statement then first_li
 abbrev pub last_beyond : List (Numbered Looked) → Option ℕ
 last_beyond statements = option_map (λ numbered. numbered.line) (slice_get statements 10001)
 
--- the passes over a script of a circuit with so many inputs
-abbrev pub script_rules : ℕ → Rules Looked
-script_rules inputs = record {
+-- the passes over a script of a circuit with so many inputs, of which so many are primary
+abbrev pub script_rules : ℕ → ℕ → Rules Looked
+script_rules inputs primary = record {
   unknown = has_unknown inputs;
   assigned = λ looked. looked.assigned;
   bitless = has_no_bit;
-  missing = least_missing inputs;
+  missing = least_missing primary;
   order = first_out_of_order;
   beyond = last_beyond;
 }
 
 -- what the passes answer, one after the other
-abbrev pub first_fault : ℕ → List (Numbered Looked) → Option TextFault
-first_fault inputs statements = first_fault_in (script_rules inputs) statements
+abbrev pub first_fault : ℕ → ℕ → List (Numbered Looked) → Option TextFault
+first_fault inputs primary statements = first_fault_in (script_rules inputs primary) statements

@@ -1,7 +1,7 @@
 -- The script that a text without a fault stands for.
 use Rattle.std.specs.Prelude.{◌≡◌, ℕ, ◌≤◌, List, [], ◌∷◌, length, take, map, All, IsSome}
 use Rattle.std.specs.List.{range_with_len}
-use Rattle.hz_core.specs.Netlist.{Netlist}
+use Rattle.hz_core.specs.Netlist.{Netlist, primary_inputs}
 use Rattle.hz_line.specs.Statement.{Numbered}
 use Rattle.hz_text.specs.Assignment.{assignment_to, bit_at}
 use Rattle.hz_text.specs.Lookup.{Looked}
@@ -22,9 +22,9 @@ IsScriptOf nodes (first ∷ later) script = IsScriptBy nodes first.statement lat
 abbrev pub IsValue : Netlist → List ℕ → ScriptOf → Type 0
 IsValue netlist text script = IsScriptOf (length netlist.names) (looked_statements netlist text) script
 
--- a script of a circuit: one entry for each node, each input listed, and changes of inputs alone
+-- a script of a circuit: one entry for each node, each primary input listed, and changes of inputs alone
 pub record IsScriptFor (netlist : Netlist) (script : ScriptOf) : Type 0 where
   pub nodes : length script.start ≡ length netlist.names
-  pub inputs : All IsSome (take netlist.inputs script.start)
+  pub inputs : All IsSome (take (primary_inputs netlist) script.start)
   pub changes : All (IsChange netlist.inputs) script.changes
   pub few : length script.changes ≤ 10000

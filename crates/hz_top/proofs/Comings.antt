@@ -9,7 +9,7 @@ use Rattle.hz_outside.specs.declared.fault.Place.{Place}
 use Rattle.hz_outside.specs.declared.fault.Place.TheVariants.{Second}
 use Rattle.hz_outside.specs.declared.fault.LoadFault.{LoadFault}
 use Rattle.hz_outside.specs.declared.fault.LoadFault.TheVariants as load
-use Rattle.hz_core.specs.Netlist.{Netlist}
+use Rattle.hz_core.specs.Netlist.{Netlist, primary_inputs}
 use Rattle.hz_net.specs.Starts.{ListsInputs, IsAcceptedStart, IsLeastOpen, IsLeastUnstable}
 use Rattle.hz_pass.specs.Completed.{IsStartFault}
 use Rattle.hz_pass.specs.declared.completed_start.StartFault.{StartFault}
@@ -44,17 +44,17 @@ pub listed-bit : (entry : Option Bool) → IsSome entry → (bit : Bool) × (ent
 listed-bit None some = absurd (false≢true some)
 listed-bit (Some bit) some = (bit, refl)
 
--- a start whose first entries have bits lists each input
-pub ListsInputs-front : (netlist : Netlist) (listed : List (Option Bool)) → netlist.inputs ≤ length listed → All IsSome (take netlist.inputs listed) → ListsInputs netlist listed
+-- a start whose first entries have bits lists each primary input
+pub ListsInputs-front : (netlist : Netlist) (listed : List (Option Bool)) → primary_inputs netlist ≤ length listed → All IsSome (take (primary_inputs netlist) listed) → ListsInputs netlist listed
 ListsInputs-front netlist listed within all input below =
-    let long : length (take netlist.inputs listed) ≡ netlist.inputs = length-take-le netlist.inputs listed within in
-    let here : input < length (take netlist.inputs listed) = rw long below in
-    let some : IsSome (get_or (take netlist.inputs listed) input None) = All-get_or IsSome (take netlist.inputs listed) input None here all in
-    let is : get_or (take netlist.inputs listed) input None ≡ get_or listed input None = get_or-take netlist.inputs listed input None below in
+    let long : length (take (primary_inputs netlist) listed) ≡ primary_inputs netlist = length-take-le (primary_inputs netlist) listed within in
+    let here : input < length (take (primary_inputs netlist) listed) = rw long below in
+    let some : IsSome (get_or (take (primary_inputs netlist) listed) input None) = All-get_or IsSome (take (primary_inputs netlist) listed) input None here all in
+    let is : get_or (take (primary_inputs netlist) listed) input None ≡ get_or listed input None = get_or-take (primary_inputs netlist) listed input None below in
     let found = listed-bit (get_or listed input None) (subst IsSome is some) in
     (found.0, slice_get-get_or listed input None (omega (arith, below, within)) ∙ ap Some found.1)
 
--- a start that is open at a gate is refused with its line
+-- a start that is open at a node is refused with its line
 pub start-open : (netlist : Netlist) (listed named : List (Option Bool)) (fault : StartFault) (gate : ℕ) → listed ≡ named → fault ≡ start.Open gate → IsStartFault netlist listed fault → IsLeastOpen netlist named gate
 start-open netlist listed named fault gate same is says =
     subst (λ (list : List (Option Bool)). IsLeastOpen netlist list gate) same (subst (IsStartFault netlist listed) is says)
@@ -83,7 +83,6 @@ pub netlist-refused : (text : List ℕ) (fault : BenchFault) → netlist_fault.I
 netlist-refused text (bench.Form line) least other = least
 netlist-refused text (bench.Name line) least other = least
 netlist-refused text (bench.KindUnknown line) least other = least
-netlist-refused text (bench.Clocked line) least other = least
 netlist-refused text (bench.Twice line first) least other = least
 netlist-refused text (bench.Pins line count) least other = least
 netlist-refused text (bench.Undefined line) least other = least

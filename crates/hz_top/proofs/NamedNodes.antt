@@ -1,6 +1,6 @@
 -- A node that the refusal of a text names is one of the circuit.
 use Rattle.std.proofs.Common.{ℕ, ◌<◌, inl, inr, List, [], ◌∷◌, length, Option, Some, None, arith}
-use Rattle.hz_core.specs.Netlist.{Netlist, IsCircuit}
+use Rattle.hz_core.specs.Netlist.{Netlist, IsCircuit, primary_inputs}
 use Rattle.hz_text.specs.declared.fault.TextFault.{TextFault}
 use Rattle.hz_text.specs.declared.fault.TextFault.TheVariants.{Form, Unknown, Twice, Missing, Bit, Order, TooMany, Memory}
 use Rattle.hz_text.specs.RunFault.{looked_run_statements, first_start, first_input, LeavesOut, IsLeftOut, StandsInRuns, IsRunRefusal}
@@ -41,7 +41,7 @@ names-node netlist holds Memory is_node (inr least) = tt
 pub script-node : (netlist : Netlist) (text : List ℕ) (fault : TextFault) → IsCircuit netlist → IsRefusal netlist text fault → NamesNode netlist (named_node fault)
 script-node netlist text fault circuit least =
     names-node netlist (Stands netlist text) fault
-    (λ node missing. omega (arith, missing-below netlist.inputs (looked_statements netlist text) node missing, circuit.nodes)) least
+    (λ node missing. omega (arith, missing-below (primary_inputs netlist) (looked_statements netlist text) node missing, circuit.nodes)) least
 
 -- the node that the refusal of a run text names
 pub runs-node : (netlist : Netlist) (text : List ℕ) (fault : TextFault) → IsCircuit netlist → IsRunRefusal netlist text fault → NamesNode netlist (named_node fault)

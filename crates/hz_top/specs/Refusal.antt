@@ -50,7 +50,6 @@ abbrev pub netlist_fault_line : BenchFault → List ℕ
 netlist_fault_line (bench.Form line) = fault_line (codes "netlist") line (codes ": form")
 netlist_fault_line (bench.Name line) = fault_line (codes "netlist") line (codes ": name too long")
 netlist_fault_line (bench.KindUnknown line) = fault_line (codes "netlist") line (codes ": unknown kind")
-netlist_fault_line (bench.Clocked line) = fault_line (codes "netlist") line (codes ": clocked")
 netlist_fault_line (bench.Twice line first) = counted_line line (codes ": defined twice, first on line ") first
 netlist_fault_line (bench.Pins line count) = counted_line line (codes ": pins ") count
 netlist_fault_line (bench.Undefined line) = fault_line (codes "netlist") line (codes ": undefined name")

@@ -121,7 +121,6 @@ fn put_netlist_fault<K: Sink>(out: &mut K, fault: BenchFault) -> Result<(), PutF
         BenchFault::Form { line } => put_at(out, b"netlist", line, b": form"),
         BenchFault::Name { line } => put_at(out, b"netlist", line, b": name too long"),
         BenchFault::KindUnknown { line } => put_at(out, b"netlist", line, b": unknown kind"),
-        BenchFault::Clocked { line } => put_at(out, b"netlist", line, b": clocked"),
         BenchFault::Twice { line, first } => {
             put_counted(out, line, b": defined twice, first on line ", first)
         }

@@ -14,7 +14,7 @@ use hz_core::Circuit;
 use std::alloc::Global;
 
 /// Reads a script of a circuit: a line `start`, then lines `change`, each with assignments `name = bit`. The start lists
-/// every input and may list gates; a change lists inputs. Keywords may be in any letter case.
+/// every primary input and may list cuts and gates; a change lists inputs. Keywords may be in any letter case.
 ///
 /// It takes time linear in the text and the circuit, if the names are not chosen to collide.
 pub fn read_script(alloc: Global, circuit: &Circuit, text: &[u8]) -> Result<Script, TextFault>

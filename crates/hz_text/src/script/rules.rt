@@ -22,19 +22,19 @@ pub(crate) fn has_unknown(held: &Held, inputs: u32) -> bool
     }
 }
 
-// The least input that the first statement, where it is a start, does not assign.
+// The least primary input that the first statement, if it is a start, does not assign.
 pub(crate) fn least_missing(
     alloc: Global,
     entries: &[Entry],
-    inputs: u32,
+    primary_inputs: u32,
 ) -> Result<Option<u32>, Memory>
-    ensures { IfOk result (λ missing. missing ≡ least_missing inputs (entered_all entries.now)) }
+    ensures { IfOk result (λ missing. missing ≡ least_missing primary_inputs (entered_all entries.now)) }
 {
     let [first, ..] = entries else {
         return Ok(None);
     };
     match first.held.keyword {
-        Keyword::Start => least_unassigned(alloc, first.held.assigned.as_slice(), inputs),
+        Keyword::Start => least_unassigned(alloc, first.held.assigned.as_slice(), primary_inputs),
         Keyword::Change => Ok(None),
     }
 }

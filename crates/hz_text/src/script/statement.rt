@@ -42,7 +42,7 @@ pub(crate) struct Statements<'c> {
 
 impl<'c, 't> Text<'t> for Statements<'c> {
     ghost use Rattle.std.specs.Prelude.{length};
-    ghost use Rattle.hz_core.specs.Netlist.{Netlist};
+    ghost use Rattle.hz_core.specs.Netlist.{Netlist, primary_inputs};
     ghost use Rattle.hz_text.specs.Lookup.{Looked, held_by, looked_by};
     ghost use Rattle.hz_text.specs.ScriptRules.{script_rules};
 
@@ -58,7 +58,7 @@ impl<'c, 't> Text<'t> for Statements<'c> {
 
     ghost grammar = { looked_by };
 
-    ghost rules = { λ netlist. script_rules netlist.inputs };
+    ghost rules = { λ netlist. script_rules netlist.inputs (primary_inputs netlist) };
 
     ghost node_count = { λ netlist. length netlist.names };
 
@@ -90,7 +90,7 @@ impl<'c, 't> Text<'t> for Statements<'c> {
     }
 
     fn least_missing(&self, alloc: Global, entries: &[Entry]) -> Result<Option<u32>, Memory> {
-        least_missing(alloc, entries, self.circuit.inputs())
+        least_missing(alloc, entries, self.circuit.primary_inputs())
     }
 
     fn first_out_of_order(&self, entries: &[Entry]) -> Option<u32> {

@@ -1,7 +1,7 @@
-use Rattle.std.proofs.Common.{◌≡◌, ◌≢◌, ℕ, List, Bool, length, map, take, ap, ◌∙◌, subst}
+use Rattle.std.proofs.Common.{◌≡◌, ◌≢◌, ◌<◌, ◌≤◌, ℕ, List, Bool, length, map, take, ap, ◌∙◌, subst}
 use Rattle.hz_core.specs.declared.tri.Tri.{Tri}
 use Rattle.hz_core.specs.declared.tri.Tri.TheVariants.{Unknown}
-use Rattle.hz_core.specs.Netlist.{IsGateNumber}
+use Rattle.hz_core.specs.Netlist.{IsGateNumber, primary_inputs}
 use Rattle.hz_net.specs.Network.{network_of, value_at, bit_at, excitation}
 use Rattle.hz_net.specs.Variables.{expanded}
 use Rattle.hz_net.specs.Starts.{IsCompletedStart}
@@ -11,21 +11,21 @@ use Rattle.hz_pass.proofs.completed_start.complete.Goals as goal
 
 pub returns-in-Some : goal.returns-in-Some
 returns-in-Some c = record {
-  start = least-open c.args.net.now c.args.listed.now c.in-Ok.values.items c.len-variables.ensures.circuit c.requires.inputs c.in-Ok.ensures c.in-Some.gate
-      (subst (λ (v : List Tri). IsLeastUnknown c.args.net.now v c.in-Some.gate) c.as_slice.ensures.value c.in-Some.ensures);
+  start = least-open c.args.net.now c.args.listed.now c.in-Ok.values.items c.len-variables.ensures.circuit c.requires.inputs c.in-Ok.ensures c.in-Some.node
+      (subst (λ (v : List Tri). IsLeastUnknown c.args.net.now v c.in-Some.node) c.as_slice.ensures.value c.in-Some.ensures);
 }
 
 pub least_unstable-requires-clause-state : goal.least_unstable-requires-clause-state
 least_unstable-requires-clause-state c =
     let completed : IsCompletedStart c.args.net.now c.args.listed.now c.in-Ok-state_of.state.items = completed-start c.args.net.now c.args.listed.now c.in-Ok.values.items c.len-variables.ensures.circuit c.requires.inputs c.in-Ok.ensures c.in-Ok-state_of.state.items
-    (subst (λ (v : List Tri). (gate : ℕ) → IsGateNumber c.args.net.now gate → value_at v gate ≢ Unknown) c.as_slice.ensures.value c.in_default-least_open.ensures)
+    (subst (λ (v : List Tri). (node : ℕ) → primary_inputs c.args.net.now ≤ node → node < length c.args.net.now.names → value_at v node ≢ Unknown) c.as_slice.ensures.value c.in_default-least_open.ensures)
     (c.in-Ok-state_of.ensures ∙ ap (λ (v : List Tri). expanded c.args.net.now (map bit_or_zero (take (length c.args.net.now.names) v))) c.as_slice-2.ensures.value) in
     ap length c.as_slice-3.ensures.value ∙ completed.long
 
 pub returns-in-Some-least_unstable : goal.returns-in-Some-least_unstable
 returns-in-Some-least_unstable c =
     let completed : IsCompletedStart c.args.net.now c.args.listed.now c.in-Ok-state_of.state.items = completed-start c.args.net.now c.args.listed.now c.in-Ok.values.items c.len-variables.ensures.circuit c.requires.inputs c.in-Ok.ensures c.in-Ok-state_of.state.items
-    (subst (λ (v : List Tri). (gate : ℕ) → IsGateNumber c.args.net.now gate → value_at v gate ≢ Unknown) c.as_slice.ensures.value c.in_default-least_open.ensures)
+    (subst (λ (v : List Tri). (node : ℕ) → primary_inputs c.args.net.now ≤ node → node < length c.args.net.now.names → value_at v node ≢ Unknown) c.as_slice.ensures.value c.in_default-least_open.ensures)
     (c.in-Ok-state_of.ensures ∙ ap (λ (v : List Tri). expanded c.args.net.now (map bit_or_zero (take (length c.args.net.now.names) v))) c.as_slice-2.ensures.value) in
     record {
       start = least-unstable c.args.net.now c.args.listed.now c.in-Ok-state_of.state.items c.in-Some-least_unstable.gate completed
@@ -35,7 +35,7 @@ returns-in-Some-least_unstable c =
 pub returns : goal.returns
 returns c =
     let completed : IsCompletedStart c.args.net.now c.args.listed.now c.in-Ok-state_of.state.items = completed-start c.args.net.now c.args.listed.now c.in-Ok.values.items c.len-variables.ensures.circuit c.requires.inputs c.in-Ok.ensures c.in-Ok-state_of.state.items
-    (subst (λ (v : List Tri). (gate : ℕ) → IsGateNumber c.args.net.now gate → value_at v gate ≢ Unknown) c.as_slice.ensures.value c.in_default-least_open.ensures)
+    (subst (λ (v : List Tri). (node : ℕ) → primary_inputs c.args.net.now ≤ node → node < length c.args.net.now.names → value_at v node ≢ Unknown) c.as_slice.ensures.value c.in_default-least_open.ensures)
     (c.in-Ok-state_of.ensures ∙ ap (λ (v : List Tri). expanded c.args.net.now (map bit_or_zero (take (length c.args.net.now.names) v))) c.as_slice-2.ensures.value) in
     record {
       start = accepted-start c.args.net.now c.args.listed.now c.in-Ok-state_of.state.items c.len-variables.ensures.circuit completed

@@ -5,7 +5,7 @@ use Rattle.hz_pass.proofs.forcing.forced_values.Given as goal
 
 -- what is set is forced, and all but the nodes that wait are delivered
 abbrev pub invariant-loop-node : goal.invariant-loop-node
-invariant-loop-node l = ForcedSoFar l.net l.listed l.values.items l.waiting.items [] []
+invariant-loop-node l = ForcedSoFar l.net l.listed l.values.items l.waiting.items [] [] []
 
 -- a node waits once, when it is no X any more
 abbrev pub decreases-loop-node : goal.decreases-loop-node

@@ -8,6 +8,7 @@ comes :
     (record {
       names = c.insert.new.self;
       inputs = c.self.inside.inputs;
+      cuts = c.self.inside.cuts;
       gates = c.push_reserved.new.self;
       outputs = c.self.inside.outputs;
       pins = c.self.inside.pins;
@@ -17,6 +18,7 @@ comes c =
     record {
       names = c.in-Ok-insert.ensures.keys;
       inputs = refl;
+      cuts = refl;
       gates = c.push_reserved.ensures.items ∙
           (ap (λ was. was ++ c.new-2.result ∷ []) c.reserve.ensures.items ∙ ap (λ last. c.self.inside.gates.items ++ last ∷ []) c.new-2.ensures);
       outputs = refl;

@@ -6,7 +6,7 @@ pub invariant_of-self-2 : goal.invariant_of-self-2
 invariant_of-self-2 c =
     HoldsCircuit-InputComes c.self.inside _ c.args.self.now c.in-Ok.entry c.args.name.now c.self.view_is c.requires.fresh
     c.in-Ok.ensures
-    (record { names = c.in-Ok-insert.ensures.keys; inputs = refl; gates = refl; outputs = refl; pins = refl })
+    (record { names = c.in-Ok-insert.ensures.keys; inputs = refl; cuts = refl; gates = refl; outputs = refl; pins = refl })
     c.self.invariant c.requires.name c.requires.no_gate c.requires.room
 
 pub returns-clause-ok : goal.returns-clause-ok
@@ -16,10 +16,11 @@ returns-clause-ok c = (
       (record {
         names = c.insert.new.self;
         inputs = c.self.inside.inputs + 1;
+        cuts = c.self.inside.cuts;
         gates = c.self.inside.gates;
         outputs = c.self.inside.outputs;
         pins = c.self.inside.pins;
       })
       c.args.self.now c.in-Ok.entry c.args.name.now c.self.view_is c.requires.fresh c.in-Ok.ensures
-      (record { names = c.in-Ok-insert.ensures.keys; inputs = refl; gates = refl; outputs = refl; pins = refl }),
+      (record { names = c.in-Ok-insert.ensures.keys; inputs = refl; cuts = refl; gates = refl; outputs = refl; pins = refl }),
 )

@@ -9,6 +9,7 @@ invariant_of-self-2 c =
     (record {
       names = refl;
       inputs = refl;
+      cuts = refl;
       gates = ap (set c.self.inside.gates.items (c.args.gate - c.self.inside.inputs)) c.in-Ok.ensures.ok;
       read = c.index_mut.ensures.value;
       outputs = refl;

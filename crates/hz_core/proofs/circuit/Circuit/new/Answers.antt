@@ -4,4 +4,4 @@ use Rattle.hz_core.proofs.circuit.Circuit.new.Goals as goal
 
 pub invariant_of-result : goal.invariant_of-result
 invariant_of-result c =
-    HoldsCircuit-empty _ c.with_hasher.ensures.empty refl c.new-2.ensures.items c.new-3.ensures.empty refl
+    HoldsCircuit-empty _ c.with_hasher.ensures.empty refl c.new-2.ensures.items c.new-3.ensures.items c.new-4.ensures.empty refl
