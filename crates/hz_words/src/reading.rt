@@ -9,15 +9,13 @@ use crate::fault::WordsFault;
 use crate::job::{Job, job_with};
 use std::alloc::Global;
 
-/// The job that the words after the program's name ask for. A call for help is refused.
+/// The job that the words after the program's name ask for. Words that ask for none are refused, and so is a call for
+/// help.
 #[tactic(auto, unfolding(crate::specs::Job::job_of))]
 pub fn read(alloc: Global, words: &[String]) -> Result<Job<'_>, WordsFault>
     ensures job { Reads (map string_bytes words.now) result }
     ensures cap { IfOk result HasCap }
 {
     let arguments = parse(alloc, words)?;
-    match job_with(&arguments) {
-        Some(job) => Ok(job),
-        None => Err(WordsFault::Refused),
-    }
+    job_with(&arguments).ok_or(WordsFault::Refused)
 }
