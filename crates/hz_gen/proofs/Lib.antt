@@ -1,0 +1,5 @@
+pub mod Readings
+pub mod Names
+pub mod Fresh
+pub mod Numbers
+pub mod Counts

@@ -1,0 +1,106 @@
+-- The generated circuit of a number, and its script.
+use Rattle.std.specs.Prelude.{ℕ, zero, suc, ◌-◌, ◌≤◌, Bool, true, false, List, [], ◌∷◌, ◌++◌, length, map, fold, replicate, slice_set, Option, Some, None, codes, decimal}
+use Rattle.std.specs.List.{range_with_len, flat_map, position_or_len}
+use Rattle.std.specs.Str.{bytes_eq}
+use Rattle.hz_core.specs.declared.kind.Kind.{Kind}
+use Rattle.hz_core.specs.declared.kind.Kind.TheVariants.{And, Or, Not, Buff}
+use Rattle.hz_core.specs.Netlist.{Gate, Netlist, empty_netlist}
+use Rattle.hz_text.specs.ScriptValue.{ScriptOf}
+
+-- a number that has a circuit
+pub record IsDemoNumber (n : ℕ) : Type 0 where
+  pub least : 1 ≤ n
+  pub most : n ≤ 18000
+
+-- a gate's line: its name, its kind, and the names of the nodes that its pins read
+pub record GateLine : Type 0 where
+  pub name : List ℕ
+  pub kind : Kind
+  pub sources : List (List ℕ)
+
+-- a gate of the ring
+abbrev pub r : ℕ → List ℕ
+r number = codes "r" ++ decimal number
+
+-- the gates of a multiplexer: what it hands on while `go` is 1, what it hands on while `go` is 0, and both together
+abbrev pub a : ℕ → List ℕ
+a number = codes "a" ++ decimal number
+
+abbrev pub b : ℕ → List ℕ
+b number = codes "b" ++ decimal number
+
+-- the input x stands before the first multiplexer
+abbrev pub m : ℕ → List ℕ
+m zero = codes "x"
+m (suc number) = codes "m" ++ decimal (suc number)
+
+-- the gates that give a pulse when `go` rises: `n = NOT(go)`, `p = AND(go, n)`
+abbrev pub pulse_lines : List GateLine
+pulse_lines =
+    record { name = codes "n"; kind = Not; sources = codes "go" ∷ [] }
+    ∷ record { name = codes "p"; kind = And; sources = codes "go" ∷ codes "n" ∷ [] }
+    ∷ []
+
+-- `rk = BUFF(r(k-1))`
+abbrev pub buffer_line : ℕ → GateLine
+buffer_line k = record { name = r k; kind = Buff; sources = r (k - 1) ∷ [] }
+
+-- the ring: `r1 = OR(p, rN)`, and a buffer for each k from 2 to N
+abbrev pub ring_lines : ℕ → List GateLine
+ring_lines n =
+    record { name = r 1; kind = Or; sources = codes "p" ∷ r n ∷ [] } ∷ map buffer_line (range_with_len 2 (n - 1))
+
+-- a multiplexer: `ai = AND(go, m(i-1))`, `bi = AND(n, m(i-1))`, `mi = OR(ai, bi)`
+abbrev pub multiplexer_lines : ℕ → List GateLine
+multiplexer_lines i =
+    record { name = a i; kind = And; sources = codes "go" ∷ m (i - 1) ∷ [] }
+    ∷ record { name = b i; kind = And; sources = codes "n" ∷ m (i - 1) ∷ [] }
+    ∷ record { name = m i; kind = Or; sources = a i ∷ b i ∷ [] }
+    ∷ []
+
+-- the gates: the pulse, the ring, and a multiplexer for each i from 1 to N
+abbrev pub gate_lines : ℕ → List GateLine
+gate_lines n = pulse_lines ++ ring_lines n ++ flat_map multiplexer_lines (range_with_len 1 n)
+
+-- the names of the nodes: the inputs `go` and `x`, then the gates
+abbrev pub names_in : List GateLine → List (List ℕ)
+names_in lines = codes "go" ∷ codes "x" ∷ map (λ line. line.name) lines
+
+-- the number of the node with a name
+abbrev pub node_in : List (List ℕ) → List ℕ → ℕ
+node_in names name = position_or_len (bytes_eq name) names
+
+-- the gate of a line
+abbrev pub gate_in : List (List ℕ) → GateLine → Gate
+gate_in names line = record { kind = line.kind; sources = map (node_in names) line.sources }
+
+-- the names of the nodes of the circuit of N
+unfoldable pub demo_names : ℕ → List (List ℕ)
+demo_names n = names_in (gate_lines n)
+
+-- the circuit of the inputs and these gates, which read nodes of the circuit of N; no node is an output
+abbrev pub netlist_with : ℕ → List GateLine → Netlist
+netlist_with n lines =
+    record empty_netlist {
+      names = names_in lines;
+      inputs = 2;
+      gates = map (gate_in (demo_names n)) lines;
+    }
+
+-- the circuit of N
+unfoldable pub demo_netlist : ℕ → Netlist
+demo_netlist n = netlist_with n (gate_lines n)
+
+-- a start that lists the node with a name, too
+abbrev pub with_listed : List (List ℕ) → List (Option Bool) → List ℕ × Bool → List (Option Bool)
+with_listed names start pair = slice_set start (node_in names pair.0) (Some pair.1)
+
+-- the script of N: the start `go=0 x=1 rN=0` and the change `go=1`
+unfoldable pub demo_script : ℕ → ScriptOf
+demo_script n =
+    record {
+      start =
+        fold (with_listed (demo_names n)) (replicate (length (demo_names n)) None)
+        ((codes "go", false) ∷ (codes "x", true) ∷ (r n, false) ∷ []);
+      changes = ((node_in (demo_names n) (codes "go"), true) ∷ []) ∷ [];
+    }
