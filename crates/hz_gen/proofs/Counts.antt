@@ -3,6 +3,7 @@ use Rattle.std.proofs.Common.{◌≡◌, ◌∙◌, refl, ℕ, zero, suc, ◌+�
 use Rattle.std.specs.List.{range_with_len, flat_map}
 use Rattle.std.proofs.lemmas.List.FromFn.{length-map-range_with_len}
 use Rattle.std.proofs.lemmas.List.Sums.{sum_by-append, sum_by-cons}
+use Rattle.hz_core.specs.declared.kind.Kind.TheVariants.{And, Or, Not}
 use Rattle.hz_core.specs.Netlist.{Gate, variable_count}
 use Rattle.hz_gen.specs.Demo.{r}
 use Rattle.hz_gen.specs.Built.{ring_names, ring_gates, ring_netlist, buffer_gate, multiplexer_names, multiplexer_gates, chain_netlist}
@@ -79,7 +80,10 @@ multiplexer_pins n first (suc count) =
     )
 
 ring_pins : (first : List ℕ) (buffers : ℕ) → sum_by pins (ring_gates first buffers) ≡ length first + buffers + 3
-ring_pins first buffers = ?
+ring_pins first buffers =
+    let pulse : List Gate =
+    record { kind = Not; sources = 0 ∷ [] } ∷ record { kind = And; sources = 0 ∷ 2 ∷ [] } ∷ record { kind = Or; sources = first } ∷ [] in
+    omega (arith, sum_by-append pins pulse (map buffer_gate (range_with_len 2 buffers)), buffer_pins 2 buffers)
 
 pub count-ring : (first : List ℕ) (buffers : ℕ) → variable_count (ring_netlist first buffers) ≡ length first + 2 * buffers + 8
 count-ring first buffers = omega (arith, length-ring_names buffers, ring_pins first buffers)

@@ -16,30 +16,30 @@ pub none_in-range :
     (test : List ℕ → Bool) (name : ℕ → List ℕ) (first count : ℕ) →
     ((j : ℕ) → first ≤ j → j < first + count → test (name j) ≡ false) →
     list_any test (map name (range_with_len first count)) ≡ false
-none_in-range test name first zero no = refl
-none_in-range test name first (suc count) no =
-    rw (no first (omega arith) (omega arith),
-    none_in-range test name (first + 1) count (λ j low high. no j (omega (arith, low)) (omega (arith, high)))) refl
+none_in-range test name first zero off = refl
+none_in-range test name first (suc count) off =
+    rw (off first (omega arith) (omega arith),
+    none_in-range test name (first + 1) count (λ j low high. off j (omega (arith, low)) (omega (arith, high)))) refl
 
 -- nothing of the lists of a range passes the test
 pub none_in-lists :
     (test : List ℕ → Bool) (names : ℕ → List (List ℕ)) (first count : ℕ) →
     ((j : ℕ) → first ≤ j → j < first + count → list_any test (names j) ≡ false) →
     list_any test (flat_map names (range_with_len first count)) ≡ false
-none_in-lists test names first zero no = refl
-none_in-lists test names first (suc count) no =
+none_in-lists test names first zero off = refl
+none_in-lists test names first (suc count) off =
     list_any-append test (names first) (flat_map names (range_with_len (first + 1) count))
-    ∙ rw (no first (omega arith) (omega arith),
-    none_in-lists test names (first + 1) count (λ j low high. no j (omega (arith, low)) (omega (arith, high)))) refl
+    ∙ rw (off first (omega arith) (omega arith),
+    none_in-lists test names (first + 1) count (λ j low high. off j (omega (arith, low)) (omega (arith, high)))) refl
 
 -- what passes comes after what does not
 pub place-after :
     (test : List ℕ → Bool) (front back : List (List ℕ)) → list_any test front ≡ false →
     position_or_len test (front ++ back) ≡ length front + position_or_len test back
-place-after test [] back none = refl
+place-after test [] back none = omega arith
 place-after test (name ∷ front) back none =
     let parts = neither (test name) (list_any test front) none in
-    rw parts.0 (ap suc (place-after test front back parts.1))
+    rw parts.0 (omega (arith, place-after test front back parts.1))
 
 -- a name that stands nowhere is the name of no node
 pub unnamed : (names : List (List ℕ)) (name : List ℕ) → list_any (bytes_eq name) names ≡ false → position (bytes_eq name) names ≡ None
@@ -52,7 +52,7 @@ unnamed names name none =
     all_before [] none = refl
     all_before (first ∷ names) none =
         let parts = neither (bytes_eq name first) (list_any (bytes_eq name) names) none in
-        rw parts.0 (ap suc (all_before names parts.1))
+        rw parts.0 (omega (arith, all_before names parts.1))
 
 -- the place of a name after names that differ from it
 pub place-of :
@@ -66,5 +66,10 @@ place-of name front back none =
 pub range-split :
     (first before k after : ℕ) → first + before ≡ k →
     range_with_len first (before + suc after) ≡ range_with_len first before ++ k ∷ range_with_len (k + 1) after
-range-split first zero k after is = let same : first ≡ k = omega (arith, is) in rw same refl
-range-split first (suc before) k after is = ap (λ rest. first ∷ rest) (range-split (first + 1) before k after (omega (arith, is)))
+range-split first zero k after is =
+    let same : first ≡ k = omega (arith, is) in
+    let count : 0 + suc after ≡ suc after = omega arith in
+    rw (count, same) refl
+range-split first (suc before) k after is =
+    let count : suc before + suc after ≡ suc (before + suc after) = omega arith in
+    rw count (ap (λ rest. first ∷ rest) (range-split (first + 1) before k after (omega (arith, is))))

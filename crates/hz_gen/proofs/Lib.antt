@@ -3,3 +3,4 @@ pub mod Names
 pub mod Fresh
 pub mod Numbers
 pub mod Counts
+pub mod Steps

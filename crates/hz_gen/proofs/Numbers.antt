@@ -6,7 +6,7 @@ use Rattle.std.proofs.lemmas.List.{map-append}
 use Rattle.std.proofs.lemmas.List.FromFn.{length-map-range_with_len}
 use Rattle.std.proofs.lemmas.List.Folds.{list_any-append}
 use Rattle.std.proofs.lemmas.Grind.{flat_map-append}
-use Rattle.hz_core.specs.Netlist.{Gate, Netlist}
+use Rattle.hz_core.specs.Netlist.{Gate, Netlist, empty_netlist}
 use Rattle.hz_gen.specs.Demo.{GateLine, r, a, b, m, buffer_line, multiplexer_lines, gate_lines, names_in, node_in, gate_in, demo_names, demo_netlist}
 use Rattle.hz_gen.specs.Built.{ring_names, ring_gates, buffer_gate, multiplexer_names, multiplexer_gates, last_gate, chain_netlist}
 use Rattle.hz_gen.proofs.Names.{numbers-differ, same-name}
@@ -158,14 +158,17 @@ multiplexers_names [] = refl
 multiplexers_names (k ∷ ks) = ap (λ rest. a k ∷ b k ∷ m k ∷ rest) (multiplexers_names ks)
 
 -- the names of the circuit are those that are added
-pub names-built : (n : ℕ) → demo_names n ≡ chain_names n n
-unfolding demo_names
-names-built n =
+names-added : (n : ℕ) → names_in (gate_lines n) ≡ chain_names n n
+names-added n =
     let name : GateLine → List ℕ = λ line. line.name in
     let rest : map name (map buffer_line (range_with_len 2 (n - 1)) ++ flat_map multiplexer_lines (range_with_len 1 n)) ≡ map r (range_with_len 2 (n - 1)) ++ flat_map multiplexer_names (range_with_len 1 n) =
     map-append name (map buffer_line (range_with_len 2 (n - 1))) (flat_map multiplexer_lines (range_with_len 1 n))
     ∙ rw (buffer_names (range_with_len 2 (n - 1)), multiplexers_names (range_with_len 1 n)) refl in
     ap (λ rest. codes "go" ∷ codes "x" ∷ codes "n" ∷ codes "p" ∷ r 1 ∷ rest) rest
+
+pub names-built : (n : ℕ) → demo_names n ≡ chain_names n n
+unfolding demo_names
+names-built n = names-added n
 
 -- the gates of the lines of a range
 gates_of-range :
@@ -216,4 +219,10 @@ gates-built n least most =
 -- the circuit of a number is the one that is built
 pub demo-built : (n : ℕ) → 1 ≤ n → n ≤ 18000 → demo_netlist n ≡ chain_netlist n n
 unfolding demo_netlist
-demo-built n least most = ?
+demo-built n least most =
+    let with_lists : List (List ℕ) → List Gate → Netlist =
+    λ names gates. record empty_netlist { names = names; inputs = 2; gates = gates } in
+    let gates : map (gate_in (demo_names n)) (gate_lines n) ≡ (chain_netlist n n).gates =
+    ap (λ names. map (gate_in names) (gate_lines n)) (names-built n) ∙ gates-built n least most in
+    ap (λ names. with_lists names (map (gate_in (demo_names n)) (gate_lines n))) (names-added n)
+    ∙ ap (with_lists (chain_names n n)) gates

@@ -75,7 +75,7 @@ fn add_buffers(circuit: &mut Circuit, n: u32) -> Result<(), Memory>
 fn add_chain(circuit: &mut Circuit, n: u32) -> Result<(), Memory>
     requires number { IsDemoNumber n }
     requires ring { circuit.old ≡ chain_netlist n 0 }
-    ensures { OnOk result (circuit.new ≡ demo_netlist n) }
+    ensures { OnOk result (circuit.new ≡ chain_netlist n n) }
 {
     let mut before = X;
     for number in 1..n + 1 {
