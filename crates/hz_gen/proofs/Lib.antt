@@ -4,3 +4,4 @@ pub mod Fresh
 pub mod Numbers
 pub mod Counts
 pub mod Steps
+pub mod Scripts

@@ -1,5 +1,5 @@
 -- Each gate may be added to the circuit, and what the circuit is then.
-use Rattle.std.proofs.Common.{◌≡◌, ◌∙◌, ap, refl, sym, ℕ, zero, suc, ◌+◌, ◌-◌, ◌*◌, ◌<◌, ◌≤◌, false, List, [], ◌∷◌, ◌++◌, length, map, All, arith, append_assoc, length-append, decimal}
+use Rattle.std.proofs.Common.{◌≡◌, ◌∙◌, ap, refl, sym, ℕ, zero, suc, ◌+◌, ◌-◌, ◌*◌, ◌<◌, ◌≤◌, false, List, [], ◌∷◌, ◌++◌, length, map, All, arith, append_assoc, length-append, decimal, codes, subst}
 use Rattle.std.specs.List.{list_any, range_with_len, flat_map}
 use Rattle.std.specs.Str.{bytes_eq}
 use Rattle.std.proofs.lemmas.List.FromFn.{map-range_with_len_more}
@@ -7,8 +7,8 @@ use Rattle.std.proofs.lemmas.List.Folds.{list_any-append}
 use Rattle.std.proofs.lemmas.List.Elements.{All-nil, All-cons}
 use Rattle.std.proofs.lemmas.Grind.{flat_map-append}
 use Rattle.hz_core.specs.declared.kind.Kind.{Kind}
-use Rattle.hz_core.specs.declared.kind.Kind.TheVariants.{And, Or, Buff}
-use Rattle.hz_core.specs.Netlist.{Gate, Netlist, IsName, variable_count, most_pins}
+use Rattle.hz_core.specs.declared.kind.Kind.TheVariants.{And, Or, Not, Buff}
+use Rattle.hz_core.specs.Netlist.{Gate, Netlist, IsName, variable_count, most_pins, empty_netlist}
 use Rattle.hz_gen.specs.Demo.{r, a, b, m}
 use Rattle.hz_gen.specs.Built.{MayRead, with_reading, ring_names, ring_gates, ring_netlist, buffer_gate, multiplexer_names, multiplexer_gates, last_gate, chain_netlist}
 use Rattle.hz_gen.proofs.Readings.{count-read}
@@ -58,12 +58,42 @@ last_gate-below : (n i : ℕ) → 1 ≤ n → last_gate n i < n + 3 * i + 4
 last_gate-below n zero least = omega arith
 last_gate-below n (suc i) least = omega arith
 
--- the multiplexers, and one more
-chain-more :
+-- the lists of a range, and one more
+lists-more :
     {X : Type 0} (lists : ℕ → List X) (i : ℕ) →
-    flat_map lists (range_with_len 1 (i + 1)) ≡ flat_map lists (range_with_len 1 i) ++ (lists (suc i) ++ [])
-chain-more lists i =
-    ap (flat_map lists) (range-split 1 i (suc i) 0 (omega arith)) ∙ flat_map-append lists (range_with_len 1 i) (suc i ∷ [])
+    flat_map lists (range_with_len 1 (suc i)) ≡ flat_map lists (range_with_len 1 i) ++ (lists (suc i) ++ [])
+lists-more lists i =
+    let more : suc i ≡ i + suc 0 = omega arith in
+    ap (λ count. flat_map lists (range_with_len 1 count)) more
+    ∙ ap (flat_map lists) (range-split 1 i (suc i) 0 (omega arith))
+    ∙ flat_map-append lists (range_with_len 1 i) (suc i ∷ [])
+
+-- three elements that were added one after the other
+three-added :
+    {X : Type 0} (front middle : List X) (x y z : X) →
+    (((front ++ middle) ++ x ∷ []) ++ y ∷ []) ++ z ∷ [] ≡ front ++ (middle ++ x ∷ y ∷ z ∷ [])
+three-added front middle x y z =
+    append_assoc ((front ++ middle) ++ x ∷ []) (y ∷ []) (z ∷ []) ∙ append_assoc (front ++ middle) (x ∷ []) (y ∷ z ∷ [])
+    ∙ append_assoc front middle (x ∷ y ∷ z ∷ [])
+
+-- the first gate of the ring may be added
+pub ring-may :
+    MayRead
+    (record empty_netlist {
+      names = codes "go" ∷ codes "x" ∷ codes "n" ∷ codes "p" ∷ [];
+      inputs = 2;
+      gates = record { kind = Not; sources = 0 ∷ [] } ∷ record { kind = And; sources = 0 ∷ 2 ∷ [] } ∷ [];
+    })
+    (114 ∷ decimal 1) Or (3 ∷ [])
+ring-may =
+    record {
+      name_is = numbered-IsName 114 1 refl (omega arith);
+      fresh = unnamed (codes "go" ∷ codes "x" ∷ codes "n" ∷ codes "p" ∷ []) (r 1) refl;
+      nodes = refl;
+      reads = one_below 4 3 (omega arith);
+      pins = omega arith;
+      room = omega arith;
+    }
 
 module _ (n i : ℕ) (least : 1 ≤ n) (within : suc i ≤ n) (most : n ≤ 18000) where
 
@@ -107,9 +137,113 @@ module _ (n i : ℕ) (least : 1 ≤ n) (within : suc i ≤ n) (most : n ≤ 1800
 
   -- and its last gate
   m-may : MayRead with_b (109 ∷ decimal (suc i)) Or ((n + 3 * suc i + 1) ∷ (n + 3 * suc i + 2) ∷ [])
-  m-may = ?
+  m-may =
+      let names = chain_names n i ++ a (suc i) ∷ [] in
+      let nodes = length-chain_names n i least in
+      let new : list_any (bytes_eq (m (suc i))) (names ++ b (suc i) ∷ []) ≡ false =
+      list_any-append (bytes_eq (m (suc i))) names (b (suc i) ∷ [])
+      ∙ rw (list_any-append (bytes_eq (m (suc i))) (chain_names n i) (a (suc i) ∷ []), m-new n i (omega arith)) refl in
+      let one_more = length-append (chain_names n i) (a (suc i) ∷ []) in
+      let more = length-append names (b (suc i) ∷ []) in
+      let a_gate : Gate = record { kind = And; sources = 0 ∷ last_gate n i ∷ [] } in
+      let b_gate : Gate = record { kind = And; sources = 2 ∷ last_gate n i ∷ [] } in
+      let one_gate = length-append (chain_netlist n i).gates (a_gate ∷ []) in
+      let gates = length-append ((chain_netlist n i).gates ++ a_gate ∷ []) (b_gate ∷ []) in
+      record {
+        name_is = numbered-IsName 109 (suc i) refl (omega arith);
+        fresh = unnamed (names ++ b (suc i) ∷ []) (m (suc i)) new;
+        nodes = omega (arith, nodes-chain n i least, one_more, more, one_gate, gates);
+        reads = two_below (length (names ++ b (suc i) ∷ [])) (n + 3 * suc i + 1) (n + 3 * suc i + 2) (omega (arith, nodes, one_more, more)) (omega (arith, nodes, one_more, more));
+        pins = omega arith;
+        room = omega (
+          arith,
+          count-read with_a (98 ∷ decimal (suc i)) And 0 (2 ∷ last_gate n i ∷ []),
+          count-read (chain_netlist n i) (97 ∷ decimal (suc i)) And 0 (0 ∷ last_gate n i ∷ []),
+          count-chain n i least,
+        );
+      }
 
   -- the chain has one multiplexer more
   m-added :
-      with_reading with_b (109 ∷ decimal (suc i)) Or ((n + 3 * suc i + 1) ∷ (n + 3 * suc i + 2) ∷ []) ≡ chain_netlist n (i + 1)
-  m-added = ?
+      with_reading with_b (109 ∷ decimal (suc i)) Or ((n + 3 * suc i + 1) ∷ (n + 3 * suc i + 2) ∷ []) ≡ chain_netlist n (suc i)
+  m-added =
+      let a_gate : ℕ → Gate = λ last. record { kind = And; sources = 0 ∷ last ∷ [] } in
+      let b_gate : ℕ → Gate = λ last. record { kind = And; sources = 2 ∷ last ∷ [] } in
+      let m_gate : Gate = record { kind = Or; sources = (n + 3 * suc i + 1) ∷ (n + 3 * suc i + 2) ∷ [] } in
+      let with_lists : List (List ℕ) → List Gate → Netlist =
+      λ names gates. record empty_netlist { names = names; inputs = 2; gates = gates } in
+      let ring = ring_gates (3 ∷ (n + 3) ∷ []) (n - 1) in
+      let chain = flat_map (multiplexer_gates n) (range_with_len 1 i) in
+      let last : last_gate n i ≡ last_gate n (suc i - 1) = ap (last_gate n) (omega arith) in
+      let names : ((chain_names n i ++ a (suc i) ∷ []) ++ b (suc i) ∷ []) ++ m (suc i) ∷ [] ≡ chain_names n (suc i) =
+      three-added (ring_names (n - 1)) (flat_map multiplexer_names (range_with_len 1 i)) (a (suc i)) (b (suc i)) (m (suc i))
+      ∙ ap (λ rest. ring_names (n - 1) ++ rest) (sym (lists-more multiplexer_names i)) in
+      let gates : (((ring ++ chain) ++ a_gate (last_gate n i) ∷ []) ++ b_gate (last_gate n i) ∷ []) ++ m_gate ∷ [] ≡ (chain_netlist n (suc i)).gates =
+      three-added ring chain (a_gate (last_gate n i)) (b_gate (last_gate n i)) m_gate
+      ∙ ap (λ last. ring ++ (chain ++ a_gate last ∷ b_gate last ∷ m_gate ∷ [])) last
+      ∙ ap (λ rest. ring ++ rest) (sym (lists-more (multiplexer_gates n) i)) in
+      ap (λ names. with_lists names ((((ring ++ chain) ++ a_gate (last_gate n i) ∷ []) ++ b_gate (last_gate n i) ∷ []) ++ m_gate ∷ [])) names
+      ∙ ap (with_lists (chain_names n (suc i))) gates
+
+-- what holds while a multiplexer is added: its number, the node before it, and the circuit that it is added to
+pub record IsNext (n number before : ℕ) (circuit : Netlist) : Type 0 where
+  pub least : 1 ≤ n
+  pub most : n ≤ 18000
+  pub some : 1 ≤ number
+  pub within : number ≤ n
+  pub so_far : circuit ≡ chain_netlist n (number - 1)
+  pub last : before ≡ last_gate n (number - 1)
+
+-- its first gate may be added
+pub first-may :
+    (n number before : ℕ) (circuit : Netlist) → IsNext n number before circuit →
+    MayRead circuit (97 ∷ decimal number) And (0 ∷ before ∷ [])
+first-may n zero before circuit next = absurd (omega (arith, next.some))
+first-may n (suc i) before circuit next =
+    let back : suc i - 1 ≡ i = omega arith in
+    rw (next.so_far, next.last, back) (a-may n i next.least next.within next.most)
+
+-- its second gate may be added
+pub second-may :
+    (n number before : ℕ) (circuit second : Netlist) → IsNext n number before circuit →
+    second ≡ with_reading circuit (97 ∷ decimal number) And (0 ∷ before ∷ []) →
+    MayRead second (98 ∷ decimal number) And (2 ∷ before ∷ [])
+second-may n zero before circuit second next is = absurd (omega (arith, next.some))
+second-may n (suc i) before circuit second next is =
+    let back : suc i - 1 ≡ i = omega arith in
+    rw (is, next.so_far, next.last, back) (b-may n i next.least next.within next.most)
+
+-- the number of its first gate
+first_number : (n i first : ℕ) (circuit : Netlist) → 1 ≤ n → circuit ≡ chain_netlist n i → first ≡ length circuit.names → first ≡ n + 3 * suc i + 1
+first_number n i first circuit least so_far is =
+    let names : length circuit.names ≡ length (chain_names n i) = ap (λ circuit. length circuit.names) so_far in
+    omega (arith, is, names, length-chain_names n i least)
+
+-- its last gate may be added
+pub third-may :
+    (n number before first : ℕ) (circuit second third : Netlist) → IsNext n number before circuit → first ≡ length circuit.names →
+    second ≡ with_reading circuit (97 ∷ decimal number) And (0 ∷ before ∷ []) →
+    third ≡ with_reading second (98 ∷ decimal number) And (2 ∷ before ∷ []) →
+    MayRead third (109 ∷ decimal number) Or (first ∷ (first + 1) ∷ [])
+third-may n zero before first circuit second third next is e f = absurd (omega (arith, next.some))
+third-may n (suc i) before first circuit second third next is e f =
+    let back : suc i - 1 ≡ i = omega arith in
+    let number = first_number n i first circuit next.least (next.so_far ∙ ap (chain_netlist n) back) is in
+    let after : n + 3 * suc i + 1 + 1 ≡ n + 3 * suc i + 2 = omega arith in
+    rw (f, e, next.so_far, next.last, back, number, after) (m-may n i next.least next.within next.most)
+
+-- and the chain has one multiplexer more
+pub third-added :
+    (n number before first : ℕ) (circuit second third fourth : Netlist) → IsNext n number before circuit → first ≡ length circuit.names →
+    second ≡ with_reading circuit (97 ∷ decimal number) And (0 ∷ before ∷ []) →
+    third ≡ with_reading second (98 ∷ decimal number) And (2 ∷ before ∷ []) →
+    fourth ≡ with_reading third (109 ∷ decimal number) Or (first ∷ (first + 1) ∷ []) →
+    (fourth ≡ chain_netlist n (number + 1 - 1)) × (first + 2 ≡ last_gate n (number + 1 - 1))
+third-added n zero before first circuit second third fourth next is e f g = absurd (omega (arith, next.some))
+third-added n (suc i) before first circuit second third fourth next is e f g =
+    let back : suc i - 1 ≡ i = omega arith in
+    let same : suc i + 1 - 1 ≡ suc i = omega arith in
+    let number = first_number n i first circuit next.least (next.so_far ∙ ap (chain_netlist n) back) is in
+    let after : n + 3 * suc i + 1 + 1 ≡ n + 3 * suc i + 2 = omega arith in
+    rw same
+    (rw (g, f, e, next.so_far, next.last, back, number, after) (m-added n i next.least next.within next.most), omega (arith, number))
