@@ -5,3 +5,4 @@ pub mod Numbers
 pub mod Counts
 pub mod Steps
 pub mod Scripts
+pub mod Laws
