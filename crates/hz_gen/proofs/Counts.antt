@@ -5,7 +5,7 @@ use Rattle.std.proofs.lemmas.List.FromFn.{length-map-range_with_len}
 use Rattle.std.proofs.lemmas.List.Sums.{sum_by-append, sum_by-cons}
 use Rattle.hz_core.specs.declared.kind.Kind.TheVariants.{And, Or, Not}
 use Rattle.hz_core.specs.Netlist.{Gate, variable_count}
-use Rattle.hz_gen.specs.Demo.{r}
+use Rattle.hz_gen.specs.Demo.{r_name}
 use Rattle.hz_gen.specs.Built.{ring_names, ring_gates, ring_netlist, buffer_gate, multiplexer_names, multiplexer_gates, chain_netlist}
 
 -- how many pins a gate has
@@ -26,7 +26,7 @@ three_each lists first (suc count) three =
     )
 
 pub length-ring_names : (buffers : ℕ) → length (ring_names buffers) ≡ buffers + 5
-length-ring_names buffers = omega (arith, length-map-range_with_len r 2 buffers)
+length-ring_names buffers = omega (arith, length-map-range_with_len r_name 2 buffers)
 
 pub length-chain_names : (n multiplexers : ℕ) → 1 ≤ n → length (chain_netlist n multiplexers).names ≡ n + 3 * multiplexers + 4
 length-chain_names n multiplexers least =

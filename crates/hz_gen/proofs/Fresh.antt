@@ -18,8 +18,10 @@ pub none_in-range :
     list_any test (map name (range_with_len first count)) ≡ false
 none_in-range test name first zero off = refl
 none_in-range test name first (suc count) off =
-    rw (off first (omega arith) (omega arith),
-    none_in-range test name (first + 1) count (λ j low high. off j (omega (arith, low)) (omega (arith, high)))) refl
+    rw (
+      off first (omega arith) (omega arith),
+      none_in-range test name (first + 1) count (λ j low high. off j (omega (arith, low)) (omega (arith, high))),
+    ) refl
 
 -- nothing of the lists of a range passes the test
 pub none_in-lists :
@@ -29,8 +31,10 @@ pub none_in-lists :
 none_in-lists test names first zero off = refl
 none_in-lists test names first (suc count) off =
     list_any-append test (names first) (flat_map names (range_with_len (first + 1) count))
-    ∙ rw (off first (omega arith) (omega arith),
-    none_in-lists test names (first + 1) count (λ j low high. off j (omega (arith, low)) (omega (arith, high)))) refl
+    ∙ rw (
+      off first (omega arith) (omega arith),
+      none_in-lists test names (first + 1) count (λ j low high. off j (omega (arith, low)) (omega (arith, high))),
+    ) refl
 
 -- what passes comes after what does not
 pub place-after :

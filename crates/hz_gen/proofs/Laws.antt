@@ -44,6 +44,7 @@ multiplexers_whole n first (suc count) =
   where
     last : ℕ
     last = last_gate n (first - 1)
+
     one : All HasPin (multiplexer_gates n first)
     one = three_whole And And Or 0 (last ∷ []) 2 (last ∷ []) (n + 3 * first + 1) ((n + 3 * first + 2) ∷ []) [] (All-nil HasPin)
 

@@ -1,4 +1,4 @@
-pub mod Readings
+pub mod Gates
 pub mod Names
 pub mod Fresh
 pub mod Numbers

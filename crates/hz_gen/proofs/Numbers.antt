@@ -7,7 +7,7 @@ use Rattle.std.proofs.lemmas.List.FromFn.{length-map-range_with_len}
 use Rattle.std.proofs.lemmas.List.Folds.{list_any-append}
 use Rattle.std.proofs.lemmas.Grind.{flat_map-append}
 use Rattle.hz_core.specs.Netlist.{Gate, Netlist, empty_netlist}
-use Rattle.hz_gen.specs.Demo.{GateLine, r, a, b, m, buffer_line, multiplexer_lines, gate_lines, names_in, node_in, gate_in, demo_names, demo_netlist}
+use Rattle.hz_gen.specs.Demo.{GateLine, r_name, a_name, b_name, m_name, buffer_line, multiplexer_lines, gate_lines, names_in, node_in, gate_in, demo_names, demo_netlist}
 use Rattle.hz_gen.specs.Built.{ring_names, ring_gates, buffer_gate, multiplexer_names, multiplexer_gates, last_gate, chain_netlist}
 use Rattle.hz_gen.proofs.Names.{numbers-differ, same-name}
 use Rattle.hz_gen.proofs.Fresh.{none_in-range, none_in-lists, place-after, place-of, range-split}
@@ -18,78 +18,84 @@ none_of_three x y z e f g = rw (e, f, g) refl
 
 -- the names before a gate of the ring
 abbrev ring_front : ℕ → List (List ℕ)
-ring_front before = codes "go" ∷ codes "x" ∷ codes "n" ∷ codes "p" ∷ map r (range_with_len 1 before)
+ring_front before = codes "go" ∷ codes "x" ∷ codes "n" ∷ codes "p" ∷ map r_name (range_with_len 1 before)
 
 -- the names of the circuit with so many multiplexers
 abbrev pub chain_names : ℕ → ℕ → List (List ℕ)
 chain_names n multiplexers = (chain_netlist n multiplexers).names
 
 -- a gate of the ring has a new name
-r-fresh : (k before : ℕ) → before < k → k ≤ 18000 → list_any (bytes_eq (r k)) (ring_front before) ≡ false
+r-fresh : (k before : ℕ) → before < k → k ≤ 18000 → list_any (bytes_eq (r_name k)) (ring_front before) ≡ false
 r-fresh k before later most =
-    none_in-range (bytes_eq (r k)) r 1 before
+    none_in-range (bytes_eq (r_name k)) r_name 1 before
     (λ j low high. numbers-differ 114 k j most (omega (arith, high)) (λ same. omega (arith, high)))
 
-pub r-new : (buffers k : ℕ) → buffers + 2 ≤ k → k ≤ 18000 → list_any (bytes_eq (r k)) (ring_names buffers) ≡ false
+pub r-new : (buffers k : ℕ) → buffers + 2 ≤ k → k ≤ 18000 → list_any (bytes_eq (r_name k)) (ring_names buffers) ≡ false
 r-new buffers k later most = r-fresh k (suc buffers) (omega arith) most
 
 -- the multiplexers' names differ from the names of the ring
-a-ring : (k buffers : ℕ) → list_any (bytes_eq (a k)) (ring_names buffers) ≡ false
-a-ring k buffers = none_in-range (bytes_eq (a k)) r 1 (suc buffers) (λ j low high. refl)
+a-ring : (k buffers : ℕ) → list_any (bytes_eq (a_name k)) (ring_names buffers) ≡ false
+a-ring k buffers = none_in-range (bytes_eq (a_name k)) r_name 1 (suc buffers) (λ j low high. refl)
 
-b-ring : (k buffers : ℕ) → list_any (bytes_eq (b k)) (ring_names buffers) ≡ false
-b-ring k buffers = none_in-range (bytes_eq (b k)) r 1 (suc buffers) (λ j low high. refl)
+b-ring : (k buffers : ℕ) → list_any (bytes_eq (b_name k)) (ring_names buffers) ≡ false
+b-ring k buffers = none_in-range (bytes_eq (b_name k)) r_name 1 (suc buffers) (λ j low high. refl)
 
-m-ring : (i buffers : ℕ) → list_any (bytes_eq (m (suc i))) (ring_names buffers) ≡ false
-m-ring i buffers = none_in-range (bytes_eq (m (suc i))) r 1 (suc buffers) (λ j low high. refl)
+m-ring : (i buffers : ℕ) → list_any (bytes_eq (m_name (suc i))) (ring_names buffers) ≡ false
+m-ring i buffers = none_in-range (bytes_eq (m_name (suc i))) r_name 1 (suc buffers) (λ j low high. refl)
 
 -- names with other letters differ
-a-m : (k j : ℕ) → bytes_eq (a k) (m j) ≡ false
+a-m : (k j : ℕ) → bytes_eq (a_name k) (m_name j) ≡ false
 a-m k zero = refl
 a-m k (suc j) = refl
 
-b-m : (k j : ℕ) → bytes_eq (b k) (m j) ≡ false
+b-m : (k j : ℕ) → bytes_eq (b_name k) (m_name j) ≡ false
 b-m k zero = refl
 b-m k (suc j) = refl
 
-m-m : (i j : ℕ) → 1 ≤ j → j < suc i → suc i ≤ 18000 → bytes_eq (m (suc i)) (m j) ≡ false
+m-m : (i j : ℕ) → 1 ≤ j → j < suc i → suc i ≤ 18000 → bytes_eq (m_name (suc i)) (m_name j) ≡ false
 m-m i zero low high most = absurd (omega (arith, low))
 m-m i (suc j) low high most =
     numbers-differ 109 (suc i) (suc j) most (omega (arith, high)) (λ same. omega (arith, high))
 
 -- a multiplexer's gates have new names
-pub a-new : (n i : ℕ) → suc i ≤ 18000 → list_any (bytes_eq (a (suc i))) (chain_names n i) ≡ false
+pub a-new : (n i : ℕ) → suc i ≤ 18000 → list_any (bytes_eq (a_name (suc i))) (chain_names n i) ≡ false
 a-new n i most =
-    list_any-append (bytes_eq (a (suc i))) (ring_names (n - 1)) (flat_map multiplexer_names (range_with_len 1 i))
-    ∙ rw (a-ring (suc i) (n - 1),
-    none_in-lists (bytes_eq (a (suc i))) multiplexer_names 1 i
-    (λ j low high. none_of_three _ _ _ (numbers-differ 97 (suc i) j most (omega (arith, high)) (λ same. omega (arith, high))) refl (a-m (suc i) j))) refl
+    list_any-append (bytes_eq (a_name (suc i))) (ring_names (n - 1)) (flat_map multiplexer_names (range_with_len 1 i))
+    ∙ rw (
+      a-ring (suc i) (n - 1),
+      none_in-lists (bytes_eq (a_name (suc i))) multiplexer_names 1 i
+          (λ j low high. none_of_three _ _ _ (numbers-differ 97 (suc i) j most (omega (arith, high)) (λ same. omega (arith, high))) refl (a-m (suc i) j)),
+    ) refl
 
-pub b-new : (n i : ℕ) → suc i ≤ 18000 → list_any (bytes_eq (b (suc i))) (chain_names n i) ≡ false
+pub b-new : (n i : ℕ) → suc i ≤ 18000 → list_any (bytes_eq (b_name (suc i))) (chain_names n i) ≡ false
 b-new n i most =
-    list_any-append (bytes_eq (b (suc i))) (ring_names (n - 1)) (flat_map multiplexer_names (range_with_len 1 i))
-    ∙ rw (b-ring (suc i) (n - 1),
-    none_in-lists (bytes_eq (b (suc i))) multiplexer_names 1 i
-    (λ j low high. none_of_three _ _ _ refl (numbers-differ 98 (suc i) j most (omega (arith, high)) (λ same. omega (arith, high))) (b-m (suc i) j))) refl
+    list_any-append (bytes_eq (b_name (suc i))) (ring_names (n - 1)) (flat_map multiplexer_names (range_with_len 1 i))
+    ∙ rw (
+      b-ring (suc i) (n - 1),
+      none_in-lists (bytes_eq (b_name (suc i))) multiplexer_names 1 i
+          (λ j low high. none_of_three _ _ _ refl (numbers-differ 98 (suc i) j most (omega (arith, high)) (λ same. omega (arith, high))) (b-m (suc i) j)),
+    ) refl
 
-pub m-new : (n i : ℕ) → suc i ≤ 18000 → list_any (bytes_eq (m (suc i))) (chain_names n i) ≡ false
+pub m-new : (n i : ℕ) → suc i ≤ 18000 → list_any (bytes_eq (m_name (suc i))) (chain_names n i) ≡ false
 m-new n i most =
-    list_any-append (bytes_eq (m (suc i))) (ring_names (n - 1)) (flat_map multiplexer_names (range_with_len 1 i))
-    ∙ rw (m-ring i (n - 1),
-    none_in-lists (bytes_eq (m (suc i))) multiplexer_names 1 i
-    (λ j low high. none_of_three _ _ _ refl refl (m-m i j low (omega (arith, high)) most))) refl
+    list_any-append (bytes_eq (m_name (suc i))) (ring_names (n - 1)) (flat_map multiplexer_names (range_with_len 1 i))
+    ∙ rw (
+      m-ring i (n - 1),
+      none_in-lists (bytes_eq (m_name (suc i))) multiplexer_names 1 i
+          (λ j low high. none_of_three _ _ _ refl refl (m-m i j low (omega (arith, high)) most)),
+    ) refl
 
 -- the ring, at one of its gates
 ring-split :
     (buffers i j : ℕ) (rest : List (List ℕ)) → i + j ≡ buffers →
-    ring_names buffers ++ rest ≡ ring_front i ++ r (suc i) ∷ (map r (range_with_len (suc i + 1) j) ++ rest)
+    ring_names buffers ++ rest ≡ ring_front i ++ r_name (suc i) ∷ (map r_name (range_with_len (suc i + 1) j) ++ rest)
 ring-split buffers i j rest is =
     let all : i + suc j ≡ suc buffers = omega (arith, is) in
-    let names : map r (range_with_len 1 (suc buffers)) ≡ map r (range_with_len 1 i) ++ r (suc i) ∷ map r (range_with_len (suc i + 1) j) =
-    ap (λ count. map r (range_with_len 1 count)) (sym all) ∙ ap (map r) (range-split 1 i (suc i) j (omega arith))
-    ∙ map-append r (range_with_len 1 i) (suc i ∷ range_with_len (suc i + 1) j) in
+    let names : map r_name (range_with_len 1 (suc buffers)) ≡ map r_name (range_with_len 1 i) ++ r_name (suc i) ∷ map r_name (range_with_len (suc i + 1) j) =
+    ap (λ count. map r_name (range_with_len 1 count)) (sym all) ∙ ap (map r_name) (range-split 1 i (suc i) j (omega arith))
+    ∙ map-append r_name (range_with_len 1 i) (suc i ∷ range_with_len (suc i + 1) j) in
     ap (λ names. (codes "go" ∷ codes "x" ∷ codes "n" ∷ codes "p" ∷ names) ++ rest) names
-    ∙ append_assoc (ring_front i) (r (suc i) ∷ map r (range_with_len (suc i + 1) j)) rest
+    ∙ append_assoc (ring_front i) (r_name (suc i) ∷ map r_name (range_with_len (suc i + 1) j)) rest
 
 -- the chain, at one of its multiplexers
 chain-split :
@@ -105,14 +111,14 @@ chain-split n i j is =
     ∙ sym (append_assoc (ring_names (n - 1)) (flat_map multiplexer_names (range_with_len 1 i)) (multiplexer_names (suc i) ++ rest))
 
 -- the number of a gate of the ring
-pub r-node : (n k : ℕ) → 1 ≤ k → k ≤ n → n ≤ 18000 → node_in (chain_names n n) (r k) ≡ k + 3
+pub r-node : (n k : ℕ) → 1 ≤ k → k ≤ n → n ≤ 18000 → node_in (chain_names n n) (r_name k) ≡ k + 3
 r-node n zero some within most = absurd (omega (arith, some))
 r-node n (suc i) some within most =
     let rest = flat_map multiplexer_names (range_with_len 1 n) in
     let j = n - suc i in
-    ap (position_or_len (bytes_eq (r (suc i)))) (ring-split (n - 1) i j rest (omega arith))
-    ∙ place-of (r (suc i)) (ring_front i) (map r (range_with_len (suc i + 1) j) ++ rest) (r-fresh (suc i) i (omega arith) (omega arith))
-    ∙ omega (arith, length-map-range_with_len r 1 i)
+    ap (position_or_len (bytes_eq (r_name (suc i)))) (ring-split (n - 1) i j rest (omega arith))
+    ∙ place-of (r_name (suc i)) (ring_front i) (map r_name (range_with_len (suc i + 1) j) ++ rest) (r-fresh (suc i) i (omega arith) (omega arith))
+    ∙ omega (arith, length-map-range_with_len r_name 1 i)
 
 -- the number of a node that stands so many places behind the multiplexers before it
 chain_node :
@@ -127,44 +133,44 @@ chain_node n i place name within new behind =
     ∙ omega (arith, length-chain_names n i (omega arith), behind rest)
 
 -- the numbers of the gates of a multiplexer
-pub a-node : (n k : ℕ) → 1 ≤ k → k ≤ n → n ≤ 18000 → node_in (chain_names n n) (a k) ≡ n + 3 * k + 1
+pub a-node : (n k : ℕ) → 1 ≤ k → k ≤ n → n ≤ 18000 → node_in (chain_names n n) (a_name k) ≡ n + 3 * k + 1
 a-node n zero some within most = absurd (omega (arith, some))
 a-node n (suc i) some within most =
-    let behind : (rest : List (List ℕ)) → position_or_len (bytes_eq (a (suc i))) (multiplexer_names (suc i) ++ rest) ≡ 0 =
-    λ rest. place-of (a (suc i)) [] (b (suc i) ∷ m (suc i) ∷ rest) refl in
-    chain_node n i 0 (a (suc i)) within (a-new n i (omega arith)) behind ∙ omega arith
+    let behind : (rest : List (List ℕ)) → position_or_len (bytes_eq (a_name (suc i))) (multiplexer_names (suc i) ++ rest) ≡ 0 =
+    λ rest. place-of (a_name (suc i)) [] (b_name (suc i) ∷ m_name (suc i) ∷ rest) refl in
+    chain_node n i 0 (a_name (suc i)) within (a-new n i (omega arith)) behind ∙ omega arith
 
-pub b-node : (n k : ℕ) → 1 ≤ k → k ≤ n → n ≤ 18000 → node_in (chain_names n n) (b k) ≡ n + 3 * k + 2
+pub b-node : (n k : ℕ) → 1 ≤ k → k ≤ n → n ≤ 18000 → node_in (chain_names n n) (b_name k) ≡ n + 3 * k + 2
 b-node n zero some within most = absurd (omega (arith, some))
 b-node n (suc i) some within most =
-    let behind : (rest : List (List ℕ)) → position_or_len (bytes_eq (b (suc i))) (multiplexer_names (suc i) ++ rest) ≡ 1 =
-    λ rest. place-of (b (suc i)) (a (suc i) ∷ []) (m (suc i) ∷ rest) refl in
-    chain_node n i 1 (b (suc i)) within (b-new n i (omega arith)) behind ∙ omega arith
+    let behind : (rest : List (List ℕ)) → position_or_len (bytes_eq (b_name (suc i))) (multiplexer_names (suc i) ++ rest) ≡ 1 =
+    λ rest. place-of (b_name (suc i)) (a_name (suc i) ∷ []) (m_name (suc i) ∷ rest) refl in
+    chain_node n i 1 (b_name (suc i)) within (b-new n i (omega arith)) behind ∙ omega arith
 
-pub m-node : (n k : ℕ) → k ≤ n → n ≤ 18000 → node_in (chain_names n n) (m k) ≡ last_gate n k
+pub m-node : (n k : ℕ) → k ≤ n → n ≤ 18000 → node_in (chain_names n n) (m_name k) ≡ last_gate n k
 m-node n zero within most = refl
 m-node n (suc i) within most =
-    let behind : (rest : List (List ℕ)) → position_or_len (bytes_eq (m (suc i))) (multiplexer_names (suc i) ++ rest) ≡ 2 =
-    λ rest. place-of (m (suc i)) (a (suc i) ∷ b (suc i) ∷ []) rest refl in
-    chain_node n i 2 (m (suc i)) within (m-new n i (omega arith)) behind ∙ omega arith
+    let behind : (rest : List (List ℕ)) → position_or_len (bytes_eq (m_name (suc i))) (multiplexer_names (suc i) ++ rest) ≡ 2 =
+    λ rest. place-of (m_name (suc i)) (a_name (suc i) ∷ b_name (suc i) ∷ []) rest refl in
+    chain_node n i 2 (m_name (suc i)) within (m-new n i (omega arith)) behind ∙ omega arith
 
 -- names of lines
-buffer_names : (ks : List ℕ) → map (λ line. line.name) (map buffer_line ks) ≡ map r ks
+buffer_names : (ks : List ℕ) → map (λ line. line.name) (map buffer_line ks) ≡ map r_name ks
 buffer_names [] = refl
-buffer_names (k ∷ ks) = ap (λ rest. r k ∷ rest) (buffer_names ks)
+buffer_names (k ∷ ks) = ap (λ rest. r_name k ∷ rest) (buffer_names ks)
 
 multiplexers_names : (ks : List ℕ) → map (λ line. line.name) (flat_map multiplexer_lines ks) ≡ flat_map multiplexer_names ks
 multiplexers_names [] = refl
-multiplexers_names (k ∷ ks) = ap (λ rest. a k ∷ b k ∷ m k ∷ rest) (multiplexers_names ks)
+multiplexers_names (k ∷ ks) = ap (λ rest. a_name k ∷ b_name k ∷ m_name k ∷ rest) (multiplexers_names ks)
 
 -- the names of the circuit are those that are added
 names-added : (n : ℕ) → names_in (gate_lines n) ≡ chain_names n n
 names-added n =
     let name : GateLine → List ℕ = λ line. line.name in
-    let rest : map name (map buffer_line (range_with_len 2 (n - 1)) ++ flat_map multiplexer_lines (range_with_len 1 n)) ≡ map r (range_with_len 2 (n - 1)) ++ flat_map multiplexer_names (range_with_len 1 n) =
+    let rest : map name (map buffer_line (range_with_len 2 (n - 1)) ++ flat_map multiplexer_lines (range_with_len 1 n)) ≡ map r_name (range_with_len 2 (n - 1)) ++ flat_map multiplexer_names (range_with_len 1 n) =
     map-append name (map buffer_line (range_with_len 2 (n - 1))) (flat_map multiplexer_lines (range_with_len 1 n))
     ∙ rw (buffer_names (range_with_len 2 (n - 1)), multiplexers_names (range_with_len 1 n)) refl in
-    ap (λ rest. codes "go" ∷ codes "x" ∷ codes "n" ∷ codes "p" ∷ r 1 ∷ rest) rest
+    ap (λ rest. codes "go" ∷ codes "x" ∷ codes "n" ∷ codes "p" ∷ r_name 1 ∷ rest) rest
 
 pub names-built : (n : ℕ) → demo_names n ≡ chain_names n n
 unfolding demo_names
@@ -194,7 +200,7 @@ gates_of-lists gate lines gates first (suc count) same =
 buffer_reads :
     (n k : ℕ) → 2 ≤ k → k ≤ n → n ≤ 18000 → gate_in (chain_names n n) (buffer_line k) ≡ buffer_gate k
 buffer_reads n k low within most =
-    let source : node_in (chain_names n n) (r (k - 1)) ≡ k + 2 = r-node n (k - 1) (omega arith) (omega arith) most ∙ omega arith in
+    let source : node_in (chain_names n n) (r_name (k - 1)) ≡ k + 2 = r-node n (k - 1) (omega arith) (omega arith) most ∙ omega arith in
     rw source refl
 
 -- a multiplexer reads the one before it

@@ -8,7 +8,7 @@ use Rattle.std.proofs.lemmas.List.Elements.{All-nil, All-cons}
 use Rattle.hz_core.specs.Netlist.{Netlist}
 use Rattle.hz_text.specs.ScriptValue.{ScriptOf, IsChange}
 use Rattle.hz_text.specs.ScriptText.{IsScriptFor}
-use Rattle.hz_gen.specs.Demo.{r, node_in, with_listed, demo_names, demo_netlist, demo_script}
+use Rattle.hz_gen.specs.Demo.{r_name, node_in, with_listed, demo_names, demo_netlist, demo_script}
 use Rattle.hz_gen.specs.Built.{chain_netlist}
 use Rattle.hz_gen.proofs.Counts.{length-chain_names}
 use Rattle.hz_gen.proofs.Numbers.{chain_names, names-built, r-node}
@@ -26,13 +26,13 @@ script-built n least most =
     let by_names : List (List ℕ) → ScriptOf = λ names.
     record {
       start =
-        fold (with_listed names) (replicate (length names) None)
-        ((codes "go", false) ∷ (codes "x", true) ∷ (r n, false) ∷ []);
+          fold (with_listed names) (replicate (length names) None)
+          ((codes "go", false) ∷ (codes "x", true) ∷ (r_name n, false) ∷ []);
       changes = ((node_in names (codes "go"), true) ∷ []) ∷ [];
     } in
     let long : length (chain_names n n) ≡ 4 * n + 4 = length-chain_names n n least ∙ omega arith in
     ap by_names (names-built n)
-    ∙ ap (λ nodes. script_by nodes (node_in (chain_names n n) (r n))) long
+    ∙ ap (λ nodes. script_by nodes (node_in (chain_names n n) (r_name n))) long
     ∙ ap (script_by (4 * n + 4)) (r-node n n least (omega arith) most)
 
 pub length-start : (nodes last : ℕ) → length (start_of nodes last) ≡ nodes
@@ -59,6 +59,7 @@ inputs_listed nodes last many after =
   where
     two : (nodes last : ℕ) → All IsSome (take 2 (start_of (suc (suc nodes)) (suc (suc last))))
     two nodes last = All-cons IsSome (Some false) (Some true ∷ []) refl (All-cons IsSome (Some true) [] refl (All-nil IsSome))
+
     at_two : {nodes last : ℕ} (m l : ℕ) → nodes ≡ suc (suc m) → last ≡ suc (suc l) → All IsSome (take 2 (start_of nodes last))
     at_two m l e f = rw (e, f) (two m l)
 

@@ -4,18 +4,18 @@ use Rattle.std.specs.List.{range_with_len, flat_map}
 use Rattle.hz_core.specs.declared.kind.Kind.{Kind}
 use Rattle.hz_core.specs.declared.kind.Kind.TheVariants.{And, Or, Not, Buff}
 use Rattle.hz_core.specs.Netlist.{Gate, Netlist, IsName, empty_netlist, node_named, most_pins, variable_count}
-use Rattle.hz_gen.specs.Demo.{r, a, b, m}
+use Rattle.hz_gen.specs.Demo.{r_name, a_name, b_name, m_name}
 
 -- the circuit with one gate more, whose pins read these nodes
-abbrev pub with_reading : Netlist → List ℕ → Kind → List ℕ → Netlist
-with_reading netlist name kind sources =
+abbrev pub with_connected : Netlist → List ℕ → Kind → List ℕ → Netlist
+with_connected netlist name kind sources =
     record netlist {
       names = netlist.names ++ name ∷ [];
       gates = netlist.gates ++ record { kind = kind; sources = sources } ∷ [];
     }
 
 -- a gate with this name may be added, whose pins read these nodes
-pub record MayRead (netlist : Netlist) (name : List ℕ) (kind : Kind) (sources : List ℕ) : Type 0 where
+pub record MayAdd (netlist : Netlist) (name : List ℕ) (kind : Kind) (sources : List ℕ) : Type 0 where
   pub name_is : IsName name
   pub fresh : node_named netlist name ≡ None
   pub nodes : length netlist.names ≡ netlist.inputs + length netlist.gates
@@ -30,7 +30,7 @@ inputs_netlist = record empty_netlist { names = codes "go" ∷ codes "x" ∷ [];
 -- the names of the inputs, the pulse and a ring with so many buffers
 abbrev pub ring_names : ℕ → List (List ℕ)
 ring_names buffers =
-    codes "go" ∷ codes "x" ∷ codes "n" ∷ codes "p" ∷ r 1 ∷ map r (range_with_len 2 buffers)
+    codes "go" ∷ codes "x" ∷ codes "n" ∷ codes "p" ∷ r_name 1 ∷ map r_name (range_with_len 2 buffers)
 
 -- the buffer k of the ring reads the gate before it
 abbrev pub buffer_gate : ℕ → Gate
@@ -51,7 +51,7 @@ ring_netlist first buffers =
 
 -- the names of a multiplexer's gates
 abbrev pub multiplexer_names : ℕ → List (List ℕ)
-multiplexer_names i = a i ∷ b i ∷ m i ∷ []
+multiplexer_names i = a_name i ∷ b_name i ∷ m_name i ∷ []
 
 -- the number of the last gate of a multiplexer, where the ring has n gates; the input x stands before the first one
 abbrev pub last_gate : ℕ → ℕ → ℕ

@@ -19,20 +19,20 @@ pub record GateLine : Type 0 where
   pub sources : List (List ℕ)
 
 -- a gate of the ring
-abbrev pub r : ℕ → List ℕ
-r number = codes "r" ++ decimal number
+abbrev pub r_name : ℕ → List ℕ
+r_name number = codes "r" ++ decimal number
 
 -- the gates of a multiplexer: what it hands on while `go` is 1, what it hands on while `go` is 0, and both together
-abbrev pub a : ℕ → List ℕ
-a number = codes "a" ++ decimal number
+abbrev pub a_name : ℕ → List ℕ
+a_name number = codes "a" ++ decimal number
 
-abbrev pub b : ℕ → List ℕ
-b number = codes "b" ++ decimal number
+abbrev pub b_name : ℕ → List ℕ
+b_name number = codes "b" ++ decimal number
 
 -- the input x stands before the first multiplexer
-abbrev pub m : ℕ → List ℕ
-m zero = codes "x"
-m (suc number) = codes "m" ++ decimal (suc number)
+abbrev pub m_name : ℕ → List ℕ
+m_name zero = codes "x"
+m_name (suc number) = codes "m" ++ decimal (suc number)
 
 -- the gates that give a pulse when `go` rises: `n = NOT(go)`, `p = AND(go, n)`
 abbrev pub pulse_lines : List GateLine
@@ -43,19 +43,19 @@ pulse_lines =
 
 -- `rk = BUFF(r(k-1))`
 abbrev pub buffer_line : ℕ → GateLine
-buffer_line k = record { name = r k; kind = Buff; sources = r (k - 1) ∷ [] }
+buffer_line k = record { name = r_name k; kind = Buff; sources = r_name (k - 1) ∷ [] }
 
 -- the ring: `r1 = OR(p, rN)`, and a buffer for each k from 2 to N
 abbrev pub ring_lines : ℕ → List GateLine
 ring_lines n =
-    record { name = r 1; kind = Or; sources = codes "p" ∷ r n ∷ [] } ∷ map buffer_line (range_with_len 2 (n - 1))
+    record { name = r_name 1; kind = Or; sources = codes "p" ∷ r_name n ∷ [] } ∷ map buffer_line (range_with_len 2 (n - 1))
 
 -- a multiplexer: `ai = AND(go, m(i-1))`, `bi = AND(n, m(i-1))`, `mi = OR(ai, bi)`
 abbrev pub multiplexer_lines : ℕ → List GateLine
 multiplexer_lines i =
-    record { name = a i; kind = And; sources = codes "go" ∷ m (i - 1) ∷ [] }
-    ∷ record { name = b i; kind = And; sources = codes "n" ∷ m (i - 1) ∷ [] }
-    ∷ record { name = m i; kind = Or; sources = a i ∷ b i ∷ [] }
+    record { name = a_name i; kind = And; sources = codes "go" ∷ m_name (i - 1) ∷ [] }
+    ∷ record { name = b_name i; kind = And; sources = codes "n" ∷ m_name (i - 1) ∷ [] }
+    ∷ record { name = m_name i; kind = Or; sources = a_name i ∷ b_name i ∷ [] }
     ∷ []
 
 -- the gates: the pulse, the ring, and a multiplexer for each i from 1 to N
@@ -100,7 +100,7 @@ unfoldable pub demo_script : ℕ → ScriptOf
 demo_script n =
     record {
       start =
-        fold (with_listed (demo_names n)) (replicate (length (demo_names n)) None)
-        ((codes "go", false) ∷ (codes "x", true) ∷ (r n, false) ∷ []);
+          fold (with_listed (demo_names n)) (replicate (length (demo_names n)) None)
+          ((codes "go", false) ∷ (codes "x", true) ∷ (r_name n, false) ∷ []);
       changes = ((node_in (demo_names n) (codes "go"), true) ∷ []) ∷ [];
     }

@@ -5,16 +5,10 @@ ghost use Rattle.hz_core.specs.Netlist.{empty_netlist};
 ghost use Rattle.hz_gen.specs.Demo.{IsDemoNumber, demo_netlist};
 ghost use Rattle.hz_gen.specs.Built.{inputs_netlist, ring_netlist, chain_netlist};
 
-use crate::line::{add_numbered, add_reading};
+use crate::gate::{add_connected, add_numbered};
+use crate::node::{GO, INVERTER, PULSE, X, ring_gate};
 use hz_core::{Circuit, Kind, Memory};
 use std::alloc::Global;
-
-// The input `go`, the input `x`, the inverter of `go`, the pulse gate, and the first gate of the ring.
-const GO: u32 = 0;
-const X: u32 = 1;
-const INVERTER: u32 = 2;
-const PULSE: u32 = 3;
-const RING: u32 = 4;
 
 // Makes the circuit of a number.
 pub(crate) fn make_circuit(alloc: Global, n: u32) -> Result<Circuit, Memory>
@@ -46,7 +40,7 @@ fn add_ring(circuit: &mut Circuit, n: u32) -> Result<(), Memory>
 {
     add_pulse(circuit)?;
     add_buffers(circuit, n)?;
-    circuit.connect(RING, RING + n - 1)
+    circuit.connect(ring_gate(1), ring_gate(n))
 }
 
 // Adds the gates that give a pulse, and the gate that takes it into the ring.
@@ -54,8 +48,8 @@ fn add_pulse(circuit: &mut Circuit) -> Result<(), Memory>
     requires { circuit.old ≡ inputs_netlist }
     ensures { OnOk result (circuit.new ≡ ring_netlist (3 ∷ []) 0) }
 {
-    add_reading(circuit, b"n", Kind::Not, &[GO])?;
-    add_reading(circuit, b"p", Kind::And, &[GO, INVERTER])?;
+    add_connected(circuit, b"n", Kind::Not, &[GO])?;
+    add_connected(circuit, b"p", Kind::And, &[GO, INVERTER])?;
     add_numbered(circuit, b'r', 1, Kind::Or, &[PULSE])
 }
 
@@ -66,7 +60,7 @@ fn add_buffers(circuit: &mut Circuit, n: u32) -> Result<(), Memory>
     ensures { OnOk result (circuit.new ≡ ring_netlist (3 ∷ []) (n - 1)) }
 {
     for number in 2..n + 1 {
-        add_numbered(circuit, b'r', number, Kind::Buff, &[PULSE + number - 1])?;
+        add_numbered(circuit, b'r', number, Kind::Buff, &[ring_gate(number - 1)])?;
     }
     Ok(())
 }

@@ -3,8 +3,9 @@
 
 mod circuit;
 mod fault;
+mod gate;
 mod generator;
-mod line;
+mod node;
 mod script;
 
 pub use fault::GenFault;

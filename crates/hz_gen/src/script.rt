@@ -3,6 +3,7 @@
 ghost use Rattle.std.specs.Prelude.{◌≡◌, ◌*◌, ◌+◌, IfOk};
 ghost use Rattle.hz_gen.specs.Demo.{IsDemoNumber, demo_script};
 
+use crate::node::{GO, X, ring_gate};
 use hz_core::Memory;
 use hz_text::Script;
 use std::alloc::Global;
@@ -14,9 +15,9 @@ pub(crate) fn make_script(alloc: Global, n: u32, nodes: u32) -> Result<Script, M
     ensures { IfOk result (λ script. script ≡ demo_script n) }
 {
     let mut script = Script::new(alloc, nodes)?;
-    script.list(0, false);
-    script.list(1, true);
-    script.list(3 + n, false);
-    script.add_change(&[(0, true)])?;
+    script.list(GO, false);
+    script.list(X, true);
+    script.list(ring_gate(n), false);
+    script.add_change(&[(GO, true)])?;
     Ok(script)
 }

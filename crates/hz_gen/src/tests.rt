@@ -26,39 +26,58 @@ fn has_gates(circuit: &Circuit, rows: &[(&[u8], Kind, &[u32])]) -> bool {
 #[test]
 fn circuits(rt: HostRuntime) -> Result<(), Fail> {
     let (one, _) = make(rt.alloc(), 1)?;
-    assert!(rt; has_gates(&one, &[
-        (b"n", Kind::Not, &[0]),
-        (b"p", Kind::And, &[0, 2]),
-        (b"r1", Kind::Or, &[3, 4]),
-        (b"a1", Kind::And, &[0, 1]),
-        (b"b1", Kind::And, &[2, 1]),
-        (b"m1", Kind::Or, &[5, 6]),
-    ]));
+    assert!(rt;
+        has_gates(
+            &one,
+            &[
+                (b"n", Kind::Not, &[0]),
+                (b"p", Kind::And, &[0, 2]),
+                (b"r1", Kind::Or, &[3, 4]),
+                (b"a1", Kind::And, &[0, 1]),
+                (b"b1", Kind::And, &[2, 1]),
+                (b"m1", Kind::Or, &[5, 6]),
+            ]
+        )
+    );
     let (two, _) = make(rt.alloc(), 2)?;
-    assert!(rt; has_gates(&two, &[
-        (b"n", Kind::Not, &[0]),
-        (b"p", Kind::And, &[0, 2]),
-        (b"r1", Kind::Or, &[3, 5]),
-        (b"r2", Kind::Buff, &[4]),
-        (b"a1", Kind::And, &[0, 1]),
-        (b"b1", Kind::And, &[2, 1]),
-        (b"m1", Kind::Or, &[6, 7]),
-        (b"a2", Kind::And, &[0, 8]),
-        (b"b2", Kind::And, &[2, 8]),
-        (b"m2", Kind::Or, &[9, 10]),
-    ]));
+    assert!(rt;
+        has_gates(
+            &two,
+            &[
+                (b"n", Kind::Not, &[0]),
+                (b"p", Kind::And, &[0, 2]),
+                (b"r1", Kind::Or, &[3, 5]),
+                (b"r2", Kind::Buff, &[4]),
+                (b"a1", Kind::And, &[0, 1]),
+                (b"b1", Kind::And, &[2, 1]),
+                (b"m1", Kind::Or, &[6, 7]),
+                (b"a2", Kind::And, &[0, 8]),
+                (b"b2", Kind::And, &[2, 8]),
+                (b"m2", Kind::Or, &[9, 10]),
+            ]
+        )
+    );
     Ok(())
 }
 
 #[test]
 fn names_and_scripts(rt: HostRuntime) -> Result<(), Fail> {
     let (circuit, script) = make(rt.alloc(), 12)?;
-    let rows: [(&[u8], u32); 5] = [(b"go", 0), (b"x", 1), (b"r12", 15), (b"a10", 43), (b"m12", 51)];
+    let rows: [(&[u8], u32); 5] = [
+        (b"go", 0),
+        (b"x", 1),
+        (b"r12", 15),
+        (b"a10", 43),
+        (b"m12", 51),
+    ];
     for (name, node) in rows {
         assert_eq!(rt; circuit.find(name), Some(node));
     }
     let printed = print_script(rt.alloc(), &circuit, &script)?;
-    assert_eq!(rt; printed.as_slice(), b"start go=0 x=1 r12=0\nchange go=1\n".as_slice());
+    assert_eq!(rt;
+        printed.as_slice(),
+        b"start go=0 x=1 r12=0\nchange go=1\n".as_slice()
+    );
     Ok(())
 }
 

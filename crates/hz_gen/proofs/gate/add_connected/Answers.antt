@@ -1,5 +1,5 @@
-use Rattle.hz_gen.proofs.Readings.{next-may, next-read}
-use Rattle.hz_gen.proofs.line.add_reading.Goals as goal
+use Rattle.hz_gen.proofs.Gates.{next-may, next-added}
+use Rattle.hz_gen.proofs.gate.add_connected.Goals as goal
 
 pub connect-requires : goal.connect-requires
 connect-requires c =
@@ -10,6 +10,6 @@ connect-requires c =
 
 pub loop-source-preserved : goal.loop-source-preserved
 loop-source-preserved c =
-    next-read c.args.circuit.now c.loop-source.circuit c.connect.new.self c.args.name.now c.args.kind c.args.sources.now
+    next-added c.args.circuit.now c.loop-source.circuit c.connect.new.self c.args.name.now c.args.kind c.args.sources.now
     c.loop-source.source-index c.in_ok-gate.gate c.requires c.in_ok-gate.ensures.ok.0 c.loop-source-test.true
     c.loop-source.invariant c.in_ok-connect.ensures.ok

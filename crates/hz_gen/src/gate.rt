@@ -1,7 +1,7 @@
 // Gates with their pins, one after the other.
 
 ghost use Rattle.std.specs.Prelude.{◌≡◌, ◌∷◌, OnOk, decimal};
-ghost use Rattle.hz_gen.specs.Built.{MayRead, with_reading};
+ghost use Rattle.hz_gen.specs.Built.{MayAdd, with_connected};
 
 use hz_core::{Circuit, Kind, Memory};
 use itoa::Buffer;
@@ -10,14 +10,14 @@ use itoa::Buffer;
 const MAX_NUMBERED: usize = 11;
 
 // Adds a gate whose pins read these nodes.
-pub(crate) fn add_reading(
+pub(crate) fn add_connected(
     circuit: &mut Circuit,
     name: &[u8],
     kind: Kind,
     sources: &[u32],
 ) -> Result<(), Memory>
-    requires { MayRead circuit.old name.now kind sources.now }
-    ensures { OnOk result (circuit.new ≡ with_reading circuit.old name.now kind sources.now) }
+    requires { MayAdd circuit.old name.now kind sources.now }
+    ensures { OnOk result (circuit.new ≡ with_connected circuit.old name.now kind sources.now) }
 {
     let gate = circuit.add_gate(name, kind)?;
     for source in sources {
@@ -34,13 +34,13 @@ pub(crate) fn add_numbered(
     kind: Kind,
     sources: &[u32],
 ) -> Result<(), Memory>
-    requires { MayRead circuit.old (letter ∷ decimal number) kind sources.now }
-    ensures { OnOk result (circuit.new ≡ with_reading circuit.old (letter ∷ decimal number) kind sources.now) }
+    requires { MayAdd circuit.old (letter ∷ decimal number) kind sources.now }
+    ensures { OnOk result (circuit.new ≡ with_connected circuit.old (letter ∷ decimal number) kind sources.now) }
 {
     let mut buffer = Buffer::new();
     let digits = buffer.format(number).as_bytes();
     let mut name = [letter; MAX_NUMBERED];
     let end = 1 + digits.len();
     name[1..end].copy_from_slice(digits);
-    add_reading(circuit, &name[..end], kind, sources)
+    add_connected(circuit, &name[..end], kind, sources)
 }

@@ -1,7 +1,0 @@
-use Rattle.std.proofs.Common.{◌≡◌, take}
-use Rattle.hz_gen.specs.Built.{with_reading}
-use Rattle.hz_gen.proofs.line.add_reading.Given as goal
-
--- the gate has its first pins
-abbrev pub invariant-loop-source : goal.invariant-loop-source
-invariant-loop-source l = l.circuit ≡ with_reading l.fn.circuit l.name l.fn.kind (take l.source-index l.sources)
