@@ -46,13 +46,17 @@ place-after test (name ∷ front) back none =
     rw parts.0 (omega (arith, place-after test front back parts.1))
 
 -- a name that stands nowhere is the name of no node
-pub unnamed : (names : List (List ℕ)) (name : List ℕ) → list_any (bytes_eq name) names ≡ false → position (bytes_eq name) names ≡ None
+pub unnamed :
+    (names : List (List ℕ)) (name : List ℕ) → list_any (bytes_eq name) names ≡ false →
+    position (bytes_eq name) names ≡ None
 unnamed names name none =
     let place : position_or_len (bytes_eq name) names ≡ length names = all_before names none in
     let beyond : nat_lt (length names) (length names) ≡ false = grind (arith, nat_tests) in
     rw (place, beyond) refl
   where
-    all_before : (names : List (List ℕ)) → list_any (bytes_eq name) names ≡ false → position_or_len (bytes_eq name) names ≡ length names
+    all_before :
+        (names : List (List ℕ)) → list_any (bytes_eq name) names ≡ false →
+        position_or_len (bytes_eq name) names ≡ length names
     all_before [] none = refl
     all_before (first ∷ names) none =
         let parts = neither (bytes_eq name first) (list_any (bytes_eq name) names) none in

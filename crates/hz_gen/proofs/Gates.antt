@@ -1,5 +1,5 @@
 -- A gate's pins are added one after the other.
-use Rattle.std.proofs.Common.{◌≡◌, ◌∙◌, refl, ap, subst, sym, ℕ, ◌+◌, ◌-◌, ◌<◌, ◌≤◌, List, [], ◌∷◌, ◌++◌, length, take, get_or, set, All, arith, length-append}
+use Rattle.std.proofs.Common.{◌≡◌, ◌∙◌, ap, subst, sym, ℕ, ◌+◌, ◌-◌, ◌<◌, List, [], ◌∷◌, ◌++◌, length, take, get_or, set, arith, length-append}
 use Rattle.std.proofs.Math.Seq.{get_or-append_seam, set-append_seam}
 use Rattle.std.proofs.lemmas.List.{take_more, length-take-le}
 use Rattle.std.proofs.lemmas.List.Sums.{sum_by_push}
@@ -7,10 +7,6 @@ use Rattle.hz_core.specs.declared.kind.Kind.{Kind}
 use Rattle.hz_core.specs.declared.kind.Kind.TheVariants.{And}
 use Rattle.hz_core.specs.Netlist.{Gate, Netlist, IsGateNumber, gate_at, most_pins, variable_count, with_pin, with_source}
 use Rattle.hz_gen.specs.Built.{MayAdd, with_connected}
-
--- the gate without pins that is read beyond the last one
-nothing : Gate
-nothing = record { kind = And; sources = [] }
 
 module _ (netlist : Netlist) (name : List ℕ) (kind : Kind) (gate : ℕ) where
   -- the last gate is the one that was added
@@ -20,24 +16,29 @@ module _ (netlist : Netlist) (name : List ℕ) (kind : Kind) (gate : ℕ) where
   last-added sources is nodes =
       let one : Gate = record { kind = kind; sources = sources } in
       let place : gate - netlist.inputs ≡ length netlist.gates = omega arith in
-      ap (λ i. get_or (netlist.gates ++ one ∷ []) i (record { kind = And; sources = [] })) place ∙ get_or-append_seam netlist.gates one [] _
+      ap (λ i. get_or (netlist.gates ++ one ∷ []) i (record { kind = And; sources = [] })) place
+      ∙ get_or-append_seam netlist.gates one [] _
 
   -- one pin more
   pin-added :
       (sources : List ℕ) (source : ℕ) → gate ≡ length netlist.names →
       length netlist.names ≡ netlist.inputs + length netlist.gates →
-      with_pin (with_connected netlist name kind sources) gate source ≡ with_connected netlist name kind (sources ++ source ∷ [])
+      with_pin (with_connected netlist name kind sources) gate source
+      ≡ with_connected netlist name kind (sources ++ source ∷ [])
   pin-added sources source is nodes =
       let one : Gate = record { kind = kind; sources = sources } in
       let more : Gate = record { kind = kind; sources = sources ++ source ∷ [] } in
       let place : gate - netlist.inputs ≡ length netlist.gates = omega arith in
-      let gates : set (netlist.gates ++ one ∷ []) (gate - netlist.inputs) (with_source (gate_at (with_connected netlist name kind sources) gate) source) ≡ netlist.gates ++ more ∷ [] =
+      let last = gate_at (with_connected netlist name kind sources) gate in
+      let gates :
+      set (netlist.gates ++ one ∷ []) (gate - netlist.inputs) (with_source last source) ≡ netlist.gates ++ more ∷ [] =
       rw (last-added sources is nodes, place) (set-append_seam netlist.gates one [] more) in
       ap (λ gates. record netlist { names = netlist.names ++ name ∷ []; gates = gates }) gates
 
   -- how many variables there are then
   pub count-added :
-      (sources : List ℕ) → variable_count (with_connected netlist name kind sources) ≡ variable_count netlist + 1 + length sources
+      (sources : List ℕ) →
+      variable_count (with_connected netlist name kind sources) ≡ variable_count netlist + 1 + length sources
   count-added sources =
       omega (
         arith,
@@ -54,7 +55,8 @@ pub record MayConnect (netlist : Netlist) (gate source : ℕ) : Type 0 where
 
 -- the next pin may be added
 pub next-may :
-    (netlist circuit : Netlist) (name : List ℕ) (kind : Kind) (sources : List ℕ) (i gate : ℕ) → MayAdd netlist name kind sources →
+    (netlist circuit : Netlist) (name : List ℕ) (kind : Kind) (sources : List ℕ) (i gate : ℕ) →
+    MayAdd netlist name kind sources →
     gate ≡ length netlist.names → i < length sources → circuit ≡ with_connected netlist name kind (take i sources) →
     MayConnect circuit gate (get_or sources i 0)
 next-may netlist circuit name kind sources i gate may is below so_far =
@@ -71,7 +73,8 @@ next-may netlist circuit name kind sources i gate may is below so_far =
 
 -- the next pin is added
 pub next-added :
-    (netlist circuit next : Netlist) (name : List ℕ) (kind : Kind) (sources : List ℕ) (i gate : ℕ) → MayAdd netlist name kind sources →
+    (netlist circuit next : Netlist) (name : List ℕ) (kind : Kind) (sources : List ℕ) (i gate : ℕ) →
+    MayAdd netlist name kind sources →
     gate ≡ length netlist.names → i < length sources → circuit ≡ with_connected netlist name kind (take i sources) →
     next ≡ with_pin circuit gate (get_or sources i 0) → next ≡ with_connected netlist name kind (take (i + 1) sources)
 next-added netlist circuit next name kind sources i gate may is below so_far step =

@@ -1,5 +1,5 @@
 -- The names of the circuit: a letter, or a letter and a number, and where they differ.
-use Rattle.std.proofs.Common.{◌≡◌, ◌≢◌, ap, refl, ℕ, suc, ◌+◌, ◌^◌, ◌<◌, ◌≤◌, Bool, true, false, ◌==◌, nat_le, List, [], ◌∷◌, drop, length, get_or, arith, decimal}
+use Rattle.std.proofs.Common.{◌≡◌, ap, refl, ℕ, suc, ◌^◌, ◌<◌, ◌≤◌, Bool, true, false, ◌==◌, nat_le, List, [], ◌∷◌, drop, length, get_or, arith, decimal}
 use Rattle.std.specs.List.{list_all}
 use Rattle.std.specs.Int.{IsInRange}
 use Rattle.std.specs.Str.{bytes_eq}
@@ -8,7 +8,6 @@ use Rattle.std.proofs.lemmas.Fmt.{decimal_injective, length-decimal-le, digits_d
 use Rattle.std.proofs.lemmas.Slice.Eq.{bytes_eq-Decides}
 use Rattle.std.proofs.lemmas.Str.Parse.{tells_by_index, numerals_by_value}
 use Rattle.hz_core.specs.Netlist.{IsName, is_name_byte}
-use Rattle.hz_gen.specs.Demo.{r_name, a_name, b_name, m_name}
 
 -- a digit may stand in a name
 digit_byte : (byte : ℕ) → IsInRange 48 57 byte → is_name_byte byte ≡ true
@@ -23,14 +22,16 @@ digit_byte byte range =
     rw (low, high, a, b, c, d, e) refl
 
 digits_bytes :
-    (bytes : List ℕ) → ((i : ℕ) → i < length bytes → IsInRange 48 57 (get_or bytes i 0)) → list_all is_name_byte bytes ≡ true
+    (bytes : List ℕ) → ((i : ℕ) → i < length bytes → IsInRange 48 57 (get_or bytes i 0)) →
+    list_all is_name_byte bytes ≡ true
 digits_bytes [] range = refl
 digits_bytes (byte ∷ bytes) range =
     rw (digit_byte byte (range 0 (omega arith)), digits_bytes bytes (λ i below. range (suc i) (omega (arith, below)))) refl
 
 -- digits may stand in a name
 decimal-bytes : (number : ℕ) → number < 2 ^ 64 → list_all is_name_byte (decimal number) ≡ true
-decimal-bytes number small = digits_bytes (decimal number) (digits_decimal (numerals_by_value _ tells_by_index) number small)
+decimal-bytes number small =
+    digits_bytes (decimal number) (digits_decimal (numerals_by_value _ tells_by_index) number small)
 
 -- a letter and a number are a name
 pub numbered-IsName :
@@ -55,10 +56,14 @@ differs name other not_same = by_test (bytes_eq name other) refl
 pub same-name : (name : List ℕ) → bytes_eq name name ≡ true
 same-name name = (bytes_eq-Decides name name).1 refl
 
--- names with other numbers differ
-pub numbers-differ :
-    (letter number other : ℕ) → number ≤ 18000 → other ≤ 18000 → number ≢ other →
-    bytes_eq (letter ∷ decimal number) (letter ∷ decimal other) ≡ false
-numbers-differ letter number other most most_other not_same =
-    differs (letter ∷ decimal number) (letter ∷ decimal other)
-    (λ same. not_same (decimal_injective number other (omega arith) (omega arith) (ap (drop 1) same)))
+-- a name differs from those with the same letter and a lesser number
+pub earlier-differ :
+    (letter number earlier : ℕ) → number ≤ 18000 → earlier < number →
+    bytes_eq (letter ∷ decimal number) (letter ∷ decimal earlier) ≡ false
+earlier-differ letter number earlier most less =
+    differs (letter ∷ decimal number) (letter ∷ decimal earlier) not_same
+  where
+    not_same : letter ∷ decimal number ≡ letter ∷ decimal earlier → ⊥
+    not_same same =
+        let equal : number ≡ earlier = decimal_injective number earlier (omega arith) (omega arith) (ap (drop 1) same) in
+        omega (arith, equal, less)

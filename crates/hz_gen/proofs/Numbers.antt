@@ -1,5 +1,5 @@
 -- The number of a node by its name, and so that the circuit of a number is the one that is built.
-use Rattle.std.proofs.Common.{◌≡◌, ◌≢◌, ◌∙◌, ap, refl, sym, ℕ, zero, suc, ◌+◌, ◌-◌, ◌*◌, ◌<◌, ◌≤◌, Bool, true, false, ◌||◌, List, [], ◌∷◌, ◌++◌, length, map, arith, append_assoc, codes, decimal}
+use Rattle.std.proofs.Common.{◌≡◌, ◌∙◌, ap, refl, sym, ℕ, zero, suc, ◌+◌, ◌-◌, ◌*◌, ◌<◌, ◌≤◌, Bool, false, ◌||◌, List, [], ◌∷◌, ◌++◌, map, arith, append_assoc, codes}
 use Rattle.std.specs.List.{list_any, position_or_len, range_with_len, flat_map}
 use Rattle.std.specs.Str.{bytes_eq}
 use Rattle.std.proofs.lemmas.List.{map-append}
@@ -8,8 +8,8 @@ use Rattle.std.proofs.lemmas.List.Folds.{list_any-append}
 use Rattle.std.proofs.lemmas.Grind.{flat_map-append}
 use Rattle.hz_core.specs.Netlist.{Gate, Netlist, empty_netlist}
 use Rattle.hz_gen.specs.Demo.{GateLine, r_name, a_name, b_name, m_name, buffer_line, multiplexer_lines, gate_lines, names_in, node_in, gate_in, demo_names, demo_netlist}
-use Rattle.hz_gen.specs.Built.{ring_names, ring_gates, buffer_gate, multiplexer_names, multiplexer_gates, last_gate, chain_netlist}
-use Rattle.hz_gen.proofs.Names.{numbers-differ, same-name}
+use Rattle.hz_gen.specs.Built.{ring_names, buffer_gate, multiplexer_names, multiplexer_gates, last_gate, chain_netlist}
+use Rattle.hz_gen.proofs.Names.{earlier-differ}
 use Rattle.hz_gen.proofs.Fresh.{none_in-range, none_in-lists, place-after, place-of, range-split}
 use Rattle.hz_gen.proofs.Counts.{length-chain_names}
 
@@ -28,7 +28,7 @@ chain_names n multiplexers = (chain_netlist n multiplexers).names
 r-fresh : (k before : ℕ) → before < k → k ≤ 18000 → list_any (bytes_eq (r_name k)) (ring_front before) ≡ false
 r-fresh k before later most =
     none_in-range (bytes_eq (r_name k)) r_name 1 before
-    (λ j low high. numbers-differ 114 k j most (omega (arith, high)) (λ same. omega (arith, high)))
+    (λ j low high. earlier-differ 114 k j most (omega (arith, high)))
 
 pub r-new : (buffers k : ℕ) → buffers + 2 ≤ k → k ≤ 18000 → list_any (bytes_eq (r_name k)) (ring_names buffers) ≡ false
 r-new buffers k later most = r-fresh k (suc buffers) (omega arith) most
@@ -55,7 +55,7 @@ b-m k (suc j) = refl
 m-m : (i j : ℕ) → 1 ≤ j → j < suc i → suc i ≤ 18000 → bytes_eq (m_name (suc i)) (m_name j) ≡ false
 m-m i zero low high most = absurd (omega (arith, low))
 m-m i (suc j) low high most =
-    numbers-differ 109 (suc i) (suc j) most (omega (arith, high)) (λ same. omega (arith, high))
+    earlier-differ 109 (suc i) (suc j) most high
 
 -- a multiplexer's gates have new names
 pub a-new : (n i : ℕ) → suc i ≤ 18000 → list_any (bytes_eq (a_name (suc i))) (chain_names n i) ≡ false
@@ -64,7 +64,7 @@ a-new n i most =
     ∙ rw (
       a-ring (suc i) (n - 1),
       none_in-lists (bytes_eq (a_name (suc i))) multiplexer_names 1 i
-          (λ j low high. none_of_three _ _ _ (numbers-differ 97 (suc i) j most (omega (arith, high)) (λ same. omega (arith, high))) refl (a-m (suc i) j)),
+          (λ j low high. none_of_three _ _ _ (earlier-differ 97 (suc i) j most (omega (arith, high))) refl (a-m (suc i) j)),
     ) refl
 
 pub b-new : (n i : ℕ) → suc i ≤ 18000 → list_any (bytes_eq (b_name (suc i))) (chain_names n i) ≡ false
@@ -73,7 +73,7 @@ b-new n i most =
     ∙ rw (
       b-ring (suc i) (n - 1),
       none_in-lists (bytes_eq (b_name (suc i))) multiplexer_names 1 i
-          (λ j low high. none_of_three _ _ _ refl (numbers-differ 98 (suc i) j most (omega (arith, high)) (λ same. omega (arith, high))) (b-m (suc i) j)),
+          (λ j low high. none_of_three _ _ _ refl (earlier-differ 98 (suc i) j most (omega (arith, high))) (b-m (suc i) j)),
     ) refl
 
 pub m-new : (n i : ℕ) → suc i ≤ 18000 → list_any (bytes_eq (m_name (suc i))) (chain_names n i) ≡ false
@@ -91,24 +91,28 @@ ring-split :
     ring_names buffers ++ rest ≡ ring_front i ++ r_name (suc i) ∷ (map r_name (range_with_len (suc i + 1) j) ++ rest)
 ring-split buffers i j rest is =
     let all : i + suc j ≡ suc buffers = omega (arith, is) in
-    let names : map r_name (range_with_len 1 (suc buffers)) ≡ map r_name (range_with_len 1 i) ++ r_name (suc i) ∷ map r_name (range_with_len (suc i + 1) j) =
+    let after = map r_name (range_with_len (suc i + 1) j) in
+    let names :
+    map r_name (range_with_len 1 (suc buffers)) ≡ map r_name (range_with_len 1 i) ++ r_name (suc i) ∷ after =
     ap (λ count. map r_name (range_with_len 1 count)) (sym all) ∙ ap (map r_name) (range-split 1 i (suc i) j (omega arith))
     ∙ map-append r_name (range_with_len 1 i) (suc i ∷ range_with_len (suc i + 1) j) in
     ap (λ names. (codes "go" ∷ codes "x" ∷ codes "n" ∷ codes "p" ∷ names) ++ rest) names
-    ∙ append_assoc (ring_front i) (r_name (suc i) ∷ map r_name (range_with_len (suc i + 1) j)) rest
+    ∙ append_assoc (ring_front i) (r_name (suc i) ∷ after) rest
 
 -- the chain, at one of its multiplexers
 chain-split :
     (n i j : ℕ) → i + suc j ≡ n →
-    chain_names n n ≡ chain_names n i ++ (multiplexer_names (suc i) ++ flat_map multiplexer_names (range_with_len (suc i + 1) j))
+    chain_names n n
+    ≡ chain_names n i ++ (multiplexer_names (suc i) ++ flat_map multiplexer_names (range_with_len (suc i + 1) j))
 chain-split n i j is =
     let rest = flat_map multiplexer_names (range_with_len (suc i + 1) j) in
-    let names : flat_map multiplexer_names (range_with_len 1 n) ≡ flat_map multiplexer_names (range_with_len 1 i) ++ (multiplexer_names (suc i) ++ rest) =
+    let front = flat_map multiplexer_names (range_with_len 1 i) in
+    let names : flat_map multiplexer_names (range_with_len 1 n) ≡ front ++ (multiplexer_names (suc i) ++ rest) =
     ap (λ count. flat_map multiplexer_names (range_with_len 1 count)) (sym is)
     ∙ ap (flat_map multiplexer_names) (range-split 1 i (suc i) j (omega arith))
     ∙ flat_map-append multiplexer_names (range_with_len 1 i) (suc i ∷ range_with_len (suc i + 1) j) in
     ap (λ names. ring_names (n - 1) ++ names) names
-    ∙ sym (append_assoc (ring_names (n - 1)) (flat_map multiplexer_names (range_with_len 1 i)) (multiplexer_names (suc i) ++ rest))
+    ∙ sym (append_assoc (ring_names (n - 1)) front (multiplexer_names (suc i) ++ rest))
 
 -- the number of a gate of the ring
 pub r-node : (n k : ℕ) → 1 ≤ k → k ≤ n → n ≤ 18000 → node_in (chain_names n n) (r_name k) ≡ k + 3
@@ -117,14 +121,19 @@ r-node n (suc i) some within most =
     let rest = flat_map multiplexer_names (range_with_len 1 n) in
     let j = n - suc i in
     ap (position_or_len (bytes_eq (r_name (suc i)))) (ring-split (n - 1) i j rest (omega arith))
-    ∙ place-of (r_name (suc i)) (ring_front i) (map r_name (range_with_len (suc i + 1) j) ++ rest) (r-fresh (suc i) i (omega arith) (omega arith))
+    ∙ place-of (r_name (suc i)) (ring_front i) (map r_name (range_with_len (suc i + 1) j) ++ rest)
+    (r-fresh (suc i) i (omega arith) (omega arith))
     ∙ omega (arith, length-map-range_with_len r_name 1 i)
+
+-- a name has this place in a multiplexer, whatever comes after it
+abbrev IsBehind : ℕ → List ℕ → ℕ → Type 0
+IsBehind k name place =
+    (rest : List (List ℕ)) → position_or_len (bytes_eq name) (multiplexer_names k ++ rest) ≡ place
 
 -- the number of a node that stands so many places behind the multiplexers before it
 chain_node :
     (n i place : ℕ) (name : List ℕ) → suc i ≤ n → list_any (bytes_eq name) (chain_names n i) ≡ false →
-    ((rest : List (List ℕ)) → position_or_len (bytes_eq name) (multiplexer_names (suc i) ++ rest) ≡ place) →
-    node_in (chain_names n n) name ≡ n + 3 * i + 4 + place
+    IsBehind (suc i) name place → node_in (chain_names n n) name ≡ n + 3 * i + 4 + place
 chain_node n i place name within new behind =
     let j = n - suc i in
     let rest = flat_map multiplexer_names (range_with_len (suc i + 1) j) in
@@ -136,21 +145,21 @@ chain_node n i place name within new behind =
 pub a-node : (n k : ℕ) → 1 ≤ k → k ≤ n → n ≤ 18000 → node_in (chain_names n n) (a_name k) ≡ n + 3 * k + 1
 a-node n zero some within most = absurd (omega (arith, some))
 a-node n (suc i) some within most =
-    let behind : (rest : List (List ℕ)) → position_or_len (bytes_eq (a_name (suc i))) (multiplexer_names (suc i) ++ rest) ≡ 0 =
+    let behind : IsBehind (suc i) (a_name (suc i)) 0 =
     λ rest. place-of (a_name (suc i)) [] (b_name (suc i) ∷ m_name (suc i) ∷ rest) refl in
     chain_node n i 0 (a_name (suc i)) within (a-new n i (omega arith)) behind ∙ omega arith
 
 pub b-node : (n k : ℕ) → 1 ≤ k → k ≤ n → n ≤ 18000 → node_in (chain_names n n) (b_name k) ≡ n + 3 * k + 2
 b-node n zero some within most = absurd (omega (arith, some))
 b-node n (suc i) some within most =
-    let behind : (rest : List (List ℕ)) → position_or_len (bytes_eq (b_name (suc i))) (multiplexer_names (suc i) ++ rest) ≡ 1 =
+    let behind : IsBehind (suc i) (b_name (suc i)) 1 =
     λ rest. place-of (b_name (suc i)) (a_name (suc i) ∷ []) (m_name (suc i) ∷ rest) refl in
     chain_node n i 1 (b_name (suc i)) within (b-new n i (omega arith)) behind ∙ omega arith
 
 pub m-node : (n k : ℕ) → k ≤ n → n ≤ 18000 → node_in (chain_names n n) (m_name k) ≡ last_gate n k
 m-node n zero within most = refl
 m-node n (suc i) within most =
-    let behind : (rest : List (List ℕ)) → position_or_len (bytes_eq (m_name (suc i))) (multiplexer_names (suc i) ++ rest) ≡ 2 =
+    let behind : IsBehind (suc i) (m_name (suc i)) 2 =
     λ rest. place-of (m_name (suc i)) (a_name (suc i) ∷ b_name (suc i) ∷ []) rest refl in
     chain_node n i 2 (m_name (suc i)) within (m-new n i (omega arith)) behind ∙ omega arith
 
@@ -159,7 +168,8 @@ buffer_names : (ks : List ℕ) → map (λ line. line.name) (map buffer_line ks)
 buffer_names [] = refl
 buffer_names (k ∷ ks) = ap (λ rest. r_name k ∷ rest) (buffer_names ks)
 
-multiplexers_names : (ks : List ℕ) → map (λ line. line.name) (flat_map multiplexer_lines ks) ≡ flat_map multiplexer_names ks
+multiplexers_names :
+    (ks : List ℕ) → map (λ line. line.name) (flat_map multiplexer_lines ks) ≡ flat_map multiplexer_names ks
 multiplexers_names [] = refl
 multiplexers_names (k ∷ ks) = ap (λ rest. a_name k ∷ b_name k ∷ m_name k ∷ rest) (multiplexers_names ks)
 
@@ -167,9 +177,13 @@ multiplexers_names (k ∷ ks) = ap (λ rest. a_name k ∷ b_name k ∷ m_name k 
 names-added : (n : ℕ) → names_in (gate_lines n) ≡ chain_names n n
 names-added n =
     let name : GateLine → List ℕ = λ line. line.name in
-    let rest : map name (map buffer_line (range_with_len 2 (n - 1)) ++ flat_map multiplexer_lines (range_with_len 1 n)) ≡ map r_name (range_with_len 2 (n - 1)) ++ flat_map multiplexer_names (range_with_len 1 n) =
-    map-append name (map buffer_line (range_with_len 2 (n - 1))) (flat_map multiplexer_lines (range_with_len 1 n))
-    ∙ rw (buffer_names (range_with_len 2 (n - 1)), multiplexers_names (range_with_len 1 n)) refl in
+    let ring = range_with_len 2 (n - 1) in
+    let chain = range_with_len 1 n in
+    let rest :
+    map name (map buffer_line ring ++ flat_map multiplexer_lines chain)
+    ≡ map r_name ring ++ flat_map multiplexer_names chain =
+    map-append name (map buffer_line ring) (flat_map multiplexer_lines chain)
+    ∙ rw (buffer_names ring, multiplexers_names chain) refl in
     ap (λ rest. codes "go" ∷ codes "x" ∷ codes "n" ∷ codes "p" ∷ r_name 1 ∷ rest) rest
 
 pub names-built : (n : ℕ) → demo_names n ≡ chain_names n n
@@ -184,7 +198,8 @@ gates_of-range :
 gates_of-range gate line one first zero same = refl
 gates_of-range gate line one first (suc count) same =
     ap (λ head. head ∷ map gate (map line (range_with_len (first + 1) count))) (same first (omega arith) (omega arith))
-    ∙ ap (λ rest. one first ∷ rest) (gates_of-range gate line one (first + 1) count (λ j low high. same j (omega (arith, low)) (omega (arith, high))))
+    ∙ ap (λ rest. one first ∷ rest)
+    (gates_of-range gate line one (first + 1) count (λ j low high. same j (omega (arith, low)) (omega (arith, high))))
 
 gates_of-lists :
     (gate : GateLine → Gate) (lines : ℕ → List GateLine) (gates : ℕ → List Gate) (first count : ℕ) →
@@ -193,14 +208,17 @@ gates_of-lists :
 gates_of-lists gate lines gates first zero same = refl
 gates_of-lists gate lines gates first (suc count) same =
     map-append gate (lines first) (flat_map lines (range_with_len (first + 1) count))
-    ∙ ap (λ head. head ++ map gate (flat_map lines (range_with_len (first + 1) count))) (same first (omega arith) (omega arith))
-    ∙ ap (λ rest. gates first ++ rest) (gates_of-lists gate lines gates (first + 1) count (λ j low high. same j (omega (arith, low)) (omega (arith, high))))
+    ∙ ap (λ head. head ++ map gate (flat_map lines (range_with_len (first + 1) count)))
+    (same first (omega arith) (omega arith))
+    ∙ ap (λ rest. gates first ++ rest)
+    (gates_of-lists gate lines gates (first + 1) count (λ j low high. same j (omega (arith, low)) (omega (arith, high))))
 
 -- a buffer reads the gate before it
 buffer_reads :
     (n k : ℕ) → 2 ≤ k → k ≤ n → n ≤ 18000 → gate_in (chain_names n n) (buffer_line k) ≡ buffer_gate k
 buffer_reads n k low within most =
-    let source : node_in (chain_names n n) (r_name (k - 1)) ≡ k + 2 = r-node n (k - 1) (omega arith) (omega arith) most ∙ omega arith in
+    let source : node_in (chain_names n n) (r_name (k - 1)) ≡ k + 2 =
+    r-node n (k - 1) (omega arith) (omega arith) most ∙ omega arith in
     rw source refl
 
 -- a multiplexer reads the one before it
@@ -214,12 +232,18 @@ gates-built :
     (n : ℕ) → 1 ≤ n → n ≤ 18000 → map (gate_in (chain_names n n)) (gate_lines n) ≡ (chain_netlist n n).gates
 gates-built n least most =
     let gate = gate_in (chain_names n n) in
-    let rest : map gate (map buffer_line (range_with_len 2 (n - 1)) ++ flat_map multiplexer_lines (range_with_len 1 n)) ≡ map buffer_gate (range_with_len 2 (n - 1)) ++ flat_map (multiplexer_gates n) (range_with_len 1 n) =
-    map-append gate (map buffer_line (range_with_len 2 (n - 1))) (flat_map multiplexer_lines (range_with_len 1 n))
-    ∙ rw (
-      gates_of-range gate buffer_line buffer_gate 2 (n - 1) (λ k low high. buffer_reads n k low (omega (arith, high)) most),
-      gates_of-lists gate multiplexer_lines (multiplexer_gates n) 1 n (λ k low high. multiplexer_reads n k low (omega (arith, high)) most),
-    ) refl in
+    let ring = range_with_len 2 (n - 1) in
+    let chain = range_with_len 1 n in
+    let buffers : map gate (map buffer_line ring) ≡ map buffer_gate ring =
+    gates_of-range gate buffer_line buffer_gate 2 (n - 1)
+    (λ k low high. buffer_reads n k low (omega (arith, high)) most) in
+    let multiplexers : map gate (flat_map multiplexer_lines chain) ≡ flat_map (multiplexer_gates n) chain =
+    gates_of-lists gate multiplexer_lines (multiplexer_gates n) 1 n
+    (λ k low high. multiplexer_reads n k low (omega (arith, high)) most) in
+    let rest :
+    map gate (map buffer_line ring ++ flat_map multiplexer_lines chain)
+    ≡ map buffer_gate ring ++ flat_map (multiplexer_gates n) chain =
+    map-append gate (map buffer_line ring) (flat_map multiplexer_lines chain) ∙ rw (buffers, multiplexers) refl in
     rw (r-node n n least (omega arith) most, rest) refl
 
 -- the circuit of a number is the one that is built

@@ -18,21 +18,22 @@ pub record GateLine : Type 0 where
   pub kind : Kind
   pub sources : List (List ℕ)
 
--- a gate of the ring
+-- the name of the gate rk of the ring
 abbrev pub r_name : ℕ → List ℕ
-r_name number = codes "r" ++ decimal number
+r_name k = codes "r" ++ decimal k
 
--- the gates of a multiplexer: what it hands on while `go` is 1, what it hands on while `go` is 0, and both together
+-- the name of the branch ai of a multiplexer, which is open while `go` is 1
 abbrev pub a_name : ℕ → List ℕ
-a_name number = codes "a" ++ decimal number
+a_name i = codes "a" ++ decimal i
 
+-- the name of the branch bi, which is open while `go` is 0
 abbrev pub b_name : ℕ → List ℕ
-b_name number = codes "b" ++ decimal number
+b_name i = codes "b" ++ decimal i
 
--- the input x stands before the first multiplexer
+-- the name of the gate mi, where the branches meet; m0 stands for the input x
 abbrev pub m_name : ℕ → List ℕ
 m_name zero = codes "x"
-m_name (suc number) = codes "m" ++ decimal (suc number)
+m_name (suc i) = codes "m" ++ decimal (suc i)
 
 -- the gates that give a pulse when `go` rises: `n = NOT(go)`, `p = AND(go, n)`
 abbrev pub pulse_lines : List GateLine

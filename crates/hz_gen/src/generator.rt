@@ -12,14 +12,14 @@ use hz_core::Circuit;
 use hz_text::Script;
 use std::alloc::Global;
 
-/// The greatest number of a circuit. The circuit of the number has 198,008 variables.
+/// The greatest number that has a circuit. Its circuit has 198,008 variables.
 pub const MAX_NUMBER: u32 = 18_000;
 
-/// Makes the circuit of a number and its script.
+/// Makes the circuit of a number, and its script: a start, and the one change that raises the input `go`.
 ///
-/// When the input `go` rises, the pulse gate `p` may give a pulse, which the ring of gates `r1`, `r2`, .. keeps: it may
-/// oscillate. At the same time each multiplexer of a chain hands on the one value that all of them have, and may have a
-/// hazard, since the inverter `n` is late.
+/// The circuit has what a simulator finds hard, in any size. A pulse may come at the gate `p`, whose inverter falls late, and
+/// a ring of buffers `r1`, `r2`, .. may keep it and oscillate. Beside it stands a chain of multiplexers `m1`, `m2`, .., each
+/// with one value at both of its branches and with a static hazard when `go` changes. It takes time linear in the number.
 pub fn make(alloc: Global, n: u32) -> Result<(Circuit, Script), GenFault>
     ensures circuit { IfOk result (λ made. made.0 ≡ demo_netlist n) }
     ensures script { IfOk result (λ made. made.1 ≡ demo_script n) }

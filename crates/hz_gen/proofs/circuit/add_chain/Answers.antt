@@ -22,24 +22,28 @@ next is some within so_far last =
 pub add_numbered-requires : goal.add_numbered-requires
 add_numbered-requires c =
     first-may _ _ _ _
-    (next c.requires.number c.loop-number.auto.number c.loop-number-test.true c.loop-number.invariant.so_far c.loop-number.invariant.last)
+    (next c.requires.number c.loop-number.auto.number c.loop-number-test.true c.loop-number.invariant.so_far
+    c.loop-number.invariant.last)
 
 pub add_numbered-requires-in-loop-number : goal.add_numbered-requires-in-loop-number
 add_numbered-requires-in-loop-number c =
-    second-may _ _ _ _ _
-    (next c.requires.number c.loop-number.auto.number c.loop-number-test.true c.loop-number.invariant.so_far c.loop-number.invariant.last)
-    c.in_ok-add_numbered.ensures
+    second-may _ _ _ _ _ _
+    (next c.requires.number c.loop-number.auto.number c.loop-number-test.true c.loop-number.invariant.so_far
+    c.loop-number.invariant.last)
+    (omega arith) c.in_ok-add_numbered.ensures
 
 pub add_numbered-requires-in-loop-number-2 : goal.add_numbered-requires-in-loop-number-2
 add_numbered-requires-in-loop-number-2 c =
-    third-may _ _ _ _ _ _ _
-    (next c.requires.number c.loop-number.auto.number c.loop-number-test.true c.loop-number.invariant.so_far c.loop-number.invariant.last)
+    third-may _ _ _ _ _ _ _ _
+    (next c.requires.number c.loop-number.auto.number c.loop-number-test.true c.loop-number.invariant.so_far
+    c.loop-number.invariant.last)
     c.nodes-first.ensures.nodes c.in_ok-add_numbered.ensures c.in_ok-add_numbered-2.ensures
 
 pub loop-number-preserved : goal.loop-number-preserved
 loop-number-preserved c =
     let added =
     third-added _ _ _ _ _ _ _ _
-    (next c.requires.number c.loop-number.auto.number c.loop-number-test.true c.loop-number.invariant.so_far c.loop-number.invariant.last)
+    (next c.requires.number c.loop-number.auto.number c.loop-number-test.true c.loop-number.invariant.so_far
+    c.loop-number.invariant.last)
     c.nodes-first.ensures.nodes c.in_ok-add_numbered.ensures c.in_ok-add_numbered-2.ensures c.in_ok-add_numbered-3.ensures in
     record { so_far = added.0; last = added.1 }

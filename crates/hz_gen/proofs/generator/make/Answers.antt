@@ -1,4 +1,4 @@
-use Rattle.std.proofs.Common.{◌≡◌, ◌∙◌, ap, sym, subst, length, ◌+◌, ◌*◌, rules}
+use Rattle.std.proofs.Common.{◌∙◌, ap, sym, subst, rules}
 use Rattle.hz_core.specs.Netlist.{IsWhole, variable_count}
 use Rattle.hz_gen.specs.Demo.{IsDemoNumber}
 use Rattle.hz_gen.proofs.Laws.{demo-nodes, demo-whole, demo-variables, demo-fits}
