@@ -252,7 +252,5 @@ unfolding demo_netlist
 demo-built n least most =
     let with_lists : List (List ℕ) → List Gate → Netlist =
     λ names gates. record empty_netlist { names = names; inputs = 2; gates = gates } in
-    let gates : map (gate_in (demo_names n)) (gate_lines n) ≡ (chain_netlist n n).gates =
-    ap (λ names. map (gate_in names) (gate_lines n)) (names-built n) ∙ gates-built n least most in
-    ap (λ names. with_lists names (map (gate_in (demo_names n)) (gate_lines n))) (names-added n)
-    ∙ ap (with_lists (chain_names n n)) gates
+    ap (λ names. with_lists names (map (gate_in names) (gate_lines n))) (names-built n)
+    ∙ ap (with_lists (chain_names n n)) (gates-built n least most)

@@ -79,18 +79,14 @@ gate_in names line = record { kind = line.kind; sources = map (node_in names) li
 unfoldable pub demo_names : ℕ → List (List ℕ)
 demo_names n = names_in (gate_lines n)
 
--- the circuit of the inputs and these gates, which read nodes of the circuit of N; no node is an output
-abbrev pub netlist_with : ℕ → List GateLine → Netlist
-netlist_with n lines =
-    record empty_netlist {
-      names = names_in lines;
-      inputs = 2;
-      gates = map (gate_in (demo_names n)) lines;
-    }
-
--- the circuit of N
+-- the circuit of N: its gates read nodes by their names; no node is an output
 unfoldable pub demo_netlist : ℕ → Netlist
-demo_netlist n = netlist_with n (gate_lines n)
+demo_netlist n =
+    record empty_netlist {
+      names = demo_names n;
+      inputs = 2;
+      gates = map (gate_in (demo_names n)) (gate_lines n);
+    }
 
 -- a start that lists the node with a name, too
 abbrev pub with_listed : List (List ℕ) → List (Option Bool) → List ℕ × Bool → List (Option Bool)
