@@ -34,6 +34,7 @@ pub enum UnreadText {
 
 impl<T: Drop> From<AllocFailed<T>> for Unread {
     ghost use Rattle.hz_line.specs.declared.statements.Unread.TheVariants as unread;
+
     ghost from_gives = { λ _ made. made ≡ unread.Memory };
 
     fn from(_failed: AllocFailed<T>) -> Unread {
@@ -43,6 +44,7 @@ impl<T: Drop> From<AllocFailed<T>> for Unread {
 
 impl<T: Drop> From<AllocFailed<T>> for UnreadText {
     ghost use Rattle.hz_line.specs.declared.statements.UnreadText.TheVariants as text;
+
     ghost from_gives = { λ _ made. made ≡ text.Memory };
 
     fn from(_failed: AllocFailed<T>) -> UnreadText {
@@ -52,6 +54,7 @@ impl<T: Drop> From<AllocFailed<T>> for UnreadText {
 
 impl From<LineFault> for Unread {
     ghost use Rattle.hz_line.specs.Reading.{unread_by};
+
     ghost from_gives = { λ fault made. made ≡ unread_by fault };
 
     fn from(fault: LineFault) -> Unread {

@@ -30,6 +30,7 @@ pub enum LineFault {
 
 impl<T: Drop> From<AllocFailed<T>> for LineFault {
     ghost use Rattle.hz_line.specs.declared.tokens.LineFault.TheVariants as fault;
+
     ghost from_gives = { λ _ made. made ≡ fault.Memory };
 
     fn from(_failed: AllocFailed<T>) -> LineFault {

@@ -1,7 +1,6 @@
 -- The first answer of the passes is the least fault.
 use Rattle.std.proofs.Common.{◌≡◌, ◌∙◌, ℕ, ◌+◌, ◌<◌, ◌≤◌, Bool, true, false, not, ◌||◌, cond, nat_eq, List, [], ◌∷◌, Option, Some, None, zero, suc, length, get_or, map, filter, refl, ap, sym, subst, inl, inr, arith, ltb}
 use Rattle.std.specs.List.{list_any, position, position_or_len}
-use Rattle.std.specs.Option.{option_map, option_or}
 use Rattle.std.specs.Str.{bytes_eq}
 use Rattle.std.proofs.lemmas.List.Quantifiers.{position-Some}
 use Rattle.std.proofs.lemmas.Slice.Eq.{bytes_eq-Decides}
@@ -13,11 +12,10 @@ use Rattle.hz_core.specs.Netlist.{Netlist, node_named, primary_inputs}
 use Rattle.hz_gmw.specs.Least.{IsLeastOf}
 use Rattle.hz_line.specs.Line.{lines_of}
 use Rattle.hz_line.specs.Statement.{Numbered, PassesOn, first_line, numbered_statements, first_malformed}
-use Rattle.hz_line.proofs.StatementLemmas.{Ascends, numbered_from-Ascends, PassesOn-above, first_line-Some, first_line-None, meaning_at-first, meaning_at-none, numbered_from-map, first_malformed-map}
-use Rattle.hz_text.specs.Statement.{Statement, statement_of, statements_of}
-use Rattle.hz_text.specs.declared.fault.TextFault.TheVariants.{Form, Unknown, Twice, Missing, Bit, Order, TooMany}
+use Rattle.hz_line.proofs.StatementLemmas.{Ascends, numbered_from-Ascends, PassesOn-above, first_line-Some, first_line-None, numbered_from-map}
+use Rattle.hz_text.specs.Statement.{statement_of, statements_of}
 use Rattle.hz_text.specs.Assignment.{Assigned, Allowed, Assignment, has_repeat, assigned_of, is_unknown, assigns}
-use Rattle.hz_text.specs.Lookup.{Looked, looked_of, looked_up, looked_by}
+use Rattle.hz_text.specs.Lookup.{Looked, looked_of, looked_by}
 use Rattle.hz_text.specs.ScriptFault.{looked_statements, allowed_in, has_unknown, has_twice, has_no_bit, is_start, IsMissing, IsOutOfOrder, line_beyond, Stands, IsFaultless}
 use Rattle.hz_text.specs.Rules.{nodes_of, least_unassigned, first_fault_of}
 use Rattle.hz_text.specs.ScriptRules.{has_node_twice, least_missing, first_out_of_order, last_beyond, script_rules, first_fault}

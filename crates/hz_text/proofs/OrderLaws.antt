@@ -1,19 +1,18 @@
 -- The pass over the order of a run text finds the line that breaks it.
-use Rattle.std.proofs.Common.{◌≡◌, ◌∙◌, ℕ, ◌≤◌, Bool, true, false, cond, List, [], ◌∷◌, ◌++◌, Option, Some, None, map, refl, ap, sym, subst, inl, inr, arith, append_assoc}
+use Rattle.std.proofs.Common.{◌≡◌, ◌∙◌, ℕ, Bool, true, false, cond, List, [], ◌∷◌, ◌++◌, Option, Some, None, map, refl, ap, sym, inl, inr, arith, append_assoc}
 use Rattle.std.specs.Prelude.{◌⊎◌}
 use Rattle.std.specs.List.{flat_map}
 use Rattle.std.specs.Option.{option_map_or}
 use Rattle.std.proofs.lemmas.List.{map-append}
 use Rattle.hz_gmw.specs.Least.{IsLeastOf}
 use Rattle.hz_line.specs.Statement.{Numbered}
-use Rattle.hz_text.specs.Assignment.{Assigned}
 use Rattle.hz_text.specs.declared.run.order.Place.{Place}
 use Rattle.hz_text.specs.declared.run.order.Place.TheVariants as place
 use Rattle.hz_text.specs.RunStatement.{Header, Start, Input, Run, Step, Cycle, End}
 use Rattle.hz_text.specs.RunLookup.{LookedRun}
 use Rattle.hz_text.specs.RunFault.{assignments_in, is_start_line, is_input_line}
 use Rattle.hz_text.specs.OrderPass.{is_header, is_end}
-use Rattle.hz_text.specs.RunOrder.{cycle_lines, run_lines, RunShape, shape_lines, IsOrdered, MayGoOn, unnumbered, IsOutOfPlace, BreaksOrder}
+use Rattle.hz_text.specs.RunOrder.{cycle_lines, RunShape, shape_lines, IsOrdered, MayGoOn, unnumbered, IsOutOfPlace, BreaksOrder}
 use Rattle.hz_text.specs.OrderPass.{place_after, end_out_of_order, runs_out_of_order, out_of_order_with, input_out_of_order, start_out_of_order, run_out_of_order}
 
 -- what statements are: they may not go on, they may and are not whole, or they are whole

@@ -16,7 +16,6 @@ use Rattle.hz_line.specs.Line.{lines_of}
 use Rattle.hz_line.specs.Statement.{Numbered, numbered_from, first_line, first_malformed}
 use Rattle.hz_line.proofs.StatementLemmas.{first_malformed-map}
 use Rattle.hz_text.specs.Statement.{Keyword, Start, Change, statement_of}
-use Rattle.hz_text.specs.declared.fault.TextFault.{TextFault}
 use Rattle.hz_text.specs.Assignment.{Assigned, has_repeat, bit_of, assigned_of, is_node, assigns, bit_at, assignment_to}
 use Rattle.hz_text.specs.Lookup.{Looked, looked_of, looked_up}
 use Rattle.hz_text.specs.ScriptFault.{looked_statements, has_unknown, has_no_bit, is_start, IsFaultless}

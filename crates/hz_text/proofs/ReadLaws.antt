@@ -2,9 +2,7 @@
 use Rattle.std.proofs.Common.{◌≡◌, ◌∙◌, ℕ, ◌<◌, ◌≤◌, Bool, true, false, ◌||◌, cond, nat_eq, nat_le, List, [], ◌∷◌, Option, Some, None, length, get_or, map, refl, ap, sym, subst, inl, inr, arith, zero-add}
 use Rattle.std.specs.List.{list_any, range_with_len, All}
 use Rattle.std.specs.Option.{option_map, option_or, IfSome, IsSome, IsSomeAnd, is_none}
-use Rattle.std.specs.Str.{bytes_eq}
-use Rattle.std.proofs.lemmas.List.Quantifiers.{position-Some}
-use Rattle.std.proofs.lemmas.List.Elements.{All-nil, All-cons, All-map, All-head, All-tail}
+use Rattle.std.proofs.lemmas.List.Elements.{All-nil, All-cons, All-head, All-tail}
 use Rattle.std.proofs.lemmas.List.{get_or-map, length-map, length-take-le, get_or-take}
 use Rattle.std.proofs.lemmas.List.FromFn.{length-range_with_len, get_or-map-range_with_len}
 use Rattle.std.proofs.lemmas.Bool.{cases_lt}
@@ -18,7 +16,7 @@ use Rattle.hz_text.specs.declared.fault.TextFault.{TextFault}
 use Rattle.hz_text.specs.declared.fault.TextFault.TheVariants.{Unknown, Twice, Missing, Bit, Order, TooMany}
 use Rattle.hz_text.specs.Assignment.{Assigned, Allowed, Inputs, has_repeat, is_unknown, any_unknown, is_node, assigns, bit_at, assignment_to}
 use Rattle.hz_text.specs.Lookup.{Entry, Looked, keyword_by, looked_by, held_by, entered}
-use Rattle.hz_line.specs.Reading.{IsRead, IsUnreadText}
+use Rattle.hz_line.specs.Reading.{IsRead}
 use Rattle.hz_text.specs.ScriptFault.{looked_statements, allowed_in, has_unknown, has_no_bit, is_start, is_start_word, Stands, IsRefusal}
 use Rattle.hz_text.specs.Rules.{nodes_of, AreBelow, least_unassigned, first_fault_of, IsAnswer, IsChecked}
 use Rattle.hz_text.specs.ScriptRules.{has_node_twice, least_missing, first_out_of_order, last_beyond, script_rules, first_fault}

@@ -1,6 +1,6 @@
 -- Runs that are built statement by statement, and the front of a run text in order.
 use Rattle.std.proofs.Common.{◌≡◌, ◌∙◌, ℕ, ◌+◌, ◌<◌, ◌≤◌, Bool, true, false, cond, nat_le, List, [], ◌∷◌, ◌++◌, Option, Some, None, zero, suc, length, get_or, set, drop, map, refl, ap, sym, subst, arith, append_assoc, zero-add}
-use Rattle.std.specs.List.{list_any, flat_map, filter_map, range_with_len, All}
+use Rattle.std.specs.List.{list_any, flat_map, range_with_len, All}
 use Rattle.std.specs.Option.{IsSome, IfSome, is_none, option_map_or}
 use Rattle.std.proofs.lemmas.Bool.Decides.{nat_tests}
 use Rattle.std.proofs.lemmas.List.{append-nil, map_push, length-map, drop_more, get_or_default}
@@ -11,9 +11,9 @@ use Rattle.hz_core.specs.Netlist.{Netlist}
 use Rattle.hz_line.specs.Statement.{Numbered, first_line}
 use Rattle.hz_text.specs.declared.run.order.Place.{Place}
 use Rattle.hz_text.specs.declared.run.order.Place.TheVariants as place
-use Rattle.hz_text.specs.Assignment.{Assigned, Nodes, Inputs, is_unknown, bit_at, assignment_to}
+use Rattle.hz_text.specs.Assignment.{Assigned, Nodes, Inputs, is_unknown, bit_at}
 use Rattle.hz_text.specs.Rules.{AreBelow, least_unassigned}
-use Rattle.hz_text.specs.Bits.{pair_of, bits_at, IsWholeStart}
+use Rattle.hz_text.specs.Bits.{IsWholeStart}
 use Rattle.hz_text.specs.RunStatement.{Header, Start, Input, Run, Step, Cycle, End}
 use Rattle.hz_text.specs.RunLookup.{RunEntry, LookedRun, run_entered, run_entered_all, run_held_by}
 use Rattle.hz_text.specs.RunValue.{RunOf, with_step_in, with_step}

@@ -1,21 +1,18 @@
 -- The first answer of the passes over a run text is its least fault.
-use Rattle.std.proofs.Common.{◌≡◌, ◌∙◌, ℕ, Bool, true, false, cond, List, [], ◌∷◌, Option, Some, None, length, map, refl, ap, sym, subst}
-use Rattle.std.specs.Option.{option_map, option_or}
+use Rattle.std.proofs.Common.{◌≡◌, ◌∙◌, ℕ, false, List, Option, Some, None, length, refl, sym, subst}
 use Rattle.hz_core.specs.Netlist.{Netlist}
 use Rattle.hz_gmw.specs.Least.{IsLeastOf}
 use Rattle.hz_line.specs.Line.{lines_of}
-use Rattle.hz_line.specs.Statement.{Numbered, PassesOn, first_line, numbered_statements, first_malformed}
-use Rattle.hz_line.proofs.StatementLemmas.{Ascends, numbered_from-Ascends, meaning_at-first, meaning_at-none, numbered_from-map, first_malformed-map}
+use Rattle.hz_line.specs.Statement.{PassesOn, first_line, numbered_statements, first_malformed}
+use Rattle.hz_line.proofs.StatementLemmas.{numbered_from-Ascends, numbered_from-map}
 use Rattle.hz_text.specs.Assignment.{Assigned, Nodes, Inputs}
 use Rattle.hz_text.specs.declared.fault.TextFault.{TextFault}
-use Rattle.hz_text.specs.declared.fault.TextFault.TheVariants.{Form, Unknown, Twice, Missing, Bit, Order, TooMany}
 use Rattle.hz_text.specs.Rules.{least_unassigned, first_fault_of, IsAnswer, IsChecked}
 use Rattle.hz_text.specs.RunStatement.{Header, Start, Input, Run, Step, Cycle, End, RunStatement, run_statement_of, run_statements_of}
-use Rattle.hz_text.specs.RunLookup.{RunEntry, LookedRun, run_looked_of, run_looked_up, run_looked_by, run_entered_all}
+use Rattle.hz_text.specs.RunLookup.{RunEntry, run_looked_of, run_looked_by, run_entered_all}
 use Rattle.hz_line.specs.Reading.{IsRead}
-use Rattle.hz_text.specs.RunFault.{looked_run_statements, assignments_in, names_unknown, names_twice, lacks_bit, first_start, first_input, LeavesOut, StandsInRuns, IsRunFaultless, IsRunRefusal}
-use Rattle.hz_text.specs.OrderPass.{run_out_of_order}
-use Rattle.hz_text.specs.RunRules.{names_node_twice, AssignsBelow, least_left_out, least_missing_node, beyond_from, run_rules, first_run_fault, IsAcceptedRun}
+use Rattle.hz_text.specs.RunFault.{looked_run_statements, names_unknown, names_twice, lacks_bit, first_start, first_input, LeavesOut, StandsInRuns, IsRunFaultless, IsRunRefusal}
+use Rattle.hz_text.specs.RunRules.{names_node_twice, AssignsBelow, least_left_out, beyond_from, run_rules, first_run_fault, IsAcceptedRun}
 use Rattle.hz_text.proofs.FaultLaws.{unassigned-Some, unassigned-None, twice-names, true-false}
 use Rattle.std.specs.List.{All}
 use Rattle.hz_text.proofs.BeyondLaws.{answers_beyond}

@@ -7,7 +7,7 @@ use Rattle.hz_text.specs.declared.fault.TextFault.{TextFault}
 use Rattle.hz_text.specs.declared.fault.TextFault.TheVariants as fault
 use Rattle.hz_text.specs.Assignment.{Assigned, Nodes, Inputs, any_unknown, any_twice, any_bitless, assigns}
 use Rattle.hz_text.specs.Fault.{IsLeastFaultOf, IsLeastFaultOrMemory}
-use Rattle.hz_text.specs.RunStatement.{StatementOf, Header, Start, Input, Run, Step, Cycle, End, RunStatement, run_statement_of, run_statements_of}
+use Rattle.hz_text.specs.RunStatement.{StatementOf, Start, Input, Step, RunStatement, run_statement_of, run_statements_of}
 use Rattle.hz_text.specs.RunLookup.{LookedRun, run_looked_up}
 use Rattle.hz_text.specs.RunOrder.{BreaksOrder}
 

@@ -1,12 +1,11 @@
 -- The run text that a text without a fault stands for.
-use Rattle.std.specs.Prelude.{◌≡◌, ℕ, ◌<◌, ◌≤◌, List, [], ◌∷◌, ◌++◌, length, map, All, Option, Some, None}
+use Rattle.std.specs.Prelude.{◌≡◌, ℕ, ◌<◌, ◌≤◌, List, [], ◌∷◌, ◌++◌, length, map, All, Option, Some}
 use Rattle.std.specs.List.{flat_map, range_with_len}
 use Rattle.hz_core.specs.Netlist.{Netlist}
 use Rattle.hz_net.specs.Network.{network_of}
 use Rattle.hz_gmw.specs.Recorded.{flip_count}
-use Rattle.hz_line.specs.Statement.{Numbered}
 use Rattle.hz_text.specs.Assignment.{Assigned, bit_at}
-use Rattle.hz_text.specs.RunStatement.{Header, Start, Input, Run, Step, Cycle, End}
+use Rattle.hz_text.specs.RunStatement.{Header, Start, Input, Step, End}
 use Rattle.hz_text.specs.RunLookup.{LookedRun}
 use Rattle.hz_text.specs.RunFault.{looked_run_statements}
 use Rattle.hz_text.specs.RunOrder.{cycle_lines, run_lines, unnumbered}

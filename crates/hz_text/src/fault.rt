@@ -40,6 +40,7 @@ pub enum TextFault {
 
 impl From<Memory> for TextFault {
     ghost use Rattle.hz_text.specs.declared.fault.TextFault.TheVariants as fault;
+
     ghost from_gives = { λ _ made. made ≡ fault.Memory };
 
     fn from(_memory: Memory) -> TextFault {
@@ -49,6 +50,7 @@ impl From<Memory> for TextFault {
 
 impl From<UnreadText> for TextFault {
     ghost use Rattle.hz_text.specs.Rules.{fault_by};
+
     ghost from_gives = { λ why made. made ≡ fault_by why };
 
     fn from(why: UnreadText) -> TextFault {
@@ -60,7 +62,10 @@ impl From<UnreadText> for TextFault {
 }
 
 // Refuses a text that has this fault at some place.
-pub(crate) fn refuse<F: FnOnce(u32) -> TextFault>(found: Option<u32>, fault: F) -> Result<(), TextFault>
+pub(crate) fn refuse<F: FnOnce(u32) -> TextFault>(
+    found: Option<u32>,
+    fault: F,
+) -> Result<(), TextFault>
     requires { F.IsAlwaysCallable fault }
     ensures { MatchResult result
         (λ _. found ≡ None)

@@ -1,4 +1,4 @@
-use Rattle.std.proofs.Common.{◌≡◌, ◌∙◌, ◌+◌, None, false, replicate, take, get_or, length, sym, ap, arith, rules}
+use Rattle.std.proofs.Common.{◌≡◌, ◌∙◌, ◌+◌, false, replicate, take, get_or, length, sym, ap, arith, rules}
 use Rattle.std.proofs.lemmas.List.{take_more}
 use Rattle.hz_text.specs.Assignment.{Assigned}
 use Rattle.hz_text.proofs.NodeLemmas.{marks_of, marks_of-none, marks_of-push, length-marks, written_whole}

@@ -1,6 +1,5 @@
 use Rattle.std.proofs.Common.{◌≡◌, ◌∙◌, length, map, ap, arith}
 use Rattle.std.specs.List.{filter_map}
-use Rattle.hz_text.specs.Lookup.{held_by}
 use Rattle.hz_text.specs.Bits.{pair_of}
 use Rattle.hz_text.specs.ScriptValue.{ScriptOf}
 use Rattle.hz_text.specs.Assignment.{assignment_to}
