@@ -16,7 +16,8 @@ GATES = {
     "NOT": lambda bits: bits == "0",
     "BUFF": lambda bits: bits == "1",
 }
-# Small circuits: inputs, gates, the nodes of a stable start, and the new input.
+# Small circuits: inputs, gates, the nodes of a stable start, and the new input; and, if there are flip-flops, the nodes that these
+# read. Flip-flops are the last inputs.
 SMALL = {
     "latch": ("rs", [("q", "NOR", "rb"), ("b", "NOR", "sq")], "1100", "00"),
     "stays": ("rs", [("q", "NOR", "rb"), ("b", "NOR", "sq")], "0110", "00"),
@@ -40,6 +41,10 @@ SMALL = {
         "10000",
     ),
     "ring": ("x", [("p", "AND", "xn"), ("n", "NOT", "x"), ("u", "OR", "pw"), ("v", "BUFF", "u"), ("w", "BUFF", "v")], "001000", "1"),
+    "sticky": ("aq", [("d", "AND", "aq"), ("y", "NOT", "q")], "0001", "10", "d"),
+    "toggle": ("eq", [("d", "XOR", "eq")], "101", "01", "d"),
+    "shift": ("apqr", [("d", "NAND", "ap")], "00001", "1000", "qra"),
+    "closed": ("pq", [("y", "OR", "pq")], "000", "11", "qp"),
 }
 # By hand: the rounds, results and ranks of Algorithm A, then those of B with its settling rounds. Nodes, then wires.
 PASSES = {
@@ -100,8 +105,10 @@ def other(bit):
 class Circuit:
     """A circuit with one letter for a name; its variables are the inputs, the gates, and the wires into the gates."""
 
-    def __init__(self, inputs, gates, start, new):
+    def __init__(self, inputs, gates, start, new, data=""):
         self.inputs, self.gates, self.new = inputs, gates, new
+        self.primary = inputs[:len(inputs) - len(data)]
+        self.cuts = list(zip(inputs[len(self.primary):], data))
         self.names = inputs + "".join(name for name, _, _ in gates)
         self.wires = "".join(sources for _, _, sources in gates)
         self.start = self.expanded(start)
@@ -111,7 +118,8 @@ class Circuit:
         return nodes + "".join(nodes[self.names.index(source)] for source in self.wires)
 
     def netlist(self):
-        lines = [f"INPUT({name})" for name in self.inputs]
+        lines = [f"INPUT({name})" for name in self.primary]
+        lines += [f"{name} = DFF({node})" for name, node in self.cuts]
         lines += [f"{name} = {kind}({', '.join(sources)})" for name, kind, sources in self.gates]
         return "\n".join(lines) + "\n"
 
@@ -235,6 +243,9 @@ class Circuit:
         pairs, before = dict(listed), None
         while pairs != before:
             before = dict(pairs)
+            for name, node in self.cuts:
+                if name not in listed and node in before:
+                    pairs[name] = before[node]
             for name, kind, sources in self.gates:
                 bits = extension(kind, "".join(before.get(source, "X") for source in sources))
                 if name not in listed and bits != "X":
@@ -244,7 +255,7 @@ class Circuit:
     def start_line(self, listed):
         """The line of the report that a listing leads to."""
         pairs = self.forced(listed)
-        for name, _, _ in self.gates:
+        for name in self.names:
             if name not in pairs:
                 return f"refused: start: open {name}"
         state = self.expanded("".join(pairs[name] for name in self.names))
@@ -255,9 +266,9 @@ class Circuit:
         return "start" + "".join(f" {name}={pairs[name]}" for name in self.names)
 
     def listings(self):
-        """Each way to list all inputs and some gates."""
-        for bits in product("01", repeat=len(self.inputs)):
-            for held in product(("", "0", "1"), repeat=len(self.gates)):
+        """Each way to list all inputs that are no flip-flops, and some flip-flops and gates."""
+        for bits in product("01", repeat=len(self.primary)):
+            for held in product(("", "0", "1"), repeat=len(self.names) - len(self.primary)):
                 yield {name: bit for name, bit in zip(self.names, bits + held) if bit}
 
     def variables(self):
@@ -379,11 +390,11 @@ def hand_rows():
 
 def small_changes():
     """The small circuits with their changes, and those of at most nine variables from each stable start to each input."""
-    for name, (inputs, gates, start, new) in SMALL.items():
-        circuit = Circuit(inputs, gates, start, new)
+    for name, (inputs, gates, start, new, *data) in SMALL.items():
+        circuit = Circuit(inputs, gates, start, new, *data)
         yield name, circuit
         if len(circuit.start) <= 9 and name != "stays":
             for nodes in circuit.stable_starts():
                 for bits in product("01", repeat=len(inputs)):
                     new = "".join(bits)
-                    yield f"{name} from {nodes} to {new}", Circuit(inputs, gates, nodes, new)
+                    yield f"{name} from {nodes} to {new}", Circuit(inputs, gates, nodes, new, *data)

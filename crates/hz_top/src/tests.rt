@@ -46,8 +46,11 @@ const C17: &str = "INPUT(1)\nINPUT(2)\nINPUT(3)\nINPUT(6)\nINPUT(7)\nOUTPUT(22)\
 const MULTIPLEXER: &str = "INPUT(s)\nINPUT(x)\nINPUT(y)\nOUTPUT(z)\n\
     n = NOT(s)\na = AND(s, x)\nb = AND(n, y)\nz = OR(a, b)\n";
 
+// A flip-flop that keeps its value while a is 1, and falls for good once a is 0.
+const STICKY: &str = "INPUT(a)\nOUTPUT(y)\nq = DFF(d)\nd = AND(a, q)\ny = NOT(q)\n";
+
 // Netlists, scripts and what is printed.
-const REPORTS: [(&str, &str, &str); 6] = [
+const REPORTS: [(&str, &str, &str); 10] = [
     (
         "INPUT(a)\nOUTPUT(a)\n",
         "start a=0\nchange a=1\n",
@@ -168,6 +171,26 @@ const REPORTS: [(&str, &str, &str); 6] = [
         "start r=0 s=0 q=1 qb=0\n",
         "netlist inputs 2 gates 2 wires 4 variables 8\nstart r=0 s=0 q=1 qb=0\n",
     ),
+    (
+        STICKY,
+        "start a=0\n",
+        "netlist inputs 2 gates 2 wires 3 variables 7\nstart a=0 q=0 d=0 y=1\n",
+    ),
+    (
+        STICKY,
+        "start a=1 q=1\n",
+        "netlist inputs 2 gates 2 wires 3 variables 7\nstart a=1 q=1 d=1 y=0\n",
+    ),
+    (
+        "INPUT(a)\ng = dff(a)\n",
+        "start a=1 g=0\n",
+        "netlist inputs 2 gates 0 wires 0 variables 2\nstart a=1 g=0\n",
+    ),
+    (
+        "INPUT(a)\np = DFF(q)\nq = DFF(d)\nd = BUFF(a)\n",
+        "start a=1\n",
+        "netlist inputs 3 gates 1 wires 1 variables 5\nstart a=1 p=1 q=1 d=1\n",
+    ),
 ];
 
 #[test]
@@ -213,6 +236,7 @@ fn refusals(rt: HostRuntime) -> Result<(), Fail> {
             5,
             "refused: start: unstable y\n",
         ),
+        (STICKY, "start a=1\n", 5, "refused: start: open q\n"),
     ];
     for (netlist, script, code, text) in rows {
         let (status, out) = run_job(rt.alloc(), "analyse", netlist, script, 0, 0)?;
