@@ -1,10 +1,10 @@
 -- What holds of the circuit and the script of every number.
-use Rattle.std.proofs.Common.{◌≡◌, ◌∙◌, ℕ, zero, suc, ◌+◌, ◌-◌, ◌*◌, ◌≤◌, List, [], ◌∷◌, length, map, All, arith}
+use Rattle.std.proofs.Common.{◌≡◌, ◌∙◌, ℕ, zero, suc, ◌+◌, ◌-◌, ◌*◌, ◌≤◌, List, [], ◌∷◌, length, map, All, arith, IsTrue}
 use Rattle.std.specs.List.{range_with_len, flat_map}
 use Rattle.std.proofs.lemmas.List.Elements.{All-nil, All-cons, All-append}
 use Rattle.hz_core.specs.declared.kind.Kind.{Kind}
 use Rattle.hz_core.specs.declared.kind.Kind.TheVariants.{And, Or, Not}
-use Rattle.hz_core.specs.Netlist.{Gate, IsWhole, variable_count}
+use Rattle.hz_core.specs.Netlist.{Gate, IsWhole, has_output, variable_count}
 use Rattle.hz_text.specs.ScriptText.{IsScriptFor}
 use Rattle.hz_gen.specs.Demo.{demo_netlist, demo_script}
 use Rattle.hz_gen.specs.Built.{ring_gates, buffer_gate, multiplexer_gates, last_gate}
@@ -60,8 +60,12 @@ ring_whole n buffers =
 pub demo-whole : (n : ℕ) → 1 ≤ n → n ≤ 18000 → IsWhole (demo_netlist n)
 demo-whole n least most =
     rw (demo-built n least most)
-    (All-append HasPin (ring_gates (3 ∷ (n + 3) ∷ []) (n - 1)) (flat_map (multiplexer_gates n) (range_with_len 1 n))
-    (ring_whole n (n - 1)) (multiplexers_whole n 1 n))
+    (record {
+      gates =
+          All-append HasPin (ring_gates (3 ∷ (n + 3) ∷ []) (n - 1)) (flat_map (multiplexer_gates n) (range_with_len 1 n))
+          (ring_whole n (n - 1)) (multiplexers_whole n 1 n);
+      cuts = All-nil (λ node. IsTrue (has_output [] node));
+    })
 
 -- how many nodes there are
 pub demo-nodes : (n : ℕ) → 1 ≤ n → n ≤ 18000 → length (demo_netlist n).names ≡ 4 * n + 4
