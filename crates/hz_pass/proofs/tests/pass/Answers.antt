@@ -7,7 +7,7 @@ use Rattle.hz_net.proofs.Sequences.{AllBelow-closed, closed-result}
 use Rattle.hz_pass.proofs.tests.pass.Goals as goal
 
 pub settle-rounds_b-requires-clause-below : goal.settle-rounds_b-requires-clause-below
-settle-rounds_b-requires-clause-below c =
+settle-rounds_b-requires-clause-below g c =
     let net = network_of c.args.net.now in
     let input = c.args.input.now in
     let result = algorithm_a net input c.args.start.now c.spread-rounds_a.result in
