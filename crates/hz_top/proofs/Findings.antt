@@ -13,9 +13,7 @@ use Rattle.std.proofs.lemmas.List.Elements.{All-nil, All-cons}
 use Rattle.hz_gmw.specs.Runs.{is_listed, flipped, IsRun, IsReachable, JoinsTo}
 use Rattle.hz_gmw.proofs.LeastLemmas.{listed-head, listed-tail}
 use Rattle.hz_reach.specs.Spread.{IsSpreadRun}
-use Rattle.hz_reach.proofs.Exact.{exact}
-use Rattle.hz_gmw.proofs.CoverA.{covers}
-use Rattle.hz_gmw.proofs.CoverB.{covers_outcomes}
+use Rattle.hz_gmw.specs.Cycles.{IsOutcome}
 use Rattle.hz_report.specs.Finding.{FindingOf}
 use Rattle.hz_top.specs.Finding.{IsFinding}
 
@@ -25,8 +23,27 @@ below-result net input start a b rounds long are is same =
     subst (λ (values : List Tri). AllBelow (excitations net input values) values) (sym (same ∙ is))
     (AllBelow-closed net input (algorithm_a net input start rounds) (closed-result net input start rounds long are))
 
+-- the laws on which a finding stands, as the crates below say them
+abbrev CoversA : Type 0
+CoversA =
+    (net : List Driver) (input start state : List Bool) (rounds : ℕ) → length start ≡ length net → AreRounds (algorithm_a net input start) rounds →
+    IsReachable net input start state → Refines state (algorithm_a net input start rounds)
+
+abbrev CoversB : Type 0
+CoversB =
+    (net : List Driver) (input start state : List Bool) (rounds round : ℕ) → length start ≡ length net →
+    AreRounds (algorithm_a net input start) rounds → IsOutcome net input start state →
+    Refines state (algorithm_b net input (algorithm_a net input start rounds) round)
+
+abbrev ExactA : Type 0
+ExactA =
+    (netlist : Netlist) (input own start : List Bool) (rounds i : ℕ) → IsCircuit netlist → length start ≡ length (network_of netlist) →
+    IsStable (network_of netlist) own start → AreRounds (algorithm_a (network_of netlist) input start) rounds →
+    JoinsTo (IsReachable (network_of netlist) input start) i (value_at (algorithm_a (network_of netlist) input start rounds) i)
+
 -- what both passes and the spread run give is a right finding
 pub is-finding :
+    CoversA → CoversB → ExactA →
     (netlist : Netlist) (own input start : List Bool) (finding : FindingOf) (first : List Tri) → IsCircuit netlist →
     length start ≡ length (network_of netlist) → IsStable (network_of netlist) own start →
     AreRounds (algorithm_a (network_of netlist) input start) finding.rounds_a →
@@ -35,7 +52,7 @@ pub is-finding :
     AreRounds (algorithm_b (network_of netlist) input first) finding.rounds_b →
     finding.b ≡ algorithm_b (network_of netlist) input first finding.rounds_b → finding.rounds_b ≤ length (network_of netlist) + 1 →
     IsFinding (network_of netlist) input start finding
-is-finding netlist own input start finding first circuit long stable a_are a_is a_few shown same b_are b_is b_few =
+is-finding covers_a covers_b exact_a netlist own input start finding first circuit long stable a_are a_is a_few shown same b_are b_is b_few =
     let net = network_of netlist in
     let rounds_a = finding.rounds_a in
     let rounds_b = finding.rounds_b in
@@ -44,15 +61,15 @@ is-finding netlist own input start finding first circuit long stable a_are a_is 
       a_settles = a_are;
       a_result = a_is;
       a_bound = a_few;
-      a_covers = λ state reach. subst (Refines state) (sym a_is) (covers net input start state rounds_a long a_are reach);
+      a_covers = λ state reach. subst (Refines state) (sym a_is) (covers_a net input start state rounds_a long a_are reach);
       a_exact = λ i within. subst (λ (values : List Tri). JoinsTo (IsReachable net input start) i (value_at values i)) (sym a_is)
-          (exact netlist input own start rounds_a i circuit long stable a_are);
+          (exact_a netlist input own start rounds_a i circuit long stable a_are);
       spread = shown;
       b_settles = subst (λ (values : List Tri). AreRounds (algorithm_b net input values) rounds_b) same b_are;
       b_result = from_a;
       b_bound = b_few;
       b_covers = λ state outcome. subst (Refines state) (sym (from_a ∙ ap (λ (values : List Tri). algorithm_b net input values rounds_b) a_is))
-          (covers_outcomes net input start state rounds_a rounds_b long a_are outcome);
+          (covers_b net input start state rounds_a rounds_b long a_are outcome);
     }
 
 -- the results have a value for each variable

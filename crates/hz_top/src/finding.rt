@@ -10,11 +10,11 @@ ghost use Rattle.hz_report.specs.Finding.{finding_of};
 ghost use Rattle.hz_top.specs.Finding.{IsFinding};
 
 use hz_core::{Memory, Tri};
-use hz_gmw::Run;
+use hz_gmw::{Run, a_covers, b_covers};
 use hz_net::Net;
 use hz_outside::Steps;
 use hz_pass::{Front, settle, spread};
-use hz_reach::{Scratch, spread_run};
+use hz_reach::{Scratch, a_is_exact, spread_run};
 use hz_report::Finding;
 use std::alloc::Global;
 use std::marker::Brand;
@@ -49,6 +49,10 @@ fn find_counted<L: Ledger>(
     requires some { 0 < ledger.parts }
     ensures { IfOk result (λ found. IsFinding (network_of net.now) input.now start.now (finding_of found)) }
 {
+    // The laws on what the passes give, for the proof alone.
+    a_covers();
+    b_covers();
+    a_is_exact();
     let (book, share) = ledger.open::<L>();
     let mut steps = Steps::new(book, share);
     let mut front = Front::new(alloc, net)?;

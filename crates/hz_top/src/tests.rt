@@ -50,7 +50,18 @@ const MULTIPLEXER: &str = "INPUT(s)\nINPUT(x)\nINPUT(y)\nOUTPUT(z)\n\
 const STICKY: &str = "INPUT(a)\nOUTPUT(y)\nq = DFF(d)\nd = AND(a, q)\ny = NOT(q)\n";
 
 // Netlists, scripts and what is printed.
-const REPORTS: [(&str, &str, &str); 10] = [
+const REPORTS: [(&str, &str, &str); 12] = [
+    (
+        "",
+        "start\n",
+        "netlist inputs 0 gates 0 wires 0 variables 0\nstart\n",
+    ),
+    (
+        "",
+        "start\nchange\n",
+        "netlist inputs 0 gates 0 wires 0 variables 0\nstart\n\
+        change 1\nrounds A 1 B 1\nruns 1\nstart\ninput\nrun\nend\n",
+    ),
     (
         "INPUT(a)\nOUTPUT(a)\n",
         "start a=0\nchange a=1\n",
@@ -217,6 +228,37 @@ fn refusals(rt: HostRuntime) -> Result<(), Fail> {
             "start a=2\n",
             4,
             "refused: script line 1: bit\n",
+        ),
+        ("INPUT(a)\n", "", 4, "refused: script line 0: order\n"),
+        (
+            "INPUT(a)\n",
+            "begin a=0\n",
+            4,
+            "refused: script line 1: form\n",
+        ),
+        (
+            "INPUT(a)\n",
+            "start b=0\n",
+            4,
+            "refused: script line 1: unknown name\n",
+        ),
+        (
+            "INPUT(a)\n",
+            "start a=0 a=1\n",
+            4,
+            "refused: script line 1: assigned twice\n",
+        ),
+        (
+            "INPUT(a)\n",
+            "start\n",
+            4,
+            "refused: script: no value for a\n",
+        ),
+        (
+            "INPUT(a)\n",
+            "change a=1\n",
+            4,
+            "refused: script line 1: order\n",
         ),
         (
             "INPUT(a)\n",

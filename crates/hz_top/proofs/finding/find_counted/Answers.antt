@@ -37,7 +37,7 @@ returns g c =
     let b_is : (with_items room.b c.settle_from.new.b).items ≡ c.settle_from.new.b =
     with_items_is room.b c.settle_from.new.b (omega (arith, long_b, c.in_ok-finding.ensures.b, room.b.ok.0, c.len-variables.ensures.len)) in
     let shown = subst (λ (values : List Tri). IsSpreadRun net input start values c.reach.new.run.steps) (sym a_is) c.reach.ensures.run in
-    is-finding netlist (take netlist.inputs start) input start _ c.as_slice.result.now
+    is-finding c.a_covers.ensures c.b_covers.ensures c.a_is_exact.ensures netlist (take netlist.inputs start) input start _ c.as_slice.result.now
     c.len-variables.ensures.circuit c.requires.start.long c.requires.start.stable
     c.reach.ensures.rounds (a_is ∙ c.reach.ensures.a) c.reach.ensures.bound shown first_is
     c.settle_from.ensures.rounds (b_is ∙ c.settle_from.ensures.b) c.settle_from.ensures.bound
