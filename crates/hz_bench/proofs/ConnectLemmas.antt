@@ -264,4 +264,3 @@ IsOutputting-more start circuit new cut is_circuit above inside was made =
 pub IsOutputting-end : (start circuit : Netlist) (cut : ℕ) → IsCircuit start → start.inputs ≤ cut → IsOutputting start circuit cut → circuit ≡ with_data_outputs start
 IsOutputting-end start circuit cut is_circuit above was =
     ap (fold with_data_output circuit) (sym (drop_of_length-le start.cuts (omega (arith, above, is_circuit.cuts)))) ∙ was.rest
-

@@ -65,10 +65,10 @@ filed-more netlist lists new node cut is inside made was =
           | inr earlier ↦ Contains-append_left (cuts_at lists node) (cut ∷ []) found (was.complete node found (subst (λ (n : ℕ). IsDataOf netlist n found) same h) (omega (arith, below, earlier)))
         ]))
         | inr differ ↦ subst (λ cuts. Contains cuts found) (sym (there other differ)) (was.complete other found h
-        (elim (cases_eq found cut) [
-          | inl it ↦ absurd (differ (same_node other (subst (IsDataOf netlist other) it h)))
-          | inr earlier ↦ omega (arith, below, earlier)
-        ]))
+            (elim (cases_eq found cut) [
+              | inl it ↦ absurd (differ (same_node other (subst (IsDataOf netlist other) it h)))
+              | inr earlier ↦ omega (arith, below, earlier)
+            ]))
       ];
     }
 
