@@ -14,5 +14,3 @@ mod settling;
 pub use cycling::cycle_run;
 pub use settling::settle_run;
 
-#[cfg(test)]
-mod tests;
