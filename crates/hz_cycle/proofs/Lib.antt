@@ -1,2 +1,5 @@
 pub mod Settled
 pub mod Earlier
+pub mod Inside
+pub mod Turn
+pub mod TurnKeeps
