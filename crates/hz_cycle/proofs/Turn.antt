@@ -124,22 +124,19 @@ module _ {net : List Driver} {input : List Bool} {b : List Tri} {ranks : List �
         | inr late ↦ inside.fresh (first + pin) source gate drives (into pin few) unknown next.unsettled next.waits late
       ]
 
-  now : List Bool
+  abbrev now : List Bool
   now = slice_range state first (first + pins)
 
-  free : List Bool
+  abbrev free : List Bool
   free = map is_unknown (slice_range b first (first + pins))
 
   now-long : length now ≡ pins
-  unfolding now
   now-long = length-part state first pins (λ pin few. omega (arith, pin-inside pin few, long))
 
   at-now : (pin : ℕ) → pin < pins → bit_at now pin ≡ bit_at state (first + pin)
-  unfolding now
   at-now pin few = at-part state first pins pin false few
 
   at-free : (pin : ℕ) → pin < pins → get_or free pin false ≡ is_unknown (value_at b (first + pin))
-  unfolding free
   at-free pin few =
       get_or-map is_unknown (slice_range b first (first + pins)) pin Zero false
       (omega (arith, few, length-part b first pins (λ k less. omega (arith, pin-inside k less, fixed.long))))
@@ -147,11 +144,9 @@ module _ {net : List Driver} {input : List Bool} {b : List Tri} {ranks : List �
 
   module _ {pattern : List Bool} (canonical : IsPattern kind (slice_range state first (first + pins)) (map is_unknown (slice_range b first (first + pins))) (not (bit_at state gate)) pattern) where
     pattern-long : length pattern ≡ pins
-    unfolding now
     pattern-long = canonical.candidate.agrees.same_length ∙ now-long
 
     changed-unknown : (pin : ℕ) → pin < pins → bit_at pattern pin ≢ bit_at now pin → IsUnknown (value_at b (first + pin))
-    unfolding now free
     changed-unknown pin few differ =
         unknown-is (value_at b (first + pin))
         (sym (at-free pin few) ∙ free-changed now free pattern pin canonical.candidate.agrees (omega (arith, few, now-long)) differ)
@@ -160,11 +155,10 @@ module _ {net : List Driver} {input : List Bool} {b : List Tri} {ranks : List �
     abbrev wires : List ℕ
     wires = turn_wires state first pins pattern
 
-    test : ℕ → Bool
+    abbrev test : ℕ → Bool
     test i = differs (bit_at (slice_range state first (first + pins)) (i - first)) (bit_at pattern (i - first))
 
-    listed-pin : (i : ℕ) → is_listed wires i ≡ true → (pin : ℕ) × (pin < pins) × (i ≡ first + pin) × (bit_at pattern pin ≢ bit_at now pin)
-    unfolding now test
+    pub listed-pin : (i : ℕ) → is_listed wires i ≡ true → (pin : ℕ) × (pin < pins) × (i ≡ first + pin) × (bit_at pattern pin ≢ bit_at now pin)
     listed-pin i there =
         let is = picked-is test first (length now) i there in
         let here : i ≡ first + is.place = is.is in
@@ -173,7 +167,6 @@ module _ {net : List Driver} {input : List Bool} {b : List Tri} {ranks : List �
         (is.place, omega (arith, is.few, now-long), here, λ same. differ (subst (λ (n : ℕ). bit_at now n ≡ bit_at pattern n) (sym place) (sym same)))
 
     pin-listed : (pin : ℕ) → pin < pins → bit_at pattern pin ≢ bit_at now pin → is_listed wires (first + pin) ≡ true
-    unfolding now test
     pin-listed pin few differ =
         let place : first + pin - first ≡ pin = omega arith in
         is-picked test first (length now) pin (omega (arith, few, now-long))
@@ -185,7 +178,6 @@ module _ {net : List Driver} {input : List Bool} {b : List Tri} {ranks : List �
         subst (λ (n : ℕ). IsUnknown (value_at b n)) (sym is.2) (changed-unknown is.0 is.1 is.3)
 
     pub wires-step : wires ≢ [] → IsStep net input state wires
-    unfolding test
     wires-step some = record {
       some = some;
       once = picked-once test first (length (slice_range state first (first + pins)));
@@ -287,5 +279,5 @@ module _ {net : List Driver} {input : List Bool} {b : List Tri} {ranks : List �
           twice false = refl
           twice true = refl
 
-      settled-after : Refines last b
+      pub settled-after : Refines last b
       settled-after = refines-flipped middle b flips (refines-flipped state b wires inside.settled wires-unsettled) flips-unsettled

@@ -19,10 +19,10 @@ use Rattle.hz_cycle.proofs.Inside.{IsShownInside, HasPatternInside, IsInside}
 use Rattle.hz_cycle.proofs.Turn.{other-bit, not-itself, also, IsNext, IsAfterTurn, pin-inside, pin-differs}
 
 -- who has had a turn
-also-itself : (had : ℕ → Bool) (gate i : ℕ) → i ≡ gate → also had gate i ≡ true
+pub also-itself : (had : ℕ → Bool) (gate i : ℕ) → i ≡ gate → also had gate i ≡ true
 also-itself had gate i same = rw (eq-eqb i gate same) refl
 
-also-other : (had : ℕ → Bool) (gate i : ℕ) → i ≢ gate → also had gate i ≡ had i
+pub also-other : (had : ℕ → Bool) (gate i : ℕ) → i ≢ gate → also had gate i ≡ had i
 also-other had gate i other = rw (ne_eqb i gate other) refl
 
 not-waiting : (had : ℕ → Bool) (gate i : ℕ) → also had gate i ≡ false → i ≢ gate
