@@ -5,3 +5,5 @@ pub mod Turn
 pub mod TurnKeeps
 pub mod Steps
 pub mod Underway
+pub mod Had
+pub mod TurnedStates

@@ -41,7 +41,8 @@ pub record IsUnderway (net : List Driver) (input : List Bool) (ranks : List ℕ)
       changes_in made wire ≤ turns had source
   pub equal :
       (wire source gate : ℕ) → driver_at net wire ≡ Source source → IsWireInto net gate wire → IsEarlier ranks source gate →
-      IsUnknown (value_at b source) → bit_at begun wire ≡ bit_at begun source → changes_in made wire ≤ turns had gate
+      IsUnknown (value_at b source) → IsUnknown (value_at b gate) → bit_at begun wire ≡ bit_at begun source →
+      changes_in made wire ≤ turns had gate
   pub shown :
       (wire source : ℕ) → driver_at net wire ≡ Source source → IsUnknown (value_at b source) → had source ≡ true →
       (member : List Bool) × Contains (states_of begun made) member × (bit_at member wire ≡ bit_at begun source)
@@ -98,14 +99,15 @@ module _ {net : List Driver} {input : List Bool} {b : List Tri} {ranks : List �
   -- a wire whose source is earlier than its gate and had the source's bit at the beginning does not change with its source
   equal-out :
       (wire source other : ℕ) → driver_at net wire ≡ Source source → IsWireInto net other wire → IsEarlier ranks source other →
-      IsUnknown (value_at b source) → bit_at begun wire ≡ bit_at begun source → is_listed flips wire ≡ true → ⊥
-  equal-out wire source other drives goes earlier unknown same there =
+      IsUnknown (value_at b source) → IsUnknown (value_at b other) → bit_at begun wire ≡ bit_at begun source →
+      is_listed flips wire ≡ true → ⊥
+  equal-out wire source other drives goes earlier unknown unsettled same there =
       let from : source ≡ gate = wire-comes wire source drives there in
       let later : IsEarlier ranks gate other = subst (λ (n : ℕ). IsEarlier ranks n other) from earlier in
       let apart : other ≢ gate = λ here. not-earlier ranks gate (subst (IsEarlier ranks gate) here later) in
       let waits : had other ≡ false = false_from_ne_true _ (λ turned. not-both ranks gate other later (next.only other turned)) in
       let none : changes_in made wire ≡ 0 = (
-      let few : changes_in made wire ≤ turns had other = underway.equal wire source other drives goes earlier unknown same in
+      let few : changes_in made wire ≤ turns had other = underway.equal wire source other drives goes earlier unknown unsettled same in
       let zero_turns : turns had other ≤ 0 = rw waits (omega arith) in
       omega (arith, few, zero_turns)
       ) in
@@ -157,10 +159,10 @@ module _ {net : List Driver} {input : List Bool} {b : List Tri} {ranks : List �
         omega (arith, more-changes wire, underway.outward wire source other drives goes known,
         wires-out wire (λ there. known (ap (value_at b) (wire-goes wire other goes there) ∙ next.unsettled)),
         one-turn flips wire source (wire-comes wire source drives));
-    equal = λ wire source other drives goes earlier unknown same.
-        omega (arith, more-changes wire, underway.equal wire source other drives goes earlier unknown same,
+    equal = λ wire source other drives goes earlier unknown unsettled same.
+        omega (arith, more-changes wire, underway.equal wire source other drives goes earlier unknown unsettled same,
         one-turn (turn_wires state first pins pattern) wire other (wire-goes wire other goes),
-        flips-out wire (equal-out wire source other drives goes earlier unknown same));
+        flips-out wire (equal-out wire source other drives goes earlier unknown unsettled same));
     shown = λ wire source drives unknown turned.
         elim (cases_eq source gate) [
           | inl same ↦ (
