@@ -7,3 +7,4 @@ pub mod Steps
 pub mod Underway
 pub mod Had
 pub mod TurnedStates
+pub mod FanOut

@@ -1,13 +1,14 @@
 //! A pass over the unsettled gates.
-ghost use Rattle.std.specs.Prelude.{◌≡◌, ◌+◌, ◌<◌, ◌≤◌, Bool, List, [], length, map, not};
+ghost use Rattle.std.specs.Prelude.{◌≡◌, ◌+◌, ◌<◌, ◌≤◌, Bool, List, [], length, map, not, IsTrue};
+ghost use Rattle.hz_core.specs.Gate.{takes};
 ghost use Rattle.hz_core.specs.Ternary.{is_unknown};
 ghost use Rattle.hz_core.specs.Netlist.{IsCircuit, IsWhole, IsGateNumber, gate_at};
 ghost use Rattle.hz_core.specs.Pattern.{IsCandidate};
 ghost use Rattle.hz_net.specs.Network.{network_of, bit_at};
 ghost use Rattle.hz_net.specs.Variables.{at_wires, first_wire};
-ghost use Rattle.hz_cycle.specs.Marks.{ArePatternWires, with_fan_out};
+ghost use Rattle.hz_cycle.specs.Marks.{MarksPattern, ArePatternWires, with_fan_out};
 
-use hz_core::{MAX_PINS, Tri};
+use hz_core::{Kind, MAX_PINS, Tri};
 use hz_gmw::Run;
 use hz_net::Net;
 use hz_reach::{Scratch, mark_changed};
@@ -56,23 +57,38 @@ fn mark_pattern(net: &Net, b: &[Tri], gate: u32, scratch: &mut Scratch)
     let kind = net.circuit().kind(gate);
     let (first, pins) = net.wires_in(gate);
     let wires = first as usize..(first + pins) as usize;
+    let want = !scratch.state()[gate as usize];
     let mut now = [false; MAX_PINS];
+    now[..pins as usize]
+        .copy_from_slice(&scratch.state()[first as usize..(first + pins) as usize]);
+    mark_changes(kind, first, &now[..pins as usize], &b[wires], want, scratch);
+}
+
+// Marks the wires that differ from the pattern which gives a gate a bit, where the unsettled pins are free.
+fn mark_changes(
+    kind: Kind,
+    first: u32,
+    now: &[bool],
+    values: &[Tri],
+    want: bool,
+    scratch: &mut Scratch,
+)
+    requires takes { IsTrue (takes kind (length now.now)) }
+    requires values { length values.now ≡ length now.now }
+    requires possible { (list : List Bool) × IsCandidate kind now.now (map is_unknown values.now) want list }
+    requires inside { first + length now.now ≤ length scratch.old.state }
+    requires small { first + length now.now ≤ 200000 }
+    requires none_marked { scratch.old.marked ≡ [] }
+    ensures marked { MarksPattern kind first now.now (map is_unknown values.now) want scratch.new.marked }
+    ensures state { scratch.new.state ≡ scratch.old.state }
+    ensures sorted { scratch.new.sorted ≡ scratch.old.sorted }
+{
+    let pins = now.len();
     let mut free = [false; MAX_PINS];
     let mut pattern = [false; MAX_PINS];
-    now[..pins as usize].copy_from_slice(&scratch.state()[first as usize..(first + pins) as usize]);
-    list_unsettled(&b[wires], &mut free[..pins as usize]);
-    kind.choose(
-        &now[..pins as usize],
-        &free[..pins as usize],
-        !scratch.state()[gate as usize],
-        &mut pattern[..pins as usize],
-    );
-    mark_changed(
-        first,
-        &now[..pins as usize],
-        &pattern[..pins as usize],
-        scratch,
-    );
+    list_unsettled(values, &mut free[..pins]);
+    kind.choose(now, &free[..pins], want, &mut pattern[..pins]);
+    mark_changed(first, now, &pattern[..pins], scratch);
 }
 
 // Which pins are unsettled, by their wires' values.
