@@ -7,7 +7,8 @@ use Rattle.hz_net.specs.Passes.{IsKnown, IsUnknown}
 use Rattle.hz_reach.specs.Order.{IsEarlier}
 use Rattle.hz_reach.specs.Spread.{changes_in, IsWireInto}
 use Rattle.hz_reach.proofs.Turns.{IsWired}
-use Rattle.hz_cycle.proofs.Settled.{IsFixed, either-value, no-input, wire-source}
+use Rattle.hz_cycle.specs.Pass.{IsFixed}
+use Rattle.hz_cycle.proofs.Settled.{either-value, no-input, wire-source}
 use Rattle.hz_cycle.proofs.Inside.{IsShownInside, HasPatternInside, IsInside}
 use Rattle.hz_cycle.proofs.Underway.{turns, IsUnderway}
 

@@ -54,11 +54,3 @@ pub record IsInside (net : List Driver) (ranks : List ℕ) (b : List Tri) (begun
   pub patterns :
       (gate : ℕ) (kind : Kind) (first pins : ℕ) → driver_at net gate ≡ Function kind first pins → IsUnknown (value_at b gate) →
       had gate ≡ true → HasPatternInside net ranks b had state gate kind first pins
-
--- A state in which a pass may begin: each settled variable has its value, and an unsettled wire into an unsettled gate
--- differs from its source if the source is not earlier.
-pub record MayBegin (net : List Driver) (ranks : List ℕ) (b : List Tri) (state : List Bool) : Type 0 where
-  pub settled : Refines state b
-  pub differs :
-      (wire source gate : ℕ) → driver_at net wire ≡ Source source → IsWireInto net gate wire → IsUnknown (value_at b wire) →
-      IsUnknown (value_at b gate) → (IsEarlier ranks source gate → ⊥) → bit_at state wire ≢ bit_at state source

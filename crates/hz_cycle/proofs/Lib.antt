@@ -8,3 +8,5 @@ pub mod Underway
 pub mod Had
 pub mod TurnedStates
 pub mod FanOut
+pub mod Goes
+pub mod Few

@@ -20,6 +20,7 @@ use Rattle.hz_net.proofs.Sequences.{length-algorithm_b}
 use Rattle.hz_gmw.specs.Runs.{is_listed, flipped}
 use Rattle.hz_gmw.proofs.Flips.{length-flipped, at-flipped}
 use Rattle.hz_reach.proofs.Parts.{driver-inside}
+use Rattle.hz_cycle.specs.Pass.{IsFixed}
 
 -- Values
 
@@ -73,11 +74,6 @@ refines-flipped state b flips refined only =
     by_case : (i : ℕ) (listed : Bool) → (listed ≡ true → IsUnknown (value_at b i)) → IsTrue (admits (value_at b i) (cond listed (not (bit_at state i)) (bit_at state i)))
     by_case i true unknown = admits-unknown (value_at b i) (not (bit_at state i)) (unknown refl)
     by_case i false unknown = get_or-Refines state b refined i
-
--- a ternary state that one round of Algorithm B leaves as it is
-pub record IsFixed (net : List Driver) (input : List Bool) (b : List Tri) : Type 0 where
-  pub long : length b ≡ length net
-  pub same : (i : ℕ) → i < length net → value_at b i ≡ driven3 input b (driver_at net i)
 
 -- the result of Algorithm B is one
 pub fixed-result : (net : List Driver) (input : List Bool) (first : List Tri) (rounds : ℕ) → length first ≡ length net → AreRounds (algorithm_b net input first) rounds → IsFixed net input (algorithm_b net input first rounds)

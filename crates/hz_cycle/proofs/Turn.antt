@@ -23,7 +23,8 @@ use Rattle.hz_reach.specs.Turn.{changed_wires}
 use Rattle.hz_reach.proofs.Parts.{driver-inside, same-part}
 use Rattle.hz_reach.proofs.PickedLemmas.{picked-is, is-picked, picked-once, differs-true, true-differs}
 use Rattle.hz_reach.proofs.Turns.{IsWired}
-use Rattle.hz_cycle.proofs.Settled.{IsFixed, unknown-is, is-unknown, either-value, same-known, refines-flipped, unknown-inside, no-input, wire-source}
+use Rattle.hz_cycle.specs.Pass.{IsFixed}
+use Rattle.hz_cycle.proofs.Settled.{unknown-is, is-unknown, either-value, same-known, refines-flipped, unknown-inside, no-input, wire-source}
 use Rattle.hz_cycle.proofs.Earlier.{not-earlier, not-both, earlier-or-not}
 use Rattle.hz_cycle.proofs.Inside.{IsShownInside, HasPatternInside, IsInside}
 

@@ -13,7 +13,8 @@ use Rattle.hz_net.proofs.PartLemmas.{length-part, at-part}
 use Rattle.hz_reach.specs.Order.{IsEarlier}
 use Rattle.hz_reach.specs.Spread.{IsWireInto}
 use Rattle.hz_reach.proofs.Turns.{IsWired}
-use Rattle.hz_cycle.proofs.Settled.{IsFixed, either-value, same-known, no-input, wire-source}
+use Rattle.hz_cycle.specs.Pass.{IsFixed}
+use Rattle.hz_cycle.proofs.Settled.{either-value, same-known, no-input, wire-source}
 use Rattle.hz_cycle.proofs.Earlier.{not-earlier, not-both, earlier-or-not}
 use Rattle.hz_cycle.proofs.Inside.{IsShownInside, HasPatternInside, IsInside}
 use Rattle.hz_cycle.proofs.Turn.{other-bit, not-itself, also, IsNext, IsAfterTurn, pin-inside, pin-differs}

@@ -14,10 +14,11 @@ use Rattle.hz_net.specs.Passes.{IsKnown, IsUnknown}
 use Rattle.hz_reach.specs.Order.{IsEarlier}
 use Rattle.hz_reach.specs.Spread.{IsWireInto}
 use Rattle.hz_reach.proofs.Turns.{IsWired}
+use Rattle.hz_cycle.specs.Pass.{IsFixed, MayBegin}
 use Rattle.hz_cycle.specs.Turned.{IsShown, HasPattern, IsTurned}
-use Rattle.hz_cycle.proofs.Settled.{IsFixed, either-value, same-known, no-input, wire-source, unknown-inside}
+use Rattle.hz_cycle.proofs.Settled.{either-value, same-known, no-input, wire-source, unknown-inside}
 use Rattle.hz_cycle.proofs.Earlier.{earlier-or-not}
-use Rattle.hz_cycle.proofs.Inside.{IsShownInside, HasPatternInside, IsInside, MayBegin}
+use Rattle.hz_cycle.proofs.Inside.{IsShownInside, HasPatternInside, IsInside}
 use Rattle.hz_cycle.proofs.Turn.{other-bit}
 use Rattle.hz_cycle.proofs.Underway.{IsUnderway}
 use Rattle.hz_cycle.proofs.Had.{source-gate}

@@ -16,7 +16,7 @@ use Rattle.hz_reach.specs.Room.{after}
 use Rattle.hz_reach.specs.Spread.{changes_in, IsWireInto}
 use Rattle.hz_reach.proofs.Rooms.{end_of-after}
 use Rattle.hz_reach.proofs.Turns.{IsWired}
-use Rattle.hz_cycle.proofs.Settled.{IsFixed}
+use Rattle.hz_cycle.specs.Pass.{IsFixed}
 use Rattle.hz_cycle.proofs.Earlier.{not-earlier, not-both}
 use Rattle.hz_cycle.proofs.Inside.{IsInside}
 use Rattle.hz_cycle.proofs.Steps.{listed, changes-after, listed-none, run-after, unchanged-end, contains-after, contains-end}

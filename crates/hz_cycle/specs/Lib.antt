@@ -1,3 +1,4 @@
 pub mod Turned
 pub mod Cycles
 pub mod Marks
+pub mod Pass
