@@ -10,3 +10,4 @@ pub mod TurnedStates
 pub mod FanOut
 pub mod Goes
 pub mod Few
+pub mod PassTurns

@@ -1,6 +1,6 @@
 -- A pass over the unsettled gates: where it may begin, what it makes, and how often it changes each variable. Words about
 -- the inside of hz_cycle.
-use Rattle.std.specs.Prelude.{◌≡◌, ◌≢◌, ℕ, ◌<◌, ◌≤◌, Bool, not, List, length, sum_by, Contains}
+use Rattle.std.specs.Prelude.{◌≡◌, ◌≢◌, ℕ, ◌<◌, ◌≤◌, Bool, not, List, ◌++◌, length, sum_by, Contains}
 use Rattle.std.specs.List.{range_with_len}
 use Rattle.hz_core.specs.declared.tri.Tri.{Tri}
 use Rattle.hz_core.specs.declared.kind.Kind.{Kind}
@@ -61,3 +61,9 @@ pub record IsPass (net : List Driver) (input : List Bool) (ranks : List ℕ) (b 
       (wire source : ℕ) → driver_at net wire ≡ Source source → IsUnknown (value_at b wire) →
       (member : List Bool) × Contains (states_of begun made) member × (bit_at member wire ≡ bit_at begun source)
   pub few : (most : ℕ → ℕ) → AreEnough net ranks b begun most → (i : ℕ) → changes_in made i ≤ most i
+
+-- the steps of a run after a pass, whatever the input under which the values are fixed
+pub record IsPassMade (net : List Driver) (ranks : List ℕ) (b : List Tri) (begun : List Bool) (before after : List (List ℕ)) (state : List Bool) : Type 0 where
+  pub made : List (List ℕ)
+  pub whole : after ≡ before ++ made
+  pub pass : (input : List Bool) → IsFixed net input b → IsPass net input ranks b begun made state

@@ -1,22 +1,40 @@
 //! A pass over the unsettled gates.
-ghost use Rattle.std.specs.Prelude.{◌≡◌, ◌+◌, ◌<◌, ◌≤◌, Bool, List, [], length, map, not, IsTrue};
+ghost use Rattle.std.specs.Prelude.{◌≡◌, ◌≢◌, ℕ, ◌+◌, ◌<◌, ◌≤◌, Bool, List, [], length, map, not, IsTrue};
 ghost use Rattle.hz_core.specs.Gate.{takes};
 ghost use Rattle.hz_core.specs.Ternary.{is_unknown};
 ghost use Rattle.hz_core.specs.Netlist.{IsCircuit, IsWhole, IsGateNumber, gate_at};
 ghost use Rattle.hz_core.specs.Pattern.{IsCandidate};
-ghost use Rattle.hz_net.specs.Network.{network_of, bit_at};
+ghost use Rattle.hz_net.specs.Network.{network_of, bit_at, value_at};
+ghost use Rattle.hz_net.specs.Passes.{IsUnknown};
 ghost use Rattle.hz_net.specs.Variables.{at_wires, first_wire};
+ghost use Rattle.hz_reach.specs.Order.{key_at};
+ghost use Rattle.hz_reach.specs.Room.{Spends};
 ghost use Rattle.hz_cycle.specs.Marks.{MarksPattern, ArePatternWires, with_fan_out};
+ghost use Rattle.hz_cycle.specs.Pass.{IsFixed, MayBegin, HasRoom, IsPassMade};
 
 use hz_core::{Kind, MAX_PINS, Tri};
 use hz_gmw::Run;
 use hz_net::Net;
-use hz_reach::{Scratch, mark_changed};
+use hz_reach::{Scratch, mark_changed, run_counts};
 
 // Each unsettled gate has its turn, by rank and then by number: the wires change that set its pattern, and then the gate
 // together with the wires of its fan-out that differ from it.
-pub(crate) fn make_pass(net: &Net, rank: &[u32], b: &[Tri], scratch: &mut Scratch, run: &mut Run) {
+pub(crate) fn make_pass(net: &Net, rank: &[u32], b: &[Tri], scratch: &mut Scratch, run: &mut Run)
+    requires b { length b.now ≡ length (network_of net.now) }
+    requires fixed { (input : List Bool) × IsFixed (network_of net.now) input b.now }
+    requires rank { length rank.now ≡ length (network_of net.now) }
+    requires ranked { (i : ℕ) → IsUnknown (value_at b.now i) → key_at rank.now i ≢ 0 }
+    requires begins { MayBegin (network_of net.now) rank.now b.now scratch.old.state }
+    requires scratch { length scratch.old.state ≡ length (network_of net.now) }
+    requires none_marked { scratch.old.marked ≡ [] }
+    requires room { HasRoom (network_of net.now) rank.now b.now scratch.old.state run.old }
+    ensures pass { IsPassMade (network_of net.now) rank.now b.now scratch.old.state run.old.steps run.new.steps scratch.new.state }
+    ensures marked { scratch.new.marked ≡ [] }
+    ensures room { Spends run.old run.new }
+{
     let circuit = net.circuit();
+    // The room is told by how often each variable changes.
+    run_counts();
     scratch.sort(rank);
     for place in 0..scratch.sorted().len() {
         let var = scratch.sorted()[place];
