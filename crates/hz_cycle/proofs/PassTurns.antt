@@ -322,3 +322,21 @@ passing-end {netlist} {ranks} {b} {begun} {first} {place} {scratch} {now} passin
       (λ gate kind start pins drives unsettled.
       ap (λ (part : List ℕ). is_listed part gate) (take_all place scratch.sorted end) ∙ (passing.sorted.keyed gate).1 (passing.asked.ranked gate unsettled));
 }
+
+-- What a variable of the order is
+
+-- a variable from the inputs on and below the nodes is a gate
+pub gate-number : (shown netlist : Netlist) (inputs nodes var there : ℕ) → shown ≡ netlist → inputs ≡ shown.inputs → nodes ≡ length shown.names → var ≡ there → inputs ≤ var → var < nodes → IsGateNumber netlist there
+gate-number shown netlist inputs nodes var there same inputs_are nodes_are here above below =
+    let first = ap (λ (n : Netlist). n.inputs) same in
+    let last = ap (λ (n : Netlist). length n.names) same in
+    (omega (arith, first, inputs_are, here, above), omega (arith, last, nodes_are, here, below))
+
+-- what a gate's function drives is a gate
+pub driven-gate : (netlist : Netlist) (gate : ℕ) (kind : Kind) (start pins : ℕ) → IsCircuit netlist → driver_at (network_of netlist) gate ≡ Function kind start pins → IsGateNumber netlist gate
+driven-gate netlist gate kind start pins circuit drives = (is_gate_of netlist circuit gate kind start pins drives).is_gate
+
+-- a state has a bit for each variable
+pub passing-long : {netlist : Netlist} {ranks : List ℕ} {b : List Tri} {begun : List Bool} {first : Recorded} {place : ℕ} {scratch : Scratched} {now : Recorded} → IsPassing netlist ranks b begun first place scratch now → length scratch.state ≡ length (network_of netlist)
+passing-long {netlist} {ranks} {b} {begun} {first} {place} {scratch} passing =
+    length-Refines scratch.state b (passing.underway passing.asked.fixed.0 passing.asked.fixed.1).inside.settled ∙ passing.asked.fixed.1.long
