@@ -11,3 +11,5 @@ pub mod FanOut
 pub mod Goes
 pub mod Few
 pub mod PassTurns
+pub mod Change
+pub mod CycleFound
