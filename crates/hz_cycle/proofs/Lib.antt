@@ -13,3 +13,4 @@ pub mod Few
 pub mod PassTurns
 pub mod Change
 pub mod CycleFound
+pub mod CycleRoom
