@@ -24,7 +24,7 @@ ascends-lower : (low lower : ℕ) (list : List ℕ) → lower ≤ low → Ascend
 ascends-lower low lower [] less ascends = tt
 ascends-lower low lower (x ∷ list) less ascends = (omega (arith, less, ascends.0), ascends.1)
 
-ascends-filter : (test : ℕ → Bool) (low : ℕ) (list : List ℕ) → Ascends low list → Ascends low (filter test list)
+pub ascends-filter : (test : ℕ → Bool) (low : ℕ) (list : List ℕ) → Ascends low list → Ascends low (filter test list)
 ascends-filter test low [] ascends = tt
 ascends-filter test low (x ∷ list) ascends =
     elim (cases_Bool (test x)) [
@@ -46,7 +46,7 @@ ascends-once low (x ∷ list) ascends =
     (false_from_ne_true _ (λ there. omega (arith, listed-above (suc x) list x ascends.1 there)), ascends-once (suc x) list ascends.1)
 
 -- those before a place are less than the one at it
-listed-before : (low : ℕ) (list : List ℕ) (place i : ℕ) → Ascends low list → place < length list → is_listed (take place list) i ≡ true → i < get_or list place 0
+pub listed-before : (low : ℕ) (list : List ℕ) (place i : ℕ) → Ascends low list → place < length list → is_listed (take place list) i ≡ true → i < get_or list place 0
 listed-before low [] place i ascends inside there = absurd (omega (arith, inside))
 listed-before low (x ∷ list) zero i ascends inside there = absurd (both_ways false refl there)
 listed-before low (x ∷ list) (suc place) i ascends inside there =

@@ -14,3 +14,4 @@ pub mod PassTurns
 pub mod Change
 pub mod CycleFound
 pub mod CycleRoom
+pub mod RoundSteps

@@ -2,3 +2,4 @@ pub mod Turned
 pub mod Cycles
 pub mod Marks
 pub mod Pass
+pub mod Rounds
