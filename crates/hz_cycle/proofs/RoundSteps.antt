@@ -283,3 +283,182 @@ module _ {net : List Driver} {input : List Bool} {a : List Tri} {when : List ℕ
           by_round : (round : ℕ) → key_at when i ≡ round → ((before : ℕ) → key_at when i ≡ suc before → ⊥) → IsKnown (value_at (algorithm_b net input a (key_at when i)) i) → IsUnknown (value_at a i) → ⊥
           by_round zero is later known unknown = subst (λ (n : ℕ). IsKnown (value_at (algorithm_b net input a n) i)) is known unknown
           by_round (suc before) is later known unknown = later before is
+
+      group-ascends : Ascends 0 (slice_range order place next)
+      group-ascends =
+          ascends-of 0 (slice_range order place next) (λ k few. omega arith) (λ j k less few.
+          let short : k < next - place = omega (arith, few, group-length) in
+          let one_at = group-at j (omega (arith, less, short)) in
+          let two_at = group-at k short in
+          let first_key = one.same (place + j) (omega arith) (omega (arith, less, short)) in
+          let second_key = one.same (place + k) (omega arith) (omega (arith, short)) in
+          number (sorted.ordered (place + j) (place + k) (omega (arith, less)) (omega (arith, short, one.inside))) first_key second_key one_at two_at)
+        where
+          ascends-of : (low : ℕ) (list : List ℕ) → ((k : ℕ) → k < length list → low ≤ get_or list k 0) → ((j k : ℕ) → j < k → k < length list → get_or list j 0 < get_or list k 0) → Ascends low list
+          ascends-of low [] above pairs = tt
+          ascends-of low (x ∷ list) above pairs =
+              (above 0 (omega arith), ascends-of (suc x) list (λ k few. pairs 0 (suc k) (omega arith) (omega (arith, few))) (λ j k less few. pairs (suc j) (suc k) (omega (arith, less)) (omega (arith, few))))
+
+          number : {one_var two_var here there : ℕ} → IsEarlier when one_var two_var → key_at when one_var ≡ key_at when (get_or order place 0) → key_at when two_var ≡ key_at when (get_or order place 0) → here ≡ one_var → there ≡ two_var → here < there
+          number (inl less) first_key second_key here there = absurd (omega (arith, less, first_key, second_key))
+          number (inr same) first_key second_key here there = omega (arith, same.1, here, there)
+
+      pub flips-step : differing b state (slice_range order place next) ≢ [] → IsStep net input state (differing b state (slice_range order place next))
+      flips-step some = record {
+        some = some;
+        once = ascends-once 0 (differing b state (slice_range order place next)) (ascends-filter (λ var. not (admits (value_at b var) (bit_at state var))) 0 (slice_range order place next) group-ascends);
+        inside = λ i there.
+            let is = filtered-is (λ var. not (admits (value_at b var) (bit_at state var))) (slice_range order place next) i there in
+            omega (arith, when-inside i (group-some i is.0), rounds.long);
+        unstable = flips-unstable;
+      }
+
+      -- who stands before the next round
+      had-at : (k bound i : ℕ) → k < bound → k < length order → get_or order k 0 ≡ i → had_before bound order i ≡ true
+      had-at k bound i few inside is =
+          subst (λ (n : ℕ). is_listed (take bound order) n ≡ true) (get_or-take bound order k 0 few ∙ is)
+          (listed-at (take bound order) k (omega (arith, few, inside, length-take bound order)))
+
+      had-later : (i : ℕ) → had_before place order i ≡ true → had_before next order i ≡ true
+      had-later i there =
+          let at = listed-place (take place order) i there in
+          let early : at.0 < place = omega (arith, at.1, length-take place order) in
+          had-at at.0 next i (omega (arith, early, one.more)) (omega (arith, at.1, length-take place order)) (sym (get_or-take place order at.0 0 early) ∙ at.2)
+
+      had-group : (i : ℕ) → is_listed (slice_range order place next) i ≡ true → had_before next order i ≡ true
+      had-group i there = let is = group-is i there in had-at is.0 next i is.2 (omega (arith, is.2, one.inside)) is.3
+
+      had-either : (i : ℕ) → had_before next order i ≡ true → (had_before place order i ≡ true) ⊎ (is_listed (slice_range order place next) i ≡ true)
+      had-either i there =
+          let at = listed-place (take next order) i there in
+          let few : at.0 < next = omega (arith, at.1, length-take next order) in
+          let inside : at.0 < length order = omega (arith, at.1, length-take next order) in
+          let is : get_or order at.0 0 ≡ i = sym (get_or-take next order at.0 0 few) ∙ at.2 in
+          elim (cases_lt at.0 place) [
+            | inl early ↦ inl (had-at at.0 place i early inside is)
+            | inr late ↦ inr (
+                let here : at.0 - place < next - place = omega (arith, few, late) in
+                let same : place + (at.0 - place) ≡ at.0 = omega (arith, late) in
+                subst (λ (n : ℕ). is_listed (slice_range order place next) n ≡ true)
+                (group-at (at.0 - place) here ∙ (ap (λ (n : ℕ). get_or order n 0) same ∙ is))
+                (listed-at (slice_range order place next) (at.0 - place) (omega (arith, here, group-length)))
+                )
+          ]
+
+      flips-group : (i : ℕ) → is_listed (differing b state (slice_range order place next)) i ≡ true → is_listed (slice_range order place next) i ≡ true
+      flips-group i there = (filtered-is (λ var. not (admits (value_at b var) (bit_at state var))) (slice_range order place next) i there).0
+
+      done-after : (i : ℕ) → had_before next order i ≡ true → IsTrue (admits (value_at b i) (bit_at (flipped (differing b state (slice_range order place next)) state) i))
+      done-after i there =
+          elim (cases_Bool (is_listed (differing b state (slice_range order place next)) i)) [
+            | inl flips_it ↦ (
+                let is = filtered-is (λ var. not (admits (value_at b var) (bit_at state var))) (slice_range order place next) i flips_it in
+                subst (λ (bit : Bool). IsTrue (admits (value_at b i) bit))
+                (sym (flipped-listed (differing b state (slice_range order place next)) state i (omega (arith, when-inside i (group-some i is.0), rounds.long, state-long)) flips_it))
+                (other-admitted (value_at b i) (bit_at state i) (not-admits _ is.1))
+                )
+            | inr stays ↦
+                subst (λ (bit : Bool). IsTrue (admits (value_at b i) bit)) (sym (flipped-unlisted (differing b state (slice_range order place next)) state i stays))
+                (elim (had-either i there) [
+                  | inl before ↦ settled.done i before
+                  | inr here ↦ elim (cases_Bool (admits (value_at b i) (bit_at state i))) [
+                    | inl has ↦ has
+                    | inr lacks ↦ absurd (both_ways _ stays (is-filtered (λ var. not (admits (value_at b var) (bit_at state var))) (slice_range order place next) i here (admits-not _ lacks)))
+                  ]
+                ])
+          ]
+
+      once-after : (i : ℕ) → changes_in (after made (differing b state (slice_range order place next))) i ≤ turns (had_before next order) i
+      once-after i =
+          let more = changes-after made (differing b state (slice_range order place next)) i in
+          elim (cases_Bool (is_listed (differing b state (slice_range order place next)) i)) [
+            | inl flips_it ↦ (
+                let zero : turns (had_before place order) i ≤ 0 = rw (group-new i (flips-group i flips_it)) (omega arith) in
+                let one_more : listed (differing b state (slice_range order place next)) i ≤ 1 = rw flips_it (omega arith) in
+                let now_there : 1 ≤ turns (had_before next order) i = rw (had-group i (flips-group i flips_it)) (omega arith) in
+                omega (arith, more, settled.once i, zero, one_more, now_there)
+                )
+            | inr stays ↦ omega (arith, more, listed-none (differing b state (slice_range order place next)) i stays, settled.once i, later i)
+          ]
+        where
+          later : (i : ℕ) → turns (had_before place order) i ≤ turns (had_before next order) i
+          later i = elim (cases_Bool (had_before place order i)) [
+            | inl there ↦ rw (there, had-later i there) (omega arith)
+            | inr out ↦ rw out (omega arith)
+          ]
+
+      -- after the round
+      pub settled-after : IsSettledTo net input b begun order next (after made (differing b state (slice_range order place next))) (flipped (differing b state (slice_range order place next)) state)
+      settled-after = record {
+        run = run-after net input begun made (differing b state (slice_range order place next)) settled.run
+            (λ some. subst (λ (s : List Bool). IsStep net input s (differing b state (slice_range order place next))) (sym settled.ends) (flips-step some));
+        ends = end_of-after begun made (differing b state (slice_range order place next)) ∙ ap (flipped (differing b state (slice_range order place next))) settled.ends;
+        done = done-after;
+        once = once-after;
+      }
+
+      pub starts-after : IsRoundStart when order next
+      starts-after = record {
+        less = λ j few inside.
+            let more : key_at when (get_or order place 0) < key_at when (get_or order next 0) =
+            greater (sorted.ordered place next one.more inside) (one.beyond inside) in
+            elim (cases_lt j place) [
+              | inl early ↦ (let before = starts.less j early place-inside in omega (arith, before, more))
+              | inr late ↦ (let same = one.same j late few in omega (arith, same, more))
+            ];
+      }
+        where
+          greater : IsEarlier when (get_or order place 0) (get_or order next 0) → key_at when (get_or order next 0) ≢ key_at when (get_or order place 0) → key_at when (get_or order place 0) < key_at when (get_or order next 0)
+          greater (inl less) other = less
+          greater (inr same) other = absurd (other (sym same.0))
+
+    -- at the end of the order
+    pub settled-end : length order ≤ place → IsSettling net input when b begun made state
+    settled-end end = record {
+      run = settled.run;
+      ends = settled.ends;
+      values = Refines-get_or state b (state-long ∙ sym net-long) (λ i inside.
+          elim (either-value (value_at b i)) [
+            | inl unknown ↦ admits-any (value_at b i) (bit_at state i) unknown
+            | inr known ↦ elim (either-value (value_at a i)) [
+              | inl was_unknown ↦ (
+                  let first : IsFirstRound (algorithm_b net input a) i IsKnown (key_at when i) =
+                  first-settling (algorithm_b net input a) i (value_at a i) (value_at b i) (key_at when i)
+                  (rounds.rounds.each i (omega (arith, inside, state-long, rounds.long))) was_unknown known in
+                  let some : key_at when i ≢ 0 = λ none. subst (λ (n : ℕ). IsKnown (value_at (algorithm_b net input a n) i)) none first.there was_unknown in
+                  settled.done i (ap (λ (list : List ℕ). is_listed list i) (take_all place order end) ∙ (sorted.keyed i).1 some)
+                  )
+              | inr was_known ↦ (
+                  let equal : value_at b i ≡ value_at a i = below-known _ _ was_known (result-below 0 i) in
+                  let none : key_at when i ≡ 0 = elim (cases_eq (key_at when i) 0) [
+                    | inl none ↦ none
+                    | inr some ↦ absurd (was_known (when-first i some).0)
+                  ] in
+                  subst (λ (bit : Bool). IsTrue (admits (value_at b i) bit)) (sym (kept i (unplaced i none)))
+                  (subst (λ (value : Tri). IsTrue (admits value (bit_at begun i))) (sym equal) (get_or-Refines begun a rounds.refined i))
+                  )
+            ]
+          ]);
+      once = λ i. omega (arith, settled.once i, at-most (had_before place order i));
+      still = λ i none. (let zero : turns (had_before place order) i ≤ 0 = rw (unplaced i none) (omega arith) in omega (arith, settled.once i, zero));
+    }
+      where
+        at-most : (bit : Bool) → cond bit 1 0 ≤ 1
+        at-most false = omega arith
+        at-most true = omega arith
+
+        admits-any : (value : Tri) (bit : Bool) → IsUnknown value → IsTrue (admits value bit)
+        admits-any value false unknown = rw unknown refl
+        admits-any value true unknown = rw unknown refl
+
+-- before the first round
+pub settled-begin : (net : List Driver) (input : List Bool) (b : List Tri) (begun : List Bool) (order : List ℕ) → IsSettledTo net input b begun order 0 [] begun
+settled-begin net input b begun order = record {
+  run = tt;
+  ends = refl;
+  done = λ i there. absurd (both_ways false refl there);
+  once = λ i. omega arith;
+}
+
+pub starts-begin : (when order : List ℕ) → IsRoundStart when order 0
+starts-begin when order = record { less = λ j few inside. absurd (omega (arith, few)) }
