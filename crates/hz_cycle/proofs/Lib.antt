@@ -15,3 +15,4 @@ pub mod Change
 pub mod CycleFound
 pub mod CycleRoom
 pub mod RoundSteps
+pub mod RoundTurns

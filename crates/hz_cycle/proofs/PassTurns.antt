@@ -76,18 +76,18 @@ pub record IsHalfTurned (netlist : Netlist) (gate : ℕ) (wires : List ℕ) (scr
 
 -- Room
 
-steps-after : (steps : List (List ℕ)) (flips : List ℕ) (before : List (List ℕ)) → after (before ++ steps) flips ≡ before ++ after steps flips
+pub steps-after : (steps : List (List ℕ)) (flips : List ℕ) (before : List (List ℕ)) → after (before ++ steps) flips ≡ before ++ after steps flips
 steps-after steps [] before = refl
 steps-after steps (i ∷ flips) before = append_assoc before steps ((i ∷ flips) ∷ [])
 
-flips-after : (steps : List (List ℕ)) (flips : List ℕ) → flip_count (after steps flips) ≡ flip_count steps + length flips
+pub flips-after : (steps : List (List ℕ)) (flips : List ℕ) → flip_count (after steps flips) ≡ flip_count steps + length flips
 flips-after steps [] = omega arith
 flips-after steps (i ∷ flips) = sum_by_push (λ (list : List ℕ). length list) steps (i ∷ flips)
 
-flips-append : (steps more : List (List ℕ)) → flip_count (steps ++ more) ≡ flip_count steps + flip_count more
+pub flips-append : (steps more : List (List ℕ)) → flip_count (steps ++ more) ≡ flip_count steps + flip_count more
 flips-append steps more = sum_by-append (λ (list : List ℕ). length list) steps more
 
-length-after : (steps : List (List ℕ)) (flips : List ℕ) → flips ≢ [] → length (after steps flips) ≡ length steps + 1
+pub length-after : (steps : List (List ℕ)) (flips : List ℕ) → flips ≢ [] → length (after steps flips) ≡ length steps + 1
 length-after steps [] some = absurd (some refl)
 length-after steps (i ∷ flips) some = length-append steps ((i ∷ flips) ∷ [])
 
