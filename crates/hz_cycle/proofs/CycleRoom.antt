@@ -11,7 +11,7 @@ use Rattle.hz_reach.specs.Room.{Spends}
 use Rattle.hz_cycle.specs.Pass.{HasRoom, IsPass}
 use Rattle.hz_cycle.proofs.CycleFound.{two-enough}
 
-twos : (first count : ℕ) → sum_by (λ (i : ℕ). 2) (range_with_len first count) ≡ 2 * count
+pub twos : (first count : ℕ) → sum_by (λ (i : ℕ). 2) (range_with_len first count) ≡ 2 * count
 twos first zero = refl
 twos first (suc count) = omega (arith, sum_by-cons (λ (i : ℕ). 2) first (range_with_len (first + 1) count), twos (first + 1) count)
 

@@ -16,3 +16,4 @@ pub mod CycleFound
 pub mod CycleRoom
 pub mod RoundSteps
 pub mod RoundTurns
+pub mod SettleFound
