@@ -12,7 +12,7 @@ use Rattle.hz_core.specs.Ternary.{unknown_count, Refines}
 use Rattle.hz_core.specs.Netlist.{Netlist, IsCircuit}
 use Rattle.hz_core.proofs.Refinements.{length-Refines}
 use Rattle.hz_net.specs.Network.{Driver, External, Function, Source, network_of, driver_at, bit_at, value_at, driven, excitation, IsStable}
-use Rattle.hz_net.specs.Passes.{algorithm_a, algorithm_b, IsKnown, IsUnknown, IsSettlingRound, AreSettlingRounds}
+use Rattle.hz_net.specs.Passes.{algorithm_a, algorithm_b, IsKnown, IsUnknown, IsResult, AreRanks, IsSettlingRound, AreSettlingRounds}
 use Rattle.hz_net.specs.Starts.{IsStableStart}
 use Rattle.hz_net.proofs.Sequences.{start-refines}
 use Rattle.hz_gmw.specs.Runs.{IsRun, end_of}
@@ -27,7 +27,7 @@ use Rattle.hz_reach.proofs.Turns.{IsWired}
 use Rattle.hz_reach.proofs.Wired.{wired-network_of}
 use Rattle.hz_cycle.specs.Cycles.{IsSettleRun}
 use Rattle.hz_cycle.specs.Pass.{IsFixed, MayBegin, AreEnough, HasRoom, IsPass}
-use Rattle.hz_cycle.specs.Rounds.{AreRoundsOf, IsSettling}
+use Rattle.hz_cycle.specs.Rounds.{AreRoundsOf, IsSettling, AreRoundsMade}
 use Rattle.hz_cycle.specs.Turned.{IsTurned}
 use Rattle.hz_cycle.proofs.Settled.{either-value, known-stable, wire-source, unknown-inside}
 use Rattle.hz_cycle.proofs.Change.{IsChange, a-long, a-above, change-fixed, unsettled-unknown, unknown-within}
@@ -242,3 +242,27 @@ module _ {netlist : Netlist} {input start : List Bool} {a : List Tri} {ranks whe
   pub settle-end : {pass : List (List ℕ)} {last : List Bool} → IsPass (network_of netlist) input ranks b state pass last → last ≡ end_of start ((spread ++ settle) ++ pass)
   settle-end {pass} {last} is_pass =
       sym (end_of-append start (spread ++ settle) pass ∙ (ap (λ (s : List Bool). end_of s pass) end-so-far ∙ is_pass.ends))
+
+-- what a call of `settle_run` is given, as one change
+pub given-change :
+    {netlist : Netlist} {input start : List Bool} {a b : List Tri} {ranks : List ℕ} →
+    IsStableStart netlist start → IsResult (algorithm_a (network_of netlist) input start) a → AreRanks (algorithm_a (network_of netlist) input start) a ranks →
+    IsResult (algorithm_b (network_of netlist) input a) b → IsChange (network_of netlist) input start a ranks b
+given-change begins a_result ranked b_result = record { long = begins.long; a_result = a_result; ranked = ranked; b_result = b_result }
+
+-- and what stands when the rounds are made
+pub before-pass :
+    {netlist : Netlist} {input start : List Bool} {a b : List Tri} {ranks when : List ℕ} {spread after : List (List ℕ)} {spread_state state : List Bool} →
+    IsCircuit netlist → IsStableStart netlist start → IsChange (network_of netlist) input start a ranks b →
+    AreSettlingRounds (algorithm_b (network_of netlist) input a) a b when → IsSparingRun (network_of netlist) input start a ranks spread →
+    spread_state ≡ end_of start spread → (made : AreRoundsMade when b spread_state spread after state) →
+    IsBeforePass netlist input start a ranks when b spread spread_state made.made state
+before-pass {netlist} {input} {start} {a} circuit begins change rounds sparing ends made = record {
+  circuit = circuit;
+  begins = begins;
+  change = change;
+  rounds = rounds;
+  sparing = sparing;
+  spread_end = ends;
+  settling = made.settling (network_of netlist) input a (rounds-may-begin change rounds sparing ends);
+}
