@@ -41,7 +41,7 @@ contains-rest state member (flips ∷ steps) more there =
     let rest = contains-rest (flipped flips state) member steps more there in
     (suc rest.0, (let less = rest.1 in omega arith), rest.2)
 
-contains-begin : (state : List Bool) (steps : List (List ℕ)) → Contains (states_of state steps) state
+pub contains-begin : (state : List Bool) (steps : List (List ℕ)) → Contains (states_of state steps) state
 contains-begin state [] = (0, omega arith, refl)
 contains-begin state (flips ∷ steps) = (0, omega arith, refl)
 

@@ -17,3 +17,4 @@ pub mod CycleRoom
 pub mod RoundSteps
 pub mod RoundTurns
 pub mod SettleFound
+pub mod ShownExact

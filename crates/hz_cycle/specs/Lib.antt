@@ -3,3 +3,4 @@ pub mod Cycles
 pub mod Marks
 pub mod Pass
 pub mod Rounds
+pub mod Exact
