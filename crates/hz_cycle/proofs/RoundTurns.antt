@@ -1,0 +1,171 @@
+-- The loops over settling rounds: that a mark may be set, that each step has room, and what holds after it.
+use Rattle.std.proofs.Common.{◌≡◌, ◌≢◌, ℕ, zero, suc, ◌+◌, ◌-◌, ◌*◌, ◌<◌, ◌≤◌, Bool, true, false, not, cond, List, [], ◌∷◌, ◌++◌, length, get_or, take, drop, refl, sym, ap, ◌∙◌, subst, arith, inl, inr, append_assoc, append-nil, length-append, IsTrue}
+use Rattle.std.specs.List.{filter, slice_range}
+use Rattle.std.proofs.lemmas.Bool.{cases_Bool, cases_lt, both_ways}
+use Rattle.std.proofs.lemmas.List.{get_or_past, get_or-drop, get_or-take, length-take, length-drop, take_more}
+use Rattle.std.proofs.lemmas.List.Elements.{filter-append}
+use Rattle.std.proofs.lemmas.List.Sums.{sum_by-append, sum_by_push}
+use Rattle.hz_core.specs.declared.tri.Tri.{Tri}
+use Rattle.hz_core.specs.Ternary.{admits}
+use Rattle.hz_net.specs.Network.{Driver, bit_at, value_at}
+use Rattle.hz_gmw.specs.Runs.{is_listed, IsRun, flipped, end_of}
+use Rattle.hz_gmw.specs.Recorded.{Recorded, flip_count}
+use Rattle.hz_gmw.proofs.Flips.{length-flipped}
+use Rattle.hz_reach.specs.Counts.{FlipsPerVariable, StepsAreNoMoreThanFlips}
+use Rattle.hz_reach.specs.Order.{key_at, IsEarlier, AreByKey}
+use Rattle.hz_reach.specs.Room.{after, Spends}
+use Rattle.hz_reach.specs.Scratched.{Scratched}
+use Rattle.hz_reach.specs.Spread.{changes_in}
+use Rattle.hz_reach.proofs.Places.{listed-at, listed-place}
+use Rattle.hz_cycle.specs.Rounds.{differing, IsOneRound, AreRoundsOf, IsSettling, AreRoundsMade}
+use Rattle.hz_cycle.proofs.FanOut.{filtered-is}
+use Rattle.hz_cycle.proofs.PassTurns.{had_before, steps-after, flips-after, flips-append, length-after}
+use Rattle.hz_cycle.proofs.RoundSteps.{IsSettledTo, IsRoundStart, settled-begin, starts-begin, settled-after, starts-after, settled-end}
+use Rattle.hz_cycle.proofs.Underway.{turns}
+
+-- One round is marked
+
+-- a variable of the order has a key
+pub order-inside : (keys order : List ℕ) (k : ℕ) → AreByKey keys order → k < length order → get_or order k 0 < length keys
+order-inside keys order k sorted inside =
+    let some : key_at keys (get_or order k 0) ≢ 0 = (sorted.keyed (get_or order k 0)).0 (listed-at order k inside) in
+    elim (cases_lt (get_or order k 0) (length keys)) [
+      | inl few ↦ few
+      | inr past ↦ absurd (some (get_or_past keys (get_or order k 0) 0 past))
+    ]
+
+-- one variable more
+pub slice-more : (order : List ℕ) (from place : ℕ) → from ≤ place → place < length order → slice_range order from (place + 1) ≡ slice_range order from place ++ get_or order place 0 ∷ []
+slice-more order from place above inside =
+    let count : place + 1 - from ≡ place - from + 1 = omega (arith, above) in
+    let here : from + (place - from) ≡ place = omega (arith, above) in
+    ap (λ (n : ℕ). take n (drop from order)) count
+    ∙ (take_more (drop from order) (place - from) 0 (omega (arith, length-drop from order, above, inside))
+    ∙ ap (λ (x : ℕ). take (place - from) (drop from order) ++ x ∷ []) (get_or-drop from order (place - from) 0 ∙ ap (λ (n : ℕ). get_or order n 0) here))
+
+pub differing-more : (b : List Tri) (state : List Bool) (list : List ℕ) (var : ℕ) → admits (value_at b var) (bit_at state var) ≡ false → differing b state (list ++ var ∷ []) ≡ differing b state list ++ var ∷ []
+differing-more b state list var lacks =
+    filter-append (λ v. not (admits (value_at b v) (bit_at state v))) list (var ∷ [])
+    ∙ ap (λ (bit : Bool). differing b state list ++ cond (not bit) (var ∷ []) []) lacks
+
+pub differing-skip : (b : List Tri) (state : List Bool) (list : List ℕ) (var : ℕ) → admits (value_at b var) (bit_at state var) ≡ true → differing b state (list ++ var ∷ []) ≡ differing b state list
+differing-skip b state list var has =
+    filter-append (λ v. not (admits (value_at b v) (bit_at state v))) list (var ∷ [])
+    ∙ (ap (λ (bit : Bool). differing b state list ++ cond (not bit) (var ∷ []) []) has ∙ append-nil (differing b state list))
+
+-- marks so far are less than the next variable of the round
+pub round-ascends : (keys order : List ℕ) (b : List Tri) (state : List Bool) (from place i : ℕ) → AreByKey keys order → place < length order → ((k : ℕ) → from ≤ k → k < place + 1 → key_at keys (get_or order k 0) ≡ key_at keys (get_or order from 0)) → is_listed (differing b state (slice_range order from place)) i ≡ true → i < get_or order place 0
+round-ascends keys order b state from place i sorted inside same there =
+    let listed = (filtered-is (λ v. not (admits (value_at b v) (bit_at state v))) (slice_range order from place) i there).0 in
+    let at = listed-place (slice_range order from place) i listed in
+    let few : at.0 < place - from = omega (arith, at.1, length-take (place - from) (drop from order)) in
+    let here : get_or order (from + at.0) 0 ≡ i = sym (get_or-take (place - from) (drop from order) at.0 0 few ∙ get_or-drop from order at.0 0) ∙ at.2 in
+    number (sorted.ordered (from + at.0) place (omega (arith, few)) inside) (same (from + at.0) (omega arith) (omega (arith, few))) (same place (omega (arith, few)) (omega arith)) here
+  where
+    number : {one : ℕ} → IsEarlier keys one (get_or order place 0) → key_at keys one ≡ key_at keys (get_or order from 0) → key_at keys (get_or order place 0) ≡ key_at keys (get_or order from 0) → one ≡ i → i < get_or order place 0
+    number (inl less) first second here = absurd (omega (arith, less, first, second))
+    number (inr equal) first second here = omega (arith, equal.1, here)
+
+-- The rounds one after the other
+
+-- what a call of `settle_rounds` is given
+pub record AreRoundsAsked (when : List ℕ) (b : List Tri) (begun : List Bool) (first : Recorded) : Type 0 where
+  pub rounds : (net : List Driver) × (input : List Bool) × (a : List Tri) × AreRoundsOf net input a when b begun
+  pub flips : length when ≤ first.spare_flips
+  pub steps : length when ≤ first.spare_steps
+
+pub record AreRoundsUnderway (when : List ℕ) (b : List Tri) (begun : List Bool) (first : Recorded) (place : ℕ) (scratch : Scratched) (now : Recorded) : Type 0 where
+  pub asked : AreRoundsAsked when b begun first
+  pub sorted : AreByKey when scratch.sorted
+  pub marked : scratch.marked ≡ []
+  pub long : length scratch.state ≡ length begun
+  pub made : List (List ℕ)
+  pub steps : now.steps ≡ first.steps ++ made
+  pub spent : Spends first now
+  pub starts : IsRoundStart when scratch.sorted place
+  pub settled :
+      (net : List Driver) (input : List Bool) (a : List Tri) → AreRoundsOf net input a when b begun →
+      IsSettledTo net input b begun scratch.sorted place made scratch.state
+
+pub rounds-begin : {when : List ℕ} {b : List Tri} {begun : List Bool} {first : Recorded} {scratch : Scratched} → AreRoundsAsked when b begun first → AreByKey when scratch.sorted → scratch.marked ≡ [] → scratch.state ≡ begun → AreRoundsUnderway when b begun first 0 scratch first
+rounds-begin {when} {b} {begun} {first} {scratch} asked sorted marked state = record {
+  asked = asked;
+  sorted = sorted;
+  marked = marked;
+  long = ap (length {A = Bool}) state;
+  made = [];
+  steps = sym (append-nil first.steps);
+  spent = record { flips = refl; steps = refl };
+  starts = starts-begin when scratch.sorted;
+  settled = λ net input a rounds. subst (IsSettledTo net input b begun scratch.sorted 0 []) (sym state) (settled-begin net input b begun scratch.sorted);
+}
+
+module _ {when : List ℕ} {b : List Tri} {begun : List Bool} {first : Recorded} {place : ℕ} {scratch : Scratched} {now : Recorded} (underway : AreRoundsUnderway when b begun first place scratch now) where
+  module _ {next : ℕ} {flips : List ℕ} (one : IsOneRound when scratch.sorted place next) (marks : flips ≡ differing b scratch.state (slice_range scratch.sorted place next)) where
+    abbrev made_after : List (List ℕ)
+    made_after = after underway.made (differing b scratch.state (slice_range scratch.sorted place next))
+
+    settled-next : (net : List Driver) (input : List Bool) (a : List Tri) → AreRoundsOf net input a when b begun → IsSettledTo net input b begun scratch.sorted next made_after (flipped (differing b scratch.state (slice_range scratch.sorted place next)) scratch.state)
+    settled-next net input a rounds = settled-after rounds underway.sorted (underway.settled net input a rounds) one underway.starts
+
+    few-flips : FlipsPerVariable → flip_count made_after ≤ length when
+    few-flips per_variable =
+        let net = underway.asked.rounds.0 in
+        let input = underway.asked.rounds.1 in
+        let rounds = underway.asked.rounds.3 in
+        let settled = settled-next net input underway.asked.rounds.2 rounds in
+        omega (arith, per_variable net input begun made_after 1 settled.run (λ i. omega (arith, settled.once i, at-most (had_before next scratch.sorted i))), rounds.long, rounds.rounds.long)
+      where
+        at-most : (bit : Bool) → cond bit 1 0 ≤ 1
+        at-most false = omega arith
+        at-most true = omega arith
+
+    few-steps : FlipsPerVariable → StepsAreNoMoreThanFlips → length made_after ≤ length when
+    few-steps per_variable no_more =
+        let settled = settled-next underway.asked.rounds.0 underway.asked.rounds.1 underway.asked.rounds.2 underway.asked.rounds.3 in
+        omega (arith, no_more underway.asked.rounds.0 underway.asked.rounds.1 begun made_after settled.run, few-flips per_variable)
+
+    flips-so-far : flip_count now.steps ≡ flip_count first.steps + flip_count underway.made
+    flips-so-far = ap flip_count underway.steps ∙ flips-append first.steps underway.made
+
+    steps-so-far : length now.steps ≡ length first.steps + length underway.made
+    steps-so-far = ap (length {A = List ℕ}) underway.steps ∙ length-append first.steps underway.made
+
+    pub round-flips : FlipsPerVariable → length flips ≤ now.spare_flips
+    round-flips per_variable =
+        omega (arith, few-flips per_variable, flips-after underway.made (differing b scratch.state (slice_range scratch.sorted place next)), ap (length {A = ℕ}) marks, flips-so-far, underway.spent.flips, underway.asked.flips)
+
+    pub round-steps : FlipsPerVariable → StepsAreNoMoreThanFlips → flips ≢ [] → 1 ≤ now.spare_steps
+    round-steps per_variable no_more some =
+        omega (arith, few-steps per_variable no_more,
+        length-after underway.made (differing b scratch.state (slice_range scratch.sorted place next)) (λ none. some (marks ∙ none)),
+        steps-so-far, underway.spent.steps, underway.asked.steps)
+
+    pub rounds-next : {last : Scratched} {end : Recorded} → last.sorted ≡ scratch.sorted → last.marked ≡ [] → last.state ≡ flipped flips scratch.state → end.steps ≡ after now.steps flips → Spends now end → AreRoundsUnderway when b begun first next last end
+    rounds-next {last} {end} sorted marked state steps spent =
+        let here : last.state ≡ flipped (differing b scratch.state (slice_range scratch.sorted place next)) scratch.state =
+        state ∙ ap (λ (list : List ℕ). flipped list scratch.state) marks in
+        let rounds = underway.asked.rounds in
+        record {
+          asked = underway.asked;
+          sorted = subst (AreByKey when) (sym sorted) underway.sorted;
+          marked = marked;
+          long = ap (length {A = Bool}) here ∙ (length-flipped (differing b scratch.state (slice_range scratch.sorted place next)) scratch.state ∙ underway.long);
+          made = made_after;
+          steps =
+              steps
+              ∙ (ap (λ (list : List (List ℕ)). after list flips) underway.steps
+              ∙ (steps-after underway.made flips first.steps ∙ ap (λ (list : List ℕ). first.steps ++ after underway.made list) marks));
+          spent = record { flips = omega (arith, underway.spent.flips, spent.flips); steps = omega (arith, underway.spent.steps, spent.steps) };
+          starts = subst (λ (list : List ℕ). IsRoundStart when list next) (sym sorted) (starts-after rounds.3 underway.sorted (underway.settled rounds.0 rounds.1 rounds.2 rounds.3) one underway.starts);
+          settled = λ net input a given.
+              subst (λ (list : List ℕ). IsSettledTo net input b begun list next made_after last.state) (sym sorted)
+              (subst (IsSettledTo net input b begun scratch.sorted next made_after) (sym here) (settled-next net input a given));
+        }
+
+  pub rounds-end : length scratch.sorted ≤ place → AreRoundsMade when b begun first.steps now.steps scratch.state
+  rounds-end end = record {
+    made = underway.made;
+    whole = underway.steps;
+    settling = λ net input a rounds. settled-end rounds underway.sorted (underway.settled net input a rounds) end;
+  }

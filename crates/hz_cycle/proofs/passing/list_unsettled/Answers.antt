@@ -1,0 +1,11 @@
+use Rattle.std.proofs.Common.{false, arith, map}
+use Rattle.std.proofs.lemmas.List.{ext_get_or, length-map}
+use Rattle.hz_core.specs.Ternary.{is_unknown}
+use Rattle.hz_cycle.proofs.passing.list_unsettled.Goals as goal
+
+pub returns : goal.returns
+returns c =
+    let lengths = length-map c.args.values.now is_unknown in
+    ext_get_or false c.loop-pin.free (map is_unknown c.args.values.now)
+    (omega (arith, lengths, c.requires, c.loop-pin.auto.free))
+    (λ k inside. c.loop-pin.invariant k (omega (arith, inside, c.requires, c.loop-pin.auto.free, c.loop-pin-test.false)))

@@ -1,0 +1,26 @@
+-- Each round is a step that has room; at the end every variable that settles has its value.
+use Rattle.std.proofs.Common.{◌≡◌, ◌∙◌, ◌<◌, ◌≤◌, ℕ, List, length, sym, ap, subst, arith}
+use Rattle.std.specs.List.{slice_range}
+use Rattle.hz_gmw.specs.Runs.{flipped}
+use Rattle.hz_cycle.specs.Rounds.{differing, IsOneRound}
+use Rattle.hz_cycle.proofs.RoundTurns.{round-flips, round-steps, rounds-next, rounds-end}
+use Rattle.hz_cycle.proofs.settling.settle_rounds.Goals as goal
+
+pub step-requires-clause-room_for_flips : goal.step-requires-clause-room_for_flips
+step-requires-clause-room_for_flips c =
+    round-flips c.loop-place.invariant c.mark_round-place.ensures.round c.mark_round-place.ensures.marked c.run_counts.ensures.variables
+
+pub step-requires-clause-room_for_steps : goal.step-requires-clause-room_for_steps
+step-requires-clause-room_for_steps c =
+    round-steps c.loop-place.invariant c.mark_round-place.ensures.round c.mark_round-place.ensures.marked c.run_counts.ensures.variables c.run_counts.ensures.steps
+
+pub loop-place-preserved : goal.loop-place-preserved
+loop-place-preserved c =
+    rounds-next c.loop-place.invariant c.mark_round-place.ensures.round c.mark_round-place.ensures.marked
+    (c.step.ensures.sorted ∙ c.mark_round-place.ensures.sorted) c.step.ensures.marked
+    (c.step.ensures.state ∙ ap (flipped c.mark_round-place.new.scratch.marked) c.mark_round-place.ensures.state)
+    c.step.ensures.steps c.step.ensures.room
+
+pub returns-clause-rounds : goal.returns-clause-rounds
+returns-clause-rounds c =
+    rounds-end c.loop-place.invariant (omega (arith, c.loop-place-test.false, ap (length {A = ℕ}) c.sorted.ensures))

@@ -1,0 +1,10 @@
+use Rattle.std.proofs.Common.{◌-◌, length}
+use Rattle.hz_cycle.proofs.RoundTurns.{AreRoundsUnderway}
+use Rattle.hz_cycle.proofs.settling.settle_rounds.Given as goal
+
+-- the rounds so far have settled
+abbrev pub invariant-loop-place : goal.invariant-loop-place
+invariant-loop-place l = AreRoundsUnderway l.when l.b l.fn.scratch.state l.fn.run l.place l.scratch l.run
+
+abbrev pub decreases-loop-place : goal.decreases-loop-place
+decreases-loop-place l = length l.scratch.sorted - l.place

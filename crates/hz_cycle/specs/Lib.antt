@@ -1,0 +1,6 @@
+pub mod Turned
+pub mod Cycles
+pub mod Marks
+pub mod Pass
+pub mod Rounds
+pub mod Exact

@@ -1,0 +1,44 @@
+//! The cycle.
+ghost use Rattle.std.specs.Prelude.{◌≡◌, ◌*◌, ◌≤◌, [], length};
+ghost use Rattle.hz_net.specs.Network.{network_of};
+ghost use Rattle.hz_reach.specs.Room.{Spends};
+ghost use Rattle.hz_cycle.specs.Cycles.{AreOfChange, IsCycleOf};
+ghost use Rattle.hz_cycle.specs.Turned.{IsTurned};
+
+use crate::passing::make_pass;
+use hz_core::Tri;
+use hz_gmw::Run;
+use hz_net::Net;
+use hz_reach::{Scratch, run_counts};
+
+/// The cycle: from a turned state back to it, a nontransient cycle in which each variable that is X in the result of
+/// Algorithm B takes both bits, and no other variable changes. It is two passes over the gates that are X. If there is none
+/// the cycle has no step.
+///
+/// `scratch` holds the state in which the cycle begins, and holds it again afterwards. It takes no memory and cannot fail.
+pub fn cycle_run(
+    net: &Net,
+    input: &[bool],
+    rank: &[u32],
+    b: &[Tri],
+    scratch: &mut Scratch,
+    run: &mut Run,
+)
+    requires input { length input.now ≡ net.now.inputs }
+    requires change { AreOfChange net.now input.now rank.now b.now }
+    requires turned { IsTurned (network_of net.now) rank.now b.now scratch.old.state }
+    requires none_marked { scratch.old.marked ≡ [] }
+    requires empty { run.old.steps ≡ [] }
+    requires room_for_flips { 4 * length (network_of net.now) ≤ run.old.spare_flips }
+    requires room_for_steps { 4 * length (network_of net.now) ≤ run.old.spare_steps }
+    ensures cycle { IsCycleOf (network_of net.now) input.now b.now scratch.old.state run.new.steps }
+    ensures state { scratch.new.state ≡ scratch.old.state }
+    ensures marked { scratch.new.marked ≡ [] }
+    ensures room { Spends run.old run.new }
+{
+    // A getter of the network tells that its circuit is one; the room is told by how often each variable changes.
+    let _variables = net.len();
+    run_counts();
+    make_pass(net, rank, b, scratch, run);
+    make_pass(net, rank, b, scratch, run);
+}

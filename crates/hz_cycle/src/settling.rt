@@ -1,0 +1,113 @@
+//! The settle run.
+ghost use Rattle.std.specs.Prelude.{◌≡◌, ◌≢◌, ℕ, ◌+◌, ◌*◌, ◌<◌, ◌≤◌, Bool, List, [], length};
+ghost use Rattle.std.specs.List.{slice_range};
+ghost use Rattle.hz_core.specs.declared.tri.Tri.{Tri};
+ghost use Rattle.hz_net.specs.Network.{Driver, network_of};
+ghost use Rattle.hz_net.specs.Passes.{algorithm_a, algorithm_b, IsResult, AreRanks, AreSettlingRounds};
+ghost use Rattle.hz_net.specs.Starts.{IsStableStart};
+ghost use Rattle.hz_gmw.specs.Runs.{end_of};
+ghost use Rattle.hz_reach.specs.Order.{AreByKey};
+ghost use Rattle.hz_reach.specs.Room.{Spends};
+ghost use Rattle.hz_cycle.specs.Cycles.{IsSettleRun};
+ghost use Rattle.hz_cycle.specs.Rounds.{differing, IsOneRound, AreRoundsOf, AreRoundsMade};
+ghost use Rattle.hz_cycle.specs.Turned.{IsTurned};
+
+use crate::passing::make_pass;
+use hz_core::Tri;
+use hz_gmw::Run;
+use hz_net::Net;
+use hz_reach::{Scratch, run_counts, run_ends, spread_run};
+
+/// The settle run: a run from a start that is stable under its own inputs, in whose last state each variable that is not X
+/// in the result of Algorithm B has its value there and is stable. That state is turned, so that a cycle may begin in it.
+///
+/// First comes the spread run, without the wires that it does not need. Then, round by round of Algorithm B, the variables
+/// that it makes 0 or 1 take their values. Last comes one pass over the gates that are X.
+///
+/// `a`, `rank`, `when` and `b` are what Algorithms A and B give for this start and input: their results, the ranks and the
+/// settling rounds. The last state stands in `scratch` afterwards. It takes no memory and cannot fail.
+pub fn settle_run(
+    net: &Net,
+    start: &[bool],
+    input: &[bool],
+    a: &[Tri],
+    rank: &[u32],
+    when: &[u32],
+    b: &[Tri],
+    scratch: &mut Scratch,
+    run: &mut Run,
+)
+    requires start { IsStableStart net.now start.now }
+    requires input { length input.now ≡ net.now.inputs }
+    requires a { IsResult (algorithm_a (network_of net.now) input.now start.now) a.now }
+    requires rank { AreRanks (algorithm_a (network_of net.now) input.now start.now) a.now rank.now }
+    requires b { IsResult (algorithm_b (network_of net.now) input.now a.now) b.now }
+    requires when { AreSettlingRounds (algorithm_b (network_of net.now) input.now a.now) a.now b.now when.now }
+    requires scratch { length scratch.old.state ≡ length (network_of net.now) }
+    requires none_marked { scratch.old.marked ≡ [] }
+    requires empty { run.old.steps ≡ [] }
+    requires room_for_flips { 2 * length (network_of net.now) ≤ run.old.spare_flips }
+    requires room_for_steps { 2 * length (network_of net.now) ≤ run.old.spare_steps }
+    ensures run { IsSettleRun (network_of net.now) input.now start.now a.now b.now run.new.steps }
+    ensures turned { IsTurned (network_of net.now) rank.now b.now scratch.new.state }
+    ensures state { scratch.new.state ≡ end_of start.now run.new.steps }
+    ensures marked { scratch.new.marked ≡ [] }
+    ensures room { Spends run.old run.new }
+{
+    // A getter of the network tells that its circuit is one; the room and the bits are told by how often each variable
+    // changes.
+    let _variables = net.len();
+    run_counts();
+    run_ends();
+    spread_run(net, start, input, a, rank, true, scratch, run);
+    settle_rounds(when, b, scratch, run);
+    make_pass(net, rank, b, scratch, run);
+}
+
+// Round by round, the variables that settle take their values.
+fn settle_rounds(when: &[u32], b: &[Tri], scratch: &mut Scratch, run: &mut Run)
+    requires when { length when.now ≡ length scratch.old.state }
+    requires b { length b.now ≡ length scratch.old.state }
+    requires none_marked { scratch.old.marked ≡ [] }
+    requires rounds { (net : List Driver) × (input : List Bool) × (a : List Tri) × AreRoundsOf net input a when.now b.now scratch.old.state }
+    requires room_for_flips { length when.now ≤ run.old.spare_flips }
+    requires room_for_steps { length when.now ≤ run.old.spare_steps }
+    ensures rounds { AreRoundsMade when.now b.now scratch.old.state run.old.steps run.new.steps scratch.new.state }
+    ensures marked { scratch.new.marked ≡ [] }
+    ensures room { Spends run.old run.new }
+{
+    // The room is told by how often each variable changes.
+    run_counts();
+    scratch.sort(when);
+    let mut place = 0;
+    while place < scratch.sorted().len() {
+        place = mark_round(when, b, place, scratch);
+        scratch.step(run);
+    }
+}
+
+// Marks, of the variables of one round, those that have yet to take their values. Returns where the next round begins.
+fn mark_round(when: &[u32], b: &[Tri], from: usize, scratch: &mut Scratch) -> usize
+    requires when { length when.now ≡ length scratch.old.state }
+    requires b { length b.now ≡ length scratch.old.state }
+    requires sorted { AreByKey when.now scratch.old.sorted }
+    requires from { from < length scratch.old.sorted }
+    requires none_marked { scratch.old.marked ≡ [] }
+    ensures round { IsOneRound when.now scratch.old.sorted from result }
+    ensures marked { scratch.new.marked ≡ differing b.now scratch.old.state (slice_range scratch.old.sorted from result) }
+    ensures state { scratch.new.state ≡ scratch.old.state }
+    ensures sorted { scratch.new.sorted ≡ scratch.old.sorted }
+{
+    let places = scratch.sorted().len();
+    let round = when[scratch.sorted()[from] as usize];
+    for place in from..places {
+        let var = scratch.sorted()[place];
+        if when[var as usize] != round {
+            return place;
+        }
+        if !b[var as usize].admits(scratch.state()[var as usize]) {
+            scratch.mark(var);
+        }
+    }
+    places
+}
