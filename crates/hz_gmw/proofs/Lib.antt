@@ -4,7 +4,7 @@ pub mod Paths
 pub mod CoverB
 pub mod SetLemmas
 pub mod LeastLemmas
-pub mod Readers
+pub mod Unchanged
 pub mod Rechecks
 pub mod PresentLemmas
 pub mod ReplayLemmas

@@ -14,7 +14,7 @@ use Rattle.hz_gmw.specs.Presents.{Fits, IsExact, rechecked, marked_with, Advance
 use Rattle.hz_gmw.specs.declared.present.Present.{Present}
 use Rattle.hz_gmw.proofs.Flips.{at-flipped}
 use Rattle.hz_gmw.proofs.LeastLemmas.{listed-head, listed-other}
-use Rattle.hz_gmw.proofs.Readers.{is_unstable-input}
+use Rattle.hz_gmw.proofs.Unchanged.{is_unstable-input}
 use Rattle.hz_gmw.proofs.Rechecks.{beq-same, beq-refl, Follows, follows-one, fits-rechecked, flipped-first}
 
 -- a list is its next element and what is left

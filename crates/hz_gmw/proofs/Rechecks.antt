@@ -12,7 +12,7 @@ use Rattle.hz_gmw.specs.Presents.{Fits, IsExact, rechecked, around, marked_with,
 use Rattle.hz_gmw.specs.declared.present.Present.{Present}
 use Rattle.hz_gmw.proofs.Flips.{length-flipped, at-flipped}
 use Rattle.hz_gmw.proofs.LeastLemmas.{listed-head, listed-cases, listed-other, listed-append}
-use Rattle.hz_gmw.proofs.Readers.{is_unstable-flipped}
+use Rattle.hz_gmw.proofs.Unchanged.{is_unstable-flipped}
 
 -- whether a variable is unstable in the present state
 abbrev unstable_now : List Driver → Present → ℕ → Bool
@@ -270,7 +270,7 @@ advanced netlist flips before middle after exact input state unstable touched ch
         unstable = λ i inside. elim (cases_Bool (is_listed (flat_map (around netlist) flips) i)) [
           | inl near ↦ follows.done i (omega (arith, inside, unstable_long)) near ∙ (middle_now i ∙ sym (now i))
           | inr apart ↦ follows.kept i apart ∙ (ap (λ (marks : List Bool). bit_at marks i) unstable ∙ (exact.unstable i inside ∙
-              (sym (is_unstable-flipped netlist before.input.items before.state.items flips i fits.circuit fits.whole fits.state inside apart) ∙ sym (now i))))
+              (sym (is_unstable-flipped netlist before.input.items before.state.items flips i fits.circuit apart) ∙ sym (now i))))
         ];
       };
       input = after_input;

@@ -1,11 +1,9 @@
 -- The present state of a network as a replayer keeps it: what is known of it while it changes.
-use Rattle.std.specs.Prelude.{◌≡◌, ℕ, ◌<◌, Bool, true, false, not, ◌||◌, List, [], ◌∷◌, length, Option, Some, None, fold, slice_get, slice_set, if◌then◌else◌}
+use Rattle.std.specs.Prelude.{◌≡◌, ℕ, ◌<◌, Bool, true, false, not, ◌||◌, List, ◌∷◌, length, fold, slice_set, if◌then◌else◌}
 use Rattle.std.specs.Bool.{beq}
 use Rattle.hz_core.specs.Netlist.{Netlist, IsCircuit, IsWhole}
 use Rattle.hz_net.specs.Network.{Driver, network_of, bit_at}
-use Rattle.hz_net.specs.Variables.{variables_of, fan_out_of}
-use Rattle.hz_net.specs.declared.variable.VarKind.{VarKind}
-use Rattle.hz_net.specs.declared.variable.VarKind.TheVariants.{Input, Gate as GateVariable, Wire as WireVariable}
+use Rattle.hz_net.specs.Reads.{readers_of}
 use Rattle.hz_gmw.specs.Runs.{is_listed, flipped}
 use Rattle.hz_gmw.specs.Instability.{is_unstable}
 use Rattle.hz_gmw.specs.declared.present.Present.{Present}
@@ -23,17 +21,6 @@ pub record Fits (netlist : Netlist) (present : Present) : Type 0 where
 pub record IsExact (netlist : Netlist) (present : Present) : Type 0 where
   pub fits : Fits netlist present
   pub unstable : (i : ℕ) → i < length (network_of netlist) → bit_at present.unstable i ≡ is_unstable (network_of netlist) present.input.items present.state.items i
-
--- the variables that read one, by what it is: the wires from a node, the gate of a wire
-abbrev pub readers_by : Netlist → ℕ → Option VarKind → List ℕ
-readers_by netlist var None = []
-readers_by netlist var (Some (Input number)) = fan_out_of netlist var
-readers_by netlist var (Some (GateVariable kind)) = fan_out_of netlist var
-readers_by netlist var (Some (WireVariable gate pin source)) = gate ∷ []
-
--- the variables that read one
-abbrev pub readers_of : Netlist → ℕ → List ℕ
-readers_of netlist var = readers_by netlist var (slice_get (variables_of netlist) var)
 
 -- a variable and those that read it: what may become stable or unstable when it changes
 abbrev pub around : Netlist → ℕ → List ℕ

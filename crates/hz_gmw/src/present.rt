@@ -5,7 +5,7 @@ ghost use Rattle.hz_net.specs.Network.{network_of, bit_at};
 ghost use Rattle.hz_gmw.specs.Runs.{is_listed, RepeatsNone, flipped};
 
 use crate::variable_set::VariableSet;
-use hz_net::{Net, VarKind};
+use hz_net::Net;
 
 // The external input and the state, the variables that are unstable, and those that were touched: that changed, or became
 // stable or unstable, since the set was cleared.
@@ -137,11 +137,7 @@ impl Present {
         ensures { self.new ≡ fold (rechecked (network_of net.now)) self.old (around net.now var) }
     {
         self.recheck(net, var);
-        match net.kind_of(var) {
-            VarKind::Input { .. } => self.recheck_each(net, net.fan_out(var)),
-            VarKind::Gate { .. } => self.recheck_each(net, net.fan_out(var)),
-            VarKind::Wire { gate, .. } => self.recheck(net, gate),
-        }
+        self.recheck_each(net, net.readers(var));
     }
 
     // Checks each of the listed variables.

@@ -7,4 +7,6 @@ pub mod Sequences
 pub mod Ranks
 pub mod Derivations
 pub mod Wires
+pub mod Wired
+pub mod Readers
 pub mod StartLemmas

@@ -220,7 +220,7 @@ pub entries_of-parts :
 unfolding entries_of
 entries_of-parts netlist none list inputs gates e f g h = cc
 
-at-entries_of-input :
+pub at-entries_of-input :
     (netlist : Netlist) (var : ℕ) (d : Entry) → var < netlist.inputs → get_or (entries_of netlist) var d ≡ InputEntry var
 unfolding entries_of
 at-entries_of-input netlist var d within =
@@ -231,7 +231,7 @@ at-entries_of-input netlist var d within =
     get_or_append_left inputs gates d var (omega arith) ∙
     get_or-map-range_with_len InputEntry 0 netlist.inputs var var d within (omega arith)
 
-at-entries_of-gate :
+pub at-entries_of-gate :
     (netlist : Netlist) (var : ℕ) (d : Entry) → IsCircuit netlist → IsGateNumber netlist var →
     get_or (entries_of netlist) var d ≡ GateEntry (gate_at netlist var).kind (first_wire netlist var) (length (gate_at netlist var).sources)
 unfolding entries_of

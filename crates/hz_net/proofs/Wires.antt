@@ -1,4 +1,4 @@
--- Wires by the node that drives them, and by the gate that they go into; what a list has at a gate's wires.
+-- Wires by the node that drives them; what a list has at a gate's wires.
 use Rattle.std.proofs.Common.{◌≡◌, ◌∙◌, sym, ap, suc, zero, ℕ, ◌+◌, ◌-◌, ◌<◌, ◌≤◌, true, false, List, [], ◌∷◌, length, Some, All, get_or, arith, subst, slice_get, inl, inr}
 use Rattle.std.specs.Prelude.{Contains, nat_eq}
 use Rattle.std.proofs.lemmas.Bool.{cases_lt, cases_eq, eq-eqb}
@@ -7,7 +7,7 @@ use Rattle.std.proofs.lemmas.List.{get_or_past}
 use Rattle.std.proofs.lemmas.List.Elements.{All-nil, All-cons, All-append}
 use Rattle.hz_core.specs.Netlist.{Gate, Netlist, IsCircuit, IsGateNumber, gate_at, variable_count}
 use Rattle.hz_net.specs.Network.{Wire, gate_wires, wires_from, wires_of, External, Source, network_of, driver_at}
-use Rattle.hz_net.specs.Variables.{variables_of, first_wire, at_wires, readers_from, fan_out_of, GoesInto}
+use Rattle.hz_net.specs.Variables.{variables_of, first_wire, at_wires, readers_from, fan_out_of}
 use Rattle.hz_net.specs.declared.variable.VarKind.TheVariants.{Wire as WireKind}
 use Rattle.hz_net.specs.Entries.{wire_entry}
 use Rattle.hz_net.proofs.Places.{no_wire, All-wires_of, length-network_of, length-wires_of, driver_at-input, driver_at-gate, driver_at-wire, wire_at-pin, at-entries_of-wire, variables_of-entry, first_wire-bound}
@@ -126,40 +126,11 @@ IsWireFrom-fan_out_of netlist wire node there =
       source = ap (λ n. (get_or (wires_of netlist) n no_wire).source) k ∙ h.3;
     }
 
--- the number of a wire's gate
-All-gate_wires-gate : (low high gate pin : ℕ) (sources : List ℕ) → low ≤ gate → gate < high → All (λ wire. (low ≤ wire.gate) × (wire.gate < high)) (gate_wires gate pin sources)
-All-gate_wires-gate low high gate pin [] ge lt = All-nil (λ (wire : Wire). (low ≤ wire.gate) × (wire.gate < high))
-All-gate_wires-gate low high gate pin (source ∷ sources) ge lt =
-    All-cons (λ (wire : Wire). (low ≤ wire.gate) × (wire.gate < high)) _ _ (ge, lt) (All-gate_wires-gate low high gate (pin + 1) sources ge lt)
-
-All-wires_from-gate : (low high number : ℕ) (gates : List Gate) → low ≤ number → number + length gates ≤ high → All (λ wire. (low ≤ wire.gate) × (wire.gate < high)) (wires_from number gates)
-All-wires_from-gate low high number [] ge le = All-nil (λ (wire : Wire). (low ≤ wire.gate) × (wire.gate < high))
-All-wires_from-gate low high number (gate ∷ gates) ge le =
-    All-append (λ (wire : Wire). (low ≤ wire.gate) × (wire.gate < high)) (gate_wires number 0 gate.sources) (wires_from (number + 1) gates)
-    (All-gate_wires-gate low high number 0 gate.sources ge (omega (arith, le)))
-    (All-wires_from-gate low high (number + 1) gates (omega (arith, ge)) (omega (arith, le)))
-
 -- what a variable is, is told by its wire
 pub variables_of-wire : (netlist : Netlist) (var : ℕ) → IsCircuit netlist → length netlist.names ≤ var → var < variable_count netlist → slice_get (variables_of netlist) var ≡ Some (WireKind (get_or (wires_of netlist) (var - length netlist.names) no_wire).gate (get_or (wires_of netlist) (var - length netlist.names) no_wire).pin (get_or (wires_of netlist) (var - length netlist.names) no_wire).source)
 variables_of-wire netlist var circuit above below =
     let entry = wire_entry (get_or (wires_of netlist) (var - length netlist.names) no_wire) in
     variables_of-entry netlist var entry circuit below (sym (at-entries_of-wire netlist var entry circuit above below))
-
--- a wire goes into the gate that it names
-pub GoesInto-variables_of : (netlist : Netlist) (wire gate pin source : ℕ) → IsCircuit netlist → length netlist.names ≤ wire → wire < variable_count netlist → slice_get (variables_of netlist) wire ≡ Some (WireKind gate pin source) → GoesInto netlist wire gate
-unfolding wires_of
-GoesInto-variables_of netlist wire gate pin source circuit above below is =
-    let k = wire - length netlist.names in
-    let whole = variables_of-wire netlist wire circuit above below in
-    let named : (get_or (wires_of netlist) k no_wire).gate ≡ gate = cc in
-    let inside : k < length (wires_of netlist) = omega (arith, length-wires_of netlist) in
-    let right = All-wires_from-gate netlist.inputs (length netlist.names) netlist.inputs netlist.gates (omega arith) (omega (arith, circuit.nodes)) k no_wire inside in
-    record {
-      is_gate = subst (λ (n : ℕ). IsGateNumber netlist n) named right;
-      only = λ other place is_gate within here.
-          let there : first_wire netlist other + place - length netlist.names ≡ k = omega (arith, here) in
-          sym (ap (λ (w : Wire). w.gate) (wire_at-pin netlist other place circuit is_gate within)) ∙ (ap (λ (n : ℕ). (get_or (wires_of netlist) n no_wire).gate) there ∙ named);
-    }
 
 -- a gate's wires have one element for each pin
 pub length-at_wires :

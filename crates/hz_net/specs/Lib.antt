@@ -1,5 +1,6 @@
 pub mod Network
 pub mod Variables
+pub mod Reads
 pub mod Entries
 pub mod Parts
 pub mod FanOuts

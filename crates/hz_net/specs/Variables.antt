@@ -1,7 +1,7 @@
 -- The variables of the complete network by what they are, and how nodes and wires hang together.
-use Rattle.std.specs.Prelude.{◌≡◌, ℕ, suc, ◌+◌, ◌-◌, ◌<◌, Bool, List, [], ◌∷◌, ◌++◌, length, map, take, sum_by, if◌then◌else◌, ◌==◌}
+use Rattle.std.specs.Prelude.{ℕ, suc, ◌+◌, ◌-◌, Bool, List, [], ◌∷◌, ◌++◌, length, map, take, sum_by, if◌then◌else◌, ◌==◌}
 use Rattle.std.specs.List.{range_with_len, slice_range}
-use Rattle.hz_core.specs.Netlist.{Netlist, IsGateNumber, gate_at}
+use Rattle.hz_core.specs.Netlist.{Netlist, gate_at}
 use Rattle.hz_net.specs.Network.{Wire, wires_of, bit_at}
 use Rattle.hz_net.specs.declared.variable.VarKind.{VarKind}
 use Rattle.hz_net.specs.declared.variable.VarKind.TheVariants.{Input, Gate as GateVariable, Wire as WireVariable}
@@ -35,8 +35,3 @@ fan_out_of netlist node = readers_from (length netlist.names) (wires_of netlist)
 -- the state in which each node has a given value and each wire its source's
 abbrev pub expanded : Netlist → List Bool → List Bool
 expanded netlist nodes = nodes ++ map (λ wire. bit_at nodes wire.source) (wires_of netlist)
-
--- A wire goes into a gate: the gate, and no other, has it among its pins.
-pub record GoesInto (netlist : Netlist) (wire gate : ℕ) : Type 0 where
-  pub is_gate : IsGateNumber netlist gate
-  pub only : (other pin : ℕ) → IsGateNumber netlist other → pin < length (gate_at netlist other).sources → first_wire netlist other + pin ≡ wire → other ≡ gate

@@ -1,8 +1,9 @@
 //! The complete network of a circuit.
-ghost use Rattle.std.specs.Prelude.{◌≡◌, ◌+◌, ◌<◌, ◌≤◌, ◌↔◌, length, slice_get, slice_range, Some, IfOk, IsTrue};
+ghost use Rattle.std.specs.Prelude.{◌≡◌, ◌+◌, ◌<◌, ◌≤◌, ◌↔◌, length, slice_get, slice_range, Some, All, IfOk, IsTrue};
 ghost use Rattle.hz_core.specs.Netlist.{IsCircuit, IsWhole, IsGateNumber, variable_count, gate_at};
 ghost use Rattle.hz_net.specs.Network.{network_of, driver_at, bit_at, excitation, excitation3, IsStable};
 ghost use Rattle.hz_net.specs.Variables.{variables_of, first_wire, fan_out_of, expanded};
+ghost use Rattle.hz_net.specs.Reads.{readers_of};
 ghost use Rattle.hz_net.specs.Entries.{driver_of, seen_as, IsEntryAt};
 
 use crate::VarKind;
@@ -10,8 +11,11 @@ use crate::entry::{Entry, list_entries};
 use crate::fan_out::{FanOut, list_fan_out};
 use crate::parts::part;
 use hz_core::{Circuit, Memory, Tri};
+use hz_outside::Steps;
 use std::alloc::Global;
 use std::marker::Model;
+use std::slice;
+use std::sync::ledger::Ledger;
 
 /// The complete network of a circuit (Brzozowski and Seger): a variable for each input, each gate and each wire, where a wire
 /// is a pin of a gate.
@@ -108,6 +112,19 @@ impl Net {
         part(self.fan_out.readers.as_slice(), start, end)
     }
 
+    /// The variables that read a variable: the wires from a node, ascending, or the gate that a wire goes into.
+    pub fn readers(&self, var: u32) -> &[u32]
+        requires { var < length (network_of self.now) }
+        ensures readers { result.now ≡ readers_of self.now var }
+        ensures inside { All (λ reader. reader < length (network_of self.now)) result.now }
+    {
+        match &self.entries[var as usize] {
+            Entry::Input { .. } => self.fan_out(var),
+            Entry::Gate { .. } => self.fan_out(var),
+            Entry::Wire { gate, .. } => slice::from_ref(gate),
+        }
+    }
+
     /// The excitation of a variable: the external input for an input, the gate function of its own wires for a gate, the
     /// value of its source for a wire.
     pub fn excite(&self, input: &[bool], state: &[bool], var: u32) -> bool
@@ -125,13 +142,21 @@ impl Net {
         }
     }
 
-    /// The ternary extension of the excitation.
-    pub fn excite3(&self, input: &[bool], state: &[Tri], var: u32) -> Tri
+    /// The ternary extension of the excitation. It counts as a step.
+    pub fn excite3<L: Ledger>(
+        &self,
+        input: &[bool],
+        state: &[Tri],
+        var: u32,
+        steps: &mut Steps<L>,
+    ) -> Tri
         requires var { var < length (network_of self.now) }
         requires input { length input.now ≡ self.now.inputs }
         requires state { length state.now ≡ length (network_of self.now) }
-        ensures { result ≡ excitation3 (network_of self.now) input.now state.now var }
+        ensures value { result ≡ excitation3 (network_of self.now) input.now state.now var }
+        ensures steps { steps.new ≡ steps.old + 1 }
     {
+        steps.tick();
         match self.entry(var) {
             Entry::Input { number } => Tri::of(input[number as usize]),
             Entry::Gate { kind, first, pins } => kind.eval3(
@@ -196,6 +221,8 @@ impl Net {
 mod tests {
     use super::*;
     use hz_core::Kind;
+    use std::marker::Brand;
+    use std::sync::ledger::Blank;
     use std::test::Fail;
 
     // A gate that reads an input, itself and the input again: variables a, y, y(1), y(2), y(3).
@@ -248,7 +275,31 @@ mod tests {
         assert!(rt; !net.excite(&[false], &state, 0));
         assert!(rt; net.excite(&[false], &state, 1));
         let values = [Tri::Zero, Tri::Unknown, Tri::Zero, Tri::Unknown, Tri::Zero];
-        assert_eq!(rt; net.excite3(&[false], &values, 1), Tri::Unknown);
+        let excited = excite_once::<Brand>(&net, &[false], &values, 1, Blank::new(1));
+        assert_eq!(rt; excited, Tri::Unknown);
+        assert_eq!(rt; net.readers(0), [2, 4].as_slice());
+        assert_eq!(rt; net.readers(1), [3].as_slice());
+        assert_eq!(rt; net.readers(4), [1].as_slice());
         Ok(())
+    }
+
+    // The ternary excitation, counted in a ledger of its own.
+    fn excite_once<L: Ledger>(
+        net: &Net,
+        input: &[bool],
+        state: &[Tri],
+        var: u32,
+        ledger: Blank,
+    ) -> Tri
+        requires var { var < length (network_of net.now) }
+        requires input { length input.now ≡ net.now.inputs }
+        requires state { length state.now ≡ length (network_of net.now) }
+        requires name { ledger.name ≡ L.name }
+        requires parts { ledger.parts ≡ L.parts }
+        requires some { 0 < ledger.parts }
+    {
+        let (book, share) = ledger.open::<L>();
+        let mut steps = Steps::new(book, share);
+        net.excite3(input, state, var, &mut steps)
     }
 }

@@ -1,4 +1,4 @@
-//! The outside of the program: files that are loaded, and a sink that bytes are put into.
+//! The outside of the program: files that are loaded, a sink that bytes are put into, and a counter that contracts see.
 //!
 //! | Module | What lives in it |
 //! |---|---|
@@ -9,6 +9,7 @@
 //! | `shelf` | named files in memory |
 //! | `mem_files`, `plain_files` | files in memory, with and without loads that fail |
 //! | `mem_sink`, `plain_sink` | sinks in memory, with and without puts that fail |
+//! | `steps` | a counter of steps that only contracts see |
 //! | `disk_files`, `std_sink` | the trusted edge: the file system and standard output |
 #![tactic(auto)]
 
@@ -23,6 +24,7 @@ mod plain_sink;
 mod shelf;
 mod sink;
 mod std_sink;
+mod steps;
 #[cfg(test)]
 mod tests;
 
@@ -35,3 +37,4 @@ pub use plain_files::PlainFiles;
 pub use plain_sink::PlainSink;
 pub use sink::Sink;
 pub use std_sink::StdSink;
+pub use steps::Steps;

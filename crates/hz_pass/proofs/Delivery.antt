@@ -5,9 +5,10 @@ use Rattle.std.proofs.lemmas.List.{get_or-set_other, length-set, drop_more, drop
 use Rattle.std.proofs.lemmas.List.Elements.{Contains-get_or}
 use Rattle.hz_core.specs.declared.tri.Tri.{Tri}
 use Rattle.hz_core.specs.declared.tri.Tri.TheVariants.{Zero, One, Unknown}
-use Rattle.hz_core.specs.Netlist.{Netlist, IsCircuit, variable_count}
+use Rattle.hz_core.specs.Netlist.{Netlist, IsCircuit, IsGateNumber, variable_count}
 use Rattle.hz_net.specs.Network.{network_of, Source, driver_at, value_at}
-use Rattle.hz_net.specs.Variables.{fan_out_of, GoesInto}
+use Rattle.hz_net.specs.Variables.{fan_out_of}
+use Rattle.hz_net.specs.Reads.{IsWireInto}
 use Rattle.hz_net.proofs.Places.{length-network_of}
 use Rattle.hz_net.proofs.Wires.{IsWireFrom, IsWireFrom-fan_out_of, driver_at-IsWireFrom}
 use Rattle.hz_pass.specs.Forcing.{gate_extension, SetsGate, ForcedSoFar, open_count}
@@ -88,15 +89,15 @@ wire-place netlist node count wire circuit few at =
     (from.above, omega (arith, length-network_of netlist circuit))
 
 -- one wire more
-pub delivered-step : (netlist : Netlist) (node : ℕ) (value : Tri) (first values values' : List Tri) (first_waiting waiting waiting' : List ℕ) (count wire gate : ℕ) → IsCircuit netlist → node < length netlist.names → DeliveredSoFar netlist node value first values first_waiting waiting count → count < length (fan_out_of netlist node) → wire ≡ get_or (fan_out_of netlist node) count 0 → GoesInto netlist wire gate → SetsGate (value_at (set values wire value) gate) (gate_extension netlist (set values wire value) gate) gate (set values wire value) values' waiting waiting' → DeliveredSoFar netlist node value first values' first_waiting waiting' (count + 1)
-delivered-step netlist node value first values values' first_waiting waiting waiting' count wire gate circuit is_node so_far few at goes sets =
+pub delivered-step : (netlist : Netlist) (node : ℕ) (value : Tri) (first values values' : List Tri) (first_waiting waiting waiting' : List ℕ) (count wire gate : ℕ) → IsCircuit netlist → node < length netlist.names → DeliveredSoFar netlist node value first values first_waiting waiting count → count < length (fan_out_of netlist node) → wire ≡ get_or (fan_out_of netlist node) count 0 → IsGateNumber netlist gate → IsWireInto (network_of netlist) gate wire → SetsGate (value_at (set values wire value) gate) (gate_extension netlist (set values wire value) gate) gate (set values wire value) values' waiting waiting' → DeliveredSoFar netlist node value first values' first_waiting waiting' (count + 1)
+delivered-step netlist node value first values values' first_waiting waiting waiting' count wire gate circuit is_node so_far few at is_gate into sets =
     let there : Contains (fan_out_of netlist node) wire = subst (Contains (fan_out_of netlist node)) (sym at) (Contains-get_or (fan_out_of netlist node) count 0 few) in
     let from : IsWireFrom netlist wire node = IsWireFrom-fan_out_of netlist wire node there in
     let above : length netlist.names ≤ wire = from.above in
     let driven : driver_at (network_of netlist) wire ≡ Source node = driver_at-IsWireFrom netlist wire node circuit from in
     let set_is : value_at (set values wire value) node ≡ value = get_or-set_other values wire node value Zero (let other : node ≢ wire = omega (arith, above, is_node) in other) ∙ so_far.is in
     let set_long : length (set values wire value) ≡ length (network_of netlist) = length-set values wire value ∙ so_far.long in
-    let inside : gate < length (set values wire value) = omega (arith, set_long, goes.is_gate.1, length-network_of netlist circuit) in
+    let inside : gate < length (set values wire value) = omega (arith, set_long, is_gate.1, length-network_of netlist circuit) in
     let due : drop count (fan_out_of netlist node) ≡ wire ∷ drop (count + 1) (fan_out_of netlist node) =
     drop_more (fan_out_of netlist node) count 0 few ∙ ap (λ (w : ℕ). w ∷ drop (count + 1) (fan_out_of netlist node)) (sym at) in
     record {
@@ -106,8 +107,8 @@ delivered-step netlist node value first values values' first_waiting waiting wai
       forced = λ listed same begun.
           forced-gate netlist listed circuit same (set values wire value) values' waiting waiting' (drop (count + 1) (fan_out_of netlist node)) gate
           (forced-wire netlist listed circuit same values waiting (drop (count + 1) (fan_out_of netlist node)) wire node gate value
-          (subst (λ (d : List ℕ). ForcedSoFar netlist listed values waiting d []) due (so_far.forced listed same begun)) so_far.is driven goes)
-          goes.is_gate sets;
+          (subst (λ (d : List ℕ). ForcedSoFar netlist listed values waiting d []) due (so_far.forced listed same begun)) so_far.is driven into)
+          is_gate sets;
       fewer = omega (
         arith,
         so_far.fewer,

@@ -12,7 +12,9 @@ use Rattle.hz_core.specs.Ternary.{tri_of}
 use Rattle.hz_core.specs.Extension.{extension}
 use Rattle.hz_core.specs.Netlist.{Netlist, IsCircuit, IsWhole, IsGateNumber, gate_at, variable_count}
 use Rattle.hz_net.specs.Network.{network_of, Source, driver_at, value_at}
-use Rattle.hz_net.specs.Variables.{first_wire, at_wires, fan_out_of, GoesInto}
+use Rattle.hz_net.specs.Variables.{first_wire, at_wires, fan_out_of}
+use Rattle.hz_net.specs.Reads.{IsWireInto}
+use Rattle.hz_net.proofs.Wired.{pin-into, wired-network_of}
 use Rattle.hz_net.specs.Starts.{IsForced}
 use Rattle.hz_net.proofs.Places.{length-network_of, driver_at-pin}
 use Rattle.hz_net.proofs.PartLemmas.{same-parts}
@@ -128,8 +130,8 @@ module _ (netlist : Netlist) (listed : List (Option Bool)) (circuit : IsCircuit 
       }
 
   -- a wire's value is set
-  pub forced-wire : (values : List Tri) (waiting due : List ℕ) (wire node gate : ℕ) (value : Tri) → ForcedSoFar netlist listed values waiting (wire ∷ due) [] → value_at values node ≡ value → driver_at (network_of netlist) wire ≡ Source node → GoesInto netlist wire gate → ForcedSoFar netlist listed (set values wire value) waiting due (gate ∷ [])
-  forced-wire values waiting due wire node gate value so_far is driven goes =
+  pub forced-wire : (values : List Tri) (waiting due : List ℕ) (wire node gate : ℕ) (value : Tri) → ForcedSoFar netlist listed values waiting (wire ∷ due) [] → value_at values node ≡ value → driver_at (network_of netlist) wire ≡ Source node → IsWireInto (network_of netlist) gate wire → ForcedSoFar netlist listed (set values wire value) waiting due (gate ∷ [])
+  forced-wire values waiting due wire node gate value so_far is driven into =
       let from : IsWireFrom netlist wire node = IsWireFrom-driver_at netlist wire node circuit driven in
       let above : length netlist.names ≤ wire = from.above in
       let inside : wire < length values = omega (arith, from.below, so_far.long, length-network_of netlist circuit) in
@@ -168,7 +170,7 @@ module _ (netlist : Netlist) (listed : List (Option Bool)) (circuit : IsCircuit 
         closed = λ other is_gate unknown. elim (cases_eq other gate) [
           | inl same ↦ inr (0, omega arith, sym same)
           | inr differ ↦ elim (so_far.closed other is_gate (sym (nodes other is_gate.1) ∙ unknown)) [
-            | inl same ↦ inl (ap (extension (gate_at netlist other).kind) (slice_range-set values wire (first_wire netlist other) (length (gate_at netlist other).sources) value (λ k few e. differ (goes.only other k is_gate few e))) ∙ same)
+            | inl same ↦ inl (ap (extension (gate_at netlist other).kind) (slice_range-set values wire (first_wire netlist other) (length (gate_at netlist other).sources) value (λ k few e. differ ((wired-network_of netlist circuit).own other gate wire (pin-into netlist circuit other k wire is_gate few e) into))) ∙ same)
             | inr none ↦ absurd (no-element other none)
           ]
         ];

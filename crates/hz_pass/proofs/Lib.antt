@@ -1,4 +1,9 @@
 pub mod Places
+pub mod Values
+pub mod Evaluations
+pub mod WholeRounds
+pub mod TakenOver
+pub mod StepCounts
 pub mod SpreadLoop
 pub mod SettleLoop
 pub mod ForcingLoop

@@ -31,6 +31,14 @@ settle-begin net input first noted long none = record {
 }
 
 module _ (net : List Driver) (input : List Bool) (first : List Tri) (long : length first ≡ length net) (below : AllBelow (excitations net input first) first) where
+  pub settle-long : {round : ℕ} {state : List Tri} {noted : List ℕ} → SettlesSoFar net input first round state noted → length state ≡ length net
+  settle-long {round} so_far = ap (length {A = Tri}) so_far.now ∙ length-algorithm_b net input first long round
+
+  -- the excitations of each state lie below it
+  pub settle-falls : {round : ℕ} {state : List Tri} {noted : List ℕ} → SettlesSoFar net input first round state noted → AllBelow (excitations net input state) state
+  settle-falls {round} so_far =
+      subst (λ (s : List Tri). AllBelow (excitations net input s) s) (sym so_far.now) (AllBelow-algorithm_b net input first below round)
+
   -- later states lie below earlier ones
   later-below : (round more : ℕ) → AllBelow (algorithm_b net input first (more + round)) (algorithm_b net input first round)
   later-below round zero =

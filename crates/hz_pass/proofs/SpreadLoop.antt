@@ -34,6 +34,9 @@ spread-begin net input start rank long rank_long none = record {
 }
 
 module _ (net : List Driver) (input start : List Bool) (long : length start ≡ length net) where
+  pub spread-long : {round : ℕ} {out : List Tri} {rank : List ℕ} → SpreadSoFar net input start round out rank → length out ≡ length net
+  spread-long {round} so_far = ap (length {A = Tri}) so_far.now ∙ length-algorithm_a net input start long round
+
   -- a variable that a round makes X had not been X
   first-unknown : (i round : ℕ) (before : Tri) → value_at (algorithm_a net input start round) i ≡ before → before ≢ Unknown → value_at (algorithm_a net input start (suc round)) i ≡ Unknown → IsFirstRound (algorithm_a net input start) i IsUnknown (suc round)
   first-unknown i round before was known is = record {

@@ -1,57 +1,84 @@
-//! Algorithm A, by plain rounds.
-ghost use Rattle.std.specs.Prelude.{◌≡◌, ◌≢◌, ◌+◌, ◌≤◌, length, MatchBool};
-ghost use Rattle.hz_net.specs.Network.{network_of};
-ghost use Rattle.hz_net.specs.Passes.{excitations, join_each, algorithm_a, AreRounds, AreRanks};
+//! Algorithm A.
+ghost use Rattle.std.specs.Prelude.{◌≡◌, ◌+◌, ◌*◌, ◌≤◌, length, map};
+ghost use Rattle.hz_core.specs.Ternary.{tri_of};
+ghost use Rattle.hz_net.specs.Network.{network_of, wires_of};
+ghost use Rattle.hz_net.specs.Passes.{algorithm_a, AreRounds, AreRanks};
+ghost use Rattle.hz_pass.specs.Changes.{change_count};
 
-use crate::rounds::{differ, excite_all, join_all, note_unknown, write_bits};
+use crate::front::Front;
+use crate::round::{Round, Rule, take_over};
 use hz_core::Tri;
 use hz_net::Net;
+use hz_outside::Steps;
+use std::mem::swap;
+use std::sync::ledger::Ledger;
 
 /// Algorithm A of Brzozowski and Seger: from the start, under the new input, each round joins every variable with its
 /// ternary excitation, until a round changes nothing.
 ///
-/// Writes the result into `out` and the rank of each variable into `rank`, and answers the rounds, the last one
-/// included, which changes nothing. `work` is room for a round. All slices but `input` have one element for each
-/// variable. It takes no memory.
-pub fn spread(
+/// Writes the result into `out` and the rank of each variable into `rank`, and returns the rounds, the last one
+/// included, which changes nothing. The first round evaluates every variable, a later one only the readers of what the
+/// round before changed: all rounds together evaluate at most as many variables as there are, and two for each wire.
+/// `work` is room for a round. All slices but `input` have one element for each variable. It takes no memory.
+pub fn spread<L: Ledger>(
     net: &Net,
     input: &[bool],
     start: &[bool],
     out: &mut [Tri],
     rank: &mut [u32],
     work: &mut [Tri],
+    front: &mut Front,
+    steps: &mut Steps<L>,
 ) -> u32
     requires input { length input.now ≡ net.now.inputs }
     requires start { length start.now ≡ length (network_of net.now) }
     requires out { length out.old ≡ length (network_of net.now) }
     requires rank { length rank.old ≡ length (network_of net.now) }
     requires work { length work.old ≡ length (network_of net.now) }
+    requires front { front.old ≡ length (network_of net.now) }
     ensures rounds { AreRounds (algorithm_a (network_of net.now) input.now start.now) result }
     ensures out { out.new ≡ algorithm_a (network_of net.now) input.now start.now result }
     ensures rank { AreRanks (algorithm_a (network_of net.now) input.now start.now) out.new rank.new }
     ensures bound { result ≤ length (network_of net.now) + 1 }
+    ensures front { front.new ≡ front.old }
+    ensures least_steps { steps.old + change_count (map tri_of start.now) out.new ≤ steps.new }
+    ensures most_steps { steps.new ≤ steps.old + (length (network_of net.now) + 2 * length (wires_of net.now)) }
 {
     let _variables = net.len();
     write_bits(start, out);
+    work.copy_from_slice(out);
     rank.fill(0);
+    let round = Round {
+        rule: Rule::Join,
+        net,
+        input,
+        state: out,
+    };
+    round.evaluate_all(work, &mut front.changed, steps);
     let mut rounds = 1;
-    while widen(net, input, out, work) {
-        note_unknown(out, work, rounds, rank);
-        out.copy_from_slice(work);
+    while !front.changed.is_empty() {
+        take_over(front.changed.as_slice(), work, rounds, out, rank);
+        swap(&mut front.due, &mut front.changed);
+        front.changed.clear();
+        let round = Round {
+            rule: Rule::Join,
+            net,
+            input,
+            state: out,
+        };
+        round.evaluate_readers(front.due.as_slice(), work, &mut front.changed, steps);
         rounds += 1;
     }
+    front.due.clear();
     rounds
 }
 
-// The state after a round, and whether it differs from the one before.
-fn widen(net: &Net, input: &[bool], state: &[Tri], next: &mut [Tri]) -> bool
-    requires input { length input.now ≡ net.now.inputs }
-    requires state { length state.now ≡ length (network_of net.now) }
-    requires next { length next.old ≡ length (network_of net.now) }
-    ensures next { next.new ≡ join_each state.now (excitations (network_of net.now) input.now state.now) }
-    ensures differs { MatchBool result (state.now ≢ next.new) (state.now ≡ next.new) }
+// Writes the values of known bits.
+fn write_bits(bits: &[bool], values: &mut [Tri])
+    requires { length values.old ≡ length bits.now }
+    ensures { values.new ≡ map tri_of bits.now }
 {
-    excite_all(net, input, state, next);
-    join_all(state, next);
-    differ(state, next)
+    for i in 0..bits.len() {
+        values[i] = Tri::of(bits[i]);
+    }
 }

@@ -1,55 +1,74 @@
-//! Algorithm B, by plain rounds.
-ghost use Rattle.std.specs.Prelude.{◌≡◌, ◌≢◌, ◌+◌, ◌≤◌, length, MatchBool};
+//! Algorithm B.
+ghost use Rattle.std.specs.Prelude.{◌≡◌, ◌+◌, ◌*◌, ◌≤◌, length};
 ghost use Rattle.hz_core.specs.Ternary.{AllBelow};
-ghost use Rattle.hz_net.specs.Network.{network_of};
+ghost use Rattle.hz_net.specs.Network.{network_of, wires_of};
 ghost use Rattle.hz_net.specs.Passes.{excitations, algorithm_b, AreRounds, AreSettlingRounds};
+ghost use Rattle.hz_pass.specs.Changes.{change_count};
 
-use crate::rounds::{differ, excite_all, note_known};
+use crate::front::Front;
+use crate::round::{Round, Rule, take_over};
 use hz_core::Tri;
 use hz_net::Net;
+use hz_outside::Steps;
+use std::mem::swap;
+use std::sync::ledger::Ledger;
 
 /// Algorithm B of Brzozowski and Seger: each round puts the ternary excitations in place of the state, until a round
-/// changes nothing. From the result of Algorithm A it finds the values that may persist.
+/// changes nothing. From the result of Algorithm A it finds the values that may persist. The excitations of the state that
+/// it begins with lie below that state.
 ///
 /// Turns `state` into the result, writes into `when` the first round in which a variable that was X is 0 or 1, and 0
-/// for every other variable, and answers the rounds, the last one included, which changes nothing. `work` is room for a
-/// round. All slices but `input` have one element for each variable. It takes no memory.
-pub fn settle(
+/// for every other variable, and returns the rounds, the last one included, which changes nothing. The first round
+/// evaluates every variable, a later one only the readers of what the round before changed: all rounds together evaluate at
+/// most as many variables as there are, and two for each wire. `work` is room for a round. All slices but `input` have one
+/// element for each variable. It takes no memory.
+pub fn settle<L: Ledger>(
     net: &Net,
     input: &[bool],
     state: &mut [Tri],
     when: &mut [u32],
     work: &mut [Tri],
+    front: &mut Front,
+    steps: &mut Steps<L>,
 ) -> u32
     requires input { length input.now ≡ net.now.inputs }
     requires state { length state.old ≡ length (network_of net.now) }
     requires when { length when.old ≡ length (network_of net.now) }
     requires work { length work.old ≡ length (network_of net.now) }
     requires below { AllBelow (excitations (network_of net.now) input.now state.old) state.old }
+    requires front { front.old ≡ length (network_of net.now) }
     ensures rounds { AreRounds (algorithm_b (network_of net.now) input.now state.old) result }
     ensures state { state.new ≡ algorithm_b (network_of net.now) input.now state.old result }
     ensures when { AreSettlingRounds (algorithm_b (network_of net.now) input.now state.old) state.old state.new when.new }
     ensures bound { result ≤ length (network_of net.now) + 1 }
+    ensures front { front.new ≡ front.old }
+    ensures least_steps { steps.old + change_count state.old state.new ≤ steps.new }
+    ensures most_steps { steps.new ≤ steps.old + (length (network_of net.now) + 2 * length (wires_of net.now)) }
 {
     let _variables = net.len();
+    work.copy_from_slice(state);
     when.fill(0);
+    let round = Round {
+        rule: Rule::Replace,
+        net,
+        input,
+        state,
+    };
+    round.evaluate_all(work, &mut front.changed, steps);
     let mut rounds = 1;
-    while narrow(net, input, state, work) {
-        note_known(state, work, rounds, when);
-        state.copy_from_slice(work);
+    while !front.changed.is_empty() {
+        take_over(front.changed.as_slice(), work, rounds, state, when);
+        swap(&mut front.due, &mut front.changed);
+        front.changed.clear();
+        let round = Round {
+            rule: Rule::Replace,
+            net,
+            input,
+            state,
+        };
+        round.evaluate_readers(front.due.as_slice(), work, &mut front.changed, steps);
         rounds += 1;
     }
+    front.due.clear();
     rounds
-}
-
-// The state after a round, and whether it differs from the one before.
-fn narrow(net: &Net, input: &[bool], state: &[Tri], next: &mut [Tri]) -> bool
-    requires input { length input.now ≡ net.now.inputs }
-    requires state { length state.now ≡ length (network_of net.now) }
-    requires next { length next.old ≡ length (network_of net.now) }
-    ensures next { next.new ≡ excitations (network_of net.now) input.now state.now }
-    ensures differs { MatchBool result (state.now ≢ next.new) (state.now ≡ next.new) }
-{
-    excite_all(net, input, state, next);
-    differ(state, next)
 }

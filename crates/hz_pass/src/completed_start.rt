@@ -11,15 +11,19 @@ use crate::forcing::forced_values;
 use hz_core::{Memory, Tri};
 use hz_net::Net;
 use std::alloc::Global;
+use thiserror::Error;
 
 /// Why listed values give no start.
-#[derive(Clone, Copy, Debug, PartialEq, Eq)]
+#[derive(Clone, Copy, Debug, PartialEq, Eq, Error)]
 pub enum StartFault {
     /// The least gate that is open.
+    #[error("open {gate}")]
     Open { gate: u32 },
     /// The least gate that is unstable, where none is open.
+    #[error("unstable {gate}")]
     Unstable { gate: u32 },
     /// There was no memory.
+    #[error("out of memory")]
     Memory,
 }
 

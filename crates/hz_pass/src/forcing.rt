@@ -3,7 +3,8 @@ ghost use Rattle.std.specs.Prelude.{◌≡◌, ◌≢◌, ◌+◌, ◌<◌, ◌�
 ghost use Rattle.hz_core.specs.declared.tri.Tri.TheVariants.{Unknown};
 ghost use Rattle.hz_core.specs.Netlist.{IsCircuit, IsGateNumber};
 ghost use Rattle.hz_net.specs.Network.{network_of, value_at};
-ghost use Rattle.hz_net.specs.Variables.{fan_out_of, GoesInto};
+ghost use Rattle.hz_net.specs.Variables.{fan_out_of};
+ghost use Rattle.hz_net.specs.Reads.{IsWireInto};
 ghost use Rattle.hz_pass.specs.Forcing.{IsListed, gate_extension, SetsGate, ForcedSoFar, open_count, AreForcedValues};
 
 use hz_core::{Memory, Tri};
@@ -79,7 +80,8 @@ fn gate_of(net: &Net, wire: u32) -> u32
     requires circuit { IsCircuit net.now }
     requires above { length net.now.names ≤ wire }
     requires below { wire < length (network_of net.now) }
-    ensures { GoesInto net.now wire result }
+    ensures gate { IsGateNumber net.now result }
+    ensures into { IsWireInto (network_of net.now) result wire }
 {
     match net.kind_of(wire) {
         VarKind::Wire { gate, .. } => gate,

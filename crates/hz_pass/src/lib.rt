@@ -6,17 +6,20 @@
 //! | `algorithm_b` | Algorithm B, which finds what may stay changed |
 //! | `completed_start` | the start that listed values force, or what keeps them from one |
 //! | `forcing` | how values are forced from node to node |
-//! | `rounds` | one round of each, and what is noted of it |
+//! | `front` | the frontier of a pass: what a round changed, whose readers the next one evaluates |
+//! | `round` | one round of either |
 #![tactic(auto)]
 
 mod algorithm_a;
 mod algorithm_b;
 mod completed_start;
 mod forcing;
-mod rounds;
+mod front;
+mod round;
 #[cfg(test)]
 mod tests;
 
 pub use algorithm_a::spread;
 pub use algorithm_b::settle;
 pub use completed_start::{StartFault, complete};
+pub use front::Front;

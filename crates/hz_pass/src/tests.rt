@@ -1,12 +1,15 @@
 //! Rows worked by hand: what the passes find on circuits of a few gates.
-ghost use Rattle.std.specs.Prelude.{◌≡◌, length};
+ghost use Rattle.std.specs.Prelude.{◌≡◌, ◌<◌, length};
 ghost use Rattle.hz_net.specs.Network.{network_of};
 
-use super::{StartFault, complete, settle, spread};
+use super::{Front, StartFault, complete, settle, spread};
 use hz_core::Tri::{One, Unknown, Zero};
 use hz_core::{Circuit, Kind, Memory, Tri};
 use hz_net::Net;
-use std::alloc::{AllocError, Global};
+use hz_outside::Steps;
+use std::alloc::Global;
+use std::marker::Brand;
+use std::sync::ledger::{Blank, Ledger};
 use std::test::Fail;
 
 // What both passes find: the results, the round in which each variable changed, and the rounds.
@@ -20,7 +23,7 @@ struct Found {
     rounds_b: u32,
 }
 
-fn find(alloc: Global, net: &Net, start: &[bool], input: &[bool]) -> Result<Found, AllocError>
+fn find(alloc: Global, net: &Net, start: &[bool], input: &[bool]) -> Result<Found, Fail>
     requires start { length start.now ≡ length (network_of net.now) }
     requires input { length input.now ≡ net.now.inputs }
 {
@@ -30,7 +33,8 @@ fn find(alloc: Global, net: &Net, start: &[bool], input: &[bool]) -> Result<Foun
     let mut work = vec![in alloc; Zero; variables]?;
     let mut ranks = vec![in alloc; 0u32; variables]?;
     let mut settled = vec![in alloc; 0u32; variables]?;
-    let (rounds_a, rounds_b) = pass(
+    let mut front = Front::new(alloc, net)?;
+    let (rounds_a, rounds_b) = pass::<Brand>(
         net,
         start,
         input,
@@ -39,6 +43,8 @@ fn find(alloc: Global, net: &Net, start: &[bool], input: &[bool]) -> Result<Foun
         &mut b,
         &mut settled,
         &mut work,
+        &mut front,
+        Blank::new(1),
     );
     Ok(Found {
         a,
@@ -51,7 +57,7 @@ fn find(alloc: Global, net: &Net, start: &[bool], input: &[bool]) -> Result<Foun
 }
 
 // Runs Algorithm B from the result of Algorithm A, and answers the rounds of both.
-fn pass(
+fn pass<L: Ledger>(
     net: &Net,
     start: &[bool],
     input: &[bool],
@@ -60,6 +66,8 @@ fn pass(
     b: &mut [Tri],
     settled: &mut [u32],
     work: &mut [Tri],
+    front: &mut Front,
+    ledger: Blank,
 ) -> (u32, u32)
     requires start { length start.now ≡ length (network_of net.now) }
     requires input { length input.now ≡ net.now.inputs }
@@ -68,10 +76,16 @@ fn pass(
     requires b { length b.old ≡ length (network_of net.now) }
     requires settled { length settled.old ≡ length (network_of net.now) }
     requires work { length work.old ≡ length (network_of net.now) }
+    requires front { front.old ≡ length (network_of net.now) }
+    requires name { ledger.name ≡ L.name }
+    requires parts { ledger.parts ≡ L.parts }
+    requires some { 0 < ledger.parts }
 {
-    let rounds_a = spread(net, input, start, a, ranks, work);
+    let (book, share) = ledger.open::<L>();
+    let mut steps = Steps::new(book, share);
+    let rounds_a = spread(net, input, start, a, ranks, work, front, &mut steps);
     b.copy_from_slice(a);
-    let rounds_b = settle(net, input, b, settled, work);
+    let rounds_b = settle(net, input, b, settled, work, front, &mut steps);
     (rounds_a, rounds_b)
 }
 

@@ -11,7 +11,7 @@ use Rattle.hz_reach.specs.Order.{key_at}
 use Rattle.hz_reach.specs.Spread.{IsSpreadRun, IsSparingRun}
 use Rattle.hz_reach.proofs.Turns.{AreTurns}
 use Rattle.hz_reach.proofs.Turning.{HasTurned}
-use Rattle.hz_reach.proofs.Wired.{wired-network_of}
+use Rattle.hz_net.proofs.Wired.{wired-network_of}
 use Rattle.hz_reach.proofs.RankedTurns.{ranked-turns, unknown-ranked, ranked-unknown}
 use Rattle.hz_reach.proofs.Ended.{HasSpread, spread-run, sparing-run}
 

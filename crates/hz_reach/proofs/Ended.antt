@@ -2,13 +2,14 @@
 use Rattle.std.proofs.Common.{◌≡◌, ◌≢◌, ℕ, ◌<◌, Bool, true, false, List, ◌++◌, length, refl, sym, ap, ◌∙◌, subst, arith, inl, inr}
 use Rattle.std.proofs.lemmas.Bool.{cases_Bool, false_from_ne_true}
 use Rattle.hz_net.specs.Network.{Driver, External, Function, Source, driver_at, IsStable}
+use Rattle.hz_net.specs.Reads.{IsWired}
 use Rattle.hz_net.specs.Passes.{algorithm_a, AreRounds, AreRanks}
 use Rattle.hz_gmw.specs.Runs.{is_listed, RepeatsNone}
 use Rattle.hz_reach.specs.Order.{key_at}
 use Rattle.hz_reach.specs.Spread.{IsSpreadRun, IsSparingRun}
 use Rattle.hz_reach.specs.Room.{after}
 use Rattle.hz_reach.proofs.Listed.{listed-cases, listed-left, listed-right, changes-unlisted, changes-listed}
-use Rattle.hz_reach.proofs.Turns.{IsWired, IsTurnedAfter, AreTurns}
+use Rattle.hz_reach.proofs.Turns.{IsTurnedAfter, AreTurns}
 use Rattle.hz_reach.proofs.Turning.{changed, changed-after, IsOnce, IsReady, once-after, HasTurned, node-changed, wire-ready}
 use Rattle.hz_reach.proofs.RankedTurns.{unknown-ranked, ranked-unknown, ranked-turns}
 

@@ -11,6 +11,7 @@ use Rattle.hz_core.specs.Ternary.{admits, IsJoinOf}
 use Rattle.hz_core.specs.Netlist.{Netlist, IsCircuit}
 use Rattle.hz_core.proofs.Refinements.{get_or-Refines}
 use Rattle.hz_net.specs.Network.{Driver, External, Function, Source, driver_at, network_of, bit_at, value_at, IsStable}
+use Rattle.hz_net.specs.Reads.{IsWired}
 use Rattle.hz_net.specs.Passes.{algorithm_a, AreRounds, IsRank, AreRanks}
 use Rattle.hz_gmw.specs.Runs.{is_listed, end_of, IsReachable, JoinsTo}
 use Rattle.hz_gmw.proofs.CoverA.{covers}
@@ -19,10 +20,10 @@ use Rattle.hz_core.specs.Pattern.{differs}
 use Rattle.hz_reach.specs.Picked.{picked}
 use Rattle.hz_reach.specs.Room.{after}
 use Rattle.hz_reach.proofs.PickedLemmas.{picked-is, is-picked, picked-once, differs-true, true-differs}
-use Rattle.hz_reach.proofs.Turns.{IsWired, AreTurns}
+use Rattle.hz_reach.proofs.Turns.{AreTurns}
 use Rattle.hz_reach.proofs.Turning.{changed, bit-changed, HasTurned, Also, turned-inputs, turned-same, turned-gate}
 use Rattle.hz_reach.proofs.RankedTurns.{rank-late, ranked-unknown, ranked-turns}
-use Rattle.hz_reach.proofs.Wired.{wired-network_of}
+use Rattle.hz_net.proofs.Wired.{wired-network_of}
 use Rattle.hz_reach.proofs.Ended.{HasSpread, spread-rest}
 
 -- Ranks of a sequence

@@ -3,7 +3,6 @@ pub mod PickedLemmas
 pub mod Parts
 pub mod Turns
 pub mod Turning
-pub mod Wired
 pub mod RankedTurns
 pub mod Ended
 pub mod Exact

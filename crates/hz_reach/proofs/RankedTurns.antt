@@ -11,14 +11,14 @@ use Rattle.hz_core.specs.Extension.{extension, IsValueOver}
 use Rattle.hz_core.proofs.Refinements.{known-admits, length-Refines, get_or-Refines}
 use Rattle.hz_core.proofs.Extensions.{IsExtension-extension}
 use Rattle.hz_net.specs.Network.{Driver, External, Function, Source, driver_at, bit_at, value_at, driven, driven3, IsStable}
+use Rattle.hz_net.specs.Reads.{IsWireInto, IsWired}
 use Rattle.hz_net.specs.Passes.{algorithm_a, AreRounds, IsFirstRound, IsUnknown, IsRank, AreRanks}
 use Rattle.hz_net.proofs.PartLemmas.{length-part, at-part}
 use Rattle.hz_net.proofs.Sequences.{length-algorithm_a}
 use Rattle.hz_net.proofs.Ranks.{unknown-later, unknown-or-start, one-round, at-tri_of, turns-before-rank}
 use Rattle.hz_reach.specs.Order.{key_at}
-use Rattle.hz_reach.specs.Spread.{IsWireInto}
 use Rattle.hz_reach.proofs.Parts.{driver-inside}
-use Rattle.hz_reach.proofs.Turns.{IsWired, IsTurnedBy, IsTurnedAfter, AreTurns}
+use Rattle.hz_reach.proofs.Turns.{IsTurnedBy, IsTurnedAfter, AreTurns}
 
 not-itself : (bit : Bool) → not bit ≢ bit
 not-itself false e = cc

@@ -18,7 +18,7 @@ use Rattle.hz_reach.specs.Spread.{IsSpreadRun, IsSparingRun}
 use Rattle.hz_reach.specs.Turn.{turned_inputs, AreTurnedWires, is_unknown, unchanged_wires}
 use Rattle.hz_reach.proofs.PickedLemmas.{picked-is, is-picked, picked-once}
 use Rattle.hz_reach.proofs.Turns.{AreTurns}
-use Rattle.hz_reach.proofs.Wired.{wired-network_of}
+use Rattle.hz_net.proofs.Wired.{wired-network_of}
 use Rattle.hz_reach.proofs.Turning.{IsOnce, bit-changed, bit-unchanged, HasTurned, turned-same, not-itself}
 use Rattle.hz_reach.proofs.Ended.{HasSpread, spread-rest}
 use Rattle.hz_reach.proofs.Asked.{IsAsked, asked-turns, asked-ranks, asked-unknown, asked-ranked, asked-spread, asked-sparing}

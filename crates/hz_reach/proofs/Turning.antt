@@ -7,16 +7,16 @@ use Rattle.std.proofs.lemmas.List.Folds.{concat-append}
 use Rattle.hz_core.specs.declared.kind.Kind.{Kind}
 use Rattle.hz_core.specs.Gate.{gate_value}
 use Rattle.hz_net.specs.Network.{Driver, External, Function, Source, driver_at, bit_at, driven, excitation, IsUnstable}
+use Rattle.hz_net.specs.Reads.{IsWireInto, IsNode, IsWired}
 use Rattle.hz_gmw.specs.Runs.{is_listed, RepeatsNone, IsStep, IsRun, end_of}
 use Rattle.hz_gmw.proofs.Paths.{IsRun-append}
 use Rattle.hz_gmw.proofs.CoverB.{length-end_of}
 use Rattle.hz_reach.specs.Order.{key_at}
-use Rattle.hz_reach.specs.Spread.{IsWireInto, IsNode}
 use Rattle.hz_reach.specs.Room.{after}
 use Rattle.hz_reach.proofs.Listed.{listed-cases, listed-left, listed-right, unlisted-append, repeats_none-append, at-end_of, AreApart}
 use Rattle.hz_reach.proofs.Parts.{driver-inside, same-part}
 use Rattle.hz_reach.proofs.PickedLemmas.{only-one, is-one}
-use Rattle.hz_reach.proofs.Turns.{IsWired, IsTurnedBy, IsTurnedAfter, AreTurns}
+use Rattle.hz_reach.proofs.Turns.{IsTurnedBy, IsTurnedAfter, AreTurns}
 
 -- the variables that a run changes
 abbrev pub changed : List (List ℕ) → List ℕ

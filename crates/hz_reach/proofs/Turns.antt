@@ -5,15 +5,6 @@ use Rattle.hz_core.specs.declared.kind.Kind.{Kind}
 use Rattle.hz_core.specs.Gate.{gate_value}
 use Rattle.hz_net.specs.Network.{Driver, External, Function, Source, driver_at, bit_at}
 use Rattle.hz_reach.specs.Order.{key_at}
-use Rattle.hz_reach.specs.Spread.{IsWireInto, IsNode}
-
--- what holds of the network of every circuit: wires come from nodes, the wires of gates are wires, and none goes into two
--- gates
-pub record IsWired (net : List Driver) : Type 0 where
-  pub node : (wire source : ℕ) → driver_at net wire ≡ Source source → IsNode net source
-  pub node_inside : (wire source : ℕ) → driver_at net wire ≡ Source source → source < length net
-  pub source : (gate wire : ℕ) → IsWireInto net gate wire → (source : ℕ) × (driver_at net wire ≡ Source source)
-  pub own : (gate other wire : ℕ) → IsWireInto net gate wire → IsWireInto net other wire → gate ≡ other
 
 -- bits for a gate's pins that give it the complement of its bit at the start, where a pin differs from the start only if
 -- its wire has a rank below the gate's

@@ -7,6 +7,7 @@ use Rattle.hz_core.specs.declared.kind.Kind.{Kind}
 use Rattle.hz_core.specs.Netlist.{Netlist, IsCircuit, IsGateNumber, gate_at}
 use Rattle.hz_core.specs.Pattern.{differs, IsCandidate}
 use Rattle.hz_net.specs.Network.{External, Function, network_of, driver_at, bit_at}
+use Rattle.hz_net.specs.Reads.{IsWired}
 use Rattle.hz_net.specs.Variables.{first_wire, at_wires}
 use Rattle.hz_net.proofs.Places.{pins_of, length-network_of, driver_at-input, driver_at-gate, driver_at-wire}
 use Rattle.hz_net.proofs.Wires.{length-at_wires, get_or-at_wires}
@@ -19,8 +20,8 @@ use Rattle.hz_reach.specs.Scratched.{Scratched}
 use Rattle.hz_reach.specs.Turn.{turned_inputs, free_pins, AreTurnedWires}
 use Rattle.hz_reach.proofs.PickedLemmas.{picked-is, is-picked, picked-once, differs-true, true-differs}
 use Rattle.hz_reach.proofs.Places.{listed-at}
-use Rattle.hz_reach.proofs.Turns.{IsWired, IsTurnedBy, AreTurns}
-use Rattle.hz_reach.proofs.Wired.{is_gate_of, wired-network_of}
+use Rattle.hz_reach.proofs.Turns.{IsTurnedBy, AreTurns}
+use Rattle.hz_net.proofs.Wired.{is_gate_of, wired-network_of}
 use Rattle.hz_reach.proofs.Turning.{HasTurned, Also, turned-inputs, turned-same, turned-wires, turned-gate}
 use Rattle.hz_reach.proofs.Asked.{IsAsked}
 use Rattle.hz_reach.proofs.Order.{Among, not-among, among-earlier, among-next, next-before, next-here}

@@ -1,9 +1,9 @@
 -- The spread run: a run from the start in which each variable that Algorithm A makes X changes once.
-use Rattle.std.specs.Prelude.{◌≡◌, ◌≢◌, ℕ, ◌+◌, ◌<◌, ◌≤◌, Bool, List}
+use Rattle.std.specs.Prelude.{◌≡◌, ℕ, ◌≤◌, Bool, List}
 use Rattle.std.specs.List.{count_by}
 use Rattle.hz_core.specs.declared.tri.Tri.{Tri}
-use Rattle.hz_core.specs.declared.kind.Kind.{Kind}
-use Rattle.hz_net.specs.Network.{Driver, Function, Source, driver_at, value_at}
+use Rattle.hz_net.specs.Network.{Driver, Source, driver_at, value_at}
+use Rattle.hz_net.specs.Reads.{IsWireInto, IsNode}
 use Rattle.hz_net.specs.Passes.{IsKnown, IsUnknown}
 use Rattle.hz_gmw.specs.Runs.{is_listed, IsRun}
 use Rattle.hz_reach.specs.Order.{IsEarlier}
@@ -11,19 +11,6 @@ use Rattle.hz_reach.specs.Order.{IsEarlier}
 -- in how many of its steps a run changes variable i
 abbrev pub changes_in : List (List ℕ) → ℕ → ℕ
 changes_in steps i = count_by (λ flips. is_listed flips i) steps
-
--- a wire goes into a gate: it is one of the variables of which the gate's function is taken
-pub record IsWireInto (net : List Driver) (gate wire : ℕ) : Type 0 where
-  pub kind : Kind
-  pub first : ℕ
-  pub pins : ℕ
-  pub driven : driver_at net gate ≡ Function kind first pins
-  pub above : first ≤ wire
-  pub below : wire < first + pins
-
--- a variable is no wire: it is an input or a gate
-abbrev pub IsNode : List Driver → ℕ → Type 0
-IsNode net i = (source : ℕ) → driver_at net i ≢ Source source
 
 -- The spread run: it changes each variable that is X in the result of Algorithm A once, and no other variable.
 pub record IsSpreadRun (net : List Driver) (input start : List Bool) (a : List Tri) (steps : List (List ℕ)) : Type 0 where

@@ -184,6 +184,3 @@ fn has_yet_to_change(value: Tri, start: bool, now: bool) -> bool
         Tri::Unknown => start == now,
     }
 }
-
-#[cfg(test)]
-mod tests;

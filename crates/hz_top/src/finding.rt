@@ -1,5 +1,5 @@
 //! What one change may do.
-ghost use Rattle.std.specs.Prelude.{◌≡◌, ◌+◌, ◌≤◌, [], length, take, IfOk};
+ghost use Rattle.std.specs.Prelude.{◌≡◌, ◌+◌, ◌<◌, ◌≤◌, [], length, take, IfOk};
 ghost use Rattle.hz_core.specs.Ternary.{AllBelow};
 ghost use Rattle.hz_net.specs.Network.{network_of, IsStable};
 ghost use Rattle.hz_net.specs.Passes.{algorithm_a, algorithm_b, excitations, AreRounds};
@@ -10,9 +10,12 @@ ghost use Rattle.hz_top.specs.Finding.{IsFinding};
 use hz_core::{Memory, Tri};
 use hz_gmw::Run;
 use hz_net::Net;
-use hz_pass::{settle, spread};
+use hz_outside::Steps;
+use hz_pass::{Front, settle, spread};
 use hz_reach::{Scratch, spread_run};
 use std::alloc::Global;
+use std::marker::Brand;
+use std::sync::ledger::{Blank, Ledger};
 
 /// What one change may do: for each variable the values that runs give it and those that may persist, and a run that
 /// shows the former.
@@ -38,10 +41,33 @@ pub(crate) fn find(
     ensures { IfOk result (λ found. IsFinding (network_of net.now) input.now start.now
         found.a.items found.rounds_a found.b.items found.rounds_b found.run.steps) }
 {
+    find_counted::<Brand>(alloc, net, start, input, Blank::new(1))
+}
+
+// The same. It counts the evaluations in a ledger of its own.
+fn find_counted<L: Ledger>(
+    alloc: Global,
+    net: &Net,
+    start: &[bool],
+    input: &[bool],
+    ledger: Blank,
+) -> Result<Finding, Memory>
+    requires start { length start.now ≡ length (network_of net.now) }
+    requires stable { IsStable (network_of net.now) (take net.now.inputs start.now) start.now }
+    requires input { length input.now ≡ net.now.inputs }
+    requires name { ledger.name ≡ L.name }
+    requires parts { ledger.parts ≡ L.parts }
+    requires some { 0 < ledger.parts }
+    ensures { IfOk result (λ found. IsFinding (network_of net.now) input.now start.now
+        found.a.items found.rounds_a found.b.items found.rounds_b found.run.steps) }
+{
+    let (book, share) = ledger.open::<L>();
+    let mut steps = Steps::new(book, share);
+    let mut front = Front::new(alloc, net)?;
     // A getter of the network tells that its circuit is one, on which the proof stands.
     let _variables = net.len();
-    let reached = find_reached(alloc, net, start, input)?;
-    let lasting = find_lasting(alloc, net, input, reached.a.as_slice())?;
+    let reached = find_reached(alloc, net, start, input, &mut front, &mut steps)?;
+    let lasting = find_lasting(alloc, net, input, reached.a.as_slice(), &mut front, &mut steps)?;
     Ok(Finding {
         a: reached.a,
         rounds_a: reached.rounds,
@@ -60,14 +86,23 @@ struct Reached {
 }
 
 // Runs Algorithm A, and makes the spread run.
-fn find_reached(alloc: Global, net: &Net, start: &[bool], input: &[bool]) -> Result<Reached, Memory>
+fn find_reached<L: Ledger>(
+    alloc: Global,
+    net: &Net,
+    start: &[bool],
+    input: &[bool],
+    front: &mut Front,
+    steps: &mut Steps<L>,
+) -> Result<Reached, Memory>
     requires start { length start.now ≡ length (network_of net.now) }
     requires stable { IsStable (network_of net.now) (take net.now.inputs start.now) start.now }
     requires input { length input.now ≡ net.now.inputs }
+    requires front { front.old ≡ length (network_of net.now) }
     ensures rounds { IfOk result (λ found. AreRounds (algorithm_a (network_of net.now) input.now start.now) found.rounds) }
     ensures a { IfOk result (λ found. found.a.items ≡ algorithm_a (network_of net.now) input.now start.now found.rounds) }
     ensures bound { IfOk result (λ found. found.rounds ≤ length (network_of net.now) + 1) }
     ensures run { IfOk result (λ found. IsSpreadRun (network_of net.now) input.now start.now found.a.items found.run.steps) }
+    ensures front { front.new ≡ front.old }
 {
     let variables = net.len() as usize;
     let mut scratch = Scratch::new(alloc, net)?;
@@ -84,6 +119,8 @@ fn find_reached(alloc: Global, net: &Net, start: &[bool], input: &[bool]) -> Res
         &mut a,
         &mut ranks,
         &mut work,
+        front,
+        steps,
         &mut scratch,
         &mut run,
     );
@@ -91,13 +128,15 @@ fn find_reached(alloc: Global, net: &Net, start: &[bool], input: &[bool]) -> Res
 }
 
 // Writes the result of Algorithm A and the spread run, and answers the rounds.
-fn reach(
+fn reach<L: Ledger>(
     net: &Net,
     start: &[bool],
     input: &[bool],
     a: &mut [Tri],
     ranks: &mut [u32],
     work: &mut [Tri],
+    front: &mut Front,
+    steps: &mut Steps<L>,
     scratch: &mut Scratch,
     run: &mut Run,
 ) -> u32
@@ -107,6 +146,7 @@ fn reach(
     requires a { length a.old ≡ length (network_of net.now) }
     requires ranks { length ranks.old ≡ length (network_of net.now) }
     requires work { length work.old ≡ length (network_of net.now) }
+    requires front { front.old ≡ length (network_of net.now) }
     requires scratch { scratch.old ≡ blank (length (network_of net.now)) }
     requires empty { run.old.steps ≡ [] }
     requires room_for_flips { length (network_of net.now) ≤ run.old.spare_flips }
@@ -115,8 +155,9 @@ fn reach(
     ensures a { a.new ≡ algorithm_a (network_of net.now) input.now start.now result }
     ensures bound { result ≤ length (network_of net.now) + 1 }
     ensures run { IsSpreadRun (network_of net.now) input.now start.now a.new run.new.steps }
+    ensures front { front.new ≡ front.old }
 {
-    let rounds = spread(net, input, start, a, ranks, work);
+    let rounds = spread(net, input, start, a, ranks, work, front, steps);
     spread_run(net, start, input, a, ranks, false, scratch, run);
     rounds
 }
@@ -129,10 +170,18 @@ struct Lasting {
 }
 
 // Runs Algorithm B from the result of Algorithm A.
-fn find_lasting(alloc: Global, net: &Net, input: &[bool], a: &[Tri]) -> Result<Lasting, Memory>
+fn find_lasting<L: Ledger>(
+    alloc: Global,
+    net: &Net,
+    input: &[bool],
+    a: &[Tri],
+    front: &mut Front,
+    steps: &mut Steps<L>,
+) -> Result<Lasting, Memory>
     requires input { length input.now ≡ net.now.inputs }
     requires a { length a.now ≡ length (network_of net.now) }
     requires below { AllBelow (excitations (network_of net.now) input.now a.now) a.now }
+    requires front { front.old ≡ length (network_of net.now) }
     ensures rounds { IfOk result (λ found. AreRounds (algorithm_b (network_of net.now) input.now a.now) found.rounds) }
     ensures b { IfOk result (λ found. found.b.items ≡ algorithm_b (network_of net.now) input.now a.now found.rounds) }
     ensures bound { IfOk result (λ found. found.rounds ≤ length (network_of net.now) + 1) }
@@ -143,18 +192,20 @@ fn find_lasting(alloc: Global, net: &Net, input: &[bool], a: &[Tri]) -> Result<L
     let Ok(mut when) = vec![in alloc; 0u32; variables] else {
         return Err(Memory);
     };
-    let rounds = settle_from(net, input, a, &mut b, &mut when, &mut work);
+    let rounds = settle_from(net, input, a, &mut b, &mut when, &mut work, front, steps);
     Ok(Lasting { b, rounds })
 }
 
 // Writes the result of Algorithm B, and answers the rounds.
-fn settle_from(
+fn settle_from<L: Ledger>(
     net: &Net,
     input: &[bool],
     a: &[Tri],
     b: &mut [Tri],
     when: &mut [u32],
     work: &mut [Tri],
+    front: &mut Front,
+    steps: &mut Steps<L>,
 ) -> u32
     requires input { length input.now ≡ net.now.inputs }
     requires a { length a.now ≡ length (network_of net.now) }
@@ -162,12 +213,13 @@ fn settle_from(
     requires b { length b.old ≡ length (network_of net.now) }
     requires when { length when.old ≡ length (network_of net.now) }
     requires work { length work.old ≡ length (network_of net.now) }
+    requires front { front.old ≡ length (network_of net.now) }
     ensures rounds { AreRounds (algorithm_b (network_of net.now) input.now a.now) result }
     ensures b { b.new ≡ algorithm_b (network_of net.now) input.now a.now result }
     ensures bound { result ≤ length (network_of net.now) + 1 }
 {
     b.copy_from_slice(a);
-    settle(net, input, b, when, work)
+    settle(net, input, b, when, work, front, steps)
 }
 
 // As many values, all X.
@@ -179,3 +231,6 @@ fn all_unknown(alloc: Global, variables: usize) -> Result<Vec<Tri>, Memory>
     };
     Ok(values)
 }
+
+#[cfg(test)]
+mod tests;

@@ -1,14 +1,21 @@
 use Rattle.std.proofs.Common.{◌≡◌, ◌+◌, ◌-◌, ◌≤◌, length}
+use Rattle.std.specs.Prelude.{vec_capacity}
 use Rattle.hz_net.specs.Network.{network_of}
+use Rattle.hz_pass.specs.declared.round.Rule.TheVariants.{Join}
+use Rattle.hz_pass.specs.Frontier.{IsRound}
 use Rattle.hz_pass.proofs.SpreadLoop.{SpreadSoFar}
+use Rattle.hz_pass.proofs.StepCounts.{StepsSoFar}
 use Rattle.hz_pass.proofs.algorithm_a.spread.Given as goal
 
--- each round so far changed something, and what was found is noted
-abbrev pub invariant-loop-out : goal.invariant-loop-out
-invariant-loop-out l =
-    (1 ≤ l.rounds) × (length l.work ≡ length (network_of l.net)) × (length (network_of l.net) ≤ 200000)
+-- each round before the last one changed something, what was found is noted, and what the last one changed is listed
+abbrev pub invariant-loop-front : goal.invariant-loop-front
+invariant-loop-front g l =
+    (1 ≤ l.rounds) × (length (network_of l.net) ≤ 200000)
     × SpreadSoFar (network_of l.net) l.input l.start (l.rounds - 1) l.out l.rank
+    × IsRound Join (network_of l.net) l.input l.out l.work l.front-inside.changed.items
+    × StepsSoFar Join l.net l.fn.steps l.steps l.work l.front-inside.changed.items
+    × (vec_capacity l.front-inside.due ≡ length (network_of l.net)) × (vec_capacity l.front-inside.changed ≡ length (network_of l.net))
 
 -- a round changes something only as long as some variable is not X
-abbrev pub decreases-loop-out : goal.decreases-loop-out
-decreases-loop-out l = (length (network_of l.net) + 2) - l.rounds
+abbrev pub decreases-loop-front : goal.decreases-loop-front
+decreases-loop-front g l = (length (network_of l.net) + 2) - l.rounds

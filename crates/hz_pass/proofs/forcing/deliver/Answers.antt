@@ -26,4 +26,4 @@ gate_of-requires-clause-below c =
 pub loop-wire-preserved : goal.loop-wire-preserved
 loop-wire-preserved c =
     let few : c.loop-wire.wire-index < length (fan_out_of c.args.net.now c.args.node) = omega (arith, ap length c.fan_out-wire-items.ensures) in
-    delivered-step c.args.net.now c.args.node _ _ c.loop-wire.values _ _ c.loop-wire.waiting.items _ c.loop-wire.wire-index _ c.gate_of.result c.requires.circuit c.requires.node c.loop-wire.invariant few (ap (λ (wires : List ℕ). get_or wires c.loop-wire.wire-index 0) c.fan_out-wire-items.ensures) c.gate_of.ensures c.in_ok-set_gate.ensures
+    delivered-step c.args.net.now c.args.node _ _ c.loop-wire.values _ _ c.loop-wire.waiting.items _ c.loop-wire.wire-index _ c.gate_of.result c.requires.circuit c.requires.node c.loop-wire.invariant few (ap (λ (wires : List ℕ). get_or wires c.loop-wire.wire-index 0) c.fan_out-wire-items.ensures) c.gate_of.ensures.gate c.gate_of.ensures.into c.in_ok-set_gate.ensures

@@ -1,0 +1,67 @@
+//! A counter that only contracts see.
+ghost use Rattle.std.specs.Prelude.{◌≡◌, ◌+◌, ◌<◌};
+
+use std::marker::Model;
+use std::sync::ledger::{Book, Ledger, Share};
+
+/// How many steps were taken, over a ledger. Contracts see the amount of its share, and only [`tick`](Steps::tick) changes
+/// it. It has no bytes.
+#[derive(Drop)]
+pub struct Steps<L: Ledger> {
+    book: Book<L>,
+    share: Share<L>,
+}
+
+impl<L: Ledger> Model for Steps<L> {
+    ghost use Rattle.std.specs.Prelude.{ℕ, ◌<◌};
+
+    ghost Value = { ℕ };
+
+    ghost view = { λ steps. steps.share.amount };
+
+    ghost invariant = { λ steps. 0 < steps.share.parts };
+}
+
+impl<L: Ledger> Steps<L> {
+    /// A counter at the amount of the share.
+    pub fn new(book: Book<L>, share: Share<L>) -> Steps<L>
+        requires { 0 < share.parts }
+        ensures { result ≡ share.amount }
+    {
+        Steps { book, share }
+    }
+
+    /// Counts one step more.
+    pub fn tick(&mut self)
+        ensures { self.new ≡ self.old + 1 }
+    {
+        self.book.add(&mut self.share, 1);
+    }
+}
+
+#[cfg(test)]
+mod tests {
+    use super::*;
+    use std::marker::Brand;
+    use std::sync::ledger::Blank;
+    use std::test::Fail;
+
+    // Counts with a ledger of its own.
+    fn tick_twice<L: Ledger>(ledger: Blank)
+        requires name { ledger.name ≡ L.name }
+        requires parts { ledger.parts ≡ L.parts }
+        requires some { 0 < ledger.parts }
+    {
+        let (book, share) = ledger.open::<L>();
+        let mut steps = Steps::new(book, share);
+        steps.tick();
+        steps.tick();
+    }
+
+    #[test]
+    fn steps_have_no_bytes(rt: HostRuntime) -> Result<(), Fail> {
+        assert_eq!(rt; size_of::<Steps<Brand>>(), 0);
+        tick_twice::<Brand>(Blank::new(1));
+        Ok(())
+    }
+}

@@ -1,0 +1,24 @@
+use Rattle.std.proofs.Common.{◌<◌, ◌∙◌, ℕ, arith, inl, inr, ap, subst, sym}
+use Rattle.std.proofs.lemmas.Bool.{cases_lt}
+use Rattle.hz_net.specs.Network.{network_of}
+use Rattle.hz_pass.specs.Frontier.{IsMade}
+use Rattle.hz_pass.proofs.WholeRounds.{round-end}
+use Rattle.hz_pass.proofs.round.Round.evaluate_all.Goals as goal
+
+pub loop-var-preserved : goal.loop-var-preserved
+loop-var-preserved g c =
+    let round = c.args.self.now in
+    let made : ℕ → Type 0 = IsMade round.rule (network_of round.net.now) round.input.now round.state.now c.evaluate.new.next in (
+      c.evaluate.ensures.so_far,
+      λ k few. elim (cases_lt k c.loop-var.var) [
+        | inl earlier ↦ c.evaluate.ensures.kept k (c.loop-var.invariant.1 k earlier)
+        | inr last ↦ subst made (omega (arith, last, few)) c.evaluate.ensures.made
+      ],
+      c.loop-var.invariant.2,
+      c.evaluate.ensures.room ∙ c.loop-var.invariant.3,
+      omega (arith, c.evaluate.ensures.steps, c.loop-var.invariant.4),
+    )
+
+pub returns-clause-round : goal.returns-clause-round
+returns-clause-round g c =
+    round-end c.requires.state c.loop-var.invariant.0 (λ i inside. c.loop-var.invariant.1 i (omega (arith, inside, c.loop-var.invariant.2)))

@@ -1,0 +1,81 @@
+-- Rounds that evaluate only some of the variables: what such a round makes, and which variables it has to evaluate.
+use Rattle.std.specs.Prelude.{◌≡◌, ◌≢◌, ℕ, suc, ◌+◌, ◌<◌, ◌⊎◌, Bool, true, false, List, [], ◌∷◌, length, fold, sum_by, Contains, slice_set, if◌then◌else◌}
+use Rattle.hz_core.specs.declared.tri.Tri.{Tri}
+use Rattle.hz_core.specs.declared.tri.Tri.TheVariants.{Zero, One, Unknown}
+use Rattle.hz_core.specs.Ternary.{join_of, AllBelow}
+use Rattle.hz_core.specs.Netlist.{Netlist}
+use Rattle.hz_net.specs.Network.{Driver, driver_at, value_at, excitation3}
+use Rattle.hz_net.specs.Passes.{excitations, join_each}
+use Rattle.hz_net.specs.Reads.{Reads, readers_of}
+use Rattle.hz_pass.specs.declared.round.Rule.{Rule}
+use Rattle.hz_pass.specs.declared.round.Rule.TheVariants.{Join, Replace}
+
+-- the next value of a variable, by its value and its excitation
+abbrev pub next_value : Rule → Tri → Tri → Tri
+next_value Join value excited = join_of value excited
+next_value Replace value excited = excited
+
+-- the state that a round makes
+abbrev pub next_state : Rule → List Driver → List Bool → List Tri → List Tri
+next_state Join net input state = join_each state (excitations net input state)
+next_state Replace net input state = excitations net input state
+
+-- where excitations take the place of the state, they lie below it
+abbrev pub Falls : Rule → List Driver → List Bool → List Tri → Type 0
+Falls Join net input state = Unit {0}
+Falls Replace net input state = AllBelow (excitations net input state) state
+
+-- variable i has the value that the round makes
+abbrev pub IsMade : Rule → List Driver → List Bool → List Tri → List Tri → ℕ → Type 0
+IsMade rule net input state next i = value_at next i ≡ next_value rule (value_at state i) (excitation3 net input state i)
+
+-- a list has the variables at which two states differ, and no others
+pub record ListsChanges (before after : List Tri) (changed : List ℕ) : Type 0 where
+  pub each : (i : ℕ) → Contains changed i → value_at after i ≢ value_at before i
+  pub every : (i : ℕ) → value_at after i ≢ value_at before i → Contains changed i
+
+-- a value that later rounds may change
+abbrev pub is_open : Rule → Tri → Bool
+is_open Join Zero = true
+is_open Join One = true
+is_open Join Unknown = false
+is_open Replace Zero = false
+is_open Replace One = false
+is_open Replace Unknown = true
+
+-- the weight of the variables that later rounds may change, of values that begin at a variable
+abbrev pub open_weight_from : Rule → (ℕ → ℕ) → ℕ → List Tri → ℕ
+open_weight_from rule weight first [] = 0
+open_weight_from rule weight first (value ∷ values) =
+    (if is_open rule value then weight first else 0) + open_weight_from rule weight (suc first) values
+
+abbrev pub open_weight : Rule → (ℕ → ℕ) → List Tri → ℕ
+open_weight rule weight values = open_weight_from rule weight 0 values
+
+-- Within a round: each variable has the value that it had or the one that the round makes, the list has those that changed,
+-- and whatever variables weigh, the listed ones weigh what the variables that may still change have lost.
+pub record IsRoundSoFar (rule : Rule) (net : List Driver) (input : List Bool) (state next : List Tri) (changed : List ℕ) : Type 0 where
+  pub long : length next ≡ length state
+  pub either : (i : ℕ) → (value_at next i ≡ value_at state i) ⊎ IsMade rule net input state next i
+  pub lists : ListsChanges state next changed
+  pub balance : (weight : ℕ → ℕ) → sum_by weight changed + open_weight rule weight next ≡ open_weight rule weight state
+
+-- a whole round: the next state, and what changed
+pub record IsRound (rule : Rule) (net : List Driver) (input : List Bool) (state next : List Tri) (changed : List ℕ) : Type 0 where
+  pub made : next ≡ next_state rule net input state
+  pub lists : ListsChanges state next changed
+  pub balance : (weight : ℕ → ℕ) → sum_by weight changed + open_weight rule weight next ≡ open_weight rule weight state
+
+-- a round leaves each variable as it is that reads none of the listed ones
+abbrev pub IsQuiet : Rule → List Driver → List Bool → List Tri → List ℕ → Type 0
+IsQuiet rule net input state changed =
+    (i : ℕ) → i < length net → ((source : ℕ) → Contains changed source → Reads (driver_at net i) source → ⊥) →
+    IsMade rule net input state state i
+
+-- how many variables read one
+abbrev pub reader_count : Netlist → ℕ → ℕ
+reader_count netlist i = length (readers_of netlist i)
+
+-- a state in which listed variables have the values that they have in another
+abbrev pub taken_over : List Tri → List Tri → List ℕ → List Tri
+taken_over next state list = fold (λ state i. slice_set state i (value_at next i)) state list

@@ -1,0 +1,158 @@
+//! One round of a pass, which evaluates some of the variables.
+ghost use Rattle.std.specs.Prelude.{◌≡◌, ◌+◌, ◌<◌, ◌≤◌, ℕ, [], length, fold, slice_set, sum_by, vec_capacity, All};
+ghost use Rattle.hz_core.specs.Netlist.{IsCircuit};
+ghost use Rattle.hz_net.specs.Network.{network_of, value_at};
+ghost use Rattle.hz_pass.specs.Frontier.{next_value, Falls, IsMade, IsQuiet, IsRoundSoFar, IsRound, reader_count, taken_over};
+
+use hz_core::Tri;
+use hz_net::Net;
+use hz_outside::Steps;
+use std::sync::ledger::Ledger;
+
+// How a round makes the next value of a variable of its value and its excitation.
+#[derive(Clone, Copy, Debug)]
+pub(crate) enum Rule {
+    // Algorithm A joins them.
+    Join,
+    // Algorithm B takes the excitation.
+    Replace,
+}
+
+impl Rule {
+    fn next(self, value: Tri, excited: Tri) -> Tri
+        ensures { result ≡ next_value self value excited }
+    {
+        match self {
+            Rule::Join => value.join(excited),
+            Rule::Replace => excited,
+        }
+    }
+}
+
+// A round from a state. What it makes is written into another list, so no evaluation sees a value of this round.
+#[derive(Clone, Copy, Debug)]
+pub(crate) struct Round<'a> {
+    pub rule: Rule,
+    pub net: &'a Net,
+    pub input: &'a [bool],
+    pub state: &'a [Tri],
+}
+
+impl Round<'_> {
+    // Evaluates every variable.
+    pub(crate) fn evaluate_all<L: Ledger>(
+        &self,
+        next: &mut [Tri],
+        changed: &mut Vec<u32>,
+        steps: &mut Steps<L>,
+    )
+        requires input { length self.now.input.now ≡ self.now.net.now.inputs }
+        requires state { length self.now.state.now ≡ length (network_of self.now.net.now) }
+        requires falls { Falls self.now.rule (network_of self.now.net.now) self.now.input.now self.now.state.now }
+        requires next { next.old ≡ self.now.state.now }
+        requires none { changed.old.items ≡ [] }
+        requires room { length (network_of self.now.net.now) ≤ vec_capacity changed.old }
+        ensures round { IsRound self.now.rule (network_of self.now.net.now) self.now.input.now self.now.state.now next.new changed.new.items }
+        ensures room { vec_capacity changed.new ≡ vec_capacity changed.old }
+        ensures steps { steps.new ≡ steps.old + length (network_of self.now.net.now) }
+    {
+        for var in 0..self.net.len() {
+            self.evaluate(var, next, changed, steps);
+        }
+    }
+
+    // Evaluates the readers of the variables that the round before changed, which are due.
+    pub(crate) fn evaluate_readers<L: Ledger>(
+        &self,
+        due: &[u32],
+        next: &mut [Tri],
+        changed: &mut Vec<u32>,
+        steps: &mut Steps<L>,
+    )
+        requires circuit { IsCircuit self.now.net.now }
+        requires input { length self.now.input.now ≡ self.now.net.now.inputs }
+        requires state { length self.now.state.now ≡ length (network_of self.now.net.now) }
+        requires falls { Falls self.now.rule (network_of self.now.net.now) self.now.input.now self.now.state.now }
+        requires quiet { IsQuiet self.now.rule (network_of self.now.net.now) self.now.input.now self.now.state.now due.now }
+        requires due { All (λ var. var < length (network_of self.now.net.now)) due.now }
+        requires next { next.old ≡ self.now.state.now }
+        requires none { changed.old.items ≡ [] }
+        requires room { length (network_of self.now.net.now) ≤ vec_capacity changed.old }
+        ensures round { IsRound self.now.rule (network_of self.now.net.now) self.now.input.now self.now.state.now next.new changed.new.items }
+        ensures room { vec_capacity changed.new ≡ vec_capacity changed.old }
+        ensures steps { steps.new ≡ steps.old + sum_by (reader_count self.now.net.now) due.now }
+    {
+        for source in due {
+            self.evaluate_each(self.net.readers(*source), next, changed, steps);
+        }
+    }
+
+    // Evaluates the listed variables.
+    fn evaluate_each<L: Ledger>(
+        &self,
+        list: &[u32],
+        next: &mut [Tri],
+        changed: &mut Vec<u32>,
+        steps: &mut Steps<L>,
+    )
+        requires input { length self.now.input.now ≡ self.now.net.now.inputs }
+        requires state { length self.now.state.now ≡ length (network_of self.now.net.now) }
+        requires falls { Falls self.now.rule (network_of self.now.net.now) self.now.input.now self.now.state.now }
+        requires inside { All (λ var. var < length (network_of self.now.net.now)) list.now }
+        requires so_far { IsRoundSoFar self.now.rule (network_of self.now.net.now) self.now.input.now self.now.state.now next.old changed.old.items }
+        requires room { length (network_of self.now.net.now) ≤ vec_capacity changed.old }
+        ensures so_far { IsRoundSoFar self.now.rule (network_of self.now.net.now) self.now.input.now self.now.state.now next.new changed.new.items }
+        ensures made { All (IsMade self.now.rule (network_of self.now.net.now) self.now.input.now self.now.state.now next.new) list.now }
+        ensures kept { (var : ℕ) → IsMade self.now.rule (network_of self.now.net.now) self.now.input.now self.now.state.now next.old var
+            → IsMade self.now.rule (network_of self.now.net.now) self.now.input.now self.now.state.now next.new var }
+        ensures room { vec_capacity changed.new ≡ vec_capacity changed.old }
+        ensures steps { steps.new ≡ steps.old + length list.now }
+    {
+        for var in list {
+            self.evaluate(*var, next, changed, steps);
+        }
+    }
+
+    // Evaluates a variable, and lists it if this changes it. It may have been evaluated in this round already.
+    fn evaluate<L: Ledger>(
+        &self,
+        var: u32,
+        next: &mut [Tri],
+        changed: &mut Vec<u32>,
+        steps: &mut Steps<L>,
+    )
+        requires input { length self.now.input.now ≡ self.now.net.now.inputs }
+        requires state { length self.now.state.now ≡ length (network_of self.now.net.now) }
+        requires falls { Falls self.now.rule (network_of self.now.net.now) self.now.input.now self.now.state.now }
+        requires var { var < length (network_of self.now.net.now) }
+        requires so_far { IsRoundSoFar self.now.rule (network_of self.now.net.now) self.now.input.now self.now.state.now next.old changed.old.items }
+        requires room { length (network_of self.now.net.now) ≤ vec_capacity changed.old }
+        ensures so_far { IsRoundSoFar self.now.rule (network_of self.now.net.now) self.now.input.now self.now.state.now next.new changed.new.items }
+        ensures made { IsMade self.now.rule (network_of self.now.net.now) self.now.input.now self.now.state.now next.new var }
+        ensures kept { (other : ℕ) → IsMade self.now.rule (network_of self.now.net.now) self.now.input.now self.now.state.now next.old other
+            → IsMade self.now.rule (network_of self.now.net.now) self.now.input.now self.now.state.now next.new other }
+        ensures room { vec_capacity changed.new ≡ vec_capacity changed.old }
+        ensures steps { steps.new ≡ steps.old + 1 }
+    {
+        let excited = self.net.excite3(self.input, self.state, var, steps);
+        let value = self.rule.next(self.state[var as usize], excited);
+        if next[var as usize] != value {
+            next[var as usize] = value;
+            changed.push_reserved(var);
+        }
+    }
+}
+
+// Takes the changed values over into the state, and notes the round at each of them.
+pub(crate) fn take_over(changed: &[u32], next: &[Tri], round: u32, state: &mut [Tri], noted: &mut [u32])
+    requires inside { All (λ var. var < length next.now) changed.now }
+    requires state { length state.old ≡ length next.now }
+    requires noted { length noted.old ≡ length next.now }
+    ensures state { state.new ≡ taken_over next.now state.old changed.now }
+    ensures noted { noted.new ≡ fold (λ noted var. slice_set noted var round) noted.old changed.now }
+{
+    for var in changed {
+        state[*var as usize] = next[*var as usize];
+        noted[*var as usize] = round;
+    }
+}
