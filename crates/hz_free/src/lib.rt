@@ -1,0 +1,2 @@
+//! The feedback-free part of a network: its order, and the words of its variables.
+#![tactic(auto)]
