@@ -1,2 +1,4 @@
 //! The feedback-free part of a network: its order, and the words of its variables.
 #![tactic(auto)]
+
+mod order;
