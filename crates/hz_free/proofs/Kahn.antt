@@ -8,30 +8,30 @@ use Rattle.hz_free.specs.Order.{occurrences, unplaced, IsOrdering}
 use Rattle.hz_free.proofs.Lists.{listed-append, listed-cases, listed-left, listed-head, listed-one, unlisted-append, repeats_none-push, unlisted-before, listed-place}
 
 -- tests of equality
-eqb-self : (a : ℕ) → eqb a a ≡ true
+pub eqb-self : (a : ℕ) → eqb a a ≡ true
 eqb-self a = eq-eqb a a refl
 
-eqb-other : (a b : ℕ) → a ≢ b → eqb a b ≡ false
+pub eqb-other : (a b : ℕ) → a ≢ b → eqb a b ≡ false
 eqb-other a b ne =
     elim (cases_Bool (eqb a b)) [
       | inl same ↦ absurd (ne (eqb-true a b same))
       | inr other ↦ other
     ]
 
-occurrences-same : (i : ℕ) (list : List ℕ) → occurrences i (i ∷ list) ≡ suc (occurrences i list)
+pub occurrences-same : (i : ℕ) (list : List ℕ) → occurrences i (i ∷ list) ≡ suc (occurrences i list)
 occurrences-same i list = rw (eqb-self i) (omega arith)
 
-occurrences-other : (i j : ℕ) (list : List ℕ) → i ≢ j → occurrences i (j ∷ list) ≡ occurrences i list
+pub occurrences-other : (i j : ℕ) (list : List ℕ) → i ≢ j → occurrences i (j ∷ list) ≡ occurrences i list
 occurrences-other i j list ne = rw (eqb-other i j ne) (omega arith)
 
 or-false-right : (a : Bool) → (a || false) ≡ a
 or-false-right true = refl
 or-false-right false = refl
 
-listed-push-other : (placed : List ℕ) (var n : ℕ) → n ≢ var → is_listed (placed ++ var ∷ []) n ≡ is_listed placed n
+pub listed-push-other : (placed : List ℕ) (var n : ℕ) → n ≢ var → is_listed (placed ++ var ∷ []) n ≡ is_listed placed n
 listed-push-other placed var n ne = listed-append placed (var ∷ []) n ∙ (rw (eqb-other n var ne) (or-false-right (is_listed placed n)))
 
-listed-push-same : (placed : List ℕ) (var : ℕ) → is_listed (placed ++ var ∷ []) var ≡ true
+pub listed-push-same : (placed : List ℕ) (var : ℕ) → is_listed (placed ++ var ∷ []) var ≡ true
 listed-push-same placed var = listed-append placed (var ∷ []) var ∙ or_right _ _ (listed-head var [])
 
 -- a number that is placed counts no more
@@ -57,7 +57,7 @@ unplaced-more readers placed var (suc n) i out few =
     ]
 
 -- nothing is unplaced, or something is
-unplaced-none : (readers : ℕ → List ℕ) (placed : List ℕ) (n i j : ℕ) → unplaced readers placed n i ≡ 0 → j < n → 1 ≤ occurrences i (readers j) → is_listed placed j ≡ true
+pub unplaced-none : (readers : ℕ → List ℕ) (placed : List ℕ) (n i j : ℕ) → unplaced readers placed n i ≡ 0 → j < n → 1 ≤ occurrences i (readers j) → is_listed placed j ≡ true
 unplaced-none readers placed zero i j none few some = absurd (omega arith)
 unplaced-none readers placed (suc n) i j none few some =
     elim (cases_eq j n) [
@@ -106,7 +106,7 @@ listed-from_take (suc n) (x ∷ xs) i there =
       | inr later ↦ or_right (eqb i x) (is_listed xs i) (listed-from_take n xs i later)
     ]
 
-at-listed : (xs : List ℕ) (at : ℕ) → at < length xs → is_listed xs (get_or xs at 0) ≡ true
+pub at-listed : (xs : List ℕ) (at : ℕ) → at < length xs → is_listed xs (get_or xs at 0) ≡ true
 at-listed [] at within = absurd (omega arith)
 at-listed (x ∷ xs) zero within = listed-head x xs
 at-listed (x ∷ xs) (suc at) within = or_right (eqb (get_or xs at 0) x) (is_listed xs (get_or xs at 0)) (at-listed xs at (omega arith))
