@@ -193,7 +193,7 @@ tell-reader readers variables place items unread order unread' order' index is f
           let same_order : order ≡ order' = sym (told.placed ∙ rw some refl) in
           let more : 1 ≤ get_or unread reader 0 - 1 = elim (cases_lt 0 (get_or unread reader 0 - 1)) [
               | inl positive ↦ omega arith
-              | inr zero_is ↦ let wrong : eqb (get_or unread reader 0 - 1) 0 ≡ true = eq-eqb (get_or unread reader 0 - 1) 0 (omega arith) in absurd (both_ways (eqb (get_or unread reader 0 - 1) 0) some wrong)
+              | inr none ↦ let wrong : eqb (get_or unread reader 0 - 1) 0 ≡ true = eq-eqb (get_or unread reader 0 - 1) 0 (omega arith) in absurd (both_ways (eqb (get_or unread reader 0 - 1) 0) some wrong)
             ] in
           rw add-one (subst (λ (list : List ℕ). IsOrdering readers variables place left list order') same_unread
             (subst (λ (list : List ℕ). IsOrdering readers variables place left (set unread reader (get_or unread reader 0 - 1)) list) same_order

@@ -1,3 +1,5 @@
 pub mod Lists
 pub mod Kahn
 pub mod Counting
+pub mod Chains
+pub mod Parts

@@ -1,3 +1,4 @@
 pub mod Chains
 pub mod VariableWords
 pub mod Order
+pub mod FreePart

@@ -1,4 +1,7 @@
 //! The feedback-free part of a network: its order, and the words of its variables.
 #![tactic(auto)]
 
+mod free;
 mod order;
+
+pub use free::Free;

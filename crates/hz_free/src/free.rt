@@ -1,0 +1,72 @@
+ghost use Rattle.std.specs.Prelude.{◌≡◌, ◌==◌, ◌<◌, ◌≤◌, ◌↔◌, ℕ, Bool, List, [], length, take, map, IfOk, IsTrue};
+ghost use Rattle.hz_core.specs.Netlist.{Netlist};
+ghost use Rattle.hz_net.specs.Network.{network_of, bit_at, IsStable};
+ghost use Rattle.hz_net.specs.Reads.{readers_of};
+ghost use Rattle.hz_free.specs.Chains.{IsFeedbackFree};
+ghost use Rattle.hz_free.specs.Order.{AreReads};
+ghost use Rattle.hz_free.specs.FreePart.{IsFreePart};
+ghost use Rattle.hz_free.specs.VariableWords.{AreCappedWords};
+
+use crate::order::{count_reads, place_all};
+use hz_core::Memory;
+use hz_net::Net;
+use std::alloc::Global;
+use std::marker::Model;
+
+/// The feedback-free part of a network: the variables from which no chain of readers leads back, from a reader to what it
+/// reads, so that one of them comes twice.
+///
+/// It is made for one network, and its calls are given that network.
+#[derive(Debug, Drop)]
+pub struct Free {
+    free: Vec<bool>,
+    order: Vec<u32>,
+}
+
+impl Model for Free {
+    ghost use Rattle.hz_free.specs.FreePart.{FreePart};
+
+    ghost Value = { FreePart };
+
+    ghost view = { λ fields. record { free = fields.free.items; order = fields.order.items } };
+}
+
+impl Free {
+    /// The feedback-free part of a network, in time linear in its variables.
+    pub fn build(alloc: Global, net: &Net) -> Result<Free, Memory>
+        ensures { IfOk result (λ free. IsFreePart net.now free) }
+    {
+        let mut unread = count_reads(alloc, net)?;
+        Free::from_reads(alloc, net, unread.as_mut_slice())
+    }
+
+    // The same, given for each variable how many variables it reads.
+    fn from_reads(alloc: Global, net: &Net, unread: &mut [u32]) -> Result<Free, Memory>
+        requires { AreReads (readers_of net.now) (length (network_of net.now)) (length (network_of net.now)) [] unread.old }
+        ensures { IfOk result (λ free. IsFreePart net.now free) }
+    {
+        let _variables = net.len();
+        let order = place_all(alloc, net, unread)?;
+        let free = marks(alloc, unread)?;
+        Ok(Free { free, order })
+    }
+
+    /// Whether a variable is feedback-free.
+    pub fn is_free(&self, var: u32) -> bool
+        requires { var < length self.now.free }
+        ensures value { result ≡ bit_at self.now.free var }
+        ensures exact { (netlist : Netlist) → IsFreePart netlist self.now → IsTrue result ↔ IsFeedbackFree (network_of netlist) var }
+    {
+        self.free[var as usize]
+    }
+}
+
+// The variables that read nothing that is not in the order.
+fn marks(alloc: Global, unread: &[u32]) -> Result<Vec<bool>, Memory>
+    ensures { IfOk result (λ free. free.items ≡ map (λ reads. reads == 0) unread.now) }
+{
+    match unread.iter().map(|reads| *reads == 0).collect(alloc) {
+        Ok(free) => Ok(free),
+        Err(_) => Err(Memory),
+    }
+}
