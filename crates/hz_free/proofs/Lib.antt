@@ -3,3 +3,4 @@ pub mod Kahn
 pub mod Counting
 pub mod Chains
 pub mod Parts
+pub mod Gathered

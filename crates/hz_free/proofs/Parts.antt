@@ -122,6 +122,7 @@ module _ (netlist : Netlist) (circuit : IsCircuit netlist) (unread order : List 
         long = long;
         exact = λ i few. (λ marked. order-free i (marks i few ∙ marked), λ is_free. sym (marks i few) ∙ free-order i few is_free);
         listed = marks;
+        once = is.once;
         inside = is.inside;
         after = after-reads
       }

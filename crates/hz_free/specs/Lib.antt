@@ -2,3 +2,4 @@ pub mod Chains
 pub mod VariableWords
 pub mod Order
 pub mod FreePart
+pub mod Told

@@ -3,5 +3,6 @@
 
 mod free;
 mod order;
+mod words;
 
 pub use free::Free;
