@@ -65,32 +65,34 @@ reads-inside net i j wired reads = reads-inside-by (driver_at net i) refl reads
 
 -- a chain that never comes to an end comes to a variable twice
 module _ (net : List Driver) (Goes : ℕ → Type 0) (inside : (i : ℕ) → Goes i → i < length net) (on : (i : ℕ) → Goes i → (j : ℕ) × Reads (driver_at net i) j × Goes j) where
-
   long-chain : (n : ℕ) (i : ℕ) → Goes i → (chain : List ℕ) × IsChain net i chain × (length chain ≡ n) × ((j : ℕ) → is_listed chain j ≡ true → j < length net)
   long-chain zero i goes = ([], tt, refl, λ j there. absurd (both_ways false refl there))
   long-chain (suc n) i goes =
       let next = on i goes in
-      let rest = long-chain n next.0 next.2 in
-      (next.0 ∷ rest.0, (next.1, rest.1), ap suc rest.2, λ j there.
-        elim (or_cases (eqb j next.0) (is_listed rest.0 j) there) [
-          | inl same ↦ subst (λ (m : ℕ). m < length net) (sym (eqb-true j next.0 same)) (inside next.0 next.2)
-          | inr later ↦ rest.3 j later
-        ])
+      let rest = long-chain n next.0 next.2 in (
+        next.0 ∷ rest.0,
+        (next.1, rest.1),
+        ap suc rest.2,
+        λ j there.
+            elim (or_cases (eqb j next.0) (is_listed rest.0 j) there) [
+              | inl same ↦ subst (λ (m : ℕ). m < length net) (sym (eqb-true j next.0 same)) (inside next.0 next.2)
+              | inr later ↦ rest.3 j later
+            ],
+      )
 
   pub not-free : (i : ℕ) → Goes i → IsFeedbackFree net i → ⊥
   not-free i goes free =
       let long = long-chain (length net) i goes in
       let bound = repeats_none-bound (i ∷ long.0) (length net) (free long.0 long.1) (λ j there.
-          elim (or_cases (eqb j i) (is_listed long.0 j) there) [
-            | inl same ↦ subst (λ (m : ℕ). m < length net) (sym (eqb-true j i same)) (inside i goes)
-            | inr later ↦ long.3 j later
-          ]) in
+      elim (or_cases (eqb j i) (is_listed long.0 j) there) [
+        | inl same ↦ subst (λ (m : ℕ). m < length net) (sym (eqb-true j i same)) (inside i goes)
+        | inr later ↦ long.3 j later
+      ]) in
       let e = long.2 in
       omega arith
 
 -- what holds of a feedback-free variable, if it holds of one whenever it holds of all that it reads
 module _ (net : List Driver) (wired : IsWired net) (P : ℕ → Type 0) (step : (i : ℕ) → i < length net → IsFeedbackFree net i → ((j : ℕ) → Reads (driver_at net i) j → P j) → P i) where
-
   -- chains from a variable of at most so many variables
   IsShort : ℕ → ℕ → Type 0
   IsShort n i = (chain : List ℕ) → IsChain net i chain → length chain ≤ n
@@ -120,10 +122,10 @@ module _ (net : List Driver) (wired : IsWired net) (P : ℕ → Type 0) (step : 
   unfolding IsShort
   free-short i few free chain is_chain =
       let bound = repeats_none-bound (i ∷ chain) (length net) (free chain is_chain) (λ j there.
-          elim (or_cases (eqb j i) (is_listed chain j) there) [
-            | inl same ↦ subst (λ (m : ℕ). m < length net) (sym (eqb-true j i same)) few
-            | inr later ↦ chain-inside i chain j is_chain later
-          ]) in
+      elim (or_cases (eqb j i) (is_listed chain j) there) [
+        | inl same ↦ subst (λ (m : ℕ). m < length net) (sym (eqb-true j i same)) few
+        | inr later ↦ chain-inside i chain j is_chain later
+      ]) in
       omega arith
 
   pub free-induction : (i : ℕ) → i < length net → IsFeedbackFree net i → P i

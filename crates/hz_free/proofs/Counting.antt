@@ -35,8 +35,8 @@ readers_from-once i first node (wire ∷ wires) =
             | inl e ↦
                 let none = readers_from-above i (suc first) node wires (omega arith) in
                 let same : occurrences i (first ∷ readers_from (suc first) wires node) ≡ suc (occurrences i (readers_from (suc first) wires node)) =
-                    subst (λ (j : ℕ). occurrences i (j ∷ readers_from (suc first) wires node) ≡ suc (occurrences i (readers_from (suc first) wires node))) e
-                    (occurrences-same i (readers_from (suc first) wires node)) in
+                subst (λ (j : ℕ). occurrences i (j ∷ readers_from (suc first) wires node) ≡ suc (occurrences i (readers_from (suc first) wires node))) e
+                (occurrences-same i (readers_from (suc first) wires node)) in
                 rw is_from (omega arith)
             | inr ne ↦
                 let other = occurrences-other i first (readers_from (suc first) wires node) ne in
@@ -71,17 +71,16 @@ unplaced-bound readers placed (suc n) i one =
     ]
 
 module _ (readers : ℕ → List ℕ) (variables : ℕ) (unread : List ℕ) where
-
   pub begin-counting : (var : ℕ) → AreReads readers variables var [] unread → AreReads readers variables (var + 1) (readers var) unread
   begin-counting var are = record {
-      long = are.long;
-      counted = λ i few. let counted = are.counted i few in rw (add-one) (omega arith)
-    }
+    long = are.long;
+    counted = λ i few. let counted = are.counted i few in rw (add-one) (omega arith);
+  }
 
   pub count-reader : (below reader : ℕ) (left : List ℕ) → AreReads readers variables below (reader ∷ left) unread → reader < variables → AreReads readers variables below left (set unread reader (get_or unread reader 0 + 1))
   count-reader below reader left are within = record {
-      long = length-set unread reader (get_or unread reader 0 + 1) ∙ are.long;
-      counted = λ i few.
+    long = length-set unread reader (get_or unread reader 0 + 1) ∙ are.long;
+    counted = λ i few.
         let counted = are.counted i few in
         let long = are.long in
         elim (cases_eq i reader) [
@@ -93,8 +92,8 @@ module _ (readers : ℕ → List ℕ) (variables : ℕ) (unread : List ℕ) wher
           | inr ne ↦
               let other = occurrences-other i reader left ne in
               rw get_or-set_other (omega arith)
-        ]
-    }
+        ];
+  }
 
   pub count-bound : (below reader : ℕ) (left : List ℕ) → AreReads readers variables below (reader ∷ left) unread → reader < variables → ((j : ℕ) → occurrences reader (readers j) ≤ 1) → get_or unread reader 0 + 1 ≤ below
   count-bound below reader left are within one =
@@ -107,56 +106,56 @@ module _ (readers : ℕ → List ℕ) (variables : ℕ) (unread : List ℕ) wher
   pub first-more : (below : ℕ) (order : List ℕ) → AreFirst below unread order → get_or unread below 0 ≡ 0 → AreFirst (below + 1) unread (order ++ below ∷ [])
   first-more below order are none =
       let out : is_listed order below ≡ false =
-          elim (cases_Bool (is_listed order below)) [
-            | inl there ↦ let wrong = are.inside below there in absurd (omega arith)
-            | inr out ↦ out
-          ] in
+      elim (cases_Bool (is_listed order below)) [
+        | inl there ↦ let wrong = are.inside below there in absurd (omega arith)
+        | inr out ↦ out
+      ] in
       record {
         listed = λ i few.
-          elim (cases_eq i below) [
-            | inl e ↦ rw e (listed-push-same order below ∙ sym (eq-eqb (get_or unread below 0) 0 none))
-            | inr ne ↦ listed-push-other order below i ne ∙ are.listed i (omega arith)
-          ];
+            elim (cases_eq i below) [
+              | inl e ↦ rw e (listed-push-same order below ∙ sym (eq-eqb (get_or unread below 0) 0 none))
+              | inr ne ↦ listed-push-other order below i ne ∙ are.listed i (omega arith)
+            ];
         inside = λ i there.
-          elim (listed-cases order (below ∷ []) i there) [
-            | inl earlier ↦ let few = are.inside i earlier in omega arith
-            | inr here ↦ let same = listed-one i below here in omega arith
-          ];
-        once = repeats_none-push order below are.once out
+            elim (listed-cases order (below ∷ []) i there) [
+              | inl earlier ↦ let few = are.inside i earlier in omega arith
+              | inr here ↦ let same = listed-one i below here in omega arith
+            ];
+        once = repeats_none-push order below are.once out;
       }
 
   pub first-same : (below : ℕ) (order : List ℕ) → AreFirst below unread order → get_or unread below 0 ≢ 0 → AreFirst (below + 1) unread order
   first-same below order are some =
       let out : is_listed order below ≡ false =
-          elim (cases_Bool (is_listed order below)) [
-            | inl there ↦ let wrong = are.inside below there in absurd (omega arith)
-            | inr out ↦ out
-          ] in
+      elim (cases_Bool (is_listed order below)) [
+        | inl there ↦ let wrong = are.inside below there in absurd (omega arith)
+        | inr out ↦ out
+      ] in
       record {
         listed = λ i few.
-          elim (cases_eq i below) [
-            | inl e ↦ rw e (out ∙ sym (eqb-other (get_or unread below 0) 0 some))
-            | inr ne ↦ are.listed i (omega arith)
-          ];
+            elim (cases_eq i below) [
+              | inl e ↦ rw e (out ∙ sym (eqb-other (get_or unread below 0) 0 some))
+              | inr ne ↦ are.listed i (omega arith)
+            ];
         inside = λ i there. let few = are.inside i there in omega arith;
-        once = are.once
+        once = are.once;
       }
 
   pub first-ordering : (order : List ℕ) → AreReads readers variables variables [] unread → AreFirst variables unread order → IsOrdering readers variables 0 [] unread order
   first-ordering order are first = record {
-      long = are.long;
-      counted = λ i few. let counted = are.counted i few in omega arith;
-      listed = first.listed;
-      once = first.once;
-      inside = first.inside;
-      after = λ at j few few_j read.
+    long = are.long;
+    counted = λ i few. let counted = are.counted i few in omega arith;
+    listed = first.listed;
+    once = first.once;
+    inside = first.inside;
+    after = λ at j few few_j read.
         let there = at-listed order at few in
         let inside = first.inside (get_or order at 0) there in
         let none = eqb-true (get_or unread (get_or order at 0) 0) 0 (sym (first.listed (get_or order at 0) inside) ∙ there) in
         let counted = are.counted (get_or order at 0) inside in
         absurd (both_ways false refl (unplaced-none readers [] variables (get_or order at 0) j (omega arith) few_j read));
-      within = omega arith
-    }
+    within = omega arith;
+  }
 
 -- an element that is there does not depend on the default
 pub at-default : (xs : List ℕ) (i d : ℕ) → i < length xs → get_or xs i d ≡ get_or xs i 0
@@ -187,17 +186,17 @@ tell-reader readers variables place items unread order unread' order' index is f
       | inl none ↦
           let same_order : order ++ reader ∷ [] ≡ order' = sym (told.placed ∙ rw none refl) in
           rw add-one (subst (λ (list : List ℕ). IsOrdering readers variables place left list order') same_unread
-            (subst (λ (list : List ℕ). IsOrdering readers variables place left (set unread reader (get_or unread reader 0 - 1)) list) same_order
-              (told-placed readers variables place reader left unread order now inside (eqb-true (get_or unread reader 0 - 1) 0 none))))
+          (subst (λ (list : List ℕ). IsOrdering readers variables place left (set unread reader (get_or unread reader 0 - 1)) list) same_order
+          (told-placed readers variables place reader left unread order now inside (eqb-true (get_or unread reader 0 - 1) 0 none))))
       | inr some ↦
           let same_order : order ≡ order' = sym (told.placed ∙ rw some refl) in
           let more : 1 ≤ get_or unread reader 0 - 1 = elim (cases_lt 0 (get_or unread reader 0 - 1)) [
-              | inl positive ↦ omega arith
-              | inr none ↦ let wrong : eqb (get_or unread reader 0 - 1) 0 ≡ true = eq-eqb (get_or unread reader 0 - 1) 0 (omega arith) in absurd (both_ways (eqb (get_or unread reader 0 - 1) 0) some wrong)
-            ] in
+            | inl positive ↦ omega arith
+            | inr none ↦ let wrong : eqb (get_or unread reader 0 - 1) 0 ≡ true = eq-eqb (get_or unread reader 0 - 1) 0 (omega arith) in absurd (both_ways (eqb (get_or unread reader 0 - 1) 0) some wrong)
+          ] in
           rw add-one (subst (λ (list : List ℕ). IsOrdering readers variables place left list order') same_unread
-            (subst (λ (list : List ℕ). IsOrdering readers variables place left (set unread reader (get_or unread reader 0 - 1)) list) same_order
-              (told-waits readers variables place reader left unread order now inside more)))
+          (subst (λ (list : List ℕ). IsOrdering readers variables place left (set unread reader (get_or unread reader 0 - 1)) list) same_order
+          (told-waits readers variables place reader left unread order now inside more)))
     ]
 
 pub tell-bound : (readers : ℕ → List ℕ) (variables place : ℕ) (items unread order : List ℕ) (index : ℕ) → IsOrdering readers variables place (drop index items) unread order → index < length items → get_or items index 0 < variables → 1 ≤ get_or unread (get_or items index 0) 0

@@ -115,7 +115,6 @@ zero-test : (n : ℕ) → (eqb n 0 ≡ true) → n ≡ 0
 zero-test n e = eqb-true n 0 e
 
 module _ (readers : ℕ → List ℕ) (variables place : ℕ) (unread order : List ℕ) where
-
   -- the readers of the next variable are to be told
   pub begin-telling : IsOrdering readers variables place [] unread order → place < length order → IsOrdering readers variables (place + 1) (readers (get_or order place 0)) unread order
   begin-telling is few =
@@ -124,18 +123,17 @@ module _ (readers : ℕ → List ℕ) (variables place : ℕ) (unread order : Li
       record {
         long = is.long;
         counted = λ i within.
-          let counted = is.counted i within in
-          let more = unplaced-more readers (take place order) (get_or order place 0) variables i out inside in
-          rw (add-one, take-suc order place 0 few) (omega arith);
+            let counted = is.counted i within in
+            let more = unplaced-more readers (take place order) (get_or order place 0) variables i out inside in
+            rw (add-one, take-suc order place 0 few) (omega arith);
         listed = is.listed;
         once = is.once;
         inside = is.inside;
         after = is.after;
-        within = omega arith
+        within = omega arith;
       }
 
 module _ (readers : ℕ → List ℕ) (variables place reader : ℕ) (left unread order : List ℕ) (is : IsOrdering readers variables place (reader ∷ left) unread order) (within_reader : reader < variables) where
-
   -- a reader that is told has something to be told
   pub unread-reader : 1 ≤ get_or unread reader 0
   unread-reader =
@@ -163,9 +161,9 @@ module _ (readers : ℕ → List ℕ) (variables place reader : ℕ) (left unrea
   -- it still reads something that was not told
   pub told-waits : 1 ≤ get_or unread reader 0 - 1 → IsOrdering readers variables place left (set unread reader (get_or unread reader 0 - 1)) order
   told-waits waits = record {
-      long = length-set unread reader (get_or unread reader 0 - 1) ∙ is.long;
-      counted = counted-told;
-      listed = λ i within.
+    long = length-set unread reader (get_or unread reader 0 - 1) ∙ is.long;
+    counted = counted-told;
+    listed = λ i within.
         elim (cases_eq i reader) [
           | inl e ↦
               let inside : reader < length unread = inside_unread in
@@ -175,11 +173,11 @@ module _ (readers : ℕ → List ℕ) (variables place reader : ℕ) (left unrea
               rw e (rw get_or-set_same (before ∙ (some ∙ sym some')))
           | inr ne ↦ rw get_or-set_other (is.listed i within)
         ];
-      once = is.once;
-      inside = is.inside;
-      after = is.after;
-      within = is.within
-    }
+    once = is.once;
+    inside = is.inside;
+    after = is.after;
+    within = is.within;
+  }
 
   -- all that it reads was told: it is placed
   pub told-placed : get_or unread reader 0 - 1 ≡ 0 → IsOrdering readers variables place left (set unread reader (get_or unread reader 0 - 1)) (order ++ reader ∷ [])
@@ -192,20 +190,20 @@ module _ (readers : ℕ → List ℕ) (variables place reader : ℕ) (left unrea
         long = length-set unread reader (get_or unread reader 0 - 1) ∙ is.long;
         counted = λ i few. rw front (counted-told i few);
         listed = λ i few.
-          elim (cases_eq i reader) [
-            | inl e ↦
-                let inside : reader < length unread = inside_unread in
-                rw e (rw get_or-set_same (listed-push-same order reader ∙ sym (eq-eqb (get_or unread reader 0 - 1) 0 none)))
-            | inr ne ↦ rw get_or-set_other (listed-push-other order reader i ne ∙ is.listed i few)
-          ];
+            elim (cases_eq i reader) [
+              | inl e ↦
+                  let inside : reader < length unread = inside_unread in
+                  rw e (rw get_or-set_same (listed-push-same order reader ∙ sym (eq-eqb (get_or unread reader 0 - 1) 0 none)))
+              | inr ne ↦ rw get_or-set_other (listed-push-other order reader i ne ∙ is.listed i few)
+            ];
         once = repeats_none-push order reader is.once before;
         inside = λ i there.
-          elim (listed-cases order (reader ∷ []) i there) [
-            | inl earlier ↦ is.inside i earlier
-            | inr here ↦ let same = listed-one i reader here in omega arith
-          ];
+            elim (listed-cases order (reader ∷ []) i there) [
+              | inl earlier ↦ is.inside i earlier
+              | inr here ↦ let same = listed-one i reader here in omega arith
+            ];
         after = λ at j few few_j read. placed-after at j few few_j read;
-        within = let long = length-push order reader in omega arith
+        within = let long = length-push order reader in omega arith;
       }
     where
       placed-after : (at j : ℕ) → at < length (order ++ reader ∷ []) → j < variables → 1 ≤ occurrences (get_or (order ++ reader ∷ []) at 0) (readers j) → is_listed (take at (order ++ reader ∷ [])) j ≡ true
@@ -225,5 +223,5 @@ module _ (readers : ℕ → List ℕ) (variables place reader : ℕ) (left unrea
                 let all : unplaced readers (take place order) variables reader ≡ 0 = omega arith in
                 rw front
                 (listed-from_take place order j
-                  (unplaced-none readers (take place order) variables reader j all few_j (subst (λ (i : ℕ). 1 ≤ occurrences i (readers j)) same read)))
+                (unplaced-none readers (take place order) variables reader j all few_j (subst (λ (i : ℕ). 1 ≤ occurrences i (readers j)) same read)))
           ]

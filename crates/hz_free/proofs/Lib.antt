@@ -4,3 +4,4 @@ pub mod Counting
 pub mod Chains
 pub mod Parts
 pub mod Gathered
+pub mod NextWord

@@ -19,7 +19,7 @@ pub listed-head : (x : ℕ) (xs : List ℕ) → is_listed (x ∷ xs) x ≡ true
 listed-head x xs = or_left (eqb x x) (is_listed xs x) (eq-eqb x x refl)
 
 pub listed-one : (i x : ℕ) → is_listed (x ∷ []) i ≡ true → i ≡ x
-listed-one i x there = elim (or_cases _ _ there) [ | inl same ↦ eqb-true i x same | inr wrong ↦ absurd (both_ways false refl wrong) ]
+listed-one i x there = elim (or_cases _ _ there) [ inl same ↦ eqb-true i x same | inr wrong ↦ absurd (both_ways false refl wrong) ]
 
 pub unlisted-append : (xs ys : List ℕ) (i : ℕ) → is_listed xs i ≡ false → is_listed ys i ≡ false → is_listed (xs ++ ys) i ≡ false
 unlisted-append xs ys i left right = listed-append xs ys i ∙ or_from _ _ left right

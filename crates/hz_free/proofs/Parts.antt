@@ -40,7 +40,6 @@ occurrences-at (j ∷ list) (suc k) i few at =
     ]
 
 module _ (netlist : Netlist) (circuit : IsCircuit netlist) (unread order : List ℕ) (is : IsOrdering (readers_of netlist) (length (network_of netlist)) (length order) [] unread order) where
-
   net : List Driver
   net = network_of netlist
 
@@ -89,12 +88,12 @@ module _ (netlist : Netlist) (circuit : IsCircuit netlist) (unread order : List 
   left-on i left =
       let counted = is.counted i left.0 in
       let some : 1 ≤ get_or unread i 0 =
-          elim (cases_lt 0 (get_or unread i 0)) [
-            | inl positive ↦ omega arith
-            | inr none ↦
-                let nothing : eqb (get_or unread i 0) 0 ≡ true = eq-eqb (get_or unread i 0) 0 (omega arith) in
-                absurd (both_ways (is_listed order i) left.1 (is.listed i left.0 ∙ nothing))
-          ] in
+      elim (cases_lt 0 (get_or unread i 0)) [
+        | inl positive ↦ omega arith
+        | inr none ↦
+            let nothing : eqb (get_or unread i 0) 0 ≡ true = eq-eqb (get_or unread i 0) 0 (omega arith) in
+            absurd (both_ways (is_listed order i) left.1 (is.listed i left.0 ∙ nothing))
+      ] in
       let found = unplaced-some (readers_of netlist) (take (length order) order) (length (network_of netlist)) i (omega arith) in
       (found.var, occurrences-reads i found.var found.below found.read, (found.below, subst (λ (list : List ℕ). is_listed list found.var ≡ false) all found.out))
 
@@ -115,14 +114,14 @@ module _ (netlist : Netlist) (circuit : IsCircuit netlist) (unread order : List 
   free-IsFreePart free same =
       let long : length free ≡ length (network_of netlist) = ap length same ∙ (length-map unread (λ n. eqb n 0) ∙ is.long) in
       let marks : (i : ℕ) → i < length (network_of netlist) → is_listed order i ≡ get_or free i false =
-          λ i few.
-            let unread_long = is.long in
-            is.listed i few ∙ sym (ap (λ marks. get_or marks i false) same ∙ get_or-map (λ n. eqb n 0) unread i 0 false (omega arith)) in
+      λ i few.
+      let unread_long = is.long in
+      is.listed i few ∙ sym (ap (λ marks. get_or marks i false) same ∙ get_or-map (λ n. eqb n 0) unread i 0 false (omega arith)) in
       record {
         long = long;
         exact = λ i few. (λ marked. order-free i (marks i few ∙ marked), λ is_free. sym (marks i few) ∙ free-order i few is_free);
         listed = marks;
         once = is.once;
         inside = is.inside;
-        after = after-reads
+        after = after-reads;
       }

@@ -4,6 +4,7 @@ use Rattle.hz_core.specs.declared.kind.Kind.{Kind}
 use Rattle.hz_core.specs.Gate.{takes}
 use Rattle.hz_core.specs.Netlist.{Netlist, IsGateNumber, gate_at}
 use Rattle.hz_net.specs.Network.{Driver, External, Function, Source, network_of, driver_at}
+use Rattle.hz_net.specs.Reads.{Reads}
 use Rattle.hz_net.specs.Variables.{first_wire}
 use Rattle.hz_net.specs.declared.variable.VarKind.{VarKind}
 use Rattle.hz_net.specs.declared.variable.VarKind.TheVariants.{Input, Gate as GateVariable, Wire as WireVariable}
@@ -34,11 +35,18 @@ pub record AreToldWords (net : List Driver) (input start : List Bool) (cap : ℕ
   pub tells : (i : ℕ) → IsTrue (is_listed placed i) → slice_index_or told i None ≡ Some (capped cap (slice_index_or words i []))
   pub others : (i : ℕ) → is_listed placed i ≡ false → slice_index_or told i None ≡ None
 
--- for the words that the placed variables have, the next variable has this word
-abbrev pub IsNextWord : List Driver → List Bool → List Bool → ℕ → List ℕ → List (Option Word) → ℕ → Word → Type 0
-IsNextWord net input start cap placed told var outcome =
-    (words : List (List Bool)) → AreToldWords net input start cap placed told words →
-    (word : List Bool) × IsWord word × IsDrivenWord input start words var (driver_at net var) word × (capped cap word ≡ outcome)
+-- all variables that a variable reads are placed, and the placed variables have their words
+pub record IsReady (net : List Driver) (input start : List Bool) (cap : ℕ) (told : List (Option Word)) (var : ℕ) : Type 0 where
+  pub placed : List ℕ
+  pub words : List (List Bool)
+  pub are_told : AreToldWords net input start cap placed told words
+  pub reads : (j : ℕ) → Reads (driver_at net var) j → IsTrue (is_listed placed j)
+
+-- for all words that the placed variables have, among which are those that a variable reads, it has this word
+abbrev pub IsNextWord : List Driver → List Bool → List Bool → ℕ → List (Option Word) → ℕ → Word → Type 0
+IsNextWord net input start cap told var outcome =
+    (ready : IsReady net input start cap told var) →
+    (word : List Bool) × IsWord word × IsDrivenWord input start ready.words var (driver_at net var) word × (capped cap word ≡ outcome)
 
 -- a wire has a word, and its number is counted
 abbrev pub HasCounted : ℕ → Option Word → Type 0

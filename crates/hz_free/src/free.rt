@@ -5,7 +5,7 @@ ghost use Rattle.hz_net.specs.Reads.{readers_of};
 ghost use Rattle.hz_free.specs.Chains.{IsFeedbackFree};
 ghost use Rattle.hz_free.specs.Order.{AreReads};
 ghost use Rattle.hz_free.specs.FreePart.{IsFreePart};
-ghost use Rattle.hz_free.specs.Told.{AreToldWords, IsNextWord};
+ghost use Rattle.hz_free.specs.Told.{IsReady, IsNextWord};
 ghost use Rattle.hz_free.specs.VariableWords.{AreCappedWords};
 
 use crate::order::{count_reads, place_all};
@@ -64,7 +64,14 @@ impl Free {
     }
 
     /// Writes the capped word of each feedback-free variable, from a start under a new input, and None for the others.
-    pub fn words(&self, net: &Net, start: &[bool], input: &[bool], cap: u64, out: &mut [Option<Word>])
+    pub fn words(
+        &self,
+        net: &Net,
+        start: &[bool],
+        input: &[bool],
+        cap: u64,
+        out: &mut [Option<Word>],
+    )
         requires part { IsFreePart net.now self.now }
         requires start { length start.now ≡ length (network_of net.now) }
         requires stable { IsStable (network_of net.now) (take net.now.inputs start.now) start.now }
@@ -75,34 +82,50 @@ impl Free {
         ensures { AreCappedWords (network_of net.now) input.now start.now cap out.new }
     {
         out.fill(None);
-        let mut pins = [Word { first: false, changes: Count::Exact(0) }; MAX_PINS];
+        let mut pins = [Word {
+            first: false,
+            changes: Count::Exact(0),
+        }; MAX_PINS];
         for place in 0..self.order.len() {
-            let word = self.word_at(net, start, input, cap, out, &mut pins, place);
-            out[self.order[place] as usize] = Some(word);
+            let var = self.order[place];
+            let word = word_of(net, start, input, cap, out, &mut pins, var);
+            out[var as usize] = Some(word);
         }
     }
+}
 
-    // The word of the variable at a place of the order, once all variables before it have one.
-    fn word_at(&self, net: &Net, start: &[bool], input: &[bool], cap: u64, out: &[Option<Word>], pins: &mut [Word], place: usize) -> Word
-        requires part { IsFreePart net.now self.now }
-        requires start { length start.now ≡ length (network_of net.now) }
-        requires input { length input.now ≡ net.now.inputs }
-        requires cap_low { 1 ≤ cap }
-        requires cap_high { cap ≤ 1000000 }
-        requires room { 256 ≤ length pins.old }
-        requires place { place < length self.now.order }
-        requires told { (words : List (List Bool)) × AreToldWords (network_of net.now) input.now start.now cap (take place self.now.order) out.now words }
-        ensures { IsNextWord (network_of net.now) input.now start.now cap (take place self.now.order) out.now (slice_index self.now.order place) result }
-    {
-        let var = self.order[place];
-        match net.kind_of(var) {
-            VarKind::Input { number } => input_word(start[var as usize], input[number as usize]),
-            VarKind::Gate { kind } => {
-                let (first, count) = net.wires_in(var);
-                gate_word(kind, &out[first as usize..(first + count) as usize], cap, pins)
-            }
-            VarKind::Wire { source, .. } => out[source as usize].unwrap(),
+// The word of a variable, once all that it reads have one.
+fn word_of(
+    net: &Net,
+    start: &[bool],
+    input: &[bool],
+    cap: u64,
+    out: &[Option<Word>],
+    pins: &mut [Word],
+    var: u32,
+) -> Word
+    requires var { var < length (network_of net.now) }
+    requires start { length start.now ≡ length (network_of net.now) }
+    requires input { length input.now ≡ net.now.inputs }
+    requires cap_low { 1 ≤ cap }
+    requires cap_high { cap ≤ 1000000 }
+    requires room { 256 ≤ length pins.old }
+    requires ready { IsReady (network_of net.now) input.now start.now cap out.now var }
+    ensures { IsNextWord (network_of net.now) input.now start.now cap out.now var result }
+{
+    let _variables = net.len();
+    match net.kind_of(var) {
+        VarKind::Input { number } => input_word(start[var as usize], input[number as usize]),
+        VarKind::Gate { kind } => {
+            let (first, count) = net.wires_in(var);
+            gate_word(
+                kind,
+                &out[first as usize..(first + count) as usize],
+                cap,
+                pins,
+            )
         }
+        VarKind::Wire { source, .. } => out[source as usize].unwrap(),
     }
 }
 
