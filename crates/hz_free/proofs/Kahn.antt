@@ -97,7 +97,7 @@ pub length-push : (xs : List ℕ) (x : ℕ) → length (xs ++ x ∷ []) ≡ suc 
 length-push [] x = refl
 length-push (y ∷ xs) x = ap suc (length-push xs x)
 
-listed-from_take : (n : ℕ) (xs : List ℕ) (i : ℕ) → is_listed (take n xs) i ≡ true → is_listed xs i ≡ true
+pub listed-from_take : (n : ℕ) (xs : List ℕ) (i : ℕ) → is_listed (take n xs) i ≡ true → is_listed xs i ≡ true
 listed-from_take zero xs i there = absurd (both_ways false refl there)
 listed-from_take (suc n) [] i there = absurd (both_ways false refl there)
 listed-from_take (suc n) (x ∷ xs) i there =

@@ -5,3 +5,4 @@ pub mod Chains
 pub mod Parts
 pub mod Gathered
 pub mod NextWord
+pub mod AllWords
