@@ -1,6 +1,7 @@
 -- The words one after the other: one more, and all.
-use Rattle.std.proofs.Common.{◌≡◌, ℕ, zero, suc, ◌+◌, ◌-◌, ◌<◌, ◌≤◌, ◌≢◌, Bool, true, false, List, [], ◌∷◌, ◌++◌, length, take, get_or, set, Option, Some, None, IsTrue, slice_get, refl, sym, ap, ◌∙◌, subst, arith, inl, inr, add-one, get_or-set_same, get_or-set_other, length-set}
+use Rattle.std.proofs.Common.{◌≡◌, ℕ, zero, suc, ◌+◌, ◌-◌, ◌<◌, ◌≤◌, ◌≢◌, Bool, true, false, List, [], ◌∷◌, ◌++◌, length, take, get_or, set, replicate, Option, Some, None, IsTrue, slice_get, refl, sym, ap, ◌∙◌, subst, arith, inl, inr, add-one, get_or-set_same, get_or-set_other, length-set}
 use Rattle.std.proofs.lemmas.Bool.{cases_Bool, cases_eq, both_ways, cases_lt}
+use Rattle.std.proofs.lemmas.List.{length-replicate}
 use Rattle.std.proofs.lemmas.Option.{slice_get-get_or}
 use Rattle.std.proofs.Math.Seq.{take-suc, take-length}
 use Rattle.hz_core.specs.Netlist.{Netlist, IsCircuit}
@@ -142,3 +143,24 @@ module _ (netlist : Netlist) (input start : List Bool) (cap : ℕ) (part : FreeP
             | inr out ↦ out
             | inl there ↦ absurd (not_free ((is.exact i few).0 (sym (is.listed i few) ∙ there)))
           ]
+
+-- none yet
+pub no-words : (netlist : Netlist) (input start : List Bool) (cap : ℕ) (told : List (Option Word)) → length told ≡ length (network_of netlist) → ((i : ℕ) → get_or told i None ≡ None) → (words : List (List Bool)) × AreToldWords (network_of netlist) input start cap [] told words
+no-words netlist input start cap told long none = (replicate (length (network_of netlist)) [], record {
+    long = length-replicate (length (network_of netlist)) [];
+    told_long = long;
+    is_word = λ i there. absurd (both_ways false refl there);
+    driven = λ i there. absurd (both_ways false refl there);
+    tells = λ i there. absurd (both_ways false refl there);
+    others = λ i out. none i
+  })
+
+-- the next one, as the loop has it
+pub next-words : (netlist : Netlist) (input start : List Bool) (cap : ℕ) (part : FreePart) → IsFreePart netlist part → (place : ℕ) → place < length part.order → (told : List (Option Word)) → (words : List (List Bool)) × AreToldWords (network_of netlist) input start cap (take place part.order) told words → (var : ℕ) → var ≡ get_or part.order place 0 → (outcome : Word) → IsNextWord (network_of netlist) input start cap told var outcome → (words : List (List Bool)) × AreToldWords (network_of netlist) input start cap (take (place + 1) part.order) (set told var (Some outcome)) words
+unfolding ready-words
+next-words netlist input start cap part is place few told (words, are) var at outcome is_next =
+    let next = subst (λ (i : ℕ). IsNextWord (network_of netlist) input start cap told i outcome) at is_next (ready-words netlist input start cap part is place few told words are) in
+    (set words (get_or part.order place 0) next.0,
+     subst (λ (i : ℕ). AreToldWords (network_of netlist) input start cap (take (place + 1) part.order) (set told i (Some outcome)) (set words (get_or part.order place 0) next.0)) (sym at)
+     (subst (λ (word : Word). AreToldWords (network_of netlist) input start cap (take (place + 1) part.order) (set told (get_or part.order place 0) (Some word)) (set words (get_or part.order place 0) next.0)) next.3
+      (one-more netlist input start cap part is place few told words are next.0 next.1 next.2)))

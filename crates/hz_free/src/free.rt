@@ -1,4 +1,4 @@
-ghost use Rattle.std.specs.Prelude.{◌≡◌, ◌==◌, ◌<◌, ◌≤◌, ◌↔◌, ℕ, Bool, List, [], length, take, map, IfOk, IsTrue, slice_index};
+ghost use Rattle.std.specs.Prelude.{◌≡◌, ◌==◌, ◌<◌, ◌≤◌, ◌↔◌, ℕ, Bool, List, [], length, take, map, IfOk, IsTrue, None, slice_index_or};
 ghost use Rattle.hz_core.specs.Netlist.{Netlist};
 ghost use Rattle.hz_net.specs.Network.{network_of, bit_at, IsStable};
 ghost use Rattle.hz_net.specs.Reads.{readers_of};
@@ -81,16 +81,47 @@ impl Free {
         requires out { length out.old ≡ length (network_of net.now) }
         ensures { AreCappedWords (network_of net.now) input.now start.now cap out.new }
     {
-        out.fill(None);
-        let mut pins = [Word {
-            first: false,
-            changes: Count::Exact(0),
-        }; MAX_PINS];
-        for place in 0..self.order.len() {
-            let var = self.order[place];
-            let word = word_of(net, start, input, cap, out, &mut pins, var);
-            out[var as usize] = Some(word);
-        }
+        write_words(net, self.order.as_slice(), start, input, cap, out);
+    }
+}
+
+// The words of the variables of an order, one after the other.
+fn write_words(
+    net: &Net,
+    order: &[u32],
+    start: &[bool],
+    input: &[bool],
+    cap: u64,
+    out: &mut [Option<Word>],
+)
+    requires part { (free : List Bool) × IsFreePart net.now (record { free = free; order = order.now }) }
+    requires start { length start.now ≡ length (network_of net.now) }
+    requires input { length input.now ≡ net.now.inputs }
+    requires cap_low { 1 ≤ cap }
+    requires cap_high { cap ≤ 1000000 }
+    requires out { length out.old ≡ length (network_of net.now) }
+    ensures { AreCappedWords (network_of net.now) input.now start.now cap out.new }
+{
+    clear(out);
+    let mut pins = [NO_WORD; MAX_PINS];
+    for var in order {
+        let word = word_of(net, start, input, cap, out, &mut pins, *var);
+        out[*var as usize] = Some(word);
+    }
+}
+
+// Room for a word.
+const NO_WORD: Word = Word {
+    first: false,
+    changes: Count::Exact(0),
+};
+
+// No variable has a word.
+fn clear(out: &mut [Option<Word>])
+    ensures { (i : ℕ) → slice_index_or out.new i None ≡ None }
+{
+    for word in out.iter_mut() {
+        *word = None;
     }
 }
 
