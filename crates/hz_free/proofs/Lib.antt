@@ -6,3 +6,5 @@ pub mod Parts
 pub mod Gathered
 pub mod NextWord
 pub mod AllWords
+pub mod Delays
+pub mod Columns
