@@ -7,6 +7,7 @@ use Rattle.hz_gmw.specs.Runs.{flipped}
 use Rattle.hz_word.specs.Word.{IsWord, AreWords, change_count}
 use Rattle.hz_word.specs.Walk.{present_letters, MayAdvance, IsMove, after_move, IsPartOfWalk, change, walk_changes}
 use Rattle.hz_word.proofs.Moves.{after_move-AreWords, length-after_move}
+use Rattle.hz_gmw.proofs.Flips.{length-flipped}
 use Rattle.hz_free.proofs.Delays.{changes_along, change-same}
 
 -- the places at which two rows differ
@@ -100,30 +101,31 @@ move-counts (word ∷ words) (true ∷ before) (false ∷ after) zero long long'
 move-counts (word ∷ words) (false ∷ before) (true ∷ after) zero long long' may few = dropped word (may.0 refl)
 
 -- rows along a run
-module _ (gate : List Bool → Bool) (row : List Bool → List Bool) where
+module _ (gate : List Bool → Bool) (row : List Bool → List Bool) (variables : ℕ) where
 
-  pub part-along : (words : List (List Bool)) (state : List Bool) (steps : List (List ℕ)) → AreWords words → present_letters words ≡ row state → ((s : List Bool) → length (row s) ≡ length words) → ((k : ℕ) → k < length words → changes_along (λ s. get_or (row s) k false) state steps ≤ change_count (get_or words k [])) → (moves : List (List Bool)) × IsPartOfWalk words moves × (walk_changes gate words moves ≡ changes_along (λ s. gate (row s)) state steps)
-  part-along words state [] are_words present long bounds = ([], (tt, refl))
-  part-along words state (flips ∷ steps) are_words present long bounds =
+  pub part-along : (words : List (List Bool)) (state : List Bool) (steps : List (List ℕ)) → AreWords words → present_letters words ≡ row state → length state ≡ variables → ((s : List Bool) → length s ≡ variables → length (row s) ≡ length words) → ((k : ℕ) → k < length words → changes_along (λ s. get_or (row s) k false) state steps ≤ change_count (get_or words k [])) → (moves : List (List Bool)) × IsPartOfWalk words moves × (walk_changes gate words moves ≡ changes_along (λ s. gate (row s)) state steps)
+  part-along words state [] are_words present whole long bounds = ([], tt, refl)
+  part-along words state (flips ∷ steps) are_words present whole long bounds =
+      let whole' : length (flipped flips state) ≡ variables = length-flipped flips state ∙ whole in
       elim (cases_Bool (some_pin (moved (row state) (row (flipped flips state))))) [
         | inl some ↦
-            let may : MayAdvance words (moved (row state) (row (flipped flips state))) = move-may words (row state) (row (flipped flips state)) (long state) (long (flipped flips state)) (λ k few. let bound = bounds k few in omega arith) in
-            let letters = move-letters words (row state) (row (flipped flips state)) are_words present (long (flipped flips state)) may in
+            let may : MayAdvance words (moved (row state) (row (flipped flips state))) = move-may words (row state) (row (flipped flips state)) (long state whole) (long (flipped flips state) whole') (λ k few. let bound = bounds k few in omega arith) in
+            let letters = move-letters words (row state) (row (flipped flips state)) are_words present (long (flipped flips state) whole') may in
             let rest = part-along (after_move words (moved (row state) (row (flipped flips state)))) (flipped flips state) steps
-                (after_move-AreWords words (moved (row state) (row (flipped flips state))) are_words may) letters
-                (λ s. long s ∙ sym (length-after_move words (moved (row state) (row (flipped flips state)))))
+                (after_move-AreWords words (moved (row state) (row (flipped flips state))) are_words may) letters whole'
+                (λ s there. long s there ∙ sym (length-after_move words (moved (row state) (row (flipped flips state)))))
                 (λ k few.
                   let few' : k < length words = omega (arith, few, length-after_move words (moved (row state) (row (flipped flips state)))) in
                   let bound = bounds k few' in
-                  let count = move-counts words (row state) (row (flipped flips state)) k (long state) (long (flipped flips state)) may few' in
+                  let count = move-counts words (row state) (row (flipped flips state)) k (long state whole) (long (flipped flips state) whole') may few' in
                   omega arith) in
             let same = rest.2 in
             let here : change (gate (present_letters words)) (gate (present_letters (after_move words (moved (row state) (row (flipped flips state)))))) ≡ change (gate (row state)) (gate (row (flipped flips state))) = rw (present, letters) refl in
-            (moved (row state) (row (flipped flips state)) ∷ rest.0, (((may, some), rest.1), omega arith))
+            (moved (row state) (row (flipped flips state)) ∷ rest.0, ((may, some), rest.1), omega arith)
         | inr none ↦
-            let same_row = moved-none (row state) (row (flipped flips state)) (long state ∙ sym (long (flipped flips state))) none in
-            let rest = part-along words (flipped flips state) steps are_words (present ∙ same_row) long (λ k few. let bound = bounds k few in omega arith) in
+            let same_row = moved-none (row state) (row (flipped flips state)) (long state whole ∙ sym (long (flipped flips state) whole')) none in
+            let rest = part-along words (flipped flips state) steps are_words (present ∙ same_row) whole' long (λ k few. let bound = bounds k few in omega arith) in
             let same = rest.2 in
             let here : change (gate (row state)) (gate (row (flipped flips state))) ≡ 0 = rw same_row (change-same (gate (row (flipped flips state)))) in
-            (rest.0, (rest.1, omega arith))
+            (rest.0, rest.1, omega arith)
       ]

@@ -108,3 +108,11 @@ change_count-history start (flips ∷ steps) i =
 pub first_letter-history : (start : List Bool) (steps : List (List ℕ)) (i : ℕ) → first_letter (variable_history start steps i) ≡ bit_at start i
 first_letter-history start [] i = refl
 first_letter-history start (flips ∷ steps) i = refl
+
+-- two values that are the same change as often
+pub same-along : (f g : List Bool → Bool) (state : List Bool) (steps : List (List ℕ)) → ((s : List Bool) → f s ≡ g s) → changes_along f state steps ≡ changes_along g state steps
+same-along f g state [] same = refl
+same-along f g state (flips ∷ steps) same =
+    let later = same-along f g (flipped flips state) steps same in
+    let here : change (f state) (f (flipped flips state)) ≡ change (g state) (g (flipped flips state)) = rw (same state, same (flipped flips state)) refl in
+    omega arith

@@ -8,3 +8,4 @@ pub mod NextWord
 pub mod AllWords
 pub mod Delays
 pub mod Columns
+pub mod Covered

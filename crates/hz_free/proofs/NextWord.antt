@@ -67,7 +67,7 @@ same-word : (a b : Word) → Some a ≡ Some b → a ≡ b
 same-word a b e = cc
 
 -- words by their elements
-AreWords-each : (words : List (List Bool)) → ((k : ℕ) → k < length words → IsWord (get_or words k [])) → AreWords words
+pub AreWords-each : (words : List (List Bool)) → ((k : ℕ) → k < length words → IsWord (get_or words k [])) → AreWords words
 AreWords-each [] each = tt
 AreWords-each (word ∷ words) each = (each 0 (omega arith), AreWords-each words (λ k few. each (suc k) (omega arith)))
 
