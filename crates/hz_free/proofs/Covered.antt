@@ -7,6 +7,7 @@ use Rattle.std.proofs.lemmas.List.{ext_get_or, length-map, get_or-map}
 use Rattle.hz_core.specs.declared.kind.Kind.{Kind}
 use Rattle.hz_core.specs.Gate.{takes, gate_value}
 use Rattle.hz_core.specs.Netlist.{Netlist, IsCircuit, IsWhole, gate_at}
+use Rattle.hz_core.proofs.CircuitLemmas.{takes-at_gate}
 use Rattle.hz_net.specs.Network.{Driver, External, Function, Source, network_of, driver_at, driven, bit_at, excitation, IsStable}
 use Rattle.hz_net.specs.Reads.{Reads, IsWired}
 use Rattle.hz_net.specs.Variables.{first_wire}
@@ -114,3 +115,90 @@ module _ (netlist : Netlist) (circuit : IsCircuit netlist) (input start : List B
           let bound = source.bound steps run in
           omega arith
       })
+
+  module _ (netlist_whole : IsWhole netlist) where
+
+    function-place : (kind : Kind) (first pins place : ℕ) → Function kind first pins ≡ External place → ⊥
+    function-place kind first pins place e = cc
+
+    module _ (i : ℕ) (kind : Kind) (first pins : ℕ) (few : i < length (network_of netlist)) (driven_by : driver_at (network_of netlist) i ≡ Function kind first pins) where
+
+      -- the words of the wires
+      abbrev wires : List (List Bool)
+      wires = slice_range words first (first + pins)
+
+      wire-reads : (k : ℕ) → k < pins → Reads (driver_at (network_of netlist) i) (first + k)
+      wire-reads k less = subst (λ (driver : Driver). Reads driver (first + k)) (sym driven_by) (omega arith, omega arith)
+
+      wire-inside : (k : ℕ) → k < pins → first + k < length (network_of netlist)
+      wire-inside k less = reads-inside (network_of netlist) i (first + k) wired (wire-reads k less)
+
+      pub length-wires : length (slice_range words first (first + pins)) ≡ pins
+      length-wires = let long = are.long in length-part words first pins (λ k less. omega (arith, wire-inside k less))
+
+      length-row : (state : List Bool) → length state ≡ length (network_of netlist) → length (slice_range state first (first + pins)) ≡ length (slice_range words first (first + pins))
+      length-row state there = length-part state first pins (λ k less. omega (arith, wire-inside k less)) ∙ sym length-wires
+
+      pub takes-wires : IsTrue (takes kind (length (slice_range words first (first + pins))))
+      takes-wires =
+          let gate = is_gate_of netlist circuit i kind first pins driven_by in
+          subst (λ (n : ℕ). IsTrue (takes kind n)) (gate.pins_are ∙ sym length-wires)
+          (subst (λ (k : Kind). IsTrue (takes k (length (gate_at netlist i).sources))) gate.same_kind (takes-at_gate netlist i circuit netlist_whole gate.is_gate))
+
+      module _ (followed : (k : ℕ) → k < pins → IsFollowed (network_of netlist) input start (first + k) (get_or words (first + k) [])) where
+
+        pub wires-AreWords : AreWords (slice_range words first (first + pins))
+        wires-AreWords = AreWords-each (slice_range words first (first + pins)) (λ k less.
+            let less' : k < pins = omega (arith, less, length-wires) in
+            subst (λ (w : List Bool). IsWord w) (sym (at-part words first pins k [] less')) (followed k less').is_word)
+
+        pub wires-present : present_letters (slice_range words first (first + pins)) ≡ slice_range start first (first + pins)
+        wires-present = ext_get_or false (present_letters (slice_range words first (first + pins))) (slice_range start first (first + pins))
+            (length-map (slice_range words first (first + pins)) first_letter ∙ sym (length-row start whole))
+            (λ k less.
+              let less' : k < pins = omega (arith, less, length-map (slice_range words first (first + pins)) first_letter, length-wires) in
+              get_or-map first_letter (slice_range words first (first + pins)) k [] false (omega (arith, less', length-wires))
+              ∙ (ap first_letter (at-part words first pins k [] less')
+                ∙ ((followed k less').first ∙ sym (at-part start first pins k false less'))))
+
+        follows-gate : IsWordOf kind (slice_range words first (first + pins)) (get_or words i []) → IsFollowed (network_of netlist) input start i (get_or words i [])
+        follows-gate is_word =
+            let no_input : (place : ℕ) → driver_at (network_of netlist) i ≡ External place → ⊥ = λ place e. function-place kind first pins place (sym driven_by ∙ e) in
+            record {
+              is_word = is_word.is_word;
+              first = is_word.begins ∙ (ap (gate_value kind) wires-present ∙ sym (begins-stable i few no_input ∙ ap (driven input start) driven_by));
+              bound = λ steps run.
+                let late = follows i few no_input steps run in
+                let same = same-along (λ s. excitation (network_of netlist) input s i) (λ s. gate_value kind (slice_range s first (first + pins))) start steps (λ s. ap (driven input s) driven_by) in
+                let part = part-along (gate_value kind) (λ s. slice_range s first (first + pins)) (length (network_of netlist)) (slice_range words first (first + pins)) start steps wires-AreWords wires-present whole length-row
+                    (λ k less.
+                      let less' : k < pins = omega (arith, less, length-wires) in
+                      let column = same-along (λ s. get_or (slice_range s first (first + pins)) k false) (λ s. bit_at s (first + k)) start steps (λ s. at-part s first pins k false less') in
+                      let bound = (followed k less').bound steps run in
+                      let word : change_count (get_or (slice_range words first (first + pins)) k []) ≡ change_count (get_or words (first + k) []) = ap change_count (at-part words first pins k [] less') in
+                      omega arith) in
+                let counted = part.2 in
+                let bound = part-IsWordOf kind (slice_range words first (first + pins)) wires-AreWords (takes-HasPins kind (length (slice_range words first (first + pins))) takes-wires) (get_or words i []) is_word part.0 part.1 in
+                omega arith
+            }
+
+    -- every feedback-free variable
+    follows-by : (i : ℕ) → i < length (network_of netlist) → (driver : Driver) → driver_at (network_of netlist) i ≡ driver → IsDrivenWord input start words i driver (get_or words i []) → ((j : ℕ) → Reads driver j → IsFollowed (network_of netlist) input start j (get_or words j [])) → IsFollowed (network_of netlist) input start i (get_or words i [])
+    follows-by i few (External place) driven_by word_is reads = follows-input i place few driven_by word_is
+    follows-by i few (Source node) driven_by word_is reads = follows-wire i node few driven_by word_is (reads node refl)
+    follows-by i few (Function kind first pins) driven_by word_is reads =
+        follows-gate i kind first pins few driven_by (λ k less. reads (first + k) (omega arith, omega arith)) word_is
+
+    pub free-followed : (i : ℕ) → i < length (network_of netlist) → IsFeedbackFree (network_of netlist) i → IsFollowed (network_of netlist) input start i (get_or words i [])
+    free-followed i few free =
+        free-induction (network_of netlist) wired (λ j. IsFollowed (network_of netlist) input start j (get_or words j []))
+        (λ j few_j free_j reads. follows-by j few_j (driver_at (network_of netlist) j) refl (are.each j few_j free_j) reads)
+        i few free
+
+    pub free-covered : (cap i : ℕ) (steps : List (List ℕ)) → i < length (network_of netlist) → IsFeedbackFree (network_of netlist) i → IsRun (network_of netlist) input start steps → Covers (capped cap (get_or words i [])) (variable_history start steps i)
+    free-covered cap i steps few free run =
+        let followed = free-followed i few free in
+        let count = change_count-history start steps i in
+        let bound = followed.bound steps run in
+        covers-capped cap (get_or words i []) (variable_history start steps i)
+        (first_letter-history start steps i ∙ sym followed.first) (omega arith)

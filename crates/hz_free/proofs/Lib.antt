@@ -9,3 +9,4 @@ pub mod AllWords
 pub mod Delays
 pub mod Columns
 pub mod Covered
+pub mod LastLetters
