@@ -17,7 +17,7 @@ moved (letter ∷ before) [] = []
 moved (letter ∷ before) (next ∷ after) = not (beq letter next) ∷ moved before after
 
 -- a row that does not differ is the same
-moved-none : (before after : List Bool) → length before ≡ length after → some_pin (moved before after) ≡ false → before ≡ after
+pub moved-none : (before after : List Bool) → length before ≡ length after → some_pin (moved before after) ≡ false → before ≡ after
 moved-none [] [] long none = refl
 moved-none [] (next ∷ after) long none = absurd (omega arith)
 moved-none (letter ∷ before) [] long none = absurd (omega arith)
@@ -30,7 +30,7 @@ moved-none (false ∷ before) (false ∷ after) long none = ap (λ row. false �
 long-word : (word : List Bool) → 1 ≤ change_count word → 1 < length word
 long-word word some = omega arith
 
-move-may : (words : List (List Bool)) (before after : List Bool) → length before ≡ length words → length after ≡ length words → ((k : ℕ) → k < length words → change (get_or before k false) (get_or after k false) ≤ change_count (get_or words k [])) → MayAdvance words (moved before after)
+pub move-may : (words : List (List Bool)) (before after : List Bool) → length before ≡ length words → length after ≡ length words → ((k : ℕ) → k < length words → change (get_or before k false) (get_or after k false) ≤ change_count (get_or words k [])) → MayAdvance words (moved before after)
 move-may [] [] after long long' bounds = tt
 move-may [] (letter ∷ before) after long long' bounds = absurd (omega arith)
 move-may (word ∷ words) [] after long long' bounds = absurd (omega arith)
@@ -62,7 +62,7 @@ cons-tail : {a b : Bool} {xs ys : List Bool} → ◌≡◌ {A = List Bool} (a �
 cons-tail e = cc
 
 -- after the move the letters are those of the next row
-move-letters : (words : List (List Bool)) (before after : List Bool) → AreWords words → present_letters words ≡ before → length after ≡ length words → MayAdvance words (moved before after) → present_letters (after_move words (moved before after)) ≡ after
+pub move-letters : (words : List (List Bool)) (before after : List Bool) → AreWords words → present_letters words ≡ before → length after ≡ length words → MayAdvance words (moved before after) → present_letters (after_move words (moved before after)) ≡ after
 move-letters [] [] [] are_words present long may = refl
 move-letters [] [] (next ∷ after) are_words present long may = absurd (omega arith)
 move-letters [] (letter ∷ before) after are_words present long may = cc

@@ -10,3 +10,6 @@ pub mod Delays
 pub mod Columns
 pub mod Covered
 pub mod LastLetters
+pub mod Agreement
+pub mod Changing
+pub mod Laws
