@@ -26,7 +26,8 @@ use Rattle.hz_word.proofs.Longest.{HasPins, takes-HasPins, part-IsWordOf}
 use Rattle.hz_word.proofs.Moves.{after_move-AreWords}
 use Rattle.hz_free.specs.Chains.{IsFeedbackFree}
 use Rattle.hz_free.specs.VariableWords.{IsDrivenWord, input_word, AreVariableWords}
-use Rattle.hz_free.proofs.Chains.{free-induction, reads-inside}
+use Rattle.hz_free.proofs.Chains.{free-induction, reads-free, reads-inside}
+use Rattle.hz_free.proofs.Delays.{change-same}
 use Rattle.hz_free.proofs.Columns.{moved, moved-none, move-may, move-letters}
 use Rattle.hz_free.proofs.Covered.{IsFollowed, free-followed, length-wires, takes-wires, wires-AreWords, wires-present}
 
@@ -215,3 +216,143 @@ module _ (netlist : Netlist) (circuit : IsCircuit netlist) (netlist_whole : IsWh
 
   followed : (i : ℕ) → i < length (network_of netlist) → IsFeedbackFree (network_of netlist) i → IsFollowed (network_of netlist) input start i (get_or words i [])
   followed i few free = free-followed netlist circuit input start whole stable words are netlist_whole i few free
+
+  record-input : (i place : ℕ) → i < length (network_of netlist) → driver_at (network_of netlist) i ≡ External place → get_or words i [] ≡ input_word (bit_at start i) (bit_at input place) → IsAgreed i
+  record-input i place few driven_by word_is = record {
+      still = λ none.
+        let same = input_word-same (bit_at start i) (bit_at input place) (sym (ap change_count word_is) ∙ none) in
+        stays i few (λ round. ap (driven3 input (algorithm_a (network_of netlist) input start round)) driven_by ∙ ap tri_of same);
+      moves = λ some.
+        let counted : change_count (get_or words i []) ≡ change_count (input_word (bit_at start i) (bit_at input place)) = ap change_count word_is in
+        let closed = closed-value i few ∙ ap (λ (driver : Driver). join_of (value_at (algorithm_a (network_of netlist) input start rounds) i) (driven3 input (algorithm_a (network_of netlist) input start rounds) driver)) driven_by in
+        join-other (value_at (algorithm_a (network_of netlist) input start rounds) i) (tri_of (bit_at input place)) (bit_at start i) (start-admitted i) closed
+        (input_word-differs (bit_at start i) (bit_at input place) (omega arith))
+    }
+
+  record-wire : (i node : ℕ) → i < length (network_of netlist) → IsFeedbackFree (network_of netlist) i → IsFeedbackFree (network_of netlist) node → node < length (network_of netlist) → driver_at (network_of netlist) i ≡ Source node → get_or words i [] ≡ get_or words node [] → IsAgreed node → IsAgreed i
+  record-wire i node few free free_node few_node driven_by word_is agreed =
+      let same_start : bit_at start node ≡ bit_at start i = sym (followed node few_node free_node).first ∙ (ap first_letter (sym word_is) ∙ (followed i few free).first) in
+      record {
+        still = λ none.
+          let none' : change_count (get_or words node []) ≡ 0 = sym (ap change_count word_is) ∙ none in
+          stays i few (λ round. ap (driven3 input (algorithm_a (network_of netlist) input start round)) driven_by ∙ (agreed.still none' round ∙ ap tri_of same_start));
+        moves = λ some.
+          let counted : change_count (get_or words i []) ≡ change_count (get_or words node []) = ap change_count word_is in
+          let source_unknown = agreed.moves (omega arith) in
+          closed-value i few
+          ∙ (ap (λ (driver : Driver). join_of (value_at (algorithm_a (network_of netlist) input start rounds) i) (driven3 input (algorithm_a (network_of netlist) input start rounds) driver)) driven_by
+            ∙ (ap (join_of (value_at (algorithm_a (network_of netlist) input start rounds) i)) source_unknown
+              ∙ join-unknown (value_at (algorithm_a (network_of netlist) input start rounds) i)))
+      }
+
+  module _ (i : ℕ) (kind : Kind) (first pins : ℕ) (few : i < length (network_of netlist)) (driven_by : driver_at (network_of netlist) i ≡ Function kind first pins) (free : IsFeedbackFree (network_of netlist) i) (is_word : IsWordOf kind (slice_range words first (first + pins)) (get_or words i [])) (wire_followed : (k : ℕ) → k < pins → IsFollowed (network_of netlist) input start (first + k) (get_or words (first + k) [])) (wire_agreed : (k : ℕ) → k < pins → IsAgreed (first + k)) where
+
+    wires : List (List Bool)
+    wires = slice_range words first (first + pins)
+
+    wires-long : length (slice_range words first (first + pins)) ≡ pins
+    wires-long = length-wires netlist circuit input start whole stable words are netlist_whole i kind first pins few driven_by
+
+    wires-words : AreWords (slice_range words first (first + pins))
+    wires-words = wires-AreWords netlist circuit input start whole stable words are netlist_whole i kind first pins few driven_by wire_followed
+
+    wires-takes : IsTrue (takes kind (length (slice_range words first (first + pins))))
+    wires-takes = takes-wires netlist circuit input start whole stable words are netlist_whole i kind first pins few driven_by
+
+    present-start : present_letters (slice_range words first (first + pins)) ≡ slice_range start first (first + pins)
+    present-start = wires-present netlist circuit input start whole stable words are netlist_whole i kind first pins few driven_by wire_followed
+
+    -- the gate value of the first letters is the start
+    start-value : gate_value kind (present_letters (slice_range words first (first + pins))) ≡ bit_at start i
+    start-value = sym is_word.begins ∙ (followed i few free).first
+
+    pins-of : List Tri → List Tri
+    pins-of values = slice_range values first (first + pins)
+
+    -- in each round the gate has its start value on all bits that the pins admit, if its word has no change
+    still-bits : change_count (get_or words i []) ≡ 0 → (round : ℕ) (bits : List Bool) → Refines bits (slice_range (algorithm_a (network_of netlist) input start round) first (first + pins)) → gate_value kind bits ≡ bit_at start i
+    still-bits none round bits refines =
+        let values_long : length (algorithm_a (network_of netlist) input start round) ≡ length (network_of netlist) = length-algorithm_a (network_of netlist) input start whole round in
+        let long : length bits ≡ length (slice_range words first (first + pins)) =
+            length-Refines bits (slice_range (algorithm_a (network_of netlist) input start round) first (first + pins)) refines
+            ∙ (length-part (algorithm_a (network_of netlist) input start round) first pins (λ k less. omega (arith, reads-inside (network_of netlist) i (first + k) (wired-network_of netlist circuit) (subst (λ (driver : Driver). Reads driver (first + k)) (sym driven_by) (omega arith, omega arith))))
+              ∙ sym wires-long) in
+        one-move kind (slice_range words first (first + pins)) (get_or words i []) bits wires-words wires-takes is_word none long
+        (λ k less.
+          let less' : k < pins = omega (arith, less, wires-long) in
+          let word : change_count (get_or (slice_range words first (first + pins)) k []) ≡ change_count (get_or words (first + k) []) = ap change_count (at-part words first pins k [] less') in
+          elim (cases_lt 0 (change_count (get_or words (first + k) []))) [
+            | inl some ↦ let one = change-one (get_or (present_letters (slice_range words first (first + pins))) k false) (get_or bits k false) in omega arith
+            | inr alone ↦
+                let value = (wire_agreed k less').still (omega arith) round in
+                let admitted : IsTrue (admits (tri_of (bit_at start (first + k))) (get_or bits k false)) =
+                    subst (λ (t : Tri). IsTrue (admits t (get_or bits k false))) (at-part (algorithm_a (network_of netlist) input start round) first pins k Zero less' ∙ value)
+                    (get_or-Refines bits (slice_range (algorithm_a (network_of netlist) input start round) first (first + pins)) refines k) in
+                let bit : get_or bits k false ≡ bit_at start (first + k) = known-admits (bit_at start (first + k)) (get_or bits k false) admitted in
+                let letter : get_or (present_letters (slice_range words first (first + pins))) k false ≡ bit_at start (first + k) = ap (λ (list : List Bool). get_or list k false) present-start ∙ at-part start first pins k false less' in
+                let same : change (get_or (present_letters (slice_range words first (first + pins))) k false) (get_or bits k false) ≡ 0 = rw (letter, bit) (change-same (bit_at start (first + k))) in
+                omega arith
+          ])
+        ∙ start-value
+
+    -- the result admits all letters of the words of the wires
+    result-admits : AdmitWords (slice_range (algorithm_a (network_of netlist) input start rounds) first (first + pins)) (slice_range words first (first + pins))
+    result-admits =
+        let values_long : length (algorithm_a (network_of netlist) input start rounds) ≡ length (network_of netlist) = length-algorithm_a (network_of netlist) input start whole rounds in
+        admit-each (slice_range (algorithm_a (network_of netlist) input start rounds) first (first + pins)) (slice_range words first (first + pins))
+        (length-part (algorithm_a (network_of netlist) input start rounds) first pins (λ k less. omega (arith, reads-inside (network_of netlist) i (first + k) (wired-network_of netlist circuit) (subst (λ (driver : Driver). Reads driver (first + k)) (sym driven_by) (omega arith, omega arith)))) ∙ sym wires-long)
+        (λ k less.
+          let less' : k < pins = omega (arith, less, wires-long) in
+          subst (λ (w : List Bool). AdmitsAll (get_or (slice_range (algorithm_a (network_of netlist) input start rounds) first (first + pins)) k Zero) w) (sym (at-part words first pins k [] less'))
+          (subst (λ (t : Tri). AdmitsAll t (get_or words (first + k) [])) (sym (at-part (algorithm_a (network_of netlist) input start rounds) first pins k Zero less'))
+            (elim (cases_lt 0 (change_count (get_or words (first + k) []))) [
+              | inl some ↦ subst (λ (t : Tri). AdmitsAll t (get_or words (first + k) [])) (sym ((wire_agreed k less').moves (omega arith))) (admits_all-unknown (get_or words (first + k) []))
+              | inr alone ↦
+                  subst (λ (t : Tri). AdmitsAll t (get_or words (first + k) [])) (sym ((wire_agreed k less').still (omega arith) rounds))
+                  (admits_all-alone (get_or words (first + k) []) (bit_at start (first + k)) (wire_followed k less').is_word (omega arith) (wire_followed k less').first)
+            ])))
+
+    record-gate : IsAgreed i
+    record-gate = record {
+        still = λ none.
+          stays i few (λ round.
+            ap (driven3 input (algorithm_a (network_of netlist) input start round)) driven_by
+            ∙ extension-constant kind (slice_range (algorithm_a (network_of netlist) input start round) first (first + pins)) (bit_at start i) (still-bits none round));
+        moves = λ some.
+          let closed = closed-value i few ∙ ap (λ (driver : Driver). join_of (value_at (algorithm_a (network_of netlist) input start rounds) i) (driven3 input (algorithm_a (network_of netlist) input start rounds) driver)) driven_by in
+          elim (tri_of-or-not (extension kind (slice_range (algorithm_a (network_of netlist) input start rounds) first (first + pins))) (bit_at start i)) [
+            | inr ne ↦ join-other (value_at (algorithm_a (network_of netlist) input start rounds) i) (extension kind (slice_range (algorithm_a (network_of netlist) input start rounds) first (first + pins))) (bit_at start i) (start-admitted i) closed ne
+            | inl same ↦
+                let attained = is_word.attained in
+                let counted = attained.2 in
+                let constant = walk-constant kind (slice_range (algorithm_a (network_of netlist) input start rounds) first (first + pins)) (bit_at start i) (slice_range words first (first + pins)) attained.0 wires-words result-admits
+                    (λ bits refines. gate_value-known kind (slice_range (algorithm_a (network_of netlist) input start rounds) first (first + pins)) bits (bit_at start i) same refines) attained.1 in
+                absurd (omega arith)
+          ]
+      }
+
+  agreed-by : (i : ℕ) → i < length (network_of netlist) → IsFeedbackFree (network_of netlist) i → (driver : Driver) → driver_at (network_of netlist) i ≡ driver → IsDrivenWord input start words i driver (get_or words i []) → ((j : ℕ) → Reads driver j → IsAgreed j) → IsAgreed i
+  agreed-by i few free (External place) driven_by word_is reads = record-input i place few driven_by word_is
+  agreed-by i few free (Source node) driven_by word_is reads =
+      let reads_node : Reads (driver_at (network_of netlist) i) node = subst (λ (driver : Driver). Reads driver node) (sym driven_by) refl in
+      record-wire i node few free (reads-free (network_of netlist) i node free reads_node) (reads-inside (network_of netlist) i node (wired-network_of netlist circuit) reads_node) driven_by word_is (reads node refl)
+  agreed-by i few free (Function kind first pins) driven_by word_is reads =
+      let reads_wire : (k : ℕ) → k < pins → Reads (driver_at (network_of netlist) i) (first + k) = λ k less. subst (λ (driver : Driver). Reads driver (first + k)) (sym driven_by) (omega arith, omega arith) in
+      record-gate i kind first pins few driven_by free word_is
+      (λ k less. followed (first + k) (reads-inside (network_of netlist) i (first + k) (wired-network_of netlist circuit) (reads_wire k less)) (reads-free (network_of netlist) i (first + k) free (reads_wire k less)))
+      (λ k less. reads (first + k) (omega arith, omega arith))
+
+  free-agreed : (i : ℕ) → i < length (network_of netlist) → IsFeedbackFree (network_of netlist) i → IsAgreed i
+  free-agreed i few free =
+      free-induction (network_of netlist) (wired-network_of netlist circuit) IsAgreed
+      (λ j few_j free_j reads. agreed-by j few_j free_j (driver_at (network_of netlist) j) refl (are.each j few_j free_j) reads)
+      i few free
+
+  pub change-unknown : (i : ℕ) → i < length (network_of netlist) → IsFeedbackFree (network_of netlist) i → (1 ≤ change_count (get_or words i [])) ↔ (value_at (algorithm_a (network_of netlist) input start rounds) i ≡ Unknown)
+  change-unknown i few free =
+      let agreed = free-agreed i few free in
+      (agreed.moves, λ unknown.
+        elim (cases_lt 0 (change_count (get_or words i []))) [
+          | inl some ↦ omega arith
+          | inr none ↦ absurd (known-not_unknown (bit_at start i) (sym (agreed.still (omega arith) rounds) ∙ unknown))
+        ])

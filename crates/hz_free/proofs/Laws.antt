@@ -15,7 +15,7 @@ use Rattle.hz_free.specs.Chains.{IsFeedbackFree}
 use Rattle.hz_free.specs.VariableWords.{AreVariableWords, variable_history}
 use Rattle.hz_free.proofs.Covered.{free-followed, free-covered}
 use Rattle.hz_free.proofs.Agreement.{fixed-result, free-ends}
-use Rattle.hz_free.proofs.Changing.{free-agreed, change-unknown}
+use Rattle.hz_free.proofs.Changing.{change-unknown}
 
 pub covered : (netlist : Netlist) (input start : List Bool) (words : List (List Bool)) (cap i : ℕ) (steps : List (List ℕ)) → IsCircuit netlist → IsWhole netlist → length start ≡ length (network_of netlist) → IsStable (network_of netlist) (take netlist.inputs start) start → AreVariableWords (network_of netlist) input start words → i < length (network_of netlist) → IsFeedbackFree (network_of netlist) i → IsRun (network_of netlist) input start steps → Covers (capped cap (get_or words i [])) (variable_history start steps i)
 covered netlist input start words cap i steps circuit netlist_whole long stable are few free run =
