@@ -140,7 +140,7 @@ walk-constant kind values v words (move ∷ moves) are_words admit same walk =
     let next_admit = admit-move values words move admit in
     let later = walk-constant kind values v (after_move words move) moves next_words next_admit same walk.1 in
     let here : change (gate_value kind (present_letters words)) (gate_value kind (present_letters (after_move words move))) ≡ 0 =
-        rw (same (present_letters words) (admit-present values words are_words admit), same (present_letters (after_move words move)) (admit-present values (after_move words move) next_words next_admit)) (change-self v) in
+    rw (same (present_letters words) (admit-present values words are_words admit), same (present_letters (after_move words move)) (admit-present values (after_move words move) next_words next_admit)) (change-self v) in
     omega arith
   where
     change-self : (b : Bool) → change b b ≡ 0
@@ -181,7 +181,6 @@ input_word-differs false true some e = cc
 input_word-differs false false some e = absurd (omega arith)
 
 module _ (netlist : Netlist) (circuit : IsCircuit netlist) (netlist_whole : IsWhole netlist) (input start : List Bool) (whole : length start ≡ length (network_of netlist)) (stable : IsStable (network_of netlist) (take netlist.inputs start) start) (words : List (List Bool)) (are : AreVariableWords (network_of netlist) input start words) (rounds : ℕ) (are_rounds : AreRounds (algorithm_a (network_of netlist) input start) rounds) where
-
   -- a word without a change: the variable keeps its start in all rounds; a word with one: it is X in the result
   record IsAgreed (i : ℕ) : Type 0 where
     still : change_count (get_or words i []) ≡ 0 → (round : ℕ) → value_at (algorithm_a (network_of netlist) input start round) i ≡ tri_of (bit_at start i)
@@ -193,7 +192,7 @@ module _ (netlist : Netlist) (circuit : IsCircuit netlist) (netlist_whole : IsWh
   next-value : (round i : ℕ) → i < length (network_of netlist) → value_at (algorithm_a (network_of netlist) input start (suc round)) i ≡ join_of (value_at (algorithm_a (network_of netlist) input start round) i) (driven3 input (algorithm_a (network_of netlist) input start round) (driver_at (network_of netlist) i))
   next-value round i few =
       at-join_each (algorithm_a (network_of netlist) input start round) (excitations (network_of netlist) input (algorithm_a (network_of netlist) input start round))
-        (length-algorithm_a (network_of netlist) input start whole round ∙ sym (length-excitations (network_of netlist) input (algorithm_a (network_of netlist) input start round))) i
+      (length-algorithm_a (network_of netlist) input start whole round ∙ sym (length-excitations (network_of netlist) input (algorithm_a (network_of netlist) input start round))) i
       ∙ ap (join_of (value_at (algorithm_a (network_of netlist) input start round) i)) (at-excitations (network_of netlist) input (algorithm_a (network_of netlist) input start round) i few)
 
   closed-value : (i : ℕ) → i < length (network_of netlist) → value_at (algorithm_a (network_of netlist) input start rounds) i ≡ join_of (value_at (algorithm_a (network_of netlist) input start rounds) i) (driven3 input (algorithm_a (network_of netlist) input start rounds) (driver_at (network_of netlist) i))
@@ -201,8 +200,8 @@ module _ (netlist : Netlist) (circuit : IsCircuit netlist) (netlist_whole : IsWh
       let closed = closed-result (network_of netlist) input start rounds whole are_rounds in
       ap (λ (values : List Tri). value_at values i) closed.same
       ∙ (at-join_each (algorithm_a (network_of netlist) input start rounds) (excitations (network_of netlist) input (algorithm_a (network_of netlist) input start rounds))
-          (length-algorithm_a (network_of netlist) input start whole rounds ∙ sym (length-excitations (network_of netlist) input (algorithm_a (network_of netlist) input start rounds))) i
-        ∙ ap (join_of (value_at (algorithm_a (network_of netlist) input start rounds) i)) (at-excitations (network_of netlist) input (algorithm_a (network_of netlist) input start rounds) i few))
+      (length-algorithm_a (network_of netlist) input start whole rounds ∙ sym (length-excitations (network_of netlist) input (algorithm_a (network_of netlist) input start rounds))) i
+      ∙ ap (join_of (value_at (algorithm_a (network_of netlist) input start rounds) i)) (at-excitations (network_of netlist) input (algorithm_a (network_of netlist) input start rounds) i few))
 
   start-admitted : (i : ℕ) → IsTrue (admits (value_at (algorithm_a (network_of netlist) input start rounds) i) (bit_at start i))
   start-admitted i = get_or-Refines start (algorithm_a (network_of netlist) input start rounds) (start-refines (network_of netlist) input start whole rounds) i
@@ -219,34 +218,33 @@ module _ (netlist : Netlist) (circuit : IsCircuit netlist) (netlist_whole : IsWh
 
   record-input : (i place : ℕ) → i < length (network_of netlist) → driver_at (network_of netlist) i ≡ External place → get_or words i [] ≡ input_word (bit_at start i) (bit_at input place) → IsAgreed i
   record-input i place few driven_by word_is = record {
-      still = λ none.
+    still = λ none.
         let same = input_word-same (bit_at start i) (bit_at input place) (sym (ap change_count word_is) ∙ none) in
         stays i few (λ round. ap (driven3 input (algorithm_a (network_of netlist) input start round)) driven_by ∙ ap tri_of same);
-      moves = λ some.
+    moves = λ some.
         let counted : change_count (get_or words i []) ≡ change_count (input_word (bit_at start i) (bit_at input place)) = ap change_count word_is in
         let closed = closed-value i few ∙ ap (λ (driver : Driver). join_of (value_at (algorithm_a (network_of netlist) input start rounds) i) (driven3 input (algorithm_a (network_of netlist) input start rounds) driver)) driven_by in
         join-other (value_at (algorithm_a (network_of netlist) input start rounds) i) (tri_of (bit_at input place)) (bit_at start i) (start-admitted i) closed
-        (input_word-differs (bit_at start i) (bit_at input place) (omega arith))
-    }
+        (input_word-differs (bit_at start i) (bit_at input place) (omega arith));
+  }
 
   record-wire : (i node : ℕ) → i < length (network_of netlist) → IsFeedbackFree (network_of netlist) i → IsFeedbackFree (network_of netlist) node → node < length (network_of netlist) → driver_at (network_of netlist) i ≡ Source node → get_or words i [] ≡ get_or words node [] → IsAgreed node → IsAgreed i
   record-wire i node few free free_node few_node driven_by word_is agreed =
       let same_start : bit_at start node ≡ bit_at start i = sym (followed node few_node free_node).first ∙ (ap first_letter (sym word_is) ∙ (followed i few free).first) in
       record {
         still = λ none.
-          let none' : change_count (get_or words node []) ≡ 0 = sym (ap change_count word_is) ∙ none in
-          stays i few (λ round. ap (driven3 input (algorithm_a (network_of netlist) input start round)) driven_by ∙ (agreed.still none' round ∙ ap tri_of same_start));
+            let none' : change_count (get_or words node []) ≡ 0 = sym (ap change_count word_is) ∙ none in
+            stays i few (λ round. ap (driven3 input (algorithm_a (network_of netlist) input start round)) driven_by ∙ (agreed.still none' round ∙ ap tri_of same_start));
         moves = λ some.
-          let counted : change_count (get_or words i []) ≡ change_count (get_or words node []) = ap change_count word_is in
-          let source_unknown = agreed.moves (omega arith) in
-          closed-value i few
-          ∙ (ap (λ (driver : Driver). join_of (value_at (algorithm_a (network_of netlist) input start rounds) i) (driven3 input (algorithm_a (network_of netlist) input start rounds) driver)) driven_by
+            let counted : change_count (get_or words i []) ≡ change_count (get_or words node []) = ap change_count word_is in
+            let source_unknown = agreed.moves (omega arith) in
+            closed-value i few
+            ∙ (ap (λ (driver : Driver). join_of (value_at (algorithm_a (network_of netlist) input start rounds) i) (driven3 input (algorithm_a (network_of netlist) input start rounds) driver)) driven_by
             ∙ (ap (join_of (value_at (algorithm_a (network_of netlist) input start rounds) i)) source_unknown
-              ∙ join-unknown (value_at (algorithm_a (network_of netlist) input start rounds) i)))
+            ∙ join-unknown (value_at (algorithm_a (network_of netlist) input start rounds) i)));
       }
 
   module _ (i : ℕ) (kind : Kind) (first pins : ℕ) (few : i < length (network_of netlist)) (driven_by : driver_at (network_of netlist) i ≡ Function kind first pins) (free : IsFeedbackFree (network_of netlist) i) (is_word : IsWordOf kind (slice_range words first (first + pins)) (get_or words i [])) (wire_followed : (k : ℕ) → k < pins → IsFollowed (network_of netlist) input start (first + k) (get_or words (first + k) [])) (wire_agreed : (k : ℕ) → k < pins → IsAgreed (first + k)) where
-
     wires : List (List Bool)
     wires = slice_range words first (first + pins)
 
@@ -274,25 +272,25 @@ module _ (netlist : Netlist) (circuit : IsCircuit netlist) (netlist_whole : IsWh
     still-bits none round bits refines =
         let values_long : length (algorithm_a (network_of netlist) input start round) ≡ length (network_of netlist) = length-algorithm_a (network_of netlist) input start whole round in
         let long : length bits ≡ length (slice_range words first (first + pins)) =
-            length-Refines bits (slice_range (algorithm_a (network_of netlist) input start round) first (first + pins)) refines
-            ∙ (length-part (algorithm_a (network_of netlist) input start round) first pins (λ k less. omega (arith, reads-inside (network_of netlist) i (first + k) (wired-network_of netlist circuit) (subst (λ (driver : Driver). Reads driver (first + k)) (sym driven_by) (omega arith, omega arith))))
-              ∙ sym wires-long) in
+        length-Refines bits (slice_range (algorithm_a (network_of netlist) input start round) first (first + pins)) refines
+        ∙ (length-part (algorithm_a (network_of netlist) input start round) first pins (λ k less. omega (arith, reads-inside (network_of netlist) i (first + k) (wired-network_of netlist circuit) (subst (λ (driver : Driver). Reads driver (first + k)) (sym driven_by) (omega arith, omega arith))))
+        ∙ sym wires-long) in
         one-move kind (slice_range words first (first + pins)) (get_or words i []) bits wires-words wires-takes is_word none long
         (λ k less.
-          let less' : k < pins = omega (arith, less, wires-long) in
-          let word : change_count (get_or (slice_range words first (first + pins)) k []) ≡ change_count (get_or words (first + k) []) = ap change_count (at-part words first pins k [] less') in
-          elim (cases_lt 0 (change_count (get_or words (first + k) []))) [
-            | inl some ↦ let one = change-one (get_or (present_letters (slice_range words first (first + pins))) k false) (get_or bits k false) in omega arith
-            | inr alone ↦
-                let value = (wire_agreed k less').still (omega arith) round in
-                let admitted : IsTrue (admits (tri_of (bit_at start (first + k))) (get_or bits k false)) =
-                    subst (λ (t : Tri). IsTrue (admits t (get_or bits k false))) (at-part (algorithm_a (network_of netlist) input start round) first pins k Zero less' ∙ value)
-                    (get_or-Refines bits (slice_range (algorithm_a (network_of netlist) input start round) first (first + pins)) refines k) in
-                let bit : get_or bits k false ≡ bit_at start (first + k) = known-admits (bit_at start (first + k)) (get_or bits k false) admitted in
-                let letter : get_or (present_letters (slice_range words first (first + pins))) k false ≡ bit_at start (first + k) = ap (λ (list : List Bool). get_or list k false) present-start ∙ at-part start first pins k false less' in
-                let same : change (get_or (present_letters (slice_range words first (first + pins))) k false) (get_or bits k false) ≡ 0 = rw (letter, bit) (change-same (bit_at start (first + k))) in
-                omega arith
-          ])
+        let less' : k < pins = omega (arith, less, wires-long) in
+        let word : change_count (get_or (slice_range words first (first + pins)) k []) ≡ change_count (get_or words (first + k) []) = ap change_count (at-part words first pins k [] less') in
+        elim (cases_lt 0 (change_count (get_or words (first + k) []))) [
+          | inl some ↦ let one = change-one (get_or (present_letters (slice_range words first (first + pins))) k false) (get_or bits k false) in omega arith
+          | inr alone ↦
+              let value = (wire_agreed k less').still (omega arith) round in
+              let admitted : IsTrue (admits (tri_of (bit_at start (first + k))) (get_or bits k false)) =
+              subst (λ (t : Tri). IsTrue (admits t (get_or bits k false))) (at-part (algorithm_a (network_of netlist) input start round) first pins k Zero less' ∙ value)
+              (get_or-Refines bits (slice_range (algorithm_a (network_of netlist) input start round) first (first + pins)) refines k) in
+              let bit : get_or bits k false ≡ bit_at start (first + k) = known-admits (bit_at start (first + k)) (get_or bits k false) admitted in
+              let letter : get_or (present_letters (slice_range words first (first + pins))) k false ≡ bit_at start (first + k) = ap (λ (list : List Bool). get_or list k false) present-start ∙ at-part start first pins k false less' in
+              let same : change (get_or (present_letters (slice_range words first (first + pins))) k false) (get_or bits k false) ≡ 0 = rw (letter, bit) (change-same (bit_at start (first + k))) in
+              omega arith
+        ])
         ∙ start-value
 
     -- the result admits all letters of the words of the wires
@@ -302,23 +300,23 @@ module _ (netlist : Netlist) (circuit : IsCircuit netlist) (netlist_whole : IsWh
         admit-each (slice_range (algorithm_a (network_of netlist) input start rounds) first (first + pins)) (slice_range words first (first + pins))
         (length-part (algorithm_a (network_of netlist) input start rounds) first pins (λ k less. omega (arith, reads-inside (network_of netlist) i (first + k) (wired-network_of netlist circuit) (subst (λ (driver : Driver). Reads driver (first + k)) (sym driven_by) (omega arith, omega arith)))) ∙ sym wires-long)
         (λ k less.
-          let less' : k < pins = omega (arith, less, wires-long) in
-          subst (λ (w : List Bool). AdmitsAll (get_or (slice_range (algorithm_a (network_of netlist) input start rounds) first (first + pins)) k Zero) w) (sym (at-part words first pins k [] less'))
-          (subst (λ (t : Tri). AdmitsAll t (get_or words (first + k) [])) (sym (at-part (algorithm_a (network_of netlist) input start rounds) first pins k Zero less'))
-            (elim (cases_lt 0 (change_count (get_or words (first + k) []))) [
-              | inl some ↦ subst (λ (t : Tri). AdmitsAll t (get_or words (first + k) [])) (sym ((wire_agreed k less').moves (omega arith))) (admits_all-unknown (get_or words (first + k) []))
-              | inr alone ↦
-                  subst (λ (t : Tri). AdmitsAll t (get_or words (first + k) [])) (sym ((wire_agreed k less').still (omega arith) rounds))
-                  (admits_all-alone (get_or words (first + k) []) (bit_at start (first + k)) (wire_followed k less').is_word (omega arith) (wire_followed k less').first)
-            ])))
+        let less' : k < pins = omega (arith, less, wires-long) in
+        subst (λ (w : List Bool). AdmitsAll (get_or (slice_range (algorithm_a (network_of netlist) input start rounds) first (first + pins)) k Zero) w) (sym (at-part words first pins k [] less'))
+        (subst (λ (t : Tri). AdmitsAll t (get_or words (first + k) [])) (sym (at-part (algorithm_a (network_of netlist) input start rounds) first pins k Zero less'))
+        (elim (cases_lt 0 (change_count (get_or words (first + k) []))) [
+          | inl some ↦ subst (λ (t : Tri). AdmitsAll t (get_or words (first + k) [])) (sym ((wire_agreed k less').moves (omega arith))) (admits_all-unknown (get_or words (first + k) []))
+          | inr alone ↦
+              subst (λ (t : Tri). AdmitsAll t (get_or words (first + k) [])) (sym ((wire_agreed k less').still (omega arith) rounds))
+              (admits_all-alone (get_or words (first + k) []) (bit_at start (first + k)) (wire_followed k less').is_word (omega arith) (wire_followed k less').first)
+        ])))
 
     record-gate : IsAgreed i
     record-gate = record {
-        still = λ none.
+      still = λ none.
           stays i few (λ round.
-            ap (driven3 input (algorithm_a (network_of netlist) input start round)) driven_by
-            ∙ extension-constant kind (slice_range (algorithm_a (network_of netlist) input start round) first (first + pins)) (bit_at start i) (still-bits none round));
-        moves = λ some.
+          ap (driven3 input (algorithm_a (network_of netlist) input start round)) driven_by
+          ∙ extension-constant kind (slice_range (algorithm_a (network_of netlist) input start round) first (first + pins)) (bit_at start i) (still-bits none round));
+      moves = λ some.
           let closed = closed-value i few ∙ ap (λ (driver : Driver). join_of (value_at (algorithm_a (network_of netlist) input start rounds) i) (driven3 input (algorithm_a (network_of netlist) input start rounds) driver)) driven_by in
           elim (tri_of-or-not (extension kind (slice_range (algorithm_a (network_of netlist) input start rounds) first (first + pins))) (bit_at start i)) [
             | inr ne ↦ join-other (value_at (algorithm_a (network_of netlist) input start rounds) i) (extension kind (slice_range (algorithm_a (network_of netlist) input start rounds) first (first + pins))) (bit_at start i) (start-admitted i) closed ne
@@ -326,10 +324,10 @@ module _ (netlist : Netlist) (circuit : IsCircuit netlist) (netlist_whole : IsWh
                 let attained = is_word.attained in
                 let counted = attained.2 in
                 let constant = walk-constant kind (slice_range (algorithm_a (network_of netlist) input start rounds) first (first + pins)) (bit_at start i) (slice_range words first (first + pins)) attained.0 wires-words result-admits
-                    (λ bits refines. gate_value-known kind (slice_range (algorithm_a (network_of netlist) input start rounds) first (first + pins)) bits (bit_at start i) same refines) attained.1 in
+                (λ bits refines. gate_value-known kind (slice_range (algorithm_a (network_of netlist) input start rounds) first (first + pins)) bits (bit_at start i) same refines) attained.1 in
                 absurd (omega arith)
-          ]
-      }
+          ];
+    }
 
   agreed-by : (i : ℕ) → i < length (network_of netlist) → IsFeedbackFree (network_of netlist) i → (driver : Driver) → driver_at (network_of netlist) i ≡ driver → IsDrivenWord input start words i driver (get_or words i []) → ((j : ℕ) → Reads driver j → IsAgreed j) → IsAgreed i
   agreed-by i few free (External place) driven_by word_is reads = record-input i place few driven_by word_is
@@ -350,9 +348,11 @@ module _ (netlist : Netlist) (circuit : IsCircuit netlist) (netlist_whole : IsWh
 
   pub change-unknown : (i : ℕ) → i < length (network_of netlist) → IsFeedbackFree (network_of netlist) i → (1 ≤ change_count (get_or words i [])) ↔ (value_at (algorithm_a (network_of netlist) input start rounds) i ≡ Unknown)
   change-unknown i few free =
-      let agreed = free-agreed i few free in
-      (agreed.moves, λ unknown.
-        elim (cases_lt 0 (change_count (get_or words i []))) [
-          | inl some ↦ omega arith
-          | inr none ↦ absurd (known-not_unknown (bit_at start i) (sym (agreed.still (omega arith) rounds) ∙ unknown))
-        ])
+      let agreed = free-agreed i few free in (
+        agreed.moves,
+        λ unknown.
+            elim (cases_lt 0 (change_count (get_or words i []))) [
+              | inl some ↦ omega arith
+              | inr none ↦ absurd (known-not_unknown (bit_at start i) (sym (agreed.still (omega arith) rounds) ∙ unknown))
+            ],
+      )

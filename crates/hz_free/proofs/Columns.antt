@@ -102,7 +102,6 @@ move-counts (word ∷ words) (false ∷ before) (true ∷ after) zero long long'
 
 -- rows along a run
 module _ (gate : List Bool → Bool) (row : List Bool → List Bool) (variables : ℕ) where
-
   pub part-along : (words : List (List Bool)) (state : List Bool) (steps : List (List ℕ)) → AreWords words → present_letters words ≡ row state → length state ≡ variables → ((s : List Bool) → length s ≡ variables → length (row s) ≡ length words) → ((k : ℕ) → k < length words → changes_along (λ s. get_or (row s) k false) state steps ≤ change_count (get_or words k [])) → (moves : List (List Bool)) × IsPartOfWalk words moves × (walk_changes gate words moves ≡ changes_along (λ s. gate (row s)) state steps)
   part-along words state [] are_words present whole long bounds = ([], tt, refl)
   part-along words state (flips ∷ steps) are_words present whole long bounds =
@@ -112,13 +111,13 @@ module _ (gate : List Bool → Bool) (row : List Bool → List Bool) (variables 
             let may : MayAdvance words (moved (row state) (row (flipped flips state))) = move-may words (row state) (row (flipped flips state)) (long state whole) (long (flipped flips state) whole') (λ k few. let bound = bounds k few in omega arith) in
             let letters = move-letters words (row state) (row (flipped flips state)) are_words present (long (flipped flips state) whole') may in
             let rest = part-along (after_move words (moved (row state) (row (flipped flips state)))) (flipped flips state) steps
-                (after_move-AreWords words (moved (row state) (row (flipped flips state))) are_words may) letters whole'
-                (λ s there. long s there ∙ sym (length-after_move words (moved (row state) (row (flipped flips state)))))
-                (λ k few.
-                  let few' : k < length words = omega (arith, few, length-after_move words (moved (row state) (row (flipped flips state)))) in
-                  let bound = bounds k few' in
-                  let count = move-counts words (row state) (row (flipped flips state)) k (long state whole) (long (flipped flips state) whole') may few' in
-                  omega arith) in
+            (after_move-AreWords words (moved (row state) (row (flipped flips state))) are_words may) letters whole'
+            (λ s there. long s there ∙ sym (length-after_move words (moved (row state) (row (flipped flips state)))))
+            (λ k few.
+            let few' : k < length words = omega (arith, few, length-after_move words (moved (row state) (row (flipped flips state)))) in
+            let bound = bounds k few' in
+            let count = move-counts words (row state) (row (flipped flips state)) k (long state whole) (long (flipped flips state) whole') may few' in
+            omega arith) in
             let same = rest.2 in
             let here : change (gate (present_letters words)) (gate (present_letters (after_move words (moved (row state) (row (flipped flips state)))))) ≡ change (gate (row state)) (gate (row (flipped flips state))) = rw (present, letters) refl in
             (moved (row state) (row (flipped flips state)) ∷ rest.0, ((may, some), rest.1), omega arith)

@@ -31,12 +31,12 @@ use Rattle.hz_free.proofs.Columns.{part-along}
 -- a capped word covers a history with the first letter of the word and no more changes
 covers-capped : (cap : ℕ) (word history : List Bool) → first_letter history ≡ first_letter word → change_count history ≤ change_count word → Covers (capped cap word) history
 covers-capped cap word history first bound = record {
-    same_first = first;
-    bounded = elim (cases_Bool (nat_le (change_count word) cap)) [
-        | inl within ↦ rw within bound
-        | inr beyond ↦ rw beyond tt
-      ]
-  }
+  same_first = first;
+  bounded = elim (cases_Bool (nat_le (change_count word) cap)) [
+    | inl within ↦ rw within bound
+    | inr beyond ↦ rw beyond tt
+  ];
+}
 
 -- what a variable that is no input asks for does not depend on the input
 same-driven-input : (input other state : List Bool) (driver : Driver) → ((place : ℕ) → driver ≡ External place → ⊥) → driven input state driver ≡ driven other state driver
@@ -63,7 +63,6 @@ pub record IsFollowed (net : List Driver) (input start : List Bool) (i : ℕ) (w
   pub bound : (steps : List (List ℕ)) → IsRun net input start steps → changes_along (λ s. bit_at s i) start steps ≤ change_count word
 
 module _ (netlist : Netlist) (circuit : IsCircuit netlist) (input start : List Bool) (whole : length start ≡ length (network_of netlist)) (stable : IsStable (network_of netlist) (take netlist.inputs start) start) (words : List (List Bool)) (are : AreVariableWords (network_of netlist) input start words) where
-
   wired : IsWired (network_of netlist)
   wired = wired-network_of netlist circuit
 
@@ -83,7 +82,7 @@ module _ (netlist : Netlist) (circuit : IsCircuit netlist) (input start : List B
   follows i few no_input steps run =
       let late = delay (network_of netlist) input i start steps (omega arith) run in
       let none : change (bit_at start i) (excitation (network_of netlist) input start i) ≡ 0 =
-          rw (begins-stable i few no_input) (change-same (excitation (network_of netlist) input start i)) in
+      rw (begins-stable i few no_input) (change-same (excitation (network_of netlist) input start i)) in
       omega arith
 
   follows-input : (i place : ℕ) → i < length (network_of netlist) → driver_at (network_of netlist) i ≡ External place → get_or words i [] ≡ input_word (bit_at start i) (bit_at input place) → IsFollowed (network_of netlist) input start i (get_or words i [])
@@ -92,12 +91,12 @@ module _ (netlist : Netlist) (circuit : IsCircuit netlist) (input start : List B
         is_word = input_word-IsWord (bit_at start i) (bit_at input place);
         first = input_word-first (bit_at start i) (bit_at input place);
         bound = λ steps run.
-          let late = delay (network_of netlist) input i start steps (omega arith) run in
-          let constant = constant-along (λ s. excitation (network_of netlist) input s i) (bit_at input place) start steps (λ s. ap (driven input s) driven_by) in
-          let asked : excitation (network_of netlist) input start i ≡ bit_at input place = ap (driven input start) driven_by in
-          let same : change (bit_at start i) (excitation (network_of netlist) input start i) ≡ change (bit_at start i) (bit_at input place) = rw asked refl in
-          let counted = input_word-changes (bit_at start i) (bit_at input place) in
-          omega arith
+            let late = delay (network_of netlist) input i start steps (omega arith) run in
+            let constant = constant-along (λ s. excitation (network_of netlist) input s i) (bit_at input place) start steps (λ s. ap (driven input s) driven_by) in
+            let asked : excitation (network_of netlist) input start i ≡ bit_at input place = ap (driven input start) driven_by in
+            let same : change (bit_at start i) (excitation (network_of netlist) input start i) ≡ change (bit_at start i) (bit_at input place) = rw asked refl in
+            let counted = input_word-changes (bit_at start i) (bit_at input place) in
+            omega arith;
       })
 
   source-place : (node place : ℕ) → Source node ≡ External place → ⊥
@@ -110,19 +109,17 @@ module _ (netlist : Netlist) (circuit : IsCircuit netlist) (input start : List B
         is_word = source.is_word;
         first = source.first ∙ sym (begins-stable i few no_input ∙ ap (driven input start) driven_by);
         bound = λ steps run.
-          let late = follows i few no_input steps run in
-          let same = same-along (λ s. excitation (network_of netlist) input s i) (λ s. bit_at s node) start steps (λ s. ap (driven input s) driven_by) in
-          let bound = source.bound steps run in
-          omega arith
+            let late = follows i few no_input steps run in
+            let same = same-along (λ s. excitation (network_of netlist) input s i) (λ s. bit_at s node) start steps (λ s. ap (driven input s) driven_by) in
+            let bound = source.bound steps run in
+            omega arith;
       })
 
   module _ (netlist_whole : IsWhole netlist) where
-
     function-place : (kind : Kind) (first pins place : ℕ) → Function kind first pins ≡ External place → ⊥
     function-place kind first pins place e = cc
 
     module _ (i : ℕ) (kind : Kind) (first pins : ℕ) (few : i < length (network_of netlist)) (driven_by : driver_at (network_of netlist) i ≡ Function kind first pins) where
-
       -- the words of the wires
       abbrev wires : List (List Bool)
       wires = slice_range words first (first + pins)
@@ -146,7 +143,6 @@ module _ (netlist : Netlist) (circuit : IsCircuit netlist) (input start : List B
           (subst (λ (k : Kind). IsTrue (takes k (length (gate_at netlist i).sources))) gate.same_kind (takes-at_gate netlist i circuit netlist_whole gate.is_gate))
 
       module _ (followed : (k : ℕ) → k < pins → IsFollowed (network_of netlist) input start (first + k) (get_or words (first + k) [])) where
-
         pub wires-AreWords : AreWords (slice_range words first (first + pins))
         wires-AreWords = AreWords-each (slice_range words first (first + pins)) (λ k less.
             let less' : k < pins = omega (arith, less, length-wires) in
@@ -156,10 +152,10 @@ module _ (netlist : Netlist) (circuit : IsCircuit netlist) (input start : List B
         wires-present = ext_get_or false (present_letters (slice_range words first (first + pins))) (slice_range start first (first + pins))
             (length-map (slice_range words first (first + pins)) first_letter ∙ sym (length-row start whole))
             (λ k less.
-              let less' : k < pins = omega (arith, less, length-map (slice_range words first (first + pins)) first_letter, length-wires) in
-              get_or-map first_letter (slice_range words first (first + pins)) k [] false (omega (arith, less', length-wires))
-              ∙ (ap first_letter (at-part words first pins k [] less')
-                ∙ ((followed k less').first ∙ sym (at-part start first pins k false less'))))
+            let less' : k < pins = omega (arith, less, length-map (slice_range words first (first + pins)) first_letter, length-wires) in
+            get_or-map first_letter (slice_range words first (first + pins)) k [] false (omega (arith, less', length-wires))
+            ∙ (ap first_letter (at-part words first pins k [] less')
+            ∙ ((followed k less').first ∙ sym (at-part start first pins k false less'))))
 
         follows-gate : IsWordOf kind (slice_range words first (first + pins)) (get_or words i []) → IsFollowed (network_of netlist) input start i (get_or words i [])
         follows-gate is_word =
@@ -168,18 +164,18 @@ module _ (netlist : Netlist) (circuit : IsCircuit netlist) (input start : List B
               is_word = is_word.is_word;
               first = is_word.begins ∙ (ap (gate_value kind) wires-present ∙ sym (begins-stable i few no_input ∙ ap (driven input start) driven_by));
               bound = λ steps run.
-                let late = follows i few no_input steps run in
-                let same = same-along (λ s. excitation (network_of netlist) input s i) (λ s. gate_value kind (slice_range s first (first + pins))) start steps (λ s. ap (driven input s) driven_by) in
-                let part = part-along (gate_value kind) (λ s. slice_range s first (first + pins)) (length (network_of netlist)) (slice_range words first (first + pins)) start steps wires-AreWords wires-present whole length-row
-                    (λ k less.
-                      let less' : k < pins = omega (arith, less, length-wires) in
-                      let column = same-along (λ s. get_or (slice_range s first (first + pins)) k false) (λ s. bit_at s (first + k)) start steps (λ s. at-part s first pins k false less') in
-                      let bound = (followed k less').bound steps run in
-                      let word : change_count (get_or (slice_range words first (first + pins)) k []) ≡ change_count (get_or words (first + k) []) = ap change_count (at-part words first pins k [] less') in
-                      omega arith) in
-                let counted = part.2 in
-                let bound = part-IsWordOf kind (slice_range words first (first + pins)) wires-AreWords (takes-HasPins kind (length (slice_range words first (first + pins))) takes-wires) (get_or words i []) is_word part.0 part.1 in
-                omega arith
+                  let late = follows i few no_input steps run in
+                  let same = same-along (λ s. excitation (network_of netlist) input s i) (λ s. gate_value kind (slice_range s first (first + pins))) start steps (λ s. ap (driven input s) driven_by) in
+                  let part = part-along (gate_value kind) (λ s. slice_range s first (first + pins)) (length (network_of netlist)) (slice_range words first (first + pins)) start steps wires-AreWords wires-present whole length-row
+                  (λ k less.
+                  let less' : k < pins = omega (arith, less, length-wires) in
+                  let column = same-along (λ s. get_or (slice_range s first (first + pins)) k false) (λ s. bit_at s (first + k)) start steps (λ s. at-part s first pins k false less') in
+                  let bound = (followed k less').bound steps run in
+                  let word : change_count (get_or (slice_range words first (first + pins)) k []) ≡ change_count (get_or words (first + k) []) = ap change_count (at-part words first pins k [] less') in
+                  omega arith) in
+                  let counted = part.2 in
+                  let bound = part-IsWordOf kind (slice_range words first (first + pins)) wires-AreWords (takes-HasPins kind (length (slice_range words first (first + pins))) takes-wires) (get_or words i []) is_word part.0 part.1 in
+                  omega arith;
             }
 
     -- every feedback-free variable

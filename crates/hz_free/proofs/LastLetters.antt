@@ -52,5 +52,5 @@ pub last-IsWordOf : (kind : Kind) (words : List (List Bool)) (word : List Bool) 
 last-IsWordOf kind words word is =
     last_letter-last_after word is.is_word
     ∙ (ap (λ letter. last_after letter (change_count word)) is.begins
-      ∙ (ap (last_after (gate_value kind (present_letters words))) (sym is.attained.2)
-        ∙ walk-last (gate_value kind) words is.attained.0 is.attained.1))
+    ∙ (ap (last_after (gate_value kind (present_letters words))) (sym is.attained.2)
+    ∙ walk-last (gate_value kind) words is.attained.0 is.attained.1))

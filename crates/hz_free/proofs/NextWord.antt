@@ -41,10 +41,12 @@ default-same (x ∷ xs) (suc k) d e few = default-same xs k d e (omega arith)
 driven-entry : (netlist : Netlist) (var : ℕ) (entry : Entry) → IsCircuit netlist → IsEntryAt netlist var entry → driver_at (network_of netlist) var ≡ driver_of entry → var < length (network_of netlist) → IsDrivenAs netlist var (seen_as entry)
 driven-entry netlist var (InputEntry number) circuit at driven within =
     (driven, subst (λ (n : ℕ). n < netlist.inputs) (sym at.0) at.1)
-driven-entry netlist var (GateEntry kind first pins) circuit at driven within =
-    (at.0, driven ∙ (ap (λ (n : ℕ). Function kind n pins) at.1 ∙ ap (λ (n : ℕ). Function kind (first_wire netlist var) n) at.2),
-     subst (λ (n : ℕ). first_wire netlist var + n ≤ length (network_of netlist)) at.2 (subst (λ (n : ℕ). n + pins ≤ length (network_of netlist)) at.1 at.3),
-     subst (λ (n : ℕ). IsTrue (takes kind n)) at.2 at.4)
+driven-entry netlist var (GateEntry kind first pins) circuit at driven within = (
+  at.0,
+  driven ∙ (ap (λ (n : ℕ). Function kind n pins) at.1 ∙ ap (λ (n : ℕ). Function kind (first_wire netlist var) n) at.2),
+  subst (λ (n : ℕ). first_wire netlist var + n ≤ length (network_of netlist)) at.2 (subst (λ (n : ℕ). n + pins ≤ length (network_of netlist)) at.1 at.3),
+  subst (λ (n : ℕ). IsTrue (takes kind n)) at.2 at.4,
+)
 driven-entry netlist var (WireEntry gate pin source) circuit at driven within =
     (driven, let inside = at.1 in omega (arith, inside, at.0, within))
 
@@ -55,13 +57,13 @@ pub driven-as : (netlist : Netlist) (var : ℕ) (kind : VarKind) → IsCircuit n
 driven-as netlist var kind circuit whole within seen =
     let few : var < variable_count netlist = omega (arith, length-network_of netlist circuit) in
     let read : get_or (entries_of netlist) var (InputEntry 0) ≡ get_or (entries_of netlist) var (get_or (entries_of netlist) var (InputEntry 0)) =
-        default-same (entries_of netlist) var (InputEntry 0) (get_or (entries_of netlist) var (InputEntry 0)) (omega (arith, length-entries_of netlist circuit)) in
+    default-same (entries_of netlist) var (InputEntry 0) (get_or (entries_of netlist) var (InputEntry 0)) (omega (arith, length-entries_of netlist circuit)) in
     subst (IsDrivenAs netlist var)
     (some-same (seen_as (get_or (entries_of netlist) var (InputEntry 0))) kind
-      (sym (variables_of-entry netlist var (get_or (entries_of netlist) var (InputEntry 0)) circuit few read) ∙ seen))
+    (sym (variables_of-entry netlist var (get_or (entries_of netlist) var (InputEntry 0)) circuit few read) ∙ seen))
     (driven-entry netlist var (get_or (entries_of netlist) var (InputEntry 0)) circuit
-      (IsEntryAt-entries_of netlist var (InputEntry 0) circuit whole few)
-      (driver_at-entry netlist var (get_or (entries_of netlist) var (InputEntry 0)) circuit few read) within)
+    (IsEntryAt-entries_of netlist var (InputEntry 0) circuit whole few)
+    (driver_at-entry netlist var (get_or (entries_of netlist) var (InputEntry 0)) circuit few read) within)
 
 same-word : (a b : Word) → Some a ≡ Some b → a ≡ b
 same-word a b e = cc
@@ -86,17 +88,17 @@ input_word-IsWord true false = (λ e. cc, tt)
 input_word-IsWord false true = (λ e. cc, tt)
 
 module _ (netlist : Netlist) (circuit : IsCircuit netlist) (input start : List Bool) (cap var : ℕ) (told : List (Option Word)) where
-
   reads-told : (ready : IsReady (network_of netlist) input start cap told var) → (j : ℕ) → Reads (driver_at (network_of netlist) var) j → get_or told j None ≡ Some (capped cap (get_or ready.words j []))
   reads-told ready j reads = ready.are_told.tells j (ready.reads j reads)
 
   -- an input
   pub next-input : (number : ℕ) (outcome : Word) → driver_at (network_of netlist) var ≡ External number → capped cap (input_word (bit_at start var) (bit_at input number)) ≡ outcome → IsNextWord (network_of netlist) input start cap told var outcome
-  next-input number outcome driven same ready =
-      (input_word (bit_at start var) (bit_at input number),
-       input_word-IsWord (bit_at start var) (bit_at input number),
-       subst (λ (driver : Driver). IsDrivenWord input start ready.words var driver (input_word (bit_at start var) (bit_at input number))) (sym driven) refl,
-       same)
+  next-input number outcome driven same ready = (
+    input_word (bit_at start var) (bit_at input number),
+    input_word-IsWord (bit_at start var) (bit_at input number),
+    subst (λ (driver : Driver). IsDrivenWord input start ready.words var driver (input_word (bit_at start var) (bit_at input number))) (sym driven) refl,
+    same,
+  )
 
   -- a wire
   pub source-told : (source : ℕ) → IsReady (network_of netlist) input start cap told var → driver_at (network_of netlist) var ≡ Source source → IsSome (get_or told source None)
@@ -107,15 +109,15 @@ module _ (netlist : Netlist) (circuit : IsCircuit netlist) (input start : List B
   pub next-wire : (source : ℕ) (outcome : Word) → driver_at (network_of netlist) var ≡ Source source → get_or told source None ≡ Some outcome → IsNextWord (network_of netlist) input start cap told var outcome
   next-wire source outcome driven same ready =
       let reads : Reads (driver_at (network_of netlist) var) source = subst (λ (driver : Driver). Reads driver source) (sym driven) refl in
-      let tells = reads-told ready source reads in
-      (get_or ready.words source [],
-       ready.are_told.is_word source (ready.reads source reads),
-       subst (λ (driver : Driver). IsDrivenWord input start ready.words var driver (get_or ready.words source [])) (sym driven) refl,
-       same-word (capped cap (get_or ready.words source [])) outcome (sym tells ∙ same))
+      let tells = reads-told ready source reads in (
+        get_or ready.words source [],
+        ready.are_told.is_word source (ready.reads source reads),
+        subst (λ (driver : Driver). IsDrivenWord input start ready.words var driver (get_or ready.words source [])) (sym driven) refl,
+        same-word (capped cap (get_or ready.words source [])) outcome (sym tells ∙ same),
+      )
 
   -- a gate
   module _ (kind : Kind) (first count : ℕ) (driven : driver_at (network_of netlist) var ≡ Function kind first count) (inside : first + count ≤ length (network_of netlist)) where
-
     wire-reads : (k : ℕ) → k < count → Reads (driver_at (network_of netlist) var) (first + k)
     wire-reads k few = subst (λ (driver : Driver). Reads driver (first + k)) (sym driven) (omega arith, omega arith)
 
@@ -140,20 +142,21 @@ module _ (netlist : Netlist) (circuit : IsCircuit netlist) (input start : List B
         let long_words : length (slice_range ready.words first (first + count)) ≡ count = length-part ready.words first count (λ k few. omega arith) in
         let long_told = length-wires ready in
         let are_words : AreWords (slice_range ready.words first (first + count)) = AreWords-each (slice_range ready.words first (first + count)) (λ k few.
-            subst (λ (word : List Bool). IsWord word) (sym (at-part ready.words first count k [] (omega arith)))
-            (ready.are_told.is_word (first + k) (ready.reads (first + k) (wire-reads k (omega arith))))) in
+        subst (λ (word : List Bool). IsWord word) (sym (at-part ready.words first count k [] (omega arith)))
+        (ready.are_told.is_word (first + k) (ready.reads (first + k) (wire-reads k (omega arith))))) in
         let same : map (λ (word : List Bool). Some (capped cap word)) (slice_range ready.words first (first + count)) ≡ slice_range told first (first + count) =
-            ext_get_or None (map (λ (word : List Bool). Some (capped cap word)) (slice_range ready.words first (first + count))) (slice_range told first (first + count))
-            (length-map (slice_range ready.words first (first + count)) (λ (word : List Bool). Some (capped cap word)) ∙ (long_words ∙ sym long_told))
-            (λ k few.
-              let less : k < count = omega (arith, few, length-map (slice_range ready.words first (first + count)) (λ (word : List Bool). Some (capped cap word))) in
-              get_or-map (λ (word : List Bool). Some (capped cap word)) (slice_range ready.words first (first + count)) k [] None (omega arith)
-              ∙ (ap (λ (word : List Bool). Some (capped cap word)) (at-part ready.words first count k [] less) ∙ sym (at-wire ready k None less))) in
-        let made = is_gate (slice_range ready.words first (first + count)) are_words same in
-        (made.0,
-         made.1.is_word,
-         subst (λ (driver : Driver). IsDrivenWord input start ready.words var driver made.0) (sym driven) made.1,
-         made.2)
+        ext_get_or None (map (λ (word : List Bool). Some (capped cap word)) (slice_range ready.words first (first + count))) (slice_range told first (first + count))
+        (length-map (slice_range ready.words first (first + count)) (λ (word : List Bool). Some (capped cap word)) ∙ (long_words ∙ sym long_told))
+        (λ k few.
+        let less : k < count = omega (arith, few, length-map (slice_range ready.words first (first + count)) (λ (word : List Bool). Some (capped cap word))) in
+        get_or-map (λ (word : List Bool). Some (capped cap word)) (slice_range ready.words first (first + count)) k [] None (omega arith)
+        ∙ (ap (λ (word : List Bool). Some (capped cap word)) (at-part ready.words first count k [] less) ∙ sym (at-wire ready k None less))) in
+        let made = is_gate (slice_range ready.words first (first + count)) are_words same in (
+          made.0,
+          made.1.is_word,
+          subst (λ (driver : Driver). IsDrivenWord input start ready.words var driver made.0) (sym driven) made.1,
+          made.2,
+        )
 
 -- the driver of a gate by the numbers that are read
 pub driven-at : (net : List Driver) (var : ℕ) (kind : Kind) (first count read_first read_count : ℕ) → driver_at net var ≡ Function kind first count → read_first ≡ first → read_count ≡ count → driver_at net var ≡ Function kind read_first read_count

@@ -17,6 +17,8 @@ ghost use Rattle.hz_free.specs.VariableWords.{AreVariableWords, variable_history
 
 mod free;
 mod order;
+#[cfg(test)]
+mod tests;
 mod words;
 
 pub use free::Free;

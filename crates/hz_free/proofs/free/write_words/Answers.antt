@@ -28,7 +28,7 @@ word_of-word-requires-clause-ready c =
 pub bounds-out-var : goal.bounds-out-var
 bounds-out-var c =
     let below = var-below c.args.net.now c.args.input.now c.args.start.now c.args.cap (record { free = c.requires.part.0; order = c.args.order.now }) c.requires.part.1
-        c.loop-var.var-index c.loop-var-test.true c.loop-var.out c.loop-var.invariant.0 c.loop-var.invariant.1 in
+    c.loop-var.var-index c.loop-var-test.true c.loop-var.out c.loop-var.invariant.0 c.loop-var.invariant.1 in
     let long = c.loop-var.auto.out ∙ (c.clear.auto.out ∙ c.requires.out) in
     omega (arith, below, long)
 
