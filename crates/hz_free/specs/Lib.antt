@@ -3,3 +3,4 @@ pub mod VariableWords
 pub mod Order
 pub mod FreePart
 pub mod Told
+pub mod Feedback
