@@ -29,11 +29,11 @@ beq-not true false = refl
 beq-not false true = refl
 beq-not false false = refl
 
-last_after-suc : (letter : Bool) (n : ℕ) → last_after (not letter) n ≡ last_after letter (suc n)
+pub last_after-suc : (letter : Bool) (n : ℕ) → last_after (not letter) n ≡ last_after letter (suc n)
 last_after-suc letter n =
     ap not (beq-not letter (n % 2 == 1) ∙ ap (beq letter) (sym (odd-suc n)))
 
-last_after-zero : (letter : Bool) → letter ≡ last_after letter 0
+pub last_after-zero : (letter : Bool) → letter ≡ last_after letter 0
 last_after-zero true = refl
 last_after-zero false = refl
 

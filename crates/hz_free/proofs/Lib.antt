@@ -1,0 +1,15 @@
+pub mod Lists
+pub mod Kahn
+pub mod Counting
+pub mod Chains
+pub mod Parts
+pub mod Gathered
+pub mod NextWord
+pub mod AllWords
+pub mod Delays
+pub mod Columns
+pub mod Covered
+pub mod LastLetters
+pub mod Agreement
+pub mod Changing
+pub mod Laws

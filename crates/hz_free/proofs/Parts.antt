@@ -1,0 +1,127 @@
+-- The finished order is the feedback-free part: what is not in it reads something that is not in it.
+use Rattle.std.proofs.Common.{◌≡◌, ℕ, zero, suc, ◌+◌, ◌<◌, ◌≤◌, ◌≢◌, ◌⊎◌, Bool, true, false, List, [], ◌∷◌, ◌++◌, map, length, take, get_or, IsTrue, refl, sym, ap, ◌∙◌, subst, arith, inl, inr, eqb}
+use Rattle.std.specs.Prelude.{Contains}
+use Rattle.std.proofs.lemmas.Bool.{cases_Bool, cases_lt, cases_eq, or_cases, both_ways, eqb-true, eq-eqb}
+use Rattle.std.proofs.lemmas.List.{length-map, get_or-map}
+use Rattle.hz_core.specs.Netlist.{Netlist, IsCircuit}
+use Rattle.hz_net.specs.Network.{Driver, network_of, driver_at, bit_at}
+use Rattle.hz_net.specs.Reads.{Reads, readers_of, AreReaders, IsWired}
+use Rattle.hz_net.proofs.Readers.{AreReaders-readers_of}
+use Rattle.hz_net.proofs.Wired.{wired-network_of}
+use Rattle.hz_gmw.specs.Runs.{is_listed}
+use Rattle.hz_free.specs.Chains.{IsFeedbackFree}
+use Rattle.hz_free.specs.Order.{occurrences, unplaced, IsOrdering}
+use Rattle.hz_free.specs.FreePart.{FreePart, IsFreePart}
+use Rattle.hz_free.proofs.Lists.{listed-place, listed-cases, listed-one}
+use Rattle.hz_free.proofs.Kahn.{eqb-self, occurrences-same, occurrences-other, IsUnplaced, unplaced-some, at-listed}
+use Rattle.hz_free.proofs.Chains.{free-from_reads, reads-inside, not-free}
+use Rattle.std.proofs.Math.Seq.{take-suc, take-length}
+
+-- occurrences and elements
+pub occurrences-Contains : (i : ℕ) (list : List ℕ) → 1 ≤ occurrences i list → Contains list i
+occurrences-Contains i [] some = absurd (omega arith)
+occurrences-Contains i (j ∷ list) some =
+    elim (cases_eq i j) [
+      | inl e ↦ (0, omega arith, sym e)
+      | inr ne ↦
+          let other = occurrences-other i j list ne in
+          let later = occurrences-Contains i list (omega arith) in
+          (suc later.0, omega (arith, later.1), later.2)
+    ]
+
+pub occurrences-at : (list : List ℕ) (k i : ℕ) → k < length list → get_or list k i ≡ i → 1 ≤ occurrences i list
+occurrences-at [] k i few at = absurd (omega arith)
+occurrences-at (j ∷ list) zero i few at = subst (λ (m : ℕ). 1 ≤ occurrences i (m ∷ list)) (sym at) (let same = occurrences-same i list in omega arith)
+occurrences-at (j ∷ list) (suc k) i few at =
+    let later = occurrences-at list k i (omega arith) at in
+    elim (cases_eq i j) [
+      | inl e ↦ subst (λ (m : ℕ). 1 ≤ occurrences i (m ∷ list)) e (let same = occurrences-same i list in omega arith)
+      | inr ne ↦ let other = occurrences-other i j list ne in omega arith
+    ]
+
+module _ (netlist : Netlist) (circuit : IsCircuit netlist) (unread order : List ℕ) (is : IsOrdering (readers_of netlist) (length (network_of netlist)) (length order) [] unread order) where
+  net : List Driver
+  net = network_of netlist
+
+  wired : IsWired (network_of netlist)
+  wired = wired-network_of netlist circuit
+
+  -- a reader reads what it counts, and counts what it reads
+  reads-occurrences : (i j : ℕ) → j < length (network_of netlist) → Reads (driver_at (network_of netlist) i) j → 1 ≤ occurrences i (readers_of netlist j)
+  reads-occurrences i j inside reads =
+      let there = (AreReaders-readers_of netlist circuit j inside).every i reads in
+      occurrences-at (readers_of netlist j) there.0 i there.1 there.2
+
+  occurrences-reads : (i j : ℕ) → j < length (network_of netlist) → 1 ≤ occurrences i (readers_of netlist j) → Reads (driver_at (network_of netlist) i) j
+  occurrences-reads i j inside some =
+      (AreReaders-readers_of netlist circuit j inside).each i (occurrences-Contains i (readers_of netlist j) some)
+
+  all : take (length order) order ≡ order
+  all = take-length order
+
+  after-reads : (at j : ℕ) → at < length order → Reads (driver_at (network_of netlist) (get_or order at 0)) j → is_listed (take at order) j ≡ true
+  after-reads at j few reads =
+      let inside = reads-inside (network_of netlist) (get_or order at 0) j wired reads in
+      is.after at j few inside (reads-occurrences (get_or order at 0) j inside reads)
+
+  -- what is in the order is feedback-free
+  listed-free : (at i : ℕ) → at ≤ length order → is_listed (take at order) i ≡ true → IsFeedbackFree (network_of netlist) i
+  listed-free zero i within there = absurd (both_ways false refl there)
+  listed-free (suc at) i within there =
+      let few : at < length order = omega arith in
+      elim (listed-cases (take at order) (get_or order at 0 ∷ []) i (subst (λ (list : List ℕ). is_listed list i ≡ true) (take-suc order at 0 few) there)) [
+        | inl earlier ↦ listed-free at i (omega arith) earlier
+        | inr here ↦
+            subst (λ (m : ℕ). IsFeedbackFree (network_of netlist) m) (sym (listed-one i (get_or order at 0) here))
+            (free-from_reads (network_of netlist) (get_or order at 0) (λ j reads. listed-free at j (omega arith) (after-reads at j few reads)))
+      ]
+
+  pub order-free : (i : ℕ) → is_listed order i ≡ true → IsFeedbackFree (network_of netlist) i
+  order-free i there = listed-free (length order) i (omega arith) (subst (λ (list : List ℕ). is_listed list i ≡ true) (sym all) there)
+
+  -- what is not in the order
+  IsLeft : ℕ → Type 0
+  IsLeft i = (i < length (network_of netlist)) × (is_listed order i ≡ false)
+
+  left-on : (i : ℕ) → IsLeft i → (j : ℕ) × Reads (driver_at (network_of netlist) i) j × IsLeft j
+  unfolding IsLeft
+  left-on i left =
+      let counted = is.counted i left.0 in
+      let some : 1 ≤ get_or unread i 0 =
+      elim (cases_lt 0 (get_or unread i 0)) [
+        | inl positive ↦ omega arith
+        | inr none ↦
+            let nothing : eqb (get_or unread i 0) 0 ≡ true = eq-eqb (get_or unread i 0) 0 (omega arith) in
+            absurd (both_ways (is_listed order i) left.1 (is.listed i left.0 ∙ nothing))
+      ] in
+      let found = unplaced-some (readers_of netlist) (take (length order) order) (length (network_of netlist)) i (omega arith) in
+      (found.var, occurrences-reads i found.var found.below found.read, (found.below, subst (λ (list : List ℕ). is_listed list found.var ≡ false) all found.out))
+
+  left-not_free : (i : ℕ) → IsLeft i → IsFeedbackFree (network_of netlist) i → ⊥
+  unfolding IsLeft
+  left-not_free i left free = not-free (network_of netlist) IsLeft (λ i left. left.0) left-on i left free
+
+  pub free-order : (i : ℕ) → i < length (network_of netlist) → IsFeedbackFree (network_of netlist) i → is_listed order i ≡ true
+  unfolding IsLeft
+  free-order i few free =
+      elim (cases_Bool (is_listed order i)) [
+        | inl there ↦ there
+        | inr out ↦ absurd (left-not_free i (few, out) free)
+      ]
+
+  -- the part, with its marks made of the counts
+  pub free-IsFreePart : (free : List Bool) → free ≡ map (λ n. eqb n 0) unread → IsFreePart netlist (record { free = free; order = order })
+  free-IsFreePart free same =
+      let long : length free ≡ length (network_of netlist) = ap length same ∙ (length-map unread (λ n. eqb n 0) ∙ is.long) in
+      let marks : (i : ℕ) → i < length (network_of netlist) → is_listed order i ≡ get_or free i false =
+      λ i few.
+      let unread_long = is.long in
+      is.listed i few ∙ sym (ap (λ marks. get_or marks i false) same ∙ get_or-map (λ n. eqb n 0) unread i 0 false (omega arith)) in
+      record {
+        long = long;
+        exact = λ i few. (λ marked. order-free i (marks i few ∙ marked), λ is_free. sym (marks i few) ∙ free-order i few is_free);
+        listed = marks;
+        once = is.once;
+        inside = is.inside;
+        after = after-reads;
+      }

@@ -1,0 +1,6 @@
+-- The words so far.
+use Rattle.std.proofs.Common.{◌≡◌, map, take, Some}
+use Rattle.hz_free.proofs.words.gather.Given as goal
+
+abbrev pub invariant-loop-pin : goal.invariant-loop-pin
+invariant-loop-pin l = map Some (take l.pin l.pins) ≡ take l.pin l.wires

@@ -1,0 +1,171 @@
+ghost use Rattle.std.specs.Prelude.{◌≡◌, ◌==◌, ◌<◌, ◌≤◌, ◌↔◌, ℕ, Bool, List, [], length, take, map, IfOk, IsTrue, None, slice_index_or};
+ghost use Rattle.hz_core.specs.Netlist.{Netlist};
+ghost use Rattle.hz_net.specs.Network.{network_of, bit_at, IsStable};
+ghost use Rattle.hz_net.specs.Reads.{readers_of};
+ghost use Rattle.hz_free.specs.Chains.{IsFeedbackFree};
+ghost use Rattle.hz_free.specs.Order.{AreReads};
+ghost use Rattle.hz_free.specs.FreePart.{IsFreePart};
+ghost use Rattle.hz_free.specs.Told.{IsReady, IsNextWord};
+ghost use Rattle.hz_free.specs.VariableWords.{AreCappedWords};
+
+use crate::order::{count_reads, place_all};
+use crate::words::{gate_word, input_word};
+use hz_core::{MAX_PINS, Memory};
+use hz_net::{Net, VarKind};
+use hz_word::{Count, Word};
+use std::alloc::Global;
+use std::marker::Model;
+
+/// The feedback-free part of a network: the variables from which no chain of readers leads back, from a reader to what it
+/// reads, so that one of them comes twice.
+///
+/// It is made for one network, and its calls are given that network.
+#[derive(Debug, Drop)]
+pub struct Free {
+    free: Vec<bool>,
+    order: Vec<u32>,
+}
+
+impl Model for Free {
+    ghost use Rattle.hz_free.specs.FreePart.{FreePart};
+
+    ghost Value = { FreePart };
+
+    ghost view = { λ fields. record { free = fields.free.items; order = fields.order.items } };
+}
+
+impl Free {
+    /// The feedback-free part of a network, in time linear in its variables.
+    pub fn build(alloc: Global, net: &Net) -> Result<Free, Memory>
+        ensures { IfOk result (λ free. IsFreePart net.now free) }
+    {
+        let mut unread = count_reads(alloc, net)?;
+        Free::from_reads(alloc, net, unread.as_mut_slice())
+    }
+
+    // The same, given for each variable how many variables it reads.
+    fn from_reads(alloc: Global, net: &Net, unread: &mut [u32]) -> Result<Free, Memory>
+        requires { AreReads (readers_of net.now) (length (network_of net.now)) (length (network_of net.now)) [] unread.old }
+        ensures { IfOk result (λ free. IsFreePart net.now free) }
+    {
+        let _variables = net.len();
+        let order = place_all(alloc, net, unread)?;
+        let free = marks(alloc, unread)?;
+        Ok(Free { free, order })
+    }
+
+    /// Whether a variable is feedback-free.
+    pub fn is_free(&self, var: u32) -> bool
+        requires { var < length self.now.free }
+        ensures value { result ≡ bit_at self.now.free var }
+        ensures exact { (netlist : Netlist) → IsFreePart netlist self.now → IsTrue result ↔ IsFeedbackFree (network_of netlist) var }
+    {
+        self.free[var as usize]
+    }
+
+    /// Writes the capped word of each feedback-free variable, from a start under a new input, and None for the others.
+    pub fn words(
+        &self,
+        net: &Net,
+        start: &[bool],
+        input: &[bool],
+        cap: u64,
+        out: &mut [Option<Word>],
+    )
+        requires part { IsFreePart net.now self.now }
+        requires start { length start.now ≡ length (network_of net.now) }
+        requires stable { IsStable (network_of net.now) (take net.now.inputs start.now) start.now }
+        requires input { length input.now ≡ net.now.inputs }
+        requires cap_low { 1 ≤ cap }
+        requires cap_high { cap ≤ 1000000 }
+        requires out { length out.old ≡ length (network_of net.now) }
+        ensures { AreCappedWords (network_of net.now) input.now start.now cap out.new }
+    {
+        write_words(net, self.order.as_slice(), start, input, cap, out);
+    }
+}
+
+// The words of the variables of an order, one after the other.
+fn write_words(
+    net: &Net,
+    order: &[u32],
+    start: &[bool],
+    input: &[bool],
+    cap: u64,
+    out: &mut [Option<Word>],
+)
+    requires part { (free : List Bool) × IsFreePart net.now (record { free = free; order = order.now }) }
+    requires start { length start.now ≡ length (network_of net.now) }
+    requires input { length input.now ≡ net.now.inputs }
+    requires cap_low { 1 ≤ cap }
+    requires cap_high { cap ≤ 1000000 }
+    requires out { length out.old ≡ length (network_of net.now) }
+    ensures { AreCappedWords (network_of net.now) input.now start.now cap out.new }
+{
+    clear(out);
+    let mut pins = [NO_WORD; MAX_PINS];
+    for var in order {
+        let word = word_of(net, start, input, cap, out, &mut pins, *var);
+        out[*var as usize] = Some(word);
+    }
+}
+
+// Room for a word.
+const NO_WORD: Word = Word {
+    first: false,
+    changes: Count::Exact(0),
+};
+
+// No variable has a word.
+fn clear(out: &mut [Option<Word>])
+    ensures { (i : ℕ) → slice_index_or out.new i None ≡ None }
+{
+    for word in out.iter_mut() {
+        *word = None;
+    }
+}
+
+// The word of a variable, once all that it reads have one.
+fn word_of(
+    net: &Net,
+    start: &[bool],
+    input: &[bool],
+    cap: u64,
+    out: &[Option<Word>],
+    pins: &mut [Word],
+    var: u32,
+) -> Word
+    requires var { var < length (network_of net.now) }
+    requires start { length start.now ≡ length (network_of net.now) }
+    requires input { length input.now ≡ net.now.inputs }
+    requires cap_low { 1 ≤ cap }
+    requires cap_high { cap ≤ 1000000 }
+    requires room { 256 ≤ length pins.old }
+    requires ready { IsReady (network_of net.now) input.now start.now cap out.now var }
+    ensures { IsNextWord (network_of net.now) input.now start.now cap out.now var result }
+{
+    let _variables = net.len();
+    match net.kind_of(var) {
+        VarKind::Input { number } => input_word(start[var as usize], input[number as usize]),
+        VarKind::Gate { kind } => {
+            let (first, count) = net.wires_in(var);
+            gate_word(
+                kind,
+                &out[first as usize..(first + count) as usize],
+                cap,
+                pins,
+            )
+        }
+        VarKind::Wire { source, .. } => out[source as usize].unwrap(),
+    }
+}
+
+// The variables that read nothing that is not in the order.
+fn marks(alloc: Global, unread: &[u32]) -> Result<Vec<bool>, Memory>
+    ensures { IfOk result (λ free. free.items ≡ map (λ reads. reads == 0) unread.now) }
+{
+    match unread.iter().map(|reads| *reads == 0).collect(alloc) {
+        Ok(free) => Ok(free),
+        Err(_) => Err(Memory),
+    }
+}
