@@ -15,8 +15,8 @@ use Rattle.hz_gmw.specs.Cycles.{states_of, IsCycle, WaitsAt, IsTransient, IsNont
 use Rattle.hz_gmw.proofs.CoverB.{length-end_of}
 use Rattle.hz_gmw.proofs.Paths.{end_of-append, IsRun-append, IsCut, cut-member}
 use Rattle.hz_reach.specs.Counts.{FlipsPerUnknown, StepsAreNoMoreThanFlips}
-use Rattle.hz_reach.specs.Spread.{changes_in, IsWireInto}
-use Rattle.hz_reach.proofs.Turns.{IsWired}
+use Rattle.hz_net.specs.Reads.{IsWireInto, IsWired}
+use Rattle.hz_reach.specs.Spread.{changes_in}
 use Rattle.hz_cycle.specs.Cycles.{IsCycleOf}
 use Rattle.hz_cycle.specs.Pass.{IsFixed, AreEnough, IsPass}
 use Rattle.hz_cycle.specs.Turned.{IsTurned}

@@ -8,7 +8,7 @@ use Rattle.hz_net.specs.Network.{network_of, Source, driver_at}
 use Rattle.hz_net.specs.Variables.{first_wire}
 use Rattle.hz_net.proofs.Places.{no_gate, pins_of, driver_at-gate}
 use Rattle.hz_net.proofs.Wires.{IsWireFrom, IsWireFrom-driver_at}
-use Rattle.hz_reach.specs.Spread.{IsWireInto}
+use Rattle.hz_net.specs.Reads.{IsWireInto}
 
 -- the gate that has a place among all pins
 record IsAmongPins (gates : List Gate) (place : ℕ) : Type 0 where

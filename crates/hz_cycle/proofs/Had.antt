@@ -5,8 +5,8 @@ use Rattle.hz_core.specs.declared.kind.Kind.{Kind}
 use Rattle.hz_net.specs.Network.{Driver, External, Function, Source, driver_at, bit_at, value_at}
 use Rattle.hz_net.specs.Passes.{IsKnown, IsUnknown}
 use Rattle.hz_reach.specs.Order.{IsEarlier}
-use Rattle.hz_reach.specs.Spread.{changes_in, IsWireInto}
-use Rattle.hz_reach.proofs.Turns.{IsWired}
+use Rattle.hz_net.specs.Reads.{IsWireInto, IsWired}
+use Rattle.hz_reach.specs.Spread.{changes_in}
 use Rattle.hz_cycle.specs.Pass.{IsFixed}
 use Rattle.hz_cycle.proofs.Settled.{either-value, no-input, wire-source}
 use Rattle.hz_cycle.proofs.Inside.{IsShownInside, HasPatternInside, IsInside}

@@ -8,7 +8,7 @@ use Rattle.hz_core.specs.Pattern.{IsPattern}
 use Rattle.hz_net.specs.Network.{Driver, Function, Source, driver_at, bit_at, value_at}
 use Rattle.hz_net.specs.Passes.{IsKnown, IsUnknown}
 use Rattle.hz_reach.specs.Order.{IsEarlier}
-use Rattle.hz_reach.specs.Spread.{IsWireInto}
+use Rattle.hz_net.specs.Reads.{IsWireInto}
 
 -- What the pins of a gate that has had its turn show: a settled pin the bit of its wire; an unsettled pin its source's bit
 -- if the source is not earlier and has had its turn, else the complement of its source's bit.

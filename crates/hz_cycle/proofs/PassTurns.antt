@@ -22,12 +22,12 @@ use Rattle.hz_reach.specs.Counts.{FlipsAreChanges, StepsAreNoMoreThanFlips}
 use Rattle.hz_reach.specs.Order.{key_at, IsEarlier, AreByKey}
 use Rattle.hz_reach.specs.Room.{after, Spends}
 use Rattle.hz_reach.specs.Scratched.{Scratched}
-use Rattle.hz_reach.specs.Spread.{changes_in, IsWireInto}
+use Rattle.hz_net.specs.Reads.{IsWireInto, IsWired}
+use Rattle.hz_reach.specs.Spread.{changes_in}
 use Rattle.hz_reach.proofs.Listed.{listed-cases, listed-left, listed-right}
 use Rattle.hz_reach.proofs.PickedLemmas.{only-one, is-one}
 use Rattle.hz_reach.proofs.Places.{listed-at, listed-place}
-use Rattle.hz_reach.proofs.Turns.{IsWired}
-use Rattle.hz_reach.proofs.Wired.{IsGateOf, is_gate_of, wired-network_of}
+use Rattle.hz_net.proofs.Wired.{IsGateOf, is_gate_of, wired-network_of}
 use Rattle.hz_cycle.specs.Marks.{ArePatternWires, MarksPattern, with_fan_out}
 use Rattle.hz_cycle.specs.Pass.{IsFixed, MayBegin, AreEnough, HasRoom, IsPass, IsPassMade}
 use Rattle.hz_cycle.proofs.Settled.{gate-possible, unknown-inside}

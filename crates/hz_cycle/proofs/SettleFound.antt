@@ -21,10 +21,10 @@ use Rattle.hz_gmw.proofs.Paths.{end_of-append, IsRun-append}
 use Rattle.hz_reach.specs.Counts.{FlipsAreChanges, StepsAreNoMoreThanFlips, FlipsPerVariable, FlipsPerUnknown, EndsByChanges}
 use Rattle.hz_reach.specs.Order.{key_at, IsEarlier}
 use Rattle.hz_reach.specs.Room.{Spends}
-use Rattle.hz_reach.specs.Spread.{changes_in, IsWireInto, IsNode, IsSparingRun}
+use Rattle.hz_net.specs.Reads.{IsWireInto, IsNode, IsWired}
+use Rattle.hz_reach.specs.Spread.{changes_in, IsSparingRun}
 use Rattle.hz_reach.proofs.Parts.{driver-inside}
-use Rattle.hz_reach.proofs.Turns.{IsWired}
-use Rattle.hz_reach.proofs.Wired.{wired-network_of}
+use Rattle.hz_net.proofs.Wired.{wired-network_of}
 use Rattle.hz_cycle.specs.Cycles.{IsSettleRun}
 use Rattle.hz_cycle.specs.Pass.{IsFixed, MayBegin, AreEnough, HasRoom, IsPass}
 use Rattle.hz_cycle.specs.Rounds.{AreRoundsOf, IsSettling, AreRoundsMade}

@@ -18,11 +18,10 @@ use Rattle.hz_net.proofs.PartLemmas.{length-part, at-part}
 use Rattle.hz_gmw.specs.Runs.{is_listed, RepeatsNone, IsStep, flipped}
 use Rattle.hz_gmw.proofs.Flips.{length-flipped, at-flipped}
 use Rattle.hz_reach.specs.Order.{IsEarlier}
-use Rattle.hz_reach.specs.Spread.{IsWireInto, IsNode}
+use Rattle.hz_net.specs.Reads.{IsWireInto, IsNode, IsWired}
 use Rattle.hz_reach.specs.Turn.{changed_wires}
 use Rattle.hz_reach.proofs.Parts.{driver-inside, same-part}
 use Rattle.hz_reach.proofs.PickedLemmas.{picked-is, is-picked, picked-once, differs-true, true-differs}
-use Rattle.hz_reach.proofs.Turns.{IsWired}
 use Rattle.hz_cycle.specs.Pass.{IsFixed}
 use Rattle.hz_cycle.proofs.Settled.{unknown-is, is-unknown, either-value, same-known, refines-flipped, unknown-inside, no-input, wire-source}
 use Rattle.hz_cycle.proofs.Earlier.{not-earlier, not-both, earlier-or-not}

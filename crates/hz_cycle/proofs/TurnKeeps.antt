@@ -11,8 +11,7 @@ use Rattle.hz_net.specs.Network.{Driver, External, Function, Source, driver_at, 
 use Rattle.hz_net.specs.Passes.{IsKnown, IsUnknown}
 use Rattle.hz_net.proofs.PartLemmas.{length-part, at-part}
 use Rattle.hz_reach.specs.Order.{IsEarlier}
-use Rattle.hz_reach.specs.Spread.{IsWireInto}
-use Rattle.hz_reach.proofs.Turns.{IsWired}
+use Rattle.hz_net.specs.Reads.{IsWireInto, IsWired}
 use Rattle.hz_cycle.specs.Pass.{IsFixed}
 use Rattle.hz_cycle.proofs.Settled.{either-value, same-known, no-input, wire-source}
 use Rattle.hz_cycle.proofs.Earlier.{not-earlier, not-both, earlier-or-not}

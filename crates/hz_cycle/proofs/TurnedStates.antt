@@ -12,8 +12,7 @@ use Rattle.hz_core.proofs.Patterns.{same-IsPattern}
 use Rattle.hz_net.specs.Network.{Driver, External, Function, Source, driver_at, bit_at, value_at}
 use Rattle.hz_net.specs.Passes.{IsKnown, IsUnknown}
 use Rattle.hz_reach.specs.Order.{IsEarlier}
-use Rattle.hz_reach.specs.Spread.{IsWireInto}
-use Rattle.hz_reach.proofs.Turns.{IsWired}
+use Rattle.hz_net.specs.Reads.{IsWireInto, IsWired}
 use Rattle.hz_cycle.specs.Pass.{IsFixed, MayBegin}
 use Rattle.hz_cycle.specs.Turned.{IsShown, HasPattern, IsTurned}
 use Rattle.hz_cycle.proofs.Settled.{either-value, same-known, no-input, wire-source, unknown-inside}

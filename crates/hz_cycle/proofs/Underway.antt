@@ -13,9 +13,9 @@ use Rattle.hz_gmw.specs.Runs.{is_listed, IsStep, IsRun, flipped, end_of}
 use Rattle.hz_gmw.specs.Cycles.{states_of}
 use Rattle.hz_reach.specs.Order.{IsEarlier}
 use Rattle.hz_reach.specs.Room.{after}
-use Rattle.hz_reach.specs.Spread.{changes_in, IsWireInto}
+use Rattle.hz_net.specs.Reads.{IsWireInto, IsWired}
+use Rattle.hz_reach.specs.Spread.{changes_in}
 use Rattle.hz_reach.proofs.Rooms.{end_of-after}
-use Rattle.hz_reach.proofs.Turns.{IsWired}
 use Rattle.hz_cycle.specs.Pass.{IsFixed}
 use Rattle.hz_cycle.proofs.Earlier.{not-earlier, not-both}
 use Rattle.hz_cycle.proofs.Inside.{IsInside}

@@ -11,7 +11,8 @@ use Rattle.hz_gmw.specs.Runs.{IsRun, end_of}
 use Rattle.hz_gmw.specs.Recorded.{Recorded}
 use Rattle.hz_gmw.specs.Cycles.{states_of}
 use Rattle.hz_reach.specs.Order.{IsEarlier}
-use Rattle.hz_reach.specs.Spread.{changes_in, IsWireInto}
+use Rattle.hz_net.specs.Reads.{IsWireInto}
+use Rattle.hz_reach.specs.Spread.{changes_in}
 use Rattle.hz_cycle.specs.Turned.{IsTurned}
 
 -- a ternary state that one round of Algorithm B leaves as it is

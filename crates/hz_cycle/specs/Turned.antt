@@ -9,7 +9,7 @@ use Rattle.hz_core.specs.Pattern.{IsPattern}
 use Rattle.hz_net.specs.Network.{Driver, Function, Source, driver_at, bit_at, value_at}
 use Rattle.hz_net.specs.Passes.{IsKnown, IsUnknown}
 use Rattle.hz_reach.specs.Order.{IsEarlier}
-use Rattle.hz_reach.specs.Spread.{IsWireInto}
+use Rattle.hz_net.specs.Reads.{IsWireInto}
 
 -- What an unsettled gate's pins show in a turned state: a settled pin the bit of its wire; an unsettled pin the
 -- complement of its source's bit if the source is earlier than the gate, else its source's bit.

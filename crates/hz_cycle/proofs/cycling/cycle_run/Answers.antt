@@ -2,7 +2,7 @@
 use Rattle.std.proofs.Common.{◌≡◌, ◌∙◌, ◌++◌, ℕ, Bool, List, length, sym, ap, subst, arith}
 use Rattle.hz_core.proofs.Refinements.{length-Refines}
 use Rattle.hz_net.specs.Network.{network_of}
-use Rattle.hz_reach.proofs.Wired.{wired-network_of}
+use Rattle.hz_net.proofs.Wired.{wired-network_of}
 use Rattle.hz_cycle.specs.Cycles.{IsCycleOf}
 use Rattle.hz_cycle.proofs.Change.{of-change, change-fixed, unsettled-ranked, ranks-long}
 use Rattle.hz_cycle.proofs.CycleFound.{cycle-found, returned}
