@@ -38,8 +38,12 @@ module _ {net : List Driver} {input : List Bool} {ranks : List ℕ} {b : List Tr
             | inl unsettled ↦ elim (earlier-or-not ranks source gate) [
               | inl earlier ↦ elim (same-or-differ (bit_at begun i) (bit_at begun source)) [
                 | inl same ↦
-                    omega (arith, underway.equal i source gate drives goes earlier (sym (wire-source fixed i source drives) ∙ unknown) unsettled same,
-                    one-at-most had gate, enough.wires i source gate drives goes unknown)
+                    omega (
+                      arith,
+                      underway.equal i source gate drives goes earlier (sym (wire-source fixed i source drives) ∙ unknown) unsettled same,
+                      one-at-most had gate,
+                      enough.wires i source gate drives goes unknown,
+                    )
                 | inr differ ↦
                     omega (arith, twice, one-at-most had source, one-at-most had gate, enough.twice i source gate drives goes unknown unsettled (λ e. differ))
               ]

@@ -47,12 +47,14 @@ goes-somewhere netlist circuit wire source drives =
     let first : first_wire netlist gate ≡ length netlist.names + sum_by pins_of (take at.number netlist.gates) =
     ap (λ (n : ℕ). length netlist.names + sum_by pins_of (take n netlist.gates)) number in
     let pins : length (gate_at netlist gate).sources ≡ pins_of (get_or netlist.gates at.number no_gate) =
-    ap (λ (n : ℕ). pins_of (get_or netlist.gates n no_gate)) number in
-    (gate, record {
-      kind = (gate_at netlist gate).kind;
-      first = first_wire netlist gate;
-      pins = length (gate_at netlist gate).sources;
-      driven = driver_at-gate netlist gate circuit is_gate;
-      above = omega (arith, first, at.above, above);
-      below = omega (arith, first, pins, at.below, above);
-    })
+    ap (λ (n : ℕ). pins_of (get_or netlist.gates n no_gate)) number in (
+      gate,
+      record {
+        kind = (gate_at netlist gate).kind;
+        first = first_wire netlist gate;
+        pins = length (gate_at netlist gate).sources;
+        driven = driver_at-gate netlist gate circuit is_gate;
+        above = omega (arith, first, at.above, above);
+        below = omega (arith, first, pins, at.below, above);
+      },
+    )

@@ -209,9 +209,12 @@ module _ {netlist : Netlist} {ranks : List ℕ} {b : List Tri} {begun : List Boo
       turn-flips : FlipsAreChanges → flip_count made_after ≤ sum_by passing.asked.room.most (range_with_len 0 (length net))
       turn-flips changes =
           let turned = underway-turn passing.asked.fixed.0 passing.asked.fixed.1 in
-          omega (arith, changes net passing.asked.fixed.0 begun made_after turned.run,
-          sum_by-le-sum_by (changes_in made_after) passing.asked.room.most (range_with_len 0 (length net))
-          (underway-few wired passing.asked.fixed.1 (goes-somewhere netlist passing.asked.circuit) turned passing.asked.room.most passing.asked.room.enough))
+          omega (
+            arith,
+            changes net passing.asked.fixed.0 begun made_after turned.run,
+            sum_by-le-sum_by (changes_in made_after) passing.asked.room.most (range_with_len 0 (length net))
+                (underway-few wired passing.asked.fixed.1 (goes-somewhere netlist passing.asked.circuit) turned passing.asked.room.most passing.asked.room.enough),
+          )
 
       turn-steps : FlipsAreChanges → StepsAreNoMoreThanFlips → length made_after ≤ sum_by passing.asked.room.most (range_with_len 0 (length net))
       turn-steps changes fewer =
@@ -235,10 +238,15 @@ module _ {netlist : Netlist} {ranks : List ℕ} {b : List Tri} {begun : List Boo
 
       pub wires-steps : FlipsAreChanges → StepsAreNoMoreThanFlips → wires ≢ [] → 1 ≤ now.spare_steps
       wires-steps changes fewer some =
-          omega (arith, turn-steps changes fewer,
-          length-later (after passing.made (turn_wires scratch.state start pins marks.pattern)) flips,
-          length-after passing.made (turn_wires scratch.state start pins marks.pattern) (λ none. some (same-wires ∙ none)),
-          steps-so-far, passing.spent.steps, passing.asked.room.steps)
+          omega (
+            arith,
+            turn-steps changes fewer,
+            length-later (after passing.made (turn_wires scratch.state start pins marks.pattern)) flips,
+            length-after passing.made (turn_wires scratch.state start pins marks.pattern) (λ none. some (same-wires ∙ none)),
+            steps-so-far,
+            passing.spent.steps,
+            passing.asked.room.steps,
+          )
 
       -- after the first step of the turn
       module _ {later : Scratched} {then : Recorded} {pair : List ℕ} (half : IsHalfTurned netlist (get_or scratch.sorted place 0) wires scratch now later then pair) where
@@ -256,16 +264,32 @@ module _ {netlist : Netlist} {ranks : List ℕ} {b : List Tri} {begun : List Boo
 
         pub pair-flips : FlipsAreChanges → length pair ≤ then.spare_flips
         pair-flips changes =
-            omega (arith, turn-flips changes, flips-in-turn, flips-so-far, passing.spent.flips, passing.asked.room.flips,
-            half.spent.flips, ap flip_count half.steps, flips-after now.steps wires, ap (length {A = ℕ}) same-flips)
+            omega (
+              arith,
+              turn-flips changes,
+              flips-in-turn,
+              flips-so-far,
+              passing.spent.flips,
+              passing.asked.room.flips,
+              half.spent.flips,
+              ap flip_count half.steps,
+              flips-after now.steps wires,
+              ap (length {A = ℕ}) same-flips,
+            )
 
         pub pair-steps : FlipsAreChanges → StepsAreNoMoreThanFlips → 1 ≤ then.spare_steps
         pair-steps changes fewer =
-            omega (arith, turn-steps changes fewer,
-            length-after (after passing.made (turn_wires scratch.state start pins marks.pattern)) flips (λ none. cc),
-            ap (length {A = List ℕ}) steps-then,
-            length-append first.steps (after passing.made (turn_wires scratch.state start pins marks.pattern)),
-            steps-so-far, passing.spent.steps, half.spent.steps, passing.asked.room.steps)
+            omega (
+              arith,
+              turn-steps changes fewer,
+              length-after (after passing.made (turn_wires scratch.state start pins marks.pattern)) flips (λ none. cc),
+              ap (length {A = List ℕ}) steps-then,
+              length-append first.steps (after passing.made (turn_wires scratch.state start pins marks.pattern)),
+              steps-so-far,
+              passing.spent.steps,
+              half.spent.steps,
+              passing.asked.room.steps,
+            )
 
         -- after the second
         pub passing-turn : {last : Scratched} {end : Recorded} → last.sorted ≡ later.sorted → last.marked ≡ [] → last.state ≡ flipped pair later.state → end.steps ≡ after then.steps pair → Spends then end → IsPassing netlist ranks b begun first (place + 1) last end

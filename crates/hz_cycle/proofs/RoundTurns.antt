@@ -137,9 +137,14 @@ module _ {when : List ℕ} {b : List Tri} {begun : List Bool} {first : Recorded}
 
     pub round-steps : FlipsPerVariable → StepsAreNoMoreThanFlips → flips ≢ [] → 1 ≤ now.spare_steps
     round-steps per_variable no_more some =
-        omega (arith, few-steps per_variable no_more,
-        length-after underway.made (differing b scratch.state (slice_range scratch.sorted place next)) (λ none. some (marks ∙ none)),
-        steps-so-far, underway.spent.steps, underway.asked.steps)
+        omega (
+          arith,
+          few-steps per_variable no_more,
+          length-after underway.made (differing b scratch.state (slice_range scratch.sorted place next)) (λ none. some (marks ∙ none)),
+          steps-so-far,
+          underway.spent.steps,
+          underway.asked.steps,
+        )
 
     pub rounds-next : {last : Scratched} {end : Recorded} → last.sorted ≡ scratch.sorted → last.marked ≡ [] → last.state ≡ flipped flips scratch.state → end.steps ≡ after now.steps flips → Spends now end → AreRoundsUnderway when b begun first next last end
     rounds-next {last} {end} sorted marked state steps spent =

@@ -226,8 +226,14 @@ module _ {netlist : Netlist} {input start : List Bool} {a : List Tri} {ranks whe
         values = subst (λ (s : List Bool). Refines s b) (sym ends) is_pass.turned.settled;
         stable = λ i inside known. subst (λ (s : List Bool). bit_at s i ≡ excitation net input s i) (sym ends) (known-stable fixed last i is_pass.turned.settled inside known);
         flips = per_unknown net input start ((spread ++ settle) ++ pass) a 2 whole (a-long before.change) (λ i known.
-            omega (arith, changes-append (spread ++ settle) pass i, changes-append spread settle i, before.sparing.known i known,
-            before.settling.still i (known-round i known), is_pass.known i (λ unknown. known (unsettled-unknown before.change i unknown))))
+            omega (
+              arith,
+              changes-append (spread ++ settle) pass i,
+              changes-append spread settle i,
+              before.sparing.known i known,
+              before.settling.still i (known-round i known),
+              is_pass.known i (λ unknown. known (unsettled-unknown before.change i unknown)),
+            ))
             (λ i. omega (arith, changes-append (spread ++ settle) pass i, so-far-few i, is_pass.few left (left-enough by_changes) i));
       }
     where

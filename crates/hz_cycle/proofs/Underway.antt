@@ -137,32 +137,52 @@ module _ {net : List Driver} {input : List Bool} {b : List Tri} {ranks : List �
         (λ some. subst (λ (s : List Bool). IsStep net input s flips) (sym ends-middle) (flips-step wired fixed underway.inside next canonical flip));
     ends = ends-last;
     known = λ i known.
-        omega (arith, more-changes i, underway.known i known,
-        wires-out i (λ there. known (wires-unsettled wired fixed underway.inside next canonical i there)),
-        flips-out i (λ there. known (flips-unsettled wired fixed underway.inside next canonical flip i there)));
+        omega (
+          arith,
+          more-changes i,
+          underway.known i known,
+          wires-out i (λ there. known (wires-unsettled wired fixed underway.inside next canonical i there)),
+          flips-out i (λ there. known (flips-unsettled wired fixed underway.inside next canonical flip i there)),
+        );
     gates = λ other its_kind start count drives.
-        omega (arith, more-changes other, underway.gates other its_kind start count drives,
-        wires-out other (λ there.
-        let is = listed-pin wired fixed underway.inside next canonical other there in
-        let from = wired.source gate (first + is.0) (into is.0 is.1) in
-        let wire : driver_at net other ≡ Source from.0 = ap (driver_at net) is.2 ∙ from.1 in
-        cc),
-        one-turn flips other other (λ there. elim (flip.others other there) [
-          | inl same ↦ same
-          | inr wire ↦ (let from = wire.0 in cc)
-        ]));
+        omega (
+          arith,
+          more-changes other,
+          underway.gates other its_kind start count drives,
+          wires-out other (λ there.
+              let is = listed-pin wired fixed underway.inside next canonical other there in
+              let from = wired.source gate (first + is.0) (into is.0 is.1) in
+              let wire : driver_at net other ≡ Source from.0 = ap (driver_at net) is.2 ∙ from.1 in
+              cc),
+          one-turn flips other other (λ there. elim (flip.others other there) [
+            | inl same ↦ same
+            | inr wire ↦ (let from = wire.0 in cc)
+          ]),
+        );
     wires = λ wire source other drives goes.
-        omega (arith, more-changes wire, underway.wires wire source other drives goes,
-        one-turn (turn_wires state first pins pattern) wire other (wire-goes wire other goes),
-        one-turn flips wire source (wire-comes wire source drives));
+        omega (
+          arith,
+          more-changes wire,
+          underway.wires wire source other drives goes,
+          one-turn (turn_wires state first pins pattern) wire other (wire-goes wire other goes),
+          one-turn flips wire source (wire-comes wire source drives),
+        );
     outward = λ wire source other drives goes known.
-        omega (arith, more-changes wire, underway.outward wire source other drives goes known,
-        wires-out wire (λ there. known (ap (value_at b) (wire-goes wire other goes there) ∙ next.unsettled)),
-        one-turn flips wire source (wire-comes wire source drives));
+        omega (
+          arith,
+          more-changes wire,
+          underway.outward wire source other drives goes known,
+          wires-out wire (λ there. known (ap (value_at b) (wire-goes wire other goes there) ∙ next.unsettled)),
+          one-turn flips wire source (wire-comes wire source drives),
+        );
     equal = λ wire source other drives goes earlier unknown unsettled same.
-        omega (arith, more-changes wire, underway.equal wire source other drives goes earlier unknown unsettled same,
-        one-turn (turn_wires state first pins pattern) wire other (wire-goes wire other goes),
-        flips-out wire (equal-out wire source other drives goes earlier unknown unsettled same));
+        omega (
+          arith,
+          more-changes wire,
+          underway.equal wire source other drives goes earlier unknown unsettled same,
+          one-turn (turn_wires state first pins pattern) wire other (wire-goes wire other goes),
+          flips-out wire (equal-out wire source other drives goes earlier unknown unsettled same),
+        );
     shown = λ wire source drives unknown turned.
         elim (cases_eq source gate) [
           | inl same ↦ (
@@ -174,11 +194,11 @@ module _ {net : List Driver} {input : List Bool} {b : List Tri} {ranks : List �
                 ∙ (ap (λ (h : Bool). cond h (not (bit_at begun gate)) (bit_at begun gate)) next.waits ∙ ap (bit_at begun) (sym same)))),
           )
           | inr apart ↦ (
-            let before = underway.shown wire source drives unknown (sym (also-other had gate source apart) ∙ turned) in (
-              before.0,
-              contains-after begun before.0 (after made (turn_wires state first pins pattern)) flips (contains-after begun before.0 made (turn_wires state first pins pattern) before.1),
-              before.2,
-            )
-            )
+              let before = underway.shown wire source drives unknown (sym (also-other had gate source apart) ∙ turned) in (
+                before.0,
+                contains-after begun before.0 (after made (turn_wires state first pins pattern)) flips (contains-after begun before.0 made (turn_wires state first pins pattern) before.1),
+                before.2,
+              )
+              )
         ];
   }

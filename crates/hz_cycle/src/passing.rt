@@ -77,8 +77,7 @@ fn mark_pattern(net: &Net, b: &[Tri], gate: u32, scratch: &mut Scratch)
     let wires = first as usize..(first + pins) as usize;
     let want = !scratch.state()[gate as usize];
     let mut now = [false; MAX_PINS];
-    now[..pins as usize]
-        .copy_from_slice(&scratch.state()[first as usize..(first + pins) as usize]);
+    now[..pins as usize].copy_from_slice(&scratch.state()[first as usize..(first + pins) as usize]);
     mark_changes(kind, first, &now[..pins as usize], &b[wires], want, scratch);
 }
 
@@ -137,4 +136,3 @@ fn mark_with_fan_out(net: &Net, gate: u32, scratch: &mut Scratch)
         }
     }
 }
-
