@@ -17,7 +17,7 @@ use Rattle.hz_top.specs.declared.status.Status.TheVariants as status
 use Rattle.hz_top.specs.Answer.{Answers}
 use Rattle.hz_top.specs.Faultless.{IsFaultlessScript, IsFaultlessRuns, IsFaultlessText, EndsReplay, IsFaultlessJob}
 use Rattle.hz_top.specs.Job.{JobOf}
-use Rattle.hz_top.specs.Outcome.{Told, ScriptComes, ScriptTextComes, RunTextComes, TaskComes, NetlistRefused, IsNetlistText, SecondComes, FilesCome, JobComes}
+use Rattle.hz_top.specs.Outcome.{Told, ScriptComes, ScriptTextComes, RunTextComes, TaskComes, IsNetlistText, SecondComes, JobComes}
 use Rattle.hz_top.specs.Verdict.{ReplayComes}
 use Rattle.hz_top.proofs.Refusals.{accepted-or-refused}
 

@@ -51,8 +51,9 @@ pub is-finding :
     IsSpreadRun (network_of netlist) input start finding.a finding.spread → first ≡ finding.a →
     AreRounds (algorithm_b (network_of netlist) input first) finding.rounds_b →
     finding.b ≡ algorithm_b (network_of netlist) input first finding.rounds_b → finding.rounds_b ≤ length (network_of netlist) + 1 →
+    ((i : ℕ) → JoinsTo (IsOutcome (network_of netlist) input start) i (value_at finding.b i)) →
     IsFinding (network_of netlist) input start finding
-is-finding covers_a covers_b exact_a netlist own input start finding first circuit long stable a_are a_is a_few shown same b_are b_is b_few =
+is-finding covers_a covers_b exact_a netlist own input start finding first circuit long stable a_are a_is a_few shown same b_are b_is b_few b_exact =
     let net = network_of netlist in
     let rounds_a = finding.rounds_a in
     let rounds_b = finding.rounds_b in
@@ -70,6 +71,7 @@ is-finding covers_a covers_b exact_a netlist own input start finding first circu
       b_bound = b_few;
       b_covers = λ state outcome. subst (Refines state) (sym (from_a ∙ ap (λ (values : List Tri). algorithm_b net input values rounds_b) a_is))
           (covers_b net input start state rounds_a rounds_b long a_are outcome);
+      b_exact = λ i within. b_exact i;
     }
 
 -- the results have a value for each variable

@@ -10,8 +10,8 @@ use Rattle.hz_report.specs.Finding.{FindingOf}
 
 -- A finding is right for a network, a new input and a start: the results are those of Algorithms A and B, with their rounds.
 -- The value of a at a variable is the join of the values that the variable has in the states that runs reach, and the run
--- shows it: each variable that is X in a changes once in it, and no other. If b is 0 or 1, every state that is reached from a
--- nontransient cycle of the runs has this value.
+-- shows it: each variable that is X in a changes once in it, and no other. The value of b at a variable is the join of the
+-- values that the variable has in the outcome states, those that are reached from a nontransient cycle of the runs.
 pub record IsFinding (net : List Driver) (input start : List Bool) (finding : FindingOf) : Type 0 where
   pub a_settles : AreRounds (algorithm_a net input start) finding.rounds_a
   pub a_result : finding.a ≡ algorithm_a net input start finding.rounds_a
@@ -23,3 +23,4 @@ pub record IsFinding (net : List Driver) (input start : List Bool) (finding : Fi
   pub b_result : finding.b ≡ algorithm_b net input finding.a finding.rounds_b
   pub b_bound : finding.rounds_b ≤ length net + 1
   pub b_covers : (state : List Bool) → IsOutcome net input start state → Refines state finding.b
+  pub b_exact : (i : ℕ) → i < length net → JoinsTo (IsOutcome net input start) i (value_at finding.b i)

@@ -3,13 +3,15 @@ ghost use Rattle.std.specs.Prelude.{◌≡◌, ◌+◌, ◌<◌, ◌≤◌, [], 
 ghost use Rattle.hz_core.specs.Ternary.{AllBelow};
 ghost use Rattle.hz_net.specs.Network.{network_of};
 ghost use Rattle.hz_net.specs.Starts.{IsStableStart};
-ghost use Rattle.hz_net.specs.Passes.{algorithm_a, algorithm_b, excitations, AreRounds};
+ghost use Rattle.hz_net.specs.Passes.{algorithm_a, algorithm_b, excitations, AreRounds, AreRanks, AreSettlingRounds};
 ghost use Rattle.hz_reach.specs.Scratched.{blank};
 ghost use Rattle.hz_reach.specs.Spread.{IsSpreadRun};
 ghost use Rattle.hz_report.specs.Finding.{finding_of};
 ghost use Rattle.hz_top.specs.Finding.{IsFinding};
 
+use crate::lasting::show_lasting;
 use hz_core::{Memory, Tri};
+use hz_cycle::runs_show_b;
 use hz_gmw::{Run, a_covers, b_covers};
 use hz_net::Net;
 use hz_outside::Steps;
@@ -53,6 +55,7 @@ fn find_counted<L: Ledger>(
     a_covers();
     b_covers();
     a_is_exact();
+    runs_show_b();
     let (book, share) = ledger.open::<L>();
     let mut steps = Steps::new(book, share);
     let mut front = Front::new(alloc, net)?;
@@ -61,6 +64,9 @@ fn find_counted<L: Ledger>(
     let mut scratch = Scratch::new(alloc, net)?;
     let mut work = all_unknown(alloc, variables)?;
     let Ok(mut ranks) = vec![in alloc; 0u32; variables] else {
+        return Err(Memory);
+    };
+    let Ok(mut when) = vec![in alloc; 0u32; variables] else {
         return Err(Memory);
     };
     finding.rounds_a = reach(
@@ -80,11 +86,21 @@ fn find_counted<L: Ledger>(
         input,
         finding.a.as_slice(),
         &mut finding.b,
-        &mut ranks,
+        &mut when,
         &mut work,
         &mut front,
         &mut steps,
     );
+    let _shown = show_lasting(
+        alloc,
+        net,
+        start,
+        input,
+        finding.a.as_slice(),
+        ranks.as_slice(),
+        when.as_slice(),
+        finding.b.as_slice(),
+    )?;
     Ok(finding)
 }
 
@@ -131,6 +147,7 @@ fn reach<L: Ledger>(
     ensures rounds { AreRounds (algorithm_a (network_of net.now) input.now start.now) result }
     ensures a { a.new ≡ algorithm_a (network_of net.now) input.now start.now result }
     ensures bound { result ≤ length (network_of net.now) + 1 }
+    ensures ranks { AreRanks (algorithm_a (network_of net.now) input.now start.now) a.new ranks.new }
     ensures run { IsSpreadRun (network_of net.now) input.now start.now a.new run.new.steps }
     ensures front { front.new ≡ front.old }
 {
@@ -160,6 +177,7 @@ fn settle_from<L: Ledger>(
     ensures rounds { AreRounds (algorithm_b (network_of net.now) input.now a.now) result }
     ensures b { b.new ≡ algorithm_b (network_of net.now) input.now a.now result }
     ensures bound { result ≤ length (network_of net.now) + 1 }
+    ensures when { AreSettlingRounds (algorithm_b (network_of net.now) input.now a.now) a.now b.new when.new }
 {
     b.copy_from_slice(a);
     settle(net, input, b, when, work, front, steps)

@@ -18,6 +18,7 @@
 mod analysis;
 mod finding;
 mod job;
+mod lasting;
 mod order;
 mod reading_back;
 mod refusal;

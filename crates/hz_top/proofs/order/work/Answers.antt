@@ -1,5 +1,4 @@
-use Rattle.std.proofs.Common.{refl, inl, inr, ap, ◌∙◌, subst, Err}
-use Rattle.hz_core.specs.Netlist.{Netlist}
+use Rattle.std.proofs.Common.{refl, inl, inr, ap, ◌∙◌, Err}
 use Rattle.hz_outside.specs.declared.fault.Place.TheVariants.{First}
 use Rattle.hz_top.specs.Outcome.{FilesCome, TaskComes, SecondComes, LoadSays, NetlistSays, told_by}
 use Rattle.hz_top.specs.Refusal.{netlist_fault_line}
