@@ -225,11 +225,10 @@ class Circuit:
                     return list(changed)
         raise ValueError("no pattern")
 
-    def changes(self, lines):
+    def changes(self, steps):
         """How often each variable changes in steps, each of which is a step of the model, or None."""
-        state, count, words = self.start, [0] * len(self.start), self.variables()
-        for line in lines:
-            flips = [words.index(word) for word in line.split()[1:]]
+        state, count = self.start, [0] * len(self.start)
+        for flips in steps:
             after = turned(state, flips)
             if len(set(flips)) != len(flips) or after not in self.steps(state):
                 return None
@@ -237,6 +236,100 @@ class Circuit:
             for i in flips:
                 count[i] += 1
         return count
+
+    def reads(self):
+        """What each variable reads: an input nothing, a gate its wires, a wire its source."""
+        read, at = [[] for _ in self.inputs], len(self.names)
+        for _, _, sources in self.gates:
+            read.append(list(range(at, at + len(sources))))
+            at += len(sources)
+        return read + [[self.names.index(source)] for source in self.wires]
+
+    def feedback_free(self):
+        """The variables from which no way back ends in a cycle, each after those that it reads."""
+        read, order = self.reads(), []
+        while True:
+            fresh = [var for var in range(len(read)) if var not in order and all(source in order for source in read[var])]
+            if not fresh:
+                return order
+            order += fresh
+
+    def feedback_cycles(self):
+        """The loops of the choices: a variable that is not feedback-free chooses the first such one that it reads."""
+        read, free = self.reads(), self.feedback_free()
+        chosen = {var: next(source for source in read[var] if source not in free) for var in range(len(read)) if var not in free}
+        loops = set()
+        for var in chosen:
+            way = [var]
+            while chosen[way[-1]] not in way:
+                way.append(chosen[way[-1]])
+            loop = way[way.index(chosen[way[-1]]):][::-1]
+            least = loop.index(min(loop))
+            loops.add(tuple(loop[least:] + loop[:least]))
+        return sorted(loops)
+
+    def words(self):
+        """The word of each feedback-free variable: its letters from the first to the last."""
+        read, words = self.reads(), {}
+        for var in self.feedback_free():
+            if var < len(self.inputs):
+                words[var] = self.start[var] + ("" if self.new[var] == self.start[var] else self.new[var])
+            elif var < len(self.names):
+                words[var] = longest_walk(self.gates[var - len(self.inputs)][1], [words[wire] for wire in read[var]])
+            else:
+                words[var] = words[read[var][0]]
+        return words
+
+    def classes(self):
+        """The number of changes of each variable, and its class, as the report spells them."""
+        (_, a, _), (_, b, _) = self.passes()
+        words = self.words()
+        for var, bit in enumerate(self.start):
+            count = len(words[var]) - 1 if var in words else None
+            spelt = "-" if count is None else str(count)
+            yield spelt, class_of(a[var], b[var], bit, count)
+
+    def races(self, states):
+        """How many of some states have two unstable variables or more."""
+        return sum(len(self.unstable(state)) >= 2 for state in states)
+
+    def head(self, runs):
+        """The report up to the block of its runs, whose races are counted in runs that are given."""
+        (rounds_a, a, _), (rounds_b, b, _) = self.passes()
+        names = self.variables()
+        sizes = (len(self.inputs), len(self.gates), len(self.wires), len(self.start))
+        lines = ["netlist inputs %d gates %d wires %d variables %d" % sizes]
+        lines += ["feedback " + " ".join(names[var] for var in loop) for loop in self.feedback_cycles()]
+        lines += ["start" + "".join(f" {name}={bit}" for name, bit in zip(self.names, self.start))]
+        lines += ["change 1" + "".join(f" {name}={bit}" for name, bit in zip(self.inputs, self.new))]
+        lines += [f"rounds A {rounds_a} B {rounds_b}"]
+        for (spelt, kind), name, *values in list(zip(self.classes(), names, self.start, a, b))[:len(self.names)]:
+            lines += ["%s start %s A %s B %s changes %s %s" % (name, *values, spelt, kind)]
+        (spread, _), (settle, cycle) = runs
+        settling = self.states(self.start, settle)
+        turning = self.states(settling[-1], cycle)
+        counts = (self.races(self.states(self.start, spread)), self.races(settling), self.races(turning[:-1] or turning))
+        return "\n".join(lines + ["races spread %d settle %d cycle %d" % counts]) + "\n"
+
+    def states(self, state, steps):
+        """A state and those after each step from it."""
+        states = [state]
+        for step in steps:
+            states.append(turned(states[-1], step))
+        return states
+
+    def runs_of(self, lines):
+        """The runs of a block of a report: pairs of a lead and a cycle, which may be None."""
+        runs, names = [], self.variables()
+        for word, *spelt in map(str.split, lines):
+            if word == "run":
+                runs.append(([], None))
+            elif word == "cycle":
+                runs[-1] = (runs[-1][0], [])
+            elif word == "step":
+                lead, cycle = runs[-1]
+                (lead if cycle is None else cycle).append([names.index(name) for name in spelt])
+        return runs
 
     def forced(self, listed):
         """The bit of each node that listed values force, each from those that are there already."""
@@ -277,7 +370,8 @@ class Circuit:
 
     def run_text(self, runs):
         """A run text from the start under the new input: runs are pairs of a lead and a cycle, which may be None."""
-        names, lines = self.variables(), ["runs 1"]
+        names, wires = self.variables(), sum(len(sources) for _, _, sources in self.gates)
+        lines = ["runs 2", f"net {len(self.inputs)} {len(self.gates)} {wires}"]
         lines += ["start" + "".join(f" {name}={bit}" for name, bit in zip(self.names, self.start))]
         lines += ["input" + "".join(f" {name}={bit}" for name, bit in zip(self.inputs, self.new))]
         spelt = lambda steps: ["".join(["step"] + [f" {names[var]}" for var in step]) for step in steps]
@@ -361,6 +455,28 @@ def turned(state, step):
     return "".join("10"[int(bit)] if var in step else bit for var, bit in enumerate(state))
 
 
+def longest_walk(kind, words):
+    """The letters of a gate along the walk through its pins' words on which it changes most often."""
+    best = {}
+    for at in product(*(range(len(word)) for word in words)):
+        letter = extension(kind, "".join(word[place] for word, place in zip(words, at)))
+        before = [tuple(place - moved for place, moved in zip(at, move)) for move in product((0, 1), repeat=len(words)) if any(move)]
+        walks = [best[place] for place in before if place in best] or [""]
+        best[at] = max((walk if walk.endswith(letter) else walk + letter for walk in walks), key=len)
+    return best[tuple(len(word) - 1 for word in words)]
+
+
+def class_of(a, b, start, count):
+    """The class of a variable of some values of A, B and the start, of so many changes, or None."""
+    if a != "X":
+        return "steady"
+    if b == "X":
+        return "unsettled"
+    if b == start:
+        return "static"
+    return "change" if count is None else "single" if count == 1 else "maybe-dynamic"
+
+
 def until_equal(state, after):
     states = [state]
     while len(states) < 2 or states[-1] != states[-2]:
@@ -382,7 +498,7 @@ def hand_rows():
         yield f"passes of {name}", Circuit(*SMALL[name]).passes(), wanted
     for name, steps in SPREAD_RUNS.items():
         circuit = Circuit(*SMALL[name])
-        yield f"spread run of {name}", circuit.run_text([(circuit.spread_run(), None)]).splitlines()[4:-1], [f"step {step}" for step in steps]
+        yield f"spread run of {name}", circuit.run_text([(circuit.spread_run(), None)]).splitlines()[5:-1], [f"step {step}" for step in steps]
     two_wires = Circuit(*SMALL["xor"])
     yield "reached of two wires", two_wires.reached(), REACHED
     yield "outcomes of two wires", two_wires.outcomes(), OUTCOMES

@@ -2,7 +2,7 @@
 #![tactic(auto)]
 
 use hz_outside::{DiskFiles, StdSink};
-use hz_top::run;
+use hz_top::{Status, run};
 use std::process::ExitCode;
 use std::{env, io};
 
@@ -20,6 +20,11 @@ fn main(rt: HostRuntime) -> ExitCode {
     let mut files = DiskFiles::new(&rt);
     let mut out = StdSink::new(&rt);
     let status = run(rt.alloc(), words.as_slice(), &mut files, &mut out);
+    // The sink gathers what is put, so the last write may fail after the job's end.
+    let status = match out.flush() {
+        Ok(()) => status,
+        Err(_) => Status::Sink,
+    };
     ExitCode::from(status.code())
 }
 

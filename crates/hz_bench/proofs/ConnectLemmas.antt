@@ -9,9 +9,9 @@ use Rattle.hz_core.specs.Netlist.{Netlist, IsCircuit, IsCutNumber, data_of, prim
 use Rattle.hz_core.proofs.CircuitLemmas.{data_of-cut}
 use Rattle.hz_bench.specs.declared.entry.Entry.{Entry}
 use Rattle.hz_bench.specs.declared.forms.Form.TheVariants as form
-use Rattle.hz_bench.specs.Built.{Connecting, IsNode, MayData, MayOutput, MayPin, MayPins, MayRead, MaySteps, after_output, after_pin, after_pins, after_read, built, connected, nodes_of, with_data_output, with_data_outputs}
+use Rattle.hz_bench.specs.Built.{Connecting, IsNode, MayOutput, MayPin, MayPins, MayRead, MaySteps, after_output, after_pin, after_pins, after_read, built, connected, nodes_of, with_data_output, with_data_outputs}
 use Rattle.hz_bench.specs.Entry.{stated, statement_list}
-use Rattle.hz_bench.specs.Netlist.{data_name, node_names, number_in, output_names}
+use Rattle.hz_bench.specs.Netlist.{node_names, number_in, output_names}
 use Rattle.hz_bench.specs.Form.{form_of}
 use Rattle.hz_bench.specs.Statement.{Statement, Input, Output, FlipFlop, Gate, sources_of}
 use Rattle.hz_bench.specs.Uses.{pins_in}

@@ -3,12 +3,10 @@ use Rattle.std.proofs.Common.{◌≡◌, ◌∙◌, ℕ, List, [], ◌∷◌, �
 use Rattle.std.specs.Option.{option_or}
 use Rattle.std.proofs.lemmas.List.{append-nil}
 use Rattle.std.proofs.lemmas.Slice.Eq.{bytes_eq-Decides}
-use Rattle.hz_core.specs.declared.name.Name.{Name as Key}
-use Rattle.std.specs.HashMap.{HashMap}
 use Rattle.std.specs.List.{list_any}
 use Rattle.std.specs.Str.{bytes_eq}
 use Rattle.hz_line.specs.Statement.{Numbered}
-use Rattle.hz_bench.specs.Definition.{is_that, defines, definer, defined_names, line_for, line_for_defined, IsPut, IsTableOf}
+use Rattle.hz_bench.specs.Definition.{Table, is_that, defines, definer, defined_names, line_for, line_for_defined, IsPut, IsTableOf}
 use Rattle.hz_bench.specs.Statement.{Statement, Input, Output, FlipFlop, Gate, defined_name, is_node}
 use Rattle.hz_bench.specs.Twice.{twice_or, earlier_line, twice_after, twice_fault}
 
@@ -40,13 +38,13 @@ put_one : (defined name : List ℕ) (line : ℕ) (seen : List (Numbered Statemen
 put_one defined name line seen true same none = let e = (bytes_eq-Decides defined name).0 same in rw (ap (definer seen) (sym e) ∙ none) refl
 put_one defined name line seen false same none = sym (option_or-none (definer seen name))
 
-pub put : {S : Type 0} (old new : HashMap Key ℕ S) (seen : List (Numbered Statement)) (next : Numbered Statement) (defined : Option (List ℕ)) → defined_name next.statement ≡ defined → IsPut old new next.line defined → IsTableOf seen old → IsTableOf (seen ++ next ∷ []) new
+pub put : (old new : Table) (seen : List (Numbered Statement)) (next : Numbered Statement) (defined : Option (List ℕ)) → defined_name next.statement ≡ defined → IsPut old new next.line defined → IsTableOf seen old → IsTableOf (seen ++ next ∷ []) new
 put old new seen next None e added table = λ name. added name ∙ table name ∙ sym (definer-push seen next name ∙ ap (λ d. option_or (definer seen name) (cond (is_that name d) (Some next.line) None)) e ∙ option_or-none (definer seen name))
 put old new seen next (Some defined) e added table = λ name.
     added.1 name ∙ ap (cond (bytes_eq defined name) (Some next.line)) (table name) ∙ put_one defined name next.line seen (bytes_eq defined name) refl (sym (table defined) ∙ added.0)
     ∙ sym (definer-push seen next name ∙ ap (λ d. option_or (definer seen name) (cond (is_that name d) (Some next.line) None)) e)
 
-pub earlier_line-table : {S : Type 0} (lines : HashMap Key ℕ S) (seen : List (Numbered Statement)) (defined : Option (List ℕ)) → IsTableOf seen lines → line_for_defined lines defined ≡ earlier_line seen defined
+pub earlier_line-table : (lines : Table) (seen : List (Numbered Statement)) (defined : Option (List ℕ)) → IsTableOf seen lines → line_for_defined lines defined ≡ earlier_line seen defined
 earlier_line-table lines seen None table = refl
 earlier_line-table lines seen (Some defined) table = table defined
 
@@ -85,7 +83,7 @@ any-same test other same [] = refl
 any-same test other same (name ∷ names) = ap (λ b. b || list_any test names) (same name) ∙ ap (λ b. other name || b) (any-same test other same names)
 
 -- a name that a table does not have is defined by no statement
-pub undefined-table : {S : Type 0} (lines : HashMap Key ℕ S) (statements : List (Numbered Statement)) (names : List (List ℕ)) → IsTableOf statements lines
+pub undefined-table : (lines : Table) (statements : List (Numbered Statement)) (names : List (List ℕ)) → IsTableOf statements lines
     → list_any (λ name. not (is_some (line_for lines name))) names ≡ list_any (λ name. not (is_some (definer statements name))) names
 undefined-table lines statements names table = any-same (λ name. not (is_some (line_for lines name))) (λ name. not (is_some (definer statements name))) (λ name. ap (λ line. not (is_some line)) (table name)) names
 

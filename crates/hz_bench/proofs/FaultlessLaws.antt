@@ -1,9 +1,9 @@
 -- The circuit of a text without fault is one: it is built step by step, and each step makes a circuit of a circuit.
-use Rattle.std.proofs.Common.{◌≡◌, ◌∙◌, ℕ, suc, ◌<◌, Bool, true, false, cond, List, [], ◌∷◌, Option, Some, None, option_map, length, map, fold, refl, sym, ap, subst, arith, IfSome}
-use Rattle.std.specs.Prelude.{All, IsSome}
+use Rattle.std.proofs.Common.{◌≡◌, ℕ, suc, Bool, true, false, cond, List, [], ◌∷◌, Option, Some, None, option_map, length, map, fold, refl, subst, IfSome}
+use Rattle.std.specs.Prelude.{All}
 use Rattle.std.specs.List.{AllByRecursion}
 use Rattle.std.proofs.lemmas.List.Elements.{All-head, All-tail}
-use Rattle.hz_core.specs.Netlist.{Netlist, IsName, IsCircuit, IsDataAmong, IsWhole, empty_netlist, with_output}
+use Rattle.hz_core.specs.Netlist.{Netlist, IsCircuit, IsDataAmong, IsWhole, empty_netlist, with_output}
 use Rattle.hz_core.proofs.CircuitLemmas.{IsCircuit-empty, IsCircuit-with_input, IsCircuit-with_cut, IsCircuit-with_data, IsCircuit-with_gate, IsCircuit-with_pin, IsCircuit-with_output}
 use Rattle.hz_line.specs.declared.bytes.Mark.TheVariants.{Open, Close, Comma, Equals}
 use Rattle.hz_line.specs.Line.{lines_of}
@@ -12,7 +12,7 @@ use Rattle.hz_line.specs.Token.{TokenOf, WordOf, MarkOf, tokens_of, IsWord, AreW
 use Rattle.hz_line.proofs.TokenLemmas.{tokens_of-AreWords}
 use Rattle.hz_bench.specs.declared.fault.BenchFault.{BenchFault}
 use Rattle.hz_bench.specs.declared.fault.BenchFault.TheVariants.{Form}
-use Rattle.hz_bench.specs.Built.{Connecting, MayAdd, MaySteps, MayInput, MayCut, MayGate, MayPin, MayPins, MayOutput, after_input, after_cut, after_gate, after_pin, after_pins, after_output, inputs_of, nodes_of, unconnected, connected, with_data_output, built}
+use Rattle.hz_bench.specs.Built.{Connecting, MaySteps, MayInput, MayCut, MayGate, MayPin, MayPins, MayOutput, after_input, after_cut, after_gate, after_pin, after_pins, after_output, inputs_of, nodes_of, unconnected, connected, with_data_output}
 use Rattle.hz_bench.specs.Check.{first_fault}
 use Rattle.hz_bench.specs.Fault.{IsFaultless}
 use Rattle.hz_bench.specs.Netlist.{data_name, kind_of, number_in, netlist_of}

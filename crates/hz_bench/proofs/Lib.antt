@@ -2,6 +2,7 @@ pub mod BuildLemmas
 pub mod CheckedLemmas
 pub mod ConnectLemmas
 pub mod DefinitionLemmas
+pub mod TableLemmas
 pub mod EntryLemmas
 pub mod FaultLaws
 pub mod FaultlessLaws

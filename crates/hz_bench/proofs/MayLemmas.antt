@@ -15,7 +15,7 @@ use Rattle.hz_core.specs.Gate.{takes}
 use Rattle.hz_core.specs.Netlist as netlist
 use Rattle.hz_core.proofs.ListLemmas.{list_any-from_position_none}
 use Rattle.hz_line.proofs.WrittenLemmas.{both}
-use Rattle.hz_bench.specs.Built.{MaySteps, MayInput, MayCut, MayData, MayGate, MayPin, MayPins, MayOutput, MayBuild, unconnected, after_input, after_cut, after_gate, after_pin, after_pins, after_output}
+use Rattle.hz_bench.specs.Built.{MaySteps, MayInput, MayCut, MayGate, MayPin, MayPins, MayOutput, MayBuild, unconnected, after_input, after_cut, after_gate, after_pin, after_pins, after_output}
 use Rattle.hz_bench.specs.Netlist.{input_names, cut_names, data_name, data_nodes, gate_names, output_names, all_inputs, node_names, number_in, kind_of, gates_of, add_once, each_once, netlist_of}
 use Rattle.hz_bench.specs.Statement.{Statement, Input, Output, FlipFlop, Gate, has_long_name, is_long, variables_in, has_unknown_kind, has_wrong_pins}
 use Rattle.hz_bench.specs.Text.{variables_of}

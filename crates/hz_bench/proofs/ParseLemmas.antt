@@ -3,7 +3,6 @@ use Rattle.std.proofs.Common.{◌≡◌, ◌∙◌, ℕ, ◌+◌, ◌≤◌, suc
 use Rattle.std.specs.Borrow.{Bor}
 use Rattle.std.specs.Map.{lookup}
 use Rattle.std.specs.Str.{bytes_eq}
-use Rattle.hz_core.specs.declared.name.Name.{Name as Key}
 use Rattle.std.proofs.lemmas.List.{append-nil}
 use Rattle.hz_line.specs.declared.bytes.Mark.TheVariants.{Open, Close, Comma, Equals}
 use Rattle.hz_line.specs.Line.{lines_of, lines_of_rest, rest_length}
@@ -37,8 +36,8 @@ gathered-nothing statements nothing = record {
   outputs = ap numbered_outputs nothing.outputs;
   notes = nothing.notes;
   again = ap (option_map again_fault) nothing.again;
-  table = λ once. λ name. ap (lookup (λ (key : Key). bytes_eq name key.bytes.now)) nothing.table;
-  names = λ once. ap (map (λ (entry : Key × ℕ). entry.0.bytes.now)) nothing.table;
+  table = λ once. λ name. ap (lookup (bytes_eq name)) nothing.table;
+  names = λ once. ap (map (λ (entry : List ℕ × ℕ). entry.0)) nothing.table;
   telling = λ once. λ test. λ fails. ap (first_line (λ statement. test (sources_of statement))) (ap (λ nodes. numbered_list nodes ++ waiting_list statements.waiting.items) nothing.nodes ∙ ap waiting_list nothing.waiting);
   nodes = λ few. ap numbered_list nothing.nodes;
   none_waits = λ few. nothing.waiting;
@@ -56,7 +55,7 @@ IsParsing-begin text statements nothing = record {
 
 -- what was read stays where the table takes more room
 pub IsParsing-roomier : (text : List ℕ) (statements more : Statements) (line : ℕ) (left : Option (Bor (List ℕ))) → more.nodes ≡ statements.nodes → more.waiting ≡ statements.waiting → more.outputs ≡ statements.outputs → more.notes ≡ statements.notes → more.again ≡ statements.again
-    → more.lines.entries ≡ statements.lines.entries → IsParsing text statements line left → IsParsing text more line left
+    → more.lines ≡ statements.lines → IsParsing text statements line left → IsParsing text more line left
 IsParsing-roomier text statements more line left nodes waiting outputs notes again entries was =
     let gathered = was.gathered in
     record {
@@ -65,8 +64,8 @@ IsParsing-roomier text statements more line left nodes waiting outputs notes aga
         outputs = rw outputs gathered.outputs;
         notes = notes ∙ gathered.notes;
         again = rw again gathered.again;
-        table = λ once. λ name. ap (lookup (λ (key : Key). bytes_eq name key.bytes.now)) entries ∙ gathered.table (sym again ∙ once) name;
-        names = λ once. ap (map (λ (entry : Key × ℕ). entry.0.bytes.now)) entries ∙ gathered.names (sym again ∙ once);
+        table = λ once. λ name. ap (lookup (bytes_eq name)) entries ∙ gathered.table (sym again ∙ once) name;
+        names = λ once. ap (map (λ (entry : List ℕ × ℕ). entry.0)) entries ∙ gathered.names (sym again ∙ once);
         telling = λ once. rw (nodes, waiting) (gathered.telling (sym again ∙ once));
         nodes = λ few. rw nodes (gathered.nodes (rw (sym notes) few));
         none_waits = λ few. rw waiting (gathered.none_waits (rw (sym notes) few));

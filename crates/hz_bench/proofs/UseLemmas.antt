@@ -1,12 +1,10 @@
 -- The nodes that names stand for, by the table of definitions.
-use Rattle.std.proofs.Common.{◌≡◌, ◌∙◌, ℕ, ◌+◌, ◌<◌, ◌++◌, ◌||◌, Bool, false, not, cond, List, [], ◌∷◌, Option, Some, None, is_some, option_map, length, map, drop, get_or, refl, ap, sym, arith, append_assoc}
+use Rattle.std.proofs.Common.{◌≡◌, ◌∙◌, ℕ, ◌+◌, ◌<◌, ◌++◌, ◌||◌, Bool, false, not, cond, List, [], ◌∷◌, Option, Some, None, is_some, option_map, length, map, drop, get_or, refl, ap, sym, append_assoc}
 use Rattle.std.specs.Prelude.{position}
 use Rattle.std.specs.List.{list_any, slice_index_or, AllByRecursion}
 use Rattle.std.specs.Option.{unwrap_or}
 use Rattle.std.specs.Str.{bytes_eq}
-use Rattle.hz_core.specs.declared.name.Name.{Name as Key}
-use Rattle.std.specs.HashMap.{HashMap, keys}
-use Rattle.std.proofs.lemmas.List.{append-nil, at_drop_more, get_or-map, length-map}
+use Rattle.std.proofs.lemmas.List.{append-nil, at_drop_more, get_or-map}
 use Rattle.std.proofs.lemmas.List.Quantifiers.{position-Some}
 use Rattle.std.proofs.lemmas.Slice.Eq.{bytes_eq-Decides}
 use Rattle.indexmap.proofs.MapLemmas.{some_index}
@@ -15,7 +13,7 @@ use Rattle.hz_bench.specs.declared.entry.Entry.{Entry}
 use Rattle.hz_bench.specs.declared.entry.OutputLine.{OutputLine}
 use Rattle.hz_bench.specs.declared.parse.Statements.{Statements}
 use Rattle.hz_bench.specs.Check.{reads_undefined, uses_undefined, earlier, first_that}
-use Rattle.hz_bench.specs.Definition.{definer, defined_names, names_in, IsTableOf}
+use Rattle.hz_bench.specs.Definition.{Table, definer, defined_names, names_in, IsTableOf}
 use Rattle.hz_bench.specs.Entry.{numbered_list, numbered_output, numbered_outputs, statement_list, output_list, waiting_list}
 use Rattle.hz_bench.specs.Netlist.{node_names, output_names, number_in}
 use Rattle.hz_bench.specs.FaultIn.{asked, unknown_line}
@@ -55,42 +53,33 @@ is_some-option_map f None = refl
 is_some-option_map f (Some x) = refl
 
 -- a table of these statements, and the numbers of its names
-pub record TellsNumbers {S : Type 0} (nodes : List (Numbered Statement)) (lines : HashMap Key ℕ S) (numbers : List ℕ) : Type 0 where
+pub record TellsNumbers (nodes : List (Numbered Statement)) (lines : Table) (numbers : List ℕ) : Type 0 where
   pub table : IsTableOf nodes lines
   pub names : names_in lines ≡ defined_names (plain nodes)
   pub numbers_are : numbers ≡ map (number_in (node_names (plain nodes))) (defined_names (plain nodes))
 
 -- a name has no number where no statement defines it
-unnumbered-undefined : {S : Type 0} (nodes : List (Numbered Statement)) (lines : HashMap Key ℕ S) (numbers : List ℕ) → TellsNumbers nodes lines numbers
+unnumbered-undefined : (nodes : List (Numbered Statement)) (lines : Table) (numbers : List ℕ) → TellsNumbers nodes lines numbers
     → (name : List ℕ) → is_unnumbered (number_for lines numbers) name ≡ not (is_some (definer nodes name))
 unnumbered-undefined nodes lines numbers tells name =
-    ap not (is_some-option_map (λ place. slice_index_or numbers place 0) (position (λ (key : Key). bytes_eq name key.bytes.now) (keys lines))
-    ∙ some_index (λ (key : Key). bytes_eq name key.bytes.now) lines.entries ∙ ap is_some (tells.table name))
+    ap not (is_some-option_map (λ place. slice_index_or numbers place 0) (position (bytes_eq name) (names_in lines))
+    ∙ some_index (bytes_eq name) lines ∙ ap is_some (tells.table name))
 
 -- and where it has one, this is its node's
-known-number : {S : Type 0} (nodes : List (Numbered Statement)) (lines : HashMap Key ℕ S) (numbers : List ℕ) → TellsNumbers nodes lines numbers
+known-number : (nodes : List (Numbered Statement)) (lines : Table) (numbers : List ℕ) → TellsNumbers nodes lines numbers
     → (name : List ℕ) → is_unnumbered (number_for lines numbers) name ≡ false → unwrap_or (number_for lines numbers name) 0 ≡ number_in (node_names (plain nodes)) name
-known-number nodes lines numbers tells name h = by_place (position test (keys lines)) refl h
+known-number nodes lines numbers tells name h = by_place (position (bytes_eq name) (names_in lines)) refl h
   where
-    test : Key → Bool
-    test key = bytes_eq name key.bytes.now
-
-    none : Key × ℕ
-    none = (record { bytes = record { ref_ptr = (0, 0); now = [] } }, 0)
-
-    by_place : (place : Option ℕ) → position test (keys lines) ≡ place → not (is_some (option_map (λ at. slice_index_or numbers at 0) place)) ≡ false
+    by_place : (place : Option ℕ) → position (bytes_eq name) (names_in lines) ≡ place → not (is_some (option_map (λ at. slice_index_or numbers at 0) place)) ≡ false
         → unwrap_or (option_map (λ at. slice_index_or numbers at 0) place) 0 ≡ number_in (node_names (plain nodes)) name
     by_place None e h = cc
     by_place (Some at) e h =
-        let found = position-Some test (keys lines) at none.0 e in
-        let inside : at < length lines.entries = omega (arith, found.0, length-map lines.entries (λ (entry : Key × ℕ). entry.0)) in
-        let key : get_or (keys lines) at none.0 ≡ (get_or lines.entries at none).0 = get_or-map (λ (entry : Key × ℕ). entry.0) lines.entries at none none.0 inside in
-        let same : name ≡ (get_or lines.entries at none).0.bytes.now = (bytes_eq-Decides name _).0 found.1 ∙ ap (λ (one : Key). one.bytes.now) key in
+        let found = position-Some (bytes_eq name) (names_in lines) at [] e in
+        let same : name ≡ get_or (names_in lines) at [] = (bytes_eq-Decides name _).0 found.1 in
         let numbers_is : numbers ≡ map (number_in (node_names (plain nodes))) (names_in lines) = tells.numbers_are ∙ ap (map (number_in (node_names (plain nodes)))) (sym tells.names) in
-        let inside_names : at < length (names_in lines) = omega (arith, inside, length-map lines.entries (λ (entry : Key × ℕ). entry.0.bytes.now)) in
         ap (λ all. slice_index_or all at 0) numbers_is
-        ∙ get_or-map (number_in (node_names (plain nodes))) (names_in lines) at [] 0 inside_names
-        ∙ ap (number_in (node_names (plain nodes))) (get_or-map (λ (entry : Key × ℕ). entry.0.bytes.now) lines.entries at none [] inside ∙ sym same)
+        ∙ get_or-map (number_in (node_names (plain nodes))) (names_in lines) at [] 0 found.0
+        ∙ ap (number_in (node_names (plain nodes))) (sym same)
 
 numbers_of-known : (number : List ℕ → Option ℕ) (names : List (List ℕ)) → ((name : List ℕ) → is_unnumbered number name ≡ false → unwrap_or (number name) 0 ≡ number_in names name)
     → (uses : List (List ℕ)) → list_any (is_unnumbered number) uses ≡ false → numbers_of number uses ≡ map (number_in names) uses
@@ -124,7 +113,7 @@ no_line test statements h = each_fails test statements (nothing (first_that test
     nothing None h = refl
     nothing (Some one) h = cc
 
-module _ {S : Type 0} (nodes outputs : List (Numbered Statement)) (lines : HashMap Key ℕ S) (numbers : List ℕ) (tells : TellsNumbers nodes lines numbers) where
+module _ (nodes outputs : List (Numbered Statement)) (lines : Table) (numbers : List ℕ) (tells : TellsNumbers nodes lines numbers) where
   same_test : is_unnumbered (number_for lines numbers) ≡ (λ name. not (is_some (definer nodes name)))
   same_test = λ j name. unnumbered-undefined nodes lines numbers tells name j
 
@@ -153,14 +142,14 @@ earlier-none None (Some other) h = cc
 earlier-none (Some one) None h = cc
 earlier-none (Some one) (Some other) h = cc
 
-pub tells-numbers : {S : Type 0} (entries : List Entry) (lines : HashMap Key ℕ S) (numbers : List ℕ) → IsTableOf (numbered_list entries) lines → names_in lines ≡ defined_names (statement_list entries)
+pub tells-numbers : (entries : List Entry) (lines : Table) (numbers : List ℕ) → IsTableOf (numbered_list entries) lines → names_in lines ≡ defined_names (statement_list entries)
     → numbers ≡ map (number_in (node_names (statement_list entries))) (defined_names (statement_list entries)) → TellsNumbers (numbered_list entries) lines numbers
 tells-numbers entries lines numbers table names are =
     let same = sym (statement_list-numbered entries) in
     record { table = table; names = names ∙ ap defined_names same; numbers_are = are ∙ ap (λ all. map (number_in (node_names all)) (defined_names all)) same }
 
 -- what was found where no line uses an undefined name
-pub resolved : {S : Type 0} (entries : List Entry) (outputs : List OutputLine) (lines : HashMap Key ℕ S) (numbers pins found : List ℕ) (source output : Option ℕ) → TellsNumbers (numbered_list entries) lines numbers
+pub resolved : (entries : List Entry) (outputs : List OutputLine) (lines : Table) (numbers pins found : List ℕ) (source output : Option ℕ) → TellsNumbers (numbered_list entries) lines numbers
     → source ≡ first_line (λ statement. list_any (is_unnumbered (number_for lines numbers)) (sources_of statement)) (numbered_list entries)
     → output ≡ first_line (λ statement. list_any (is_unnumbered (number_for lines numbers)) (used_names statement)) (numbered_outputs outputs)
     → (source ≡ None → pins ≡ pin_numbers (number_for lines numbers) (statement_list entries))

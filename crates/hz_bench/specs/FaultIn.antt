@@ -1,9 +1,7 @@
 -- The fault of statements as they were read.
 use Rattle.std.specs.Prelude.{ℕ, ◌++◌, Bool, List, Option, Some, option_map}
-use Rattle.std.specs.HashMap.{HashMap}
 use Rattle.std.specs.List.{list_any}
 use Rattle.std.specs.Option.{option_or}
-use Rattle.hz_core.specs.declared.name.Name.{Name}
 use Rattle.hz_line.specs.Statement.{Numbered, first_line}
 use Rattle.hz_bench.specs.declared.fault.BenchFault.{BenchFault}
 use Rattle.hz_bench.specs.declared.fault.BenchFault.TheVariants as fault
@@ -11,7 +9,7 @@ use Rattle.hz_bench.specs.declared.notes.Redefinition.{Redefinition}
 use Rattle.hz_bench.specs.declared.notes.WrongPins.{WrongPins}
 use Rattle.hz_bench.specs.declared.parse.Statements.{Statements}
 use Rattle.hz_bench.specs.Check.{earlier, too_many}
-use Rattle.hz_bench.specs.Definition.{is_missing}
+use Rattle.hz_bench.specs.Definition.{Table, is_missing}
 use Rattle.hz_bench.specs.Entry.{numbered_list, numbered_outputs, waiting_list}
 use Rattle.hz_bench.specs.Statement.{Statement, sources_of, used_names}
 
@@ -24,11 +22,11 @@ abbrev pub again_fault : Redefinition → BenchFault
 again_fault again = fault.Twice again.line again.first
 
 -- the pins of the statement read a name that a table does not have
-abbrev pub reads_missing : {S : Type 0} → HashMap Name ℕ S → Statement → Bool
+abbrev pub reads_missing : Table → Statement → Bool
 reads_missing table statement = list_any (is_missing table) (sources_of statement)
 
 -- the statement uses a name that a table does not have
-abbrev pub uses_missing : {S : Type 0} → HashMap Name ℕ S → Statement → Bool
+abbrev pub uses_missing : Table → Statement → Bool
 uses_missing table statement = list_any (is_missing table) (used_names statement)
 
 -- the statements whose sources may be undefined: the nodes, and behind them those that wait

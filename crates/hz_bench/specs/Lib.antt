@@ -4,6 +4,7 @@ pub mod Text
 pub mod Entry
 pub mod Head
 pub mod Definition
+pub mod Table
 pub mod Twice
 pub mod Pass
 pub mod Check

@@ -1,11 +1,9 @@
 -- The nodes that statements use.
-use Rattle.std.specs.Prelude.{◌≡◌, ℕ, Bool, not, List, [], ◌++◌, ◌∷◌, map, Option, is_some, option_map}
+use Rattle.std.specs.Prelude.{◌≡◌, ℕ, Bool, not, List, [], ◌++◌, ◌∷◌, map, Option, is_some, option_map, position}
 use Rattle.std.specs.List.{slice_index_or}
 use Rattle.std.specs.Option.{unwrap_or}
 use Rattle.std.specs.Str.{bytes_eq}
-use Rattle.std.specs.HashMap.{HashMap}
-use Rattle.indexmap.specs.IndexMap.{index_of_by}
-use Rattle.hz_core.specs.declared.name.Name.{Name}
+use Rattle.hz_bench.specs.Definition.{Table, names_in}
 use Rattle.hz_bench.specs.declared.uses.Uses.{Uses}
 use Rattle.hz_bench.specs.Netlist.{node_names, output_names, number_in}
 use Rattle.hz_bench.specs.Statement.{Statement, sources_of}
@@ -21,8 +19,8 @@ pub record AreUses (nodes outputs : List Statement) (uses : Uses) : Type 0 where
   pub outputs_are : uses.outputs.items ≡ map (number_in (node_names nodes)) (output_names outputs)
 
 -- the number that a table has for a name, where these are the numbers of its names in order
-abbrev pub number_for : {S : Type 0} → HashMap Name ℕ S → List ℕ → List ℕ → Option ℕ
-number_for table numbers name = option_map (λ place. slice_index_or numbers place 0) (index_of_by (λ key. bytes_eq name key.bytes.now) table)
+abbrev pub number_for : Table → List ℕ → List ℕ → Option ℕ
+number_for table numbers name = option_map (λ place. slice_index_or numbers place 0) (position (bytes_eq name) (names_in table))
 
 -- a name has no number
 abbrev pub is_unnumbered : (List ℕ → Option ℕ) → List ℕ → Bool

@@ -22,7 +22,8 @@ pub(crate) fn build(alloc: Global, statements: &Statements, uses: &Uses) -> Resu
     ensures { IfOk result (λ circuit. circuit ≡ built (statement_list statements.now.nodes.items) (output_list statements.now.outputs.items)) }
 {
     let nodes = statements.nodes.as_slice();
-    let mut circuit = Circuit::new(alloc);
+    let lines = &statements.lines;
+    let mut circuit = Circuit::with_names(alloc, lines.hashing(), lines.room())?;
     add_inputs(&mut circuit, nodes)?;
     add_cuts(&mut circuit, nodes)?;
     add_gates(&mut circuit, nodes)?;

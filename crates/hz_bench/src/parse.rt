@@ -6,7 +6,7 @@ ghost use Rattle.hz_bench.specs.Statement.{variables_in};
 ghost use Rattle.hz_bench.specs.Gathered.{IsDefining, IsNothingRead, IsSorted};
 ghost use Rattle.hz_bench.specs.Pass.{IsParsed, IsParseFault};
 
-use crate::definitions::{Definitions, define, make_room, no_definitions};
+use crate::definitions::{Definitions, define, make_room};
 use crate::entry::{Entry, Line, OutputLine, Waiting};
 use crate::fault::BenchFault;
 use crate::notes::{Notes, Redefinition};
@@ -41,16 +41,14 @@ pub(crate) fn parse<'a>(alloc: Global, text: &'a [u8]) -> Result<Statements<'a>,
         (λ statements. IsParsed text.now statements)
         (λ fault. IsParseFault text.now fault) }
 {
-    let Ok(mut statements) = Statements::new(alloc) else {
-        return Err(BenchFault::Memory);
-    };
+    let mut statements = Statements::new(alloc);
     let mut line = 0u32;
     let mut left = Some(text);
     while let Some(rest) = left {
         let cut = cut_line(rest);
         line += 1;
         left = cut.rest;
-        let Ok(()) = make_room(&mut statements.lines, text.len() - rest.len(), rest.len()) else {
+        let Ok(()) = make_room(&mut statements.lines, text, rest.len()) else {
             return Err(BenchFault::Memory);
         };
         match statement_of(line, cut.line) {
@@ -70,18 +68,17 @@ pub(crate) fn parse<'a>(alloc: Global, text: &'a [u8]) -> Result<Statements<'a>,
 
 impl<'a> Statements<'a> {
     // Those of no text.
-    fn new(alloc: Global) -> Result<Statements<'a>, Memory>
-        ensures { IfOk result (λ statements. IsNothingRead statements) }
+    fn new(alloc: Global) -> Statements<'a>
+        ensures { IsNothingRead result }
     {
-        let lines = no_definitions(alloc)?;
-        Ok(Statements {
+        Statements {
             nodes: Vec::new(alloc),
             waiting: Vec::new(alloc),
             outputs: Vec::new(alloc),
             notes: Notes::new(),
             again: None,
-            lines,
-        })
+            lines: Definitions::new(alloc),
+        }
     }
 
     // Adds the next statement of the text.

@@ -3,7 +3,6 @@
 ghost use Rattle.std.specs.Prelude.{◌≡◌, ◌<◌, ◌≤◌, ◌^◌, ◌++◌, ◌∷◌, [], false, IfOk, MatchResult, None, length, map, option_map};
 ghost use Rattle.std.specs.List.{list_any};
 ghost use Rattle.hz_line.specs.Statement.{first_line};
-ghost use Rattle.indexmap.specs.IndexMap.{index_map_len};
 ghost use Rattle.hz_bench.specs.Check.{earlier};
 ghost use Rattle.hz_bench.specs.Definition.{defined_names};
 ghost use Rattle.hz_bench.specs.Entry.{stated, numbered_list, numbered_outputs, statement_list, output_list};
@@ -123,7 +122,7 @@ fn resolve_pins(
     numbers: &[u32],
     pins: &mut Vec<u32>,
 ) -> Result<Option<u32>, Memory>
-    requires { index_map_len lines.now ≡ length numbers.now }
+    requires { length lines.now ≡ length numbers.now }
     ensures line { IfOk result (λ line. line ≡ first_line (λ statement. list_any (is_unnumbered (number_for lines.now numbers.now)) (sources_of statement)) (numbered_list nodes.now)) }
     ensures pins { IfOk result (λ line. line ≡ None → pins.new.items ≡ pins.old.items ++ pin_numbers (number_for lines.now numbers.now) (statement_list nodes.now)) }
 {
@@ -144,7 +143,7 @@ fn resolve_sources(
     numbers: &[u32],
     pins: &mut Vec<u32>,
 ) -> Result<bool, Memory>
-    requires { index_map_len lines.now ≡ length numbers.now }
+    requires { length lines.now ≡ length numbers.now }
     ensures unnumbered { IfOk result (λ unnumbered. unnumbered ≡ list_any (is_unnumbered (number_for lines.now numbers.now)) (sources_of (stated entry.now))) }
     ensures pins { IfOk result (λ unnumbered. unnumbered ≡ false → pins.new.items ≡ pins.old.items ++ numbers_of (number_for lines.now numbers.now) (sources_of (stated entry.now))) }
 {
@@ -166,7 +165,7 @@ fn resolve_outputs(
     numbers: &[u32],
     found: &mut Vec<u32>,
 ) -> Result<Option<u32>, Memory>
-    requires { index_map_len lines.now ≡ length numbers.now }
+    requires { length lines.now ≡ length numbers.now }
     ensures line { IfOk result (λ line. line ≡ first_line (λ statement. list_any (is_unnumbered (number_for lines.now numbers.now)) (used_names statement)) (numbered_outputs outputs.now)) }
     ensures found { IfOk result (λ line. line ≡ None → found.new.items ≡ found.old.items ++ numbers_of (number_for lines.now numbers.now) (output_names (output_list outputs.now))) }
 {
@@ -187,7 +186,7 @@ fn resolve_name(
     numbers: &[u32],
     found: &mut Vec<u32>,
 ) -> Result<bool, Memory>
-    requires { index_map_len lines.now ≡ length numbers.now }
+    requires { length lines.now ≡ length numbers.now }
     ensures unnumbered { IfOk result (λ unnumbered. unnumbered ≡ is_unnumbered (number_for lines.now numbers.now) name.now) }
     ensures found { IfOk result (λ unnumbered. unnumbered ≡ false → found.new.items ≡ found.old.items ++ numbers_of (number_for lines.now numbers.now) (name.now ∷ [])) }
 {

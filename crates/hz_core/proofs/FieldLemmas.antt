@@ -1,31 +1,34 @@
 -- How the fields of a circuit change at each call, and what they then stand for.
-use Rattle.std.proofs.Common.{◌≡◌, ◌∙◌, sym, ap, ℕ, ◌+◌, ◌-◌, ◌<◌, List, [], ◌∷◌, ◌++◌, length, None, get_or, set, arith, subst}
+use Rattle.std.proofs.Common.{◌≡◌, ◌∙◌, sym, ap, ℕ, ◌+◌, ◌-◌, ◌<◌, List, [], ◌∷◌, ◌++◌, length, None, get_or, set, map, arith, subst}
 use Rattle.std.specs.List.{position}
 use Rattle.std.specs.Str.{bytes_eq}
-use Rattle.indexmap.specs.IndexSet.{insert_key}
+use Rattle.hz_core.specs.NameHash.{hash_of}
 use Rattle.hz_core.specs.declared.kind.Kind.{Kind}
 use Rattle.hz_core.specs.declared.kind.Kind.TheVariants.{And}
 use Rattle.hz_core.specs.declared.circuit.Circuit.TheInside.{Inside}
 use Rattle.hz_core.specs.Inside.{netlist_of, HoldsCircuit}
 use Rattle.hz_core.specs.Netlist.{Gate, Netlist, IsName, IsCircuit, IsGateNumber, pin_count, variable_count, most_pins, gate_at, node_named, empty_netlist, with_input, with_cut, with_gate, with_source, with_pin}
-use Rattle.hz_core.proofs.ListLemmas.{names_grow, get_or-default}
+use Rattle.std.proofs.lemmas.List.{map-append}
+use Rattle.hz_core.proofs.ListLemmas.{get_or-default}
 use Rattle.hz_core.proofs.CircuitLemmas.{IsCircuit-empty, IsCircuit-with_input, IsCircuit-with_cut, IsCircuit-with_gate, IsCircuit-with_pin, pin_count-with_gate, pin_count-with_pin, same_netlist}
 
--- the names after a new one came
-name_came :
-    (old new : Inside) (netlist : Netlist) (key name : List ℕ) → netlist_of old ≡ netlist →
-    node_named netlist name ≡ None → key ≡ name →
-    new.names.keys ≡ insert_key bytes_eq old.names.keys key →
-    (netlist_of new).names ≡ (netlist_of old).names ++ name ∷ []
-name_came old new netlist key name same fresh is keys =
-    keys ∙ names_grow old.names.keys key name is (ap (λ n. node_named n name) same ∙ fresh)
+-- the hashes on the chains after a new name came
+name_hashed :
+    (old new : Inside) (name : List ℕ) → old.chains ≡ map (hash_of old.hashing) old.names.items → new.hashing ≡ old.hashing →
+    new.names.items ≡ old.names.items ++ name ∷ [] → new.chains ≡ old.chains ++ hash_of old.hashing name ∷ [] →
+    new.chains ≡ map (hash_of new.hashing) new.names.items
+name_hashed old new name hashed hashing names chains =
+    chains ∙ ap (λ hashes. hashes ++ hash_of old.hashing name ∷ []) hashed
+    ∙ sym (map-append (hash_of old.hashing) old.names.items (name ∷ []))
+    ∙ ap (map (hash_of old.hashing)) (sym names)
+    ∙ ap (λ one. map (hash_of one) new.names.items) (sym hashing)
 
 -- fields that stand for a circuit, and count its pins
 holds_circuit :
     (fields : Inside) (netlist : Netlist) → netlist_of fields ≡ netlist → IsCircuit netlist → fields.pins ≡ pin_count netlist →
-    HoldsCircuit fields
-holds_circuit fields netlist same circuit counted =
-    record { circuit = rw same circuit; counted = counted ∙ sym (ap pin_count same) }
+    fields.chains ≡ map (hash_of fields.hashing) fields.names.items → HoldsCircuit fields
+holds_circuit fields netlist same circuit counted hashed =
+    record { circuit = rw same circuit; counted = counted ∙ sym (ap pin_count same); hashed = hashed }
 
 -- the circuit that the fields stand for
 circuit_of : (fields : Inside) (netlist : Netlist) → netlist_of fields ≡ netlist → HoldsCircuit fields → IsCircuit netlist
@@ -33,16 +36,18 @@ circuit_of fields netlist same holds = subst IsCircuit same holds.circuit
 
 -- the fields of a new circuit
 pub HoldsCircuit-empty :
-    (fields : Inside) → fields.names.keys ≡ [] → fields.inputs ≡ 0 → fields.cuts.items ≡ [] → fields.gates.items ≡ [] →
+    (fields : Inside) → fields.names.items ≡ [] → fields.chains ≡ [] → fields.inputs ≡ 0 → fields.cuts.items ≡ [] → fields.gates.items ≡ [] →
     fields.outputs.keys ≡ [] → fields.pins ≡ 0 → HoldsCircuit fields
-HoldsCircuit-empty fields names inputs cuts gates outputs pins =
+HoldsCircuit-empty fields names chains inputs cuts gates outputs pins =
     holds_circuit fields empty_netlist
     (same_netlist (netlist_of fields) empty_netlist names inputs cuts gates outputs)
-    IsCircuit-empty pins
+    IsCircuit-empty pins (chains ∙ ap (map (hash_of fields.hashing)) (sym names))
 
 -- the fields from old to new, where an input came
-pub record InputComes (old new : Inside) (key : List ℕ) : Type 0 where
-  pub names : new.names.keys ≡ insert_key bytes_eq old.names.keys key
+pub record InputComes (old new : Inside) (name : List ℕ) : Type 0 where
+  pub names : new.names.items ≡ old.names.items ++ name ∷ []
+  pub hashing : new.hashing ≡ old.hashing
+  pub chains : new.chains ≡ old.chains ++ hash_of old.hashing name ∷ []
   pub inputs : new.inputs ≡ old.inputs + 1
   pub cuts : new.cuts.items ≡ old.cuts.items
   pub gates : new.gates.items ≡ old.gates.items
@@ -51,25 +56,27 @@ pub record InputComes (old new : Inside) (key : List ℕ) : Type 0 where
 
 -- then the circuit is the definition's
 pub view-InputComes :
-    (old new : Inside) (netlist : Netlist) (key name : List ℕ) → netlist_of old ≡ netlist →
-    node_named netlist name ≡ None → key ≡ name → InputComes old new key → netlist_of new ≡ with_input netlist name
-view-InputComes old new netlist key name same fresh is comes =
-    same_netlist (netlist_of new) (with_input (netlist_of old) name) (name_came old new netlist key name same fresh is comes.names)
+    (old new : Inside) (netlist : Netlist) (name : List ℕ) → netlist_of old ≡ netlist →
+    node_named netlist name ≡ None → InputComes old new name → netlist_of new ≡ with_input netlist name
+view-InputComes old new netlist name same fresh comes =
+    same_netlist (netlist_of new) (with_input (netlist_of old) name) comes.names
     comes.inputs comes.cuts comes.gates comes.outputs ∙ ap (λ n. with_input n name) same
 
 -- and the invariant holds again
 pub HoldsCircuit-InputComes :
-    (old new : Inside) (netlist : Netlist) (key name : List ℕ) → netlist_of old ≡ netlist →
-    node_named netlist name ≡ None → key ≡ name → InputComes old new key → HoldsCircuit old → IsName name →
+    (old new : Inside) (netlist : Netlist) (name : List ℕ) → netlist_of old ≡ netlist →
+    node_named netlist name ≡ None → InputComes old new name → HoldsCircuit old → IsName name →
     netlist.gates ≡ [] → variable_count netlist < 200000 → HoldsCircuit new
-HoldsCircuit-InputComes old new netlist key name same fresh is comes holds is_name no_gate room =
-    holds_circuit new (with_input netlist name) (view-InputComes old new netlist key name same fresh is comes)
+HoldsCircuit-InputComes old new netlist name same fresh comes holds is_name no_gate room =
+    holds_circuit new (with_input netlist name) (view-InputComes old new netlist name same fresh comes)
     (IsCircuit-with_input netlist name (circuit_of old netlist same holds) is_name fresh no_gate room)
-    (comes.pins ∙ holds.counted ∙ ap pin_count same)
+    (comes.pins ∙ holds.counted ∙ ap pin_count same) (name_hashed old new name holds.hashed comes.hashing comes.names comes.chains)
 
 -- the fields from old to new, where a cut came
-pub record CutComes (old new : Inside) (key : List ℕ) : Type 0 where
-  pub names : new.names.keys ≡ insert_key bytes_eq old.names.keys key
+pub record CutComes (old new : Inside) (name : List ℕ) : Type 0 where
+  pub names : new.names.items ≡ old.names.items ++ name ∷ []
+  pub hashing : new.hashing ≡ old.hashing
+  pub chains : new.chains ≡ old.chains ++ hash_of old.hashing name ∷ []
   pub inputs : new.inputs ≡ old.inputs + 1
   pub cuts : new.cuts.items ≡ old.cuts.items ++ None ∷ []
   pub gates : new.gates.items ≡ old.gates.items
@@ -78,25 +85,27 @@ pub record CutComes (old new : Inside) (key : List ℕ) : Type 0 where
 
 -- then the circuit is the definition's
 pub view-CutComes :
-    (old new : Inside) (netlist : Netlist) (key name : List ℕ) → netlist_of old ≡ netlist →
-    node_named netlist name ≡ None → key ≡ name → CutComes old new key → netlist_of new ≡ with_cut netlist name
-view-CutComes old new netlist key name same fresh is comes =
-    same_netlist (netlist_of new) (with_cut (netlist_of old) name) (name_came old new netlist key name same fresh is comes.names)
+    (old new : Inside) (netlist : Netlist) (name : List ℕ) → netlist_of old ≡ netlist →
+    node_named netlist name ≡ None → CutComes old new name → netlist_of new ≡ with_cut netlist name
+view-CutComes old new netlist name same fresh comes =
+    same_netlist (netlist_of new) (with_cut (netlist_of old) name) comes.names
     comes.inputs comes.cuts comes.gates comes.outputs ∙ ap (λ n. with_cut n name) same
 
 -- and the invariant holds again
 pub HoldsCircuit-CutComes :
-    (old new : Inside) (netlist : Netlist) (key name : List ℕ) → netlist_of old ≡ netlist →
-    node_named netlist name ≡ None → key ≡ name → CutComes old new key → HoldsCircuit old → IsName name →
+    (old new : Inside) (netlist : Netlist) (name : List ℕ) → netlist_of old ≡ netlist →
+    node_named netlist name ≡ None → CutComes old new name → HoldsCircuit old → IsName name →
     netlist.gates ≡ [] → variable_count netlist < 200000 → HoldsCircuit new
-HoldsCircuit-CutComes old new netlist key name same fresh is comes holds is_name no_gate room =
-    holds_circuit new (with_cut netlist name) (view-CutComes old new netlist key name same fresh is comes)
+HoldsCircuit-CutComes old new netlist name same fresh comes holds is_name no_gate room =
+    holds_circuit new (with_cut netlist name) (view-CutComes old new netlist name same fresh comes)
     (IsCircuit-with_cut netlist name (circuit_of old netlist same holds) is_name fresh no_gate room)
-    (comes.pins ∙ holds.counted ∙ ap pin_count same)
+    (comes.pins ∙ holds.counted ∙ ap pin_count same) (name_hashed old new name holds.hashed comes.hashing comes.names comes.chains)
 
 -- the fields from old to new, where a gate came
-pub record GateComes (old new : Inside) (key : List ℕ) (kind : Kind) : Type 0 where
-  pub names : new.names.keys ≡ insert_key bytes_eq old.names.keys key
+pub record GateComes (old new : Inside) (name : List ℕ) (kind : Kind) : Type 0 where
+  pub names : new.names.items ≡ old.names.items ++ name ∷ []
+  pub hashing : new.hashing ≡ old.hashing
+  pub chains : new.chains ≡ old.chains ++ hash_of old.hashing name ∷ []
   pub inputs : new.inputs ≡ old.inputs
   pub cuts : new.cuts.items ≡ old.cuts.items
   pub gates : new.gates.items ≡ old.gates.items ++ record { kind = kind; sources = [] } ∷ []
@@ -105,25 +114,27 @@ pub record GateComes (old new : Inside) (key : List ℕ) (kind : Kind) : Type 0 
 
 -- then the circuit is the definition's
 pub view-GateComes :
-    (old new : Inside) (netlist : Netlist) (key name : List ℕ) (kind : Kind) → netlist_of old ≡ netlist →
-    node_named netlist name ≡ None → key ≡ name → GateComes old new key kind → netlist_of new ≡ with_gate netlist name kind
-view-GateComes old new netlist key name kind same fresh is comes =
-    same_netlist (netlist_of new) (with_gate (netlist_of old) name kind) (name_came old new netlist key name same fresh is comes.names)
+    (old new : Inside) (netlist : Netlist) (name : List ℕ) (kind : Kind) → netlist_of old ≡ netlist →
+    node_named netlist name ≡ None → GateComes old new name kind → netlist_of new ≡ with_gate netlist name kind
+view-GateComes old new netlist name kind same fresh comes =
+    same_netlist (netlist_of new) (with_gate (netlist_of old) name kind) comes.names
     comes.inputs comes.cuts comes.gates comes.outputs ∙ ap (λ n. with_gate n name kind) same
 
 -- and the invariant holds again
 pub HoldsCircuit-GateComes :
-    (old new : Inside) (netlist : Netlist) (key name : List ℕ) (kind : Kind) → netlist_of old ≡ netlist →
-    node_named netlist name ≡ None → key ≡ name → GateComes old new key kind → HoldsCircuit old → IsName name →
+    (old new : Inside) (netlist : Netlist) (name : List ℕ) (kind : Kind) → netlist_of old ≡ netlist →
+    node_named netlist name ≡ None → GateComes old new name kind → HoldsCircuit old → IsName name →
     variable_count netlist < 200000 → HoldsCircuit new
-HoldsCircuit-GateComes old new netlist key name kind same fresh is comes holds is_name room =
-    holds_circuit new (with_gate netlist name kind) (view-GateComes old new netlist key name kind same fresh is comes)
+HoldsCircuit-GateComes old new netlist name kind same fresh comes holds is_name room =
+    holds_circuit new (with_gate netlist name kind) (view-GateComes old new netlist name kind same fresh comes)
     (IsCircuit-with_gate netlist name kind (circuit_of old netlist same holds) is_name fresh room)
-    (comes.pins ∙ holds.counted ∙ ap pin_count same ∙ sym (pin_count-with_gate netlist name kind))
+    (comes.pins ∙ holds.counted ∙ ap pin_count same ∙ sym (pin_count-with_gate netlist name kind)) (name_hashed old new name holds.hashed comes.hashing comes.names comes.chains)
 
 -- the fields from old to new, where a pin came to the gate that was read
 pub record PinComes (old new : Inside) (was : Gate) (node source : ℕ) : Type 0 where
-  pub names : new.names.keys ≡ old.names.keys
+  pub names : new.names.items ≡ old.names.items
+  pub hashing : new.hashing ≡ old.hashing
+  pub chains : new.chains ≡ old.chains
   pub inputs : new.inputs ≡ old.inputs
   pub cuts : new.cuts.items ≡ old.cuts.items
   pub gates : new.gates.items ≡ set old.gates.items (node - old.inputs) (with_source was source)
@@ -156,15 +167,16 @@ HoldsCircuit-PinComes old new netlist was node source same holds is_gate comes i
     holds_circuit new (with_pin netlist node source) (view-PinComes old new netlist was node source same holds is_gate comes)
     (IsCircuit-with_pin netlist node source circuit is_gate is_node free room)
     (comes.pins ∙ ap (λ n. n + 1) (holds.counted ∙ ap pin_count same) ∙ sym (pin_count-with_pin netlist node source circuit is_gate))
+    (comes.chains ∙ holds.hashed ∙ ap (map (hash_of old.hashing)) (sym comes.names) ∙ ap (λ one. map (hash_of one) new.names.items) (sym comes.hashing))
 
 -- how many names, of a list of keys
-pub names_counted : (fields : Inside) (netlist : Netlist) → netlist_of fields ≡ netlist → length fields.names.keys ≡ length netlist.names
+pub names_counted : (fields : Inside) (netlist : Netlist) → netlist_of fields ≡ netlist → length fields.names.items ≡ length netlist.names
 names_counted fields netlist same =
     ap (λ n. length n.names) same
 
 -- the key that is looked for stands where its name does
 pub found_at :
     (fields : Inside) (netlist : Netlist) (name : List ℕ) → netlist_of fields ≡ netlist →
-    position (bytes_eq name) fields.names.keys ≡ node_named netlist name
+    position (bytes_eq name) fields.names.items ≡ node_named netlist name
 found_at fields netlist name same =
     ap (λ n. node_named n name) same

@@ -1,4 +1,6 @@
 pub mod ListLemmas
+pub mod ChainLemmas
+pub mod NameLemmas
 pub mod CircuitLemmas
 pub mod FieldLemmas
 pub mod Extensions

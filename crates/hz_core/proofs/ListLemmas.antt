@@ -1,12 +1,10 @@
 -- Lemmas on lists of names.
-use Rattle.std.proofs.Common.{◌≡◌, sym, ap, ℕ, ◌<◌, ◌≤◌, Bool, false, List, [], ◌∷◌, ◌++◌, length, None, get_or, arith}
+use Rattle.std.proofs.Common.{◌≡◌, sym, ℕ, ◌<◌, ◌≤◌, Bool, false, List, length, None, get_or, arith}
 use Rattle.std.specs.List.{list_any, position, position_or_len}
-use Rattle.std.specs.Str.{bytes_eq}
 use Rattle.std.proofs.lemmas.Bool.Decides.{nat_tests}
 use Rattle.std.proofs.lemmas.List.Sums.{fails_before_first}
 use Rattle.std.proofs.lemmas.List.Folds.{list_any_none}
 use Rattle.std.proofs.lemmas.Option.{slice_get-get_or, get_or_from_slice_get}
-use Rattle.indexmap.specs.IndexSet.{insert_key}
 
 -- where the first place that passes is looked for in vain, no place passes
 pub list_any-from_position_none : {X : Type 0} (p : X → Bool) (xs : List X) → position p xs ≡ None → list_any p xs ≡ false
@@ -17,11 +15,3 @@ list_any-from_position_none p xs none =
 -- within a list, what is read does not depend on the default
 pub get_or-default : {X : Type 0} (xs : List X) (i : ℕ) (d e : X) → i < length xs → get_or xs i d ≡ get_or xs i e
 get_or-default xs i d e within = sym (get_or_from_slice_get xs i (get_or xs i d) e (slice_get-get_or xs i d within))
-
--- a name that is new goes last
-pub names_grow :
-    (keys : List (List ℕ)) (key name : List ℕ) → key ≡ name → position (bytes_eq name) keys ≡ None →
-    insert_key bytes_eq keys key ≡ keys ++ name ∷ []
-names_grow keys key name is fresh =
-    let none : list_any (bytes_eq key) keys ≡ false = list_any-from_position_none (bytes_eq key) keys (rw is fresh) in
-    rw none (ap (λ last. keys ++ last ∷ []) is)

@@ -5,5 +5,6 @@ pub mod Kleene
 pub mod Pattern
 pub mod Reached
 pub mod NameHash
+pub mod Chains
 pub mod Netlist
 pub mod Inside

@@ -1,15 +1,14 @@
 //! Circuits: named inputs, flip-flops that are cut, gates with their sources, and outputs.
-ghost use Rattle.std.specs.Prelude.{◌≡◌, ◌+◌, ◌<◌, ◌≤◌, ◌↔◌, length, slice_get, Some, None, IsTrue, IfOk, IsOk, OnOk, OnErr, [], All, nat_eq};
+ghost use Rattle.std.specs.Prelude.{◌≡◌, ◌+◌, ◌<◌, ◌≤◌, ◌↔◌, length, slice_get, Some, None, IsTrue, IfOk, IsOk, OnOk, OnErr, [], ◌∷◌, ◌++◌, All, nat_eq};
 ghost use Rattle.std.specs.List.{list_any};
+ghost use Rattle.hz_core.specs.NameHash.{hash_of};
 ghost use Rattle.hz_core.specs.Netlist.{IsName, IsCircuit, IsCutNumber, IsGateNumber, IsWhole, node_named, variable_count, primary_inputs, most_pins, data_of, has_output, gate_at, empty_netlist, with_input, with_cut, with_data, with_gate, with_pin, with_output};
 
 use crate::gate::GateEntry;
-use crate::name::{Name, NameEntry};
-use crate::name_hasher::NameHasher;
-use crate::{Kind, Memory};
+use crate::name::{NameEntry, find_name};
+use crate::{Chains, Kind, Memory, NameHashing};
 use indexmap::IndexSet;
 use std::alloc::Global;
-use std::hash::BuildHasherDefault;
 use std::marker::Model;
 
 /// The most variables of a circuit's complete network: its nodes and its pins.
@@ -24,7 +23,9 @@ pub const MAX_VARIABLES: u32 = 200_000;
 /// node. So a clocked circuit is one without flip-flops between two edges of its clock.
 #[derive(Debug, Drop)]
 pub struct Circuit {
-    names: IndexSet<NameEntry, BuildHasherDefault<NameHasher>>,
+    names: Vec<NameEntry>,
+    hashing: NameHashing,
+    chains: Chains,
     inputs: u32,
     cuts: Vec<Option<u32>>,
     gates: Vec<GateEntry>,
@@ -45,12 +46,32 @@ impl Model for Circuit {
 }
 
 impl Circuit {
-    /// A circuit without nodes. It allocates nothing.
+    /// A circuit without nodes. It allocates nothing. Its names are hashed plainly, so they should be names that nobody chose to
+    /// collide; for others there is `with_names`.
     pub fn new(alloc: Global) -> Circuit
         ensures { result ≡ empty_netlist }
     {
+        Circuit::of_names(alloc, NameHashing::plain(), Chains::new(alloc))
+    }
+
+    /// A circuit without nodes, whose names are hashed in this way, with as many buckets as so many names take.
+    pub fn with_names(alloc: Global, hashing: NameHashing, names: usize) -> Result<Circuit, Memory>
+        ensures { IfOk result (λ circuit. circuit ≡ empty_netlist) }
+    {
+        let mut chains = Chains::new(alloc);
+        chains.reserve(names)?;
+        Ok(Circuit::of_names(alloc, hashing, chains))
+    }
+
+    // A circuit without nodes.
+    fn of_names(alloc: Global, hashing: NameHashing, chains: Chains) -> Circuit
+        requires { chains ≡ [] }
+        ensures { result ≡ empty_netlist }
+    {
         Circuit {
-            names: IndexSet::with_hasher(alloc, BuildHasherDefault::new()),
+            names: Vec::new(alloc),
+            hashing,
+            chains,
             inputs: 0,
             cuts: Vec::new(alloc),
             gates: Vec::new(alloc),
@@ -70,12 +91,7 @@ impl Circuit {
         ensures err { OnErr result (self.new ≡ self.old) }
     {
         let number = self.names.len() as u32;
-        let Ok(entry) = NameEntry::new(*self.names.allocator(), name) else {
-            return Err(Memory);
-        };
-        let Ok(_) = self.names.insert(entry) else {
-            return Err(Memory);
-        };
+        add_name(&mut self.names, &mut self.chains, &self.hashing, name)?;
         self.inputs += 1;
         Ok(number)
     }
@@ -90,15 +106,10 @@ impl Circuit {
         ensures err { OnErr result (self.new ≡ self.old) }
     {
         let number = self.names.len() as u32;
-        let Ok(entry) = NameEntry::new(*self.names.allocator(), name) else {
-            return Err(Memory);
-        };
         let Ok(()) = self.cuts.reserve(1) else {
             return Err(Memory);
         };
-        let Ok(_) = self.names.insert(entry) else {
-            return Err(Memory);
-        };
+        add_name(&mut self.names, &mut self.chains, &self.hashing, name)?;
         self.cuts.push_reserved(None);
         self.inputs += 1;
         Ok(number)
@@ -124,15 +135,10 @@ impl Circuit {
     {
         let number = self.names.len() as u32;
         let alloc = *self.names.allocator();
-        let Ok(key) = NameEntry::new(alloc, name) else {
-            return Err(Memory);
-        };
         let Ok(()) = self.gates.reserve(1) else {
             return Err(Memory);
         };
-        let Ok(_) = self.names.insert(key) else {
-            return Err(Memory);
-        };
+        add_name(&mut self.names, &mut self.chains, &self.hashing, name)?;
         self.gates.push_reserved(GateEntry::new(alloc, kind));
         Ok(number)
     }
@@ -172,8 +178,8 @@ impl Circuit {
         ensures found { result ≡ node_named self.now name.now }
         ensures circuit { IsCircuit self.now }
     {
-        let index = self.names.get_index_of(Name { bytes: name })?;
-        Some(index as u32)
+        let place = find_name(self.names.as_slice(), &self.chains, &self.hashing, name)?;
+        Some(place as u32)
     }
 
     /// A node's name.
@@ -182,7 +188,7 @@ impl Circuit {
         ensures name { slice_get self.now.names node ≡ Some result.now }
         ensures circuit { IsCircuit self.now }
     {
-        self.names.as_slice()[node as usize].as_slice()
+        self.names[node as usize].as_slice()
     }
 
     /// The number of inputs, cuts among them.
@@ -266,6 +272,31 @@ impl Circuit {
         every_gate_has_pins(self.gates.as_slice())
             && every_cut_has_output(self.cuts.as_slice(), &self.outputs)
     }
+}
+
+// Adds a name after the others, and to the chains.
+fn add_name(
+    names: &mut Vec<NameEntry>,
+    chains: &mut Chains,
+    hashing: &NameHashing,
+    name: &[u8],
+) -> Result<(), Memory>
+    ensures names { OnOk result (names.new.items ≡ names.old.items ++ name.now ∷ []) }
+    ensures chains { OnOk result (chains.new ≡ chains.old ++ hash_of hashing.now name.now ∷ []) }
+    ensures names_err { OnErr result (names.new.items ≡ names.old.items) }
+    ensures chains_err { OnErr result (chains.new ≡ chains.old) }
+{
+    let Ok(entry) = NameEntry::new(*names.allocator(), name) else {
+        return Err(Memory);
+    };
+    let Ok(()) = names.reserve(1) else {
+        return Err(Memory);
+    };
+    let Ok(()) = chains.push(hashing.hash(name)) else {
+        return Err(Memory);
+    };
+    names.push_reserved(entry);
+    Ok(())
 }
 
 // Whether each gate has a pin.

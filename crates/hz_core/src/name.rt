@@ -1,47 +1,44 @@
-//! Names as the keys of tables.
-//!
-//! A slice of bytes is hashed byte by byte, with its length. A name is hashed by one write of all its bytes, which takes a
-//! fraction of the time, and which [`crate::NameHasher`] takes as a name.
-ghost use Rattle.std.specs.Prelude.{◌≡◌, [], ◌∷◌, IfOk};
-ghost use Rattle.std.specs.Cmp.Lexicographic.{bytes_decides, nat_list_eq_equiv};
-ghost use Rattle.std.specs.Cmp.{partial_equiv_from_equiv, on_per, on_equiv};
+//! Names that are found by their hashes.
+ghost use Rattle.std.specs.Prelude.{◌≡◌, IfOk, map, position};
+ghost use Rattle.std.specs.List.{IsDistinct};
 ghost use Rattle.std.specs.Str.{bytes_eq};
-ghost use Rattle.std.proofs.Common.{ap};
+ghost use Rattle.hz_core.specs.NameHash.{hash_of};
 
-use crate::Memory;
-use indexmap::Equivalent;
+use crate::{Chains, Memory, NameHashing};
 use std::alloc::Global;
-use std::hash::{Hash, Hasher};
 use std::marker::Model;
 
-/// A name that borrows its bytes.
-#[derive(Clone, Copy, Debug)]
-pub struct Name<'a> {
-    pub bytes: &'a [u8],
+/// What has a name.
+pub trait Named {
+    ghost use Rattle.std.specs.Prelude.{ℕ, List};
+
+    // The bytes of its name.
+    ghost name_of: { Self → List ℕ };
+
+    /// The bytes of its name.
+    fn name(&self) -> &[u8]
+        ensures { result.now ≡ name_of self.now };
 }
 
-impl<'a> PartialEq for Name<'a> {
-    ghost eq = { λ name other. bytes_eq name.bytes.now other.bytes.now };
-
-    ghost laws = { on_per (λ name. name.bytes.now) (partial_equiv_from_equiv nat_list_eq_equiv) };
-
-    fn eq(&self, other: &Self) -> bool {
-        self.bytes == other.bytes
+/// The place of the item with this name, if the chains have the items by the hashes of their names, and no two have the same name.
+pub fn find_name<N: Named>(
+    items: &[N],
+    chains: &Chains,
+    hashing: &NameHashing,
+    name: &[u8],
+) -> Option<usize>
+    requires { chains.now ≡ map (hash_of hashing.now) (map N.name_of items.now) }
+    ensures { IsDistinct bytes_eq (map N.name_of items.now) → result ≡ position (bytes_eq name.now) (map N.name_of items.now) }
+{
+    let mut number = chains.last(hashing.hash(name));
+    while number > 0 {
+        let place = number as usize - 1;
+        if name == items[place].name() {
+            return Some(place);
+        }
+        number = chains.earlier(place);
     }
-}
-
-impl<'a> Eq for Name<'a> {
-    ghost laws = { on_equiv (λ name. name.bytes.now) nat_list_eq_equiv };
-}
-
-impl<'a> Hash for Name<'a> {
-    ghost hash_input = { λ name. name.bytes.now ∷ [] };
-
-    ghost respects_eq = { λ name other same. ap (λ bytes. bytes ∷ []) ((bytes_decides name.bytes.now other.bytes.now).0 same) };
-
-    fn hash<H: Hasher>(&self, state: &mut H) {
-        state.write(self.bytes);
-    }
+    None
 }
 
 // A name that a circuit keeps.
@@ -76,38 +73,10 @@ impl NameEntry {
     }
 }
 
-impl PartialEq for NameEntry {
-    ghost eq = { bytes_eq };
+impl Named for NameEntry {
+    ghost name_of = { λ entry. entry };
 
-    ghost laws = { partial_equiv_from_equiv nat_list_eq_equiv };
-
-    fn eq(&self, other: &Self) -> bool {
-        self.bytes == other.bytes
-    }
-}
-
-impl Eq for NameEntry {
-    ghost laws = { nat_list_eq_equiv };
-}
-
-impl Hash for NameEntry {
-    ghost hash_input = { λ entry. entry ∷ [] };
-
-    ghost respects_eq = { λ entry other same. ap (λ bytes. bytes ∷ []) ((bytes_decides entry other).0 same) };
-
-    fn hash<H: Hasher>(&self, state: &mut H) {
-        state.write(self.bytes.as_slice());
-    }
-}
-
-impl<'a> Equivalent<NameEntry> for Name<'a> {
-    ghost equivalent = { λ name entry. bytes_eq name.bytes.now entry };
-
-    ghost respects_hash = { λ name entry same. ap (λ bytes. bytes ∷ []) ((bytes_decides name.bytes.now entry).0 same) };
-
-    ghost respects_eq = { λ name entry other. nat_list_eq_equiv.congr name.bytes.now entry other };
-
-    fn equivalent(&self, entry: &NameEntry) -> bool {
-        self.bytes == entry.bytes.as_slice()
+    fn name(&self) -> &[u8] {
+        self.as_slice()
     }
 }

@@ -1,5 +1,5 @@
 -- What the results of both algorithms and the ranks say of one change.
-use Rattle.std.proofs.Common.{◌≡◌, ◌≢◌, ℕ, zero, suc, ◌+◌, ◌-◌, ◌<◌, ◌≤◌, Bool, true, false, List, length, get_or, take, refl, sym, ap, ◌∙◌, subst, arith, inl, inr, IsTrue}
+use Rattle.std.proofs.Common.{◌≡◌, ◌≢◌, ℕ, zero, suc, ◌<◌, Bool, true, false, List, length, get_or, refl, sym, ap, ◌∙◌, subst, inl, inr, IsTrue}
 use Rattle.std.proofs.lemmas.Bool.{cases_lt}
 use Rattle.std.proofs.lemmas.List.{get_or_past}
 use Rattle.hz_core.specs.declared.tri.Tri.{Tri}
@@ -8,8 +8,7 @@ use Rattle.hz_core.specs.Ternary.{tri_of, is_below, AllBelow}
 use Rattle.hz_core.specs.Netlist.{Netlist}
 use Rattle.hz_core.proofs.Refinements.{get_or-AllBelow, AllBelow-same, AllBelow-through}
 use Rattle.hz_net.specs.Network.{Driver, network_of, value_at}
-use Rattle.hz_net.specs.Passes.{excitations, algorithm_a, algorithm_b, IsKnown, IsUnknown, IsResult, AreRounds, IsRank, AreRanks}
-use Rattle.hz_net.specs.Starts.{IsStableStart}
+use Rattle.hz_net.specs.Passes.{excitations, algorithm_a, algorithm_b, IsUnknown, IsResult, IsRank, AreRanks}
 use Rattle.hz_net.proofs.Ranks.{at-tri_of}
 use Rattle.hz_net.proofs.Sequences.{length-algorithm_a, AllBelow-closed, closed-result, AllBelow-algorithm_b}
 use Rattle.hz_reach.specs.Order.{key_at}

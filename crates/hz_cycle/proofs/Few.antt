@@ -1,10 +1,9 @@
 -- How often a pass changes each variable, and that it ends as a pass.
-use Rattle.std.proofs.Common.{◌≡◌, ◌≢◌, ℕ, ◌+◌, ◌<◌, ◌≤◌, ◌⊎◌, Bool, true, false, not, cond, List, length, refl, sym, ap, ◌∙◌, subst, arith, inl, inr}
+use Rattle.std.proofs.Common.{◌≡◌, ℕ, ◌+◌, ◌≤◌, Bool, true, false, not, cond, List, refl, sym, ap, ◌∙◌, arith, inl, inr}
 use Rattle.hz_core.specs.declared.tri.Tri.{Tri}
 use Rattle.hz_core.specs.declared.kind.Kind.{Kind}
 use Rattle.hz_net.specs.Network.{Driver, External, Function, Source, driver_at, bit_at, value_at}
-use Rattle.hz_net.specs.Passes.{IsKnown, IsUnknown}
-use Rattle.hz_reach.specs.Order.{IsEarlier}
+use Rattle.hz_net.specs.Passes.{IsUnknown}
 use Rattle.hz_net.specs.Reads.{IsWireInto, IsWired}
 use Rattle.hz_reach.specs.Spread.{changes_in}
 use Rattle.hz_cycle.specs.Pass.{IsFixed, AreEnough, IsPass}

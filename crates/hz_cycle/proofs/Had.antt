@@ -1,16 +1,14 @@
 -- Who has had a turn matters for unsettled gates alone.
-use Rattle.std.proofs.Common.{◌≡◌, ◌≢◌, ℕ, ◌+◌, ◌<◌, ◌≤◌, ◌⊎◌, Bool, true, false, not, cond, List, length, refl, sym, ap, ◌∙◌, subst, arith, inl, inr}
+use Rattle.std.proofs.Common.{◌≡◌, ℕ, ◌+◌, Bool, not, cond, List, refl, sym, ap, ◌∙◌, arith, inl, inr}
 use Rattle.hz_core.specs.declared.tri.Tri.{Tri}
 use Rattle.hz_core.specs.declared.kind.Kind.{Kind}
 use Rattle.hz_net.specs.Network.{Driver, External, Function, Source, driver_at, bit_at, value_at}
-use Rattle.hz_net.specs.Passes.{IsKnown, IsUnknown}
-use Rattle.hz_reach.specs.Order.{IsEarlier}
+use Rattle.hz_net.specs.Passes.{IsUnknown}
 use Rattle.hz_net.specs.Reads.{IsWireInto, IsWired}
-use Rattle.hz_reach.specs.Spread.{changes_in}
 use Rattle.hz_cycle.specs.Pass.{IsFixed}
 use Rattle.hz_cycle.proofs.Settled.{either-value, no-input, wire-source}
-use Rattle.hz_cycle.proofs.Inside.{IsShownInside, HasPatternInside, IsInside}
-use Rattle.hz_cycle.proofs.Underway.{turns, IsUnderway}
+use Rattle.hz_cycle.proofs.Inside.{HasPatternInside, IsInside}
+use Rattle.hz_cycle.proofs.Underway.{IsUnderway}
 
 -- two tests agree at unsettled gates
 pub record AgreeAtGates (net : List Driver) (b : List Tri) (had other : ℕ → Bool) : Type 0 where

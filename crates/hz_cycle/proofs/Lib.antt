@@ -18,3 +18,8 @@ pub mod RoundSteps
 pub mod RoundTurns
 pub mod SettleFound
 pub mod ShownExact
+pub mod OrderFound
+pub mod PatternFound
+pub mod RoundsFound
+pub mod PassFound
+pub mod RunsFound

@@ -1,6 +1,6 @@
 -- The loop of `make_pass`: what holds after so many variables of the order, that each step has room, and that each turn
 -- keeps it.
-use Rattle.std.proofs.Common.{◌≡◌, ◌≢◌, ℕ, ◌+◌, ◌-◌, ◌<◌, ◌≤◌, ◌⊎◌, Bool, true, false, not, cond, List, [], ◌∷◌, ◌++◌, length, map, get_or, take, refl, sym, ap, ◌∙◌, subst, arith, inl, inr, append_assoc, append-nil, length-append}
+use Rattle.std.proofs.Common.{◌≡◌, ◌≢◌, ℕ, ◌+◌, ◌<◌, ◌≤◌, Bool, true, not, List, [], ◌∷◌, ◌++◌, length, map, get_or, take, refl, sym, ap, ◌∙◌, subst, arith, inl, inr, append_assoc, append-nil, length-append}
 use Rattle.std.specs.Prelude.{sum_by}
 use Rattle.std.specs.List.{range_with_len}
 use Rattle.std.proofs.lemmas.Bool.{cases_Bool, cases_eq, cases_order, both_ways, false_from_ne_true}
@@ -10,35 +10,35 @@ use Rattle.hz_core.specs.declared.tri.Tri.{Tri}
 use Rattle.hz_core.specs.declared.kind.Kind.{Kind}
 use Rattle.hz_core.specs.Ternary.{is_unknown}
 use Rattle.hz_core.specs.Netlist.{Netlist, IsCircuit, IsGateNumber, gate_at}
-use Rattle.hz_core.specs.Pattern.{IsCandidate, IsPattern}
+use Rattle.hz_core.specs.Pattern.{IsCandidate}
 use Rattle.hz_core.proofs.Refinements.{length-Refines}
-use Rattle.hz_net.specs.Network.{Driver, Function, Source, network_of, driver_at, bit_at, value_at}
+use Rattle.hz_net.specs.Network.{Driver, Function, network_of, driver_at, bit_at, value_at}
 use Rattle.hz_net.specs.Variables.{first_wire, at_wires}
 use Rattle.hz_net.specs.Passes.{IsUnknown}
 use Rattle.hz_net.proofs.Places.{driver_at-gate}
-use Rattle.hz_gmw.specs.Runs.{is_listed, IsRun, flipped, end_of}
+use Rattle.hz_gmw.specs.Runs.{is_listed, flipped}
 use Rattle.hz_gmw.specs.Recorded.{Recorded, flip_count}
 use Rattle.hz_reach.specs.Counts.{FlipsAreChanges, StepsAreNoMoreThanFlips}
 use Rattle.hz_reach.specs.Order.{key_at, IsEarlier, AreByKey}
 use Rattle.hz_reach.specs.Room.{after, Spends}
 use Rattle.hz_reach.specs.Scratched.{Scratched}
-use Rattle.hz_net.specs.Reads.{IsWireInto, IsWired}
+use Rattle.hz_net.specs.Reads.{IsWired}
 use Rattle.hz_reach.specs.Spread.{changes_in}
 use Rattle.hz_reach.proofs.Listed.{listed-cases, listed-left, listed-right}
 use Rattle.hz_reach.proofs.PickedLemmas.{only-one, is-one}
 use Rattle.hz_reach.proofs.Places.{listed-at, listed-place}
-use Rattle.hz_net.proofs.Wired.{IsGateOf, is_gate_of, wired-network_of}
-use Rattle.hz_cycle.specs.Marks.{ArePatternWires, MarksPattern, with_fan_out}
-use Rattle.hz_cycle.specs.Pass.{IsFixed, MayBegin, AreEnough, HasRoom, IsPass, IsPassMade}
-use Rattle.hz_cycle.proofs.Settled.{gate-possible, unknown-inside}
+use Rattle.hz_net.proofs.Wired.{is_gate_of, wired-network_of}
+use Rattle.hz_cycle.specs.Marks.{ArePatternWires, with_fan_out}
+use Rattle.hz_cycle.specs.Pass.{IsFixed, MayBegin, HasRoom, IsPassMade}
+use Rattle.hz_cycle.proofs.Settled.{gate-possible}
 use Rattle.hz_cycle.proofs.Earlier.{not-earlier, not-both}
 use Rattle.hz_cycle.proofs.FanOut.{marks-with-fan_out}
 use Rattle.hz_cycle.proofs.Few.{underway-few, underway-pass}
 use Rattle.hz_cycle.proofs.Goes.{goes-somewhere}
-use Rattle.hz_cycle.proofs.Had.{AgreeAtGates, underway-same}
+use Rattle.hz_cycle.proofs.Had.{underway-same}
 use Rattle.hz_cycle.proofs.Turn.{also, IsNext, IsWithFanOut, turn_wires, turn_middle, pin-inside}
 use Rattle.hz_cycle.proofs.TurnKeeps.{also-itself, also-other}
-use Rattle.hz_cycle.proofs.TurnedStates.{nobody, underway-begin}
+use Rattle.hz_cycle.proofs.TurnedStates.{underway-begin}
 use Rattle.hz_cycle.proofs.Underway.{IsUnderway, underway-after}
 
 -- the variables before a place of the order

@@ -1,18 +1,17 @@
 -- A settling round is a step, and settles its variables.
-use Rattle.std.proofs.Common.{◌≡◌, ◌≢◌, ℕ, zero, suc, ◌+◌, ◌-◌, ◌<◌, ◌≤◌, ◌⊎◌, Bool, true, false, not, cond, List, [], ◌∷◌, ◌++◌, length, get_or, take, drop, min, refl, sym, ap, ◌∙◌, subst, arith, inl, inr, IsTrue}
+use Rattle.std.proofs.Common.{◌≡◌, ◌≢◌, ℕ, zero, suc, ◌+◌, ◌-◌, ◌<◌, ◌≤◌, ◌⊎◌, Bool, true, false, not, cond, List, [], ◌∷◌, length, get_or, take, drop, min, refl, sym, ap, ◌∙◌, subst, arith, inl, inr, IsTrue}
 use Rattle.std.specs.List.{slice_range}
 use Rattle.std.proofs.lemmas.Bool.{cases_Bool, cases_eq, cases_lt, cases_order, both_ways, false_from_ne_true}
 use Rattle.std.proofs.lemmas.List.{get_or_past, get_or-take, get_or-drop, length-take, length-drop, take_all}
 use Rattle.hz_core.specs.declared.tri.Tri.{Tri}
 use Rattle.hz_core.specs.declared.tri.Tri.TheVariants.{Zero, One, Unknown}
-use Rattle.hz_core.specs.Ternary.{tri_of, admits, is_below, AllBelow, Refines}
-use Rattle.hz_core.proofs.Refinements.{length-Refines, get_or-Refines, Refines-get_or, get_or-AllBelow, admits-is_below, AllBelow-same, AllBelow-through}
-use Rattle.hz_net.specs.Network.{Driver, driver_at, bit_at, value_at, driven, driven3, excitation, IsUnstable}
+use Rattle.hz_core.specs.Ternary.{admits, is_below, AllBelow, Refines}
+use Rattle.hz_core.proofs.Refinements.{length-Refines, get_or-Refines, Refines-get_or, get_or-AllBelow, AllBelow-same, AllBelow-through}
+use Rattle.hz_net.specs.Network.{Driver, driver_at, bit_at, value_at, excitation, IsUnstable}
 use Rattle.hz_net.specs.Passes.{excitations, algorithm_b, IsKnown, IsUnknown, IsFirstRound, IsSettlingRound}
-use Rattle.hz_net.proofs.Excitations.{admits-driven, at-excitations, length-excitations}
+use Rattle.hz_net.proofs.Excitations.{admits-driven, at-excitations}
 use Rattle.hz_net.proofs.Sequences.{length-algorithm_b, AllBelow-algorithm_b}
-use Rattle.hz_gmw.specs.Runs.{is_listed, RepeatsNone, IsStep, IsRun, flipped, end_of}
-use Rattle.hz_gmw.proofs.Flips.{length-flipped}
+use Rattle.hz_gmw.specs.Runs.{is_listed, IsStep, IsRun, flipped, end_of}
 use Rattle.hz_gmw.proofs.CoverB.{length-end_of}
 use Rattle.hz_reach.specs.Order.{key_at, IsEarlier, AreByKey}
 use Rattle.hz_reach.specs.Room.{after}
@@ -20,11 +19,11 @@ use Rattle.hz_reach.specs.Spread.{changes_in}
 use Rattle.hz_reach.proofs.Places.{listed-at, listed-place}
 use Rattle.hz_reach.proofs.Rooms.{end_of-after}
 use Rattle.hz_cycle.specs.Rounds.{differing, IsOneRound, AreRoundsOf, IsSettling}
-use Rattle.hz_cycle.proofs.Settled.{either-value, same-admitted}
-use Rattle.hz_cycle.proofs.FanOut.{Ascends, ascends-once, filtered-is, is-filtered, listed-above, ascends-filter}
+use Rattle.hz_cycle.proofs.Settled.{either-value}
+use Rattle.hz_cycle.proofs.FanOut.{Ascends, ascends-once, filtered-is, is-filtered, ascends-filter}
 use Rattle.hz_cycle.proofs.PassTurns.{had_before}
 use Rattle.hz_cycle.proofs.Steps.{listed, changes-after, listed-none, run-after, unchanged-end}
-use Rattle.hz_cycle.proofs.Turn.{other-bit, same-or-differ, flipped-listed, flipped-unlisted}
+use Rattle.hz_cycle.proofs.Turn.{flipped-listed, flipped-unlisted}
 use Rattle.hz_cycle.proofs.Underway.{turns}
 
 -- Values

@@ -1,27 +1,24 @@
 -- The loops over settling rounds: that a mark may be set, that each step has room, and what holds after it.
-use Rattle.std.proofs.Common.{◌≡◌, ◌≢◌, ℕ, zero, suc, ◌+◌, ◌-◌, ◌*◌, ◌<◌, ◌≤◌, Bool, true, false, not, cond, List, [], ◌∷◌, ◌++◌, length, get_or, take, drop, refl, sym, ap, ◌∙◌, subst, arith, inl, inr, append_assoc, append-nil, length-append, IsTrue}
-use Rattle.std.specs.List.{filter, slice_range}
-use Rattle.std.proofs.lemmas.Bool.{cases_Bool, cases_lt, both_ways}
+use Rattle.std.proofs.Common.{◌≡◌, ◌≢◌, ℕ, ◌+◌, ◌-◌, ◌<◌, ◌≤◌, Bool, true, false, not, cond, List, [], ◌∷◌, ◌++◌, length, get_or, take, drop, refl, sym, ap, ◌∙◌, subst, arith, inl, inr, append-nil, length-append}
+use Rattle.std.specs.List.{slice_range}
+use Rattle.std.proofs.lemmas.Bool.{cases_lt}
 use Rattle.std.proofs.lemmas.List.{get_or_past, get_or-drop, get_or-take, length-take, length-drop, take_more}
 use Rattle.std.proofs.lemmas.List.Elements.{filter-append}
-use Rattle.std.proofs.lemmas.List.Sums.{sum_by-append, sum_by_push}
 use Rattle.hz_core.specs.declared.tri.Tri.{Tri}
 use Rattle.hz_core.specs.Ternary.{admits}
 use Rattle.hz_net.specs.Network.{Driver, bit_at, value_at}
-use Rattle.hz_gmw.specs.Runs.{is_listed, IsRun, flipped, end_of}
+use Rattle.hz_gmw.specs.Runs.{is_listed, flipped}
 use Rattle.hz_gmw.specs.Recorded.{Recorded, flip_count}
 use Rattle.hz_gmw.proofs.Flips.{length-flipped}
 use Rattle.hz_reach.specs.Counts.{FlipsPerVariable, StepsAreNoMoreThanFlips}
 use Rattle.hz_reach.specs.Order.{key_at, IsEarlier, AreByKey}
 use Rattle.hz_reach.specs.Room.{after, Spends}
 use Rattle.hz_reach.specs.Scratched.{Scratched}
-use Rattle.hz_reach.specs.Spread.{changes_in}
 use Rattle.hz_reach.proofs.Places.{listed-at, listed-place}
-use Rattle.hz_cycle.specs.Rounds.{differing, IsOneRound, AreRoundsOf, IsSettling, AreRoundsMade}
+use Rattle.hz_cycle.specs.Rounds.{differing, IsOneRound, AreRoundsOf, AreRoundsMade}
 use Rattle.hz_cycle.proofs.FanOut.{filtered-is}
 use Rattle.hz_cycle.proofs.PassTurns.{had_before, steps-after, flips-after, flips-append, length-after}
 use Rattle.hz_cycle.proofs.RoundSteps.{IsSettledTo, IsRoundStart, settled-begin, starts-begin, settled-after, starts-after, settled-end}
-use Rattle.hz_cycle.proofs.Underway.{turns}
 
 -- One round is marked
 

@@ -1,17 +1,15 @@
 -- The settle run: after the spread run and the settling rounds a pass may begin, and the three together are the settle run.
-use Rattle.std.proofs.Common.{◌≡◌, ◌≢◌, ℕ, zero, suc, ◌+◌, ◌-◌, ◌*◌, ◌<◌, ◌≤◌, ◌⊎◌, Bool, true, false, not, cond, List, [], ◌∷◌, ◌++◌, length, get_or, take, refl, sym, ap, ◌∙◌, subst, arith, inl, inr, length-append}
+use Rattle.std.proofs.Common.{◌≡◌, ◌≢◌, ℕ, ◌+◌, ◌-◌, ◌*◌, ◌<◌, ◌≤◌, ◌⊎◌, Bool, not, cond, List, [], ◌∷◌, ◌++◌, length, take, refl, sym, ap, ◌∙◌, subst, arith, inl, inr}
 use Rattle.std.specs.Prelude.{sum_by, ◌%◌, nat_eq}
 use Rattle.std.specs.List.{range_with_len}
 use Rattle.std.proofs.lemmas.Bool.{cases_lt, cases_eq}
 use Rattle.std.proofs.lemmas.List.{get_or_past}
-use Rattle.std.proofs.lemmas.List.Sums.{sum_by-cons, sum_by-append}
+use Rattle.std.proofs.lemmas.List.Sums.{sum_by-cons}
 use Rattle.hz_core.specs.declared.tri.Tri.{Tri}
 use Rattle.hz_core.specs.declared.tri.Tri.TheVariants.{Zero, One, Unknown}
-use Rattle.hz_core.specs.declared.kind.Kind.{Kind}
-use Rattle.hz_core.specs.Ternary.{unknown_count, Refines}
+use Rattle.hz_core.specs.Ternary.{Refines}
 use Rattle.hz_core.specs.Netlist.{Netlist, IsCircuit}
-use Rattle.hz_core.proofs.Refinements.{length-Refines}
-use Rattle.hz_net.specs.Network.{Driver, External, Function, Source, network_of, driver_at, bit_at, value_at, driven, excitation, IsStable}
+use Rattle.hz_net.specs.Network.{Driver, Source, network_of, driver_at, bit_at, value_at, driven, excitation}
 use Rattle.hz_net.specs.Passes.{algorithm_a, algorithm_b, IsKnown, IsUnknown, IsResult, AreRanks, IsSettlingRound, AreSettlingRounds}
 use Rattle.hz_net.specs.Starts.{IsStableStart}
 use Rattle.hz_net.proofs.Sequences.{start-refines}
@@ -21,15 +19,14 @@ use Rattle.hz_gmw.proofs.Paths.{end_of-append, IsRun-append}
 use Rattle.hz_reach.specs.Counts.{FlipsAreChanges, StepsAreNoMoreThanFlips, FlipsPerVariable, FlipsPerUnknown, EndsByChanges}
 use Rattle.hz_reach.specs.Order.{key_at, IsEarlier}
 use Rattle.hz_reach.specs.Room.{Spends}
-use Rattle.hz_net.specs.Reads.{IsWireInto, IsNode, IsWired}
+use Rattle.hz_net.specs.Reads.{IsWireInto, IsWired}
 use Rattle.hz_reach.specs.Spread.{changes_in, IsSparingRun}
 use Rattle.hz_reach.proofs.Parts.{driver-inside}
 use Rattle.hz_net.proofs.Wired.{wired-network_of}
 use Rattle.hz_cycle.specs.Cycles.{IsSettleRun}
 use Rattle.hz_cycle.specs.Pass.{IsFixed, MayBegin, AreEnough, HasRoom, IsPass}
 use Rattle.hz_cycle.specs.Rounds.{AreRoundsOf, IsSettling, AreRoundsMade}
-use Rattle.hz_cycle.specs.Turned.{IsTurned}
-use Rattle.hz_cycle.proofs.Settled.{either-value, known-stable, wire-source, unknown-inside}
+use Rattle.hz_cycle.proofs.Settled.{known-stable, wire-source, unknown-inside}
 use Rattle.hz_cycle.proofs.Change.{IsChange, a-long, a-above, change-fixed, unsettled-unknown, unknown-within}
 use Rattle.hz_cycle.proofs.CycleFound.{refines-unchanged}
 use Rattle.hz_cycle.proofs.CycleRoom.{twos}

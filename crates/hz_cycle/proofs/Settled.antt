@@ -1,9 +1,9 @@
 -- What the result of Algorithm B says of a state that refines it: settled variables are stable, and each pin of an
 -- unsettled gate that is not settled may take either bit.
-use Rattle.std.proofs.Common.{◌≡◌, ◌≢◌, ℕ, zero, suc, ◌+◌, ◌-◌, ◌<◌, ◌⊎◌, Bool, true, false, not, cond, List, length, map, get_or, refl, sym, ap, ◌∙◌, subst, arith, inl, inr, IsTrue}
+use Rattle.std.proofs.Common.{◌≡◌, ℕ, zero, suc, ◌+◌, ◌-◌, ◌<◌, ◌⊎◌, Bool, true, false, not, cond, List, length, map, get_or, refl, sym, ap, ◌∙◌, subst, arith, inl, inr, IsTrue}
 use Rattle.std.specs.Prelude.{slice_range}
 use Rattle.std.proofs.lemmas.Bool.{cases_lt}
-use Rattle.std.proofs.lemmas.List.{get_or_past, get_or-map, length-map}
+use Rattle.std.proofs.lemmas.List.{get_or_past, get_or-map}
 use Rattle.hz_core.specs.declared.tri.Tri.{Tri}
 use Rattle.hz_core.specs.declared.tri.Tri.TheVariants.{Zero, One, Unknown}
 use Rattle.hz_core.specs.declared.kind.Kind.{Kind}
@@ -12,10 +12,10 @@ use Rattle.hz_core.specs.Extension.{extension}
 use Rattle.hz_core.specs.Pattern.{IsCandidate}
 use Rattle.hz_core.proofs.Refinements.{length-Refines, get_or-Refines, Refines-get_or, Refines-slice_range}
 use Rattle.hz_core.proofs.Patterns.{candidate-extension}
-use Rattle.hz_net.specs.Network.{Driver, External, Function, Source, driver_at, bit_at, value_at, driven, driven3, excitation}
-use Rattle.hz_net.specs.Passes.{excitations, algorithm_b, IsKnown, IsUnknown, AreRounds}
+use Rattle.hz_net.specs.Network.{Driver, External, Function, Source, driver_at, bit_at, value_at, driven3, excitation}
+use Rattle.hz_net.specs.Passes.{algorithm_b, IsKnown, IsUnknown, AreRounds}
 use Rattle.hz_net.proofs.Excitations.{admits-driven, at-excitations}
-use Rattle.hz_net.proofs.PartLemmas.{length-part, at-part}
+use Rattle.hz_net.proofs.PartLemmas.{length-part}
 use Rattle.hz_net.proofs.Sequences.{length-algorithm_b}
 use Rattle.hz_gmw.specs.Runs.{is_listed, flipped}
 use Rattle.hz_gmw.proofs.Flips.{length-flipped, at-flipped}

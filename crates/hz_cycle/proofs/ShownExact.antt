@@ -1,15 +1,14 @@
 -- A settle run and the cycle at its end show that Algorithm B is exact.
-use Rattle.std.proofs.Common.{◌≡◌, ℕ, zero, ◌<◌, Bool, true, false, not, List, [], ◌∷◌, ◌++◌, length, refl, sym, ap, ◌∙◌, subst, arith, inl, inr, Contains, IsTrue}
+use Rattle.std.proofs.Common.{◌≡◌, ℕ, Bool, true, false, not, List, length, refl, sym, ap, ◌∙◌, subst, Contains, IsTrue}
 use Rattle.hz_core.specs.declared.tri.Tri.{Tri}
 use Rattle.hz_core.specs.declared.tri.Tri.TheVariants.{Zero, One, Unknown}
 use Rattle.hz_core.specs.Ternary.{admits, IsJoinOf, Refines}
 use Rattle.hz_core.proofs.Refinements.{get_or-Refines}
 use Rattle.hz_net.specs.Network.{Driver, bit_at, value_at}
-use Rattle.hz_net.specs.Passes.{algorithm_a, algorithm_b, IsResult, AreRounds}
-use Rattle.hz_gmw.specs.Runs.{IsRun, end_of, IsReachable, JoinsTo}
+use Rattle.hz_net.specs.Passes.{algorithm_a, algorithm_b, AreRounds}
+use Rattle.hz_gmw.specs.Runs.{IsRun, end_of}
 use Rattle.hz_gmw.specs.Cycles.{states_of, IsOutcome}
 use Rattle.hz_gmw.proofs.Paths.{IsRun-front, IsCut, cut-member}
-use Rattle.hz_cycle.specs.Cycles.{IsSettleRun, IsCycleOf}
 use Rattle.hz_cycle.specs.Exact.{RunsShowB}
 use Rattle.hz_cycle.proofs.CycleFound.{contains-begin}
 

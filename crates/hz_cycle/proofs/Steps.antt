@@ -1,11 +1,11 @@
 -- One more step of a run: how often variables have changed, where the run ends, and the states on the way.
-use Rattle.std.proofs.Common.{◌≡◌, ◌≢◌, ℕ, zero, suc, ◌+◌, ◌<◌, ◌≤◌, Bool, true, false, cond, List, [], ◌∷◌, ◌++◌, length, get_or, refl, sym, ap, ◌∙◌, subst, arith, inl, inr, append_assoc, Contains}
-use Rattle.std.proofs.lemmas.Bool.{cases_Bool, both_ways}
+use Rattle.std.proofs.Common.{◌≡◌, ◌≢◌, ℕ, suc, ◌+◌, Bool, false, cond, List, [], ◌∷◌, ◌++◌, refl, sym, ap, ◌∙◌, subst, arith, inl, inr, append_assoc, Contains}
+use Rattle.std.proofs.lemmas.Bool.{cases_Bool}
 use Rattle.std.proofs.lemmas.List.Sums.{sum_by-cons, sum_by-append, sum_by_push}
 use Rattle.hz_net.specs.Network.{Driver, bit_at}
 use Rattle.hz_gmw.specs.Runs.{is_listed, IsStep, IsRun, flipped, end_of}
 use Rattle.hz_gmw.specs.Cycles.{states_of}
-use Rattle.hz_gmw.proofs.Paths.{end_of-append, IsRun-append, IsCut, cut-member}
+use Rattle.hz_gmw.proofs.Paths.{IsRun-append, IsCut, cut-member}
 use Rattle.hz_reach.specs.Room.{after}
 use Rattle.hz_reach.specs.Spread.{changes_in}
 use Rattle.hz_cycle.proofs.Turn.{flipped-unlisted}

@@ -1,31 +1,31 @@
 -- A gate's turn in a pass: the wires that set its pattern are unstable, then the gate is, and with it each wire of its
 -- fan-out that differs from it; afterwards what holds inside a pass holds with one gate more that has had its turn.
-use Rattle.std.proofs.Common.{◌≡◌, ◌≢◌, ℕ, ◌+◌, ◌-◌, ◌<◌, ◌≤◌, ◌⊎◌, ◌||◌, Bool, true, false, not, cond, eqb, List, [], length, map, get_or, refl, sym, ap, ◌∙◌, subst, arith, inl, inr}
+use Rattle.std.proofs.Common.{◌≡◌, ◌≢◌, ℕ, ◌+◌, ◌-◌, ◌<◌, ◌⊎◌, ◌||◌, Bool, true, false, not, cond, eqb, List, [], length, map, get_or, refl, sym, ap, ◌∙◌, subst, arith, inl, inr}
 use Rattle.std.specs.Prelude.{slice_range}
-use Rattle.std.proofs.lemmas.Bool.{cases_Bool, cases_eq, cases_lt, both_ways, false_from_ne_true, eq-eqb, ne_eqb, or_left, or_right}
+use Rattle.std.proofs.lemmas.Bool.{cases_lt, both_ways, false_from_ne_true}
 use Rattle.std.proofs.lemmas.List.{get_or-map, get_or_past}
 use Rattle.hz_core.specs.declared.tri.Tri.{Tri}
-use Rattle.hz_core.specs.declared.tri.Tri.TheVariants.{Zero, One, Unknown}
+use Rattle.hz_core.specs.declared.tri.Tri.TheVariants.{Zero}
 use Rattle.hz_core.specs.declared.kind.Kind.{Kind}
 use Rattle.hz_core.specs.Gate.{gate_value}
 use Rattle.hz_core.specs.Ternary.{is_unknown, Refines}
 use Rattle.hz_core.specs.Pattern.{differs, IsPattern}
 use Rattle.hz_core.proofs.Refinements.{length-Refines}
 use Rattle.hz_core.proofs.Patterns.{free-changed}
-use Rattle.hz_net.specs.Network.{Driver, External, Function, Source, driver_at, bit_at, value_at, driven, excitation, IsUnstable}
-use Rattle.hz_net.specs.Passes.{IsKnown, IsUnknown}
+use Rattle.hz_net.specs.Network.{Driver, Function, Source, driver_at, bit_at, value_at, driven, excitation, IsUnstable}
+use Rattle.hz_net.specs.Passes.{IsUnknown}
 use Rattle.hz_net.proofs.PartLemmas.{length-part, at-part}
 use Rattle.hz_gmw.specs.Runs.{is_listed, RepeatsNone, IsStep, flipped}
 use Rattle.hz_gmw.proofs.Flips.{length-flipped, at-flipped}
 use Rattle.hz_reach.specs.Order.{IsEarlier}
-use Rattle.hz_net.specs.Reads.{IsWireInto, IsNode, IsWired}
+use Rattle.hz_net.specs.Reads.{IsWireInto, IsWired}
 use Rattle.hz_reach.specs.Turn.{changed_wires}
 use Rattle.hz_reach.proofs.Parts.{driver-inside, same-part}
 use Rattle.hz_reach.proofs.PickedLemmas.{picked-is, is-picked, picked-once, differs-true, true-differs}
 use Rattle.hz_cycle.specs.Pass.{IsFixed}
-use Rattle.hz_cycle.proofs.Settled.{unknown-is, is-unknown, either-value, same-known, refines-flipped, unknown-inside, no-input, wire-source}
-use Rattle.hz_cycle.proofs.Earlier.{not-earlier, not-both, earlier-or-not}
-use Rattle.hz_cycle.proofs.Inside.{IsShownInside, HasPatternInside, IsInside}
+use Rattle.hz_cycle.proofs.Settled.{unknown-is, refines-flipped, unknown-inside, wire-source}
+use Rattle.hz_cycle.proofs.Earlier.{earlier-or-not}
+use Rattle.hz_cycle.proofs.Inside.{IsInside}
 
 -- Bits
 

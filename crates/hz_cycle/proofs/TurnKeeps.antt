@@ -1,7 +1,7 @@
 -- After a gate's turn what holds inside a pass holds again, with this gate among those that have had their turn.
-use Rattle.std.proofs.Common.{◌≡◌, ◌≢◌, ℕ, ◌+◌, ◌<◌, ◌⊎◌, ◌||◌, Bool, true, false, not, cond, eqb, List, length, map, refl, sym, ap, ◌∙◌, subst, arith, inl, inr}
+use Rattle.std.proofs.Common.{◌≡◌, ◌≢◌, ℕ, ◌+◌, ◌<◌, ◌⊎◌, Bool, true, false, not, cond, List, map, refl, sym, ap, ◌∙◌, subst, arith, inl, inr}
 use Rattle.std.specs.Prelude.{slice_range}
-use Rattle.std.proofs.lemmas.Bool.{cases_Bool, cases_eq, both_ways, eq-eqb, ne_eqb}
+use Rattle.std.proofs.lemmas.Bool.{cases_eq, both_ways, eq-eqb, ne_eqb}
 use Rattle.hz_core.specs.declared.tri.Tri.{Tri}
 use Rattle.hz_core.specs.declared.kind.Kind.{Kind}
 use Rattle.hz_core.specs.Ternary.{is_unknown, Refines}
@@ -13,9 +13,9 @@ use Rattle.hz_net.proofs.PartLemmas.{length-part, at-part}
 use Rattle.hz_reach.specs.Order.{IsEarlier}
 use Rattle.hz_net.specs.Reads.{IsWireInto, IsWired}
 use Rattle.hz_cycle.specs.Pass.{IsFixed}
-use Rattle.hz_cycle.proofs.Settled.{either-value, same-known, no-input, wire-source}
-use Rattle.hz_cycle.proofs.Earlier.{not-earlier, not-both, earlier-or-not}
-use Rattle.hz_cycle.proofs.Inside.{IsShownInside, HasPatternInside, IsInside}
+use Rattle.hz_cycle.proofs.Settled.{same-known, no-input, wire-source}
+use Rattle.hz_cycle.proofs.Earlier.{not-earlier, not-both}
+use Rattle.hz_cycle.proofs.Inside.{HasPatternInside, IsInside}
 use Rattle.hz_cycle.proofs.Turn.{other-bit, not-itself, also, IsNext, IsAfterTurn, pin-inside, pin-differs}
 
 -- who has had a turn

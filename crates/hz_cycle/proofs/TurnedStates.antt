@@ -1,11 +1,10 @@
 -- Where a pass may begin, that it ends in a turned state, and that a turned state is determined by its gates.
-use Rattle.std.proofs.Common.{◌≡◌, ◌≢◌, ℕ, ◌+◌, ◌-◌, ◌<◌, ◌≤◌, ◌⊎◌, Bool, true, false, not, cond, List, [], length, map, get_or, refl, sym, ap, ◌∙◌, subst, arith, inl, inr}
+use Rattle.std.proofs.Common.{◌≡◌, ℕ, ◌+◌, ◌-◌, ◌<◌, ◌≤◌, ◌⊎◌, Bool, true, false, not, List, [], map, refl, sym, ap, ◌∙◌, subst, arith, inl, inr}
 use Rattle.std.specs.Prelude.{slice_range}
-use Rattle.std.proofs.lemmas.Bool.{cases_lt}
 use Rattle.std.proofs.lemmas.List.{ext_get_or}
 use Rattle.hz_core.specs.declared.tri.Tri.{Tri}
 use Rattle.hz_core.specs.declared.kind.Kind.{Kind}
-use Rattle.hz_core.specs.Ternary.{is_unknown, Refines}
+use Rattle.hz_core.specs.Ternary.{is_unknown}
 use Rattle.hz_core.specs.Pattern.{IsPattern}
 use Rattle.hz_core.proofs.Refinements.{length-Refines}
 use Rattle.hz_core.proofs.Patterns.{same-IsPattern}
@@ -15,9 +14,9 @@ use Rattle.hz_reach.specs.Order.{IsEarlier}
 use Rattle.hz_net.specs.Reads.{IsWireInto, IsWired}
 use Rattle.hz_cycle.specs.Pass.{IsFixed, MayBegin}
 use Rattle.hz_cycle.specs.Turned.{IsShown, HasPattern, IsTurned}
-use Rattle.hz_cycle.proofs.Settled.{either-value, same-known, no-input, wire-source, unknown-inside}
+use Rattle.hz_cycle.proofs.Settled.{either-value, same-known, no-input, wire-source}
 use Rattle.hz_cycle.proofs.Earlier.{earlier-or-not}
-use Rattle.hz_cycle.proofs.Inside.{IsShownInside, HasPatternInside, IsInside}
+use Rattle.hz_cycle.proofs.Inside.{IsInside}
 use Rattle.hz_cycle.proofs.Turn.{other-bit}
 use Rattle.hz_cycle.proofs.Underway.{IsUnderway}
 use Rattle.hz_cycle.proofs.Had.{source-gate}

@@ -9,7 +9,6 @@ use Rattle.hz_net.specs.Starts.{IsStableStart}
 use Rattle.hz_gmw.specs.Runs.{IsRun, end_of}
 use Rattle.hz_gmw.specs.Recorded.{flip_count}
 use Rattle.hz_gmw.specs.Cycles.{states_of, IsNontransient}
-use Rattle.hz_reach.specs.Spread.{changes_in}
 
 -- The result of Algorithm B and the ranks of Algorithm A are those of some change: of a stable start under this input.
 pub record AreOfChange (netlist : Netlist) (input : List Bool) (ranks : List ℕ) (b : List Tri) : Type 0 where

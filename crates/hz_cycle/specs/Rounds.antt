@@ -1,6 +1,6 @@
 -- The rounds in which variables settle. Words about the inside of hz_cycle.
 use Rattle.std.specs.Prelude.{◌≡◌, ◌≢◌, ℕ, ◌<◌, ◌≤◌, Bool, not, List, ◌++◌, length, slice_index}
-use Rattle.std.specs.List.{filter, slice_range}
+use Rattle.std.specs.List.{filter}
 use Rattle.hz_core.specs.declared.tri.Tri.{Tri}
 use Rattle.hz_core.specs.Ternary.{admits, AllBelow, Refines}
 use Rattle.hz_net.specs.Network.{Driver, bit_at, value_at}

@@ -1,26 +1,21 @@
 -- The words agree with the passes: a word ends with B's value, and it has a change exactly where A is X.
-use Rattle.std.proofs.Common.{◌≡◌, ◌≢◌, ℕ, zero, suc, ◌+◌, ◌-◌, ◌<◌, ◌≤◌, Bool, true, false, not, List, [], ◌∷◌, map, length, drop, get_or, IsTrue, refl, sym, ap, ◌∙◌, subst, arith, inl, inr}
-use Rattle.std.specs.Prelude.{slice_range, take}
-use Rattle.std.specs.Bool.{beq}
-use Rattle.std.proofs.lemmas.Bool.{cases_Bool, cases_lt, false≢true, true≢false}
+use Rattle.std.proofs.Common.{◌≡◌, ℕ, zero, suc, ◌+◌, ◌-◌, ◌<◌, Bool, true, false, List, [], map, length, get_or, refl, sym, ap, ◌∙◌, subst, arith}
+use Rattle.std.specs.Prelude.{slice_range}
 use Rattle.std.proofs.lemmas.List.{ext_get_or, length-map, get_or-map}
-use Rattle.hz_core.specs.declared.kind.Kind.{Kind}
 use Rattle.hz_core.specs.declared.tri.Tri.{Tri}
-use Rattle.hz_core.specs.declared.tri.Tri.TheVariants.{Zero, One, Unknown}
-use Rattle.hz_core.specs.Ternary.{tri_of, join_of, admits, Refines, IsJoinOf}
-use Rattle.hz_core.specs.Gate.{gate_value}
+use Rattle.hz_core.specs.declared.tri.Tri.TheVariants.{Zero}
+use Rattle.hz_core.specs.Ternary.{tri_of}
 use Rattle.hz_core.specs.Extension.{extension}
-use Rattle.hz_core.specs.Netlist.{Netlist, IsCircuit, IsWhole}
-use Rattle.hz_core.proofs.Extensions.{extension-map, IsExtension-extension, admits-extension, gate_value-known}
-use Rattle.hz_net.specs.Network.{Driver, External, Function, Source, network_of, driver_at, driven3, bit_at, value_at, IsStable}
-use Rattle.hz_net.specs.Passes.{excitations, join_each, algorithm_a, algorithm_b, AreRounds}
-use Rattle.hz_net.specs.Reads.{Reads, IsWired}
+use Rattle.hz_core.specs.Netlist.{Netlist, IsCircuit}
+use Rattle.hz_core.proofs.Extensions.{extension-map}
+use Rattle.hz_net.specs.Network.{Driver, External, Function, Source, network_of, driver_at, driven3, bit_at, value_at}
+use Rattle.hz_net.specs.Passes.{excitations, algorithm_b, AreRounds}
+use Rattle.hz_net.specs.Reads.{Reads}
 use Rattle.hz_net.proofs.Wired.{wired-network_of}
-use Rattle.hz_net.proofs.Excitations.{length-excitations, at-excitations, length-join_each, at-join_each}
-use Rattle.hz_net.proofs.Sequences.{length-algorithm_a, start-refines, IsClosed, closed-result, length-algorithm_b}
+use Rattle.hz_net.proofs.Excitations.{at-excitations}
+use Rattle.hz_net.proofs.Sequences.{length-algorithm_b}
 use Rattle.hz_net.proofs.PartLemmas.{length-part, at-part}
-use Rattle.hz_word.specs.Word.{IsWord, AreWords, first_letter, last_letter, change_count}
-use Rattle.hz_word.specs.Walk.{IsWordOf}
+use Rattle.hz_word.specs.Word.{last_letter}
 use Rattle.hz_free.specs.Chains.{IsFeedbackFree}
 use Rattle.hz_free.specs.VariableWords.{IsDrivenWord, input_word, AreVariableWords}
 use Rattle.hz_free.proofs.Chains.{free-induction, reads-inside}

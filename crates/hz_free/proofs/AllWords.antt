@@ -1,24 +1,24 @@
 -- The words one after the other: one more, and all.
-use Rattle.std.proofs.Common.{◌≡◌, ℕ, zero, suc, ◌+◌, ◌-◌, ◌<◌, ◌≤◌, ◌≢◌, Bool, true, false, List, [], ◌∷◌, ◌++◌, length, take, get_or, set, replicate, Option, Some, None, IsTrue, slice_get, refl, sym, ap, ◌∙◌, subst, arith, inl, inr, add-one, get_or-set_same, get_or-set_other, length-set}
-use Rattle.std.proofs.lemmas.Bool.{cases_Bool, cases_eq, both_ways, cases_lt}
+use Rattle.std.proofs.Common.{◌≡◌, ℕ, zero, suc, ◌+◌, ◌<◌, ◌≤◌, ◌≢◌, Bool, true, false, List, [], ◌∷◌, ◌++◌, length, take, get_or, set, replicate, Option, Some, None, refl, sym, ap, ◌∙◌, subst, arith, inl, inr, add-one, get_or-set_same, get_or-set_other, length-set}
+use Rattle.std.proofs.lemmas.Bool.{cases_Bool, cases_eq, both_ways}
 use Rattle.std.proofs.lemmas.List.{length-replicate}
 use Rattle.std.proofs.lemmas.Option.{slice_get-get_or}
-use Rattle.std.proofs.Math.Seq.{take-suc, take-length}
-use Rattle.hz_core.specs.Netlist.{Netlist, IsCircuit}
-use Rattle.hz_net.specs.Network.{Driver, External, Function, Source, network_of, driver_at}
+use Rattle.std.proofs.Math.Seq.{take-suc}
+use Rattle.hz_core.specs.Netlist.{Netlist}
+use Rattle.hz_net.specs.Network.{Driver, External, Function, Source, network_of, driver_at, bit_at}
 use Rattle.hz_net.specs.Reads.{Reads}
 use Rattle.hz_net.proofs.PartLemmas.{same-parts}
-use Rattle.hz_gmw.specs.Runs.{is_listed}
+use Rattle.hz_gmw.specs.Runs.{is_listed, RepeatsNone}
 use Rattle.hz_word.specs.declared.word.Word.{Word}
 use Rattle.hz_word.specs.Word.{IsWord}
 use Rattle.hz_word.specs.Walk.{IsWordOf}
 use Rattle.hz_word.specs.Capped.{capped}
 use Rattle.hz_free.specs.Chains.{IsFeedbackFree}
-use Rattle.hz_free.specs.FreePart.{FreePart, IsFreePart}
-use Rattle.hz_free.specs.VariableWords.{IsDrivenWord, AreVariableWords, AreCappedWords}
+use Rattle.hz_free.specs.FreePart.{FreePart, IsFreePart, AreMarks}
+use Rattle.hz_free.specs.VariableWords.{IsDrivenWord, AreCappedWords}
 use Rattle.hz_free.specs.Told.{AreToldWords, IsReady, IsNextWord}
-use Rattle.hz_free.proofs.Lists.{listed-cases, listed-left, listed-one, listed-place, unlisted-before}
-use Rattle.hz_free.proofs.Kahn.{listed-push-same, listed-push-other, at-listed, listed-from_take}
+use Rattle.hz_free.proofs.Lists.{listed-cases, listed-left, listed-one, unlisted-before}
+use Rattle.hz_free.proofs.Kahn.{listed-push-same, listed-push-other, at-listed}
 
 -- the word of a variable depends on the words of those that it reads
 same-driven : (input start : List Bool) (words words' : List (List Bool)) (i : ℕ) (driver : Driver) (word : List Bool) → length words ≡ length words' → ((j : ℕ) → Reads driver j → get_or words j [] ≡ get_or words' j []) → IsDrivenWord input start words i driver word → IsDrivenWord input start words' i driver word
@@ -28,7 +28,19 @@ same-driven input start words words' i (Function kind first pins) word long same
     (same-parts [] words words' first pins long (λ k few. same (first + k) (omega arith, omega arith))) driven
 same-driven input start words words' i (Source node) word long same driven = driven ∙ same node refl
 
-module _ (netlist : Netlist) (input start : List Bool) (cap : ℕ) (part : FreePart) (is : IsFreePart netlist part) where
+-- what a feedback-free part says of its marks and its order, without the cycles
+pub record IsOrdered (netlist : Netlist) (part : FreePart) : Type 0 where
+  pub marks : AreMarks (network_of netlist) part.free
+  pub listed : (i : ℕ) → i < length (network_of netlist) → is_listed part.order i ≡ bit_at part.free i
+  pub once : RepeatsNone part.order
+  pub inside : (i : ℕ) → is_listed part.order i ≡ true → i < length (network_of netlist)
+  pub after : (at j : ℕ) → at < length part.order → Reads (driver_at (network_of netlist) (get_or part.order at 0)) j → is_listed (take at part.order) j ≡ true
+
+pub ordered-part : (netlist : Netlist) (part : FreePart) → IsFreePart netlist part → IsOrdered netlist part
+ordered-part netlist part is =
+    record { marks = is.marks; listed = is.listed; once = is.once; inside = is.inside; after = is.after }
+
+module _ (netlist : Netlist) (input start : List Bool) (cap : ℕ) (part : FreePart) (is : IsOrdered netlist part) where
   -- what a placed variable reads is placed
   reads-placed : (place i j : ℕ) → place ≤ length part.order → is_listed (take place part.order) i ≡ true → Reads (driver_at (network_of netlist) i) j → is_listed (take place part.order) j ≡ true
   reads-placed zero i j within there reads = absurd (both_ways false refl there)
@@ -133,13 +145,13 @@ module _ (netlist : Netlist) (input start : List Bool) (cap : ℕ) (part : FreeP
   }
     where
       free-placed : (i : ℕ) → i < length (network_of netlist) → IsFeedbackFree (network_of netlist) i → is_listed part.order i ≡ true
-      free-placed i few free = is.listed i few ∙ (is.exact i few).1 free
+      free-placed i few free = is.listed i few ∙ (is.marks.exact i few).1 free
 
       not-placed : (i : ℕ) → i < length (network_of netlist) → (IsFeedbackFree (network_of netlist) i → ⊥) → is_listed part.order i ≡ false
       not-placed i few not_free =
           elim (cases_Bool (is_listed part.order i)) [
             | inr out ↦ out
-            | inl there ↦ absurd (not_free ((is.exact i few).0 (sym (is.listed i few) ∙ there)))
+            | inl there ↦ absurd (not_free ((is.marks.exact i few).0 (sym (is.listed i few) ∙ there)))
           ]
 
 -- none yet
@@ -157,7 +169,7 @@ no-words netlist input start cap told long none = (
 )
 
 -- the next one, as the loop has it
-pub next-words : (netlist : Netlist) (input start : List Bool) (cap : ℕ) (part : FreePart) → IsFreePart netlist part → (place : ℕ) → place < length part.order → (told : List (Option Word)) → (words : List (List Bool)) × AreToldWords (network_of netlist) input start cap (take place part.order) told words → (var : ℕ) → var ≡ get_or part.order place 0 → (outcome : Word) → IsNextWord (network_of netlist) input start cap told var outcome → (words : List (List Bool)) × AreToldWords (network_of netlist) input start cap (take (place + 1) part.order) (set told var (Some outcome)) words
+pub next-words : (netlist : Netlist) (input start : List Bool) (cap : ℕ) (part : FreePart) → IsOrdered netlist part → (place : ℕ) → place < length part.order → (told : List (Option Word)) → (words : List (List Bool)) × AreToldWords (network_of netlist) input start cap (take place part.order) told words → (var : ℕ) → var ≡ get_or part.order place 0 → (outcome : Word) → IsNextWord (network_of netlist) input start cap told var outcome → (words : List (List Bool)) × AreToldWords (network_of netlist) input start cap (take (place + 1) part.order) (set told var (Some outcome)) words
 unfolding ready-words
 next-words netlist input start cap part is place few told (words, are) var at outcome is_next =
     let next = subst (λ (i : ℕ). IsNextWord (network_of netlist) input start cap told i outcome) at is_next (ready-words netlist input start cap part is place few told words are) in (

@@ -1,13 +1,13 @@
 -- Chains of readers: what reads only feedback-free variables is feedback-free, what reads one that is not is not, and what holds
 -- of a feedback-free variable if it holds of those that it reads.
-use Rattle.std.proofs.Common.{◌≡◌, ℕ, zero, suc, ◌+◌, ◌<◌, ◌≤◌, ◌≢◌, ◌⊎◌, Bool, true, false, ◌||◌, List, [], ◌∷◌, ◌++◌, length, refl, sym, ap, ◌∙◌, subst, arith, inl, inr, eqb}
+use Rattle.std.proofs.Common.{◌≡◌, ℕ, zero, suc, ◌<◌, ◌≤◌, true, false, List, [], ◌∷◌, ◌++◌, length, refl, sym, ap, ◌∙◌, subst, arith, inl, inr, eqb}
 use Rattle.std.proofs.lemmas.Bool.{cases_Bool, or_cases, both_ways, eqb-true}
 use Rattle.hz_net.specs.Network.{Driver, External, Function, Source, driver_at}
 use Rattle.hz_net.specs.Reads.{Reads, IsWireInto, IsWired}
-use Rattle.hz_gmw.specs.Runs.{is_listed, RepeatsNone}
+use Rattle.hz_gmw.specs.Runs.{is_listed}
 use Rattle.hz_free.specs.Chains.{IsChain, IsFeedbackFree}
-use Rattle.hz_free.proofs.Lists.{repeats_none-bound, listed-head}
-use Rattle.hz_free.proofs.Kahn.{listed-push-same, length-push}
+use Rattle.hz_free.proofs.Lists.{repeats_none-bound}
+use Rattle.hz_free.proofs.Kahn.{listed-push-same}
 use Rattle.std.proofs.lemmas.Bool.{cases_lt}
 use Rattle.std.proofs.lemmas.List.{get_or_past}
 

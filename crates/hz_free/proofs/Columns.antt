@@ -1,11 +1,11 @@
 -- Rows of letters that change along a run are a part of a walk, if each column changes at most as often as its word.
-use Rattle.std.proofs.Common.{◌≡◌, ◌≢◌, ℕ, zero, suc, ◌+◌, ◌-◌, ◌<◌, ◌≤◌, Bool, true, false, not, List, [], ◌∷◌, length, drop, get_or, IsTrue, refl, sym, ap, ◌∙◌, subst, arith, inl, inr}
+use Rattle.std.proofs.Common.{◌≡◌, ℕ, zero, suc, ◌+◌, ◌<◌, ◌≤◌, Bool, true, false, not, List, [], ◌∷◌, length, drop, get_or, refl, sym, ap, ◌∙◌, arith, inl, inr}
 use Rattle.std.specs.Bool.{beq}
 use Rattle.std.proofs.lemmas.Bool.{cases_Bool, false≢true, true≢false}
 use Rattle.hz_core.specs.Gate.{some_pin}
 use Rattle.hz_gmw.specs.Runs.{flipped}
 use Rattle.hz_word.specs.Word.{IsWord, AreWords, change_count}
-use Rattle.hz_word.specs.Walk.{present_letters, MayAdvance, IsMove, after_move, IsPartOfWalk, change, walk_changes}
+use Rattle.hz_word.specs.Walk.{present_letters, MayAdvance, after_move, IsPartOfWalk, change, walk_changes}
 use Rattle.hz_word.proofs.Moves.{after_move-AreWords, length-after_move}
 use Rattle.hz_gmw.proofs.Flips.{length-flipped}
 use Rattle.hz_free.proofs.Delays.{changes_along, change-same}

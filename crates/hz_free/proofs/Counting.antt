@@ -1,17 +1,17 @@
 -- Counting what each variable reads, and the variables that read nothing.
-use Rattle.std.proofs.Common.{◌≡◌, ℕ, zero, suc, ◌+◌, ◌-◌, ◌<◌, ◌≤◌, ◌≢◌, ◌⊎◌, Bool, true, false, cond, List, [], ◌∷◌, ◌++◌, length, take, drop, get_or, set, drop-cons, Option, Some, None, refl, sym, ap, ◌∙◌, subst, arith, inl, inr, eqb, add-one, get_or-set_same, get_or-set_other, length-set}
+use Rattle.std.proofs.Common.{◌≡◌, ℕ, zero, suc, ◌+◌, ◌-◌, ◌<◌, ◌≤◌, ◌≢◌, true, false, List, [], ◌∷◌, ◌++◌, length, drop, get_or, set, drop-cons, Option, Some, None, refl, sym, ap, ◌∙◌, subst, arith, inl, inr, eqb, add-one, get_or-set_same, get_or-set_other, length-set}
 use Rattle.std.proofs.lemmas.Bool.{cases_Bool, cases_lt, cases_eq, both_ways, eqb-true, eq-eqb}
 use Rattle.hz_core.specs.Netlist.{Netlist}
 use Rattle.hz_net.specs.Network.{Wire, wires_of}
-use Rattle.hz_net.specs.Variables.{readers_from, fan_out_of, variables_of}
+use Rattle.hz_net.specs.Variables.{readers_from, variables_of}
 use Rattle.hz_net.specs.Reads.{readers_by, readers_of}
 use Rattle.hz_net.specs.declared.variable.VarKind.{VarKind}
 use Rattle.hz_net.specs.declared.variable.VarKind.TheVariants.{Input, Gate as GateVariable, Wire as WireVariable}
 use Rattle.std.specs.Prelude.{slice_get}
-use Rattle.hz_gmw.specs.Runs.{is_listed, RepeatsNone}
+use Rattle.hz_gmw.specs.Runs.{is_listed}
 use Rattle.hz_free.specs.Order.{occurrences, unplaced, IsOrdering, AreReads, AreFirst, IsTold}
-use Rattle.hz_free.proofs.Lists.{listed-cases, listed-one, repeats_none-push, listed-place}
-use Rattle.hz_free.proofs.Kahn.{eqb-self, eqb-other, occurrences-same, occurrences-other, listed-push-same, listed-push-other, unplaced-none, at-listed, begin-telling, unread-reader, told-waits, told-placed}
+use Rattle.hz_free.proofs.Lists.{listed-cases, listed-one, repeats_none-push}
+use Rattle.hz_free.proofs.Kahn.{eqb-other, occurrences-same, occurrences-other, listed-push-same, listed-push-other, unplaced-none, at-listed, begin-telling, unread-reader, told-waits, told-placed}
 
 -- no variable is twice among the readers of a variable
 readers_from-above : (i first node : ℕ) (wires : List Wire) → i < first → occurrences i (readers_from first wires node) ≡ 0

@@ -1,7 +1,7 @@
 -- Along every run the history of a feedback-free variable begins as its word and has at most as many changes.
-use Rattle.std.proofs.Common.{◌≡◌, ◌≢◌, ℕ, zero, suc, ◌+◌, ◌-◌, ◌<◌, ◌≤◌, Bool, true, false, not, List, [], ◌∷◌, map, length, get_or, IsTrue, refl, sym, ap, ◌∙◌, subst, arith, inl, inr}
+use Rattle.std.proofs.Common.{◌≡◌, ℕ, ◌+◌, ◌<◌, ◌≤◌, Bool, true, false, List, [], length, get_or, IsTrue, refl, sym, ap, ◌∙◌, subst, arith, inl, inr}
 use Rattle.std.specs.Prelude.{slice_range, take}
-use Rattle.std.specs.Bool.{beq, nat_le}
+use Rattle.std.specs.Bool.{nat_le}
 use Rattle.std.proofs.lemmas.Bool.{cases_Bool}
 use Rattle.std.proofs.lemmas.List.{ext_get_or, length-map, get_or-map}
 use Rattle.hz_core.specs.declared.kind.Kind.{Kind}
@@ -10,20 +10,17 @@ use Rattle.hz_core.specs.Netlist.{Netlist, IsCircuit, IsWhole, gate_at}
 use Rattle.hz_core.proofs.CircuitLemmas.{takes-at_gate}
 use Rattle.hz_net.specs.Network.{Driver, External, Function, Source, network_of, driver_at, driven, bit_at, excitation, IsStable}
 use Rattle.hz_net.specs.Reads.{Reads, IsWired}
-use Rattle.hz_net.specs.Variables.{first_wire}
 use Rattle.hz_net.proofs.Wired.{wired-network_of, is_gate_of}
 use Rattle.hz_net.proofs.PartLemmas.{length-part, at-part}
 use Rattle.hz_gmw.specs.Runs.{IsRun}
-use Rattle.hz_word.specs.declared.count.Count.{Count}
-use Rattle.hz_word.specs.declared.count.Count.TheVariants.{Exact, Many}
 use Rattle.hz_word.specs.Word.{IsWord, AreWords, first_letter, change_count}
-use Rattle.hz_word.specs.Walk.{present_letters, IsWordOf, change, walk_changes}
-use Rattle.hz_word.specs.Capped.{capped, capped_count}
-use Rattle.hz_word.specs.Covers.{Bounds, Covers}
+use Rattle.hz_word.specs.Walk.{present_letters, IsWordOf, change}
+use Rattle.hz_word.specs.Capped.{capped}
+use Rattle.hz_word.specs.Covers.{Covers}
 use Rattle.hz_word.proofs.Longest.{takes-HasPins, part-IsWordOf}
 use Rattle.hz_free.specs.Chains.{IsFeedbackFree}
 use Rattle.hz_free.specs.VariableWords.{IsDrivenWord, input_word, AreVariableWords, variable_history}
-use Rattle.hz_free.proofs.Chains.{free-induction, reads-free, reads-inside}
+use Rattle.hz_free.proofs.Chains.{free-induction, reads-inside}
 use Rattle.hz_free.proofs.NextWord.{input_word-IsWord, AreWords-each}
 use Rattle.hz_free.proofs.Delays.{changes_along, change-same, delay, constant-along, same-along, change_count-history, first_letter-history}
 use Rattle.hz_free.proofs.Columns.{part-along}

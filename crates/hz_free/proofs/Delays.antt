@@ -1,14 +1,14 @@
 -- A variable follows its excitation: along a run it changes at most as often, but for one change if it began unstable.
-use Rattle.std.proofs.Common.{◌≡◌, ◌≢◌, ℕ, zero, suc, ◌+◌, ◌-◌, ◌<◌, ◌≤◌, Bool, true, false, not, cond, List, [], ◌∷◌, map, length, refl, sym, ap, ◌∙◌, subst, arith, inl, inr}
+use Rattle.std.proofs.Common.{◌≡◌, ◌≢◌, ℕ, ◌+◌, ◌<◌, ◌≤◌, Bool, true, false, not, cond, List, [], ◌∷◌, map, length, refl, arith, inl, inr}
 use Rattle.std.specs.Bool.{beq}
-use Rattle.std.proofs.lemmas.Bool.{cases_Bool, false≢true, true≢false}
+use Rattle.std.proofs.lemmas.Bool.{cases_Bool, false≢true}
 use Rattle.hz_net.specs.Network.{Driver, bit_at, excitation}
-use Rattle.hz_gmw.specs.Runs.{is_listed, flipped, IsStep, IsRun}
+use Rattle.hz_gmw.specs.Runs.{is_listed, flipped, IsRun}
 use Rattle.hz_gmw.specs.Cycles.{states_of}
 use Rattle.hz_gmw.proofs.Flips.{length-flipped, at-flipped}
 use Rattle.hz_word.specs.Walk.{change}
 use Rattle.hz_word.specs.Word.{first_letter, change_count}
-use Rattle.hz_word.specs.Covers.{reduced_after, history_of}
+use Rattle.hz_word.specs.Covers.{reduced_after}
 use Rattle.hz_free.specs.VariableWords.{variable_history}
 
 -- how often a value changes along a run

@@ -1,9 +1,8 @@
 -- The words of a gate's wires, gathered, and the word of the gate.
-use Rattle.std.proofs.Common.{◌≡◌, ℕ, zero, suc, ◌+◌, ◌<◌, ◌≤◌, Bool, List, [], ◌∷◌, map, length, take, get_or, set, Option, Some, None, All, IsTrue, refl, sym, ap, ◌∙◌, subst, arith, add-one}
+use Rattle.std.proofs.Common.{◌≡◌, ℕ, zero, suc, ◌+◌, ◌<◌, Bool, List, [], ◌∷◌, map, length, take, get_or, set, Option, Some, None, All, refl, sym, ap, ◌∙◌, subst, arith, add-one}
 use Rattle.std.proofs.lemmas.List.Elements.{All-head, All-tail, All-cons, All-nil}
 use Rattle.hz_core.specs.declared.kind.Kind.{Kind}
 use Rattle.hz_word.specs.declared.word.Word.{Word}
-use Rattle.hz_word.specs.Word.{AreWords}
 use Rattle.hz_word.specs.Capped.{capped, IsCounted, IsFold}
 use Rattle.hz_free.specs.Told.{HasCounted, IsGateWord}
 

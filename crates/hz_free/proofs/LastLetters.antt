@@ -1,13 +1,10 @@
 -- A walk ends at the last letters: so the word of a gate ends with the gate value of the last letters.
-use Rattle.std.proofs.Common.{◌≡◌, ◌≢◌, ℕ, zero, suc, ◌+◌, ◌-◌, ◌<◌, ◌≤◌, Bool, true, false, not, ◌%◌, ◌==◌, List, [], ◌∷◌, map, length, drop, get_or, refl, sym, ap, ◌∙◌, subst, arith, inl, inr}
-use Rattle.std.specs.Bool.{beq}
-use Rattle.std.proofs.lemmas.Bool.{cases_Bool, false≢true, true≢false}
+use Rattle.std.proofs.Common.{◌≡◌, ℕ, suc, ◌+◌, ◌-◌, ◌<◌, Bool, true, false, List, [], ◌∷◌, map, length, drop, refl, sym, ap, ◌∙◌, arith}
 use Rattle.hz_core.specs.declared.kind.Kind.{Kind}
 use Rattle.hz_core.specs.Gate.{gate_value}
-use Rattle.hz_word.specs.Word.{IsWord, AreWords, first_letter, last_letter, change_count}
+use Rattle.hz_word.specs.Word.{first_letter, last_letter, change_count}
 use Rattle.hz_word.specs.Walk.{present_letters, MayAdvance, after_move, AreAtTheirEnds, IsWalk, change, walk_changes, IsWordOf}
 use Rattle.hz_word.specs.Pairs.{last_after}
-use Rattle.hz_word.proofs.Moves.{after_move-AreWords}
 use Rattle.hz_word.proofs.Letters.{last_letter-last_after, last_after-suc, last_after-zero}
 
 -- a word keeps its last letter when it advances

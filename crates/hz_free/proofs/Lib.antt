@@ -3,6 +3,17 @@ pub mod Kahn
 pub mod Counting
 pub mod Chains
 pub mod Parts
+pub mod PathLemmas
+pub mod FeedbackCycles
+pub mod Following
+pub mod Roots
+pub mod Numbering
+pub mod FoundCycles
+pub mod OneList
+pub mod Existence
+pub mod Choices
+pub mod CycleList
+pub mod Noting
 pub mod Gathered
 pub mod NextWord
 pub mod AllWords
@@ -13,3 +24,4 @@ pub mod LastLetters
 pub mod Agreement
 pub mod Changing
 pub mod Laws
+pub mod WordsExist

@@ -1,15 +1,12 @@
 -- The word of a variable, once all that it reads have one.
-use Rattle.std.proofs.Common.{◌≡◌, ℕ, zero, suc, ◌+◌, ◌-◌, ◌<◌, ◌≤◌, ◌⊎◌, Bool, true, false, not, ◌&&◌, ◌==◌, cond, List, [], ◌∷◌, map, length, get_or, Option, Some, None, All, IsTrue, slice_get, refl, sym, ap, ◌∙◌, subst, arith, inl, inr}
-use Rattle.std.specs.Prelude.{slice_range, slice_index_or, IsSome}
-use Rattle.std.specs.Bool.{beq, nat_le}
-use Rattle.std.proofs.lemmas.Bool.{cases_Bool, eqb-true, leb-true, and_parts}
+use Rattle.std.proofs.Common.{◌≡◌, ℕ, zero, suc, ◌+◌, ◌<◌, ◌≤◌, Bool, true, false, List, [], ◌∷◌, map, length, get_or, Option, Some, None, All, IsTrue, slice_get, refl, sym, ap, ◌∙◌, subst, arith, inl, inr}
+use Rattle.std.specs.Prelude.{slice_range, IsSome}
+use Rattle.std.specs.Bool.{nat_le}
+use Rattle.std.proofs.lemmas.Bool.{cases_Bool, leb-true}
 use Rattle.std.proofs.lemmas.List.{length-map, get_or-map, ext_get_or}
-use Rattle.std.proofs.Math.Dec.{leb-zero}
-use Rattle.std.proofs.lemmas.Bool.{le-leb}
 use Rattle.hz_core.specs.declared.kind.Kind.{Kind}
-use Rattle.hz_core.specs.declared.kind.Kind.TheVariants.{And, Nand, Or, Nor, Xor, Xnor, Not, Buff}
 use Rattle.hz_core.specs.Gate.{takes}
-use Rattle.hz_core.specs.Netlist.{Netlist, IsCircuit, IsWhole, IsGateNumber, gate_at, variable_count}
+use Rattle.hz_core.specs.Netlist.{Netlist, IsCircuit, IsWhole, variable_count}
 use Rattle.hz_net.specs.Network.{Driver, External, Function, Source, network_of, driver_at, bit_at}
 use Rattle.hz_net.specs.Reads.{Reads}
 use Rattle.hz_net.specs.Variables.{variables_of, first_wire}
@@ -17,19 +14,13 @@ use Rattle.hz_net.specs.Entries.{driver_of, seen_as, entries_of, IsEntryAt}
 use Rattle.hz_net.specs.declared.entry.Entry.{Entry}
 use Rattle.hz_net.specs.declared.entry.Entry.TheVariants.{Input as InputEntry, Gate as GateEntry, Wire as WireEntry}
 use Rattle.hz_net.specs.declared.variable.VarKind.{VarKind}
-use Rattle.hz_net.specs.declared.variable.VarKind.TheVariants.{Input, Gate as GateVariable, Wire as WireVariable}
 use Rattle.hz_net.proofs.Places.{length-network_of, length-entries_of, driver_at-entry, variables_of-entry, IsEntryAt-entries_of}
 use Rattle.hz_net.proofs.PartLemmas.{length-part, at-part}
-use Rattle.hz_gmw.specs.Runs.{is_listed}
-use Rattle.hz_word.specs.declared.count.Count.{Count}
-use Rattle.hz_word.specs.declared.count.Count.TheVariants.{Exact, Many}
 use Rattle.hz_word.specs.declared.word.Word.{Word}
 use Rattle.hz_word.specs.Word.{IsWord, AreWords, change_count}
-use Rattle.hz_word.specs.Walk.{IsWordOf}
 use Rattle.hz_word.specs.Capped.{capped, capped_count, IsCounted}
 use Rattle.hz_free.specs.VariableWords.{IsDrivenWord, input_word}
-use Rattle.hz_free.specs.Told.{IsDrivenAs, AreToldWords, IsReady, IsNextWord, HasCounted, IsGateWord}
-use Rattle.hz_free.proofs.Chains.{reads-inside}
+use Rattle.hz_free.specs.Told.{IsDrivenAs, IsReady, IsNextWord, HasCounted, IsGateWord}
 
 -- an element that is there does not depend on the default
 pub default-same : {X : Type 0} (xs : List X) (k : ℕ) (d e : X) → k < length xs → get_or xs k d ≡ get_or xs k e

@@ -1,19 +1,21 @@
 -- The finished order is the feedback-free part: what is not in it reads something that is not in it.
-use Rattle.std.proofs.Common.{◌≡◌, ℕ, zero, suc, ◌+◌, ◌<◌, ◌≤◌, ◌≢◌, ◌⊎◌, Bool, true, false, List, [], ◌∷◌, ◌++◌, map, length, take, get_or, IsTrue, refl, sym, ap, ◌∙◌, subst, arith, inl, inr, eqb}
+use Rattle.std.proofs.Common.{◌≡◌, ℕ, zero, suc, ◌<◌, ◌≤◌, Bool, true, false, Option, Some, None, List, [], ◌∷◌, map, length, take, get_or, refl, sym, ap, ◌∙◌, subst, arith, inl, inr, eqb}
 use Rattle.std.specs.Prelude.{Contains}
-use Rattle.std.proofs.lemmas.Bool.{cases_Bool, cases_lt, cases_eq, or_cases, both_ways, eqb-true, eq-eqb}
-use Rattle.std.proofs.lemmas.List.{length-map, get_or-map}
+use Rattle.std.proofs.lemmas.Bool.{cases_Bool, cases_lt, cases_eq, both_ways, eq-eqb}
+use Rattle.std.proofs.lemmas.List.{length-map, get_or-map, get_or_past}
 use Rattle.hz_core.specs.Netlist.{Netlist, IsCircuit}
-use Rattle.hz_net.specs.Network.{Driver, network_of, driver_at, bit_at}
-use Rattle.hz_net.specs.Reads.{Reads, readers_of, AreReaders, IsWired}
+use Rattle.hz_net.specs.Network.{Driver, network_of, driver_at}
+use Rattle.hz_net.specs.Reads.{Reads, readers_of, IsWired}
 use Rattle.hz_net.proofs.Readers.{AreReaders-readers_of}
 use Rattle.hz_net.proofs.Wired.{wired-network_of}
 use Rattle.hz_gmw.specs.Runs.{is_listed}
 use Rattle.hz_free.specs.Chains.{IsFeedbackFree}
-use Rattle.hz_free.specs.Order.{occurrences, unplaced, IsOrdering}
-use Rattle.hz_free.specs.FreePart.{FreePart, IsFreePart}
-use Rattle.hz_free.proofs.Lists.{listed-place, listed-cases, listed-one}
-use Rattle.hz_free.proofs.Kahn.{eqb-self, occurrences-same, occurrences-other, IsUnplaced, unplaced-some, at-listed}
+use Rattle.hz_core.proofs.ListLemmas.{get_or-default}
+use Rattle.hz_free.specs.Feedback.{IsCore}
+use Rattle.hz_free.specs.Order.{occurrences, IsOrdering}
+use Rattle.hz_free.specs.FreePart.{FreePart, IsFreePart, AreMarks, AreFeedback, HaveCores, IsCoreNumber, IsCycleNumber}
+use Rattle.hz_free.proofs.Lists.{listed-cases, listed-one}
+use Rattle.hz_free.proofs.Kahn.{occurrences-same, occurrences-other, unplaced-some}
 use Rattle.hz_free.proofs.Chains.{free-from_reads, reads-inside, not-free}
 use Rattle.std.proofs.Math.Seq.{take-suc, take-length}
 
@@ -59,7 +61,7 @@ module _ (netlist : Netlist) (circuit : IsCircuit netlist) (unread order : List 
   all : take (length order) order ≡ order
   all = take-length order
 
-  after-reads : (at j : ℕ) → at < length order → Reads (driver_at (network_of netlist) (get_or order at 0)) j → is_listed (take at order) j ≡ true
+  pub after-reads : (at j : ℕ) → at < length order → Reads (driver_at (network_of netlist) (get_or order at 0)) j → is_listed (take at order) j ≡ true
   after-reads at j few reads =
       let inside = reads-inside (network_of netlist) (get_or order at 0) j wired reads in
       is.after at j few inside (reads-occurrences (get_or order at 0) j inside reads)
@@ -109,19 +111,52 @@ module _ (netlist : Netlist) (circuit : IsCircuit netlist) (unread order : List 
         | inr out ↦ absurd (left-not_free i (few, out) free)
       ]
 
-  -- the part, with its marks made of the counts
-  pub free-IsFreePart : (free : List Bool) → free ≡ map (λ n. eqb n 0) unread → IsFreePart netlist (record { free = free; order = order })
-  free-IsFreePart free same =
-      let long : length free ≡ length (network_of netlist) = ap length same ∙ (length-map unread (λ n. eqb n 0) ∙ is.long) in
-      let marks : (i : ℕ) → i < length (network_of netlist) → is_listed order i ≡ get_or free i false =
-      λ i few.
+  -- the marks, made of the counts
+  pub marks-listed : (free : List Bool) → free ≡ map (λ n. eqb n 0) unread → (i : ℕ) → i < length (network_of netlist) → is_listed order i ≡ get_or free i false
+  marks-listed free same i few =
       let unread_long = is.long in
-      is.listed i few ∙ sym (ap (λ marks. get_or marks i false) same ∙ get_or-map (λ n. eqb n 0) unread i 0 false (omega arith)) in
+      is.listed i few ∙ sym (ap (λ marks. get_or marks i false) same ∙ get_or-map (λ n. eqb n 0) unread i 0 false (omega arith))
+
+  pub free-AreMarks : (free : List Bool) → free ≡ map (λ n. eqb n 0) unread → AreMarks (network_of netlist) free
+  free-AreMarks free same =
       record {
-        long = long;
-        exact = λ i few. (λ marked. order-free i (marks i few ∙ marked), λ is_free. sym (marks i few) ∙ free-order i few is_free);
-        listed = marks;
+        long = ap length same ∙ (length-map unread (λ n. eqb n 0) ∙ is.long);
+        exact = λ i few. (λ marked. order-free i (marks-listed free same i few ∙ marked), λ is_free. sym (marks-listed free same i few) ∙ free-order i few is_free);
+      }
+
+  -- the part
+  pub free-IsFreePart : (free : List Bool) (cycles : List (List ℕ)) (cores : List (Option ℕ)) → free ≡ map (λ n. eqb n 0) unread → AreFeedback (network_of netlist) cycles cores → IsFreePart netlist (record { free = free; order = order; cycles = cycles; cores = cores })
+  free-IsFreePart free cycles cores same are =
+      record {
+        marks = free-AreMarks free same;
+        listed = marks-listed free same;
         once = is.once;
         inside = is.inside;
         after = after-reads;
+        feedback = are;
       }
+
+-- each variable that is not feedback-free has a core
+pub held-cores : (net : List Driver) (free : List Bool) (cycles : List (List ℕ)) (cores : List (Option ℕ)) → AreMarks net free → AreFeedback net cycles cores → HaveCores free cycles cores
+held-cores net free cycles cores marks are i few out =
+    let long = marks.long in
+    number-of (get_or cores i None) (are.are_cores i (omega arith) (λ is_free. both_ways (get_or free i false) out ((marks.exact i (omega arith)).1 is_free)))
+  where
+    number-of : (core : Option ℕ) → IsCoreNumber net cycles i core → IsCycleNumber cycles core
+    number-of None is = is
+    number-of (Some number) is = is.0
+
+-- the cycle with the number of a variable's core
+pub core-numbered : (netlist : Netlist) (part : FreePart) (i number : ℕ) → IsFreePart netlist part → i < length part.free → get_or part.free i false ≡ false → get_or part.cores i None ≡ Some number → IsCore (network_of netlist) i (get_or part.cycles number [])
+core-numbered netlist part i number is few out same =
+    let long = is.marks.long in
+    let core = is.feedback.are_cores i (omega arith) (λ is_free. both_ways (get_or part.free i false) out ((is.marks.exact i (omega arith)).1 is_free)) in
+    (subst (IsCoreNumber (network_of netlist) part.cycles i) same core).1
+
+-- the number of a core, read with any other default
+pub core-read : (free : List Bool) (cycles : List (List ℕ)) (cores : List (Option ℕ)) (i : ℕ) (read : Option ℕ) → HaveCores free cycles cores → i < length free → get_or free i false ≡ false → read ≡ get_or cores i read → get_or cores i None ≡ read
+core-read free cycles cores i read have few out same =
+    elim (cases_lt i (length cores)) [
+      | inl inside ↦ get_or-default cores i None read inside ∙ sym same
+      | inr beyond ↦ absurd (subst (IsCycleNumber cycles) (get_or_past cores i None beyond) (have i few out))
+    ]

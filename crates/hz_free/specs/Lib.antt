@@ -4,3 +4,4 @@ pub mod Order
 pub mod FreePart
 pub mod Told
 pub mod Feedback
+pub mod Paths

@@ -2,7 +2,8 @@
 use Rattle.std.specs.Prelude.{◌≡◌, ℕ, ◌+◌, ◌<◌, Bool, Option, Some, None, List, [], ◌∷◌, length, map, slice_range, slice_get, if◌then◌else◌}
 use Rattle.std.specs.Bool.{beq}
 use Rattle.std.specs.List.{slice_index_or}
-use Rattle.hz_net.specs.Network.{Driver, External, Function, Source, driver_at, bit_at}
+use Rattle.hz_core.specs.Netlist.{Netlist, IsCircuit, IsWhole}
+use Rattle.hz_net.specs.Network.{Driver, network_of, External, Function, Source, driver_at, bit_at}
 use Rattle.hz_gmw.specs.Cycles.{states_of}
 use Rattle.hz_word.specs.declared.word.Word.{Word}
 use Rattle.hz_word.specs.Walk.{IsWordOf}
@@ -37,3 +38,9 @@ pub record AreCappedWords (net : List Driver) (input start : List Bool) (cap : �
 -- the history of a variable along a run
 abbrev pub variable_history : List Bool → List (List ℕ) → ℕ → List Bool
 variable_history start steps i = history_of (map (λ state. bit_at state i) (states_of start steps))
+
+-- from every start of a circuit, under every new input and every cap, the feedback-free variables have capped words
+abbrev pub WordsExist : Type 0
+WordsExist =
+    (netlist : Netlist) (input start : List Bool) (cap : ℕ) → IsCircuit netlist → IsWhole netlist →
+    (words : List (Option Word)) × AreCappedWords (network_of netlist) input start cap words

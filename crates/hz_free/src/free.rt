@@ -1,13 +1,16 @@
-ghost use Rattle.std.specs.Prelude.{◌≡◌, ◌==◌, ◌<◌, ◌≤◌, ◌↔◌, ℕ, Bool, List, [], length, take, map, IfOk, IsTrue, None, slice_index_or};
+ghost use Rattle.std.specs.Prelude.{◌≡◌, ◌==◌, ◌<◌, ◌≤◌, ◌↔◌, ℕ, Bool, false, Option, List, [], length, map, Contains, IfOk, IsTrue, None, slice_index_or};
 ghost use Rattle.hz_core.specs.Netlist.{Netlist};
-ghost use Rattle.hz_net.specs.Network.{network_of, bit_at, IsStable};
+ghost use Rattle.hz_net.specs.Network.{network_of, bit_at};
+ghost use Rattle.hz_net.specs.Starts.{IsStableStart};
 ghost use Rattle.hz_net.specs.Reads.{readers_of};
 ghost use Rattle.hz_free.specs.Chains.{IsFeedbackFree};
+ghost use Rattle.hz_free.specs.Feedback.{IsFeedbackCycle, IsCore};
 ghost use Rattle.hz_free.specs.Order.{AreReads};
 ghost use Rattle.hz_free.specs.FreePart.{IsFreePart};
 ghost use Rattle.hz_free.specs.Told.{IsReady, IsNextWord};
 ghost use Rattle.hz_free.specs.VariableWords.{AreCappedWords};
 
+use crate::feedback::{Feedback, find_feedback};
 use crate::order::{count_reads, place_all};
 use crate::words::{gate_word, input_word};
 use hz_core::{MAX_PINS, Memory};
@@ -17,13 +20,14 @@ use std::alloc::Global;
 use std::marker::Model;
 
 /// The feedback-free part of a network: the variables from which no chain of readers leads back, from a reader to what it
-/// reads, so that one of them comes twice.
+/// reads, so that one of them comes twice. And the feedback cycles of the other variables.
 ///
 /// It is made for one network, and its calls are given that network.
 #[derive(Debug, Drop)]
 pub struct Free {
     free: Vec<bool>,
     order: Vec<u32>,
+    feedback: Feedback,
 }
 
 impl Model for Free {
@@ -31,7 +35,11 @@ impl Model for Free {
 
     ghost Value = { FreePart };
 
-    ghost view = { λ fields. record { free = fields.free.items; order = fields.order.items } };
+    ghost view = { λ fields. record { free = fields.free.items; order = fields.order.items; cycles = fields.feedback.cycles; cores = fields.feedback.cores.items } };
+
+    ghost use Rattle.hz_free.specs.FreePart.{HaveCores};
+
+    ghost invariant = { λ fields. HaveCores fields.free.items fields.feedback.cycles fields.feedback.cores.items };
 }
 
 impl Free {
@@ -51,7 +59,12 @@ impl Free {
         let _variables = net.len();
         let order = place_all(alloc, net, unread)?;
         let free = marks(alloc, unread)?;
-        Ok(Free { free, order })
+        let feedback = find_feedback(alloc, net, free.as_slice())?;
+        Ok(Free {
+            free,
+            order,
+            feedback,
+        })
     }
 
     /// Whether a variable is feedback-free.
@@ -61,6 +74,35 @@ impl Free {
         ensures exact { (netlist : Netlist) → IsFreePart netlist self.now → IsTrue result ↔ IsFeedbackFree (network_of netlist) var }
     {
         self.free[var as usize]
+    }
+
+    /// The number of feedback cycles.
+    pub fn cycles(&self) -> usize
+        ensures { result ≡ length self.now.cycles }
+    {
+        self.feedback.cycles.len()
+    }
+
+    /// A feedback cycle, numbered from 0: its variables from the least one on, each chosen by the next, and the last by the
+    /// first. The cycles are in the order of their least variables.
+    pub fn cycle(&self, number: usize) -> &[u32]
+        requires { number < length self.now.cycles }
+        ensures value { result.now ≡ slice_index_or self.now.cycles number [] }
+        ensures is_cycle { (netlist : Netlist) → IsFreePart netlist self.now → IsFeedbackCycle (network_of netlist) result.now }
+    {
+        self.feedback.cycles.cycle(number)
+    }
+
+    /// The core of a variable that is not feedback-free: the feedback cycle in which the way back from it ends, if one goes
+    /// from each variable to the one that it chooses.
+    pub fn core(&self, var: u32) -> &[u32]
+        requires var { var < length self.now.free }
+        requires not_free { bit_at self.now.free var ≡ false }
+        ensures listed { Contains self.now.cycles result.now }
+        ensures core { (netlist : Netlist) → IsFreePart netlist self.now → IsCore (network_of netlist) var result.now }
+    {
+        let number = self.feedback.cores[var as usize].unwrap();
+        self.feedback.cycles.cycle(number as usize)
     }
 
     /// Writes the capped word of each feedback-free variable, from a start under a new input, and None for the others.
@@ -73,8 +115,7 @@ impl Free {
         out: &mut [Option<Word>],
     )
         requires part { IsFreePart net.now self.now }
-        requires start { length start.now ≡ length (network_of net.now) }
-        requires stable { IsStable (network_of net.now) (take net.now.inputs start.now) start.now }
+        requires start { IsStableStart net.now start.now }
         requires input { length input.now ≡ net.now.inputs }
         requires cap_low { 1 ≤ cap }
         requires cap_high { cap ≤ 1000000 }
@@ -94,7 +135,7 @@ fn write_words(
     cap: u64,
     out: &mut [Option<Word>],
 )
-    requires part { (free : List Bool) × IsFreePart net.now (record { free = free; order = order.now }) }
+    requires part { (free : List Bool) × (cycles : List (List ℕ)) × (cores : List (Option ℕ)) × IsFreePart net.now (record { free = free; order = order.now; cycles = cycles; cores = cores }) }
     requires start { length start.now ≡ length (network_of net.now) }
     requires input { length input.now ≡ net.now.inputs }
     requires cap_low { 1 ≤ cap }

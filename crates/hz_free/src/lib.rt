@@ -1,20 +1,33 @@
-//! The feedback-free part of a network: its order, and the words of its variables.
+//! The feedback-free part of a network, the words of its variables, and the feedback cycles of the others.
+//!
+//! | Module | What stands there |
+//! |---|---|
+//! | `free` | `Free`, which is made for a network once, and tells its words for each change |
+//! | `order` | the feedback-free variables in a topological order |
+//! | `words` | the words of an input and of a gate |
+//! | `feedback` | the feedback cycles, and the core of each variable that is not feedback-free |
+//! | `cycles` | a list of cycles |
 #![tactic(auto)]
 
-ghost use Rattle.std.specs.Prelude.{◌≡◌, ◌↔◌, ℕ, ◌<◌, ◌≤◌, Bool, List, [], length, take, slice_index_or};
+ghost use Rattle.std.specs.Prelude.{◌≡◌, ◌↔◌, ℕ, ◌<◌, ◌≤◌, Bool, List, [], length, slice_index_or};
 ghost use Rattle.hz_core.specs.declared.tri.Tri.{Tri};
 ghost use Rattle.hz_core.specs.declared.tri.Tri.TheVariants.{Unknown};
 ghost use Rattle.hz_core.specs.Ternary.{tri_of};
 ghost use Rattle.hz_core.specs.Netlist.{Netlist, IsCircuit, IsWhole};
-ghost use Rattle.hz_net.specs.Network.{network_of, bit_at, value_at, IsStable};
-ghost use Rattle.hz_net.specs.Passes.{algorithm_a, algorithm_b, AreRounds};
+ghost use Rattle.hz_net.specs.Network.{Driver, network_of, bit_at, value_at};
+ghost use Rattle.hz_net.specs.Passes.{algorithm_a, algorithm_b, IsResult};
+ghost use Rattle.hz_net.specs.Starts.{IsStableStart};
 ghost use Rattle.hz_gmw.specs.Runs.{IsRun};
 ghost use Rattle.hz_word.specs.Word.{first_letter, last_letter, change_count};
 ghost use Rattle.hz_word.specs.Capped.{capped};
 ghost use Rattle.hz_word.specs.Covers.{Covers};
 ghost use Rattle.hz_free.specs.Chains.{IsFeedbackFree};
-ghost use Rattle.hz_free.specs.VariableWords.{AreVariableWords, variable_history};
+ghost use Rattle.hz_free.specs.Feedback.{AreFeedbackCycles, IsCore};
+ghost use Rattle.hz_free.specs.FreePart.{MarksExist};
+ghost use Rattle.hz_free.specs.VariableWords.{AreVariableWords, WordsExist, variable_history};
 
+mod cycles;
+mod feedback;
 mod free;
 mod order;
 #[cfg(test)]
@@ -25,20 +38,41 @@ pub use free::Free;
 
 /// Along every run from a stable start under the new input, the word of a feedback-free variable covers its history.
 pub fn words_cover()
-    ensures { (netlist : Netlist) (input start : List Bool) (words : List (List Bool)) (cap i : ℕ) (steps : List (List ℕ)) → IsCircuit netlist → IsWhole netlist → length start ≡ length (network_of netlist) → IsStable (network_of netlist) (take netlist.inputs start) start → AreVariableWords (network_of netlist) input start words → i < length (network_of netlist) → IsFeedbackFree (network_of netlist) i → IsRun (network_of netlist) input start steps → Covers (capped cap (slice_index_or words i [])) (variable_history start steps i) }
+    ensures { (netlist : Netlist) (input start : List Bool) (words : List (List Bool)) (cap i : ℕ) (steps : List (List ℕ)) → IsCircuit netlist → IsWhole netlist → IsStableStart netlist start → AreVariableWords (network_of netlist) input start words → i < length (network_of netlist) → IsFeedbackFree (network_of netlist) i → IsRun (network_of netlist) input start steps → Covers (capped cap (slice_index_or words i [])) (variable_history start steps i) }
 {}
 
 /// The word of a feedback-free variable begins with its value at the start.
 pub fn words_begin()
-    ensures { (netlist : Netlist) (input start : List Bool) (words : List (List Bool)) (i : ℕ) → IsCircuit netlist → IsWhole netlist → length start ≡ length (network_of netlist) → IsStable (network_of netlist) (take netlist.inputs start) start → AreVariableWords (network_of netlist) input start words → i < length (network_of netlist) → IsFeedbackFree (network_of netlist) i → first_letter (slice_index_or words i []) ≡ bit_at start i }
+    ensures { (netlist : Netlist) (input start : List Bool) (words : List (List Bool)) (i : ℕ) → IsCircuit netlist → IsWhole netlist → IsStableStart netlist start → AreVariableWords (network_of netlist) input start words → i < length (network_of netlist) → IsFeedbackFree (network_of netlist) i → first_letter (slice_index_or words i []) ≡ bit_at start i }
 {}
 
 /// The word of a feedback-free variable has a change exactly if Algorithm A makes the variable X.
 pub fn words_change()
-    ensures { (netlist : Netlist) (input start : List Bool) (words : List (List Bool)) (rounds i : ℕ) → IsCircuit netlist → IsWhole netlist → length start ≡ length (network_of netlist) → IsStable (network_of netlist) (take netlist.inputs start) start → AreVariableWords (network_of netlist) input start words → AreRounds (algorithm_a (network_of netlist) input start) rounds → i < length (network_of netlist) → IsFeedbackFree (network_of netlist) i → (1 ≤ change_count (slice_index_or words i [])) ↔ (value_at (algorithm_a (network_of netlist) input start rounds) i ≡ Unknown) }
+    ensures { (netlist : Netlist) (input start : List Bool) (words : List (List Bool)) (result : List Tri) (i : ℕ) → IsCircuit netlist → IsWhole netlist → IsStableStart netlist start → AreVariableWords (network_of netlist) input start words → IsResult (algorithm_a (network_of netlist) input start) result → i < length (network_of netlist) → IsFeedbackFree (network_of netlist) i → (1 ≤ change_count (slice_index_or words i [])) ↔ (value_at result i ≡ Unknown) }
 {}
 
 /// The word of a feedback-free variable ends with the value that Algorithm B gives it, which is never X.
 pub fn words_end()
-    ensures { (netlist : Netlist) (input start : List Bool) (words : List (List Bool)) (first : List Tri) (rounds i : ℕ) → IsCircuit netlist → AreVariableWords (network_of netlist) input start words → length first ≡ length (network_of netlist) → AreRounds (algorithm_b (network_of netlist) input first) rounds → i < length (network_of netlist) → IsFeedbackFree (network_of netlist) i → value_at (algorithm_b (network_of netlist) input first rounds) i ≡ tri_of (last_letter (slice_index_or words i [])) }
+    ensures { (netlist : Netlist) (input start : List Bool) (words : List (List Bool)) (first result : List Tri) (i : ℕ) → IsCircuit netlist → AreVariableWords (network_of netlist) input start words → length first ≡ length (network_of netlist) → IsResult (algorithm_b (network_of netlist) input first) result → i < length (network_of netlist) → IsFeedbackFree (network_of netlist) i → value_at result i ≡ tri_of (last_letter (slice_index_or words i [])) }
+{}
+
+/// A network has a list of feedback cycles.
+pub fn feedback_exists()
+    ensures { (netlist : Netlist) → IsCircuit netlist → (cycles : List (List ℕ)) × AreFeedbackCycles (network_of netlist) cycles }
+{}
+
+/// A network has one list of feedback cycles at most, and a variable one core at most.
+pub fn feedback_is_one()
+    ensures cycles { (net : List Driver) (left right : List (List ℕ)) → AreFeedbackCycles net left → AreFeedbackCycles net right → left ≡ right }
+    ensures core { (net : List Driver) (i : ℕ) (left right : List ℕ) → IsCore net i left → IsCore net i right → left ≡ right }
+{}
+
+/// It is decided which variables of a circuit's network are feedback-free.
+pub fn marks_exist()
+    ensures { MarksExist }
+{}
+
+/// From every start, under every new input and every cap, the feedback-free variables of a circuit have capped words.
+pub fn words_exist()
+    ensures { WordsExist }
 {}

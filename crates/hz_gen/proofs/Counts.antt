@@ -39,7 +39,7 @@ length-chain_names n multiplexers least =
       least,
     )
 
-length-ring_gates : (first : List ℕ) (buffers : ℕ) → length (ring_gates first buffers) ≡ buffers + 3
+pub length-ring_gates : (first : List ℕ) (buffers : ℕ) → length (ring_gates first buffers) ≡ buffers + 3
 length-ring_gates first buffers = omega (arith, length-map-range_with_len buffer_gate 2 buffers)
 
 -- each node is an input or a gate

@@ -6,3 +6,5 @@ pub mod Counts
 pub mod Steps
 pub mod Scripts
 pub mod Laws
+pub mod Resting
+pub mod AtRest

@@ -7,7 +7,7 @@ use Rattle.std.proofs.lemmas.List.Elements.{All-head, All-tail}
 use Rattle.std.proofs.lemmas.List.Sums.{sum_by-cons, sum_by_push}
 use Rattle.hz_net.specs.Network.{bit_at}
 use Rattle.hz_gmw.specs.Runs.{is_listed, RepeatsNone}
-use Rattle.hz_gmw.specs.Least.{IsLeastOf, lesser_of, least_from, least_again}
+use Rattle.hz_gmw.specs.Least.{IsLeast, IsLeastOf, lesser_of, least_from, least_again}
 use Rattle.hz_gmw.specs.ReplayFaults.{times}
 
 pub listed-head : (i x : ℕ) (list : List ℕ) → i ≡ x → is_listed (x ∷ list) i ≡ true
@@ -240,3 +240,26 @@ again-among earlier (x ∷ list) found named are all is =
 -- the least number that is listed twice
 pub least-repeated : (list : List ℕ) (named : List Bool) → ((i : ℕ) → i < length named → bit_at named i ≡ false) → All (λ i. i < length named) list → IsLeastOf (λ i. 2 ≤ times list i) (least_again None named list)
 least-repeated list named none all = again-among [] list None named none all (λ i twice. omega (arith, twice))
+
+-- a scan: the first number that passes a test is the least
+pub least-scanned : (P : ℕ → Type 0) (test : ℕ → Bool) (count k : ℕ) → k < count → ((i : ℕ) → i < count → test i ≡ true → P i) → ((i : ℕ) → P i → (i < count) × (test i ≡ true)) → ((i : ℕ) → i < k → test i ≡ false) → test k ≡ true → IsLeast P k
+least-scanned P test count k inside to back below here = record {
+  here = to k inside here;
+  least = λ j holds. elim (cases_lt j k) [
+    | inl less ↦ absurd (false≢true (sym (below j less) ∙ (back j holds).1))
+    | inr from ↦ from
+  ];
+}
+
+-- and where none passes there is none
+pub none-scanned : (P : ℕ → Type 0) (test : ℕ → Bool) (count k : ℕ) → count ≤ k → ((i : ℕ) → P i → (i < count) × (test i ≡ true)) → ((i : ℕ) → i < k → test i ≡ false) → (i : ℕ) → P i → ⊥
+none-scanned P test count k end back below i holds =
+    let found = back i holds in
+    let inside : i < count = found.0 in
+    false≢true (sym (below i (omega (arith, inside, end))) ∙ found.1)
+
+pub scanned-more : (test : ℕ → Bool) (k : ℕ) → ((i : ℕ) → i < k → test i ≡ false) → test k ≡ false → (i : ℕ) → i < k + 1 → test i ≡ false
+scanned-more test k below here i few = elim (cases_lt i k) [
+  | inl less ↦ below i less
+  | inr from ↦ (let same : i ≡ k = omega (arith, few, from) in ap test same ∙ here)
+]

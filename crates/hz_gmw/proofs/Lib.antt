@@ -2,10 +2,16 @@ pub mod Flips
 pub mod CoverA
 pub mod Paths
 pub mod CoverB
+pub mod Bits
 pub mod SetLemmas
 pub mod LeastLemmas
+pub mod Counting
+pub mod Marks
+pub mod GateOnes
+pub mod Driven
 pub mod Unchanged
-pub mod Rechecks
+pub mod Counts
 pub mod PresentLemmas
+pub mod WatchLemmas
 pub mod ReplayLemmas
 pub mod RunLemmas

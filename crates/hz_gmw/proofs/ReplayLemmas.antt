@@ -1,5 +1,5 @@
 -- What a replayer stands for: after a mark, after a step, and what that tells of the cycle since the mark.
-use Rattle.std.proofs.Common.{◌≡◌, ◌≢◌, ◌↔◌, ℕ, zero, suc, ◌<◌, ◌≤◌, Bool, true, false, not, cond, ◌||◌, ◌&&◌, List, [], ◌∷◌, ◌++◌, length, set, replicate, All, None, IsTrue, refl, sym, ap, ◌∙◌, subst, arith, inl, inr}
+use Rattle.std.proofs.Common.{◌≡◌, ◌≢◌, ◌↔◌, ℕ, ◌<◌, ◌≤◌, Bool, true, false, not, cond, ◌&&◌, List, [], ◌∷◌, ◌++◌, length, set, replicate, All, None, IsTrue, refl, sym, ap, ◌∙◌, subst, arith, inl, inr}
 use Rattle.std.specs.Bool.{beq}
 use Rattle.std.proofs.lemmas.Bool.{cases_lt, cases_eq, cases_Bool, false≢true, and_parts, and_from, not-true, not-false, not_from_false, or_parts, false_from_ne_true, true_from_ne_false}
 use Rattle.std.proofs.lemmas.List.{ext_get_or, length-set, length-replicate, get_or-set_same, get_or-set_other, get_or_past, get_or-replicate}
@@ -8,7 +8,7 @@ use Rattle.hz_net.specs.Network.{Driver, network_of, bit_at, excitation, IsUnsta
 use Rattle.hz_core.specs.Netlist.{Netlist}
 use Rattle.hz_gmw.specs.Runs.{is_listed, IsStep, flipped, end_of}
 use Rattle.hz_gmw.specs.Cycles.{WaitsAt, IsNontransient}
-use Rattle.hz_gmw.specs.Instability.{is_unstable, unstable_variables}
+use Rattle.hz_gmw.specs.Instability.{is_unstable, unstable_variables, unstable_count}
 use Rattle.hz_gmw.specs.Least.{IsLeast, IsLeastOf, least_from}
 use Rattle.hz_gmw.specs.Replayed.{Replayed, StandsFor, replayed_at, still_watched, stepped_by}
 use Rattle.hz_gmw.specs.ReplayFaults.{times, IsStepFault, IsCycleFault}
@@ -18,12 +18,14 @@ use Rattle.hz_gmw.specs.declared.replay_fault.CycleFault.{CycleFault}
 use Rattle.hz_gmw.specs.declared.replay_fault.CycleFault.TheVariants.{Differs, NotStable, Transient}
 use Rattle.hz_gmw.specs.VariableSets.{AreMembers}
 use Rattle.hz_gmw.specs.Presents.{marked_with, taken_over}
-use Rattle.hz_gmw.specs.InsideReplay.{without}
 use Rattle.hz_gmw.proofs.Flips.{length-flipped, at-flipped}
 use Rattle.hz_gmw.proofs.Paths.{end_of-append, IsRun-append}
 use Rattle.hz_gmw.proofs.CoverB.{length-end_of}
-use Rattle.hz_gmw.proofs.LeastLemmas.{listed-other, listed-Contains, All-listed, IsLeastOf-same, least-listed, RepeatsNone-times, times-RepeatsNone}
-use Rattle.hz_gmw.proofs.Rechecks.{beq-same, beq-refl, at-marked_with}
+use Rattle.hz_gmw.proofs.LeastLemmas.{listed-other, All-listed, IsLeastOf-same, least-listed, RepeatsNone-times, times-RepeatsNone}
+use Rattle.hz_gmw.proofs.Bits.{beq-same, beq-refl}
+use Rattle.hz_gmw.proofs.Counting.{weight}
+use Rattle.hz_gmw.proofs.Counts.{one-bound}
+use Rattle.hz_gmw.proofs.Marks.{at-marked_with}
 
 -- the test says whether a variable is unstable
 pub unstable-true : (net : List Driver) (input state : List Bool) (i : ℕ) → is_unstable net input state i ≡ true → IsUnstable net input state i
@@ -204,59 +206,6 @@ moving-cycle now steps stands closed moving unwatched = record {
   lasts = λ waits. unwatched waits.0 (waits.1, (stands.watched waits.0 waits.1).1 (waits.2, waits.3));
 }
 
-pub at-without : (marks others : List Bool) (i : ℕ) → length marks ≡ length others → bit_at (without marks others) i ≡ bit_at marks i && not (bit_at others i)
-at-without [] others i same = refl
-at-without (mark ∷ marks) [] i same = cc
-at-without (mark ∷ marks) (other ∷ others) zero same = refl
-at-without (mark ∷ marks) (other ∷ others) (suc i) same = at-without marks others i (omega (arith, same))
-
-pub length-without : (marks others : List Bool) → length (without marks others) ≡ length marks
-length-without [] others = refl
-length-without (mark ∷ marks) [] = refl
-length-without (mark ∷ marks) (other ∷ others) = ap suc (length-without marks others)
-
-and-true : (a : Bool) → a && true ≡ a
-and-true true = refl
-and-true false = refl
-
--- no mark is taken away
-pub without-none : (marks : List Bool) (count : ℕ) → count ≡ length marks → without marks (replicate count false) ≡ marks
-without-none marks count same =
-    let long : length marks ≡ length (replicate count false) = sym same ∙ sym (length-replicate count false) in
-    ext_get_or false (without marks (replicate count false)) marks (length-without marks (replicate count false)) (λ i inside.
-    let within : i < count = omega (arith, inside, same, length-without marks (replicate count false)) in
-    at-without marks (replicate count false) i long ∙ (ap (λ (b : Bool). bit_at marks i && not b) (get_or-replicate count i false false within) ∙ and-true (bit_at marks i)))
-
-watch-bits : (u0 u1 t0 l : Bool) → (u1 && not ((t0 || l) || not (beq u0 u1))) ≡ ((u0 && not t0) && not l) && u1
-watch-bits true true true true = refl
-watch-bits true true true false = refl
-watch-bits true true false true = refl
-watch-bits true true false false = refl
-watch-bits true false true true = refl
-watch-bits true false true false = refl
-watch-bits true false false true = refl
-watch-bits true false false false = refl
-watch-bits false true true true = refl
-watch-bits false true true false = refl
-watch-bits false true false true = refl
-watch-bits false true false false = refl
-watch-bits false false true true = refl
-watch-bits false false true false = refl
-watch-bits false false false true = refl
-watch-bits false false false false = refl
-
--- the watched variables after a step
-pub watched-step : (now : Replayed) (flips : List ℕ) (u0 t0 u1 t1 : List Bool) → now.watched ≡ without u0 t0 → length u0 ≡ length (network_of now.circuit) → length t0 ≡ length (network_of now.circuit) → length u1 ≡ length (network_of now.circuit) → length t1 ≡ length (network_of now.circuit) → ((i : ℕ) → i < length (network_of now.circuit) → bit_at u1 i ≡ is_unstable (network_of now.circuit) now.input (flipped flips now.state) i) → ((i : ℕ) → i < length (network_of now.circuit) → bit_at t1 i ≡ ((bit_at t0 i || is_listed flips i) || not (beq (bit_at u0 i) (bit_at u1 i)))) → without u1 t1 ≡ still_watched now flips
-watched-step now flips u0 t0 u1 t1 watched u0_long t0_long u1_long t1_long right touched =
-    let net = network_of now.circuit in
-    let test : ℕ → Bool = λ i. (bit_at now.watched i && not (is_listed flips i)) && is_unstable net now.input (flipped flips now.state) i in
-    fill_by_all test (without u1 t1) (length net) false (length-without u1 t1 ∙ u1_long) (λ i inside.
-    at-without u1 t1 i (u1_long ∙ sym t1_long) ∙
-    (ap (λ (t : Bool). bit_at u1 i && not t) (touched i inside) ∙
-    (watch-bits (bit_at u0 i) (bit_at u1 i) (bit_at t0 i) (is_listed flips i) ∙
-    (ap (λ (w : Bool). (w && not (is_listed flips i)) && bit_at u1 i) (sym (ap (λ (ws : List Bool). bit_at ws i) watched ∙ at-without u0 t0 i (u0_long ∙ sym t0_long))) ∙
-    ap (λ (u : Bool). (bit_at now.watched i && not (is_listed flips i)) && u) (right i inside)))))
-
 pub length-taken_over : (state marked : List Bool) (list : List ℕ) → length (taken_over state marked list) ≡ length marked
 length-taken_over state marked [] = refl
 length-taken_over state marked (x ∷ list) = length-taken_over state (set marked x (bit_at state x)) list ∙ length-set marked x (bit_at state x)
@@ -304,7 +253,7 @@ taken-all state marked touched list long members same =
     ext_get_or false (taken_over state marked list) state (length-taken_over state marked list ∙ long) (λ i inside.
     let within : i < length marked = omega (arith, inside, length-taken_over state marked list) in
     elim (cases_Bool (bit_at touched i)) [
-      | inl there ↦ taken-listed state marked list i within (listed-Contains list i (members.every i there))
+      | inl there ↦ taken-listed state marked list i within (members.every i there)
       | inr missing ↦ taken-same state marked list i within (same i missing)
     ])
 
@@ -315,42 +264,10 @@ least-moved state marked touched list members same =
     IsLeastOf-same (λ i. IsTrue (is_listed list i) × IsTrue (test i)) (λ i. bit_at state i ≢ bit_at marked i) (least_from None test list)
     (λ i h e. false≢true (sym (not-true (beq (bit_at state i) (bit_at marked i)) h.1) ∙ (ap (beq (bit_at state i)) (sym e) ∙ beq-refl (bit_at state i))))
     (λ i differ. (
-      listed-Contains list i (members.every i (true_from_ne_false (bit_at touched i) (λ missing. differ (sym (same i missing))))),
+      members.every i (true_from_ne_false (bit_at touched i) (λ missing. differ (sym (same i missing)))),
       not_from_false (beq (bit_at state i) (bit_at marked i)) (false_from_ne_true (beq (bit_at state i) (bit_at marked i)) (λ e. differ (beq-same (bit_at state i) (bit_at marked i) e))),
     ))
     (least-listed test list)
-
--- a mark past the end is none
-marked-inside : (marks : List Bool) (i : ℕ) → bit_at marks i ≡ true → i < length marks
-marked-inside marks i marked = elim (cases_lt i (length marks)) [
-  | inl inside ↦ inside
-  | inr past ↦ absurd (false≢true (sym (get_or_past marks i false past) ∙ marked))
-]
-
--- the least marked variable is the least that is unstable
-pub least-unstable : (net : List Driver) (input state marks : List Bool) (list : List ℕ) → AreMembers marks list → length marks ≡ length net → ((i : ℕ) → i < length net → bit_at marks i ≡ is_unstable net input state i) → IsLeastOf (λ i. (i < length net) × IsUnstable net input state i) (least_from None (λ _. true) list)
-least-unstable net input state marks list members long right =
-    IsLeastOf-same (λ i. IsTrue (is_listed list i) × IsTrue true) (λ i. (i < length net) × IsUnstable net input state i) (least_from None (λ _. true) list)
-    (λ i h.
-    let marked : bit_at marks i ≡ true = All-listed (λ (var : ℕ). bit_at marks var ≡ true) list i members.marked h.0 in
-    let below = marked-inside marks i marked in
-    let inside : i < length net = omega (arith, below, long) in
-    (inside, unstable-true net input state i (sym (right i inside) ∙ marked)))
-    (λ i h. (listed-Contains list i (members.every i (right i h.0 ∙ true-unstable net input state i h.1)), refl))
-    (least-listed (λ _. true) list)
-
--- the least marked variable that is not touched is the least that is watched
-pub least-watched : (count : ℕ) (marks touched : List Bool) (list : List ℕ) → AreMembers marks list → length marks ≡ count → length touched ≡ count → IsLeastOf (λ i. (i < count) × IsTrue (bit_at (without marks touched) i)) (least_from None (λ var. not (bit_at touched var)) list)
-least-watched count marks touched list members long touched_long =
-    IsLeastOf-same (λ i. IsTrue (is_listed list i) × IsTrue (not (bit_at touched i))) (λ i. (i < count) × IsTrue (bit_at (without marks touched) i)) (least_from None (λ var. not (bit_at touched var)) list)
-    (λ i h.
-    let marked : bit_at marks i ≡ true = All-listed (λ (var : ℕ). bit_at marks var ≡ true) list i members.marked h.0 in
-    let below = marked-inside marks i marked in
-    (omega (arith, below, long), at-without marks touched i (long ∙ sym touched_long) ∙ and_from (bit_at marks i) (not (bit_at touched i)) marked h.1))
-    (λ i h.
-    let parts = and_parts (bit_at marks i) (not (bit_at touched i)) (sym (at-without marks touched i (long ∙ sym touched_long)) ∙ h.1) in
-    (listed-Contains list i (members.every i parts.0), parts.1))
-    (least-listed (λ var. not (bit_at touched var)) list)
 
 -- a list without a fault is a step
 pub step-by : (net : List Driver) (input state marks : List Bool) (flips : List ℕ) → All (λ var. var < length net) flips → ((i : ℕ) → i < length net → bit_at marks i ≡ is_unstable net input state i) → flips ≢ [] → ((i : ℕ) → 2 ≤ times flips i → ⊥) → ((i : ℕ) → IsTrue (is_listed flips i) × IsTrue (not (bit_at marks i)) → ⊥) → IsStep net input state flips
@@ -404,3 +321,32 @@ stepped-is now flips input state watched input_is state_is watched_is =
 pub none-marked : (marks : List Bool) (count : ℕ) → marks ≡ replicate count false → (i : ℕ) → i < length marks → bit_at marks i ≡ false
 none-marked marks count is i inside =
     ap (λ (m : List Bool). bit_at m i) is ∙ get_or-replicate count i false false (omega (arith, inside, ap (length {A = Bool}) is, length-replicate count false))
+
+-- the least listed variable that is stable, in terms of the marks of all
+pub stable-listed : (net : List Driver) (input state : List Bool) (flips : List ℕ) → All (λ var. var < length net) flips → IsLeastOf (λ i. IsTrue (is_listed flips i) × IsTrue (not (bit_at (unstable_variables net input state) i))) (least_from None (λ var. not (is_unstable net input state var)) flips)
+stable-listed net input state flips all =
+    let at : (i : ℕ) → IsTrue (is_listed flips i) → bit_at (unstable_variables net input state) i ≡ is_unstable net input state i =
+    λ i there. at-unstable_variables net input state i (All-listed (λ (var : ℕ). var < length net) flips i all there) in
+    IsLeastOf-same (λ i. IsTrue (is_listed flips i) × IsTrue (not (is_unstable net input state i))) (λ i. IsTrue (is_listed flips i) × IsTrue (not (bit_at (unstable_variables net input state) i))) (least_from None (λ var. not (is_unstable net input state var)) flips)
+    (λ i h. (h.0, ap not (at i h.0) ∙ h.1))
+    (λ i h. (h.0, sym (ap not (at i h.0)) ∙ h.1))
+    (least-listed (λ var. not (is_unstable net input state var)) flips)
+
+-- what changed or moved is listed: all else has at the mark the value that it had at the begin
+pub restart-same : (changed changed' moved marked begun state : List Bool) (list : List ℕ) → changed' ≡ marked_with changed list → AreMembers moved list → length marked ≡ length changed → length begun ≡ length changed → ((i : ℕ) → bit_at changed i ≡ false → bit_at marked i ≡ bit_at state i) → ((i : ℕ) → bit_at moved i ≡ false → bit_at begun i ≡ bit_at state i) → (i : ℕ) → bit_at changed' i ≡ false → bit_at marked i ≡ bit_at begun i
+restart-same changed changed' moved marked begun state list changed_is members marked_long begun_long same back i still = elim (cases_lt i (length changed)) [
+  | inl inside ↦ (
+      let parts = or_parts (bit_at changed i) (is_listed list i) (sym (at-marked_with changed list i inside) ∙ (ap (λ (bits : List Bool). bit_at bits i) (sym changed_is) ∙ still)) in
+      let rests : bit_at moved i ≡ false = false_from_ne_true (bit_at moved i) (λ there. false≢true (sym parts.1 ∙ members.every i there)) in
+      same i parts.0 ∙ sym (back i rests)
+      )
+  | inr past ↦ get_or_past marked i false (omega (arith, past, marked_long)) ∙ sym (get_or_past begun i false (omega (arith, past, begun_long)))
+]
+
+-- where the count is 0 no variable is unstable
+pub none-unstable : (netlist : Netlist) (input state : List Bool) → unstable_count (network_of netlist) input state ≡ 0 → (i : ℕ) → (i < length (network_of netlist)) × IsUnstable (network_of netlist) input state i → ⊥
+none-unstable netlist input state none i h =
+    let inside : i < length (network_of netlist) = h.0 in
+    let one = one-bound netlist input state i inside in
+    let here : weight (is_unstable (network_of netlist) input state i) ≡ 1 = ap weight (true-unstable (network_of netlist) input state i h.1) in
+    omega (arith, one, here, none)

@@ -1,274 +1,167 @@
--- Sets of variables: each member knows its place, whatever is put in or taken out.
-use Rattle.std.proofs.Common.{◌≡◌, ◌≢◌, ℕ, zero, suc, ◌+◌, ◌-◌, ◌<◌, ◌≤◌, Bool, true, false, cond, List, [], ◌∷◌, ◌++◌, length, get_or, set, map, replicate, Option, Some, None, is_some, refl, sym, ap, ◌∙◌, arith, inl, inr}
+-- Sets of variables: the list has the marked ones, whatever is put in or taken out.
+use Rattle.std.proofs.Common.{◌≡◌, ◌≢◌, ℕ, zero, suc, ◌<◌, ◌⊎◌, Bool, true, false, cond, List, [], ◌∷◌, ◌++◌, length, get_or, set, replicate, All, refl, sym, ap, ◌∙◌, subst, arith, inl, inr}
 use Rattle.std.specs.Prelude.{count_by}
-use Rattle.std.proofs.lemmas.Bool.{cases_lt, cases_eq, false≢true}
-use Rattle.std.proofs.lemmas.List.{length-map, length-set, length-replicate, length_push, get_or-set_same, get_or-set_other, get_or_append_left, get_or_push, get_or_past, get_or_default, get_or_read, get_or-replicate, ext_get_or, map-set, set-get_or}
-use Rattle.std.proofs.lemmas.List.Elements.{All-from_get_or}
+use Rattle.std.proofs.lemmas.Bool.{cases_lt, cases_eq, false≢true, or_left, or_right, or_cases, false_from_ne_true}
+use Rattle.std.proofs.lemmas.List.{length-set, length-replicate, length_push, get_or-set_same, get_or-set_other, get_or_past, get_or_read, get_or-replicate, ext_get_or}
+use Rattle.std.proofs.lemmas.List.Elements.{All-nil, All-cons}
 use Rattle.std.proofs.lemmas.List.Sums.{sum_by-set, sum_by-cons, count_by-le-length}
 use Rattle.hz_net.specs.Network.{bit_at}
-use Rattle.hz_gmw.specs.VariableSets.{AreSet, AreMembers}
+use Rattle.hz_gmw.specs.Runs.{is_listed, RepeatsNone}
+use Rattle.hz_gmw.specs.VariableSets.{AreMembers}
+use Rattle.hz_gmw.proofs.Counting.{weight}
+use Rattle.hz_gmw.proofs.LeastLemmas.{listed-head, listed-tail, listed-cases, listed-other, listed-append, All-listed}
 
-some-of : (o : Option ℕ) → is_some o ≡ true → (place : ℕ) × (o ≡ Some place)
-some-of None e = absurd (false≢true e)
-some-of (Some place) e = (place, refl)
+-- what holds for each member of a list
+pub All-each : (P : ℕ → Type 0) (list : List ℕ) → ((i : ℕ) → is_listed list i ≡ true → P i) → All P list
+All-each P [] each = All-nil P
+All-each P (x ∷ list) each = All-cons P x list (each x (listed-head x x list refl)) (All-each P list (λ i there. each i (listed-tail i x list there)))
 
-none-some : (o : Option ℕ) (place : ℕ) → o ≡ None → o ≡ Some place → ⊥
-none-some o place none some = cc
-
-same-place : (o : Option ℕ) (a b : ℕ) → o ≡ Some a → o ≡ Some b → a ≡ b
-same-place o a b left right = cc
-
-not-some : (o : Option ℕ) → ((place : ℕ) → o ≡ Some place → ⊥) → is_some o ≡ false
-not-some None other = refl
-not-some (Some place) other = absurd (other place refl)
-
--- 1 for a variable that has a place
-abbrev counts : Option ℕ → ℕ
-counts o = cond (is_some o) 1 0
-
--- a mark says whether the variable has a place
-pub marks-at : (places : List (Option ℕ)) (var : ℕ) → bit_at (map is_some places) var ≡ is_some (get_or places var None)
-marks-at [] var = refl
-marks-at (place ∷ places) zero = refl
-marks-at (place ∷ places) (suc var) = marks-at places var
-
--- a variable with a place is there
-at-inside : (places : List (Option ℕ)) (var place : ℕ) → get_or places var None ≡ Some place → var < length places
-at-inside places var place at = elim (cases_lt var (length places)) [
-  | inl inside ↦ inside
-  | inr past ↦ absurd (none-some (get_or places var None) place (get_or_past places var None past) at)
+pushed-cases : (list : List ℕ) (x i : ℕ) → is_listed (list ++ x ∷ []) i ≡ true → (is_listed list i ≡ true) ⊎ (i ≡ x)
+pushed-cases list x i there = elim (or_cases (is_listed list i) (is_listed (x ∷ []) i) (sym (listed-append list (x ∷ []) i) ∙ there)) [
+  | inl front ↦ inl front
+  | inr last ↦ elim (listed-cases i x [] last) [
+    | inl same ↦ inr same
+    | inr none ↦ absurd (false≢true none)
+  ]
 ]
 
--- a member is a variable
-pub member-inside : (places : List (Option ℕ)) (members : List ℕ) (place : ℕ) → AreSet places members → place < length members → get_or members place 0 < length places
-member-inside places members place are few = at-inside places (get_or members place 0) place (are.listed place few)
+pushed-last : (list : List ℕ) (x : ℕ) → is_listed (list ++ x ∷ []) x ≡ true
+pushed-last list x = listed-append list (x ∷ []) x ∙ or_right (is_listed list x) (is_listed (x ∷ []) x) (listed-head x x [] refl)
 
--- there is room for a variable that is no member
-pub room-left : (places : List (Option ℕ)) (members : List ℕ) (var : ℕ) → AreSet places members → var < length places → get_or places var None ≡ None → length members < length places
-room-left places members var are inside none =
-    let changed = sum_by-set counts places var (Some 0) None inside in
-    let was : counts (get_or places var None) ≡ 0 = ap counts none in
-    omega (arith, changed, was, are.counted, count_by-le-length (is_some {T = ℕ}) (set places var (Some 0)), length-set places var (Some 0))
+pushed-front : (list : List ℕ) (x i : ℕ) → is_listed list i ≡ true → is_listed (list ++ x ∷ []) i ≡ true
+pushed-front list x i there = listed-append list (x ∷ []) i ∙ or_left (is_listed list i) (is_listed (x ∷ []) i) there
 
--- there are no more members than variables
-pub few-members : (places : List (Option ℕ)) (members : List ℕ) → AreSet places members → length members ≤ length places
-few-members places members are = omega (arith, are.counted, count_by-le-length (is_some {T = ℕ}) places)
+once-pushed : (list : List ℕ) (x : ℕ) → RepeatsNone list → is_listed list x ≡ false → RepeatsNone (list ++ x ∷ [])
+once-pushed [] x once new = (refl, tt)
+once-pushed (y ∷ list) x once new =
+    let differ : y ≢ x = λ same. false≢true (sym new ∙ listed-head x y list (sym same)) in
+    let later : is_listed list x ≡ false = sym (listed-other x y list (λ same. differ (sym same))) ∙ new in (
+      false_from_ne_true (is_listed (list ++ x ∷ []) y) (λ there. elim (pushed-cases list x y there) [
+        | inl front ↦ false≢true (sym once.0 ∙ front)
+        | inr same ↦ differ same
+      ]),
+      once-pushed list x once.1 later,
+    )
 
--- a variable that is put in comes last
-pub AreSet-insert : (places : List (Option ℕ)) (members : List ℕ) (var : ℕ) → AreSet places members → var < length places → get_or places var None ≡ None → AreSet (set places var (Some (length members))) (members ++ var ∷ [])
-AreSet-insert places members var are inside none =
-    let last = length members in
-    let after = set places var (Some last) in
-    record {
-      placed = λ other place at. elim (cases_eq other var) [
-        | inl same ↦ (
-            let p : last ≡ place = same-place (get_or after var None) last place (get_or-set_same places var (Some last) None inside) (ap (λ (v : ℕ). get_or after v None) (sym same) ∙ at) in
-            (omega (arith, length_push members var), get_or_push members var 0 place p ∙ sym same)
-            )
-        | inr differ ↦ (
-            let was = are.placed other place (sym (get_or-set_other places var other (Some last) None differ) ∙ at) in
-            let few : place < length members = was.0 in
-            (omega (arith, length_push members var), get_or_append_left members (var ∷ []) 0 place few ∙ was.1)
-            )
-      ];
-      listed = λ place few. elim (cases_lt place last) [
-        | inl less ↦ (
-            let at = are.listed place less in
-            let same : get_or (members ++ var ∷ []) place 0 ≡ get_or members place 0 = get_or_append_left members (var ∷ []) 0 place less in
-            let differ : get_or members place 0 ≢ var = λ e. none-some (get_or places var None) place none (ap (λ (v : ℕ). get_or places v None) (sym e) ∙ at) in
-            ap (λ (v : ℕ). get_or after v None) same ∙ (get_or-set_other places var (get_or members place 0) (Some last) None differ ∙ at)
-            )
-        | inr end ↦ (
-            let p : last ≡ place = omega (arith, few, end, length_push members var) in
-            ap (λ (v : ℕ). get_or after v None) (get_or_push members var 0 place p) ∙ (get_or-set_same places var (Some last) None inside ∙ ap Some p)
-            )
-      ];
-      counted =
-          let changed = sum_by-set counts places var (Some last) None inside in
-          let was : counts (get_or places var None) ≡ 0 = ap counts none in
-          omega (arith, changed, was, length_push members var, are.counted);
-    }
+once-front : (list : List ℕ) (x : ℕ) → RepeatsNone (list ++ x ∷ []) → RepeatsNone list × (is_listed list x ≡ false)
+once-front [] x once = (tt, refl)
+once-front (y ∷ list) x once =
+    let rest = once-front list x once.1 in
+    let differ : x ≢ y = λ same. false≢true (sym once.0 ∙ (ap (is_listed (list ++ x ∷ [])) (sym same) ∙ pushed-last list x)) in (
+      (false_from_ne_true (is_listed list y) (λ there. false≢true (sym once.0 ∙ pushed-front list x y there)), rest.0),
+      listed-other x y list differ ∙ rest.1,
+    )
 
--- where a variable is taken out, the last member takes its place
-pub AreSet-remove : (places : List (Option ℕ)) (members rest : List ℕ) (var place last : ℕ) → AreSet places members → get_or places var None ≡ Some place → last ≡ get_or members (length members - 1) 0 → length rest + 1 ≡ length members → (place + 1 < length members → get_or rest place 0 ≡ last) → ((k : ℕ) → k ≢ place → k + 1 < length members → get_or rest k 0 ≡ get_or members k 0) → AreSet (set (set places last (Some place)) var None) rest
-AreSet-remove places members rest var place last are at last_is long moved others =
-    let was = are.placed var place at in
-    let few : place < length members = was.0 in
-    let end = length members - 1 in
-    let last_at : get_or places last None ≡ Some end = ap (λ (v : ℕ). get_or places v None) last_is ∙ are.listed end (omega (arith, few)) in
-    let var_inside : var < length places = at-inside places var place at in
-    let last_inside : last < length places = at-inside places last end last_at in
-    let first = set places last (Some place) in
-    let after = set first var None in
-    let var_within : var < length first = omega (arith, length-set places last (Some place)) in
-    let first_at : get_or first var None ≡ Some place = elim (cases_eq var last) [
-      | inl same ↦ ap (λ (v : ℕ). get_or first v None) same ∙ get_or-set_same places last (Some place) None last_inside
-      | inr differ ↦ get_or-set_other places last var (Some place) None differ ∙ at
-    ] in
-    record {
-      placed = λ other p now. elim (cases_eq other var) [
-        | inl same ↦ absurd (none-some (get_or after var None) p (get_or-set_same first var None None var_within) (ap (λ (v : ℕ). get_or after v None) (sym same) ∙ now))
-        | inr differ ↦ (
-            let before : get_or first other None ≡ Some p = sym (get_or-set_other first var other None None differ) ∙ now in
-            elim (cases_eq other last) [
-              | inl same ↦ (
-                  let e : p ≡ place = same-place (get_or first last None) p place (ap (λ (v : ℕ). get_or first v None) (sym same) ∙ before) (get_or-set_same places last (Some place) None last_inside) in
-                  let ne : place ≢ end = λ h. differ (same ∙ (last_is ∙ (ap (λ (k : ℕ). get_or members k 0) (sym h) ∙ was.1))) in
-                  let less : place + 1 < length members = omega (arith, few, ne) in
-                  (omega (arith, e, less, long), ap (λ (k : ℕ). get_or rest k 0) e ∙ (moved less ∙ sym same))
-                  )
-              | inr distinct ↦ (
-                  let old = are.placed other p (sym (get_or-set_other places last other (Some place) None distinct) ∙ before) in
-                  let inside : p < length members = old.0 in
-                  let ne : p ≢ place = λ h. differ (sym old.1 ∙ (ap (λ (k : ℕ). get_or members k 0) h ∙ was.1)) in
-                  let no_end : p ≢ end = λ h. distinct (sym old.1 ∙ (ap (λ (k : ℕ). get_or members k 0) h ∙ sym last_is)) in
-                  let less : p + 1 < length members = omega (arith, inside, no_end) in
-                  (omega (arith, less, long), others p ne less ∙ old.1)
-                  )
-            ]
-            )
-      ];
-      listed = λ p within.
-          let less : p + 1 < length members = omega (arith, within, long) in
-          elim (cases_eq p place) [
-            | inl same ↦ (
-                let here : place + 1 < length members = omega (arith, less, same) in
-                let is : get_or rest p 0 ≡ last = ap (λ (k : ℕ). get_or rest k 0) same ∙ moved here in
-                let differ : last ≢ var = λ h.
-                let twice : end ≡ place = same-place (get_or places var None) end place (ap (λ (v : ℕ). get_or places v None) (sym h) ∙ last_at) at in
-                omega (arith, twice, here)
-                in
-                ap (λ (v : ℕ). get_or after v None) is ∙ (get_or-set_other first var last None None differ ∙ (get_or-set_same places last (Some place) None last_inside ∙ ap Some (sym same)))
-                )
-            | inr other ↦ (
-                let inside : p < length members = omega (arith, less) in
-                let member = get_or members p 0 in
-                let member_at : get_or places member None ≡ Some p = are.listed p inside in
-                let differ : member ≢ var = λ h. other (same-place (get_or places var None) p place (ap (λ (v : ℕ). get_or places v None) (sym h) ∙ member_at) at) in
-                let distinct : member ≢ last = λ h.
-                let twice : p ≡ end = same-place (get_or places last None) p end (ap (λ (v : ℕ). get_or places v None) (sym h) ∙ member_at) last_at in
-                omega (arith, twice, less)
-                in
-                ap (λ (v : ℕ). get_or after v None) (others p other less) ∙ (get_or-set_other first var member None None differ ∙ (get_or-set_other places last member (Some place) None distinct ∙ member_at))
-                )
-          ];
-      counted =
-          let one = sum_by-set counts places last (Some place) None last_inside in
-          let two = sum_by-set counts first var None None var_within in
-          let last_counts : counts (get_or places last None) ≡ 1 = ap counts last_at in
-          let var_counts : counts (get_or first var None) ≡ 1 = ap counts first_at in
-          omega (arith, one, two, last_counts, var_counts, long, are.counted);
-    }
-
--- the last member is taken out
-pub AreSet-pop : (places : List (Option ℕ)) (members rest : List ℕ) (var : ℕ) → AreSet places members → members ≡ rest ++ var ∷ [] → AreSet (set places var None) rest
-AreSet-pop places members rest var are whole =
-    let end = length rest in
-    let long : length members ≡ end + 1 = ap (length {A = ℕ}) whole ∙ length_push rest var in
-    let member : (k : ℕ) → k < end → get_or members k 0 ≡ get_or rest k 0 = λ k few. ap (λ (list : List ℕ). get_or list k 0) whole ∙ get_or_append_left rest (var ∷ []) 0 k few in
-    let last : get_or members end 0 ≡ var = ap (λ (list : List ℕ). get_or list end 0) whole ∙ get_or_push rest var 0 end refl in
-    let var_at : get_or places var None ≡ Some end = ap (λ (v : ℕ). get_or places v None) (sym last) ∙ are.listed end (omega (arith, long)) in
-    let inside : var < length places = at-inside places var end var_at in
-    let after = set places var None in
-    record {
-      placed = λ other p now. elim (cases_eq other var) [
-        | inl same ↦ absurd (none-some (get_or after var None) p (get_or-set_same places var None None inside) (ap (λ (v : ℕ). get_or after v None) (sym same) ∙ now))
-        | inr differ ↦ (
-            let was = are.placed other p (sym (get_or-set_other places var other None None differ) ∙ now) in
-            let within : p < length members = was.0 in
-            let ne : p ≢ end = λ h. differ (sym was.1 ∙ (ap (λ (k : ℕ). get_or members k 0) h ∙ last)) in
-            let few : p < end = omega (arith, within, long, ne) in
-            (few, sym (member p few) ∙ was.1)
-            )
-      ];
-      listed = λ p few.
-          let within : p < length members = omega (arith, few, long) in
-          let at : get_or places (get_or rest p 0) None ≡ Some p = ap (λ (v : ℕ). get_or places v None) (sym (member p few)) ∙ are.listed p within in
-          let differ : get_or rest p 0 ≢ var = λ h.
-          let twice : p ≡ end = same-place (get_or places var None) p end (ap (λ (v : ℕ). get_or places v None) (sym h) ∙ at) var_at in
-          omega (arith, twice, few)
-          in
-          get_or-set_other places var (get_or rest p 0) None None differ ∙ at;
-      counted =
-          let changed = sum_by-set counts places var None None inside in
-          let was : counts (get_or places var None) ≡ 1 = ap counts var_at in
-          omega (arith, changed, was, long, are.counted);
-    }
-
-no-places-at : (count var : ℕ) → get_or (replicate count (let o : Option ℕ = None in o)) var None ≡ None
-no-places-at zero var = refl
-no-places-at (suc count) zero = refl
-no-places-at (suc count) (suc var) = no-places-at count var
-
-no-places-count : (count : ℕ) → count_by (is_some {T = ℕ}) (replicate count None) ≡ 0
-no-places-count zero = refl
-no-places-count (suc count) =
-    let first = sum_by-cons counts None (replicate count None) in
-    let rest = no-places-count count in
-    omega (arith, first, rest)
+-- a fresh set marks nothing
+pub unmarked : (count var : ℕ) → bit_at (replicate count false) var ≡ false
+unmarked zero var = refl
+unmarked (suc count) zero = refl
+unmarked (suc count) (suc var) = unmarked count var
 
 -- the empty set
-pub AreSet-none : (count : ℕ) → AreSet (replicate count None) []
-AreSet-none count = record {
-  placed = λ var place at. absurd (none-some (get_or (replicate count None) var None) place (no-places-at count var) at);
-  listed = λ place few. absurd (omega (arith, few));
-  counted = sym (no-places-count count);
+pub AreMembers-none : (count : ℕ) → AreMembers (replicate count false) []
+AreMembers-none count = record {
+  inside = All-nil (λ (var : ℕ). var < length (replicate count false));
+  marked = All-nil (λ (var : ℕ). bit_at (replicate count false) var ≡ true);
+  every = λ var marked. absurd (false≢true (sym (unmarked count var) ∙ marked));
+  once = tt;
 }
 
-pub marks-none : (count : ℕ) → map (is_some {T = ℕ}) (replicate count None) ≡ replicate count false
-marks-none zero = refl
-marks-none (suc count) = ap (λ (marks : List Bool). false ∷ marks) (marks-none count)
+pub counted-none : (count : ℕ) → count_by (λ mark. mark) (replicate count false) ≡ 0
+counted-none zero = refl
+counted-none (suc count) =
+    let rest = counted-none count in
+    omega (arith, rest, sum_by-cons (λ (mark : Bool). cond mark 1 0) false (replicate count false))
 
--- the members are the marked variables
-pub members-are : (places : List (Option ℕ)) (members : List ℕ) → AreSet places members → AreMembers (map is_some places) members
-members-are places members are = record {
-  inside = All-from_get_or (λ (var : ℕ). var < length (map (is_some {T = ℕ}) places)) members 0 (λ k few. let below = member-inside places members k are few in omega (arith, below, length-map places (is_some {T = ℕ})));
-  marked = All-from_get_or (λ (var : ℕ). bit_at (map (is_some {T = ℕ}) places) var ≡ true) members 0 (λ k few. marks-at places (get_or members k 0) ∙ ap (is_some {T = ℕ}) (are.listed k few));
-  every = λ var marked.
-      let place = some-of (get_or places var None) (sym (marks-at places var) ∙ marked) in
-      let was = are.placed var place.0 place.1 in
-      (place.0, was.0, get_or_default members place.0 var 0 was.0 ∙ was.1);
-}
+-- a variable that is put in comes last
+pub AreMembers-insert : (marks : List Bool) (members : List ℕ) (var : ℕ) → AreMembers marks members → var < length marks → bit_at marks var ≡ false → AreMembers (set marks var true) (members ++ var ∷ [])
+AreMembers-insert marks members var are inside new =
+    let long = length-set marks var true in
+    let at : (i : ℕ) → is_listed (members ++ var ∷ []) i ≡ true → (i < length marks) × (bit_at (set marks var true) i ≡ true) =
+    λ i there. elim (pushed-cases members var i there) [
+      | inl front ↦ (
+          let marked : bit_at marks i ≡ true = All-listed (λ (v : ℕ). bit_at marks v ≡ true) members i are.marked front in
+          let differ : i ≢ var = λ same. false≢true (sym new ∙ (ap (bit_at marks) (sym same) ∙ marked)) in
+          (All-listed (λ (v : ℕ). v < length marks) members i are.inside front, get_or-set_other marks var i true false differ ∙ marked)
+          )
+      | inr same ↦ (
+        subst (λ (v : ℕ). v < length marks) (sym same) inside,
+        ap (bit_at (set marks var true)) same ∙ get_or-set_same marks var true false inside,
+      )
+    ] in
+    record {
+      inside = All-each (λ (v : ℕ). v < length (set marks var true)) (members ++ var ∷ []) (λ i there. let below = (at i there).0 in omega (arith, below, long));
+      marked = All-each (λ (v : ℕ). bit_at (set marks var true) v ≡ true) (members ++ var ∷ []) (λ i there. (at i there).1);
+      every = λ i marked. elim (cases_eq i var) [
+        | inl same ↦ ap (is_listed (members ++ var ∷ [])) same ∙ pushed-last members var
+        | inr other ↦ pushed-front members var i (are.every i (sym (get_or-set_other marks var i true false other) ∙ marked))
+      ];
+      once = once-pushed members var are.once (false_from_ne_true (is_listed members var) (λ there. false≢true (sym new ∙ All-listed (λ (v : ℕ). bit_at marks v ≡ true) members var are.marked there)));
+    }
+
+pub counted-insert : (marks : List Bool) (members : List ℕ) (var : ℕ) → var < length marks → bit_at marks var ≡ false → length members ≡ count_by (λ mark. mark) marks → length (members ++ var ∷ []) ≡ count_by (λ mark. mark) (set marks var true)
+counted-insert marks members var inside new counted =
+    let changed = sum_by-set weight marks var true false inside in
+    let was : weight (bit_at marks var) ≡ 0 = ap weight new in
+    omega (arith, changed, was, counted, length_push members var)
+
+-- there is room for a variable that is no member
+pub room-left : (marks : List Bool) (members : List ℕ) (var : ℕ) → var < length marks → bit_at marks var ≡ false → length members ≡ count_by (λ mark. mark) marks → length members < length marks
+room-left marks members var inside new counted =
+    let more = counted-insert marks members var inside new counted in
+    omega (arith, more, length_push members var, count_by-le-length (λ (mark : Bool). mark) (set marks var true), length-set marks var true)
+
+-- the last member is taken out
+pub AreMembers-pop : (marks : List Bool) (members rest : List ℕ) (var : ℕ) → AreMembers marks members → members ≡ rest ++ var ∷ [] → AreMembers (set marks var false) rest
+AreMembers-pop marks members rest var are whole =
+    let long = length-set marks var false in
+    let once = once-front rest var (subst RepeatsNone whole are.once) in
+    let front : (i : ℕ) → is_listed rest i ≡ true → is_listed members i ≡ true =
+    λ i there. ap (λ (list : List ℕ). is_listed list i) whole ∙ pushed-front rest var i there in
+    record {
+      inside = All-each (λ (v : ℕ). v < length (set marks var false)) rest (λ i there.
+          let below : i < length marks = All-listed (λ (v : ℕ). v < length marks) members i are.inside (front i there) in
+          omega (arith, below, long));
+      marked = All-each (λ (v : ℕ). bit_at (set marks var false) v ≡ true) rest (λ i there.
+          let differ : i ≢ var = λ same. false≢true (sym once.1 ∙ (ap (is_listed rest) (sym same) ∙ there)) in
+          get_or-set_other marks var i false false differ ∙ All-listed (λ (v : ℕ). bit_at marks v ≡ true) members i are.marked (front i there));
+      every = λ i marked. elim (cases_eq i var) [
+        | inl same ↦ absurd (false≢true (sym (unset marks var) ∙ (ap (bit_at (set marks var false)) (sym same) ∙ marked)))
+        | inr other ↦ elim (pushed-cases rest var i (ap (λ (list : List ℕ). is_listed list i) (sym whole) ∙ are.every i (sym (get_or-set_other marks var i false false other) ∙ marked))) [
+          | inl there ↦ there
+          | inr same ↦ absurd (other same)
+        ]
+      ];
+      once = once.0;
+    }
+  where
+    unset : (marks : List Bool) (var : ℕ) → bit_at (set marks var false) var ≡ false
+    unset marks var = elim (cases_lt var (length marks)) [
+      | inl inside ↦ get_or-set_same marks var false false inside
+      | inr past ↦ get_or_past (set marks var false) var false (omega (arith, past, length-set marks var false))
+    ]
+
+pub counted-pop : (marks : List Bool) (members rest : List ℕ) (var : ℕ) → AreMembers marks members → members ≡ rest ++ var ∷ [] → length members ≡ count_by (λ mark. mark) marks → length rest ≡ count_by (λ mark. mark) (set marks var false)
+counted-pop marks members rest var are whole counted =
+    let there : is_listed members var ≡ true = ap (λ (list : List ℕ). is_listed list var) whole ∙ pushed-last rest var in
+    let inside : var < length marks = All-listed (λ (v : ℕ). v < length marks) members var are.inside there in
+    let changed = sum_by-set weight marks var false false inside in
+    let was : weight (bit_at marks var) ≡ 1 = ap weight (All-listed (λ (v : ℕ). bit_at marks v ≡ true) members var are.marked there) in
+    let long : length members ≡ length (rest ++ var ∷ []) = ap (length {A = ℕ}) whole in
+    omega (arith, changed, was, counted, long, length_push rest var)
+
+-- the last member is one of the variables
+pub last-inside : (marks : List Bool) (members rest : List ℕ) (var : ℕ) → AreMembers marks members → members ≡ rest ++ var ∷ [] → var < length marks
+last-inside marks members rest var are whole =
+    All-listed (λ (v : ℕ). v < length marks) members var are.inside (ap (λ (list : List ℕ). is_listed list var) whole ∙ pushed-last rest var)
 
 -- without members no variable is marked
-pub marks-cleared : (places : List (Option ℕ)) (members : List ℕ) → AreSet places members → members ≡ [] → map is_some places ≡ replicate (length places) false
-marks-cleared places members are none =
-    ext_get_or false (map (is_some {T = ℕ}) places) (replicate (length places) false) (length-map places (is_some {T = ℕ}) ∙ sym (length-replicate (length places) false)) (λ i inside.
-    let below : i < length places = omega (arith, inside, length-map places (is_some {T = ℕ})) in
-    marks-at places i ∙ (not-some (get_or places i None) (λ place at.
-    let few = (are.placed i place at).0 in
-    omega (arith, few, ap (length {A = ℕ}) none)) ∙ sym (get_or-replicate (length places) i false false below)))
+pub marks-cleared : (marks : List Bool) (members : List ℕ) → AreMembers marks members → members ≡ [] → marks ≡ replicate (length marks) false
+marks-cleared marks members are none =
+    ext_get_or false marks (replicate (length marks) false) (sym (length-replicate (length marks) false)) (λ i inside.
+    false_from_ne_true (bit_at marks i) (λ marked. false≢true (ap (λ (list : List ℕ). is_listed list i) (sym none) ∙ are.every i marked)) ∙
+    sym (get_or-replicate (length marks) i false false inside))
 
--- a mark that stands is set again
-pub marks-stay : (places : List (Option ℕ)) (var : ℕ) (mark : Bool) → is_some (get_or places var None) ≡ mark → set (map is_some places) var mark ≡ map is_some places
-marks-stay places var mark is =
-    ap (set (map (is_some {T = ℕ}) places) var) (sym (marks-at places var ∙ is)) ∙ set-get_or (map (is_some {T = ℕ}) places) var false
-
-pub marks-insert : (places : List (Option ℕ)) (var place : ℕ) → map is_some (set places var (Some place)) ≡ set (map is_some places) var true
-marks-insert places var place = map-set (is_some {T = ℕ}) places var (Some place)
-
-pub marks-remove : (places : List (Option ℕ)) (members : List ℕ) (var place last : ℕ) → AreSet places members → get_or places var None ≡ Some place → last ≡ get_or members (length members - 1) 0 → map is_some (set (set places last (Some place)) var None) ≡ set (map is_some places) var false
-marks-remove places members var place last are at last_is =
-    let was = are.placed var place at in
-    let few : place < length members = was.0 in
-    let last_at : get_or places last None ≡ Some (length members - 1) = ap (λ (v : ℕ). get_or places v None) last_is ∙ are.listed (length members - 1) (omega (arith, few)) in
-    map-set (is_some {T = ℕ}) (set places last (Some place)) var None ∙
-    ap (λ (marks : List Bool). set marks var false) (marks-insert places last place ∙ marks-stay places last true (ap (is_some {T = ℕ}) last_at))
-
--- what a read of a variable's place tells
-pub inside-of : (places : List (Option ℕ)) (marks : List Bool) (var : ℕ) → map is_some places ≡ marks → var < length marks → var < length places
-inside-of places marks var view inside =
-    let long : length (map (is_some {T = ℕ}) places) ≡ length marks = ap (length {A = Bool}) view in
-    omega (arith, inside, long, length-map places (is_some {T = ℕ}))
-
-pub at-read : (places : List (Option ℕ)) (var : ℕ) (o : Option ℕ) → var < length places → o ≡ get_or places var o → get_or places var None ≡ o
-at-read places var o inside read = get_or_default places var None o inside ∙ sym read
-
-pub none-is : (o : Option ℕ) → is_some o ≡ false → o ≡ None
-none-is None e = refl
-none-is (Some place) e = absurd (false≢true (sym e))
-
--- the last member, as it is read
-pub last-is : (members : List ℕ) (place count last : ℕ) → place < length members → count ≡ length members → last ≡ get_or members (count - 1) last → last ≡ get_or members (length members - 1) 0
-last-is members place count last few long read =
-    get_or_read members (length members - 1) last (omega (arith, few)) (read ∙ ap (λ (n : ℕ). get_or members (n - 1) last) long) 0
+-- what a read of a mark tells
+pub unmarked-read : (marks : List Bool) (var : ℕ) (read : Bool) → var < length marks → read ≡ get_or marks var read → read ≡ false → bit_at marks var ≡ false
+unmarked-read marks var read inside is missing = sym (get_or_read marks var read inside is false) ∙ missing

@@ -16,7 +16,7 @@ use Rattle.hz_gmw.proofs.Flips.{length-flipped, at-flipped}
 use Rattle.hz_gmw.proofs.LeastLemmas.{listed-head, listed-tail, listed-cases, listed-append, listed-Contains}
 
 -- a driver reads a listed variable, or none
-some-read : (driver : Driver) (flips : List ℕ) → ((i : ℕ) → IsTrue (is_listed flips i) → Reads driver i → ⊥) ⊎ ((i : ℕ) × IsTrue (is_listed flips i) × Reads driver i)
+pub some-read : (driver : Driver) (flips : List ℕ) → ((i : ℕ) → IsTrue (is_listed flips i) → Reads driver i → ⊥) ⊎ ((i : ℕ) × IsTrue (is_listed flips i) × Reads driver i)
 some-read driver [] = inl (λ i listed reads. false≢true listed)
 some-read driver (x ∷ flips) = elim (reads-or-not driver x) [
   | inl reads ↦ inr (x, listed-head x x flips refl, reads)
@@ -60,25 +60,28 @@ listed-flat f (x ∷ flips) i j there inside = listed-append (f x) (flat_map f f
   | inr rest ↦ or_right (is_listed (f x) j) (is_listed (flat_map f flips) j) (listed-flat f flips i j rest inside)
 ])
 
+past-same : (flips : List ℕ) (state : List Bool) (i : ℕ) → length state ≤ i → bit_at (flipped flips state) i ≡ bit_at state i
+past-same flips state i past =
+    let flipped_long = length-flipped flips state in
+    get_or_past (flipped flips state) i false (omega (arith, past, flipped_long)) ∙ sym (get_or_past state i false past)
+
+kept : (flips : List ℕ) (state : List Bool) (i : ℕ) → is_listed flips i ≡ false → bit_at (flipped flips state) i ≡ bit_at state i
+kept flips state i missing = elim (cases_lt i (length state)) [
+  | inl within ↦ at-flipped flips state i within ∙ ap (λ (b : Bool). cond b (not (bit_at state i)) (bit_at state i)) missing
+  | inr past ↦ past-same flips state i past
+]
+
+-- a variable that does not change and reads none that changes is as stable as it was
+pub is_unstable-unread : (net : List Driver) (input state : List Bool) (flips : List ℕ) (j : ℕ) → is_listed flips j ≡ false → ((i : ℕ) → IsTrue (is_listed flips i) → Reads (driver_at net j) i → ⊥) → is_unstable net input (flipped flips state) j ≡ is_unstable net input state j
+is_unstable-unread net input state flips j still none =
+    let excited : driven input (flipped flips state) (driver_at net j) ≡ driven input state (driver_at net j) =
+    driven-same input (flipped flips state) state (driver_at net j) (length-flipped flips state) (λ i reads. kept flips state i (false_from_ne_true (is_listed flips i) (λ there. none i there reads))) in
+    ap (λ (bit : Bool). not (beq bit (driven input (flipped flips state) (driver_at net j)))) (kept flips state j still) ∙
+    ap (λ (bit : Bool). not (beq (bit_at state j) bit)) excited
+
 -- A variable that is not around a changed one is as stable as it was.
 pub is_unstable-flipped : (netlist : Netlist) (input state : List Bool) (flips : List ℕ) (j : ℕ) → IsCircuit netlist → is_listed (flat_map (around netlist) flips) j ≡ false → is_unstable (network_of netlist) input (flipped flips state) j ≡ is_unstable (network_of netlist) input state j
 is_unstable-flipped netlist input state flips j circuit apart =
-    let net = network_of netlist in
-    let at : (i : ℕ) → is_listed flips i ≡ false → bit_at (flipped flips state) i ≡ bit_at state i =
-    λ i missing. elim (cases_lt i (length state)) [
-      | inl within ↦ at-flipped flips state i within ∙ ap (λ (b : Bool). cond b (not (bit_at state i)) (bit_at state i)) missing
-      | inr past ↦ past-same flips state i past
-    ] in
-    let still : is_listed flips j ≡ false =
-    false_from_ne_true (is_listed flips j) (λ there. false≢true (sym apart ∙ listed-flat (around netlist) flips j j there (listed-head j j (readers_of netlist j) refl))) in
-    let excited : driven input (flipped flips state) (driver_at net j) ≡ driven input state (driver_at net j) = elim (some-read (driver_at net j) flips) [
-      | inl none ↦ driven-same input (flipped flips state) state (driver_at net j) (length-flipped flips state) (λ i reads. at i (false_from_ne_true (is_listed flips i) (λ there. none i there reads)))
-      | inr found ↦ absurd (false≢true (sym apart ∙ listed-flat (around netlist) flips found.0 j found.1 (listed-tail j found.0 (readers_of netlist found.0) (listed-Contains (readers_of netlist found.0) j (reads-reader netlist circuit found.0 j found.2)))))
-    ] in
-    ap (λ (bit : Bool). not (beq bit (driven input (flipped flips state) (driver_at net j)))) (at j still) ∙
-    ap (λ (bit : Bool). not (beq (bit_at state j) bit)) excited
-  where
-    past-same : (flips : List ℕ) (state : List Bool) (i : ℕ) → length state ≤ i → bit_at (flipped flips state) i ≡ bit_at state i
-    past-same flips state i past =
-        let flipped_long = length-flipped flips state in
-        get_or_past (flipped flips state) i false (omega (arith, past, flipped_long)) ∙ sym (get_or_past state i false past)
+    is_unstable-unread (network_of netlist) input state flips j
+    (false_from_ne_true (is_listed flips j) (λ there. false≢true (sym apart ∙ listed-flat (around netlist) flips j j there (listed-head j j (readers_of netlist j) refl))))
+    (λ i there reads. false≢true (sym apart ∙ listed-flat (around netlist) flips i j there (listed-tail j i (readers_of netlist i) (listed-Contains (readers_of netlist i) j (reads-reader netlist circuit i j reads)))))

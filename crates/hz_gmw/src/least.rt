@@ -7,38 +7,13 @@ ghost use Rattle.hz_gmw.specs.Least.{lesser_of, least_from, least_again};
 use crate::variable_set::VariableSet;
 
 // The lesser of a variable and one that was found before.
-fn lesser(found: Option<u32>, var: u32) -> Option<u32>
+pub(crate) fn lesser(found: Option<u32>, var: u32) -> Option<u32>
     ensures { result ≡ lesser_of found var }
 {
     match found {
         Some(least) => Some(least.min(var)),
         None => Some(var),
     }
-}
-
-// The least listed variable.
-pub(crate) fn least_listed(list: &[u32]) -> Option<u32>
-    ensures { result ≡ least_from None (λ _. true) list.now }
-{
-    let mut found = None;
-    for var in list {
-        found = lesser(found, *var);
-    }
-    found
-}
-
-// The least listed variable that is not in a set.
-pub(crate) fn least_outside(list: &[u32], set: &VariableSet) -> Option<u32>
-    requires { All (λ var. var < length set.now) list.now }
-    ensures { result ≡ least_from None (λ var. not (bit_at set.now var)) list.now }
-{
-    let mut found = None;
-    for var in list {
-        if !set.contains(*var) {
-            found = lesser(found, *var);
-        }
-    }
-    found
 }
 
 // The least listed variable at which two states differ.

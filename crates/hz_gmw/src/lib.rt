@@ -9,6 +9,7 @@ ghost use Rattle.hz_gmw.specs.Runs.{IsReachable};
 ghost use Rattle.hz_gmw.specs.Cycles.{IsOutcome};
 
 mod least;
+mod ones;
 mod present;
 mod replay;
 mod replay_fault;
@@ -16,6 +17,7 @@ mod replay_fault;
 mod replay_tests;
 mod run;
 mod variable_set;
+mod watch;
 
 pub use replay::Replay;
 pub use replay_fault::{CycleFault, StepFault};

@@ -1,44 +1,85 @@
-//! The present state of a network, with what is known of it.
-ghost use Rattle.std.specs.Prelude.{◌≡◌, ◌≢◌, ◌<◌, [], ◌∷◌, length, fold, All, slice_set};
+//! The present state of a network, with what is counted of it.
+ghost use Rattle.std.specs.Prelude.{◌≡◌, ◌<◌, ◌≤◌, ◌-◌, ◌+◌, ◌∷◌, Bool, true, false, not, length, count_by, sum_by, All, IfOk, slice_set, slice_index_or, replicate, if◌then◌else◌};
 ghost use Rattle.hz_core.specs.Netlist.{IsCircuit, IsWhole};
-ghost use Rattle.hz_net.specs.Network.{network_of, bit_at};
+ghost use Rattle.hz_net.specs.Network.{network_of, driver_at, excitation, Source, bit_at};
+ghost use Rattle.hz_net.specs.Reads.{IsWireInto};
+ghost use Rattle.hz_net.specs.Variables.{fan_out_of};
 ghost use Rattle.hz_gmw.specs.Runs.{is_listed, RepeatsNone, flipped};
+ghost use Rattle.hz_gmw.specs.Instability.{is_unstable, unstable_count};
+ghost use Rattle.hz_gmw.specs.Least.{least_from};
+ghost use Rattle.hz_gmw.specs.Presents.{IsKindAt};
 
-use crate::variable_set::VariableSet;
-use hz_net::Net;
+use crate::least::lesser;
+use crate::ones::value_of_ones;
+use hz_core::Memory;
+use hz_net::{Net, VarKind};
+use std::alloc::Global;
 
-// The external input and the state, the variables that are unstable, and those that were touched: that changed, or became
-// stable or unstable, since the set was cleared.
+// The external input and the state, of each node how many of its pins are 1 and how many of the wires from it are
+// unstable, and how many variables are unstable in all. With these counts a variable changes in constant time, whatever
+// its fan-out, and whether a variable is unstable is told in constant time too.
 #[derive(Debug, Drop)]
 pub(crate) struct Present {
     pub input: Vec<bool>,
     pub state: Vec<bool>,
-    pub unstable: VariableSet,
-    pub touched: VariableSet,
+    pub ones: Vec<u32>,
+    pub unstable_wires: Vec<u32>,
+    pub unstable: u32,
 }
 
 impl Present {
-    ghost use Rattle.hz_gmw.specs.Presents.{Fits, IsExact, rechecked, around, marked_with, taken_over, Advances, KeepsUntouched};
+    ghost use Rattle.hz_gmw.specs.Presents.{IsCounted, IsExact, around, taken_over, unstable_from};
 
-    // Changes the listed variables at once.
+    // Every input and every variable is 0.
+    pub(crate) fn new(alloc: Global, net: &Net) -> Result<Present, Memory>
+        ensures exact { IfOk result (λ present. IsExact net.now present) }
+        ensures input { IfOk result (λ present. present.input.items ≡ replicate net.now.inputs false) }
+        ensures state { IfOk result (λ present. present.state.items ≡ replicate (length (network_of net.now)) false) }
+    {
+        let Ok(input) = vec![in alloc; false; net.circuit().inputs() as usize] else {
+            return Err(Memory);
+        };
+        let Ok(state) = vec![in alloc; false; net.len() as usize] else {
+            return Err(Memory);
+        };
+        let Ok(ones) = vec![in alloc; 0; net.circuit().nodes() as usize] else {
+            return Err(Memory);
+        };
+        let Ok(unstable_wires) = vec![in alloc; 0; net.circuit().nodes() as usize] else {
+            return Err(Memory);
+        };
+        let mut present = Present {
+            input,
+            state,
+            ones,
+            unstable_wires,
+            unstable: 0,
+        };
+        present.unstable = present.count_unstable(net);
+        Ok(present)
+    }
+
+    // Changes the listed variables, each once.
     pub(crate) fn advance(&mut self, net: &Net, flips: &[u32])
         requires exact { IsExact net.now self.old }
         requires inside { All (λ var. var < length (network_of net.now)) flips.now }
         requires once { RepeatsNone flips.now }
-        ensures { Advances net.now flips.now self.old self.new }
+        ensures exact { IsExact net.now self.new }
+        ensures input { self.new.input.items ≡ self.old.input.items }
+        ensures state { self.new.state.items ≡ flipped flips.now self.old.state.items }
     {
-        self.flip(flips);
-        self.recheck_flipped(net, flips);
+        for var in flips {
+            self.flip(net, *var);
+        }
     }
 
-    // Turns the state into a given one. Only variables that differ are changed, and only what surrounds them is checked.
+    // Turns the state into a given one. Only variables that differ are changed.
     pub(crate) fn turn_to(&mut self, net: &Net, state: &[bool])
         requires exact { IsExact net.now self.old }
         requires state { length state.now ≡ length (network_of net.now) }
         ensures exact { IsExact net.now self.new }
         ensures input { self.new.input.items ≡ self.old.input.items }
         ensures state { self.new.state.items ≡ state.now }
-        ensures untouched { KeepsUntouched self.old self.new }
     {
         for var in 0..net.len() {
             self.turn(net, var, state[var as usize]);
@@ -53,116 +94,233 @@ impl Present {
         ensures exact { IsExact net.now self.new }
         ensures input { self.new.input.items ≡ self.old.input.items }
         ensures state { self.new.state.items ≡ taken_over state.now self.old.state.items list.now }
-        ensures untouched { KeepsUntouched self.old self.new }
     {
         for var in list {
             self.turn(net, *var, state[*var as usize]);
         }
     }
 
-    // Turns the external input into a given one. Only inputs that differ are changed and checked.
+    // Turns the external input into a given one.
     pub(crate) fn turn_input(&mut self, net: &Net, input: &[bool])
         requires exact { IsExact net.now self.old }
         requires input { length input.now ≡ net.now.inputs }
         ensures exact { IsExact net.now self.new }
         ensures input { self.new.input.items ≡ input.now }
         ensures state { self.new.state.items ≡ self.old.state.items }
-        ensures untouched { KeepsUntouched self.old self.new }
     {
         for number in 0..net.circuit().inputs() {
-            if self.input[number as usize] != input[number as usize] {
-                self.input[number as usize] = input[number as usize];
-                self.recheck(net, number);
+            self.set_input(net, number, input[number as usize]);
+        }
+    }
+
+    // Whether a variable is unstable.
+    pub(crate) fn is_unstable(&self, net: &Net, var: u32) -> bool
+        requires counted { IsCounted net.now self.now }
+        requires var { var < length (network_of net.now) }
+        ensures { result ≡ is_unstable (network_of net.now) self.now.input.items self.now.state.items var }
+    {
+        self.state[var as usize] != self.excited(net, var)
+    }
+
+    // The least listed variable that is stable.
+    pub(crate) fn least_stable(&self, net: &Net, list: &[u32]) -> Option<u32>
+        requires counted { IsCounted net.now self.now }
+        requires inside { All (λ var. var < length (network_of net.now)) list.now }
+        ensures { result ≡ least_from None (λ var. not (is_unstable (network_of net.now) self.now.input.items self.now.state.items var)) list.now }
+    {
+        let mut found = None;
+        for var in list {
+            if !self.is_unstable(net, *var) {
+                found = lesser(found, *var);
             }
         }
+        found
     }
 
-    // Checks every variable anew.
-    pub(crate) fn recheck_all(&mut self, net: &Net)
-        requires { Fits net.now self.old }
-        ensures exact { IsExact net.now self.new }
-        ensures input { self.new.input.items ≡ self.old.input.items }
-        ensures state { self.new.state.items ≡ self.old.state.items }
+    // A number less how many of the listed nodes and of the wires from them are unstable. Wires may be listed too; they
+    // count with their nodes.
+    pub(crate) fn without_nodes(&self, net: &Net, number: u32, list: &[u32]) -> u32
+        requires counted { IsCounted net.now self.now }
+        requires inside { All (λ var. var < length (network_of net.now)) list.now }
+        ensures { result ≡ number - sum_by (unstable_from net.now self.now.input.items self.now.state.items) list.now }
     {
-        for var in 0..net.len() {
-            self.recheck(net, var);
+        let mut left = number;
+        for var in list {
+            if *var < net.circuit().nodes() {
+                left = left.saturating_sub(self.unstable_from(net, *var));
+            }
         }
+        left
     }
 
-    // Gives a variable a value. Where it has it nothing is done.
+    // Gives a variable a value. If it has it nothing is done.
     fn turn(&mut self, net: &Net, var: u32, value: bool)
         requires exact { IsExact net.now self.old }
         requires var { var < length (network_of net.now) }
         ensures exact { IsExact net.now self.new }
         ensures input { self.new.input.items ≡ self.old.input.items }
         ensures state { self.new.state.items ≡ slice_set self.old.state.items var value }
-        ensures untouched { KeepsUntouched self.old self.new }
     {
         if self.state[var as usize] != value {
-            self.advance(net, &[var]);
+            self.flip(net, var);
         }
     }
 
-    // Changes the listed variables and touches them, and leaves the marks of the unstable ones as they are.
-    fn flip(&mut self, flips: &[u32])
-        requires inside { All (λ var. var < length self.old.state.items) flips.now }
-        requires touched { length self.old.touched ≡ length self.old.state.items }
-        requires once { RepeatsNone flips.now }
-        ensures state { self.new.state.items ≡ flipped flips.now self.old.state.items }
-        ensures touched { self.new.touched ≡ marked_with self.old.touched flips.now }
-        ensures input { self.new.input ≡ self.old.input }
+    // Gives an input a value. Only the input itself may become stable or unstable.
+    fn set_input(&mut self, net: &Net, number: u32, value: bool)
+        requires exact { IsExact net.now self.old }
+        requires number { number < net.now.inputs }
+        ensures exact { IsExact net.now self.new }
+        ensures input { self.new.input.items ≡ slice_set self.old.input.items number value }
+        ensures state { self.new.state.items ≡ self.old.state.items }
+    {
+        self.unstable -= one_if(self.is_unstable(net, number));
+        self.input[number as usize] = value;
+        self.unstable += one_if(self.is_unstable(net, number));
+    }
+
+    // Changes a variable. Only the variable and those that read it may become stable or unstable.
+    fn flip(&mut self, net: &Net, var: u32)
+        requires exact { IsExact net.now self.old }
+        requires var { var < length (network_of net.now) }
+        ensures exact { IsExact net.now self.new }
+        ensures input { self.new.input.items ≡ self.old.input.items }
+        ensures state { self.new.state.items ≡ slice_set self.old.state.items var (not (bit_at self.old.state.items var)) }
+    {
+        self.unstable -= self.unstable_around(net, var);
+        self.change(net, var);
+        self.unstable += self.unstable_around(net, var);
+    }
+
+    // Changes a variable, with the counts of nodes, and leaves the count of all unstable variables as it is.
+    fn change(&mut self, net: &Net, var: u32)
+        requires counted { IsCounted net.now self.old }
+        requires var { var < length (network_of net.now) }
+        ensures counted { IsCounted net.now self.new }
+        ensures input { self.new.input.items ≡ self.old.input.items }
+        ensures state { self.new.state.items ≡ slice_set self.old.state.items var (not (bit_at self.old.state.items var)) }
         ensures unstable { self.new.unstable ≡ self.old.unstable }
     {
-        for var in flips {
-            self.state[*var as usize] = !self.state[*var as usize];
-            self.touched.insert(*var);
+        match kind_at(net, var) {
+            VarKind::Wire { gate, source, .. } => self.change_wire(net, var, gate, source),
+            VarKind::Input { .. } => self.change_node(net, var),
+            VarKind::Gate { .. } => self.change_node(net, var),
         }
     }
 
-    // Checks the listed variables and those that read them.
-    fn recheck_flipped(&mut self, net: &Net, flips: &[u32])
-        requires fits { Fits net.now self.old }
-        requires inside { All (λ var. var < length (network_of net.now)) flips.now }
-        ensures { self.new ≡ fold (λ present var. fold (rechecked (network_of net.now)) present (around net.now var)) self.old flips.now }
+    // A node changes: of the wires from it the stable ones become unstable, and the others stable.
+    fn change_node(&mut self, net: &Net, node: u32)
+        requires counted { IsCounted net.now self.old }
+        requires node { node < length net.now.names }
+        ensures counted { IsCounted net.now self.new }
+        ensures input { self.new.input.items ≡ self.old.input.items }
+        ensures state { self.new.state.items ≡ slice_set self.old.state.items node (not (bit_at self.old.state.items node)) }
+        ensures unstable { self.new.unstable ≡ self.old.unstable }
     {
-        for var in flips {
-            self.recheck_around(net, *var);
-        }
+        let wires = net.fan_out(node).len() as u32;
+        self.state[node as usize] = !self.state[node as usize];
+        self.unstable_wires[node as usize] = wires - self.unstable_wires[node as usize];
     }
 
-    // Checks a variable and those that read it: the wires from a node, the gate of a wire.
-    fn recheck_around(&mut self, net: &Net, var: u32)
-        requires fits { Fits net.now self.old }
+    // A wire changes: its gate has one more pin at 1, or one less, and its source one more unstable wire, or one less.
+    fn change_wire(&mut self, net: &Net, wire: u32, gate: u32, source: u32)
+        requires counted { IsCounted net.now self.old }
+        requires into { IsWireInto (network_of net.now) gate wire }
+        requires from { driver_at (network_of net.now) wire ≡ Source source }
+        requires gate { gate < length net.now.names }
+        requires source { source < length net.now.names }
+        requires wire { wire < length (network_of net.now) }
+        ensures counted { IsCounted net.now self.new }
+        ensures input { self.new.input.items ≡ self.old.input.items }
+        ensures state { self.new.state.items ≡ slice_set self.old.state.items wire (not (bit_at self.old.state.items wire)) }
+        ensures unstable { self.new.unstable ≡ self.old.unstable }
+    {
+        let value = !self.state[wire as usize];
+        let unstable = value != self.state[source as usize];
+        self.state[wire as usize] = value;
+        self.ones[gate as usize] = counted(self.ones[gate as usize], value);
+        self.unstable_wires[source as usize] = counted(
+            self.unstable_wires[source as usize],
+            unstable,
+        );
+    }
+
+    // The excitation of a variable: of a gate by its count of ones.
+    fn excited(&self, net: &Net, var: u32) -> bool
+        requires counted { IsCounted net.now self.now }
         requires var { var < length (network_of net.now) }
-        ensures { self.new ≡ fold (rechecked (network_of net.now)) self.old (around net.now var) }
+        ensures { result ≡ excitation (network_of net.now) self.now.input.items self.now.state.items var }
     {
-        self.recheck(net, var);
-        self.recheck_each(net, net.readers(var));
-    }
-
-    // Checks each of the listed variables.
-    fn recheck_each(&mut self, net: &Net, list: &[u32])
-        requires fits { Fits net.now self.old }
-        requires inside { All (λ var. var < length (network_of net.now)) list.now }
-        ensures { self.new ≡ fold (rechecked (network_of net.now)) self.old list.now }
-    {
-        for var in list {
-            self.recheck(net, *var);
+        match kind_at(net, var) {
+            VarKind::Input { number } => self.input[number as usize],
+            VarKind::Gate { kind } => {
+                let (_, pins) = net.wires_in(var);
+                value_of_ones(kind, self.ones[var as usize], pins)
+            }
+            VarKind::Wire { source, .. } => self.state[source as usize],
         }
     }
 
-    // Checks whether a variable is unstable, and touches it where that is new.
-    fn recheck(&mut self, net: &Net, var: u32)
-        requires fits { Fits net.now self.old }
+    // How many variables are unstable among a variable and those that read it.
+    fn unstable_around(&self, net: &Net, var: u32) -> u32
+        requires counted { IsCounted net.now self.now }
         requires var { var < length (network_of net.now) }
-        ensures { self.new ≡ rechecked (network_of net.now) self.old var }
+        ensures { result ≡ count_by (is_unstable (network_of net.now) self.now.input.items self.now.state.items) (around net.now var) }
     {
-        let excited = net.excite(self.input.as_slice(), self.state.as_slice(), var);
-        let unstable = self.state[var as usize] != excited;
-        if unstable == self.unstable.contains(var) {
-            return;
+        match kind_at(net, var) {
+            VarKind::Wire { gate, .. } => {
+                one_if(self.is_unstable(net, var)) + one_if(self.is_unstable(net, gate))
+            }
+            VarKind::Input { .. } => self.unstable_from(net, var),
+            VarKind::Gate { .. } => self.unstable_from(net, var),
         }
-        self.touched.insert(var);
-        self.unstable.put(var, unstable);
     }
+
+    // How many variables are unstable among a node and the wires from it.
+    fn unstable_from(&self, net: &Net, node: u32) -> u32
+        requires counted { IsCounted net.now self.now }
+        requires node { node < length net.now.names }
+        ensures { result ≡ count_by (is_unstable (network_of net.now) self.now.input.items self.now.state.items) (node ∷ fan_out_of net.now node) }
+    {
+        one_if(self.is_unstable(net, node)) + self.unstable_wires[node as usize]
+    }
+
+    // How many variables are unstable, by a look at each.
+    fn count_unstable(&self, net: &Net) -> u32
+        requires { IsCounted net.now self.now }
+        ensures { result ≡ unstable_count (network_of net.now) self.now.input.items self.now.state.items }
+    {
+        let mut count = 0;
+        for var in 0..net.len() {
+            count += one_if(self.is_unstable(net, var));
+        }
+        count
+    }
+}
+
+// What a variable is.
+pub(crate) fn kind_at(net: &Net, var: u32) -> VarKind
+    requires { var < length (network_of net.now) }
+    ensures kind { IsKindAt net.now var result }
+    ensures circuit { IsCircuit net.now }
+    ensures bound { length (network_of net.now) ≤ 200000 }
+{
+    let _variables = net.len();
+    net.kind_of(var)
+}
+
+// 1 for what is counted, else 0.
+pub(crate) fn one_if(counts: bool) -> u32
+    ensures { result ≡ (if counts then 1 else 0) }
+{
+    if counts { 1 } else { 0 }
+}
+
+// A count after one thing more is counted, or one less.
+fn counted(count: u32, more: bool) -> u32
+    requires room { count < 4294967295 }
+    requires some { more ≡ false → 1 ≤ count }
+    ensures { result + (if more then 0 else 1) ≡ count + (if more then 1 else 0) }
+{
+    if more { count + 1 } else { count - 1 }
 }

@@ -9,9 +9,10 @@ ghost use Rattle.hz_gmw.specs.Replayed.{StandsFor, replayed_at, begun_at, steppe
 ghost use Rattle.hz_gmw.specs.ReplayFaults.{IsStepFault, IsCycleFault};
 ghost use Rattle.hz_gmw.specs.Presents.{taken_over};
 
-use crate::least::{least_differing, least_listed, least_outside, least_repeated};
+use crate::least::{least_differing, least_repeated};
 use crate::present::Present;
 use crate::variable_set::{VariableSet, insert_each};
+use crate::watch::Watch;
 use crate::{CycleFault, StepFault};
 use hz_core::Memory;
 use hz_net::Net;
@@ -21,16 +22,18 @@ use std::marker::Model;
 /// Replays runs of the general multiple-winner relation (Brzozowski and Seger) on a network, step by step, and says of the
 /// states since a mark whether they are a nontransient cycle.
 ///
-/// Numbers of variables are those of the network. The unstable variables are kept while steps are made: a step costs the
-/// variables that it changes and those that read them, a mark or the end of a cycle what changed since the mark and what
-/// is unstable; none of them costs the whole network. `begin` does: it compares each input and each variable. Of many runs
-/// from one state the first begins there and each further one restarts, which costs what the run before it changed. Only
-/// `new` takes memory.
+/// Numbers of variables are those of the network. A step costs the variables that it changes, whatever their fan-out, a
+/// mark or the end of a cycle what changed since the mark, and a look at a variable or at the number of unstable ones takes
+/// constant time. Three calls cost the whole network: `new`; `begin`, which compares each input and each variable; and a
+/// `close` that is refused for an unstable variable, which it has to find. Of many runs from one state the first begins
+/// there and each further one restarts, which costs what the run before it changed. Only `new` takes memory.
 #[derive(Debug, Drop)]
 pub struct Replay<'n> {
     net: &'n Net,
     present: Present,
+    // The marked state, what happened since the mark, and whether a step was made since.
     marked: Vec<bool>,
+    watch: Watch,
     stepped: bool,
     // The state in which it began, and the variables that changed since.
     begun: Vec<bool>,
@@ -57,36 +60,22 @@ impl<'n> Replay<'n> {
         ensures at { IfOk result (λ replay. replay ≡ begun_at net.now (replicate net.now.inputs false) (replicate (length (network_of net.now)) false)) }
         ensures stands { IfOk result (λ replay. StandsFor replay []) }
     {
-        let inputs = net.circuit().inputs() as usize;
         let variables = net.len();
-        let Ok(input) = vec![in alloc; false; inputs] else {
-            return Err(Memory);
-        };
-        let Ok(state) = vec![in alloc; false; variables as usize] else {
-            return Err(Memory);
-        };
+        let present = Present::new(alloc, net)?;
         let Ok(marked) = vec![in alloc; false; variables as usize] else {
             return Err(Memory);
         };
+        let watch = Watch::new(alloc, net)?;
         let Ok(begun) = vec![in alloc; false; variables as usize] else {
             return Err(Memory);
         };
-        let unstable = VariableSet::new(alloc, variables)?;
-        let touched = VariableSet::new(alloc, variables)?;
         let moved = VariableSet::new(alloc, variables)?;
         let named = VariableSet::new(alloc, variables)?;
-        let mut present = Present {
-            input,
-            state,
-            unstable,
-            touched,
-        };
-        present.recheck_all(net);
-        present.touched.clear();
         Ok(Replay {
             net,
             present,
             marked,
+            watch,
             stepped: false,
             begun,
             moved,
@@ -95,7 +84,7 @@ impl<'n> Replay<'n> {
     }
 
     /// Sets the external input and the state, one bit for each input and each variable, and marks the state, with no step
-    /// since. Only what differs from what the replayer held is checked anew.
+    /// since.
     pub fn begin(&mut self, input: &[bool], state: &[bool])
         requires input { length input.now ≡ self.old.circuit.inputs }
         requires state { length state.now ≡ length (network_of self.old.circuit) }
@@ -105,6 +94,7 @@ impl<'n> Replay<'n> {
         self.present.turn_input(self.net, input);
         self.present.turn_to(self.net, state);
         self.begun.as_mut_slice().copy_from_slice(state);
+        self.marked.as_mut_slice().copy_from_slice(state);
         self.moved.clear();
         self.mark();
     }
@@ -117,6 +107,7 @@ impl<'n> Replay<'n> {
     {
         self.present
             .turn_back(self.net, self.moved.members(), self.begun.as_slice());
+        insert_each(&mut self.watch.changed, self.moved.members());
         self.moved.clear();
         self.mark();
     }
@@ -127,11 +118,11 @@ impl<'n> Replay<'n> {
         ensures stands { StandsFor self.new [] }
     {
         take_over(
-            self.present.touched.members(),
+            self.watch.changed.members(),
             self.present.state.as_slice(),
             self.marked.as_mut_slice(),
         );
-        self.present.touched.clear();
+        self.watch.clear();
         self.stepped = false;
     }
 
@@ -147,6 +138,7 @@ impl<'n> Replay<'n> {
         if let Some(fault) = self.step_fault(flips) {
             return Err(fault);
         }
+        self.watch.note(self.net, &self.present, flips);
         self.present.advance(self.net, flips);
         insert_each(&mut self.moved, flips);
         self.stepped = true;
@@ -180,14 +172,14 @@ impl<'n> Replay<'n> {
         requires { var < length (network_of self.now.circuit) }
         ensures { IsTrue result ↔ IsUnstable (network_of self.now.circuit) self.now.input self.now.state var }
     {
-        self.present.unstable.contains(var)
+        self.present.is_unstable(self.net, var)
     }
 
     /// How many variables are unstable in the present state.
     pub fn unstable_count(&self) -> u32
         ensures { result ≡ unstable_count (network_of self.now.circuit) self.now.input self.now.state }
     {
-        self.present.unstable.len()
+        self.present.unstable
     }
 
     // Why the listed variables are no step, if they are none.
@@ -202,7 +194,7 @@ impl<'n> Replay<'n> {
         if let Some(var) = least_repeated(flips, &mut self.named) {
             return Some(StepFault::Repeated { var });
         }
-        if let Some(var) = least_outside(flips, &self.present.unstable) {
+        if let Some(var) = self.present.least_stable(self.net, flips) {
             return Some(StepFault::Stable { var });
         }
         None
@@ -227,29 +219,37 @@ impl<'n> Replay<'n> {
         Some(CycleFault::NotStable { var })
     }
 
-    // The least variable that has not the value that it had at the mark. What was not touched has it.
+    // The least variable that has not the value that it had at the mark. What did not change has it.
     fn least_moved(&self) -> Option<u32>
         ensures { IsLeastOf (λ i. bit_at self.now.state i ≢ bit_at self.now.marked i) result }
     {
         least_differing(
-            self.present.touched.members(),
+            self.watch.changed.members(),
             self.present.state.as_slice(),
             self.marked.as_slice(),
         )
     }
 
-    // The least unstable variable.
+    // The least unstable variable. The variables are searched only if some are unstable.
     fn least_unstable(&self) -> Option<u32>
         ensures { IsLeastOf (λ i. (i < length (network_of self.now.circuit)) × IsUnstable (network_of self.now.circuit) self.now.input self.now.state i) result }
     {
-        least_listed(self.present.unstable.members())
+        if self.present.unstable == 0 {
+            return None;
+        }
+        for var in 0..self.net.len() {
+            if self.present.is_unstable(self.net, var) {
+                return Some(var);
+            }
+        }
+        None
     }
 
-    // The least watched variable: one that is unstable, and was not touched since the mark.
+    // The least watched variable.
     fn least_watched(&self) -> Option<u32>
         ensures { IsLeastOf (λ i. (i < length (network_of self.now.circuit)) × IsTrue (bit_at self.now.watched i)) result }
     {
-        least_outside(self.present.unstable.members(), &self.present.touched)
+        self.watch.least(self.net, &self.present)
     }
 }
 

@@ -1,5 +1,5 @@
 //! Standard output: the trusted edge.
-ghost use Rattle.std.specs.Prelude.{◌≡◌, MatchResult};
+ghost use Rattle.std.specs.Prelude.{◌≡◌, ◌+◌, ◌≤◌, length, MatchResult};
 ghost use Rattle.hz_outside.specs.Counts.{raised};
 
 use super::fault::PutFault;
@@ -7,28 +7,79 @@ use super::sink::Sink;
 use std::io::Print;
 use std::marker::Model;
 
-/// Standard output, without a buffer. It tells nothing of what was written, and is seen as its count
-/// of faults.
+/// How many bytes are gathered before they are written.
+const GATHERED: usize = 65_536;
+
+/// Standard output. It gathers pieces, so that a text of many lines takes few writes, and is seen as its count of faults. It
+/// tells nothing of what was written.
+///
+/// What was gathered last is written by [`flush`](StdSink::flush), which the caller must not leave out.
 #[derive(Drop)]
 pub struct StdSink<'r, R: Print> {
     rt: &'r R,
+    // What was put and not yet written: the first bytes of the buffer.
+    buffer: [u8; GATHERED],
+    held: usize,
     faults: u64,
 }
 
 impl<'r, R: Print> Model for StdSink<'r, R> {
-    ghost use Rattle.std.specs.Prelude.{ℕ};
+    ghost use Rattle.std.specs.Prelude.{ℕ, ◌≤◌};
+    ghost use Rattle.hz_outside.specs.declared.std_sink.TheConstants.{GATHERED};
 
     ghost Value = { ℕ };
 
     ghost view = { λ sink. sink.faults };
+
+    ghost invariant = { λ sink. sink.held ≤ GATHERED };
 }
 
 impl<'r, R: Print> StdSink<'r, R> {
-    /// What the runtime prints to.
+    /// What the runtime prints to. Nothing was put so far.
     pub fn new(rt: &'r R) -> StdSink<'r, R>
         ensures { result ≡ 0 }
     {
-        StdSink { rt, faults: 0 }
+        StdSink {
+            rt,
+            buffer: [0; GATHERED],
+            held: 0,
+            faults: 0,
+        }
+    }
+
+    /// Writes what was gathered, by as many writes as that takes. The count rises at an error of a write and at a write that
+    /// takes nothing, and at nothing else. What was gathered is then dropped.
+    pub fn flush(&mut self) -> Result<(), PutFault>
+        ensures counts { MatchResult result
+            (λ _. self.new ≡ self.old)
+            (λ fault. (fault ≡ PutFault.Failed) × (self.new ≡ raised self.old)) }
+    {
+        let written = write_all(self.rt, &self.buffer[..self.held]);
+        self.held = 0;
+        self.note(written)
+    }
+
+    // Writes a piece that is not gathered.
+    fn write(&mut self, piece: &[u8]) -> Result<(), PutFault>
+        ensures counts { MatchResult result
+            (λ _. self.new ≡ self.old)
+            (λ fault. (fault ≡ PutFault.Failed) × (self.new ≡ raised self.old)) }
+    {
+        let written = write_all(self.rt, piece);
+        self.note(written)
+    }
+
+    // Counts a write that failed.
+    fn note(&mut self, written: bool) -> Result<(), PutFault>
+        ensures counts { MatchResult result
+            (λ _. self.new ≡ self.old)
+            (λ fault. (fault ≡ PutFault.Failed) × (self.new ≡ raised self.old)) }
+    {
+        if written {
+            return Ok(());
+        }
+        self.faults = self.faults.saturating_add(1);
+        Err(PutFault::Failed)
     }
 }
 
@@ -39,18 +90,23 @@ impl<'r, R: Print> Sink for StdSink<'r, R> {
 
     ghost faults = { λ sink. sink };
 
-    /// Writes the whole piece, by as many writes as that takes. The count rises at each error of a
-    /// write and at each write that takes nothing, and at nothing else.
+    /// Gathers the piece. If there is no room for it, what was gathered is written first, and a piece for which there is still
+    /// no room is written at once. The count rises at an error of a write and at a write that takes nothing, and at nothing else.
     fn put(&mut self, piece: &[u8]) -> Result<(), PutFault>
         ensures counts { MatchResult result
             (λ _. self.new ≡ self.old)
             (λ fault. (fault ≡ PutFault.Failed) × (self.new ≡ raised self.old)) }
     {
-        if write_all(self.rt, piece) {
-            return Ok(());
+        if piece.len() > GATHERED - self.held {
+            self.flush()?;
         }
-        self.faults = self.faults.saturating_add(1);
-        Err(PutFault::Failed)
+        if piece.len() > GATHERED - self.held {
+            return self.write(piece);
+        }
+        let end = self.held + piece.len();
+        self.buffer[self.held..end].copy_from_slice(piece);
+        self.held = end;
+        Ok(())
     }
 }
 

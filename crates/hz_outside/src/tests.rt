@@ -119,11 +119,13 @@ impl Print for Trickle {
     }
 }
 
-/// The real output takes a piece. One that takes a few bytes at a time is given every byte, one that
-/// takes nothing or is full is a fault.
+/// The real output takes a piece. One that takes a few bytes at a time is given every byte once it is flushed, one that takes
+/// nothing or is full is a fault.
 #[test]
 fn standard_output(rt: HostRuntime) -> Result<(), Fail> {
-    assert_eq!(rt; StdSink::new(&rt).put(b"a piece\n"), Ok(()));
+    let mut real = StdSink::new(&rt);
+    assert_eq!(rt; real.put(b"a piece\n"), Ok(()));
+    assert_eq!(rt; real.flush(), Ok(()));
     let rows = [
         (1, 100, Ok(()), "a piece\n"),
         (3, 8, Ok(()), "a piece\n"),
@@ -138,8 +140,53 @@ fn standard_output(rt: HostRuntime) -> Result<(), Fail> {
             room,
             taken,
         };
-        assert_eq!(rt; StdSink::new(&output).put(b"a piece\n"), answer);
+        let mut sink = StdSink::new(&output);
+        assert_eq!(rt; sink.put(b"a "), Ok(()));
+        assert_eq!(rt; sink.put(b"piece\n"), Ok(()));
+        assert_eq!(rt; sink.flush(), answer);
+        assert_eq!(rt; sink.flush(), Ok(()));
         assert_eq!(rt; output.taken.into_inner().as_slice(), bytes.as_bytes());
     }
+    Ok(())
+}
+
+/// Pieces that fill what is gathered, one that is longer, and more behind it: every byte comes, in order, and a full output is
+/// a fault of the put that finds it so.
+#[test]
+fn gathered_output(rt: HostRuntime) -> Result<(), Fail> {
+    let mut whole = Vec::new(rt.alloc());
+    let output = Trickle {
+        at_once: 100_000,
+        room: 1_000_000,
+        taken: RefCell::new(Vec::new(rt.alloc())),
+    };
+    let mut sink = StdSink::new(&output);
+    let rows = [
+        (1u8, 1usize),
+        (2, 40_000),
+        (3, 30_000),
+        (4, 65_536),
+        (5, 65_537),
+        (6, 70_000),
+        (7, 1),
+    ];
+    for (byte, length) in rows {
+        let piece = vec![in rt.alloc(); byte; length]?;
+        assert_eq!(rt; sink.put(piece.as_slice()), Ok(()));
+        whole.extend_from_slice(piece.as_slice())?;
+    }
+    assert_eq!(rt; sink.flush(), Ok(()));
+    assert_eq!(rt; output.taken.into_inner().as_slice(), whole.as_slice());
+
+    let full = Trickle {
+        at_once: 100_000,
+        room: 50_000,
+        taken: RefCell::new(Vec::new(rt.alloc())),
+    };
+    let mut sink = StdSink::new(&full);
+    let piece = vec![in rt.alloc(); 8u8; 40_000]?;
+    assert_eq!(rt; sink.put(piece.as_slice()), Ok(()));
+    assert_eq!(rt; sink.put(piece.as_slice()), Ok(()));
+    assert_eq!(rt; sink.put(piece.as_slice()), Err(PutFault::Failed));
     Ok(())
 }

@@ -27,7 +27,7 @@ pub record IsAsked (netlist : Netlist) (input start : List Bool) (a : List Tri) 
   pub steps : length (network_of netlist) ≤ run.spare_steps
 
 module _ (netlist : Netlist) (input start : List Bool) (a : List Tri) (ranks : List ℕ) (run : Recorded) (asked : IsAsked netlist input start a ranks run) where
-  ranked_rounds : AreRanks (algorithm_a (network_of netlist) input start) (algorithm_a (network_of netlist) input start asked.result.0) ranks
+  pub ranked_rounds : AreRanks (algorithm_a (network_of netlist) input start) (algorithm_a (network_of netlist) input start asked.result.0) ranks
   ranked_rounds = subst (λ (values : List Tri). AreRanks (algorithm_a (network_of netlist) input start) values ranks) asked.result.2 asked.ranked
 
   pub asked-turns : AreTurns (network_of netlist) input start ranks

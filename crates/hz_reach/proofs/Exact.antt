@@ -1,18 +1,16 @@
 -- Algorithm A is exact: from a start that is stable under some input there is a spread run, and so each X of the result
 -- has both values in states that are reached.
-use Rattle.std.proofs.Common.{◌≡◌, ◌≢◌, ℕ, zero, suc, ◌+◌, ◌-◌, ◌<◌, ◌≤◌, ◌⊎◌, Bool, true, false, not, cond, ◌&&◌, List, [], ◌∷◌, length, map, refl, sym, ap, ◌∙◌, subst, arith, inl, inr, eqb, IsTrue}
-use Rattle.std.specs.List.{range_with_len}
-use Rattle.std.proofs.lemmas.Bool.{cases_Bool, cases_eq, cases_lt, both_ways, and_parts, and_from, not-true, not_from_false, eqb-false, ne_eqb}
-use Rattle.std.proofs.lemmas.List.FromFn.{length-map-range_with_len, get_or-map-range_with_len}
+use Rattle.std.proofs.Common.{◌≡◌, ◌≢◌, ℕ, zero, suc, ◌+◌, ◌-◌, ◌<◌, ◌≤◌, ◌⊎◌, Bool, true, false, not, ◌&&◌, List, [], ◌∷◌, length, refl, sym, ap, ◌∙◌, subst, arith, inl, inr, eqb, IsTrue}
+use Rattle.std.proofs.lemmas.Bool.{cases_eq, cases_lt, and_parts, and_from, not-true, not_from_false, eqb-false, ne_eqb}
 use Rattle.hz_core.specs.declared.tri.Tri.{Tri}
 use Rattle.hz_core.specs.declared.tri.Tri.TheVariants.{Zero, One, Unknown}
 use Rattle.hz_core.specs.declared.kind.Kind.{Kind}
-use Rattle.hz_core.specs.Ternary.{is_unknown, admits, IsJoinOf}
+use Rattle.hz_core.specs.Ternary.{admits, IsJoinOf}
 use Rattle.hz_core.specs.Netlist.{Netlist, IsCircuit}
 use Rattle.hz_core.proofs.Refinements.{get_or-Refines}
 use Rattle.hz_net.specs.Network.{Driver, External, Function, Source, driver_at, network_of, bit_at, value_at, IsStable}
 use Rattle.hz_net.specs.Reads.{IsWired}
-use Rattle.hz_net.specs.Passes.{algorithm_a, AreRounds, IsRank, AreRanks}
+use Rattle.hz_net.specs.Passes.{algorithm_a, AreRounds, AreRanks}
 use Rattle.hz_gmw.specs.Runs.{is_listed, end_of, IsReachable, JoinsTo}
 use Rattle.hz_gmw.proofs.CoverA.{covers}
 use Rattle.hz_reach.specs.Order.{key_at}
@@ -25,73 +23,7 @@ use Rattle.hz_reach.proofs.Turning.{changed, bit-changed, HadTurns, Also, change
 use Rattle.hz_reach.proofs.RankedTurns.{rank-late, ranked-unknown, ranked-turns}
 use Rattle.hz_net.proofs.Wired.{wired-network_of}
 use Rattle.hz_reach.proofs.Ended.{HasSpread, spread-rest}
-
--- Ranks of a sequence
-
--- the first number, up to a limit, that passes a test
-first_passing : (ℕ → Bool) → ℕ → ℕ
-first_passing test zero = 0
-first_passing test (suc limit) = cond (test 0) 0 (suc (first_passing (λ n. test (suc n)) limit))
-
-first_passing-there : (test : ℕ → Bool) (limit : ℕ) → test limit ≡ true → test (first_passing test limit) ≡ true
-unfolding first_passing
-first_passing-there test zero there = there
-first_passing-there test (suc limit) there =
-    elim (cases_Bool (test 0)) [
-      | inl now ↦ rw now now
-      | inr later ↦ rw later (first_passing-there (λ n. test (suc n)) limit there)
-    ]
-
-first_passing-least : (test : ℕ → Bool) (limit n : ℕ) → n < first_passing test limit → test n ≡ false
-unfolding first_passing
-first_passing-least test zero n less = absurd (omega (arith, less))
-first_passing-least test (suc limit) zero less =
-    elim (cases_Bool (test 0)) [
-      | inl now ↦ (let none : 0 < 0 = rw now at less in absurd (omega (arith, none)))
-      | inr later ↦ later
-    ]
-first_passing-least test (suc limit) (suc n) less =
-    elim (cases_Bool (test 0)) [
-      | inl now ↦ (let none : suc n < 0 = rw now at less in absurd (omega (arith, none)))
-      | inr later ↦ (
-          let more : suc n < suc (first_passing (λ m. test (suc m)) limit) = rw later at less in
-          first_passing-least (λ m. test (suc m)) limit n (omega (arith, more))
-          )
-    ]
-
-is-unknown : (value : Tri) → is_unknown value ≡ true → value ≡ Unknown
-is-unknown Zero e = cc
-is-unknown One e = cc
-is-unknown Unknown e = refl
-
-unknown-is : (value : Tri) → value ≡ Unknown → is_unknown value ≡ true
-unknown-is Zero e = cc
-unknown-is One e = cc
-unknown-is Unknown e = refl
-
-rank_of : (ℕ → List Tri) → ℕ → ℕ → ℕ
-rank_of sequence rounds i =
-    cond (is_unknown (value_at (sequence rounds) i)) (first_passing (λ round. is_unknown (value_at (sequence round) i)) rounds) 0
-
-rank_of-is : (sequence : ℕ → List Tri) (rounds i : ℕ) (value : Tri) → value_at (sequence rounds) i ≡ value → IsRank sequence i value (rank_of sequence rounds i)
-unfolding rank_of
-rank_of-is sequence rounds i Zero e = rw e refl
-rank_of-is sequence rounds i One e = rw e refl
-rank_of-is sequence rounds i Unknown e = record {
-  there = is-unknown _ (rw e (first_passing-there (λ round. is_unknown (value_at (sequence round) i)) rounds (unknown-is _ e)));
-  least = λ round less is. both_ways _ (first_passing-least (λ round. is_unknown (value_at (sequence round) i)) rounds round (rw e at less)) (unknown-is _ is);
-}
-
-ranks_of : (ℕ → List Tri) → ℕ → List ℕ
-ranks_of sequence rounds = map (rank_of sequence rounds) (range_with_len 0 (length (sequence rounds)))
-
--- every sequence has ranks
-ranks-exist : (sequence : ℕ → List Tri) (rounds : ℕ) → AreRanks sequence (sequence rounds) (ranks_of sequence rounds)
-unfolding ranks_of
-ranks-exist sequence rounds = record {
-  long = length-map-range_with_len (rank_of sequence rounds) 0 (length (sequence rounds));
-  each = λ i inside. subst (IsRank sequence i (value_at (sequence rounds) i)) (sym (get_or-map-range_with_len (rank_of sequence rounds) 0 (length (sequence rounds)) i i 0 inside (omega arith))) (rank_of-is sequence rounds i (value_at (sequence rounds) i) refl);
-}
+use Rattle.hz_reach.proofs.Rests.{ranks_of, ranks-exist}
 
 -- The run
 
@@ -118,7 +50,7 @@ wire-is (Function kind first pins) e = cc
 wire-is (Source source) e = (source, refl)
 
 -- the variables before a place in the order by rank and then by number
-abbrev IsBefore : List ℕ → ℕ → ℕ → ℕ → Type 0
+abbrev pub IsBefore : List ℕ → ℕ → ℕ → ℕ → Type 0
 IsBefore ranks rank number i = (key_at ranks i < rank) ⊎ ((key_at ranks i ≡ rank) × (i < number))
 
 module _ (net : List Driver) (input start : List Bool) (ranks : List ℕ) (wired : IsWired net) (turns : AreTurns net input start ranks) where
@@ -238,6 +170,11 @@ module _ (net : List Driver) (input start : List Bool) (ranks : List ℕ) (wired
               | inr same ↦ absurd (omega (arith, same.1))
             ]),
       )
+
+  -- the run in which all gates up to a rank have had their turn
+  pub turned-to : (limit : ℕ) → (steps : List (List ℕ)) × HadTurns net input start ranks (IsBefore ranks limit 0) (IsBefore ranks limit 0) steps
+  unfolding Until
+  turned-to limit = until-rank limit
 
   -- a run that changes each variable with a rank, where no rank is above a limit
   pub spread-exists : (limit : ℕ) → ((i : ℕ) → key_at ranks i ≢ 0 → key_at ranks i ≤ limit) → (steps : List (List ℕ)) × HasSpread net input start ranks steps

@@ -5,6 +5,7 @@ pub mod Turns
 pub mod Turning
 pub mod RankedTurns
 pub mod Ended
+pub mod Rests
 pub mod Exact
 pub mod Places
 pub mod SortLemmas
@@ -14,4 +15,5 @@ pub mod Rooms
 pub mod Asked
 pub mod Underway
 pub mod SpreadSteps
+pub mod SpreadRuns
 pub mod FlipCounts

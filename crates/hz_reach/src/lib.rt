@@ -8,10 +8,12 @@ ghost use Rattle.hz_net.specs.Passes.{algorithm_a, AreRounds};
 ghost use Rattle.hz_gmw.specs.Runs.{IsReachable, JoinsTo};
 
 mod counts;
+mod existence;
 mod scratch;
 mod spreading;
 
 pub use counts::{run_counts, run_ends, spread_flips};
+pub use existence::{passes_end, spread_runs_exist};
 pub use scratch::Scratch;
 pub use spreading::{mark_changed, spread_run};
 

@@ -1,46 +1,69 @@
 //! The lines of a change.
-ghost use Rattle.std.specs.Prelude.{◌≡◌, ◌<◌, length, All};
+ghost use Rattle.std.specs.Prelude.{◌≡◌, ◌<◌, ◌++◌, length, take, map, codes, All};
+ghost use Rattle.std.specs.List.{flat_map};
 ghost use Rattle.hz_net.specs.Network.{network_of};
 ghost use Rattle.hz_write.specs.Writer.{Writes};
-ghost use Rattle.hz_report.specs.Finding.{finding_of};
-ghost use Rattle.hz_report.specs.Report.{change_line, rounds_line, node_line, node_lines, runs_text, change_text};
-ghost use Rattle.hz_report.specs.Words.{tri_letter};
+ghost use Rattle.hz_write.specs.Writes.{newline};
+ghost use Rattle.hz_text.specs.Printed.{assignment_text};
+ghost use Rattle.hz_text.specs.RunPrinted.{spaced_word, all_listed, run_text_printed};
+ghost use Rattle.hz_desk.specs.Finding.{finding_of};
+ghost use Rattle.hz_report.specs.Report.{change_line, rounds_line, races_line, start_line, runs_of_finding, change_text, stopped_text};
 
-use crate::finding::Finding;
-use hz_core::Tri;
-use hz_gmw::Run;
+use crate::rows::write_rows;
+use crate::show::Show;
+use hz_desk::{Finding, Row};
 use hz_net::Net;
 use hz_outside::Sink;
-use hz_text::{bit_letter, write_assignments, write_end, write_run, write_states, write_variable};
+use hz_text::{write_assignments, write_bits, write_end, write_run, write_variable, write_version};
 use hz_write::Piece::{Number, Text};
 use hz_write::Writer;
 
-/// Gives what a change assigns, the rounds, for each node its value at the start, in A and in B, and the run as a run text.
+/// Gives what a change assigns, the rounds of Algorithms A and B, the line of each variable that is shown, the numbers of race
+/// states, and the three runs as a run text.
 ///
-/// Changes are counted from 1. The start has a value for each variable, and the input is the one after the change.
+/// Changes are counted from 1. The finding is that of the change.
 #[tactic(auto, using(hz_write::proofs::Writers::writes_then), unfolding(crate::specs::Report::change_text))]
 pub fn write_change<K: Sink>(
     writer: &mut Writer<'_, K>,
     net: &Net,
     number: u32,
     change: &[(u32, bool)],
-    start: &[bool],
-    input: &[bool],
     finding: &Finding,
+    show: Show,
 )
     requires change { All (λ pair. pair.0 < length net.now.names) change.now }
-    requires start { length start.now ≡ length (network_of net.now) }
-    requires input { length input.now ≡ net.now.inputs }
-    requires a { length finding.now.a.items ≡ length (network_of net.now) }
-    requires b { length finding.now.b.items ≡ length (network_of net.now) }
-    requires steps { All (All (λ var. var < length (network_of net.now))) finding.now.spread.steps }
+    requires rows { length finding.now.rows ≡ length (network_of net.now) }
+    requires input { length finding.now.input ≡ net.now.inputs }
+    requires spread { All (All (λ var. var < length (network_of net.now))) finding.now.spread.steps }
+    requires settle { All (All (λ var. var < length (network_of net.now))) finding.now.settle.steps }
+    requires cycle { All (All (λ var. var < length (network_of net.now))) finding.now.cycle.steps }
     ensures { Writes K.written K.faults
-        (change_text net.now number change.now start.now input.now (finding_of finding.now)) writer.old writer.new }
+        (change_text net.now show number change.now (finding_of finding.now)) writer.old writer.new }
 {
     write_assigned(writer, net, number, change);
-    write_rounds(writer, finding.rounds_a, finding.rounds_b);
-    write_nodes(writer, net, start, finding);
-    write_runs(writer, net, start, input, &finding.spread);
+    write_rounds(writer, finding);
+    write_rows(writer, net, finding.rows.as_slice(), show);
+    write_races(writer, finding);
+    write_runs(writer, net, finding);
+}
+
+/// Gives what a change assigns that is not made, and the variable that stops it.
+///
+/// Changes are counted from 1.
+#[tactic(auto, using(hz_write::proofs::Writers::writes_then), unfolding(crate::specs::Report::stopped_text))]
+pub fn write_stopped<K: Sink>(
+    writer: &mut Writer<'_, K>,
+    net: &Net,
+    number: u32,
+    change: &[(u32, bool)],
+    var: u32,
+)
+    requires change { All (λ pair. pair.0 < length net.now.names) change.now }
+    requires var { var < length (network_of net.now) }
+    ensures { Writes K.written K.faults (stopped_text net.now number change.now var) writer.old writer.new }
+{
+    write_assigned(writer, net, number, change);
+    write_stop(writer, net, var);
 }
 
 // Gives what a change assigns.
@@ -59,88 +82,83 @@ fn write_assigned<K: Sink>(
     writer.end();
 }
 
+// Gives the variable that stops a change.
+fn write_stop<K: Sink>(writer: &mut Writer<'_, K>, net: &Net, var: u32)
+    requires { var < length (network_of net.now) }
+    ensures { Writes K.written K.faults (codes "stopped" ++ spaced_word net.now var ++ newline) writer.old writer.new }
+{
+    writer.text(b"stopped ");
+    write_variable(writer, net, var);
+    writer.end();
+}
+
 // Gives the rounds of A and of B.
 #[tactic(auto, using(hz_write::proofs::Writers::writes_same), unfolding(crate::specs::Report::rounds_line))]
-fn write_rounds<K: Sink>(writer: &mut Writer<'_, K>, rounds_a: u32, rounds_b: u32)
-    ensures { Writes K.written K.faults (rounds_line rounds_a rounds_b) writer.old writer.new }
+pub(crate) fn write_rounds<K: Sink>(writer: &mut Writer<'_, K>, finding: &Finding)
+    ensures { Writes K.written K.faults (rounds_line (finding_of finding.now)) writer.old writer.new }
 {
     writer.line(&[
         Text(b"rounds A "),
-        Number(rounds_a),
+        Number(finding.rounds_a),
         Text(b" B "),
-        Number(rounds_b),
+        Number(finding.rounds_b),
     ]);
 }
 
-// Gives the line of each node.
-fn write_nodes<K: Sink>(writer: &mut Writer<'_, K>, net: &Net, start: &[bool], finding: &Finding)
-    requires start { length start.now ≡ length (network_of net.now) }
-    requires a { length finding.now.a.items ≡ length (network_of net.now) }
-    requires b { length finding.now.b.items ≡ length (network_of net.now) }
-    ensures { Writes K.written K.faults (node_lines net.now start.now (finding_of finding.now)) writer.old writer.new }
+// Gives how many race states each run has.
+#[tactic(auto, using(hz_write::proofs::Writers::writes_same), unfolding(crate::specs::Report::races_line))]
+fn write_races<K: Sink>(writer: &mut Writer<'_, K>, finding: &Finding)
+    ensures { Writes K.written K.faults (races_line (finding_of finding.now)) writer.old writer.new }
 {
-    let nodes = net.circuit().nodes();
-    for node in 0..nodes {
-        write_node(writer, net, start, finding, node);
-    }
-}
-
-// Gives a node with its value at the start, in A and in B.
-#[tactic(auto, using(hz_write::proofs::Writers::writes_then), unfolding(crate::specs::Report::node_line))]
-fn write_node<K: Sink>(
-    writer: &mut Writer<'_, K>,
-    net: &Net,
-    start: &[bool],
-    finding: &Finding,
-    node: u32,
-)
-    requires node { node < length (network_of net.now) }
-    requires start { length start.now ≡ length (network_of net.now) }
-    requires a { length finding.now.a.items ≡ length (network_of net.now) }
-    requires b { length finding.now.b.items ≡ length (network_of net.now) }
-    ensures { Writes K.written K.faults
-        (node_line net.now start.now (finding_of finding.now) node) writer.old writer.new }
-{
-    let index = node as usize;
-    write_variable(writer, net, node);
     writer.line(&[
-        Text(b" start "),
-        Text(bit_letter(start[index])),
-        Text(b" A "),
-        Text(tri_letter(finding.a[index])),
-        Text(b" B "),
-        Text(tri_letter(finding.b[index])),
+        Text(b"races spread "),
+        Number(finding.spread_races),
+        Text(b" settle "),
+        Number(finding.settle_races),
+        Text(b" cycle "),
+        Number(finding.cycle_races),
     ]);
 }
 
-// The letter of a ternary value.
-fn tri_letter(value: Tri) -> &'static [u8]
-    ensures { result.now ≡ tri_letter value }
+// Gives the run text: the start and the new input, the spread run, and the settle run with its cycle.
+fn write_runs<K: Sink>(writer: &mut Writer<'_, K>, net: &Net, finding: &Finding)
+    requires rows { length finding.now.rows ≡ length (network_of net.now) }
+    requires input { length finding.now.input ≡ net.now.inputs }
+    requires spread { All (All (λ var. var < length (network_of net.now))) finding.now.spread.steps }
+    requires settle { All (All (λ var. var < length (network_of net.now))) finding.now.settle.steps }
+    requires cycle { All (All (λ var. var < length (network_of net.now))) finding.now.cycle.steps }
+    ensures { Writes K.written K.faults
+        (run_text_printed net.now (runs_of_finding net.now (finding_of finding.now))) writer.old writer.new }
 {
-    match value {
-        Tri::Zero => b"0",
-        Tri::One => b"1",
-        Tri::Unknown => b"X",
-    }
+    write_version(writer, net.circuit());
+    write_start(writer, net, finding.rows.as_slice());
+    write_bits(writer, net.circuit(), b"input", finding.input.as_slice());
+    write_run(writer, net, &finding.spread, None);
+    write_run(writer, net, &finding.settle, Some(&finding.cycle));
+    write_end(writer);
 }
 
-// Gives a run as a run text: the start, of which the nodes' values are written, the input under which the run stands, and
-// the steps.
-fn write_runs<K: Sink>(
-    writer: &mut Writer<'_, K>,
-    net: &Net,
-    start: &[bool],
-    input: &[bool],
-    run: &Run,
-)
-    requires start { length start.now ≡ length (network_of net.now) }
-    requires input { length input.now ≡ net.now.inputs }
-    requires steps { All (All (λ var. var < length (network_of net.now))) run.now.steps }
-    ensures { Writes K.written K.faults (runs_text net.now start.now input.now run.now.steps) writer.old writer.new }
+// Gives the value of each node at the start.
+#[tactic(auto, using(hz_write::proofs::Writers::writes_then), unfolding(crate::specs::Report::start_line, hz_text::specs::Printed::statement_text))]
+pub(crate) fn write_start<K: Sink>(writer: &mut Writer<'_, K>, net: &Net, rows: &[Row])
+    requires { length rows.now ≡ length (network_of net.now) }
+    ensures { Writes K.written K.faults (start_line net.now (map (λ row. row.start) rows.now)) writer.old writer.new }
+{
+    writer.text(b"start");
+    write_values(writer, net, rows);
+    writer.end();
+}
+
+// Gives each node with its value at the start.
+fn write_values<K: Sink>(writer: &mut Writer<'_, K>, net: &Net, rows: &[Row])
+    requires { length rows.now ≡ length (network_of net.now) }
+    ensures { Writes K.written K.faults
+        (flat_map (assignment_text net.now) (all_listed (take (length net.now.names) (map (λ row. row.start) rows.now))))
+        writer.old writer.new }
 {
     let circuit = net.circuit();
-    let nodes = circuit.nodes() as usize;
-    write_states(writer, circuit, &start[..nodes], input);
-    write_run(writer, net, run, None);
-    write_end(writer);
+    let nodes = circuit.nodes();
+    for node in 0..nodes {
+        write_assignments(writer, circuit, &[(node, rows[node as usize].start)]);
+    }
 }

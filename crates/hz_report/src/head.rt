@@ -1,27 +1,34 @@
 //! The lines that come once.
-ghost use Rattle.std.specs.Prelude.{◌≡◌, length};
+ghost use Rattle.std.specs.Prelude.{◌≡◌, ◌<◌, length, All};
+ghost use Rattle.std.specs.List.{flat_map};
 ghost use Rattle.hz_net.specs.Network.{network_of};
+ghost use Rattle.hz_free.specs.FreePart.{IsFreePart};
 ghost use Rattle.hz_write.specs.Writer.{Writes};
-ghost use Rattle.hz_report.specs.Report.{netlist_line, start_line, head_text};
+ghost use Rattle.hz_text.specs.RunPrinted.{spaced_word};
+ghost use Rattle.hz_report.specs.Report.{netlist_line, feedback_line, start_line, head_text};
 
+use hz_free::Free;
 use hz_net::Net;
 use hz_outside::Sink;
-use hz_text::write_bits;
+use hz_text::{write_bits, write_variable};
 use hz_write::Piece::{Number, Text};
 use hz_write::Writer;
 
-/// Gives the size of the network, and the start: a value for each variable, of which the nodes' are written.
+/// Gives the size of the network, a line for each of its feedback cycles, and the start: a value for each variable, of which
+/// the nodes' are written.
 #[tactic(auto, using(hz_write::proofs::Writers::writes_then), unfolding(crate::specs::Report::head_text))]
-pub fn write_head<K: Sink>(writer: &mut Writer<'_, K>, net: &Net, start: &[bool])
-    requires { length start.now ≡ length (network_of net.now) }
-    ensures { Writes K.written K.faults (head_text net.now start.now) writer.old writer.new }
+pub fn write_head<K: Sink>(writer: &mut Writer<'_, K>, net: &Net, free: &Free, start: &[bool])
+    requires part { IsFreePart net.now free.now }
+    requires start { length start.now ≡ length (network_of net.now) }
+    ensures { Writes K.written K.faults (head_text net.now free.now.cycles start.now) writer.old writer.new }
 {
     write_netlist(writer, net);
+    write_feedback(writer, net, free);
     write_start(writer, net, start);
 }
 
 // Gives how many inputs, gates, wires and variables there are.
-fn write_netlist<K: Sink>(writer: &mut Writer<'_, K>, net: &Net)
+pub(crate) fn write_netlist<K: Sink>(writer: &mut Writer<'_, K>, net: &Net)
     ensures { Writes K.written K.faults (netlist_line net.now) writer.old writer.new }
 {
     let circuit = net.circuit();
@@ -38,6 +45,38 @@ fn write_netlist<K: Sink>(writer: &mut Writer<'_, K>, net: &Net)
         Text(b" variables "),
         Number(variables),
     ]);
+}
+
+// Gives a line for each feedback cycle.
+fn write_feedback<K: Sink>(writer: &mut Writer<'_, K>, net: &Net, free: &Free)
+    requires { IsFreePart net.now free.now }
+    ensures { Writes K.written K.faults (flat_map (feedback_line net.now) free.now.cycles) writer.old writer.new }
+{
+    for number in 0..free.cycles() {
+        write_cycle(writer, net, free.cycle(number));
+    }
+}
+
+// Gives the line of a feedback cycle.
+#[tactic(auto, using(hz_write::proofs::Writers::writes_then), unfolding(crate::specs::Report::feedback_line))]
+fn write_cycle<K: Sink>(writer: &mut Writer<'_, K>, net: &Net, cycle: &[u32])
+    requires { All (λ var. var < length (network_of net.now)) cycle.now }
+    ensures { Writes K.written K.faults (feedback_line net.now cycle.now) writer.old writer.new }
+{
+    writer.text(b"feedback");
+    write_variables(writer, net, cycle);
+    writer.end();
+}
+
+// Gives the words of variables, each after a space.
+fn write_variables<K: Sink>(writer: &mut Writer<'_, K>, net: &Net, variables: &[u32])
+    requires { All (λ var. var < length (network_of net.now)) variables.now }
+    ensures { Writes K.written K.faults (flat_map (spaced_word net.now) variables.now) writer.old writer.new }
+{
+    for var in variables {
+        writer.text(b" ");
+        write_variable(writer, net, *var);
+    }
 }
 
 // Gives the value of each node at the start.

@@ -1,20 +1,26 @@
-//! The text that `analyse` writes: the lines of a circuit with its start, and those of each change.
+//! The text that `analyse` writes: the lines of a circuit with its start, and those of each change; and the summary of one
+//! change, which `demo` writes.
 //!
 //! The lines are given to a [`Writer`](hz_write::Writer). No call here takes memory.
 //!
 //! | Module | What lives in it |
 //! |---|---|
-//! | `head` | the lines that come once: the size of the network, and the start |
-//! | `change` | the lines of a change: what changes, the rounds, each node's values, and the run |
-//! | `finding` | what is found of one change |
+//! | `head` | the lines that come once: the size of the network, its feedback cycles, and the start |
+//! | `change` | the lines of a change: what it assigns, the rounds, the race states and the run text; or where it stops |
+//! | `rows` | the lines of variables: their values, their number of changes and their class |
+//! | `show` | [`Show`]: which variables have a line |
+//! | `summary` | the summary of a change: how many variables have each class, and the size of its runs |
 #![tactic(auto, using(hz_write::proofs::Writers::writes_then, hz_write::proofs::Writers::writes_nothing))]
 
 mod change;
-mod finding;
 mod head;
+mod rows;
+mod show;
+mod summary;
 #[cfg(test)]
 mod tests;
 
-pub use change::write_change;
-pub use finding::Finding;
+pub use change::{write_change, write_stopped};
 pub use head::write_head;
+pub use show::Show;
+pub use summary::write_summary;

@@ -1,103 +1,116 @@
-//! The whole text of a circuit without nodes and of an inverter; texts of others are tested where whole jobs are.
-ghost use Rattle.std.specs.Prelude.{◌≡◌, length, vec_len, IfOk};
+//! What lines look like, which no clause says: each form of line but those that need a whole finding. Whole texts are tested
+//! where whole jobs are.
+ghost use Rattle.std.specs.Prelude.{◌≡◌, length, IfOk};
 ghost use Rattle.hz_net.specs.Network.{network_of};
 
-use super::{Finding, write_change, write_head};
+use super::{Show, write_head, write_stopped};
+use crate::change::write_start;
+use crate::rows::{write_row, write_rows};
+use crate::summary::{write_classes, write_size};
 use hz_core::Tri::{One, Unknown, Zero};
-use hz_core::{Circuit, Kind, Memory};
+use hz_core::{Circuit, Kind, Tri};
+use hz_desk::{Class, Row};
+use hz_free::Free;
 use hz_gmw::Run;
 use hz_net::Net;
 use hz_outside::{MemSink, PlainSink, PutFault};
+use hz_word::Count;
+use hz_word::Count::{Exact, Many};
 use hz_write::Writer;
-use std::alloc::{AllocError, Global};
+use std::alloc::Global;
 use std::test::Fail;
 
-// A value for each variable: the nodes' values, and the same one for each wire.
-fn values<T: Copy>(alloc: Global, net: &Net, nodes: &[T], wires: T) -> Result<Vec<T>, AllocError>
-    ensures { IfOk result (λ all. vec_len all ≡ length (network_of net.now)) }
+// The network of an input x and of the gate y = OR(x, y), which reads itself.
+fn network(alloc: Global) -> Result<Net, Fail>
+    ensures nodes { IfOk result (λ net. length net.names ≡ 2) }
+    ensures variables { IfOk result (λ net. length (network_of net) ≡ 4) }
 {
-    let mut all = vec![in alloc; wires; net.len() as usize]?;
-    for (i, value) in nodes.iter().enumerate() {
-        if i < all.len() {
-            all[i] = *value;
-        }
-    }
-    Ok(all)
-}
-
-// The network of a circuit that has so many nodes.
-fn network(alloc: Global, circuit: Circuit, nodes: u32) -> Result<Net, Fail>
-    ensures { IfOk result (λ net. length net.names ≡ nodes) }
-{
-    if circuit.nodes() != nodes || !circuit.whole() {
+    let mut circuit = Circuit::new(alloc);
+    let input = circuit.add_input(b"x")?;
+    let gate = circuit.add_gate(b"y", Kind::Or)?;
+    circuit.connect(gate, input)?;
+    circuit.connect(gate, gate)?;
+    if circuit.nodes() != 2 || !circuit.whole() {
         return Err("not the circuit that was meant".into());
     }
-    Ok(Net::build(alloc, circuit)?)
-}
-
-#[test]
-fn a_circuit_without_nodes(rt: HostRuntime) -> Result<(), Fail> {
-    let net = network(rt.alloc(), Circuit::new(rt.alloc()), 0)?;
-    let start = values(rt.alloc(), &net, &[], false)?;
-    let finding = Finding {
-        a: values(rt.alloc(), &net, &[], Zero)?,
-        rounds_a: 1,
-        b: values(rt.alloc(), &net, &[], Zero)?,
-        rounds_b: 1,
-        spread: Run::new(rt.alloc()),
-    };
-
-    let mut failing = MemSink::new(rt.alloc());
-    failing.fail(4, 3)?;
-    let mut writer = Writer::new(&mut failing);
-    write_head(&mut writer, &net, &start);
-    write_change(&mut writer, &net, 1, &[], &start, &[], &finding);
-    assert_eq!(rt; writer.finish(), Err(PutFault::Failed));
-    let text = b"netlist inputs 0 gates 0 wires 0 variables 0\nstart\nchange 1\nrou";
-    assert_eq!(rt; failing.bytes(), text.as_slice());
-    Ok(())
-}
-
-// An input and the gate that inverts it.
-fn inverter(alloc: Global) -> Result<Circuit, Memory> {
-    let mut circuit = Circuit::new(alloc);
-    let input = circuit.add_input(b"a")?;
-    let gate = circuit.add_gate(b"y", Kind::Not)?;
-    circuit.connect(gate, input)?;
-    Ok(circuit)
-}
-
-#[test]
-fn an_inverter(rt: HostRuntime) -> Result<(), Fail> {
-    let net = network(rt.alloc(), inverter(rt.alloc())?, 2)?;
-    if net.circuit().inputs() != 1 {
-        return Err("not one input".into());
+    let net = Net::build(alloc, circuit)?;
+    if net.len() != 4 {
+        return Err("not four variables".into());
     }
-    let start = values(rt.alloc(), &net, &[false, true], false)?;
-    let finding = Finding {
-        a: values(rt.alloc(), &net, &[Unknown, Unknown], Unknown)?,
-        rounds_a: 4,
-        b: values(rt.alloc(), &net, &[One, Zero], One)?,
-        rounds_b: 4,
-        spread: Run::new(rt.alloc()),
-    };
+    Ok(net)
+}
+
+// A row that is 0 at the start.
+fn row(a: Tri, b: Tri, changes: Option<Count>, class: Class) -> Row {
+    Row {
+        start: false,
+        a,
+        b,
+        changes,
+        class,
+    }
+}
+
+#[test]
+fn a_gate_that_reads_itself(rt: HostRuntime) -> Result<(), Fail> {
+    let net = network(rt.alloc())?;
+    let free = Free::build(rt.alloc(), &net)?;
+    let start = vec![in rt.alloc(); false; net.len() as usize]?;
+    let rises = row(Unknown, One, Some(Exact(1)), Class::Single);
+    let follows = row(Unknown, One, None, Class::Change);
+    let rows = [rises, follows, rises, follows];
 
     let mut whole = PlainSink::new(rt.alloc());
     let mut writer = Writer::new(&mut whole);
-    write_head(&mut writer, &net, &start);
-    write_change(
-        &mut writer,
-        &net,
-        1,
-        &[(0, true)],
-        &start,
-        &[true],
-        &finding,
-    );
+    write_head(&mut writer, &net, &free, &start);
+    write_rows(&mut writer, &net, &rows, Show::Nodes);
+    write_start(&mut writer, &net, &rows);
+    write_rows(&mut writer, &net, &rows, Show::All);
+    write_stopped(&mut writer, &net, 10_000, &[(0, true)], 3);
     assert_eq!(rt; writer.finish(), Ok(()));
-    let text = b"netlist inputs 1 gates 1 wires 1 variables 3\nstart a=0 y=1\n\
-        change 1 a=1\nrounds A 4 B 4\na start 0 A X B 1\ny start 1 A X B 0\n\
-        runs 1\nstart a=0 y=1\ninput a=1\nrun\nend\n";
+    let text = b"netlist inputs 1 gates 1 wires 2 variables 4\nfeedback y y(2)\nstart x=0 y=0\n\
+        x start 0 A X B 1 changes 1 single\ny start 0 A X B 1 changes - change\n\
+        start x=0 y=0\n\
+        x start 0 A X B 1 changes 1 single\ny start 0 A X B 1 changes - change\n\
+        y(1) start 0 A X B 1 changes 1 single\ny(2) start 0 A X B 1 changes - change\n\
+        change 10000 x=1\nstopped y(2)\n";
     assert_eq!(rt; whole.bytes(), text.as_slice());
+    Ok(())
+}
+
+// Rows of the other classes, and of each form of a number of changes.
+fn rows() -> [Row; 5] {
+    [
+        row(Zero, Zero, Some(Exact(0)), Class::Steady),
+        row(Unknown, Zero, Some(Many), Class::Static),
+        row(Unknown, One, Some(Exact(3)), Class::MaybeDynamic),
+        row(Unknown, Unknown, None, Class::Unsettled),
+        row(Unknown, Zero, Some(Exact(2)), Class::Static),
+    ]
+}
+
+#[test]
+fn classes_and_sizes(rt: HostRuntime) -> Result<(), Fail> {
+    let net = network(rt.alloc())?;
+    let rows = rows();
+    let mut run = Run::with_room(rt.alloc(), 3, 2)?;
+    run.push_step(&[0]);
+    run.push_step(&[2, 1]);
+
+    let mut failing = MemSink::new(rt.alloc());
+    failing.fail(7, 5)?;
+    let mut writer = Writer::new(&mut failing);
+    for row in &rows {
+        write_row(&mut writer, &net, 1, *row);
+    }
+    write_classes(&mut writer, &rows);
+    write_size(&mut writer, b"spread", &run);
+    write_size(&mut writer, b"cycle", &run);
+    assert_eq!(rt; writer.finish(), Err(PutFault::Failed));
+    let text = b"y start 0 A 0 B 0 changes 0 steady\ny start 0 A X B 0 changes many static\n\
+        y start 0 A X B 1 changes 3 maybe-dynamic\ny start 0 A X B X changes - unsettled\n\
+        y start 0 A X B 0 changes 2 static\n\
+        classes steady 1 single 0 static 2 maybe-dynamic 1 change 0 unsettled 1\nsprea";
+    assert_eq!(rt; failing.bytes(), text.as_slice());
     Ok(())
 }

@@ -1,12 +1,12 @@
 -- Decimal digits are read back.
-use Rattle.std.proofs.Common.{◌≡◌, ◌∙◌, ℕ, ◌<◌, ◌≤◌, ◌^◌, true, false, ◌==◌, nat_le, List, [], ◌∷◌, length, get_or, refl, ap, arith, decimal}
+use Rattle.std.proofs.Common.{◌≡◌, ◌∙◌, ℕ, zero, suc, ◌<◌, ◌≤◌, ◌^◌, true, false, ◌==◌, nat_le, List, [], ◌∷◌, Some, length, get_or, refl, ap, arith, decimal}
 use Rattle.std.specs.List.{list_all}
 use Rattle.std.proofs.lemmas.Bool.Decides.{nat_tests}
-use Rattle.std.proofs.lemmas.Fmt.{decimal_is_IsNumeral, first_decimal}
+use Rattle.std.proofs.lemmas.Fmt.{decimal_is_IsNumeral, decimal_digit, first_decimal}
 use Rattle.std.proofs.lemmas.Str.Parse.{IsDigitsTest, FoldsDigits, IsNumeralModel, numerals_by_fold}
 use Rattle.hz_core.specs.Netlist.{is_name_byte}
 use Rattle.hz_line.proofs.WrittenLemmas.{both}
-use Rattle.hz_text.specs.RunStatement.{is_digit, is_decimal, number_by}
+use Rattle.hz_text.specs.RunStatement.{is_digit, is_decimal, number_by, count_of}
 use Rattle.hz_text.proofs.VariableLemmas.{number_after}
 
 digit_range : (byte : ℕ) → is_digit byte ≡ true → (48 ≤ byte) × (byte ≤ 57)
@@ -47,6 +47,17 @@ decimal-without_zero (digit ∷ later) all some first =
 -- it has no leading zero
 pub decimal-is_decimal : (n : ℕ) → 0 < n → n < 2 ^ 64 → is_decimal (decimal n) ≡ true
 decimal-is_decimal n positive small = decimal-without_zero (decimal n) (decimal-digits n small) (decimal_is_IsNumeral n small).0.0 (first_decimal n positive small)
+
+pub decimal-is_number : (n : ℕ) → n < 2 ^ 64 → is_decimal (decimal n) ≡ true
+decimal-is_number zero small = ap is_decimal (decimal_digit 0 (omega arith))
+decimal-is_number (suc n) small = decimal-is_decimal (suc n) (omega arith) small
+
+-- a count is read back
+pub count_of-decimal : (n : ℕ) → n ≤ 4294967295 → count_of (decimal n) ≡ Some n
+count_of-decimal n few =
+    let small : n < 2 ^ 64 = omega (arith, few) in
+    let low : nat_le n 4294967295 ≡ true = grind (arith, nat_tests, few) in
+    rw (decimal-is_number n small, number_by-decimal n small, low) refl
 
 digit_byte : (byte : ℕ) → is_digit byte ≡ true → is_name_byte byte ≡ true
 digit_byte byte h =

@@ -20,7 +20,7 @@ use Rattle.hz_text.specs.ScriptFault.{looked_statements, allowed_in, has_unknown
 use Rattle.hz_text.specs.Rules.{nodes_of, least_unassigned, first_fault_of}
 use Rattle.hz_text.specs.ScriptRules.{has_node_twice, least_missing, first_out_of_order, last_beyond, script_rules, first_fault}
 use Rattle.hz_text.proofs.BuildLemmas.{or_parts}
-use Rattle.hz_text.proofs.LeastFault.{unanswered, Outcome, answers_first, answers_itself}
+use Rattle.hz_text.proofs.LeastFault.{unanswered, Outcome, answers_first, answers_itself, OneMismatch}
 use Rattle.hz_text.proofs.TextLaws.{Judged, looked-Ascends, answers_malformed, text-outcome, twice-line}
 use Rattle.hz_text.proofs.NodeLemmas.{marks_of, length-marks, get_or-marks}
 
@@ -202,6 +202,10 @@ twice-names netlist allowed (first ∷ later) h =
     step : AllKnown netlist allowed later → (k : ℕ) × (node_named netlist first.name ≡ Some k) → has_repeat nat_eq (nodes_of (map (assigned_of netlist) later)) ≡ has_repeat bytes_eq (map (λ assignment. assignment.name) later) → has_repeat nat_eq (nodes_of (map (assigned_of netlist) (first ∷ later))) ≡ has_repeat bytes_eq (map (λ assignment. assignment.name) (first ∷ later))
     step rest (k, is) ih = rw is (ap (λ b. b || has_repeat nat_eq (nodes_of (map (assigned_of netlist) later))) (any-names netlist allowed first.name k later is rest) ∙ ap (λ b. list_any (bytes_eq first.name) (map (λ assignment. assignment.name) later) || b) ih)
 
+-- a script tells no count
+pub one-mismatch : (netlist : Netlist) (text : List ℕ) → OneMismatch (Stands netlist text)
+one-mismatch netlist text = λ line told real other_line other_told other_real s t. absurd s
+
 -- each pass answers the least place of its fault
 judged : (netlist : Netlist) (text : List ℕ) → Judged (Stands netlist text) (script_rules netlist.inputs (primary_inputs netlist)) (first_malformed (looked_by netlist) 1 (lines_of text)) (looked_statements netlist text)
 judged netlist text =
@@ -221,6 +225,8 @@ judged netlist text =
       bit = answers_first has_no_bit looked (first_line has_no_bit looked) up refl;
       order = answers_order looked (first_out_of_order looked) up refl;
       beyond = λ none. subst P (line_beyond-ordered looked (order-None looked none)) (answers_itself (line_beyond looked));
+      mismatch = λ line told real stands. stands;
+      one = one-mismatch netlist text;
       memory = λ stands. stands;
     }
 

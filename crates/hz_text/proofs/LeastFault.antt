@@ -11,9 +11,10 @@ use Rattle.hz_line.specs.Token.{TokenOf}
 use Rattle.hz_line.specs.Statement.{Numbered, PassesOn, first_line}
 use Rattle.hz_line.proofs.StatementLemmas.{Ascends, first_line-Some, first_line-None}
 use Rattle.hz_text.specs.declared.fault.TextFault.{TextFault}
-use Rattle.hz_text.specs.declared.fault.TextFault.TheVariants.{Form, Unknown, Twice, Missing, Bit, Order, TooMany, Memory}
+use Rattle.hz_text.specs.declared.fault.TextFault.TheVariants.{Form, Unknown, Twice, Missing, Bit, Order, TooMany, Memory, Mismatch}
+use Rattle.hz_text.specs.declared.fault.Mismatch.{Mismatch as Wrong}
 use Rattle.hz_text.specs.Fault.{number_of, place_of, ComesFirst, IsLeastFaultOf, IsLeastFaultOrMemory}
-use Rattle.hz_text.specs.Rules.{Rules, first_fault_in, first_fault_of, IsAnswer, IsChecked}
+use Rattle.hz_text.specs.Rules.{Rules, mismatch_at, first_fault_in, first_fault_of, IsAnswer, IsChecked}
 use Rattle.hz_text.specs.RunRules.{lesser}
 
 -- no fault with a number below this one stands
@@ -25,18 +26,28 @@ abbrev pub Outcome : (TextFault → Type 0) → Option TextFault → Type 0
 Outcome stands None = (fault : TextFault) → stands fault → ⊥
 Outcome stands (Some fault) = IsLeastFaultOf stands fault
 
--- the fault with this number and place
-abbrev pub fault_of : ℕ → ℕ → TextFault
-fault_of number place =
+-- what a fault carries besides: the count that is told and the network's own, where it has them
+abbrev pub told_of : TextFault → ℕ
+told_of (Mismatch line told real) = told
+told_of _ = 0
+
+abbrev pub real_of : TextFault → ℕ
+real_of (Mismatch line told real) = real
+real_of _ = 0
+
+-- the fault with this number, this place and these counts
+abbrev pub fault_of : ℕ → ℕ → ℕ → ℕ → TextFault
+fault_of number place told real =
     if number == 1 then Form place
     else (if number == 2 then Unknown place
     else (if number == 3 then Twice place
     else (if number == 4 then Missing place
     else (if number == 5 then Bit place
     else (if number == 6 then Order place
-    else (if number == 7 then TooMany place else Memory))))))
+    else (if number == 7 then TooMany place
+    else (if number == 9 then Mismatch place told real else Memory)))))))
 
-pub fault_of-back : (fault : TextFault) → fault_of (number_of fault) (place_of fault) ≡ fault
+pub fault_of-back : (fault : TextFault) → fault_of (number_of fault) (place_of fault) (told_of fault) (real_of fault) ≡ fault
 fault_of-back (Form line) = refl
 fault_of-back (Unknown line) = refl
 fault_of-back (Twice line) = refl
@@ -45,6 +56,7 @@ fault_of-back (Bit line) = refl
 fault_of-back (Order line) = refl
 fault_of-back (TooMany line) = refl
 fault_of-back Memory = refl
+fault_of-back (Mismatch line told real) = refl
 
 pub both-first : (fault other : TextFault) → ComesFirst fault other → ComesFirst other fault → (number_of fault ≡ number_of other) × (place_of fault ≡ place_of other)
 both-first fault other (inl a) (inl b) = absurd (omega (arith, a, b))
@@ -53,18 +65,22 @@ both-first fault other (inr a) (inl b) = absurd (omega (arith, a.0, b))
 both-first fault other (inr a) (inr b) = (a.0, omega (arith, a.1, b.1))
 
 -- a fault by its number
-same_fault : (fault : TextFault) (number : ℕ) → number_of fault ≡ number → fault ≡ fault_of number (place_of fault)
-same_fault fault number e = sym (fault_of-back fault) ∙ ap (λ n. fault_of n (place_of fault)) e
+same_fault : (fault : TextFault) (number : ℕ) → number_of fault ≡ number → fault ≡ fault_of number (place_of fault) (told_of fault) (real_of fault)
+same_fault fault number e = sym (fault_of-back fault) ∙ ap (λ n. fault_of n (place_of fault) (told_of fault) (real_of fault)) e
+
+-- a kind of fault that carries a place alone
+abbrev pub IsKind : (ℕ → TextFault) → ℕ → Type 0
+IsKind kind number =
+    (place told real : ℕ) → (number_of (kind place) ≡ number) × (place_of (kind place) ≡ place) × (kind place ≡ fault_of number place told real)
 
 -- the pass for one kind, where no fault with a lesser number stands
 pub outcome-step :
-    (stands : TextFault → Type 0) (kind : ℕ → TextFault) (number : ℕ) (answer : Option ℕ) (rest : Option TextFault) →
-    ((place : ℕ) → (number_of (kind place) ≡ number) × (place_of (kind place) ≡ place) × (kind place ≡ fault_of number place)) →
+    (stands : TextFault → Type 0) (kind : ℕ → TextFault) (number : ℕ) (answer : Option ℕ) (rest : Option TextFault) → IsKind kind number →
     NoneBelow stands number → IsLeastOf (λ place. stands (kind place)) answer →
     (answer ≡ None → NoneBelow stands (number + 1) → Outcome stands rest) → Outcome stands (option_or (option_map kind answer) rest)
 outcome-step stands kind number None rest is below none next =
     next refl (λ fault s. elim (cases_eq (number_of fault) number) [
-      | inl same ↦ absurd (none (place_of fault) (subst stands (same_fault fault number same ∙ sym (is (place_of fault)).2) s))
+      | inl same ↦ absurd (none (place_of fault) (subst stands (same_fault fault number same ∙ sym (is (place_of fault) (told_of fault) (real_of fault)).2) s))
       | inr other ↦ above fault (below fault s) other
     ])
   where
@@ -77,11 +93,11 @@ outcome-step stands kind number (Some place) rest is below least next =
     record {
       stands = least.here;
       first = λ other s. elim (cases_lt number (number_of other)) [
-        | inl l ↦ inl (omega (arith, l, (is place).0))
+        | inl l ↦ inl (omega (arith, l, (is place 0 0).0))
         | inr l ↦ (
             let same : number_of other ≡ number = omega (arith, l, below other s) in
-            let at = least.least (place_of other) (subst stands (same_fault other number same ∙ sym (is (place_of other)).2) s) in
-            inr (((is place).0 ∙ sym same), omega (arith, at, (is place).1))
+            let at = least.least (place_of other) (subst stands (same_fault other number same ∙ sym (is (place_of other) (told_of other) (real_of other)).2) s) in
+            inr (((is place 0 0).0 ∙ sym same), omega (arith, at, (is place 0 0).1))
             )
       ];
     }
@@ -95,26 +111,54 @@ any_number stands (Bit line) s = omega arith
 any_number stands (Order line) s = omega arith
 any_number stands (TooMany line) s = omega arith
 any_number stands Memory s = omega arith
+any_number stands (Mismatch line told real) s = omega arith
 
--- no fault of a text has a greater number than the last
-pub none_past : (stands : TextFault → Type 0) → (stands Memory → ⊥) → NoneBelow stands 8 → Outcome stands None
-none_past stands never below Memory s = never s
-none_past stands never below (Form line) s = absurd (omega (arith, below (Form line) s))
-none_past stands never below (Unknown line) s = absurd (omega (arith, below (Unknown line) s))
-none_past stands never below (Twice line) s = absurd (omega (arith, below (Twice line) s))
-none_past stands never below (Missing node) s = absurd (omega (arith, below (Missing node) s))
-none_past stands never below (Bit line) s = absurd (omega (arith, below (Bit line) s))
-none_past stands never below (Order line) s = absurd (omega (arith, below (Order line) s))
-none_past stands never below (TooMany line) s = absurd (omega (arith, below (TooMany line) s))
+-- counts that are told wrongly are of one line, and the same
+abbrev pub OneMismatch : (TextFault → Type 0) → Type 0
+OneMismatch stands =
+    (line told real other_line other_told other_real : ℕ) → stands (Mismatch line told real) → stands (Mismatch other_line other_told other_real) →
+    Mismatch line told real ≡ Mismatch other_line other_told other_real
+
+-- what the pass over the size answers: no count is told wrongly, or this one is
+abbrev pub AnswersMismatch : (TextFault → Type 0) → Option Wrong → Type 0
+AnswersMismatch stands None = (line told real : ℕ) → ¬ stands (Mismatch line told real)
+AnswersMismatch stands (Some wrong) = stands (mismatch_at wrong)
+
+-- the pass over the size, where no fault with a lesser number stands
+pub outcome-mismatch :
+    (stands : TextFault → Type 0) (answer : Option Wrong) → OneMismatch stands → ¬ stands Memory → NoneBelow stands 8 → AnswersMismatch stands answer →
+    Outcome stands (option_map mismatch_at answer)
+outcome-mismatch stands None one never below none = only
+  where
+    only : (fault : TextFault) → stands fault → ⊥
+    only Memory s = never s
+    only (Mismatch line told real) s = none line told real s
+    only (Form line) s = absurd (omega (arith, below (Form line) s))
+    only (Unknown line) s = absurd (omega (arith, below (Unknown line) s))
+    only (Twice line) s = absurd (omega (arith, below (Twice line) s))
+    only (Missing node) s = absurd (omega (arith, below (Missing node) s))
+    only (Bit line) s = absurd (omega (arith, below (Bit line) s))
+    only (Order line) s = absurd (omega (arith, below (Order line) s))
+    only (TooMany line) s = absurd (omega (arith, below (TooMany line) s))
+outcome-mismatch stands (Some wrong) one never below here = record { stands = here; first = first }
+  where
+    first : (other : TextFault) → stands other → ComesFirst (mismatch_at wrong) other
+    first Memory s = absurd (never s)
+    first (Mismatch line told real) s =
+        let P : TextFault → Type 0 = ComesFirst (mismatch_at wrong) in
+        subst P (one wrong.line wrong.told wrong.real line told real here s) (inr (refl, omega arith))
+    first (Form line) s = absurd (omega (arith, below (Form line) s))
+    first (Unknown line) s = absurd (omega (arith, below (Unknown line) s))
+    first (Twice line) s = absurd (omega (arith, below (Twice line) s))
+    first (Missing node) s = absurd (omega (arith, below (Missing node) s))
+    first (Bit line) s = absurd (omega (arith, below (Bit line) s))
+    first (Order line) s = absurd (omega (arith, below (Order line) s))
+    first (TooMany line) s = absurd (omega (arith, below (TooMany line) s))
 
 -- the first statement that passes a test is the least line of those that do
 pub answers_first : {S : Type 0} (test : S → Bool) (statements : List (Numbered S)) (answer : Option ℕ) → Ascends 1 statements → first_line test statements ≡ answer → IsLeastOf (PassesOn test statements) answer
 answers_first test statements None up e = first_line-None test statements e
 answers_first test statements (Some line) up e = let is = first_line-Some test statements 1 line up e in record { here = is.passes; least = is.least }
-
-pub option_or-None : (answer : Option TextFault) → option_or answer None ≡ answer
-option_or-None None = refl
-option_or-None (Some fault) = refl
 
 -- an equation has its own answer
 pub answers_itself : (answer : Option ℕ) → IsLeastOf (λ place. answer ≡ Some place) answer
@@ -136,16 +180,48 @@ answers_either first second (Some a) (Some b) p q = by_test (nat_le a b) refl
         let low : b ≤ a = grind (arith, nat_tests, t) in
         record { here = inr q.here; least = λ place h. elim h [ inl l ↦ omega (arith, low, p.least place l) | inr r ↦ q.least place r ] }
 
+-- a fault by the number of those that carry counts
+is_mismatch : (fault : TextFault) → number_of fault ≡ 9 → fault ≡ Mismatch (place_of fault) (told_of fault) (real_of fault)
+is_mismatch fault e = same_fault fault 9 e
+
+-- the other faults carry no counts
+no_counts : (fault : TextFault) → ¬ (number_of fault ≡ 9) → (told_of fault ≡ 0) × (real_of fault ≡ 0)
+no_counts (Form line) n = (refl, refl)
+no_counts (Unknown line) n = (refl, refl)
+no_counts (Twice line) n = (refl, refl)
+no_counts (Missing node) n = (refl, refl)
+no_counts (Bit line) n = (refl, refl)
+no_counts (Order line) n = (refl, refl)
+no_counts (TooMany line) n = (refl, refl)
+no_counts Memory n = (refl, refl)
+no_counts (Mismatch line told real) n = absurd (n refl)
+
 -- the least fault is one
-pub least-unique : (stands : TextFault → Type 0) (fault other : TextFault) → IsLeastFaultOf stands fault → IsLeastFaultOf stands other → fault ≡ other
-least-unique stands fault other a b =
+pub least-unique : (stands : TextFault → Type 0) (fault other : TextFault) → OneMismatch stands → IsLeastFaultOf stands fault → IsLeastFaultOf stands other → fault ≡ other
+least-unique stands fault other one a b =
     let same = both-first fault other (a.first other b.stands) (b.first fault a.stands) in
-    sym (fault_of-back fault) ∙ ap (λ number. fault_of number (place_of fault)) same.0 ∙ ap (fault_of (number_of other)) same.1 ∙ fault_of-back other
+    elim (cases_eq (number_of fault) 9) [
+      | inl nine ↦ (
+          let left = is_mismatch fault nine in
+          let right = is_mismatch other (sym same.0 ∙ nine) in
+          left ∙ one (place_of fault) (told_of fault) (real_of fault) (place_of other) (told_of other) (real_of other) (subst stands left a.stands) (subst stands right b.stands) ∙ sym right
+          )
+      | inr none ↦ (
+          let left = no_counts fault none in
+          let right = no_counts other (λ e. none (same.0 ∙ e)) in
+          sym (fault_of-back fault)
+          ∙ ap (λ number. fault_of number (place_of fault) (told_of fault) (real_of fault)) same.0
+          ∙ ap (λ place. fault_of (number_of other) place (told_of fault) (real_of fault)) same.1
+          ∙ ap (λ told. fault_of (number_of other) (place_of other) told (real_of fault)) (left.0 ∙ sym right.0)
+          ∙ ap (λ real. fault_of (number_of other) (place_of other) (told_of other) real) (left.1 ∙ sym right.1)
+          ∙ fault_of-back other
+          )
+    ]
 
 -- the answer is the least fault, or want of memory
-pub exact : (stands : TextFault → Type 0) (fault other : TextFault) → IsLeastFaultOrMemory stands fault → IsLeastFaultOf stands other → (fault ≡ other) ⊎ (fault ≡ Memory)
-exact stands fault other (inl memory) least = inr memory
-exact stands fault other (inr h) least = inl (least-unique stands fault other h least)
+pub exact : (stands : TextFault → Type 0) (fault other : TextFault) → OneMismatch stands → IsLeastFaultOrMemory stands fault → IsLeastFaultOf stands other → (fault ≡ other) ⊎ (fault ≡ Memory)
+exact stands fault other one (inl memory) least = inr memory
+exact stands fault other one (inr h) least = inl (least-unique stands fault other one h least)
 
 -- what an answer of the passes says of the fault that it gives
 pub answered : (stands : TextFault → Type 0) (answer : Option TextFault) (fault : TextFault) → Outcome stands answer → IsAnswer answer fault → IsLeastFaultOrMemory stands fault

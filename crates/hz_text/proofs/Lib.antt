@@ -11,6 +11,7 @@ pub mod PrintLaws
 pub mod VariableLemmas
 pub mod LeastFault
 pub mod BeyondLaws
+pub mod MismatchLaws
 pub mod OrderLaws
 pub mod RunFaultLaws
 pub mod RunBuildLaws

@@ -8,12 +8,16 @@ use Rattle.hz_gmw.specs.Least.{IsLeastOf}
 use Rattle.hz_line.specs.Statement.{Numbered}
 use Rattle.hz_text.specs.declared.run.order.Place.{Place}
 use Rattle.hz_text.specs.declared.run.order.Place.TheVariants as place
-use Rattle.hz_text.specs.RunStatement.{Header, Start, Input, Run, Step, Cycle, End}
+use Rattle.hz_text.specs.declared.run.size.Size.{Size}
+use Rattle.hz_text.specs.declared.run.version.Version.{Version}
+use Rattle.hz_text.specs.declared.run.version.Version.TheVariants.{One, Two}
+use Rattle.hz_text.specs.Assignment.{Assigned}
+use Rattle.hz_text.specs.RunStatement.{Header, Net, Start, Input, Run, Step, Cycle, End}
 use Rattle.hz_text.specs.RunLookup.{LookedRun}
-use Rattle.hz_text.specs.RunFault.{assignments_in, is_start_line, is_input_line}
-use Rattle.hz_text.specs.OrderPass.{is_header, is_end}
-use Rattle.hz_text.specs.RunOrder.{cycle_lines, RunShape, shape_lines, IsOrdered, MayGoOn, unnumbered, IsOutOfPlace, BreaksOrder}
-use Rattle.hz_text.specs.OrderPass.{place_after, end_out_of_order, runs_out_of_order, out_of_order_with, input_out_of_order, start_out_of_order, run_out_of_order}
+use Rattle.hz_text.specs.RunFault.{assignments_in, version_in, is_start_line, is_input_line}
+use Rattle.hz_text.specs.OrderPass.{is_net_line, is_end}
+use Rattle.hz_text.specs.RunOrder.{header_lines, cycle_lines, RunShape, shape_lines, IsOrdered, MayGoOn, unnumbered, IsOutOfPlace, BreaksOrder}
+use Rattle.hz_text.specs.OrderPass.{place_after, end_out_of_order, runs_out_of_order, out_of_order_with, input_out_of_order, start_out_of_order, version_out_of_order, run_out_of_order}
 
 -- what statements are: they may not go on, they may and are not whole, or they are whole
 data Verdict : Type 0 where
@@ -39,8 +43,13 @@ input_verdict statements = verdict_with is_input_line (runs_verdict place.Betwee
 abbrev start_verdict : List LookedRun → Verdict
 start_verdict statements = verdict_with is_start_line input_verdict statements
 
+abbrev version_verdict : Version → List LookedRun → Verdict
+version_verdict One statements = start_verdict statements
+version_verdict Two statements = verdict_with is_net_line start_verdict statements
+
 abbrev verdict : List LookedRun → Verdict
-verdict statements = verdict_with is_header start_verdict statements
+verdict [] = Open
+verdict (first ∷ later) = option_map_or (λ version. version_verdict version later) (version_in first) Broken
 
 broken-open : Broken ≡ Open → ⊥
 broken-open e = cc
@@ -191,11 +200,45 @@ judged_with test answer after one passes judged = record { starts = λ e. broken
         by_test true t = rw t (judged.stays later more (rw t at e))
         by_test false t = rw t refl
 
+judged_start : Judges start_out_of_order start_verdict
+judged_start =
+    judged_with is_start_line input_out_of_order input_verdict (Start []) refl
+    (judged_with is_input_line (runs_out_of_order place.Between) (runs_verdict place.Between) (Input []) refl judged_runs)
+
+judged_version : (version : Version) → Judges (version_out_of_order version) (version_verdict version)
+judged_version One = judged_start
+judged_version Two = judged_with is_net_line start_out_of_order start_verdict (Net (record { inputs = 0; gates = 0; wires = 0 })) refl judged_start
+
 judged : Judges run_out_of_order verdict
-judged =
-    judged_with is_header start_out_of_order start_verdict Header refl
-    (judged_with is_start_line input_out_of_order input_verdict (Start []) refl
-    (judged_with is_input_line (runs_out_of_order place.Between) (runs_verdict place.Between) (Input []) refl judged_runs))
+judged = record { starts = λ e. broken-open (sym e); finds = finds; can_end = can_end; stays = stays }
+  where
+    finds : (statements : List (Numbered LookedRun)) → Found verdict statements (run_out_of_order statements)
+    finds [] = inr (refl, refl)
+    finds (first ∷ later) = by_version (version_in first.statement) refl
+      where
+        by_version :
+            (v : Option Version) → version_in first.statement ≡ v →
+            Found verdict (first ∷ later) (option_map_or (λ version. version_out_of_order version later) v (Some first.line))
+        by_version None t = found-broken verdict first later (λ e. broken-open (sym e)) (rw t refl)
+        by_version (Some version) t =
+            found-cons verdict (version_verdict version) first later (version_out_of_order version later) (λ rest. rw t refl) ((judged_version version).finds later)
+
+    can_end : (statements : List LookedRun) → (verdict statements ≡ Broken → ⊥) → (more : List LookedRun) × (verdict (statements ++ more) ≡ Whole)
+    can_end [] h = let rest = judged_start.can_end [] judged_start.starts in (Header One ∷ rest.0, rest.1)
+    can_end (first ∷ later) h = by_version (version_in first) refl
+      where
+        by_version : (v : Option Version) → version_in first ≡ v → (more : List LookedRun) × (verdict (first ∷ later ++ more) ≡ Whole)
+        by_version None t = absurd (h (rw t refl))
+        by_version (Some version) t =
+            let rest = (judged_version version).can_end later (λ e. h (rw t e)) in (rest.0, rw t rest.1)
+
+    stays : (statements more : List LookedRun) → verdict statements ≡ Broken → verdict (statements ++ more) ≡ Broken
+    stays [] more e = absurd (broken-open (sym e))
+    stays (first ∷ later) more e = by_version (version_in first) refl
+      where
+        by_version : (v : Option Version) → version_in first ≡ v → verdict (first ∷ later ++ more) ≡ Broken
+        by_version None t = rw t refl
+        by_version (Some version) t = rw t ((judged_version version).stays later more (rw t at e))
 
 -- statements in order are whole
 steps-lead : (lead : List (List (Option ℕ))) (rest : List LookedRun) → runs_verdict place.Lead (map Step lead ++ rest) ≡ runs_verdict place.Lead rest
@@ -227,7 +270,11 @@ runs-whole (run ∷ later) here =
     ∙ cycle-whole run.cycle (runs_end later) (runs-whole later)
 
 ordered-whole : (statements : List LookedRun) → IsOrdered statements → verdict statements ≡ Whole
-ordered-whole statements is = ap verdict is.are ∙ runs-whole is.runs place.Between
+ordered-whole statements is = ap verdict is.are ∙ by_size is.size
+  where
+    by_size : (size : Option Size) → verdict (header_lines size ++ (Start is.start ∷ Input is.input ∷ runs_end is.runs)) ≡ Whole
+    by_size None = runs-whole is.runs place.Between
+    by_size (Some size) = runs-whole is.runs place.Between
 
 -- what whole statements are from a place on
 abbrev Rest : Place → List LookedRun → Type 0
@@ -253,7 +300,8 @@ rest-end (first ∷ later) e = absurd (broken-whole e)
 
 rest-whole : (here : Place) (statements : List LookedRun) → runs_verdict here statements ≡ Whole → Rest here statements
 rest-whole here [] e = cc
-rest-whole here (Header ∷ later) e = absurd (broken-whole e)
+rest-whole here (Header version ∷ later) e = absurd (broken-whole e)
+rest-whole here (Net size ∷ later) e = absurd (broken-whole e)
 rest-whole here (Start assignments ∷ later) e = absurd (broken-whole e)
 rest-whole here (Input assignments ∷ later) e = absurd (broken-whole e)
 rest-whole here (Run ∷ later) e = rest-runs here (Run ∷ later) (rest-run later (rest-whole place.Lead later e))
@@ -268,17 +316,29 @@ rest-whole place.Lead (Cycle ∷ later) e =
 rest-whole place.Cycle (Cycle ∷ later) e = absurd (broken-whole e)
 rest-whole here (End ∷ later) e = rest-runs here (End ∷ later) (rest-end later e)
 
-pub is_Header : (statement : LookedRun) → is_header statement ≡ true → statement ≡ Header
-is_Header Header e = refl
-is_Header (Start assignments) e = cc
-is_Header (Input assignments) e = cc
-is_Header Run e = cc
-is_Header (Step variables) e = cc
-is_Header Cycle e = cc
-is_Header End e = cc
+pub is_Header : (statement : LookedRun) (version : Version) → version_in statement ≡ Some version → statement ≡ Header version
+is_Header (Header own) version e = let same : own ≡ version = cc in ap Header same
+is_Header (Net size) version e = cc
+is_Header (Start assignments) version e = cc
+is_Header (Input assignments) version e = cc
+is_Header Run version e = cc
+is_Header (Step variables) version e = cc
+is_Header Cycle version e = cc
+is_Header End version e = cc
+
+pub is_Net : (statement : LookedRun) → is_net_line statement ≡ true → (size : Size) × (statement ≡ Net size)
+is_Net (Header version) e = cc
+is_Net (Net size) e = (size, refl)
+is_Net (Start assignments) e = cc
+is_Net (Input assignments) e = cc
+is_Net Run e = cc
+is_Net (Step variables) e = cc
+is_Net Cycle e = cc
+is_Net End e = cc
 
 pub is_Start : (statement : LookedRun) → is_start_line statement ≡ true → statement ≡ Start (assignments_in statement)
-is_Start Header e = cc
+is_Start (Header version) e = cc
+is_Start (Net size) e = cc
 is_Start (Start assignments) e = refl
 is_Start (Input assignments) e = cc
 is_Start Run e = cc
@@ -287,7 +347,8 @@ is_Start Cycle e = cc
 is_Start End e = cc
 
 pub is_Input : (statement : LookedRun) → is_input_line statement ≡ true → statement ≡ Input (assignments_in statement)
-is_Input Header e = cc
+is_Input (Header version) e = cc
+is_Input (Net size) e = cc
 is_Input (Start assignments) e = cc
 is_Input (Input assignments) e = refl
 is_Input Run e = cc
@@ -311,11 +372,16 @@ passed test after (first ∷ later) e = by_test (test first) refl e
     by_test true t w = record { first = first; later = later; are = refl; passes = t; rest = w }
     by_test false t w = absurd (broken-whole w)
 
--- whole statements are in order
-whole-ordered : (statements : List LookedRun) → verdict statements ≡ Whole → IsOrdered statements
-whole-ordered statements e =
-    let h = passed is_header start_verdict statements e in
-    let s = passed is_start_line input_verdict h.later h.rest in
+-- statements from the start on, in order
+record HasStates (statements : List LookedRun) : Type 0 where
+  start : List Assigned
+  input : List Assigned
+  runs : List (RunShape (Option ℕ))
+  are : statements ≡ Start start ∷ Input input ∷ runs_end runs
+
+states-whole : (statements : List LookedRun) → start_verdict statements ≡ Whole → HasStates statements
+states-whole statements e =
+    let s = passed is_start_line input_verdict statements e in
     let i = passed is_input_line (runs_verdict place.Between) s.later s.rest in
     let r = rest-whole place.Between i.later i.rest in
     let start = assignments_in s.first in
@@ -325,14 +391,45 @@ whole-ordered statements e =
       input = input;
       runs = r.0;
       are =
-          h.are
-          ∙ ap (λ rest. h.first ∷ rest) s.are
-          ∙ ap (λ rest. h.first ∷ s.first ∷ rest) i.are
-          ∙ ap (λ one. one ∷ s.first ∷ i.first ∷ i.later) (is_Header h.first h.passes)
-          ∙ ap (λ one. Header ∷ one ∷ i.first ∷ i.later) (is_Start s.first s.passes)
-          ∙ ap (λ one. Header ∷ Start start ∷ one ∷ i.later) (is_Input i.first i.passes)
-          ∙ ap (λ rest. Header ∷ Start start ∷ Input input ∷ rest) r.1;
+          s.are
+          ∙ ap (λ rest. s.first ∷ rest) i.are
+          ∙ ap (λ one. one ∷ i.first ∷ i.later) (is_Start s.first s.passes)
+          ∙ ap (λ one. Start start ∷ one ∷ i.later) (is_Input i.first i.passes)
+          ∙ ap (λ rest. Start start ∷ Input input ∷ rest) r.1;
     }
+
+-- whole statements are in order
+whole-ordered : (statements : List LookedRun) → verdict statements ≡ Whole → IsOrdered statements
+whole-ordered [] e = cc
+whole-ordered (first ∷ later) e = by_version (version_in first) refl e
+  where
+    by_version :
+        (v : Option Version) → version_in first ≡ v → option_map_or (λ version. version_verdict version later) v Broken ≡ Whole → IsOrdered (first ∷ later)
+    by_version None t w = absurd (broken-whole w)
+    by_version (Some One) t w =
+        let states = states-whole later w in
+        record {
+          size = None;
+          start = states.start;
+          input = states.input;
+          runs = states.runs;
+          are = ap (λ one. one ∷ later) (is_Header first One t) ∙ ap (λ rest. Header One ∷ rest) states.are;
+        }
+    by_version (Some Two) t w =
+        let net = passed is_net_line start_verdict later w in
+        let tells = is_Net net.first net.passes in
+        let states = states-whole net.later net.rest in
+        record {
+          size = Some tells.0;
+          start = states.start;
+          input = states.input;
+          runs = states.runs;
+          are =
+              ap (λ one. one ∷ later) (is_Header first Two t)
+              ∙ ap (λ rest. Header Two ∷ rest) net.are
+              ∙ ap (λ one. Header Two ∷ one ∷ net.later) tells.1
+              ∙ ap (λ rest. Header Two ∷ Net tells.0 ∷ rest) states.are;
+        }
 
 -- statements may go on exactly if they are not broken
 went-on : (statements : List LookedRun) → (verdict statements ≡ Broken → ⊥) → MayGoOn statements

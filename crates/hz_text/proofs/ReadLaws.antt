@@ -42,10 +42,6 @@ pub none_parts : (kind : ℕ → TextFault) (answer : Option ℕ) (rest : Option
 none_parts kind None rest h = (refl, h)
 none_parts kind (Some place) rest h = cc
 
-pub none_last : (kind : ℕ → TextFault) (answer : Option ℕ) → option_map kind answer ≡ None → answer ≡ None
-none_last kind None h = refl
-none_last kind (Some place) h = cc
-
 pub clear-from : (inputs primary : ℕ) (statements : List (Numbered Looked)) → first_fault inputs primary statements ≡ None → IsClear inputs primary statements
 clear-from inputs primary statements h =
     let a = none_parts Unknown (first_line (has_unknown inputs) statements) _ h in
@@ -53,7 +49,7 @@ clear-from inputs primary statements h =
     let c = none_parts Missing (least_missing primary statements) _ b.1 in
     let d = none_parts Bit (first_line has_no_bit statements) _ c.1 in
     let e = none_parts Order (first_out_of_order statements) _ d.1 in
-    record { unknown = a.0; twice = b.0; missing = c.0; bit = d.0; order = e.0; few = none_last TooMany (last_beyond statements) e.1 }
+    record { unknown = a.0; twice = b.0; missing = c.0; bit = d.0; order = e.0; few = (none_parts TooMany (last_beyond statements) _ e.1).0 }
 
 pub All-from_first_line : {S : Type 0} (test : S → Bool) (statements : List (Numbered S)) → first_line test statements ≡ None → All (λ numbered. test numbered.statement ≡ false) statements
 All-from_first_line test [] e = All-nil _

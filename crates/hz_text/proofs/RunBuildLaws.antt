@@ -4,31 +4,35 @@ use Rattle.std.specs.List.{list_any, flat_map, range_with_len, All}
 use Rattle.std.specs.Option.{IsSome, IfSome, is_none, option_map_or}
 use Rattle.std.proofs.lemmas.Bool.Decides.{nat_tests}
 use Rattle.std.proofs.lemmas.List.{append-nil, map_push, length-map, drop_more, get_or_default}
-use Rattle.std.proofs.lemmas.List.Elements.{All-nil, All-cons}
+use Rattle.std.proofs.lemmas.List.Elements.{All-nil, All-cons, All-tail}
 use Rattle.std.proofs.lemmas.List.FromFn.{length-range_with_len, get_or-map-range_with_len}
 use Rattle.std.proofs.lemmas.Grind.{flat_map-append}
 use Rattle.hz_core.specs.Netlist.{Netlist}
 use Rattle.hz_line.specs.Statement.{Numbered, first_line}
 use Rattle.hz_text.specs.declared.run.order.Place.{Place}
 use Rattle.hz_text.specs.declared.run.order.Place.TheVariants as place
+use Rattle.hz_text.specs.declared.run.size.Size.{Size}
+use Rattle.hz_text.specs.declared.run.version.Version.{Version}
+use Rattle.hz_text.specs.declared.run.version.Version.TheVariants.{One, Two}
 use Rattle.hz_text.specs.Assignment.{Assigned, Nodes, Inputs, is_unknown, bit_at}
 use Rattle.hz_text.specs.Rules.{AreBelow, least_unassigned}
 use Rattle.hz_text.specs.Bits.{IsWholeStart}
-use Rattle.hz_text.specs.RunStatement.{Header, Start, Input, Run, Step, Cycle, End}
+use Rattle.hz_text.specs.RunStatement.{Header, Net, Start, Input, Run, Step, Cycle, End}
 use Rattle.hz_text.specs.RunLookup.{RunEntry, LookedRun, run_entered, run_entered_all, run_held_by}
 use Rattle.hz_text.specs.RunValue.{RunOf, with_step_in, with_step}
-use Rattle.hz_text.specs.RunFault.{assignments_in, variables_in, names_unknown, lacks_bit, is_start_line, is_input_line, first_start, first_input}
-use Rattle.hz_text.specs.OrderPass.{is_header, is_end}
-use Rattle.hz_text.specs.OrderPass.{place_after, end_out_of_order, runs_out_of_order, out_of_order_with, start_out_of_order, input_out_of_order, run_out_of_order}
+use Rattle.hz_text.specs.RunFault.{version_in, assignments_in, variables_in, names_unknown, lacks_bit, is_start_line, is_input_line, first_start, first_input}
+use Rattle.hz_text.specs.OrderPass.{is_net_line, is_end}
+use Rattle.hz_text.specs.OrderPass.{place_after, end_out_of_order, runs_out_of_order, out_of_order_with, start_out_of_order, input_out_of_order, net_out_of_order, version_out_of_order, run_out_of_order}
 use Rattle.hz_text.specs.RunRules.{beyond_from, AssignsBelow, names_node_twice, least_left_out, lesser, least_missing_node, first_run_fault}
 use Rattle.hz_text.specs.RunText.{step_of, run_statements}
-use Rattle.hz_text.specs.RunOrder.{unnumbered}
-use Rattle.hz_text.specs.RunBuilt.{place_in, last_place, IsRunAdded}
+use Rattle.hz_text.specs.RunOrder.{header_lines, unnumbered}
+use Rattle.hz_text.specs.RunBuilt.{after_version, after_header, place_in, last_place, IsRunAdded}
 use Rattle.hz_text.proofs.FaultLaws.{unassigned-None}
+use Rattle.hz_text.proofs.TextLaws.{first_line-cons}
 use Rattle.hz_text.proofs.BuildLemmas.{or_parts}
-use Rattle.hz_text.proofs.OrderLaws.{is_Header, is_Start, is_Input}
+use Rattle.hz_text.proofs.OrderLaws.{is_Header, is_Net, is_Start, is_Input}
 use Rattle.hz_text.specs.declared.fault.TextFault.TheVariants as fault
-use Rattle.hz_text.proofs.ReadLaws.{is_none-Some, bit-some, pairs-sound, none_parts, none_last, All-unmap, All-from_first_line}
+use Rattle.hz_text.proofs.ReadLaws.{is_none-Some, bit-some, pairs-sound, none_parts, All-unmap, All-from_first_line}
 
 -- one run more, after the last
 last_place-push : (old : List RunOf) (run : RunOf) → last_place (old ++ run ∷ []) ≡ place_in run.cycle
@@ -153,7 +157,8 @@ next_in_order here first later on e = by_place (place_after here first.statement
     by_place (Some next) p w = record { next = next; place = p; ordered = w }
 
 is_End : (statement : LookedRun) → is_end statement ≡ true → statement ≡ End
-is_End Header e = cc
+is_End (Header version) e = cc
+is_End (Net size) e = cc
 is_End (Start assignments) e = cc
 is_End (Input assignments) e = cc
 is_End Run e = cc
@@ -189,35 +194,30 @@ first_passes test after first later e = by_test (test first.statement) refl e
     by_test true t w = (t, w)
     by_test false t w = cc
 
--- the first three statements of a run text in order, and the runs after them
-pub record IsFramed (header start input : Numbered LookedRun) (later : List (Numbered LookedRun)) : Type 0 where
-  pub front : unnumbered (header ∷ start ∷ input ∷ later) ≡ Header ∷ Start (assignments_in start.statement) ∷ Input (assignments_in input.statement) ∷ unnumbered later
+-- the first two statements of a run text in order from the start on, and the runs after them
+pub record IsFramed (start input : Numbered LookedRun) (later : List (Numbered LookedRun)) : Type 0 where
+  pub front : unnumbered (start ∷ input ∷ later) ≡ Start (assignments_in start.statement) ∷ Input (assignments_in input.statement) ∷ unnumbered later
   pub is_start : start.statement ≡ Start (assignments_in start.statement)
   pub is_input : input.statement ≡ Input (assignments_in input.statement)
-  pub first_start : first_start (header ∷ start ∷ input ∷ later) ≡ Some (assignments_in start.statement)
-  pub first_input : first_input (header ∷ start ∷ input ∷ later) ≡ Some (assignments_in input.statement)
+  pub first_start : first_start (start ∷ input ∷ later) ≡ Some (assignments_in start.statement)
+  pub first_input : first_input (start ∷ input ∷ later) ≡ Some (assignments_in input.statement)
   pub runs : runs_out_of_order place.Between later ≡ None
 
-framed : (header start input : Numbered LookedRun) (later : List (Numbered LookedRun)) → run_out_of_order (header ∷ start ∷ input ∷ later) ≡ None → IsFramed header start input later
-framed header start input later e =
-    let a = first_passes is_header start_out_of_order header (start ∷ input ∷ later) e in
-    let b = first_passes is_start_line input_out_of_order start (input ∷ later) a.1 in
+framed : (start input : Numbered LookedRun) (later : List (Numbered LookedRun)) → start_out_of_order (start ∷ input ∷ later) ≡ None → IsFramed start input later
+framed start input later e =
+    let b = first_passes is_start_line input_out_of_order start (input ∷ later) e in
     let c = first_passes is_input_line (runs_out_of_order place.Between) input later b.1 in
-    let h = is_Header header.statement a.0 in
     let s = is_Start start.statement b.0 in
     let i = is_Input input.statement c.0 in
-    let no_start : is_start_line header.statement ≡ false = ap is_start_line h in
-    let no_input : is_input_line header.statement ≡ false = ap is_input_line h in
-    let no_input2 : is_input_line start.statement ≡ false = ap is_input_line s in
+    let no_input : is_input_line start.statement ≡ false = ap is_input_line s in
     record {
       front =
-          ap (λ one. one ∷ start.statement ∷ input.statement ∷ unnumbered later) h
-          ∙ ap (λ one. Header ∷ one ∷ input.statement ∷ unnumbered later) s
-          ∙ ap (λ one. Header ∷ Start (assignments_in start.statement) ∷ one ∷ unnumbered later) i;
+          ap (λ one. one ∷ input.statement ∷ unnumbered later) s
+          ∙ ap (λ one. Start (assignments_in start.statement) ∷ one ∷ unnumbered later) i;
       is_start = s;
       is_input = i;
-      first_start = rw (no_start, b.0) refl;
-      first_input = rw (no_input, no_input2, c.0) refl;
+      first_start = rw b.0 refl;
+      first_input = rw (no_input, c.0) refl;
       runs = c.1;
     }
 
@@ -259,7 +259,8 @@ whole_input inputs all statement is unknown bits twice whole =
 
 -- the variables of a statement that names nothing unknown are there
 pub known_variables : (inputs : ℕ) (statement : LookedRun) → names_unknown inputs statement ≡ false → list_any is_none (variables_in statement) ≡ false
-known_variables inputs Header e = refl
+known_variables inputs (Header version) e = refl
+known_variables inputs (Net size) e = refl
 known_variables inputs (Start assignments) e = refl
 known_variables inputs (Input assignments) e = refl
 known_variables inputs Run e = refl
@@ -274,13 +275,17 @@ all_known (first ∷ later) e =
     let parts = or_parts (is_none first) (list_any is_none later) e in
     All-cons IsSome first later (is_none-Some first parts.0) (all_known later parts.1)
 
--- no pass has an answer
-pub record IsClearRun (netlist : Netlist) (statements : List (Numbered LookedRun)) : Type 0 where
+-- the passes over what statements say of names and words have no answer
+pub record AreNamesClear (netlist : Netlist) (statements : List (Numbered LookedRun)) : Type 0 where
   pub unknown : first_line (names_unknown netlist.inputs) statements ≡ None
   pub twice : first_line names_node_twice statements ≡ None
   pub start : least_left_out (first_start statements) (length netlist.names) ≡ None
   pub input : least_left_out (first_input statements) netlist.inputs ≡ None
   pub bit : first_line lacks_bit statements ≡ None
+
+-- no pass has an answer
+pub record IsClearRun (netlist : Netlist) (statements : List (Numbered LookedRun)) : Type 0 where
+  pub names : AreNamesClear netlist statements
   pub order : run_out_of_order statements ≡ None
   pub few : beyond_from 0 0 statements ≡ None
 
@@ -301,77 +306,151 @@ clear_run netlist statements h =
     let d = none_parts fault.Bit (first_line lacks_bit statements) _ c.1 in
     let e = none_parts fault.Order (run_out_of_order statements) _ d.1 in
     let m = neither (least_left_out (first_start statements) (length netlist.names)) (least_left_out (first_input statements) netlist.inputs) c.0 in
-    record { unknown = a.0; twice = b.0; start = m.0; input = m.1; bit = d.0; order = e.0; few = none_last fault.TooMany (beyond_from 0 0 statements) e.1 }
+    let f = none_parts fault.TooMany (beyond_from 0 0 statements) _ e.1 in
+    record { names = record { unknown = a.0; twice = b.0; start = m.0; input = m.1; bit = d.0 }; order = e.0; few = f.0 }
 
--- statements without a fault, ready to be built
-pub record IsReady (netlist : Netlist) (entries : List RunEntry) (start input : List Assigned) : Type 0 where
-  pub some : 3 ≤ length entries
+-- the passes have no answer behind a statement, either
+clear-tail : (test : LookedRun → Bool) (first : Numbered LookedRun) (later : List (Numbered LookedRun)) → first_line test (first ∷ later) ≡ None → first_line test later ≡ None
+clear-tail test first later e = by_test (test first.statement) (sym (first_line-cons test first later) ∙ e)
+  where
+    by_test : (b : Bool) → cond b (Some first.line) (first_line test later) ≡ None → first_line test later ≡ None
+    by_test true w = cc
+    by_test false w = w
+
+names-tail :
+    (netlist : Netlist) (first : Numbered LookedRun) (later : List (Numbered LookedRun)) → is_start_line first.statement ≡ false → is_input_line first.statement ≡ false →
+    AreNamesClear netlist (first ∷ later) → AreNamesClear netlist later
+names-tail netlist first later no_start no_input clear = record {
+  unknown = clear-tail (names_unknown netlist.inputs) first later clear.unknown;
+  twice = clear-tail names_node_twice first later clear.twice;
+  start = rw no_start at clear.start;
+  input = rw no_input at clear.input;
+  bit = clear-tail lacks_bit first later clear.bit;
+}
+
+-- what stands before the start of a text without a fault, and what holds from the start on
+pub record IsFromStart (netlist : Netlist) (entries states : List RunEntry) : Type 0 where
+  pub size : Option Size
+  pub front : unnumbered (run_entered_all entries) ≡ header_lines size ++ unnumbered (run_entered_all states)
+  pub below : All (AssignsBelow (length netlist.names)) states
+  pub names : AreNamesClear netlist (run_entered_all states)
+  pub order : start_out_of_order (run_entered_all states) ≡ None
+
+-- behind the header of version 2
+from_net :
+    (netlist : Netlist) (header : RunEntry) (later : List RunEntry) → All (AssignsBelow (length netlist.names)) later → AreNamesClear netlist (run_entered_all later) →
+    run_held_by header.held ≡ Header Two → net_out_of_order (run_entered_all later) ≡ None → IsFromStart netlist (header ∷ later) (drop 1 later)
+from_net netlist header [] below names is e = let wrong : ◌≡◌ {A = Option ℕ} (Some 0) None = e in cc
+from_net netlist header (net ∷ states) below names is e =
+    let passes = first_passes is_net_line start_out_of_order (run_entered net) (run_entered_all states) e in
+    let tells = is_Net (run_held_by net.held) passes.0 in
+    record {
+      size = Some tells.0;
+      front =
+          ap (λ one. one ∷ run_held_by net.held ∷ unnumbered (run_entered_all states)) is
+          ∙ ap (λ one. Header Two ∷ one ∷ unnumbered (run_entered_all states)) tells.1;
+      below = All-tail (AssignsBelow (length netlist.names)) net states below;
+      names = names-tail netlist (run_entered net) (run_entered_all states) (ap is_start_line tells.1) (ap is_input_line tells.1) names;
+      order = passes.1;
+    }
+
+from_start :
+    (netlist : Netlist) (entries : List RunEntry) → All (AssignsBelow (length netlist.names)) entries → AreNamesClear netlist (run_entered_all entries) →
+    run_out_of_order (run_entered_all entries) ≡ None → IsFromStart netlist entries (after_header entries)
+from_start netlist [] below names e = let wrong : ◌≡◌ {A = Option ℕ} (Some 0) None = e in cc
+from_start netlist (header ∷ later) below names e = by_version (version_in (run_held_by header.held)) refl e
+  where
+    low : All (AssignsBelow (length netlist.names)) later
+    low = All-tail (AssignsBelow (length netlist.names)) header later below
+
+    rest : (version : Version) → run_held_by header.held ≡ Header version → AreNamesClear netlist (run_entered_all later)
+    rest version is = names-tail netlist (run_entered header) (run_entered_all later) (ap is_start_line is) (ap is_input_line is) names
+
+    by_version :
+        (v : Option Version) → version_in (run_held_by header.held) ≡ v → option_map_or (λ version. version_out_of_order version (run_entered_all later)) v (Some header.line) ≡ None →
+        IsFromStart netlist (header ∷ later) (after_version v later)
+    by_version None t w = cc
+    by_version (Some One) t w =
+        let is = is_Header (run_held_by header.held) One t in
+        record { size = None; front = ap (λ one. one ∷ unnumbered (run_entered_all later)) is; below = low; names = rest One is; order = w }
+    by_version (Some Two) t w =
+        let is = is_Header (run_held_by header.held) Two t in
+        from_net netlist header later low (rest Two is) is w
+
+-- statements without a fault from the start on, ready to be built
+pub record IsReady (netlist : Netlist) (states : List RunEntry) (start input : List Assigned) : Type 0 where
   pub start_is : IsWholeStart (length netlist.names) start
   pub input_is : IsWholeStart netlist.inputs input
-  pub ordered : runs_out_of_order place.Between (run_entered_all (drop 3 entries)) ≡ None
-  pub known : All (λ entry. list_any is_none (variables_in (run_held_by entry.held)) ≡ false) (drop 3 entries)
-  pub front : unnumbered (run_entered_all entries) ≡ Header ∷ Start start ∷ Input input ∷ unnumbered (run_entered_all (drop 3 entries))
+  pub ordered : runs_out_of_order place.Between (run_entered_all (drop 2 states)) ≡ None
+  pub known : All (λ entry. list_any is_none (variables_in (run_held_by entry.held)) ≡ false) (drop 2 states)
+  pub front : unnumbered (run_entered_all states) ≡ Start start ∷ Input input ∷ unnumbered (run_entered_all (drop 2 states))
 
 -- what an entry assigns
 abbrev pub assigned_at : RunEntry → List Assigned
 assigned_at entry = assignments_in (run_held_by entry.held)
 
-ready_at : (netlist : Netlist) (entries : List RunEntry) → All (AssignsBelow (length netlist.names)) entries → IsClearRun netlist (run_entered_all entries) → (start input d : RunEntry) → start ≡ get_or entries 1 d → input ≡ get_or entries 2 d → IsReady netlist entries (assigned_at start) (assigned_at input)
-ready_at netlist [] below clear start input d s i = let wrong : ◌≡◌ {A = Option ℕ} (Some 0) None = clear.order in cc
-ready_at netlist (header ∷ []) below clear start input d s i =
-    let a = first_passes is_header start_out_of_order (run_entered header) [] clear.order in
-    let wrong : ◌≡◌ {A = Option ℕ} (Some 0) None = a.1 in cc
-ready_at netlist (header ∷ one ∷ []) below clear start input d s i =
-    let a = first_passes is_header start_out_of_order (run_entered header) (run_entered one ∷ []) clear.order in
-    let b = first_passes is_start_line input_out_of_order (run_entered one) [] a.1 in
+-- from the start on there are two statements at least
+long_enough : (states : List RunEntry) → start_out_of_order (run_entered_all states) ≡ None → 2 ≤ length states
+long_enough [] e = let wrong : ◌≡◌ {A = Option ℕ} (Some 0) None = e in cc
+long_enough (one ∷ []) e =
+    let b = first_passes is_start_line input_out_of_order (run_entered one) [] e in
     let wrong : ◌≡◌ {A = Option ℕ} (Some 0) None = b.1 in cc
-ready_at netlist (header ∷ one ∷ two ∷ later) below clear start input d s i =
-    let entries = header ∷ one ∷ two ∷ later in
+long_enough (one ∷ two ∷ later) e = omega arith
+
+ready_at :
+    (netlist : Netlist) (states : List RunEntry) → All (AssignsBelow (length netlist.names)) states → AreNamesClear netlist (run_entered_all states) →
+    start_out_of_order (run_entered_all states) ≡ None → (start input d : RunEntry) → start ≡ get_or states 0 d → input ≡ get_or states 1 d →
+    IsReady netlist states (assigned_at start) (assigned_at input)
+ready_at netlist [] below clear order start input d s i = let wrong : ◌≡◌ {A = Option ℕ} (Some 0) None = order in cc
+ready_at netlist (one ∷ []) below clear order start input d s i =
+    let b = first_passes is_start_line input_out_of_order (run_entered one) [] order in
+    let wrong : ◌≡◌ {A = Option ℕ} (Some 0) None = b.1 in cc
+ready_at netlist (one ∷ two ∷ later) below clear order start input d s i =
+    let states = one ∷ two ∷ later in
     let inputs = netlist.inputs in
-    let frame = framed (run_entered header) (run_entered one) (run_entered two) (run_entered_all later) clear.order in
+    let frame = framed (run_entered one) (run_entered two) (run_entered_all later) order in
     let U : Numbered LookedRun → Type 0 = λ numbered. names_unknown inputs numbered.statement ≡ false in
     let B : Numbered LookedRun → Type 0 = λ numbered. lacks_bit numbered.statement ≡ false in
     let T : Numbered LookedRun → Type 0 = λ numbered. names_node_twice numbered.statement ≡ false in
-    let unknown = All-unmap U run_entered entries (All-from_first_line (names_unknown inputs) (run_entered_all entries) clear.unknown) in
-    let bits = All-unmap B run_entered entries (All-from_first_line lacks_bit (run_entered_all entries) clear.bit) in
-    let twice = All-unmap T run_entered entries (All-from_first_line names_node_twice (run_entered_all entries) clear.twice) in
+    let unknown = All-unmap U run_entered states (All-from_first_line (names_unknown inputs) (run_entered_all states) clear.unknown) in
+    let bits = All-unmap B run_entered states (All-from_first_line lacks_bit (run_entered_all states) clear.bit) in
+    let twice = All-unmap T run_entered states (All-from_first_line names_node_twice (run_entered_all states) clear.twice) in
     let start_missing : least_unassigned (length netlist.names) (assigned_at one) ≡ None = ap (λ all. least_left_out all (length netlist.names)) (sym frame.first_start) ∙ clear.start in
     let input_missing : least_unassigned inputs (assigned_at two) ≡ None = ap (λ all. least_left_out all inputs) (sym frame.first_input) ∙ clear.input in
-    let first = whole_start inputs (length netlist.names) (assigned_at one) (run_held_by one.held) frame.is_start (unknown 1 d (omega arith)) (bits 1 d (omega arith)) (twice 1 d (omega arith)) (below 1 d (omega arith)) start_missing in
-    let second = whole_input inputs (assigned_at two) (run_held_by two.held) frame.is_input (unknown 2 d (omega arith)) (bits 2 d (omega arith)) (twice 2 d (omega arith)) input_missing in
+    let first = whole_start inputs (length netlist.names) (assigned_at one) (run_held_by one.held) frame.is_start (unknown 0 d (omega arith)) (bits 0 d (omega arith)) (twice 0 d (omega arith)) (below 0 d (omega arith)) start_missing in
+    let second = whole_input inputs (assigned_at two) (run_held_by two.held) frame.is_input (unknown 1 d (omega arith)) (bits 1 d (omega arith)) (twice 1 d (omega arith)) input_missing in
     let P : RunEntry → Type 0 = λ entry. IsWholeStart (length netlist.names) (assigned_at entry) in
     let Q : RunEntry → Type 0 = λ entry. IsWholeStart inputs (assigned_at entry) in
     record {
-      some = omega arith;
       start_is = subst P (sym s) first;
       input_is = subst Q (sym i) second;
       ordered = frame.runs;
-      known = λ k e l. known_variables inputs (run_held_by (get_or later k e).held) (unknown (suc (suc (suc k))) e (omega (arith, l)));
+      known = λ k e l. known_variables inputs (run_held_by (get_or later k e).held) (unknown (suc (suc k)) e (omega (arith, l)));
       front =
           frame.front
-          ∙ ap (λ entry. Header ∷ Start (assigned_at entry) ∷ Input (assigned_at two) ∷ unnumbered (run_entered_all later)) (sym s)
-          ∙ ap (λ entry. Header ∷ Start (assigned_at start) ∷ Input (assigned_at entry) ∷ unnumbered (run_entered_all later)) (sym i);
+          ∙ ap (λ entry. Start (assigned_at entry) ∷ Input (assigned_at two) ∷ unnumbered (run_entered_all later)) (sym s)
+          ∙ ap (λ entry. Start (assigned_at start) ∷ Input (assigned_at entry) ∷ unnumbered (run_entered_all later)) (sym i);
     }
 
-get_or-any : (entries : List RunEntry) (i : ℕ) (d e : RunEntry) → i < length entries → get_or entries i d ≡ get_or entries i e
-get_or-any entries i d e l = get_or_default entries i d e l
+-- the statements of a text without a fault from the start on
+pub record HasStates (netlist : Netlist) (entries : List RunEntry) : Type 0 where
+  pub is : IsFromStart netlist entries (after_header entries)
+  pub some : 2 ≤ length (after_header entries)
 
-pub long_enough : (entries : List RunEntry) → run_out_of_order (run_entered_all entries) ≡ None → 3 ≤ length entries
-long_enough [] e = let wrong : ◌≡◌ {A = Option ℕ} (Some 0) None = e in cc
-long_enough (header ∷ []) e =
-    let a = first_passes is_header start_out_of_order (run_entered header) [] e in
-    let wrong : ◌≡◌ {A = Option ℕ} (Some 0) None = a.1 in cc
-long_enough (header ∷ one ∷ []) e =
-    let a = first_passes is_header start_out_of_order (run_entered header) (run_entered one ∷ []) e in
-    let b = first_passes is_start_line input_out_of_order (run_entered one) [] a.1 in
-    let wrong : ◌≡◌ {A = Option ℕ} (Some 0) None = b.1 in cc
-long_enough (header ∷ one ∷ two ∷ later) e = omega arith
-
--- the second and the third entry of a text without a fault
-pub ready :
-    (netlist : Netlist) (entries : List RunEntry) (start input : RunEntry) → start ≡ get_or entries 1 start → input ≡ get_or entries 2 input →
-    All (AssignsBelow (length netlist.names)) entries → first_run_fault netlist (run_entered_all entries) ≡ None → IsReady netlist entries (assigned_at start) (assigned_at input)
-ready netlist entries start input s i below h =
+pub states_of :
+    (netlist : Netlist) (entries : List RunEntry) → All (AssignsBelow (length netlist.names)) entries → first_run_fault netlist (run_entered_all entries) ≡ None →
+    HasStates netlist entries
+states_of netlist entries below h =
     let clear = clear_run netlist (run_entered_all entries) h in
-    let long = long_enough entries clear.order in
-    ready_at netlist entries below clear start input start s (i ∙ get_or-any entries 2 input start (omega (arith, long)))
+    let is = from_start netlist entries below clear.names clear.order in
+    record { is = is; some = long_enough (after_header entries) is.order }
+
+-- the first and the second of them
+pub ready :
+    (netlist : Netlist) (entries : List RunEntry) (start input : RunEntry) → start ≡ get_or (after_header entries) 0 start → input ≡ get_or (after_header entries) 1 input →
+    All (AssignsBelow (length netlist.names)) entries → first_run_fault netlist (run_entered_all entries) ≡ None →
+    IsReady netlist (after_header entries) (assigned_at start) (assigned_at input)
+ready netlist entries start input s i below h =
+    let states = states_of netlist entries below h in
+    ready_at netlist (after_header entries) states.is.below states.is.names states.is.order start input start s
+    (i ∙ get_or_default (after_header entries) 1 input start (omega (arith, states.some)))

@@ -7,17 +7,20 @@ use Rattle.hz_line.specs.Statement.{PassesOn, first_line, numbered_statements, f
 use Rattle.hz_line.proofs.StatementLemmas.{numbered_from-Ascends, numbered_from-map}
 use Rattle.hz_text.specs.Assignment.{Assigned, Nodes, Inputs}
 use Rattle.hz_text.specs.declared.fault.TextFault.{TextFault}
+use Rattle.hz_text.specs.declared.fault.Mismatch.{Mismatch as Wrong}
 use Rattle.hz_text.specs.Rules.{least_unassigned, first_fault_of, IsAnswer, IsChecked}
-use Rattle.hz_text.specs.RunStatement.{Header, Start, Input, Run, Step, Cycle, End, RunStatement, run_statement_of, run_statements_of}
+use Rattle.hz_text.specs.RunStatement.{Header, Net, Start, Input, Run, Step, Cycle, End, RunStatement, run_statement_of, run_statements_of}
 use Rattle.hz_text.specs.RunLookup.{RunEntry, run_looked_of, run_looked_by, run_entered_all}
 use Rattle.hz_line.specs.Reading.{IsRead}
 use Rattle.hz_text.specs.RunFault.{looked_run_statements, names_unknown, names_twice, lacks_bit, first_start, first_input, LeavesOut, StandsInRuns, IsRunFaultless, IsRunRefusal}
-use Rattle.hz_text.specs.RunRules.{names_node_twice, AssignsBelow, least_left_out, beyond_from, run_rules, first_run_fault, IsAcceptedRun}
+use Rattle.hz_text.specs.RunSize.{size_of}
+use Rattle.hz_text.specs.RunRules.{first_mismatch, names_node_twice, AssignsBelow, least_left_out, beyond_from, run_rules, first_run_fault, IsAcceptedRun}
 use Rattle.hz_text.proofs.FaultLaws.{unassigned-Some, unassigned-None, twice-names, true-false}
 use Rattle.std.specs.List.{All}
 use Rattle.hz_text.proofs.BeyondLaws.{answers_beyond}
 use Rattle.hz_text.proofs.OrderLaws.{answers_order}
-use Rattle.hz_text.proofs.LeastFault.{Outcome, answers_first, answers_either, answered, unanswered, checked-none}
+use Rattle.hz_text.proofs.LeastFault.{Outcome, answers_first, answers_either, answered, unanswered, checked-none, OneMismatch, AnswersMismatch}
+use Rattle.hz_text.proofs.MismatchLaws.{mismatch-once, FindsMismatch, answers_mismatch}
 use Rattle.hz_text.proofs.TextLaws.{Judged, looked-Ascends, answers_malformed, text-outcome, twice-line}
 
 -- the statements that the reader reads are those of the text, looked up
@@ -37,13 +40,18 @@ answers_left_out (Some all) nodes = answers_unassigned all nodes (least_unassign
 
 -- names of a statement in which none is unknown are equal where their nodes are
 twice_in : (netlist : Netlist) (statement : RunStatement) → names_unknown netlist.inputs (run_looked_of netlist statement) ≡ false → names_node_twice (run_looked_of netlist statement) ≡ names_twice statement
-twice_in netlist Header u = refl
+twice_in netlist (Header version) u = refl
+twice_in netlist (Net size) u = refl
 twice_in netlist (Start assignments) u = twice-names netlist Nodes assignments u
 twice_in netlist (Input assignments) u = twice-names netlist Inputs assignments u
 twice_in netlist Run u = refl
 twice_in netlist (Step variables) u = refl
 twice_in netlist Cycle u = refl
 twice_in netlist End u = refl
+
+-- one count is told wrongly
+pub one-mismatch : (netlist : Netlist) (text : List ℕ) → OneMismatch (StandsInRuns netlist text)
+one-mismatch netlist text = mismatch-once netlist (looked_run_statements netlist text)
 
 -- each pass answers the least place of its fault
 judged : (netlist : Netlist) (text : List ℕ) → Judged (StandsInRuns netlist text) (run_rules netlist) (first_malformed (run_looked_by netlist) 1 (lines_of text)) (looked_run_statements netlist text)
@@ -64,8 +72,14 @@ judged netlist text =
       bit = answers_first lacks_bit looked (first_line lacks_bit looked) up refl;
       order = answers_order looked;
       beyond = λ none. answers_beyond looked (beyond_from 0 0 looked) refl;
+      mismatch = finds (first_mismatch (size_of netlist) looked) (answers_mismatch netlist looked);
+      one = one-mismatch netlist text;
       memory = λ stands. stands;
     }
+  where
+    finds : (answer : Option Wrong) → FindsMismatch netlist (looked_run_statements netlist text) answer → AnswersMismatch (StandsInRuns netlist text) answer
+    finds None h = h
+    finds (Some wrong) h = h
 
 -- what was read is looked up
 read_runs-looked : (netlist : Netlist) (text : List ℕ) (entries : List RunEntry) → IsRead (run_looked_by netlist) text (run_entered_all entries) → run_entered_all entries ≡ looked_run_statements netlist text

@@ -16,14 +16,18 @@ use Rattle.hz_text.specs.declared.run.order.Place.{Place}
 use Rattle.hz_text.specs.declared.run.order.Place.TheVariants as place
 use Rattle.hz_text.specs.Assignment.{has_repeat, assignment_to}
 use Rattle.hz_text.specs.Rules.{nodes_of}
-use Rattle.hz_text.specs.RunStatement.{Header, Start, Input, Run, Cycle, End}
+use Rattle.hz_text.specs.RunStatement.{Header, Net, Start, Input, Run, Cycle, End}
+use Rattle.hz_text.specs.declared.run.version.Version.TheVariants.{Two}
+use Rattle.std.specs.Option.{option_map}
+use Rattle.hz_text.specs.RunSize.{size_of}
+use Rattle.hz_text.proofs.MismatchLaws.{same_size}
 use Rattle.hz_text.specs.RunLookup.{LookedRun, run_looked_by}
 use Rattle.hz_text.specs.RunValue.{RunOf, RunTextOf, cycle_steps, all_steps}
 use Rattle.hz_text.specs.RunText.{step_of, cycle_statements, run_statements, IsRunTextBy, IsRunValue, IsRunTextFor}
 use Rattle.hz_text.specs.RunOrder.{unnumbered}
 use Rattle.hz_text.specs.RunFault.{looked_run_statements, variables_in, names_unknown, lacks_bit, steps_in, IsRunFaultless}
 use Rattle.hz_text.specs.OrderPass.{place_after_step, runs_out_of_order, run_out_of_order}
-use Rattle.hz_text.specs.RunRules.{beyond_from, names_node_twice, least_missing_node, first_run_fault}
+use Rattle.hz_text.specs.RunRules.{first_mismatch, beyond_from, names_node_twice, least_missing_node, first_run_fault}
 use Rattle.hz_text.specs.RunPrinted.{all_listed, run_text_printed}
 use Rattle.hz_text.proofs.BuildLemmas.{nodes_of-pairs}
 use Rattle.hz_text.proofs.TextLaws.{first_line-cons}
@@ -130,16 +134,18 @@ start-sound inputs bits = record { known = start-known inputs (all_listed bits);
 input-sound : (inputs : ℕ) (bits : List Bool) → length bits ≡ inputs → IsSound inputs (Input (map assignment_to (all_listed bits)))
 input-sound inputs bits long = record { known = inputs-known inputs (all_listed bits) (all_listed-below bits inputs long); once = listed-once bits; bits = all-bits keyword.Change (all_listed bits) }
 
-sent-sound : (netlist : Netlist) (value : RunTextOf) → IsRunTextFor netlist value → All (IsSound netlist.inputs) (sent value)
+sent-sound : (netlist : Netlist) (value : RunTextOf) → IsRunTextFor netlist value → All (IsSound netlist.inputs) (sent netlist value)
 sent-sound netlist value h =
     let P = IsSound netlist.inputs in
     let start = Start (map assignment_to (all_listed value.nodes)) in
     let input = Input (map assignment_to (all_listed value.input)) in
-    let plain : P Header = record { known = refl; once = refl; bits = refl } in
+    let net = Net (size_of netlist) in
+    let plain : P (Header Two) = record { known = refl; once = refl; bits = refl } in
+    let size : P net = record { known = refl; once = refl; bits = refl } in
     let last : P End = record { known = refl; once = refl; bits = refl } in
     let runs = flat_map run_statements value.runs in
-    let three = All-cons P Header (start ∷ input ∷ []) plain (All-cons P start (input ∷ []) (start-sound netlist.inputs value.nodes) (All-cons P input [] (input-sound netlist.inputs value.input h.inputs) (All-nil P))) in
-    All-append P (Header ∷ start ∷ input ∷ runs) (End ∷ []) (All-append P (Header ∷ start ∷ input ∷ []) runs three (runs-sound netlist.inputs value.runs)) (All-cons P End [] last (All-nil P))
+    let four = All-cons P (Header Two) (net ∷ start ∷ input ∷ []) plain (All-cons P net (start ∷ input ∷ []) size (All-cons P start (input ∷ []) (start-sound netlist.inputs value.nodes) (All-cons P input [] (input-sound netlist.inputs value.input h.inputs) (All-nil P)))) in
+    All-append P (Header Two ∷ net ∷ start ∷ input ∷ runs) (End ∷ []) (All-append P (Header Two ∷ net ∷ start ∷ input ∷ []) runs four (runs-sound netlist.inputs value.runs)) (All-cons P End [] last (All-nil P))
 
 -- statements of runs and the end stand in order, whatever their lines
 abbrev InOrder : Place → List LookedRun → Type 0
@@ -217,13 +223,15 @@ runs-count (run ∷ runs) =
     subst P (sym (append_assoc (run_statements run) (flat_map run_statements runs) (End ∷ [])))
     (Counts-append (run_statements run) (flat_map run_statements runs ++ End ∷ []) mine (all_steps runs) (run-count run) (runs-count runs))
 
-sent-count : (value : RunTextOf) → Counts (sent value) (all_steps value.runs)
-sent-count value =
+sent-count : (netlist : Netlist) (value : RunTextOf) → Counts (sent netlist value) (all_steps value.runs)
+sent-count netlist value =
     let steps = all_steps value.runs in
     let start = Start (map assignment_to (all_listed value.nodes)) in
     let input = Input (map assignment_to (all_listed value.input)) in
     let runs = flat_map run_statements value.runs ++ End ∷ [] in
-    plain-count Header (start ∷ input ∷ runs) steps refl refl (plain-count start (input ∷ runs) steps refl refl (plain-count input runs steps refl refl (runs-count value.runs)))
+    let net = Net (size_of netlist) in
+    plain-count (Header Two) (net ∷ start ∷ input ∷ runs) steps refl refl (plain-count net (start ∷ input ∷ runs) steps refl refl
+    (plain-count start (input ∷ runs) steps refl refl (plain-count input runs steps refl refl (runs-count value.runs))))
 
 -- statements with few steps and few variables are not too many
 none-beyond : (steps variables line : ℕ) (statements : List LookedRun) → steps + sum_by steps_in statements ≤ 2000000 → variables + sum_by variables_count statements ≤ 2000000 → beyond_from steps variables (numbered line statements) ≡ None
@@ -241,26 +249,27 @@ none-beyond steps variables line (statement ∷ later) few few' =
 listed-some : (bits : List Bool) (bound : ℕ) → length bits ≡ bound → (k : ℕ) → k < bound → IsSome (get_or (map Some bits) k None)
 listed-some bits bound long k below = rw (get_or-map Some bits k false None (omega (arith, below, long))) refl
 
-sent-whole : (netlist : Netlist) (value : RunTextOf) → IsRunTextFor netlist value → least_missing_node netlist (numbered 1 (sent value)) ≡ None
+sent-whole : (netlist : Netlist) (value : RunTextOf) → IsRunTextFor netlist value → least_missing_node netlist (numbered 1 (sent netlist value)) ≡ None
 sent-whole netlist value h =
     let nodes = listed-whole (map Some value.nodes) (length netlist.names) (listed-some value.nodes (length netlist.names) h.nodes) in
     let inputs = listed-whole (map Some value.input) netlist.inputs (listed-some value.input netlist.inputs h.inputs) in
     rw (nodes, inputs) refl
 
-sent-clear : (netlist : Netlist) (value : RunTextOf) → IsRunTextFor netlist value → first_run_fault netlist (numbered 1 (sent value)) ≡ None
+sent-clear : (netlist : Netlist) (value : RunTextOf) → IsRunTextFor netlist value → first_run_fault netlist (numbered 1 (sent netlist value)) ≡ None
 sent-clear netlist value h =
-    let all = numbered 1 (sent value) in
+    let all = numbered 1 (sent netlist value) in
     let sound = sent-sound netlist value h in
-    let count = sent-count value in
-    let unknown : first_line (names_unknown netlist.inputs) all ≡ None = none-passes (names_unknown netlist.inputs) 1 (sent value) (λ k d l. (sound k d l).known) in
-    let twice : first_line names_node_twice all ≡ None = none-passes names_node_twice 1 (sent value) (λ k d l. (sound k d l).once) in
-    let bit : first_line lacks_bit all ≡ None = none-passes lacks_bit 1 (sent value) (λ k d l. (sound k d l).bits) in
+    let count = sent-count netlist value in
+    let unknown : first_line (names_unknown netlist.inputs) all ≡ None = none-passes (names_unknown netlist.inputs) 1 (sent netlist value) (λ k d l. (sound k d l).known) in
+    let twice : first_line names_node_twice all ≡ None = none-passes names_node_twice 1 (sent netlist value) (λ k d l. (sound k d l).once) in
+    let bit : first_line lacks_bit all ≡ None = none-passes lacks_bit 1 (sent netlist value) (λ k d l. (sound k d l).bits) in
     let missing : least_missing_node netlist all ≡ None = sent-whole netlist value h in
-    let order : run_out_of_order all ≡ None = runs-in_order value.runs place.Between 4 in
-    let few : beyond_from 0 0 all ≡ None = none-beyond 0 0 1 (sent value) (omega (arith, count.steps_are, h.few_steps)) (omega (arith, count.variables_are, h.few_variables)) in
-    rw (unknown, twice, missing, bit, order, few) refl
+    let order : run_out_of_order all ≡ None = runs-in_order value.runs place.Between 5 in
+    let few : beyond_from 0 0 all ≡ None = none-beyond 0 0 1 (sent netlist value) (omega (arith, count.steps_are, h.few_steps)) (omega (arith, count.variables_are, h.few_variables)) in
+    let size : first_mismatch (size_of netlist) all ≡ None = ap (option_map (λ counts. record { line = 2; told = counts.0; real = counts.1 })) (same_size (size_of netlist)) in
+    rw (unknown, twice, missing, bit, order, few, size) refl
 
-printed-read : (netlist : Netlist) (value : RunTextOf) → IsCircuit netlist → IsRunTextFor netlist value → IsReadAsRun netlist (run_text_printed netlist value) (sent value)
+printed-read : (netlist : Netlist) (value : RunTextOf) → IsCircuit netlist → IsRunTextFor netlist value → IsReadAsRun netlist (run_text_printed netlist value) (sent netlist value)
 printed-read netlist value circuit h =
     let P : ℕ × Bool → Type 0 = λ pair. pair.0 < netlist.inputs in
     let Q : ℕ × Bool → Type 0 = λ pair. pair.0 < length netlist.names in
@@ -272,17 +281,18 @@ pub printed-faultless : (netlist : Netlist) (value : RunTextOf) → IsCircuit ne
 printed-faultless netlist value circuit h =
     let text = run_text_printed netlist value in
     let read = printed-read netlist value circuit h in
-    clear-faultless netlist text (text-formed netlist text (sent value) read)
-    (ap (first_run_fault netlist) (looked-numbered netlist text (sent value) read) ∙ sent-clear netlist value h)
+    clear-faultless netlist text (text-formed netlist text (sent netlist value) read)
+    (ap (first_run_fault netlist) (looked-numbered netlist text (sent netlist value) read) ∙ sent-clear netlist value h)
 
 -- what was printed stands for the run text
 pub printed-value : (netlist : Netlist) (value : RunTextOf) → IsCircuit netlist → IsRunTextFor netlist value → IsRunValue netlist (run_text_printed netlist value) value
 printed-value netlist value circuit h =
     let text = run_text_printed netlist value in
     let read = printed-read netlist value circuit h in
-    let same : sent value ≡ unnumbered (looked_run_statements netlist text) = sym (ap unnumbered (looked-numbered netlist text (sent value) read) ∙ unnumbered-numbered 1 (sent value)) in
+    let same : sent netlist value ≡ unnumbered (looked_run_statements netlist text) = sym (ap unnumbered (looked-numbered netlist text (sent netlist value) read) ∙ unnumbered-numbered 1 (sent netlist value)) in
     let P : List LookedRun → Type 0 = λ statements. IsRunTextBy netlist statements value in
     subst P same (record {
+      size = Some (size_of netlist);
       start = map assignment_to (all_listed value.nodes);
       input = map assignment_to (all_listed value.input);
       are = refl;

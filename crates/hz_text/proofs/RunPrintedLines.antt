@@ -7,7 +7,7 @@ use Rattle.std.proofs.lemmas.Bool.Decides.{nat_tests}
 use Rattle.std.proofs.lemmas.List.{map-append, append-nil}
 use Rattle.std.proofs.lemmas.List.Folds.{list_all-append}
 use Rattle.std.proofs.lemmas.List.Elements.{All-nil, All-cons, All-head, All-tail}
-use Rattle.hz_core.specs.Netlist.{Netlist, IsCircuit, gate_at, variable_count}
+use Rattle.hz_core.specs.Netlist.{Netlist, IsCircuit, gate_at, pin_count, variable_count}
 use Rattle.hz_net.specs.Network.{network_of}
 use Rattle.hz_net.proofs.Places.{length-network_of}
 use Rattle.hz_line.specs.declared.bytes.Mark.TheVariants.{Open, Close}
@@ -16,17 +16,20 @@ use Rattle.hz_line.specs.Line.{lines_of}
 use Rattle.hz_line.specs.Token.{TokenOf, WordOf, MarkOf, tokens_of, with_token, begins_in_word}
 use Rattle.hz_line.specs.Statement.{Meaning, Nothing, Means, meaning_of, meaning_of_tokens}
 use Rattle.hz_line.proofs.WrittenLemmas.{word_bytes, tokens_of-open, tokens_of-close, tokens_of-space, is_letter-separators, tokens_of-word_before, is_inline, lines_of-written}
+use Rattle.hz_write.specs.Writes.{line_of}
+use Rattle.hz_text.specs.declared.run.version.Version.TheVariants.{Two}
+use Rattle.hz_text.specs.RunSize.{size_of}
 use Rattle.hz_text.specs.RunKeyword as keyword
 use Rattle.hz_text.specs.Printed.{assignment_text, statement_text}
 use Rattle.hz_text.specs.Assignment.{assignment_to}
-use Rattle.hz_text.specs.RunStatement.{Variable, Node, Pin, Header, Start, Input, Run, Step, Cycle, End, with_first, variables_of, is_decimal, run_keyword_of}
+use Rattle.hz_text.specs.RunStatement.{Variable, Node, Pin, Header, Net, Start, Input, Run, Step, Cycle, End, with_first, variables_of, is_decimal, run_keyword_of}
 use Rattle.hz_text.specs.RunLookup.{LookedRun, variable_named, run_looked_by}
 use Rattle.hz_text.specs.RunValue.{RunOf, RunTextOf, cycle_steps, all_steps}
 use Rattle.hz_text.specs.RunText.{step_of, cycle_statements, run_statements}
-use Rattle.hz_text.specs.RunPrinted.{wire_word, variable_word, spaced_word, step_text, cycle_text, run_text, all_listed, run_text_printed}
+use Rattle.hz_text.specs.RunPrinted.{wire_word, variable_word, spaced_word, step_text, cycle_text, run_text, all_listed, net_line, version_text, states_text, run_text_printed}
 use Rattle.hz_text.proofs.WordLaws.{AreNodes, no_word, name_at, pair_tokens, pairs_read, pairs_inline, assignments_read}
 use Rattle.hz_text.proofs.PrintLaws.{node_at, assigned_back}
-use Rattle.hz_text.proofs.DecimalLemmas.{decimal-digits, number_by-decimal, decimal-is_decimal, digits-name}
+use Rattle.hz_text.proofs.DecimalLemmas.{decimal-digits, number_by-decimal, decimal-is_decimal, count_of-decimal, digits-name}
 use Rattle.hz_text.proofs.VariableWords.{wire_at, variable_word-node, variable_word-wire, wire_is_pin, pin-bound}
 use Rattle.hz_text.proofs.RunPrintLemmas.{All-front, All-back}
 
@@ -58,9 +61,9 @@ Reads-line netlist line statement inline means = λ rest.
     ∙ ap (map (meaning_of (run_looked_by netlist))) (lines_of-written line rest inline)
     ∙ ap (λ meaning. meaning ∷ meanings_of netlist rest) means
 
-header_reads : (netlist : Netlist) → Reads netlist (codes "runs 1\n") (Header ∷ [])
+header_reads : (netlist : Netlist) → Reads netlist (codes "runs 2\n") (Header Two ∷ [])
 unfolding class_of run_keyword_of
-header_reads netlist = Reads-line netlist (codes "runs 1") Header refl refl
+header_reads netlist = Reads-line netlist (codes "runs 2") (Header Two) refl refl
 
 run_reads : (netlist : Netlist) → Reads netlist (codes "run\n") (Run ∷ [])
 unfolding class_of run_keyword_of
@@ -76,16 +79,56 @@ end_reads netlist = Reads-line netlist (codes "end") End refl refl
 
 -- the keywords that other words follow
 record AreKeywords : Type 0 where
+  net : run_keyword_of (codes "net") ≡ Some keyword.Net
   start : run_keyword_of (codes "start") ≡ Some keyword.Start
   input : run_keyword_of (codes "input") ≡ Some keyword.Input
   step : run_keyword_of (codes "step") ≡ Some keyword.Step
+  net_letters : list_all is_letter (codes "net") ≡ true
   start_letters : list_all is_letter (codes "start") ≡ true
   input_letters : list_all is_letter (codes "input") ≡ true
   step_letters : list_all is_letter (codes "step") ≡ true
 
 keywords : AreKeywords
 unfolding class_of run_keyword_of
-keywords = record { start = refl; input = refl; step = refl; start_letters = refl; input_letters = refl; step_letters = refl }
+keywords = record { net = refl; start = refl; input = refl; step = refl; net_letters = refl; start_letters = refl; input_letters = refl; step_letters = refl }
+
+-- a space and a number before other words: the words of a line with counts
+record IsCounted (words : List ℕ) (tokens : List TokenOf) : Type 0 where
+  read : tokens_of words ≡ Some tokens
+  ends : begins_in_word words ≡ false
+  inline : list_all is_inline words ≡ true
+
+no_count : IsCounted [] []
+no_count = record { read = refl; ends = refl; inline = refl }
+
+one_count : (n : ℕ) (words : List ℕ) (tokens : List TokenOf) → n < 2 ^ 64 → IsCounted words tokens → IsCounted (32 ∷ decimal n ++ words) (WordOf (decimal n) ∷ tokens)
+one_count n words tokens small is =
+    let digits = decimal n in
+    let bytes = word_bytes digits (digits-name digits (decimal-digits n small)) in
+    record {
+      read =
+          tokens_of-space (digits ++ words)
+          ∙ tokens_of-word_before digits words (decimal_nonempty n small) bytes.0 is.ends ∙ ap (with_token (WordOf digits)) is.read;
+      ends = is_letter-separators.0;
+      inline = rw (list_all-append is_inline digits words, bytes.1, is.inline) refl;
+    }
+
+net_reads : (netlist : Netlist) → IsCircuit netlist → Reads netlist (net_line (size_of netlist)) (Net (size_of netlist) ∷ [])
+unfolding net_line line_of
+net_reads netlist circuit =
+    let inputs = netlist.inputs in
+    let gates = length netlist.gates in
+    let wires = pin_count netlist in
+    let few : inputs + gates + wires ≤ 200000 = omega (arith, circuit.nodes, circuit.variables) in
+    let one = one_count wires [] [] (omega (arith, few)) no_count in
+    let two = one_count gates (32 ∷ decimal wires ++ []) _ (omega (arith, few)) one in
+    let three = one_count inputs (32 ∷ decimal gates ++ (32 ∷ decimal wires ++ [])) _ (omega (arith, few)) two in
+    let words = 32 ∷ decimal inputs ++ (32 ∷ decimal gates ++ (32 ∷ decimal wires ++ [])) in
+    let tokens = tokens_of-word_before (codes "net") words (omega arith) keywords.net_letters three.ends ∙ ap (with_token (WordOf (codes "net"))) three.read in
+    let inline : list_all is_inline (codes "net" ++ words) ≡ true = rw (list_all-append is_inline (codes "net") words, three.inline) refl in
+    Reads-line netlist (codes "net" ++ words) (Net (size_of netlist)) inline
+    (ap (meaning_of_tokens (run_looked_by netlist)) tokens
+    ∙ rw (keywords.net, count_of-decimal inputs (omega (arith, few)), count_of-decimal gates (omega (arith, few)), count_of-decimal wires (omega (arith, few))) refl)
 
 -- the tokens of a keyword and assignments
 listed_tokens : (netlist : Netlist) (word : List ℕ) (pairs : List (ℕ × Bool)) → IsCircuit netlist → AreNodes netlist pairs → 0 < length word → list_all is_letter word ≡ true → tokens_of (word ++ flat_map (assignment_text netlist) pairs) ≡ Some (WordOf word ∷ pair_tokens netlist pairs)
@@ -271,25 +314,28 @@ runs_read netlist (run ∷ runs) circuit h =
     (run_text-reads netlist run circuit (All-front P mine (all_steps runs) h)) (runs_read netlist runs circuit (All-back P mine (all_steps runs) h))
 
 -- a run text as statements
-abbrev pub sent : RunTextOf → List LookedRun
-sent value =
-    Header ∷ Start (map assignment_to (all_listed value.nodes)) ∷ Input (map assignment_to (all_listed value.input)) ∷ flat_map run_statements value.runs ++ End ∷ []
+abbrev pub sent : Netlist → RunTextOf → List LookedRun
+sent netlist value =
+    Header Two ∷ Net (size_of netlist) ∷ Start (map assignment_to (all_listed value.nodes)) ∷ Input (map assignment_to (all_listed value.input)) ∷ flat_map run_statements value.runs ++ End ∷ []
 
 -- each line of the text is one of these statements, in order, and the last line is empty
 abbrev pub IsReadAsRun : Netlist → List ℕ → List LookedRun → Type 0
 IsReadAsRun netlist text statements = meanings_of netlist text ≡ map Means statements ++ Nothing ∷ []
 
-pub printed-IsReadAsRun : (netlist : Netlist) (value : RunTextOf) → IsCircuit netlist → AreNodes netlist (all_listed value.nodes) → AreNodes netlist (all_listed value.input) → All (AreThere netlist) (all_steps value.runs) → IsReadAsRun netlist (run_text_printed netlist value) (sent value)
-unfolding run_text_printed
+pub printed-IsReadAsRun : (netlist : Netlist) (value : RunTextOf) → IsCircuit netlist → AreNodes netlist (all_listed value.nodes) → AreNodes netlist (all_listed value.input) → All (AreThere netlist) (all_steps value.runs) → IsReadAsRun netlist (run_text_printed netlist value) (sent netlist value)
+unfolding run_text_printed states_text version_text
 printed-IsReadAsRun netlist value circuit nodes inputs there =
     let nodes_listed = all_listed value.nodes in
     let inputs_listed = all_listed value.input in
     let start = statement_text netlist (codes "start") nodes_listed in
     let input = statement_text netlist (codes "input") inputs_listed in
     let runs = flat_map (run_text netlist) value.runs in
-    let a = Reads-append netlist (codes "runs 1\n") start (Header ∷ []) (Start (map assignment_to nodes_listed) ∷ []) (header_reads netlist) (start_reads netlist nodes_listed circuit nodes) in
-    let b = Reads-append netlist (codes "runs 1\n" ++ start) input (Header ∷ Start (map assignment_to nodes_listed) ∷ []) (Input (map assignment_to inputs_listed) ∷ []) a (input_reads netlist inputs_listed circuit inputs) in
-    let front = Header ∷ Start (map assignment_to nodes_listed) ∷ Input (map assignment_to inputs_listed) ∷ [] in
-    let c = Reads-append netlist (codes "runs 1\n" ++ start ++ input) runs front (flat_map run_statements value.runs) b (runs_read netlist value.runs circuit there) in
-    let d = Reads-append netlist (codes "runs 1\n" ++ start ++ input ++ runs) (codes "end\n") (front ++ flat_map run_statements value.runs) (End ∷ []) c (end_reads netlist) in
+    let net = net_line (size_of netlist) in
+    let header = Header Two ∷ Net (size_of netlist) ∷ [] in
+    let h = Reads-append netlist (codes "runs 2\n") net (Header Two ∷ []) (Net (size_of netlist) ∷ []) (header_reads netlist) (net_reads netlist circuit) in
+    let a = Reads-append netlist (codes "runs 2\n" ++ net) start header (Start (map assignment_to nodes_listed) ∷ []) h (start_reads netlist nodes_listed circuit nodes) in
+    let b = Reads-append netlist (codes "runs 2\n" ++ net ++ start) input (header ++ Start (map assignment_to nodes_listed) ∷ []) (Input (map assignment_to inputs_listed) ∷ []) a (input_reads netlist inputs_listed circuit inputs) in
+    let front = header ++ Start (map assignment_to nodes_listed) ∷ Input (map assignment_to inputs_listed) ∷ [] in
+    let c = Reads-append netlist (codes "runs 2\n" ++ net ++ start ++ input) runs front (flat_map run_statements value.runs) b (runs_read netlist value.runs circuit there) in
+    let d = Reads-append netlist (codes "runs 2\n" ++ net ++ start ++ input ++ runs) (codes "end\n") (front ++ flat_map run_statements value.runs) (End ∷ []) c (end_reads netlist) in
     ap (meanings_of netlist) (sym (append-nil (run_text_printed netlist value))) ∙ d []

@@ -15,14 +15,17 @@ use Rattle.hz_net.proofs.Places.{length-network_of, first_wire-bound}
 use Rattle.hz_gmw.specs.Recorded.{flip_count}
 use Rattle.hz_line.specs.Statement.{Numbered}
 use Rattle.hz_line.proofs.WrittenLemmas.{both}
+use Rattle.hz_text.specs.declared.run.size.Size.{Size}
+use Rattle.hz_text.specs.declared.run.version.Version.{Version}
+use Rattle.hz_text.specs.declared.run.version.Version.TheVariants.{One, Two}
 use Rattle.hz_text.specs.Assignment.{bit_at}
-use Rattle.hz_text.specs.RunStatement.{Variable, Node, Pin, Header, Start, Input, Run, Step, Cycle, End, RunStatement, run_statements_of, number_by}
+use Rattle.hz_text.specs.RunStatement.{Variable, Node, Pin, Header, Net, Start, Input, Run, Step, Cycle, End, RunStatement, run_statements_of, number_by}
 use Rattle.hz_text.specs.RunLookup.{RunEntry, LookedRun, wire_into, variable_named, run_looked_of, run_looked_up, run_entered_all}
 use Rattle.hz_text.specs.RunValue.{RunOf, RunTextOf, cycle_steps, all_steps}
 use Rattle.hz_text.specs.RunFault.{variables_in, steps_in}
 use Rattle.hz_text.specs.RunRules.{beyond_from, IsAcceptedRun}
 use Rattle.hz_text.specs.RunText.{step_of, cycle_statements, run_statements, IsRunTextBy, IsRunTextFor}
-use Rattle.hz_text.specs.RunOrder.{unnumbered}
+use Rattle.hz_text.specs.RunOrder.{header_lines, unnumbered}
 use Rattle.hz_text.proofs.VariableLemmas.{node_named-below}
 use Rattle.hz_text.proofs.BuildLemmas.{or_parts}
 use Rattle.hz_text.proofs.ReadLaws.{All-unmap}
@@ -59,7 +62,8 @@ found-below netlist variable None circuit e = tt
 found-below netlist variable (Some var) circuit e = variable-below netlist variable var circuit e
 
 statement-below : (netlist : Netlist) (statement : RunStatement) → IsCircuit netlist → NamesBelow (length (network_of netlist)) (run_looked_of netlist statement)
-statement-below netlist Header circuit = All-nil _
+statement-below netlist (Header version) circuit = All-nil _
+statement-below netlist (Net size) circuit = All-nil _
 statement-below netlist (Start assignments) circuit = All-nil _
 statement-below netlist (Input assignments) circuit = All-nil _
 statement-below netlist Run circuit = All-nil _
@@ -191,6 +195,14 @@ counted_runs (run ∷ later) =
       ),
     )
 
+-- the first statements count nothing
+header_counts :
+    (count : LookedRun → ℕ) (size : Option Size) (rest : List LookedRun) → ((version : Version) → count (Header version) ≡ 0) → ((size : Size) → count (Net size) ≡ 0) →
+    sum_by count (header_lines size ++ rest) ≡ sum_by count rest
+header_counts count None rest header net = omega (arith, sum_by-cons count (Header One) rest, header One)
+header_counts count (Some size) rest header net =
+    omega (arith, sum_by-cons count (Header Two) (Net size ∷ rest), sum_by-cons count (Net size) rest, header Two, net size)
+
 -- the value of a text without a fault
 pub usable_run :
     (netlist : Netlist) (text : List ℕ) (entries : List RunEntry) (value : RunTextOf) → IsCircuit netlist → IsAcceptedRun netlist text entries →
@@ -201,11 +213,11 @@ usable_run netlist text entries value circuit accepted is =
     let bound = length (network_of netlist) in
     let F : Bool → Option Bool = Some in
     let runs = flat_map run_statements value.runs in
-    let whole = Header ∷ Start is.start ∷ Input is.input ∷ runs ++ End ∷ [] in
+    let states = Start is.start ∷ Input is.input ∷ runs ++ End ∷ [] in
     let P : List (Numbered LookedRun) → Type 0 = λ those. All (NamesBelow bound) (unnumbered those) in
     let Q : List LookedRun → Type 0 = All (NamesBelow bound) in
     let below = subst Q is.are (subst P (sym accepted.statements) (statements-below netlist (run_statements_of text) circuit)) in
-    let after_header = All-tail (NamesBelow bound) Header (Start is.start ∷ Input is.input ∷ runs ++ End ∷ []) below in
+    let after_header = (all_parts (NamesBelow bound) (header_lines is.size) states below).1 in
     let after_start = All-tail (NamesBelow bound) (Start is.start) (Input is.input ∷ runs ++ End ∷ []) after_header in
     let after_input = All-tail (NamesBelow bound) (Input is.input) (runs ++ End ∷ []) after_start in
     let limits = within_limits 0 0 statements (omega arith) (omega arith) (clear_run netlist statements accepted.clear).few in
@@ -213,7 +225,7 @@ usable_run netlist text entries value circuit accepted is =
     let steps : sum_by steps_of (unnumbered statements) ≡ length (all_steps value.runs) =
     ap (sum_by steps_of) is.are ∙ omega (
       arith,
-      sum_by-cons steps_of Header (Start is.start ∷ Input is.input ∷ runs ++ End ∷ []),
+      header_counts steps_of is.size states (λ version. refl) (λ size. refl),
       sum_by-cons steps_of (Start is.start) (Input is.input ∷ runs ++ End ∷ []),
       sum_by-cons steps_of (Input is.input) (runs ++ End ∷ []),
       sum_by-append steps_of runs (End ∷ []),
@@ -223,7 +235,7 @@ usable_run netlist text entries value circuit accepted is =
     let variables : sum_by names_in (unnumbered statements) ≡ flip_count (all_steps value.runs) =
     ap (sum_by names_in) is.are ∙ omega (
       arith,
-      sum_by-cons names_in Header (Start is.start ∷ Input is.input ∷ runs ++ End ∷ []),
+      header_counts names_in is.size states (λ version. refl) (λ size. refl),
       sum_by-cons names_in (Start is.start) (Input is.input ∷ runs ++ End ∷ []),
       sum_by-cons names_in (Input is.input) (runs ++ End ∷ []),
       sum_by-append names_in runs (End ∷ []),

@@ -9,7 +9,7 @@ use Rattle.hz_line.proofs.StatementLemmas.{Ascends, numbered_from-Ascends, meani
 use Rattle.hz_text.specs.declared.fault.TextFault.{TextFault}
 use Rattle.hz_text.specs.declared.fault.TextFault.TheVariants.{Form, Unknown, Twice, Missing, Bit, Order, TooMany, Memory}
 use Rattle.hz_text.specs.Rules.{Rules, repeats_node, first_fault_in, first_fault_of}
-use Rattle.hz_text.proofs.LeastFault.{NoneBelow, Outcome, outcome-step, any_number, none_past, option_or-None}
+use Rattle.hz_text.proofs.LeastFault.{NoneBelow, Outcome, outcome-step, any_number, OneMismatch, AnswersMismatch, outcome-mismatch}
 
 pub first_line-cons : {S : Type 0} (test : S → Bool) (first : Numbered S) (later : List (Numbered S)) → first_line test (first ∷ later) ≡ cond (test first.statement) (Some first.line) (first_line test later)
 first_line-cons test first later = by_test (test first.statement) refl
@@ -28,22 +28,24 @@ pub record Judged {L : Type 0} (stands : TextFault → Type 0) (rules : Rules L)
   pub bit : IsLeastOf (λ line. stands (Bit line)) (first_line rules.bitless statements)
   pub order : IsLeastOf (λ line. stands (Order line)) (rules.order statements)
   pub beyond : rules.order statements ≡ None → IsLeastOf (λ line. stands (TooMany line)) (rules.beyond statements)
+  pub mismatch : AnswersMismatch stands (rules.mismatch statements)
+  pub one : OneMismatch stands
   pub memory : ¬ stands Memory
 
 judged-outcome :
     {L : Type 0} (stands : TextFault → Type 0) (rules : Rules L) (malformed : Option ℕ) (statements : List (Numbered L)) → Judged stands rules malformed statements →
     Outcome stands (option_or (option_map Form malformed) (first_fault_in rules statements))
 judged-outcome stands rules malformed statements judged =
-    let last : rules.order statements ≡ None → NoneBelow stands 7 → Outcome stands (option_map TooMany (rules.beyond statements)) = λ ordered below7.
-    subst (Outcome stands) (option_or-None (option_map TooMany (rules.beyond statements)))
-    (outcome-step stands TooMany 7 (rules.beyond statements) None (λ place. (refl, refl, refl)) below7 (judged.beyond ordered) (λ e below8. none_past stands judged.memory below8)) in
-    let order = λ (below6 : NoneBelow stands 6). outcome-step stands Order 6 (rules.order statements) _ (λ place. (refl, refl, refl)) below6 judged.order last in
-    let bit = λ (below5 : NoneBelow stands 5). outcome-step stands Bit 5 (first_line rules.bitless statements) _ (λ place. (refl, refl, refl)) below5 judged.bit (λ e. order) in
-    let missing = λ (below4 : NoneBelow stands 4). outcome-step stands Missing 4 (rules.missing statements) _ (λ place. (refl, refl, refl)) below4 judged.missing (λ e. bit) in
+    let wrong = λ (below8 : NoneBelow stands 8). outcome-mismatch stands (rules.mismatch statements) judged.one judged.memory below8 judged.mismatch in
+    let last = λ (ordered : rules.order statements ≡ None) (below7 : NoneBelow stands 7).
+    outcome-step stands TooMany 7 (rules.beyond statements) _ (λ place told real. (refl, refl, refl)) below7 (judged.beyond ordered) (λ e. wrong) in
+    let order = λ (below6 : NoneBelow stands 6). outcome-step stands Order 6 (rules.order statements) _ (λ place told real. (refl, refl, refl)) below6 judged.order last in
+    let bit = λ (below5 : NoneBelow stands 5). outcome-step stands Bit 5 (first_line rules.bitless statements) _ (λ place told real. (refl, refl, refl)) below5 judged.bit (λ e. order) in
+    let missing = λ (below4 : NoneBelow stands 4). outcome-step stands Missing 4 (rules.missing statements) _ (λ place told real. (refl, refl, refl)) below4 judged.missing (λ e. bit) in
     let twice = λ (known : first_line rules.unknown statements ≡ None) (below3 : NoneBelow stands 3).
-    outcome-step stands Twice 3 (first_line (λ statement. repeats_node (rules.assigned statement)) statements) _ (λ place. (refl, refl, refl)) below3 (judged.twice known) (λ e. missing) in
-    let unknown = λ (below2 : NoneBelow stands 2). outcome-step stands Unknown 2 (first_line rules.unknown statements) _ (λ place. (refl, refl, refl)) below2 judged.unknown twice in
-    outcome-step stands Form 1 malformed _ (λ place. (refl, refl, refl)) (any_number stands) judged.form (λ e. unknown)
+    outcome-step stands Twice 3 (first_line (λ statement. repeats_node (rules.assigned statement)) statements) _ (λ place told real. (refl, refl, refl)) below3 (judged.twice known) (λ e. missing) in
+    let unknown = λ (below2 : NoneBelow stands 2). outcome-step stands Unknown 2 (first_line rules.unknown statements) _ (λ place told real. (refl, refl, refl)) below2 judged.unknown twice in
+    outcome-step stands Form 1 malformed _ (λ place told real. (refl, refl, refl)) (any_number stands) judged.form (λ e. unknown)
 
 -- statements that are read as they are written, and looked up
 module _ {S L : Type 0} (look : S → L) (grammar : List TokenOf → Option S) (text : List ℕ) where

@@ -2,7 +2,7 @@
 use Rattle.std.specs.Prelude.{◌≡◌, ℕ, ◌<◌, ◌≤◌, ◌⊎◌}
 use Rattle.hz_line.specs.OrThat.{OrThat}
 use Rattle.hz_text.specs.declared.fault.TextFault.{TextFault}
-use Rattle.hz_text.specs.declared.fault.TextFault.TheVariants.{Form, Unknown, Twice, Missing, Bit, Order, TooMany, Memory}
+use Rattle.hz_text.specs.declared.fault.TextFault.TheVariants.{Form, Unknown, Twice, Missing, Bit, Order, TooMany, Memory, Mismatch}
 
 -- the fault's number
 abbrev pub number_of : TextFault → ℕ
@@ -14,6 +14,7 @@ number_of (Bit line) = 5
 number_of (Order line) = 6
 number_of (TooMany line) = 7
 number_of Memory = 8
+number_of (Mismatch line told real) = 9
 
 -- the fault's line or node
 abbrev pub place_of : TextFault → ℕ
@@ -25,6 +26,7 @@ place_of (Bit line) = line
 place_of (Order line) = line
 place_of (TooMany line) = line
 place_of Memory = 0
+place_of (Mismatch line told real) = line
 
 -- the fault has a lesser number than the other, or the same number and no later line or node
 abbrev pub ComesFirst : TextFault → TextFault → Type 0

@@ -4,14 +4,16 @@ use Rattle.std.specs.Option.{option_map_or}
 use Rattle.hz_line.specs.Statement.{Numbered}
 use Rattle.hz_text.specs.declared.run.order.Place.{Place}
 use Rattle.hz_text.specs.declared.run.order.Place.TheVariants as place
-use Rattle.hz_text.specs.RunStatement.{StatementOf, Header, Run, Step, Cycle, End}
+use Rattle.hz_text.specs.RunStatement.{StatementOf, Net, Run, Step, Cycle, End}
 use Rattle.hz_text.specs.RunLookup.{LookedRun}
-use Rattle.hz_text.specs.RunFault.{is_start_line, is_input_line}
+use Rattle.hz_text.specs.declared.run.version.Version.{Version}
+use Rattle.hz_text.specs.declared.run.version.Version.TheVariants.{One, Two}
+use Rattle.hz_text.specs.RunFault.{version_in, is_start_line, is_input_line}
 
--- the statement is the header
-abbrev pub is_header : {A V : Type 0} → StatementOf A V → Bool
-is_header Header = true
-is_header _ = false
+-- the statement tells the size of the network
+abbrev pub is_net_line : {A V : Type 0} → StatementOf A V → Bool
+is_net_line (Net size) = true
+is_net_line _ = false
 
 -- the statement is the end
 abbrev pub is_end : {A V : Type 0} → StatementOf A V → Bool
@@ -54,12 +56,21 @@ abbrev pub out_of_order_with : (LookedRun → Bool) → (List (Numbered LookedRu
 out_of_order_with test after [] = Some 0
 out_of_order_with test after (first ∷ later) = if test first.statement then after later else Some first.line
 
--- the order from the input line on, from the start on, and of a whole text: header, start, input, runs, end
+-- the order from the input line on, from the start on, from the size of the network on, and behind the header of a version
 abbrev pub input_out_of_order : List (Numbered LookedRun) → Option ℕ
 input_out_of_order statements = out_of_order_with is_input_line (runs_out_of_order place.Between) statements
 
 abbrev pub start_out_of_order : List (Numbered LookedRun) → Option ℕ
 start_out_of_order statements = out_of_order_with is_start_line input_out_of_order statements
 
+abbrev pub net_out_of_order : List (Numbered LookedRun) → Option ℕ
+net_out_of_order statements = out_of_order_with is_net_line start_out_of_order statements
+
+abbrev pub version_out_of_order : Version → List (Numbered LookedRun) → Option ℕ
+version_out_of_order One statements = start_out_of_order statements
+version_out_of_order Two statements = net_out_of_order statements
+
+-- the order of a whole text
 abbrev pub run_out_of_order : List (Numbered LookedRun) → Option ℕ
-run_out_of_order statements = out_of_order_with is_header start_out_of_order statements
+run_out_of_order [] = Some 0
+run_out_of_order (first ∷ later) = option_map_or (λ version. version_out_of_order version later) (version_in first.statement) (Some first.line)

@@ -10,7 +10,8 @@ use Rattle.hz_line.specs.Token.{TokenOf}
 use Rattle.hz_line.specs.declared.statements.UnreadText.{UnreadText}
 use Rattle.hz_line.specs.declared.statements.UnreadText.TheVariants as unread
 use Rattle.hz_text.specs.declared.fault.TextFault.{TextFault}
-use Rattle.hz_text.specs.declared.fault.TextFault.TheVariants.{Form, Unknown, Twice, Missing, Bit, Order, TooMany, Memory}
+use Rattle.hz_text.specs.declared.fault.TextFault.TheVariants.{Form, Unknown, Twice, Missing, Bit, Order, TooMany, Memory, Mismatch}
+use Rattle.hz_text.specs.declared.fault.Mismatch.{Mismatch as Wrong}
 use Rattle.hz_text.specs.Assignment.{Assigned, has_repeat, assigns}
 
 -- the nodes that are assigned, in their order
@@ -42,6 +43,11 @@ pub record Rules (S : Type 0) : Type 0 where
   pub missing : List (Numbered S) → Option ℕ
   pub order : List (Numbered S) → Option ℕ
   pub beyond : List (Numbered S) → Option ℕ
+  pub mismatch : List (Numbered S) → Option Wrong
+
+-- the fault of a count that is told wrongly
+abbrev pub mismatch_at : Wrong → TextFault
+mismatch_at wrong = Mismatch wrong.line wrong.told wrong.real
 
 -- what the passes answer, one after the other
 abbrev pub first_fault_in : {S : Type 0} → Rules S → List (Numbered S) → Option TextFault
@@ -51,7 +57,8 @@ first_fault_in rules statements =
     (option_or (option_map Missing (rules.missing statements))
     (option_or (option_map Bit (first_line rules.bitless statements))
     (option_or (option_map Order (rules.order statements))
-    (option_map TooMany (rules.beyond statements))))))
+    (option_or (option_map TooMany (rules.beyond statements))
+    (option_map mismatch_at (rules.mismatch statements)))))))
 
 -- what a text has first: a malformed line, or what the passes answer
 abbrev pub first_fault_of : {S : Type 0} → (List TokenOf → Option S) → Rules S → List ℕ → Option TextFault

@@ -1,13 +1,18 @@
 -- The faults of a run text.
 use Rattle.std.specs.Prelude.{◌≡◌, ℕ, ◌<◌, Bool, true, false, List, [], ◌∷◌, ◌++◌, length, map, sum_by, Option, Some, None, is_none, ◌⊎◌, if◌then◌else◌}
 use Rattle.std.specs.List.{list_any}
+use Rattle.std.specs.Option.{option_map_or}
 use Rattle.hz_core.specs.Netlist.{Netlist}
 use Rattle.hz_line.specs.Statement.{Numbered, PassesOn, Malformed, meaning_at}
 use Rattle.hz_text.specs.declared.fault.TextFault.{TextFault}
 use Rattle.hz_text.specs.declared.fault.TextFault.TheVariants as fault
+use Rattle.hz_text.specs.declared.run.size.Size.{Size}
+use Rattle.hz_text.specs.declared.run.version.Version.{Version}
+use Rattle.hz_text.specs.declared.run.version.Version.TheVariants.{Two}
 use Rattle.hz_text.specs.Assignment.{Assigned, Nodes, Inputs, any_unknown, any_twice, any_bitless, assigns}
 use Rattle.hz_text.specs.Fault.{IsLeastFaultOf, IsLeastFaultOrMemory}
-use Rattle.hz_text.specs.RunStatement.{StatementOf, Start, Input, Step, RunStatement, run_statement_of, run_statements_of}
+use Rattle.hz_text.specs.RunStatement.{StatementOf, Header, Net, Start, Input, Step, RunStatement, run_statement_of, run_statements_of}
+use Rattle.hz_text.specs.RunSize.{size_of, counts_of, DifferFirst}
 use Rattle.hz_text.specs.RunLookup.{LookedRun, run_looked_up}
 use Rattle.hz_text.specs.RunOrder.{BreaksOrder}
 
@@ -100,6 +105,38 @@ pub record IsBeyond (statements : List (Numbered LookedRun)) (line : ℕ) : Type
   pub beyond : AreTooMany (before ++ last ∷ [])
   pub within : ¬ AreTooMany before
 
+-- the version of a text whose first statement this is
+abbrev pub version_in : {A V : Type 0} → StatementOf A V → Option Version
+version_in (Header version) = Some version
+version_in _ = None
+
+-- the statement is the header of version 2
+abbrev pub is_second : {A V : Type 0} → StatementOf A V → Bool
+is_second (Header Two) = true
+is_second _ = false
+
+-- the text is of version 2: its first statement is that header
+abbrev pub IsOfVersionTwo : List (Numbered LookedRun) → Type 0
+IsOfVersionTwo [] = ⊥
+IsOfVersionTwo (first ∷ later) = is_second first.statement ≡ true
+
+-- the size that a statement tells
+abbrev pub size_in : {A V : Type 0} → StatementOf A V → Option Size
+size_in (Net size) = Some size
+size_in _ = None
+
+-- the line of the first statement that tells the size of a network, and that size
+abbrev pub first_size : List (Numbered LookedRun) → Option (ℕ × Size)
+first_size [] = None
+first_size (first ∷ later) = option_map_or (λ size. Some (first.line, size)) (size_in first.statement) (first_size later)
+
+-- a text of version 2 tells a size, first on this line, in which this count is the first that is not the network's
+pub record IsMismatch (netlist : Netlist) (statements : List (Numbered LookedRun)) (line told real : ℕ) : Type 0 where
+  pub version : IsOfVersionTwo statements
+  pub size : Size
+  pub tells : first_size statements ≡ Some (line, size)
+  pub counts : DifferFirst (counts_of size) (counts_of (size_of netlist)) told real
+
 -- the fault stands in the text
 abbrev pub StandsInRuns : Netlist → List ℕ → TextFault → Type 0
 StandsInRuns netlist text (fault.Form line) = meaning_at run_statement_of text line ≡ Malformed
@@ -110,6 +147,7 @@ StandsInRuns netlist text (fault.Bit line) = PassesOn lacks_bit (looked_run_stat
 StandsInRuns netlist text (fault.Order line) = BreaksOrder (looked_run_statements netlist text) line
 StandsInRuns netlist text (fault.TooMany line) = IsBeyond (looked_run_statements netlist text) line
 StandsInRuns netlist text fault.Memory = ⊥
+StandsInRuns netlist text (fault.Mismatch line told real) = IsMismatch netlist (looked_run_statements netlist text) line told real
 
 -- the fault stands in the text and comes before each other that does
 abbrev pub IsLeastRunFault : Netlist → List ℕ → TextFault → Type 0

@@ -3,6 +3,7 @@
 -- what a statement begins with
 pub data RunKeyword : Type 0 where
   Runs : RunKeyword
+  Net : RunKeyword
   Start : RunKeyword
   Input : RunKeyword
   Run : RunKeyword

@@ -14,7 +14,7 @@ use Rattle.hz_text.specs.declared.run.statement.RunHeld.TheVariants as held
 use Rattle.hz_text.specs.Assignment.{Assigned, assigned_of}
 use Rattle.hz_text.specs.RunKeyword.{RunKeyword}
 use Rattle.hz_text.specs.RunKeyword as keyword
-use Rattle.hz_text.specs.RunStatement.{Variable, Node, Pin, StatementOf, Header, Start, Input, Run, Step, Cycle, End, RunStatement, run_statement_of, run_statement_with, variables_of, number_by}
+use Rattle.hz_text.specs.RunStatement.{Variable, Node, Pin, StatementOf, Header, Net, Start, Input, Run, Step, Cycle, End, RunStatement, run_statement_of, run_statement_with, variables_of, number_by}
 
 -- the wire into the pin with this number of the node, if the node is a gate with such a pin; pins are counted from 1
 abbrev pub wire_into : Netlist → Option ℕ → ℕ → Option ℕ
@@ -34,7 +34,8 @@ LookedRun = StatementOf Assigned (Option ℕ)
 
 -- a statement, looked up
 abbrev pub run_looked_of : Netlist → RunStatement → LookedRun
-run_looked_of netlist Header = Header
+run_looked_of netlist (Header version) = Header version
+run_looked_of netlist (Net size) = Net size
 run_looked_of netlist (Start assignments) = Start (map (assigned_of netlist) assignments)
 run_looked_of netlist (Input assignments) = Input (map (assigned_of netlist) assignments)
 run_looked_of netlist Run = Run
@@ -53,6 +54,7 @@ run_looked_by netlist tokens = option_map (run_looked_of netlist) (run_statement
 -- what a keyword is
 abbrev pub run_keyword_by : KeywordHere → RunKeyword
 run_keyword_by here.Runs = keyword.Runs
+run_keyword_by here.Net = keyword.Net
 run_keyword_by here.Start = keyword.Start
 run_keyword_by here.Input = keyword.Input
 run_keyword_by here.Run = keyword.Run
@@ -70,7 +72,8 @@ variables_by netlist tokens = option_map (map (variable_named netlist)) (variabl
 
 -- what a statement that was read holds
 abbrev pub run_held_by : RunHeld → LookedRun
-run_held_by held.Header = Header
+run_held_by (held.Header version) = Header version
+run_held_by (held.Net size) = Net size
 run_held_by (held.Start assigned) = Start assigned.items
 run_held_by (held.Input assigned) = Input assigned.items
 run_held_by held.Run = Run

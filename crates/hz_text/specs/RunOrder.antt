@@ -2,7 +2,9 @@
 use Rattle.std.specs.Prelude.{◌≡◌, ℕ, List, [], ◌∷◌, ◌++◌, map, Option, Some, None, ◌⊎◌}
 use Rattle.std.specs.List.{flat_map}
 use Rattle.hz_line.specs.Statement.{Numbered}
-use Rattle.hz_text.specs.RunStatement.{StatementOf, Header, Start, Input, Run, Step, Cycle, End}
+use Rattle.hz_text.specs.declared.run.size.Size.{Size}
+use Rattle.hz_text.specs.declared.run.version.Version.TheVariants.{One, Two}
+use Rattle.hz_text.specs.RunStatement.{StatementOf, Header, Net, Start, Input, Run, Step, Cycle, End}
 
 -- the statements of a cycle, if there is one: its first line and its steps
 abbrev pub cycle_lines : {F A V : Type 0} → (F → StatementOf A V) → Option (List F) → List (StatementOf A V)
@@ -22,12 +24,19 @@ pub record RunShape (V : Type 0) : Type 0 where
 abbrev pub shape_lines : {A V : Type 0} → RunShape V → List (StatementOf A V)
 shape_lines run = run_lines Step run.lead run.cycle
 
--- statements in order: the header, the start, the input, the statements of runs, and the end
+-- the first statements: the header of version 1, or that of version 2 and the size of the network
+abbrev pub header_lines : {A V : Type 0} → Option Size → List (StatementOf A V)
+header_lines None = Header One ∷ []
+header_lines (Some size) = Header Two ∷ Net size ∷ []
+
+-- statements in order: the header, in version 2 with the size of the network, the start, the input, the statements of runs,
+-- and the end
 pub record IsOrdered {A V : Type 0} (statements : List (StatementOf A V)) : Type 0 where
+  pub size : Option Size
   pub start : List A
   pub input : List A
   pub runs : List (RunShape V)
-  pub are : statements ≡ Header ∷ Start start ∷ Input input ∷ flat_map shape_lines runs ++ End ∷ []
+  pub are : statements ≡ header_lines size ++ (Start start ∷ Input input ∷ flat_map shape_lines runs ++ End ∷ [])
 
 -- some more statements would make an order of them
 abbrev pub MayGoOn : {A V : Type 0} → List (StatementOf A V) → Type 0

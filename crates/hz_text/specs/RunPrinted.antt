@@ -3,6 +3,9 @@ use Rattle.std.specs.Prelude.{ℕ, ◌+◌, Bool, List, [], ◌∷◌, ◌++◌,
 use Rattle.std.specs.List.{flat_map, slice_index_or}
 use Rattle.hz_core.specs.Netlist.{Netlist}
 use Rattle.hz_net.specs.Network.{Wire, wires_of}
+use Rattle.hz_write.specs.Writes.{line_of}
+use Rattle.hz_text.specs.declared.run.size.Size.{Size}
+use Rattle.hz_text.specs.RunSize.{size_of}
 use Rattle.hz_text.specs.Printed.{statement_text, listed_from}
 use Rattle.hz_text.specs.RunValue.{RunOf, RunTextOf}
 
@@ -39,12 +42,22 @@ run_text netlist run = codes "run\n" ++ flat_map (step_text netlist) run.lead ++
 abbrev pub all_listed : List Bool → List (ℕ × Bool)
 all_listed bits = listed_from 0 (map Some bits)
 
--- A line for the version, one for the start, which lists all nodes, and one for the input, which lists all inputs; the
--- lines of each run; and a line for the end.
+-- the size of a network on a line of its own: the numbers of the inputs, of the gates and of the wires
+unfoldable pub net_line : Size → List ℕ
+net_line size = line_of (codes "net " ∷ decimal size.inputs ∷ codes " " ∷ decimal size.gates ∷ codes " " ∷ decimal size.wires ∷ [])
+
+-- the first lines: the version, and the size of the network
+unfoldable pub version_text : Netlist → List ℕ
+version_text netlist = codes "runs 2\n" ++ net_line (size_of netlist)
+
+-- the lines before the runs: those, the start, which lists all nodes, and the input, which lists all inputs
+unfoldable pub states_text : Netlist → List Bool → List Bool → List ℕ
+states_text netlist nodes input =
+    version_text netlist ++ statement_text netlist (codes "start") (all_listed nodes) ++ statement_text netlist (codes "input") (all_listed input)
+
+-- These lines, those of each run, and a line for the end. The version is the second, whichever the value was read from.
 unfoldable pub run_text_printed : Netlist → RunTextOf → List ℕ
 run_text_printed netlist value =
-    codes "runs 1\n"
-    ++ statement_text netlist (codes "start") (all_listed value.nodes)
-    ++ statement_text netlist (codes "input") (all_listed value.input)
+    states_text netlist value.nodes value.input
     ++ flat_map (run_text netlist) value.runs
     ++ codes "end\n"

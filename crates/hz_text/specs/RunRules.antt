@@ -1,12 +1,16 @@
 -- What the passes over a run text's statements answer.
 use Rattle.std.specs.Prelude.{◌≡◌, ℕ, ◌+◌, Bool, ◌||◌, nat_le, nat_lt, List, [], ◌∷◌, length, All, Option, Some, None, if◌then◌else◌}
+use Rattle.std.specs.Option.{option_map}
 use Rattle.hz_core.specs.Netlist.{Netlist}
 use Rattle.hz_line.specs.Statement.{Numbered}
 use Rattle.hz_text.specs.Assignment.{Assigned}
 use Rattle.hz_text.specs.declared.fault.TextFault.{TextFault}
+use Rattle.hz_text.specs.declared.fault.Mismatch.{Mismatch}
+use Rattle.hz_text.specs.declared.run.size.Size.{Size}
+use Rattle.hz_text.specs.RunSize.{size_of, difference}
 use Rattle.hz_text.specs.Rules.{repeats_node, least_unassigned, AreBelow, Rules, first_fault_in}
 use Rattle.hz_text.specs.RunLookup.{LookedRun, RunEntry, run_held_by, run_entered_all}
-use Rattle.hz_text.specs.RunFault.{looked_run_statements, IsRunFaultless, assignments_in, variables_in, steps_in, names_unknown, lacks_bit, first_start, first_input}
+use Rattle.hz_text.specs.RunFault.{looked_run_statements, IsRunFaultless, assignments_in, variables_in, steps_in, names_unknown, lacks_bit, first_start, first_input, is_second, first_size}
 use Rattle.hz_text.specs.OrderPass.{run_out_of_order}
 
 -- the statement assigns a node twice
@@ -42,6 +46,16 @@ beyond_from steps variables (first ∷ later) =
     then Some first.line
     else beyond_from (steps + steps_in first.statement) (variables + length (variables_in first.statement)) later
 
+-- the first count of the network's size that is told wrongly, by the size that is told first
+abbrev pub mismatch_with : Size → Option (ℕ × Size) → Option Mismatch
+mismatch_with real None = None
+mismatch_with real (Some told) = option_map (λ counts. record { line = told.0; told = counts.0; real = counts.1 }) (difference told.1 real)
+
+-- the same in a text, if it is of version 2
+abbrev pub first_mismatch : Size → List (Numbered LookedRun) → Option Mismatch
+first_mismatch real [] = None
+first_mismatch real (first ∷ later) = if is_second first.statement then mismatch_with real (first_size (first ∷ later)) else None
+
 -- the passes over a run text of a circuit
 abbrev pub run_rules : Netlist → Rules LookedRun
 run_rules netlist = record {
@@ -51,6 +65,7 @@ run_rules netlist = record {
   missing = least_missing_node netlist;
   order = run_out_of_order;
   beyond = beyond_from 0 0;
+  mismatch = first_mismatch (size_of netlist);
 }
 
 -- what the passes answer, one after the other

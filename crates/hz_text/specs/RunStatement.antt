@@ -8,6 +8,9 @@ use Rattle.hz_line.specs.Keyword.{is_keyword}
 use Rattle.hz_line.specs.Statement.{Numbered, numbered_statements}
 use Rattle.hz_line.specs.Token.{TokenOf, WordOf, MarkOf}
 use Rattle.hz_text.specs.Assignment.{Assignment, assignments_of}
+use Rattle.hz_text.specs.declared.run.size.Size.{Size}
+use Rattle.hz_text.specs.declared.run.version.Version.{Version}
+use Rattle.hz_text.specs.declared.run.version.Version.TheVariants.{One, Two}
 use Rattle.hz_text.specs.RunKeyword.{RunKeyword}
 use Rattle.hz_text.specs.RunKeyword as keyword
 
@@ -41,10 +44,11 @@ variables_of (WordOf name ∷ MarkOf Open ∷ WordOf number ∷ MarkOf Close ∷
 variables_of (WordOf name ∷ rest) = with_first (Node name) (variables_of rest)
 variables_of _ = None
 
--- A statement over what assignments and variables are: the header, the start, the input, the begin of a run, a step, the
--- begin of its cycle, the end.
+-- A statement over what assignments and variables are: the header with its version, the size of the network, the start,
+-- the input, the begin of a run, a step, the begin of its cycle, the end.
 pub data StatementOf (A V : Type 0) : Type 0 where
-  Header : StatementOf A V
+  Header : (version : Version) → StatementOf A V
+  Net : (size : Size) → StatementOf A V
   Start : (assignments : List A) → StatementOf A V
   Input : (assignments : List A) → StatementOf A V
   Run : StatementOf A V
@@ -60,17 +64,32 @@ RunStatement = StatementOf Assignment Variable
 unfoldable pub run_keyword_of : List ℕ → Option RunKeyword
 run_keyword_of word =
     if is_keyword word (codes "runs") then Some keyword.Runs
+    else (if is_keyword word (codes "net") then Some keyword.Net
     else (if is_keyword word (codes "start") then Some keyword.Start
     else (if is_keyword word (codes "input") then Some keyword.Input
     else (if is_keyword word (codes "run") then Some keyword.Run
     else (if is_keyword word (codes "step") then Some keyword.Step
     else (if is_keyword word (codes "cycle") then Some keyword.Cycle
-    else (if is_keyword word (codes "end") then Some keyword.End else None))))))
+    else (if is_keyword word (codes "end") then Some keyword.End else None)))))))
 
--- the tokens are the version of a run text
-abbrev pub is_version : List TokenOf → Bool
-is_version (WordOf version ∷ []) = bytes_eq version (codes "1")
-is_version _ = false
+-- the version that tokens are
+abbrev pub version_of : List TokenOf → Option Version
+version_of (WordOf word ∷ []) = if bytes_eq word (codes "1") then Some One else (if bytes_eq word (codes "2") then Some Two else None)
+version_of _ = None
+
+-- the number that a word is: a decimal one without leading zero, at most 4,294,967,295
+abbrev pub count_of : List ℕ → Option ℕ
+count_of word = if is_decimal word && nat_le (number_by word) 4294967295 then Some (number_by word) else None
+
+-- the size with these counts, if all are there
+abbrev pub size_with : Option ℕ → Option ℕ → Option ℕ → Option Size
+size_with (Some inputs) (Some gates) (Some wires) = Some (record { inputs = inputs; gates = gates; wires = wires })
+size_with _ _ _ = None
+
+-- the size that tokens are: the numbers of the inputs, of the gates and of the wires
+abbrev pub size_by : List TokenOf → Option Size
+size_by (WordOf inputs ∷ WordOf gates ∷ WordOf wires ∷ []) = size_with (count_of inputs) (count_of gates) (count_of wires)
+size_by _ = None
 
 -- the statement, where no token is left
 abbrev pub alone : RunStatement → List TokenOf → Option RunStatement
@@ -80,7 +99,8 @@ alone statement (token ∷ tokens) = None
 -- the statement of a keyword and the tokens after it
 abbrev pub run_statement_with : Option RunKeyword → List TokenOf → Option RunStatement
 run_statement_with None rest = None
-run_statement_with (Some keyword.Runs) rest = if is_version rest then Some Header else None
+run_statement_with (Some keyword.Runs) rest = option_map Header (version_of rest)
+run_statement_with (Some keyword.Net) rest = option_map Net (size_by rest)
 run_statement_with (Some keyword.Start) rest = option_map Start (assignments_of rest)
 run_statement_with (Some keyword.Input) rest = option_map Input (assignments_of rest)
 run_statement_with (Some keyword.Run) rest = alone Run rest

@@ -5,10 +5,11 @@ use Rattle.hz_core.specs.Netlist.{Netlist}
 use Rattle.hz_net.specs.Network.{network_of}
 use Rattle.hz_gmw.specs.Recorded.{flip_count}
 use Rattle.hz_text.specs.Assignment.{Assigned, bit_at}
-use Rattle.hz_text.specs.RunStatement.{Header, Start, Input, Step, End}
+use Rattle.hz_text.specs.declared.run.size.Size.{Size}
+use Rattle.hz_text.specs.RunStatement.{Start, Input, Step, End}
 use Rattle.hz_text.specs.RunLookup.{LookedRun}
 use Rattle.hz_text.specs.RunFault.{looked_run_statements}
-use Rattle.hz_text.specs.RunOrder.{cycle_lines, run_lines, unnumbered}
+use Rattle.hz_text.specs.RunOrder.{header_lines, cycle_lines, run_lines, unnumbered}
 use Rattle.hz_text.specs.RunValue.{RunOf, RunTextOf, all_steps}
 
 -- the statement of a step
@@ -23,12 +24,13 @@ cycle_statements cycle = cycle_lines step_of cycle
 abbrev pub run_statements : RunOf → List LookedRun
 run_statements run = run_lines step_of run.lead run.cycle
 
--- The value of statements: the header, a start that gives each node its bit, an input line that gives each input its bit,
--- the statements of the runs, one run after the other, and the end.
+-- The value of statements: the header, in version 2 with the size of the network, a start that gives each node its bit, an
+-- input line that gives each input its bit, the statements of the runs, one run after the other, and the end.
 pub record IsRunTextBy (netlist : Netlist) (statements : List LookedRun) (value : RunTextOf) : Type 0 where
+  pub size : Option Size
   pub start : List Assigned
   pub input : List Assigned
-  pub are : statements ≡ Header ∷ Start start ∷ Input input ∷ flat_map run_statements value.runs ++ End ∷ []
+  pub are : statements ≡ header_lines size ++ (Start start ∷ Input input ∷ flat_map run_statements value.runs ++ End ∷ [])
   pub nodes_are : map Some value.nodes ≡ map (bit_at start) (range_with_len 0 (length netlist.names))
   pub input_is : map Some value.input ≡ map (bit_at input) (range_with_len 0 netlist.inputs)
 

@@ -4,7 +4,7 @@ use Rattle.std.specs.Option.{option_map}
 use Rattle.hz_core.specs.Netlist.{Netlist, primary_inputs}
 use Rattle.hz_line.specs.Statement.{Numbered, PassesOn, Malformed, meaning_at}
 use Rattle.hz_text.specs.declared.fault.TextFault.{TextFault}
-use Rattle.hz_text.specs.declared.fault.TextFault.TheVariants.{Form, Unknown, Twice, Missing, Bit, Order, TooMany, Memory}
+use Rattle.hz_text.specs.declared.fault.TextFault.TheVariants.{Form, Unknown, Twice, Missing, Bit, Order, TooMany, Memory, Mismatch}
 use Rattle.hz_text.specs.Assignment.{Allowed, Nodes, Inputs, any_unknown, any_twice, any_bitless, assigns}
 use Rattle.hz_text.specs.Fault.{IsLeastFaultOf, IsLeastFaultOrMemory}
 use Rattle.hz_text.specs.Statement.{Keyword, Start, Change, Statement, statement_of, statements_of}
@@ -67,6 +67,7 @@ Stands netlist text (Bit line) = PassesOn has_no_bit (looked_statements netlist 
 Stands netlist text (Order line) = IsOutOfOrder (looked_statements netlist text) line
 Stands netlist text (TooMany line) = line_beyond (looked_statements netlist text) ≡ Some line
 Stands netlist text Memory = ⊥
+Stands netlist text (Mismatch line told real) = ⊥
 
 -- the fault stands in the text and comes before each other that does
 abbrev pub IsLeastFault : Netlist → List ℕ → TextFault → Type 0

@@ -34,6 +34,7 @@ script_rules inputs primary = record {
   missing = least_missing primary;
   order = first_out_of_order;
   beyond = last_beyond;
+  mismatch = λ statements. None;
 }
 
 -- what the passes answer, one after the other

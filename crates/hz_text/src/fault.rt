@@ -36,6 +36,18 @@ pub enum TextFault {
     /// Memory ran out.
     #[error("out of memory")]
     Memory,
+    /// The line with the size of a run text's network tells a count that is not the network's: `told` is the first such of
+    /// the inputs, the gates and the wires, `real` the network's own.
+    #[error("{told}, not {real}, in line {line}")]
+    Mismatch { line: u32, told: u32, real: u32 },
+}
+
+/// The first count of a network's size that a text tells wrongly.
+#[derive(Clone, Copy, Debug)]
+pub(crate) struct Mismatch {
+    pub(crate) line: u32,
+    pub(crate) told: u32,
+    pub(crate) real: u32,
 }
 
 impl From<Memory> for TextFault {
@@ -61,9 +73,9 @@ impl From<UnreadText> for TextFault {
     }
 }
 
-// Refuses a text that has this fault at some place.
-pub(crate) fn refuse<F: FnOnce(u32) -> TextFault>(
-    found: Option<u32>,
+// Refuses a text in which this fault was found, at some place.
+pub(crate) fn refuse<P: Copy, F: FnOnce(P) -> TextFault>(
+    found: Option<P>,
     fault: F,
 ) -> Result<(), TextFault>
     requires { F.IsAlwaysCallable fault }

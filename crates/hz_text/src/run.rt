@@ -2,14 +2,17 @@
 
 mod build;
 mod keyword;
+mod number;
 mod order;
 mod print;
 mod read;
 mod rules;
+mod size;
 mod statement;
 mod text;
 mod variables;
+mod version;
 
-pub use print::{print_run, write_end, write_run, write_states, write_variable};
+pub use print::{print_run, write_end, write_run, write_run_text, write_states, write_variable, write_version};
 pub use read::read_run;
 pub use text::RunText;

@@ -74,7 +74,7 @@ fn runs(rt: HostRuntime) -> Result<(), Fail> {
     let text =
         b"RUNS 1\nstart g=1 a=0 # x\ninput a = 1\nrun\nstep a\nstep g ( 1 )\nrun\nstep\ncycle\nend";
     let lines =
-        b"runs 1\nstart a=0 g=1\ninput a=1\nrun\nstep a\nstep g(1)\nrun\nstep\ncycle\nend\n";
+        b"runs 2\nnet 1 1 1\nstart a=0 g=1\ninput a=1\nrun\nstep a\nstep g(1)\nrun\nstep\ncycle\nend\n";
     let printed = runs_again(rt.alloc(), text)?;
     assert_eq!(rt; printed.as_slice(), lines.as_slice());
     let again = runs_again(rt.alloc(), printed.as_slice())?;
@@ -88,6 +88,20 @@ fn refuses_runs(rt: HostRuntime) -> Result<(), Fail> {
     assert_eq!(rt;
         runs_again(rt.alloc(), text).err(),
         Some(TextFault::Unknown { line: 5 })
+    );
+    Ok(())
+}
+
+#[test]
+fn refuses_runs_of_another_network(rt: HostRuntime) -> Result<(), Fail> {
+    let text = b"runs 2\nnet 1 2 3\nstart a=0 g=1\ninput a=1\nend";
+    assert_eq!(rt;
+        runs_again(rt.alloc(), text).err(),
+        Some(TextFault::Mismatch {
+            line: 2,
+            told: 2,
+            real: 1,
+        })
     );
     Ok(())
 }

@@ -7,7 +7,7 @@ ghost use Rattle.hz_line.specs.Token.{token_of};
 ghost use Rattle.hz_text.specs.Rules.{AreBelow, repeats_node, first_fault_in, first_fault_of, IsAnswer, IsChecked};
 
 use crate::assignments::{Assigned, repeats};
-use crate::fault::{TextFault, refuse};
+use crate::fault::{Mismatch, TextFault, refuse};
 use crate::limit::MAX_TEXT;
 use hz_core::Memory;
 use hz_line::{Grammar, Numbered, Token, Unread, read_statements};
@@ -78,6 +78,10 @@ pub(crate) trait Text<'t>: Drop {
     // The line that passes a limit.
     fn line_beyond(&self, entries: &[Numbered<Self::Held>]) -> Option<u32>
         ensures { result ≡ (rules (context self.now)).beyond (map (entered_by stated) entries.now) };
+
+    // The first count of the network's size that the text tells wrongly.
+    fn first_mismatch(&self, entries: &[Numbered<Self::Held>]) -> Option<Mismatch>
+        ensures { result ≡ (rules (context self.now)).mismatch (map (entered_by stated) entries.now) };
 }
 
 // The lines of a text, as a grammar.
@@ -148,7 +152,16 @@ fn check<'t, T: Text<'t>>(
     let order = reader.first_out_of_order(entries);
     refuse(order, |line| TextFault::Order { line })?;
     let beyond = reader.line_beyond(entries);
-    refuse(beyond, |line| TextFault::TooMany { line })
+    refuse(beyond, |line| TextFault::TooMany { line })?;
+    let mismatch = reader.first_mismatch(entries);
+    refuse(
+        mismatch,
+        |wrong: Mismatch| TextFault::Mismatch {
+            line: wrong.line,
+            told: wrong.told,
+            real: wrong.real,
+        },
+    )
 }
 
 // The line of the first statement that names what is not there or may not be named.

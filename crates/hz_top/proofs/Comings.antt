@@ -10,7 +10,8 @@ use Rattle.hz_outside.specs.declared.fault.Place.TheVariants.{Second}
 use Rattle.hz_outside.specs.declared.fault.LoadFault.{LoadFault}
 use Rattle.hz_outside.specs.declared.fault.LoadFault.TheVariants as load
 use Rattle.hz_core.specs.Netlist.{Netlist, primary_inputs}
-use Rattle.hz_net.specs.Starts.{ListsInputs, IsAcceptedStart, IsLeastOpen, IsLeastUnstable}
+use Rattle.hz_net.specs.Starts.{ListsInputs, IsAcceptedStart}
+use Rattle.hz_gen.specs.Starts.{IsCompletable}
 use Rattle.hz_pass.specs.Completed.{IsStartFault}
 use Rattle.hz_pass.specs.declared.completed_start.StartFault.{StartFault}
 use Rattle.hz_pass.specs.declared.completed_start.StartFault.TheVariants as start
@@ -22,7 +23,7 @@ use Rattle.hz_text.specs.declared.fault.TextFault.TheVariants as reading
 use Rattle.hz_text.specs.Fault.{IsLeastFaultOf, IsLeastFaultOrMemory}
 use Rattle.hz_top.specs.declared.status.Status.{Status}
 use Rattle.hz_top.specs.declared.status.Status.TheVariants as status
-use Rattle.hz_top.specs.Outcome.{LoadSays, most_bytes, Unread, Told, told_by, SecondComes}
+use Rattle.hz_top.specs.Outcome.{LoadSays, StartSays, StartRefused, most_bytes, Unread, Told, told_by, SecondComes}
 use Rattle.hz_top.specs.Refusal.{unread_line, long_line}
 
 -- a load that failed has the line of a file that was not read
@@ -54,15 +55,17 @@ ListsInputs-front netlist listed within all input below =
     let found = listed-bit (get_or listed input None) (subst IsSome is some) in
     (found.0, slice_get-get_or listed input None (omega (arith, below, within)) ∙ ap Some found.1)
 
--- a start that is open at a node is refused with its line
-pub start-open : (netlist : Netlist) (listed named : List (Option Bool)) (fault : StartFault) (gate : ℕ) → listed ≡ named → fault ≡ start.Open gate → IsStartFault netlist listed fault → IsLeastOpen netlist named gate
-start-open netlist listed named fault gate same is says =
-    subst (λ (list : List (Option Bool)). IsLeastOpen netlist list gate) same (subst (IsStartFault netlist listed) is says)
+-- what is said of a start that can't be completed is said of one that is refused
+pub start-refused : (netlist : Netlist) (listed : List (Option Bool)) (fault : StartFault) → IsStartFault netlist listed fault → (own : Status) (text : List ℕ) → StartSays netlist fault own text → (own ≡ status.Start) × StartRefused netlist listed text
+start-refused netlist listed (start.Open gate) least own text says = (says.0, inl (gate, least, says.1))
+start-refused netlist listed (start.Unstable gate) least own text says = (says.0, inr (gate, least, says.1))
+start-refused netlist listed start.Memory least own text says = absurd says
 
--- and one that is unstable at a gate with its own
-pub start-unstable : (netlist : Netlist) (listed named : List (Option Bool)) (fault : StartFault) (gate : ℕ) → listed ≡ named → fault ≡ start.Unstable gate → IsStartFault netlist listed fault → IsLeastUnstable netlist named gate
-start-unstable netlist listed named fault gate same is says =
-    subst (λ (list : List (Option Bool)). IsLeastUnstable netlist list gate) same (subst (IsStartFault netlist listed) is says)
+-- where listed values leave no node open and no gate unstable, nothing is said
+pub start-not-refused : (netlist : Netlist) (listed : List (Option Bool)) (fault : StartFault) → IsCompletable netlist listed → IsStartFault netlist listed fault → (own : Status) (text : List ℕ) → StartSays netlist fault own text → ⊥
+start-not-refused netlist listed (start.Open gate) completable least own text says = completable.closed gate least
+start-not-refused netlist listed (start.Unstable gate) completable least own text says = completable.stable gate least
+start-not-refused netlist listed start.Memory completable least own text says = says
 
 -- an accepted start, by other names
 pub start-accepted : (netlist : Netlist) (listed named : List (Option Bool)) (state slice : List Bool) → listed ≡ named → slice ≡ state → IsAcceptedStart netlist listed state → IsAcceptedStart netlist named slice

@@ -27,7 +27,7 @@ use Rattle.hz_top.specs.declared.replaying.Refused.{Refused}
 use Rattle.hz_top.specs.declared.replaying.Refused.TheVariants.{Step, Cycle}
 use Rattle.hz_top.specs.Replaying.{steps_of, IsAcceptedRun, IsRefusedStep, IsRefusedRun, IsFirstRefusal, start_of, AreAccepted, IsRefusalOfText}
 use Rattle.hz_top.specs.Made.{AreVariables, run_of}
-use Rattle.hz_gmw.proofs.Rechecks.{beq-same, beq-refl}
+use Rattle.hz_gmw.proofs.Bits.{beq-same, beq-refl}
 use Rattle.hz_gmw.proofs.LeastLemmas.{IsLeastOf-same, least-listed, least-repeated}
 use Rattle.hz_gmw.proofs.ReplayLemmas.{at-unstable_variables, unstable-true, true-unstable, none-marked, step-by, stable-fault, stands-at, stands-step, differs-fault, closed-by, not-stable-fault, stable-cycle, transient-fault, moving-cycle}
 

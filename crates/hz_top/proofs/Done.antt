@@ -10,29 +10,30 @@ use Rattle.hz_bench.specs.Text.{statements_of}
 use Rattle.hz_text.specs.ScriptText.{IsValue}
 use Rattle.hz_text.specs.ScriptValue.{ScriptOf}
 use Rattle.hz_text.specs.RunValue.{RunTextOf}
-use Rattle.hz_top.specs.declared.job.Task.{Task}
-use Rattle.hz_top.specs.declared.job.Task.TheVariants.{Analyse, Replay}
+use Rattle.hz_words.specs.declared.job.Task.{Task}
+use Rattle.hz_words.specs.declared.job.Task.TheVariants.{Analyse, Replay, Convert}
+use Rattle.hz_words.specs.Job.{JobOf, OnFiles, Demo}
+use Rattle.hz_report.specs.declared.show.Show.{Show}
 use Rattle.hz_top.specs.declared.status.Status.{Status}
 use Rattle.hz_top.specs.declared.status.Status.TheVariants as status
 use Rattle.hz_top.specs.Answer.{Answers}
-use Rattle.hz_top.specs.Faultless.{IsFaultlessScript, IsFaultlessRuns, IsFaultlessText, EndsReplay, IsFaultlessJob}
-use Rattle.hz_top.specs.Job.{JobOf}
-use Rattle.hz_top.specs.Outcome.{Told, ScriptComes, ScriptTextComes, RunTextComes, TaskComes, IsNetlistText, SecondComes, JobComes}
+use Rattle.hz_top.specs.Faultless.{IsFaultlessScript, IsFaultlessRuns, IsFaultlessText, EndsReplay, AreFaultlessFiles, IsFaultlessJob}
+use Rattle.hz_top.specs.Outcome.{Told, ScriptComes, ScriptTextComes, TaskComes, IsNetlistText, SecondComes, FilesCome, JobComes}
+use Rattle.hz_text.specs.RunFault.{IsRunFaultless}
 use Rattle.hz_top.specs.Verdict.{ReplayComes}
+use Rattle.hz_top.specs.RunTexts.{RunTextComes, ConvertComes}
 use Rattle.hz_top.proofs.Refusals.{accepted-or-refused}
 
 -- a script comes to its report
-script-done : (netlist : Netlist) (text : List ℕ) (value : ScriptOf) (own : Status) (said : List ℕ) → IsFaultlessScript netlist text → IsValue netlist text value → ScriptComes netlist value own said → own ≡ status.Done
-script-done netlist text value own said good is (inl (many, says)) =
-    let none : ⊥ = omega (arith, many, good.few value is) in absurd none
-script-done netlist text value own said good is (inr (inl (few, own_is, inl (gate, opened, line)))) = absurd (good.closed value is gate opened)
-script-done netlist text value own said good is (inr (inl (few, own_is, inr (gate, unstable, line)))) = absurd (good.stable value is gate unstable)
-script-done netlist text value own said good is (inr (inr (few, (start, accepted, reports)))) = reports.0
+script-done : (cap : ℕ) (show : Show) (netlist : Netlist) (text : List ℕ) (value : ScriptOf) (own : Status) (said : List ℕ) → IsFaultlessScript netlist text → IsValue netlist text value → ScriptComes cap show netlist value own said → own ≡ status.Done
+script-done cap show netlist text value own said good is (inl (own_is, inl (gate, opened, line))) = absurd ((good.completable value is).closed gate opened)
+script-done cap show netlist text value own said good is (inl (own_is, inr (gate, unstable, line))) = absurd ((good.completable value is).stable gate unstable)
+script-done cap show netlist text value own said good is (inr (start, accepted, reports)) = reports.0
 
 -- the text of a script comes to its report
-script-text-done : (netlist : Netlist) (text : List ℕ) (own : Status) (said : List ℕ) → IsFaultlessScript netlist text → ScriptTextComes ScriptComes netlist text own said → own ≡ status.Done
-script-text-done netlist text own said good (inl (fault, least, says)) = absurd (good.faultless fault least.stands)
-script-text-done netlist text own said good (inr (value, faultless, is, comes)) = script-done netlist text value own said good is comes
+script-text-done : (cap : ℕ) (show : Show) (netlist : Netlist) (text : List ℕ) (own : Status) (said : List ℕ) → IsFaultlessScript netlist text → ScriptTextComes (ScriptComes cap show) netlist text own said → own ≡ status.Done
+script-text-done cap show netlist text own said good (inl (fault, least, says)) = absurd (good.faultless fault least.stands)
+script-text-done cap show netlist text own said good (inr (value, faultless, is, comes)) = script-done cap show netlist text value own said good is comes
 
 -- a replay comes to the one of both ends that it has
 replay-ends : (netlist : Netlist) (value : RunTextOf) (wanted own : Status) (said : List ℕ) → EndsReplay netlist value wanted → ReplayComes netlist value own said → own ≡ wanted
@@ -46,10 +47,16 @@ runs-end : (netlist : Netlist) (text : List ℕ) (wanted own : Status) (said : L
 runs-end netlist text wanted own said good (inl (fault, least, says)) = absurd (good.faultless fault least.stands)
 runs-end netlist text wanted own said good (inr (value, faultless, is, comes)) = replay-ends netlist value wanted own said (good.ends value is) comes
 
+-- a run text comes to its conversion
+convert-done : (netlist : Netlist) (text : List ℕ) (own : Status) (said : List ℕ) → IsRunFaultless netlist text → RunTextComes ConvertComes netlist text own said → own ≡ status.Done
+convert-done netlist text own said good (inl (fault, least, says)) = absurd (good fault least.stands)
+convert-done netlist text own said good (inr (value, faultless, is, says)) = says.0
+
 -- the second text comes to its end
 text-ends : (task : Task) (netlist : Netlist) (text : List ℕ) (wanted own : Status) (said : List ℕ) → IsFaultlessText task netlist text wanted → TaskComes task netlist text own said → own ≡ wanted
-text-ends Analyse netlist text wanted own said good comes = script-text-done netlist text own said good.0 comes ∙ sym good.1
+text-ends (Analyse cap show) netlist text wanted own said good comes = script-text-done cap show netlist text own said good.0 comes ∙ sym good.1
 text-ends Replay netlist text wanted own said good comes = runs-end netlist text wanted own said good comes
+text-ends Convert netlist text wanted own said good comes = convert-done netlist text own said good.0 comes ∙ sym good.1
 
 -- the bytes of a file that is told are the told ones
 told-bytes : (told : Told) (bytes_of : List ℕ → List ℕ) (name bytes : List ℕ) → told.held ≡ Some bytes_of → IfSome told.held (λ bytes_of. bytes ≡ bytes_of name) → bytes ≡ bytes_of name
@@ -57,12 +64,12 @@ told-bytes told bytes_of name bytes is_told is =
     subst (λ (held : Option (List ℕ → List ℕ)). IfSome held (λ bytes_of. bytes ≡ bytes_of name)) is_told is
 
 -- the second file comes to its end
-second-ends : (told : Told) (job : JobOf) (wanted : Status) (good : IsFaultlessJob told job wanted) (own : Status) (said : List ℕ) → SecondComes told (TaskComes job.task good.netlist) job.second own said → own ≡ wanted
-second-ends told job wanted good own said (inl (inl (rose, says))) = absurd (good.none_failed Second rose)
-second-ends told job wanted good own said (inl (inr (rose, over, says))) = absurd (good.none_long Second rose)
-second-ends told job wanted good own said (inr (bytes, (is, short), comes)) =
-    text-ends job.task good.netlist (good.bytes_of job.second) wanted own said good.text
-    (subst (λ (text : List ℕ). TaskComes job.task good.netlist text own said) (told-bytes told good.bytes_of job.second bytes good.is_told is) comes)
+second-ends : (told : Told) (task : Task) (first second : List ℕ) (wanted : Status) (good : AreFaultlessFiles told task first second wanted) (own : Status) (said : List ℕ) → SecondComes told (TaskComes task good.netlist) second own said → own ≡ wanted
+second-ends told task first second wanted good own said (inl (inl (rose, says))) = absurd (good.none_failed Second rose)
+second-ends told task first second wanted good own said (inl (inr (rose, over, says))) = absurd (good.none_long Second rose)
+second-ends told task first second wanted good own said (inr (bytes, (is, short), comes)) =
+    text-ends task good.netlist (good.bytes_of second) wanted own said good.text
+    (subst (λ (text : List ℕ). TaskComes task good.netlist text own said) (told-bytes told good.bytes_of second bytes good.is_told is) comes)
 
 -- a text is that of one circuit
 one-netlist : (text bytes : List ℕ) (netlist other : Netlist) → bytes ≡ text → IsNetlistText text netlist → IsNetlistText bytes other → other ≡ netlist
@@ -70,16 +77,21 @@ one-netlist text bytes netlist other same good is =
     is.1 ∙ ap (λ (text : List ℕ). netlist_of (statements_of text)) same ∙ sym good.1
 
 -- the two files come to their end
-job-end : (told : Told) (job : JobOf) (wanted : Status) → IsFaultlessJob told job wanted → (own : Status) (said : List ℕ) → JobComes told (Some job) own said → own ≡ wanted
-job-end told job wanted good own said (inl (stay, inl (rose, says))) = absurd (good.none_failed First rose)
-job-end told job wanted good own said (inl (stay, inr (rose, over, says))) = absurd (good.none_long First rose)
-job-end told job wanted good own said (inr (bytes, (is, short), inl (line, (fault, least, is_line), stay, says))) =
-    let here = subst (λ (text : List ℕ). IsLeastFault text fault) (told-bytes told good.bytes_of job.first bytes good.is_told is) least in
+files-end : (told : Told) (task : Task) (first second : List ℕ) (wanted : Status) → AreFaultlessFiles told task first second wanted → (own : Status) (said : List ℕ) → FilesCome told (TaskComes task) first second own said → own ≡ wanted
+files-end told task first second wanted good own said (inl (stay, inl (rose, says))) = absurd (good.none_failed First rose)
+files-end told task first second wanted good own said (inl (stay, inr (rose, over, says))) = absurd (good.none_long First rose)
+files-end told task first second wanted good own said (inr (bytes, (is, short), inl (line, (fault, least, is_line), stay, says))) =
+    let here = subst (λ (text : List ℕ). IsLeastFault text fault) (told-bytes told good.bytes_of first bytes good.is_told is) least in
     absurd (good.is_netlist.0 fault here.stands)
-job-end told job wanted good own said (inr (bytes, (is, short), inr (netlist, text, comes))) =
-    second-ends told job wanted good own said
-    (subst (λ (netlist : Netlist). SecondComes told (TaskComes job.task netlist) job.second own said)
-    (one-netlist (good.bytes_of job.first) bytes good.netlist netlist (told-bytes told good.bytes_of job.first bytes good.is_told is) good.is_netlist text) comes)
+files-end told task first second wanted good own said (inr (bytes, (is, short), inr (netlist, text, comes))) =
+    second-ends told task first second wanted good own said
+    (subst (λ (netlist : Netlist). SecondComes told (TaskComes task netlist) second own said)
+    (one-netlist (good.bytes_of first) bytes good.netlist netlist (told-bytes told good.bytes_of first bytes good.is_told is) good.is_netlist text) comes)
+
+-- a job comes to its end
+job-end : (told : Told) (job : JobOf) (wanted : Status) → IsFaultlessJob told job wanted → (own : Status) (said : List ℕ) → JobComes told (Some job) own said → own ≡ wanted
+job-end told (OnFiles task first second) wanted good own said comes = files-end told task first second wanted good own said comes
+job-end told (Demo number cap) wanted good own said (stay, (start, accepted, summary)) = summary.0 ∙ sym good
 
 -- and what was asked is this job
 asked-end : (told : Told) (asked : Option JobOf) (job : JobOf) (wanted : Status) → asked ≡ Some job → IsFaultlessJob told job wanted → (own : Status) (said : List ℕ) → JobComes told asked own said → own ≡ wanted

@@ -1,4 +1,3 @@
-pub mod Findings
 pub mod Endings
 pub mod Comings
 pub mod Steps
@@ -9,4 +8,8 @@ pub mod NamedVariables
 pub mod Decided
 pub mod Lines
 pub mod Done
+pub mod Writable
+pub mod ReportLines
+pub mod GoingOn
+pub mod FirstOnly
 pub mod ReadBack

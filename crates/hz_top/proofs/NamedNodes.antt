@@ -2,7 +2,7 @@
 use Rattle.std.proofs.Common.{ℕ, ◌<◌, inl, inr, List, [], ◌∷◌, length, Option, Some, None, arith}
 use Rattle.hz_core.specs.Netlist.{Netlist, IsCircuit, primary_inputs}
 use Rattle.hz_text.specs.declared.fault.TextFault.{TextFault}
-use Rattle.hz_text.specs.declared.fault.TextFault.TheVariants.{Form, Unknown, Twice, Missing, Bit, Order, TooMany, Memory}
+use Rattle.hz_text.specs.declared.fault.TextFault.TheVariants.{Form, Unknown, Twice, Missing, Bit, Order, TooMany, Memory, Mismatch}
 use Rattle.hz_text.specs.RunFault.{looked_run_statements, first_start, first_input, LeavesOut, IsLeftOut, StandsInRuns, IsRunRefusal}
 use Rattle.hz_text.specs.Fault.{IsLeastFaultOrMemory}
 use Rattle.hz_text.specs.ScriptFault.{looked_statements, IsMissing, Stands, IsRefusal}
@@ -36,6 +36,7 @@ names-node netlist holds (Bit line) is_node (inr least) = tt
 names-node netlist holds (Order line) is_node (inr least) = tt
 names-node netlist holds (TooMany line) is_node (inr least) = tt
 names-node netlist holds Memory is_node (inr least) = tt
+names-node netlist holds (Mismatch line told real) is_node (inr least) = tt
 
 -- the node that the refusal of a script names
 pub script-node : (netlist : Netlist) (text : List ℕ) (fault : TextFault) → IsCircuit netlist → IsRefusal netlist text fault → NamesNode netlist (named_node fault)

@@ -1,80 +1,176 @@
--- How the run text of a change reads back, and that its run is accepted.
-use Rattle.std.proofs.Common.{◌≡◌, ◌∙◌, sym, subst, refl, ℕ, ◌*◌, ◌<◌, ◌≤◌, Bool, List, [], ◌++◌, Option, None, length, take, All, arith}
-use Rattle.std.proofs.lemmas.List.{append-nil, length-take-le}
-use Rattle.std.proofs.lemmas.List.Elements.{All-nil, All-cons}
-use Rattle.hz_core.specs.declared.tri.Tri.{Tri}
-use Rattle.hz_core.specs.declared.tri.Tri.TheVariants.{Zero, One, Unknown}
-use Rattle.hz_core.specs.Netlist.{Netlist, IsCircuit}
-use Rattle.hz_net.specs.Network.{network_of, value_at}
-use Rattle.hz_net.specs.Passes.{IsKnown, IsUnknown}
-use Rattle.hz_net.specs.Starts.{IsAcceptedStart}
+-- Runs that are accepted are printed as a text that replays, and those of a right finding are.
+use Rattle.std.proofs.Common.{◌≡◌, ◌∙◌, sym, ap, subst, refl, inl, inr, ℕ, suc, ◌+◌, ◌*◌, ◌-◌, ◌<◌, ◌≤◌, Bool, false, List, [], ◌∷◌, ◌++◌, map, Option, None, Some, IfSome, length, get_or, take, All, arith, length-append}
+use Rattle.std.proofs.lemmas.Bool.{cases_lt}
+use Rattle.std.proofs.lemmas.List.{length-take-le, get_or-take, length-map}
+use Rattle.std.proofs.lemmas.List.Elements.{All-nil, All-cons, All-head, All-tail, All-append}
+use Rattle.std.proofs.lemmas.List.Sums.{sum_by-append, count_by-le-length}
+use Rattle.hz_core.specs.Ternary.{is_unknown}
+use Rattle.hz_core.specs.Netlist.{Netlist, IsCircuit, variable_count}
+use Rattle.hz_net.specs.Network.{Driver, network_of, wires_of, bit_at, driven, IsStable}
+use Rattle.hz_net.specs.Starts.{IsStableStart}
 use Rattle.hz_net.specs.Variables.{expanded}
-use Rattle.hz_net.proofs.Places.{length-network_of}
-use Rattle.hz_gmw.specs.Runs.{IsRun}
+use Rattle.hz_net.proofs.Places.{no_wire, All-wires_of, length-wires_of, length-network_of, driver_at-wire, length-expanded, bit_at-expanded-node, bit_at-expanded-wire}
+use Rattle.hz_gmw.specs.Runs.{IsRun, end_of}
+use Rattle.hz_gmw.specs.Cycles.{IsNontransient}
 use Rattle.hz_gmw.specs.Recorded.{flip_count}
-use Rattle.hz_reach.specs.Spread.{changes_in, IsSpreadRun}
-use Rattle.hz_reach.specs.Counts.{FlipsPerVariable, StepsAreNoMoreThanFlips}
+use Rattle.hz_reach.specs.Counts.{StepsAreNoMoreThanFlips}
+use Rattle.hz_text.specs.RunPrinted.{run_text_printed}
 use Rattle.hz_text.specs.RunText.{IsRunTextFor}
-use Rattle.hz_text.specs.RunValue.{RunOf, all_steps}
+use Rattle.hz_text.specs.RunValue.{RunOf, RunTextOf, cycle_steps, all_steps}
 use Rattle.hz_text.proofs.RunPrintedLaws.{printed-faultless, printed-value}
-use Rattle.hz_report.specs.Report.{run_of_change, runs_text}
-use Rattle.hz_top.specs.Replaying.{IsAcceptedRun, AreAccepted}
-use Rattle.hz_top.specs.Reports.{ReadsBack}
-use Rattle.hz_top.proofs.Findings.{run-inside}
+use Rattle.hz_desk.specs.declared.finding.Row.{Row}
+use Rattle.hz_desk.specs.Finding.{FindingOf, values_a, values_b}
+use Rattle.hz_seq.specs.Sequence.{changed_input, IsFindingOfChange}
+use Rattle.hz_seq.specs.Analyses.{Analysis, Found, Stopped, AreAnalyses, all_stopped}
+use Rattle.hz_seq.proofs.NextStart.{next-start}
+use Rattle.hz_seq.proofs.FirstAnalyses.{input-long}
+use Rattle.hz_report.specs.Report.{runs_of_finding}
+use Rattle.hz_top.specs.Replaying.{IsAcceptedRun, start_of, AreAccepted}
+use Rattle.hz_top.specs.Reports.{AnalysisReplays}
+use Rattle.hz_top.specs.RunTexts.{ReplaysAs}
+use Rattle.hz_top.proofs.Writable.{run-inside, fits}
 
--- the spread run changes a variable at most once
-at-most-once : (value : Tri) (changes : ℕ) → (IsKnown value → changes ≡ 0) → (IsUnknown value → changes ≡ 1) → changes ≤ 1
-at-most-once Zero changes known unknown = omega (arith, known (λ e. cc))
-at-most-once One changes known unknown = omega (arith, known (λ e. cc))
-at-most-once Unknown changes known unknown = omega (arith, unknown refl)
+-- Bits of one length that are the same at each place are the same.
+same-bits : (xs ys : List Bool) → length xs ≡ length ys → ((k : ℕ) → k < length xs → bit_at xs k ≡ bit_at ys k) → xs ≡ ys
+same-bits [] [] long each = refl
+same-bits [] (y ∷ ys) long each = cc
+same-bits (x ∷ xs) [] long each = cc
+same-bits (x ∷ xs) (y ∷ ys) long each =
+    let head : x ≡ y = each 0 (omega arith) in
+    let tail : xs ≡ ys = same-bits xs ys (omega (arith, long)) (λ k few. each (suc k) (omega (arith, few))) in
+    cc
 
--- the run text of a change is one of the network
-text-for :
-    FlipsPerVariable → StepsAreNoMoreThanFlips →
-    (netlist : Netlist) (input start : List Bool) (a : List Tri) (steps : List (List ℕ)) → IsCircuit netlist →
-    length start ≡ length (network_of netlist) → length input ≡ netlist.inputs → IsSpreadRun (network_of netlist) input start a steps →
-    IsRunTextFor netlist (run_of_change netlist start input steps)
-text-for per_variable no_more netlist input start a steps circuit long inputs shown =
-    let net = network_of netlist in
-    let same : all_steps (run_of_change netlist start input steps).runs ≡ steps = append-nil (steps ++ []) ∙ append-nil steps in
-    let few : length net ≤ 200000 = omega (arith, length-network_of netlist circuit, circuit.variables) in
-    let once : flip_count steps ≤ 1 * length net =
-    per_variable net input start steps 1 shown.run (λ i. at-most-once (value_at a i) (changes_in steps i) (shown.known i) (shown.unknown i)) in
-    let flips : flip_count steps ≤ 2000000 = omega (arith, few, once) in
-    let count : length steps ≤ 2000000 = omega (arith, few, once, no_more net input start steps shown.run) in
-    record {
-      nodes = length-take-le (length netlist.names) start (omega (arith, long, length-network_of netlist circuit));
+-- in a stable state each wire has its source's value, so it is the state that its nodes' values make
+stable-expanded :
+    (netlist : Netlist) (input state : List Bool) → IsCircuit netlist → length state ≡ length (network_of netlist) → IsStable (network_of netlist) input state →
+    state ≡ expanded netlist (take (length netlist.names) state)
+stable-expanded netlist input state circuit long stable =
+    let nodes = take (length netlist.names) state in
+    let few : length netlist.names ≤ length state = omega (arith, long, length-network_of netlist circuit) in
+    let count : length nodes ≡ length netlist.names = length-take-le (length netlist.names) state few in
+    same-bits state (expanded netlist nodes) (long ∙ sym (length-expanded netlist nodes circuit count)) (λ k within. elim (cases_lt k (length netlist.names)) [
+      | inl node ↦ sym (bit_at-expanded-node netlist nodes k count node ∙ get_or-take (length netlist.names) state k false node)
+      | inr from ↦ (
+          let below : k < variable_count netlist = omega (arith, within, long, length-network_of netlist circuit) in
+          let wire = get_or (wires_of netlist) (k - length netlist.names) no_wire in
+          let there : k - length netlist.names < length (wires_of netlist) = omega (arith, from, below, length-wires_of netlist) in
+          let source : wire.source < length netlist.names = All-wires_of netlist circuit (k - length netlist.names) no_wire there in
+          stable k (omega (arith, within, long))
+          ∙ ap (driven input state) (driver_at-wire netlist k circuit from below)
+          ∙ sym (bit_at-expanded-wire netlist nodes k count from below ∙ get_or-take (length netlist.names) state wire.source false source)
+          )
+    ])
+
+-- the steps of runs that are accepted name variables of the network
+accepted-inside : (net : List Driver) (input start : List Bool) (run : RunOf) → IsAcceptedRun net input start run → All (All (λ (var : ℕ). var < length net)) (run.lead ++ cycle_steps run.cycle)
+accepted-inside net input start run accepted =
+    All-append (All (λ (var : ℕ). var < length net)) run.lead (cycle_steps run.cycle) (run-inside net input start run.lead accepted.lead) (by_cycle run.cycle accepted.cycle)
+  where
+    by_cycle : (cycle : Option (List (List ℕ))) → IfSome cycle (IsNontransient net input (end_of start run.lead)) → All (All (λ (var : ℕ). var < length net)) (cycle_steps cycle)
+    by_cycle None lasts = All-nil (All (λ (var : ℕ). var < length net))
+    by_cycle (Some steps) lasts = run-inside net input (end_of start run.lead) steps lasts.cycle.run
+
+all-inside : (net : List Driver) (input start : List Bool) (runs : List RunOf) → All (IsAcceptedRun net input start) runs → All (All (λ (var : ℕ). var < length net)) (all_steps runs)
+all-inside net input start [] accepted = All-nil (All (λ (var : ℕ). var < length net))
+all-inside net input start (run ∷ runs) accepted =
+    All-append (All (λ (var : ℕ). var < length net)) (run.lead ++ cycle_steps run.cycle) (all_steps runs)
+    (accepted-inside net input start run (All-head (IsAcceptedRun net input start) run runs accepted))
+    (all-inside net input start runs (All-tail (IsAcceptedRun net input start) run runs accepted))
+
+-- runs that are accepted are printed as a text that replays
+pub accepted-replays :
+    (netlist : Netlist) (value : RunTextOf) → IsCircuit netlist → length value.nodes ≡ length netlist.names → length value.input ≡ netlist.inputs →
+    length (all_steps value.runs) ≤ 2000000 → flip_count (all_steps value.runs) ≤ 2000000 → AreAccepted netlist value →
+    ReplaysAs netlist (run_text_printed netlist value) value.runs
+accepted-replays netlist value circuit nodes inputs steps flips accepted =
+    let usable : IsRunTextFor netlist value = record {
+      nodes = nodes;
       inputs = inputs;
-      variables = subst (λ (list : List (List ℕ)). All (λ (flips : List ℕ). All (λ (var : ℕ). var < length net) flips) list) (sym same) (run-inside net input start steps shown.run);
-      few_steps = subst (λ (list : List (List ℕ)). length list ≤ 2000000) (sym same) count;
-      few_variables = subst (λ (list : List (List ℕ)). flip_count list ≤ 2000000) (sym same) flips;
-    }
-
--- so it reads back
-pub reads-back :
-    FlipsPerVariable → StepsAreNoMoreThanFlips →
-    (netlist : Netlist) (input start : List Bool) (a : List Tri) (steps : List (List ℕ)) → IsCircuit netlist →
-    length start ≡ length (network_of netlist) → length input ≡ netlist.inputs → IsSpreadRun (network_of netlist) input start a steps →
-    ReadsBack netlist (runs_text netlist start input steps) (run_of_change netlist start input steps)
-unfolding runs_text
-reads-back per_variable no_more netlist input start a steps circuit long inputs shown =
-    let value = run_of_change netlist start input steps in
-    let usable = text-for per_variable no_more netlist input start a steps circuit long inputs shown in
-    record {
-      faultless = printed-faultless netlist value circuit usable;
-      value = printed-value netlist value circuit usable;
-    }
-
--- an accepted start is where the runs of its text begin, so the run is accepted
-pub is-accepted :
-    (netlist : Netlist) (listed : List (Option Bool)) (input start : List Bool) (a : List Tri) (steps : List (List ℕ)) →
-    IsAcceptedStart netlist listed start → IsSpreadRun (network_of netlist) input start a steps → AreAccepted netlist (run_of_change netlist start input steps)
-is-accepted netlist listed input start a steps begun shown =
-    let net = network_of netlist in
-    let begin : List Bool = expanded netlist (take (length netlist.names) start) in
-    let run : RunOf = record { lead = steps; cycle = None } in
-    let taken : IsAcceptedRun net input begin run = record {
-      lead = subst (λ (state : List Bool). IsRun net input state steps) begun.completed.wires shown.run;
-      cycle = tt;
+      variables = all-inside (network_of netlist) value.input (start_of netlist value) value.runs accepted;
+      few_steps = steps;
+      few_variables = flips;
     } in
-    All-cons (IsAcceptedRun net input begin) run [] taken (All-nil (IsAcceptedRun net input begin))
+    inr (value, printed-faultless netlist value circuit usable, printed-value netlist value circuit usable, inl (accepted, (refl, refl)))
+
+-- how long two runs are together, the second with a cycle
+two-long : (spread settle cycle : List (List ℕ)) → length (all_steps (record { lead = spread; cycle = None } ∷ record { lead = settle; cycle = Some cycle } ∷ [])) ≡ length spread + (length settle + length cycle)
+two-long spread settle cycle =
+    omega (
+      arith,
+      length-append (spread ++ []) ((settle ++ cycle) ++ []),
+      length-append spread [],
+      length-append (settle ++ cycle) [],
+      length-append settle cycle,
+    )
+
+two-flips : (spread settle cycle : List (List ℕ)) → flip_count (all_steps (record { lead = spread; cycle = None } ∷ record { lead = settle; cycle = Some cycle } ∷ [])) ≡ flip_count spread + (flip_count settle + flip_count cycle)
+two-flips spread settle cycle =
+    omega (
+      arith,
+      sum_by-append length (spread ++ []) ((settle ++ cycle) ++ []),
+      sum_by-append length spread [],
+      sum_by-append length (settle ++ cycle) [],
+      sum_by-append length settle cycle,
+    )
+
+-- the runs of a right finding are printed as such a text
+pub finding-replays :
+    StepsAreNoMoreThanFlips →
+    (netlist : Netlist) (cap : ℕ) (start : List Bool) (change : List (ℕ × Bool)) (finding : FindingOf) → IsCircuit netlist → IsStableStart netlist start →
+    IsFindingOfChange netlist cap start change finding → AnalysisReplays netlist (Found finding)
+finding-replays no_more netlist cap start change finding circuit begins right =
+    let net = network_of netlist in
+    let value = runs_of_finding netlist finding in
+    let input = changed_input (take netlist.inputs start) change in
+    let few : length (network_of netlist) ≤ 200000 = omega (arith, length-network_of netlist circuit, circuit.variables) in
+    let fit = fits netlist netlist cap start change finding refl circuit begins right in
+    let rows_a = length-map finding.rows (λ (row : Row). row.a) in
+    let rows_b = length-map finding.rows (λ (row : Row). row.b) in
+    let unknown_a = count_by-le-length is_unknown (values_a finding.rows) in
+    let unknown_b = count_by-le-length is_unknown (values_b finding.rows) in
+    let spread_flips = right.spread_flips in
+    let settle_flips = right.settle.flips in
+    let cycle_flips = right.cycle.flips in
+    let spread_steps = no_more net input start finding.spread right.spread.run in
+    let settle_steps = no_more net input start finding.settle right.settle.run in
+    let cycle_steps = no_more net input (end_of start finding.settle) finding.cycle right.cycle.nontransient.cycle.run in
+    let flips : flip_count (all_steps value.runs) ≤ 2000000 =
+    omega (arith, two-flips finding.spread finding.settle finding.cycle, few, fit.rows, rows_a, rows_b, unknown_a, unknown_b, spread_flips, settle_flips, cycle_flips) in
+    let steps : length (all_steps value.runs) ≤ 2000000 =
+    omega (arith, two-long finding.spread finding.settle finding.cycle, few, fit.rows, rows_a, rows_b, unknown_a, unknown_b, spread_flips, settle_flips, cycle_flips, spread_steps, settle_steps, cycle_steps) in
+    let nodes : length value.nodes ≡ length netlist.names =
+    length-take-le (length netlist.names) (map (λ (row : Row). row.start) finding.rows)
+    (omega (arith, length-map finding.rows (λ (row : Row). row.start), fit.rows, length-network_of netlist circuit)) in
+    let from : start ≡ start_of netlist value =
+    stable-expanded netlist (take netlist.inputs start) start circuit begins.long begins.stable
+    ∙ ap (λ (bits : List Bool). expanded netlist (take (length netlist.names) bits)) (sym right.starts) in
+    let same_input : input ≡ finding.input = sym right.input_is in
+    let accepted : All (IsAcceptedRun net input start) value.runs =
+    All-cons (IsAcceptedRun net input start) (record { lead = finding.spread; cycle = None }) (record { lead = finding.settle; cycle = Some finding.cycle } ∷ [])
+    (record { lead = right.spread.run; cycle = tt })
+    (All-cons (IsAcceptedRun net input start) (record { lead = finding.settle; cycle = Some finding.cycle }) []
+    (record { lead = right.settle.run; cycle = right.cycle.nontransient }) (All-nil (IsAcceptedRun net input start))) in
+    accepted-replays netlist value circuit nodes fit.input steps flips
+    (subst (λ (bits : List Bool). All (IsAcceptedRun net bits (start_of netlist value)) value.runs) same_input
+    (subst (λ (state : List Bool). All (IsAcceptedRun net input state) value.runs) from accepted))
+
+all-stopped-replay : (netlist : Netlist) (var : ℕ) (changes : List (List (ℕ × Bool))) → All (AnalysisReplays netlist) (all_stopped var changes)
+all-stopped-replay netlist var [] = All-nil (AnalysisReplays netlist)
+all-stopped-replay netlist var (change ∷ changes) = All-cons (AnalysisReplays netlist) (Stopped var) (all_stopped var changes) tt (all-stopped-replay netlist var changes)
+
+-- and so are those of all analyses
+pub analyses-replay :
+    StepsAreNoMoreThanFlips →
+    (netlist : Netlist) (cap : ℕ) (changes : List (List (ℕ × Bool))) (start : List Bool) (analyses : List Analysis) → IsCircuit netlist → IsStableStart netlist start →
+    AreAnalyses netlist cap start changes analyses → All (AnalysisReplays netlist) analyses
+analyses-replay no_more netlist cap [] start [] circuit begins are = All-nil (AnalysisReplays netlist)
+analyses-replay no_more netlist cap [] start (analysis ∷ analyses) circuit begins are = absurd are
+analyses-replay no_more netlist cap (change ∷ changes) start [] circuit begins are = absurd are
+analyses-replay no_more netlist cap (change ∷ changes) start (Stopped var ∷ analyses) circuit begins are = absurd are
+analyses-replay no_more netlist cap (change ∷ changes) start (Found finding ∷ analyses) circuit begins are =
+    All-cons (AnalysisReplays netlist) (Found finding) analyses (finding-replays no_more netlist cap start change finding circuit begins are.0) (elim are.1 [
+      | inl settled ↦
+          analyses-replay no_more netlist cap changes settled.0 analyses circuit
+          (next-start netlist (changed_input (take netlist.inputs start) change) start settled.0 cap finding circuit (input-long netlist start change circuit begins) are.0 settled.1) settled.2
+      | inr unsettled ↦ subst (All (AnalysisReplays netlist)) (sym unsettled.2) (all-stopped-replay netlist unsettled.0 changes)
+    ])

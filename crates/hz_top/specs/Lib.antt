@@ -1,11 +1,10 @@
 pub mod Ending
-pub mod Job
-pub mod Finding
 pub mod Answer
 pub mod Refusal
 pub mod Replaying
 pub mod Made
 pub mod Verdict
+pub mod RunTexts
 pub mod Reports
 pub mod Outcome
 pub mod Faultless

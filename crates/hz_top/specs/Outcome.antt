@@ -1,5 +1,5 @@
 -- What a job comes to, in the order of work: the status and the text that is written.
-use Rattle.std.specs.Prelude.{◌≡◌, ◌≢◌, ℕ, ◌<◌, ◌≤◌, ◌⊎◌, Bool, List, length, codes, Option, Some, None, IfSome}
+use Rattle.std.specs.Prelude.{◌≡◌, ◌≢◌, ℕ, ◌<◌, ◌≤◌, ◌⊎◌, Bool, List, [], ◌∷◌, length, codes, Option, Some, None, IfSome}
 use Rattle.hz_outside.specs.Counts.{Rose}
 use Rattle.hz_outside.specs.declared.fault.Place.{Place}
 use Rattle.hz_outside.specs.declared.fault.Place.TheVariants.{First, Second}
@@ -7,6 +7,8 @@ use Rattle.hz_outside.specs.declared.fault.LoadFault.{LoadFault}
 use Rattle.hz_outside.specs.declared.fault.LoadFault.TheVariants as load
 use Rattle.hz_core.specs.Netlist.{Netlist}
 use Rattle.hz_net.specs.Starts.{IsAcceptedStart, IsLeastOpen, IsLeastUnstable}
+use Rattle.hz_pass.specs.declared.completed_start.StartFault.{StartFault}
+use Rattle.hz_pass.specs.declared.completed_start.StartFault.TheVariants as start
 use Rattle.hz_bench.specs.declared.fault.BenchFault.{BenchFault}
 use Rattle.hz_bench.specs.declared.fault.BenchFault.TheVariants as bench
 use Rattle.hz_bench.specs.Fault.{IsLeastFault, IsFaultless}
@@ -17,18 +19,21 @@ use Rattle.hz_text.specs.declared.fault.TextFault.TheVariants as reading
 use Rattle.hz_text.specs.ScriptFault as script
 use Rattle.hz_text.specs.ScriptText.{IsValue}
 use Rattle.hz_text.specs.ScriptValue.{ScriptOf}
-use Rattle.hz_text.specs.RunFault.{IsLeastRunFault, IsRunFaultless}
-use Rattle.hz_text.specs.RunText.{IsRunValue}
-use Rattle.hz_text.specs.RunValue.{RunTextOf}
 use Rattle.hz_top.specs.declared.status.Status.{Status}
 use Rattle.hz_top.specs.declared.status.Status.TheVariants as status
 use Rattle.hz_top.specs.Answer.{Says}
 use Rattle.hz_top.specs.Reports.{Reports}
 use Rattle.hz_top.specs.Verdict.{ReplayComes}
-use Rattle.hz_top.specs.declared.job.Task.{Task}
-use Rattle.hz_top.specs.declared.job.Task.TheVariants.{Analyse, Replay}
-use Rattle.hz_top.specs.Job.{JobOf}
-use Rattle.hz_top.specs.Refusal.{words_line, unread_line, long_line, netlist_fault_line, text_fault_line, sequence_line, open_line, unstable_line}
+use Rattle.hz_top.specs.RunTexts.{RunTextComes, ConvertComes}
+use Rattle.hz_seq.specs.Analyses.{Found, AreAnalyses}
+use Rattle.hz_desk.specs.Finding.{FindingOf}
+use Rattle.hz_gen.specs.Demo.{demo_netlist, demo_script}
+use Rattle.hz_report.specs.declared.show.Show.{Show}
+use Rattle.hz_report.specs.Report.{summary_text}
+use Rattle.hz_words.specs.declared.job.Task.{Task}
+use Rattle.hz_words.specs.declared.job.Task.TheVariants.{Analyse, Replay, Convert}
+use Rattle.hz_words.specs.Job.{JobOf, OnFiles, Demo}
+use Rattle.hz_top.specs.Refusal.{words_line, unread_line, long_line, netlist_fault_line, text_fault_line, open_line, unstable_line}
 
 -- the most bytes of a file
 abbrev pub most_bytes : ℕ
@@ -41,12 +46,25 @@ StartRefused netlist listed text =
     ⊎ ((gate : ℕ) × IsLeastUnstable netlist listed gate × (text ≡ unstable_line netlist gate))
 
 -- what a script without a fault comes to
-abbrev pub ScriptComes : Netlist → ScriptOf → Status → List ℕ → Type 0
-ScriptComes netlist script own text =
-    ((1 < length script.changes) × Says status.Text sequence_line own text)
-    ⊎ ((length script.changes ≤ 1) × (own ≡ status.Start) × StartRefused netlist script.start text)
-    ⊎ ((length script.changes ≤ 1)
-    × ((start : List Bool) × IsAcceptedStart netlist script.start start × Reports netlist start script.changes own text))
+abbrev pub ScriptComes : ℕ → Show → Netlist → ScriptOf → Status → List ℕ → Type 0
+ScriptComes cap show netlist script own text =
+    ((own ≡ status.Start) × StartRefused netlist script.start text)
+    ⊎ ((start : List Bool) × IsAcceptedStart netlist script.start start × Reports netlist cap show start script.changes own text)
+
+-- the text is the summary of the one change of a script from a start
+abbrev pub Summarises : Netlist → ℕ → List Bool → List (List (ℕ × Bool)) → List ℕ → Type 0
+Summarises netlist cap start changes text =
+    (finding : FindingOf) × AreAnalyses netlist cap start changes (Found finding ∷ []) × (text ≡ summary_text netlist finding)
+
+-- the job is done with this summary
+abbrev pub SummaryComes : Netlist → ℕ → List Bool → List (List (ℕ × Bool)) → Status → List ℕ → Type 0
+SummaryComes netlist cap start changes own text = (own ≡ status.Done) × Summarises netlist cap start changes text
+
+-- what the circuit and the script of a number come to
+abbrev pub DemoComes : ℕ → ℕ → Status → List ℕ → Type 0
+DemoComes number cap own text =
+    (start : List Bool) × IsAcceptedStart (demo_netlist number) (demo_script number).start start
+    × SummaryComes (demo_netlist number) cap start (demo_script number).changes own text
 
 -- what the text of a script comes to, on a circuit, if the judge says what a script comes to
 abbrev pub ScriptTextComes : (judge : Netlist → ScriptOf → Status → List ℕ → Type 0) → Netlist → List ℕ → Status → List ℕ → Type 0
@@ -54,16 +72,11 @@ ScriptTextComes judge netlist bytes own text =
     ((fault : TextFault) × script.IsLeastFault netlist bytes fault × Says status.Text (text_fault_line (codes "script") netlist fault) own text)
     ⊎ ((value : ScriptOf) × script.IsFaultless netlist bytes × IsValue netlist bytes value × judge netlist value own text)
 
--- what a run text comes to, on a circuit, if the judge says what runs come to
-abbrev pub RunTextComes : (judge : Netlist → RunTextOf → Status → List ℕ → Type 0) → Netlist → List ℕ → Status → List ℕ → Type 0
-RunTextComes judge netlist bytes own text =
-    ((fault : TextFault) × IsLeastRunFault netlist bytes fault × Says status.Text (text_fault_line (codes "runs") netlist fault) own text)
-    ⊎ ((value : RunTextOf) × IsRunFaultless netlist bytes × IsRunValue netlist bytes value × judge netlist value own text)
-
 -- what the second text comes to, by the task
 abbrev pub TaskComes : Task → Netlist → List ℕ → Status → List ℕ → Type 0
-TaskComes Analyse = ScriptTextComes ScriptComes
+TaskComes (Analyse cap show) = ScriptTextComes (ScriptComes cap show)
 TaskComes Replay = RunTextComes ReplayComes
+TaskComes Convert = RunTextComes ConvertComes
 
 -- the first text is refused with this line
 abbrev pub NetlistRefused : List ℕ → List ℕ → Type 0
@@ -112,6 +125,12 @@ NetlistSays fault own text = (fault ≢ bench.Memory) × Says status.Netlist (ne
 abbrev pub TextSays : List ℕ → Netlist → TextFault → Status → List ℕ → Type 0
 TextSays called netlist fault own text = (fault ≢ reading.Memory) × Says status.Text (text_fault_line called netlist fault) own text
 
+-- what is written of a start that can't be completed: for want of memory nothing
+abbrev pub StartSays : Netlist → StartFault → Status → List ℕ → Type 0
+StartSays netlist (start.Open gate) own text = Says status.Start (open_line netlist gate) own text
+StartSays netlist (start.Unstable gate) own text = Says status.Start (unstable_line netlist gate) own text
+StartSays netlist start.Memory own text = ⊥
+
 -- the bytes are those of the file, where they are told, and not too many
 abbrev pub IsFile : Told → List ℕ → List ℕ → Type 0
 IsFile told name bytes = IfSome told.held (λ bytes_of. bytes ≡ bytes_of name) × (length bytes ≤ most_bytes)
@@ -134,13 +153,15 @@ FilesCome told comes first second own text =
     (CountsStay told Second × Unread told First first own text)
     ⊎ ((bytes : List ℕ) × IsFile told first bytes × FirstTextComes told comes bytes second own text)
 
--- what a job comes to; without a job the words are refused, and no file is loaded
+-- What a job comes to. Without a job the words are refused. No file is loaded for them, nor for a demo.
 abbrev pub JobComes : Told → Option JobOf → Status → List ℕ → Type 0
 JobComes told None own text =
     ((place : Place) → CountsStay told place) × Says status.Words words_line own text
-JobComes told (Some job) own text = FilesCome told (TaskComes job.task) job.first job.second own text
+JobComes told (Some (OnFiles task first second)) own text = FilesCome told (TaskComes task) first second own text
+JobComes told (Some (Demo number cap)) own text = ((place : Place) → CountsStay told place) × DemoComes number cap own text
 
 -- the loads that a job may make: each of its two files at its place, with the limit
 abbrev pub MayLoad : (Place → List ℕ → ℕ → Type 0) → Option JobOf → Type 0
 MayLoad granted None = Unit {0}
-MayLoad granted (Some job) = granted First job.first most_bytes × granted Second job.second most_bytes
+MayLoad granted (Some (OnFiles task first second)) = granted First first most_bytes × granted Second second most_bytes
+MayLoad granted (Some (Demo number cap)) = Unit {0}

@@ -5,6 +5,8 @@ use Rattle.hz_outside.specs.declared.fault.Place.TheVariants.{First, Second}
 use Rattle.hz_write.specs.Writes.{line_of}
 use Rattle.hz_core.specs.Netlist.{Netlist}
 use Rattle.hz_report.specs.Words.{node_name}
+use Rattle.hz_pass.specs.declared.completed_start.StartFault.{StartFault}
+use Rattle.hz_pass.specs.declared.completed_start.StartFault.TheVariants as start
 use Rattle.hz_bench.specs.declared.fault.BenchFault.{BenchFault}
 use Rattle.hz_bench.specs.declared.fault.BenchFault.TheVariants as bench
 use Rattle.hz_text.specs.declared.fault.TextFault.{TextFault}
@@ -45,6 +47,11 @@ unfoldable pub missing_line : List ℕ → Netlist → ℕ → List ℕ
 missing_line called netlist node =
     line_of (codes "refused: " ∷ called ∷ codes ": no value for " ∷ node_name netlist node ∷ [])
 
+-- a count of the network's size that a text tells wrongly
+unfoldable pub mismatch_line : List ℕ → ℕ → ℕ → ℕ → List ℕ
+mismatch_line called line told real =
+    line_of (codes "refused: " ∷ called ∷ codes " line " ∷ decimal line ∷ codes ": net " ∷ decimal told ∷ codes ", not " ∷ decimal real ∷ [])
+
 -- a fault of a netlist's text; for want of memory there is no line
 abbrev pub netlist_fault_line : BenchFault → List ℕ
 netlist_fault_line (bench.Form line) = fault_line (codes "netlist") line (codes ": form")
@@ -66,6 +73,7 @@ text_fault_line called netlist (fault.Bit line) = fault_line called line (codes 
 text_fault_line called netlist (fault.Order line) = fault_line called line (codes ": order")
 text_fault_line called netlist (fault.TooMany line) = fault_line called line (codes ": too many")
 text_fault_line called netlist fault.Memory = []
+text_fault_line called netlist (fault.Mismatch line told real) = mismatch_line called line told real
 
 -- the node that a fault of a text names, if it names one
 abbrev pub named_node : TextFault → Option ℕ
@@ -77,14 +85,17 @@ named_node (fault.Bit line) = None
 named_node (fault.Order line) = None
 named_node (fault.TooMany line) = None
 named_node fault.Memory = None
+named_node (fault.Mismatch line told real) = None
+
+-- the gate that a fault of a start names, if it names one
+abbrev pub named_gate : StartFault → Option ℕ
+named_gate (start.Open gate) = Some gate
+named_gate (start.Unstable gate) = Some gate
+named_gate start.Memory = None
 
 -- what is named, if anything is, is a node of the circuit
 abbrev pub NamesNode : Netlist → Option ℕ → Type 0
 NamesNode netlist named = IfSome named (λ node. node < length netlist.names)
-
--- a script with more than one change, until sequences of changes are analysed
-unfoldable pub sequence_line : List ℕ
-sequence_line = line_of (codes "refused: script: not built" ∷ [])
 
 -- a gate that the start leaves open
 unfoldable pub open_line : Netlist → ℕ → List ℕ

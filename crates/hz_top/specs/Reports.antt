@@ -1,39 +1,45 @@
--- What is reported of a start and of a change from it.
-use Rattle.std.specs.Prelude.{◌≡◌, ℕ, Bool, List, [], ◌∷◌, ◌++◌, take, fold, slice_set}
+-- What is reported of a start and of the changes from it.
+use Rattle.std.specs.Prelude.{◌≡◌, ℕ, ◌+◌, Bool, List, [], ◌∷◌, ◌++◌, All}
 use Rattle.hz_core.specs.Netlist.{Netlist}
 use Rattle.hz_net.specs.Network.{network_of}
-use Rattle.hz_text.specs.RunFault.{IsRunFaultless}
-use Rattle.hz_text.specs.RunText.{IsRunValue}
-use Rattle.hz_text.specs.RunValue.{RunTextOf}
-use Rattle.hz_report.specs.Finding.{FindingOf}
-use Rattle.hz_report.specs.Report.{head_text, change_text}
+use Rattle.hz_free.specs.Feedback.{AreFeedbackCycles}
+use Rattle.hz_text.specs.RunPrinted.{run_text_printed}
+use Rattle.hz_seq.specs.Analyses.{Analysis, Found, Stopped, AreAnalyses}
+use Rattle.hz_report.specs.declared.show.Show.{Show}
+use Rattle.hz_report.specs.Report.{head_text, change_text, stopped_text, runs_of_finding}
 use Rattle.hz_top.specs.declared.status.Status.{Status}
 use Rattle.hz_top.specs.declared.status.Status.TheVariants as status
-use Rattle.hz_top.specs.Finding.{IsFinding}
+use Rattle.hz_top.specs.RunTexts.{ReplaysAs}
 
--- the new input: the present one with the assignments of a change
-abbrev pub changed_input : List Bool → List (ℕ × Bool) → List Bool
-changed_input input change = fold (λ bits assignment. slice_set bits assignment.0 assignment.1) input change
+-- the lines of what one change comes to
+abbrev pub analysis_text : Netlist → Show → ℕ → List (ℕ × Bool) → Analysis → List ℕ
+analysis_text netlist show number change (Found finding) = change_text netlist show number change finding
+analysis_text netlist show number change (Stopped var) = stopped_text netlist number change var
 
--- the text is a run text without fault, and stands for what is told
-pub record ReadsBack (netlist : Netlist) (text : List ℕ) (told : RunTextOf) : Type 0 where
-  pub faultless : IsRunFaultless netlist text
-  pub value : IsRunValue netlist text told
+-- those of changes, the first of which has a number
+abbrev pub analyses_text : Netlist → Show → ℕ → List (List (ℕ × Bool)) → List Analysis → List ℕ
+analyses_text netlist show number [] analyses = []
+analyses_text netlist show number (change ∷ changes) [] = []
+analyses_text netlist show number (change ∷ changes) (analysis ∷ analyses) =
+    analysis_text netlist show number change analysis ++ analyses_text netlist show (number + 1) changes analyses
 
--- the text of one change from a start: for some right finding, the lines of the change
-abbrev pub ChangeReads : Netlist → List Bool → ℕ → List (ℕ × Bool) → List ℕ → Type 0
-ChangeReads netlist start number change text =
-    (finding : FindingOf)
-    × IsFinding (network_of netlist) (changed_input (take netlist.inputs start) change) start finding
-    × (text ≡ change_text netlist number change start (changed_input (take netlist.inputs start) change) finding)
+-- the run text among the lines of a change that was made: in the job `replay` it comes to `yes`, with the counts of its runs
+abbrev pub AnalysisReplays : Netlist → Analysis → Type 0
+AnalysisReplays netlist (Found finding) =
+    ReplaysAs netlist (run_text_printed netlist (runs_of_finding netlist finding)) (runs_of_finding netlist finding).runs
+AnalysisReplays netlist (Stopped var) = Unit {0}
 
--- the text of a start and of at most one change from it
-abbrev pub Reads : Netlist → List Bool → List (List (ℕ × Bool)) → List ℕ → Type 0
-Reads netlist start [] text = text ≡ head_text netlist start
-Reads netlist start (change ∷ []) text =
-    (report : List ℕ) × ChangeReads netlist start 1 change report × (text ≡ head_text netlist start ++ report)
-Reads netlist start (change ∷ second ∷ changes) text = ⊥
+-- The report of changes from a start: the size of the network, its feedback cycles and the start, and what each change
+-- comes to. Each finding in it is right, and its run text replays.
+pub record IsReport (netlist : Netlist) (cap : ℕ) (show : Show) (start : List Bool) (changes : List (List (ℕ × Bool))) (text : List ℕ) : Type 0 where
+  pub cycles : List (List ℕ)
+  pub are_cycles : AreFeedbackCycles (network_of netlist) cycles
+  pub analyses : List Analysis
+  pub are_analyses : AreAnalyses netlist cap start changes analyses
+  pub replay : All (AnalysisReplays netlist) analyses
+  pub lines : text ≡ head_text netlist cycles start ++ analyses_text netlist show 1 changes analyses
 
 -- the job is done with this text
-abbrev pub Reports : Netlist → List Bool → List (List (ℕ × Bool)) → Status → List ℕ → Type 0
-Reports netlist start changes own text = (own ≡ status.Done) × Reads netlist start changes text
+abbrev pub Reports : Netlist → ℕ → Show → List Bool → List (List (ℕ × Bool)) → Status → List ℕ → Type 0
+Reports netlist cap show start changes own text = (own ≡ status.Done) × IsReport netlist cap show start changes text
+

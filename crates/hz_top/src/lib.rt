@@ -3,22 +3,21 @@
 //! | Module | What lives in it |
 //! |---|---|
 //! | `status` | how a call of the program ends |
-//! | `job` | what the words ask for |
-//! | `order` | the order of work: two files, and then what the job does with the second text |
+//! | `order` | the order of work: two files, and then what the task does with the second text |
 //! | `refusal` | refusals: their lines and their statuses |
 //! | `analysis` | the job `analyse`: the text of a script, and its start |
-//! | `finding` | what one change may do |
-//! | `reporting` | what is printed of a start and of a change |
-//! | `reading_back` | laws on the run that is printed |
+//! | `reporting` | the report of a script's changes |
+//! | `demo` | the job `demo`: the circuit of a number |
+//! | `reading_back` | a law on the runs that are printed: they replay |
 //! | `replaying` | the job `replay`: the runs of a run text, step by step |
+//! | `converting` | the job `convert`: a run text, written in version 2 |
 //! | `verdict` | the line that `replay` writes |
 //! | `running` | the top call |
 #![tactic(auto)]
 
 mod analysis;
-mod finding;
-mod job;
-mod lasting;
+mod converting;
+mod demo;
 mod order;
 mod reading_back;
 mod refusal;
@@ -30,8 +29,7 @@ mod status;
 mod tests;
 mod verdict;
 
-pub use job::Task;
 pub use order::MAX_BYTES;
-pub use reading_back::{printed_run_is_accepted, printed_run_reads_back};
+pub use reading_back::accepted_runs_replay;
 pub use running::run;
 pub use status::Status;

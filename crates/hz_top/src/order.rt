@@ -1,37 +1,42 @@
-//! The order of work: the first file, its netlist, the second file, and then what the job does with its text.
+//! The order of work on two files: the first file, its netlist, the second file, and then what the task does with its text.
 ghost use Rattle.std.specs.Prelude.{◌≡◌, ◌≤◌, length};
 ghost use Rattle.hz_outside.specs.declared.fault.Place.TheVariants.{First, Second};
+ghost use Rattle.hz_words.specs.Job.{HasCap};
 ghost use Rattle.hz_top.specs.Answer.{Answers};
 ghost use Rattle.hz_top.specs.Outcome.{most_bytes, told_by, TaskComes, FilesCome, SecondComes};
 
 use crate::analysis::analyse_text;
-use crate::job::{Job, Task};
+use crate::converting::convert_text;
 use crate::refusal::{refuse_load, refuse_netlist};
 use crate::replaying::replay_text;
 use crate::status::Status;
 use hz_net::Net;
 use hz_outside::{Files, Place, Sink};
+use hz_words::Task;
 use std::alloc::Global;
 
 /// The most bytes of a file.
 pub const MAX_BYTES: usize = 16_777_216;
 
-// Does a job.
-pub(crate) fn work<F: Files, K: Sink>(
+// Does a task on two files.
+pub(crate) fn work_on_files<F: Files, K: Sink>(
     alloc: Global,
-    job: Job<'_>,
+    task: Task,
+    first: &str,
+    second: &str,
     files: &mut F,
     out: &mut K,
 ) -> Status
-    requires first { F.granted files.old First job.first.now most_bytes }
-    requires second { F.granted files.old Second job.second.now most_bytes }
+    requires cap { HasCap task }
+    requires first { F.granted files.old First first.now most_bytes }
+    requires second { F.granted files.old Second second.now most_bytes }
     ensures { Answers K.written K.faults
-        (FilesCome (told_by F.held F.faults F.longs files.old files.new) (TaskComes job.entry.task) job.entry.first.now job.entry.second.now)
+        (FilesCome (told_by F.held F.faults F.longs files.old files.new) (TaskComes task) first.now second.now)
         out.old out.new result }
 {
     // The bytes of the first file are freed before the second is loaded.
     let circuit = {
-        let text = match files.load(alloc, Place::First, job.first, MAX_BYTES) {
+        let text = match files.load(alloc, Place::First, first, MAX_BYTES) {
             Ok(text) => text,
             Err(fault) => return refuse_load(out, Place::First, fault),
         };
@@ -43,7 +48,7 @@ pub(crate) fn work<F: Files, K: Sink>(
     let Ok(net) = Net::build(alloc, circuit) else {
         return Status::Memory;
     };
-    work_on_second(alloc, &net, job.task, job.second, files, out)
+    work_on_second(alloc, &net, task, second, files, out)
 }
 
 // Does a task on a network and the text of the second file.
@@ -55,7 +60,8 @@ fn work_on_second<F: Files, K: Sink>(
     files: &mut F,
     out: &mut K,
 ) -> Status
-    requires { F.granted files.old Second second.now most_bytes }
+    requires cap { HasCap task }
+    requires second { F.granted files.old Second second.now most_bytes }
     ensures { Answers K.written K.faults
         (SecondComes (told_by F.held F.faults F.longs files.old files.new) (TaskComes task net.now) second.now) out.old out.new result }
 {
@@ -67,11 +73,13 @@ fn work_on_second<F: Files, K: Sink>(
 
 // Does a task on a network and the second text.
 fn work_on_text<K: Sink>(alloc: Global, net: &Net, task: Task, text: &[u8], out: &mut K) -> Status
-    requires { length text.now ≤ most_bytes }
+    requires cap { HasCap task }
+    requires text { length text.now ≤ most_bytes }
     ensures { Answers K.written K.faults (TaskComes task net.now text.now) out.old out.new result }
 {
     match task {
-        Task::Analyse => analyse_text(alloc, net, text, out),
+        Task::Analyse { cap, show } => analyse_text(alloc, net, cap, show, text, out),
         Task::Replay => replay_text(alloc, net, text, out),
+        Task::Convert => convert_text(alloc, net, text, out),
     }
 }

@@ -1,26 +1,15 @@
-//! Laws on the run that is printed.
-ghost use Rattle.std.specs.Prelude.{◌≡◌, ℕ, Bool, List, Option, length};
-ghost use Rattle.hz_core.specs.declared.tri.Tri.{Tri};
+//! A law on the runs that are printed: they replay.
+ghost use Rattle.std.specs.Prelude.{◌≡◌, ◌≤◌, length};
 ghost use Rattle.hz_core.specs.Netlist.{Netlist, IsCircuit};
-ghost use Rattle.hz_net.specs.Network.{network_of};
-ghost use Rattle.hz_net.specs.Starts.{IsAcceptedStart};
-ghost use Rattle.hz_reach.specs.Spread.{IsSpreadRun};
-ghost use Rattle.hz_report.specs.Report.{run_of_change, runs_text};
+ghost use Rattle.hz_gmw.specs.Recorded.{flip_count};
+ghost use Rattle.hz_text.specs.RunPrinted.{run_text_printed};
+ghost use Rattle.hz_text.specs.RunValue.{RunTextOf, all_steps};
 ghost use Rattle.hz_top.specs.Replaying.{AreAccepted};
-ghost use Rattle.hz_top.specs.Reports.{ReadsBack};
+ghost use Rattle.hz_top.specs.RunTexts.{ReplaysAs};
 
-use hz_reach::run_counts;
-
-/// What a report prints of the run that shows each X of Algorithm A is a run text without fault, and stands for the start,
-/// the new input and this run. So where it has at most 16,777,216 bytes, `hz_text::read_run` gives them back.
-pub fn printed_run_reads_back()
-    ensures { (netlist : Netlist) (input start : List Bool) (a : List Tri) (steps : List (List ℕ)) → IsCircuit netlist → length start ≡ length (network_of netlist) → length input ≡ netlist.inputs → IsSpreadRun (network_of netlist) input start a steps → ReadsBack netlist (runs_text netlist start input steps) (run_of_change netlist start input steps) }
-{
-    run_counts();
-}
-
-/// The run that shows each X of Algorithm A, from an accepted start, is accepted by the definitions of the job `replay`: each
-/// of its steps is a step from the state in which those before it end.
-pub fn printed_run_is_accepted()
-    ensures { (netlist : Netlist) (listed : List (Option Bool)) (input start : List Bool) (a : List Tri) (steps : List (List ℕ)) → IsAcceptedStart netlist listed start → IsSpreadRun (network_of netlist) input start a steps → AreAccepted netlist (run_of_change netlist start input steps) }
+/// Runs of a network that begin at a start and stand under an input, each with a nontransient cycle at its end or with none,
+/// are printed as a run text on which the job `replay` comes to `yes`, with the counts of these runs. There may be no more
+/// than 2,000,000 steps in all, and no more than 2,000,000 variables in steps.
+pub fn accepted_runs_replay()
+    ensures { (netlist : Netlist) (value : RunTextOf) → IsCircuit netlist → length value.nodes ≡ length netlist.names → length value.input ≡ netlist.inputs → length (all_steps value.runs) ≤ 2000000 → flip_count (all_steps value.runs) ≤ 2000000 → AreAccepted netlist value → ReplaysAs netlist (run_text_printed netlist value) value.runs }
 {}

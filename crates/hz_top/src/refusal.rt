@@ -2,13 +2,14 @@
 ghost use Rattle.std.specs.Prelude.{◌≡◌, ◌<◌, length};
 ghost use Rattle.hz_write.specs.Writes.{Wrote};
 ghost use Rattle.hz_top.specs.Answer.{Answers};
-ghost use Rattle.hz_top.specs.Outcome.{LoadSays, NetlistSays, TextSays};
-ghost use Rattle.hz_top.specs.Refusal.{words_line, unread_line, long_line, place_word, fault_line, counted_line, variables_line, missing_line, netlist_fault_line, text_fault_line, named_node, NamesNode, sequence_line, open_line, unstable_line};
+ghost use Rattle.hz_top.specs.Outcome.{LoadSays, NetlistSays, StartSays, TextSays};
+ghost use Rattle.hz_top.specs.Refusal.{words_line, unread_line, long_line, place_word, fault_line, counted_line, variables_line, missing_line, mismatch_line, netlist_fault_line, text_fault_line, named_node, named_gate, NamesNode, open_line, unstable_line};
 
 use crate::status::{Status, status_after};
 use hz_bench::BenchFault;
 use hz_core::Circuit;
 use hz_outside::{LoadFault, Place, PutFault, Sink};
+use hz_pass::StartFault;
 use hz_text::TextFault;
 use hz_write::Piece::{Number, Text};
 use hz_write::put_line;
@@ -153,6 +154,32 @@ fn put_missing<'p, K: Sink>(
     )
 }
 
+// A count of the network's size that a text tells wrongly.
+#[tactic(auto, unfolding(crate::specs::Refusal::mismatch_line))]
+fn put_mismatch<K: Sink>(
+    out: &mut K,
+    called: &[u8],
+    line: u32,
+    told: u32,
+    real: u32,
+) -> Result<(), PutFault>
+    ensures { Wrote K.written K.faults (mismatch_line called.now line told real) out.old out.new result }
+{
+    put_line(
+        out,
+        &[
+            Text(b"refused: "),
+            Text(called),
+            Text(b" line "),
+            Number(line),
+            Text(b": net "),
+            Number(told),
+            Text(b", not "),
+            Number(real),
+        ],
+    )
+}
+
 // A fault of a text that is called so. For want of memory there is no line.
 fn put_text_fault<K: Sink>(
     out: &mut K,
@@ -172,20 +199,13 @@ fn put_text_fault<K: Sink>(
         TextFault::Order { line } => put_at(out, called, line, b": order"),
         TextFault::TooMany { line } => put_at(out, called, line, b": too many"),
         TextFault::Memory => Ok(()),
+        TextFault::Mismatch { line, told, real } => put_mismatch(out, called, line, told, real),
     }
-}
-
-// A script with more than one change.
-#[tactic(auto, unfolding(crate::specs::Refusal::sequence_line))]
-pub(crate) fn put_sequence<K: Sink>(out: &mut K) -> Result<(), PutFault>
-    ensures { Wrote K.written K.faults sequence_line out.old out.new result }
-{
-    put_line(out, &[Text(b"refused: script: not built")])
 }
 
 // A gate that the start leaves open.
 #[tactic(auto, unfolding(crate::specs::Refusal::open_line))]
-pub(crate) fn put_open<K: Sink>(out: &mut K, circuit: &Circuit, gate: u32) -> Result<(), PutFault>
+fn put_open<K: Sink>(out: &mut K, circuit: &Circuit, gate: u32) -> Result<(), PutFault>
     requires { gate < length circuit.now.names }
     ensures { Wrote K.written K.faults (open_line circuit.now gate) out.old out.new result }
 {
@@ -197,7 +217,7 @@ pub(crate) fn put_open<K: Sink>(out: &mut K, circuit: &Circuit, gate: u32) -> Re
 
 // A gate that is unstable at the start.
 #[tactic(auto, unfolding(crate::specs::Refusal::unstable_line))]
-pub(crate) fn put_unstable<K: Sink>(
+fn put_unstable<K: Sink>(
     out: &mut K,
     circuit: &Circuit,
     gate: u32,
@@ -245,5 +265,19 @@ pub(crate) fn refuse_text<K: Sink>(
     match fault {
         TextFault::Memory => Status::Memory,
         _ => status_after(put_text_fault(out, called, circuit, fault), Status::Text),
+    }
+}
+
+// Writes why listed values give no start.
+pub(crate) fn refuse_start<K: Sink>(out: &mut K, circuit: &Circuit, fault: StartFault) -> Status
+    requires { NamesNode circuit.now (named_gate fault) }
+    ensures { Answers K.written K.faults (StartSays circuit.now fault) out.old out.new result }
+{
+    match fault {
+        StartFault::Open { gate } => status_after(put_open(out, circuit, gate), Status::Start),
+        StartFault::Unstable { gate } => {
+            status_after(put_unstable(out, circuit, gate), Status::Start)
+        }
+        StartFault::Memory => Status::Memory,
     }
 }

@@ -1,124 +1,139 @@
 //! The report of a script's changes from its start.
-ghost use Rattle.std.specs.Prelude.{◌≡◌, ◌<◌, ◌≤◌, ◌++◌, [], ◌∷◌, length, take, All, IfOk, IsSome};
+ghost use Rattle.std.specs.Prelude.{◌≡◌, ◌<◌, ℕ, List, None, length, All, IfSome};
+ghost use Rattle.hz_core.specs.Netlist.{IsCircuit};
 ghost use Rattle.hz_net.specs.Network.{network_of};
 ghost use Rattle.hz_net.specs.Starts.{IsStableStart};
-ghost use Rattle.hz_write.specs.Writes.{Wrote};
 ghost use Rattle.hz_text.specs.ScriptText.{IsScriptFor};
-ghost use Rattle.hz_report.specs.Finding.{finding_of};
-ghost use Rattle.hz_report.specs.Report.{head_text, change_text};
+ghost use Rattle.hz_write.specs.Writer.{Writes};
+ghost use Rattle.hz_write.specs.Writes.{Wrote};
+ghost use Rattle.hz_seq.specs.Analyses.{Analysis, AreAnalyses, GoesOn};
+ghost use Rattle.hz_words.specs.Values.{IsCap};
 ghost use Rattle.hz_top.specs.Answer.{Answers};
-ghost use Rattle.hz_top.specs.Reports.{changed_input, Reports};
+ghost use Rattle.hz_top.specs.Reports.{analysis_text, analyses_text, IsReport, Reports};
 
-use crate::finding::find;
 use crate::status::{Status, status_after};
+use hz_desk::{Desk, findings_exist};
 use hz_net::Net;
 use hz_outside::{PutFault, Sink};
-use hz_report::{Finding, write_change, write_head};
+use hz_reach::run_counts;
+use hz_report::{Show, write_change, write_head, write_stopped};
+use hz_seq::Sequence;
 use hz_text::Script;
 use hz_write::Writer;
-use std::alloc::{AllocError, Global};
+use std::alloc::Global;
 
-// Writes the report of a script of at most one change.
+// Writes the report of a script from a start. All room for the analyses is made first.
 pub(crate) fn report<K: Sink>(
     alloc: Global,
     net: &Net,
     script: &Script,
     start: &[bool],
+    cap: u64,
+    show: Show,
     out: &mut K,
 ) -> Status
+    requires circuit { IsCircuit net.now }
     requires script { IsScriptFor net.now script.now }
-    requires few { length script.now.changes ≤ 1 }
     requires start { IsStableStart net.now start.now }
-    ensures { Answers K.written K.faults (Reports net.now start.now script.now.changes) out.old out.new result }
+    requires cap { IsCap cap }
+    ensures { Answers K.written K.faults (Reports net.now cap show start.now script.now.changes) out.old out.new result }
 {
-    if script.changes() == 0 {
-        return status_after(write_start(out, net, start), Status::Done);
-    }
-    report_change(alloc, net, script.change(0), start, out)
-}
-
-// Writes the lines of a start.
-fn write_start<K: Sink>(out: &mut K, net: &Net, start: &[bool]) -> Result<(), PutFault>
-    requires { length start.now ≡ length (network_of net.now) }
-    ensures { Wrote K.written K.faults (head_text net.now start.now) out.old out.new result }
-{
-    let mut writer = Writer::new(out);
-    write_head(&mut writer, net, start);
-    writer.finish()
-}
-
-// Writes the report of one change.
-fn report_change<K: Sink>(
-    alloc: Global,
-    net: &Net,
-    change: &[(u32, bool)],
-    start: &[bool],
-    out: &mut K,
-) -> Status
-    requires change { All (λ pair. pair.0 < net.now.inputs) change.now }
-    requires start { IsStableStart net.now start.now }
-    ensures { Answers K.written K.faults (Reports net.now start.now (change.now ∷ [])) out.old out.new result }
-{
-    let inputs = net.circuit().inputs() as usize;
-    let Ok(input) = input_after(alloc, &start[..inputs], change) else {
+    let Ok(desk) = Desk::new(alloc, net) else {
         return Status::Memory;
     };
-    let Ok(finding) = find(alloc, net, start, input.as_slice()) else {
+    let Ok(mut sequence) = Sequence::new(alloc, desk, start) else {
         return Status::Memory;
     };
-    status_after(
-        write_report(out, net, change, start, input.as_slice(), &finding),
-        Status::Done,
-    )
+    let written = write_report(net, script, start, cap, show, &mut sequence, out);
+    status_after(written, Status::Done)
 }
 
-// The present input with the assignments of a change.
-fn input_after(
-    alloc: Global,
-    present: &[bool],
-    change: &[(u32, bool)],
-) -> Result<Vec<bool>, AllocError>
-    requires { All (λ pair. pair.0 < length present.now) change.now }
-    ensures input { IfOk result (λ input. input.items ≡ changed_input present.now change.now) }
-    ensures long { IfOk result (λ input. length input.items ≡ length present.now) }
-{
-    let mut input = Vec::from_slice(alloc, present)?;
-    assign(input.as_mut_slice(), change);
-    Ok(input)
-}
-
-// Assigns bits to places, one after the other.
-fn assign(bits: &mut [bool], change: &[(u32, bool)])
-    requires { All (λ pair. pair.0 < length bits.old) change.now }
-    ensures input { bits.new ≡ changed_input bits.old change.now }
-    ensures long { length bits.new ≡ length bits.old }
-{
-    for assignment in change {
-        bits[assignment.0 as usize] = assignment.1;
-    }
-}
-
-// Writes the lines that come once, and those of the first change.
+// Writes the lines of a script, whose changes a sequence is about to make.
 fn write_report<K: Sink>(
-    out: &mut K,
     net: &Net,
-    change: &[(u32, bool)],
+    script: &Script,
     start: &[bool],
-    input: &[bool],
-    finding: &Finding,
+    cap: u64,
+    show: Show,
+    sequence: &mut Sequence<'_>,
+    out: &mut K,
 ) -> Result<(), PutFault>
-    requires change { All (λ pair. pair.0 < length net.now.names) change.now }
-    requires start { length start.now ≡ length (network_of net.now) }
-    requires input { length input.now ≡ net.now.inputs }
-    requires a { length finding.now.a.items ≡ length (network_of net.now) }
-    requires b { length finding.now.b.items ≡ length (network_of net.now) }
-    requires steps { All (All (λ var. var < length (network_of net.now))) finding.now.spread.steps }
-    ensures { Wrote K.written K.faults
-        (head_text net.now start.now ++ change_text net.now 1 change.now start.now input.now (finding_of finding.now))
-        out.old out.new result }
+    requires circuit { IsCircuit net.now }
+    requires script { IsScriptFor net.now script.now }
+    requires start { IsStableStart net.now start.now }
+    requires cap { IsCap cap }
+    requires net { sequence.old.desk.netlist ≡ net.now }
+    requires begins { sequence.old.start ≡ start.now }
+    requires goes { sequence.old.stopped ≡ None }
+    ensures { (text : List ℕ) × IsReport net.now cap show start.now script.now.changes text
+        × Wrote K.written K.faults text out.old out.new result }
 {
+    // The law tells that the printed runs have few steps.
+    run_counts();
     let mut writer = Writer::new(out);
-    write_head(&mut writer, net, start);
-    write_change(&mut writer, net, 1, change, start, input, finding);
+    write_head(&mut writer, net, sequence.desk().free(), start);
+    write_changes(&mut writer, net, script, cap, show, sequence);
     writer.finish()
+}
+
+// Writes what the changes of a script come to, one after the other. Once the output failed no change is analysed.
+fn write_changes<K: Sink>(
+    writer: &mut Writer<'_, K>,
+    net: &Net,
+    script: &Script,
+    cap: u64,
+    show: Show,
+    sequence: &mut Sequence<'_>,
+)
+    requires circuit { IsCircuit net.now }
+    requires script { IsScriptFor net.now script.now }
+    requires cap { IsCap cap }
+    requires net { sequence.old.desk.netlist ≡ net.now }
+    requires start { IsStableStart net.now sequence.old.start }
+    requires goes { sequence.old.stopped ≡ None }
+    ensures { (analyses : List Analysis) × AreAnalyses net.now cap sequence.old.start script.now.changes analyses
+        × Writes K.written K.faults (analyses_text net.now show 1 script.now.changes analyses) writer.old writer.new }
+{
+    // A getter of the network tells that its circuit is whole, and the law, that the changes which are left out have findings.
+    let _variables = net.len();
+    findings_exist();
+    for number in 0..script.changes() {
+        if writer.has_failed() {
+            return;
+        }
+        write_next(
+            writer,
+            net,
+            number as u32 + 1,
+            script.change(number),
+            cap,
+            show,
+            sequence,
+        );
+    }
+}
+
+// Makes the next change, and writes what it comes to.
+fn write_next<K: Sink>(
+    writer: &mut Writer<'_, K>,
+    net: &Net,
+    number: u32,
+    change: &[(u32, bool)],
+    cap: u64,
+    show: Show,
+    sequence: &mut Sequence<'_>,
+)
+    requires circuit { IsCircuit net.now }
+    requires change { All (λ pair. pair.0 < net.now.inputs) change.now }
+    requires cap { IsCap cap }
+    requires net { sequence.old.desk.netlist ≡ net.now }
+    requires stable { sequence.old.stopped ≡ None → IsStableStart net.now sequence.old.start }
+    requires inside { IfSome sequence.old.stopped (λ var. var < length (network_of net.now)) }
+    ensures { (analysis : Analysis) × GoesOn cap change.now analysis sequence.old sequence.new
+        × Writes K.written K.faults (analysis_text net.now show number change.now analysis) writer.old writer.new }
+{
+    match sequence.next(change, cap) {
+        Ok(finding) => write_change(writer, net, number, change, finding, show),
+        Err(stopped) => write_stopped(writer, net, number, change, stopped.var),
+    }
 }

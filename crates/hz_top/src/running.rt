@@ -1,17 +1,18 @@
 //! The top call.
 ghost use Rattle.std.specs.Prelude.{◌≡◌, ◌⊎◌, map, Some};
 ghost use Rattle.std.specs.String.{string_bytes};
-ghost use Rattle.hz_top.specs.Answer.{Answers};
 ghost use Rattle.hz_outside.specs.Counts.{Rose};
+ghost use Rattle.hz_words.specs.Job.{JobOf, job_of, names_of, IsInRange};
+ghost use Rattle.hz_top.specs.Answer.{Answers};
 ghost use Rattle.hz_top.specs.Faultless.{IsFaultlessJob};
-ghost use Rattle.hz_top.specs.Job.{JobOf, job_of};
 ghost use Rattle.hz_top.specs.Outcome.{told_by, JobComes, MayLoad};
 
-use crate::job::read_job;
-use crate::order::work;
+use crate::demo::demo;
+use crate::order::work_on_files;
 use crate::refusal::put_words;
 use crate::status::{Status, status_after};
 use hz_outside::{Files, Sink};
+use hz_words::{Job, WordsFault};
 use std::alloc::Global;
 
 /// Does the job that the words ask for, and answers how it ended.
@@ -28,8 +29,23 @@ pub fn run<F: Files, K: Sink>(alloc: Global, words: &[String], files: &mut F, ou
         → ¬ Rose (K.faults out.old) (K.faults out.new)
         → (result ≡ own) ⊎ (result ≡ Status.Memory) }
 {
-    match read_job(words) {
-        Some(job) => work(alloc, job, files, out),
-        None => status_after(put_words(out), Status::Words),
+    match hz_words::read(alloc, words) {
+        Ok(job) => work(alloc, job, files, out),
+        Err(WordsFault::Refused) => status_after(put_words(out), Status::Words),
+        Err(WordsFault::Memory) => Status::Memory,
+    }
+}
+
+// Does a job.
+fn work<F: Files, K: Sink>(alloc: Global, job: Job<'_>, files: &mut F, out: &mut K) -> Status
+    requires range { IsInRange job }
+    requires loads { MayLoad (F.granted files.old) (Some (names_of job)) }
+    ensures { Answers K.written K.faults
+        (JobComes (told_by F.held F.faults F.longs files.old files.new) (Some (names_of job.entry)))
+        out.old out.new result }
+{
+    match job {
+        Job::OnFiles { task, first, second } => work_on_files(alloc, task, first, second, files, out),
+        Job::Demo { number, cap } => demo(alloc, number, cap, out),
     }
 }

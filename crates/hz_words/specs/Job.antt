@@ -1,44 +1,60 @@
 -- The jobs that are built, and the one that the words ask for.
-use Rattle.std.specs.Prelude.{ℕ, List, [], ◌∷◌, Option, Some, None, codes, find, option_map, option_and_then}
+use Rattle.std.specs.Prelude.{ℕ, List, [], ◌∷◌, Option, Some, None, codes, find, option_map, option_and_then, if◌then◌else◌}
 use Rattle.std.specs.Str.{bytes_eq}
+use Rattle.hz_gen.specs.Demo.{IsDemoNumber}
+use Rattle.hz_report.specs.declared.show.Show.{Show}
 use Rattle.hz_words.specs.Command.{Texts, arguments_of}
-use Rattle.hz_words.specs.Values.{cap_of, show_of, IsCap}
-use Rattle.hz_words.specs.declared.values.Show.{Show}
+use Rattle.hz_words.specs.Values.{cap_of, show_of, demo_of, IsCap}
+use Rattle.hz_words.specs.declared.job.Task.{Task}
+use Rattle.hz_words.specs.declared.job.Task.TheVariants.{Analyse, Replay, Convert}
 use Rattle.hz_words.specs.declared.job.Job.{Job}
 use Rattle.hz_words.specs.declared.job.Job.TheVariants as asked
 
--- a job, with the names of its files
+-- a task on two files, by their names; or the analysis of the circuit of a number
 pub data JobOf : Type 0 where
-  Analyse : (first second : List ℕ) (cap : ℕ) (show : Show) → JobOf
-  Replay : (first second : List ℕ) → JobOf
+  OnFiles : (task : Task) (first second : List ℕ) → JobOf
+  Demo : (number cap : ℕ) → JobOf
 
 -- a job that borrows the words, by its names
 abbrev pub names_of : Job → JobOf
-names_of (asked.Analyse first second cap show) = Analyse first.now second.now cap show
-names_of (asked.Replay first second) = Replay first.now second.now
+names_of (asked.OnFiles task first second) = OnFiles task first.now second.now
+names_of (asked.Demo number cap) = Demo number cap
 
--- a job that counts up to a cap has one of 1 to 1,000,000
-abbrev pub HasCap : Job → Type 0
-HasCap (asked.Analyse first second cap show) = IsCap cap
-HasCap (asked.Replay first second) = Unit {0}
+-- a task that counts changes up to a cap has one
+abbrev pub HasCap : Task → Type 0
+HasCap (Analyse cap show) = IsCap cap
+HasCap Replay = Unit {0}
+HasCap Convert = Unit {0}
 
--- the jobs on two files, each by its name
-abbrev pub jobs : List ℕ → List ℕ → ℕ → Show → List (List ℕ × JobOf)
-jobs first second cap show =
-    (codes "analyse", Analyse first second cap show)
-    ∷ (codes "replay", Replay first second)
-    ∷ []
+-- the numbers of a job are in their ranges
+abbrev pub IsInRange : Job → Type 0
+IsInRange (asked.OnFiles task first second) = HasCap task
+IsInRange (asked.Demo number cap) = IsDemoNumber number × IsCap cap
 
--- the job of a name, with what the other arguments say; the second file may not be left out
+-- the tasks on two files, each behind its word
+abbrev pub tasks : ℕ → Show → List (List ℕ × Task)
+tasks cap show = (codes "analyse", Analyse cap show) ∷ (codes "replay", Replay) ∷ (codes "convert", Convert) ∷ []
+
+-- the job of a word on two files; the second may not be left out
+abbrev pub job_on_files : List ℕ → List ℕ → Option (List ℕ) → ℕ → Show → Option JobOf
+job_on_files word first None cap show = None
+job_on_files word first (Some second) cap show =
+    option_map (λ row. OnFiles row.1 first second) (find (λ row. bytes_eq word row.0) (tasks cap show))
+
+-- the job on the circuit of a number, with no second file
+abbrev pub job_on_number : List ℕ → Option (List ℕ) → ℕ → Option JobOf
+job_on_number text None cap = option_map (λ number. Demo number cap) (demo_of text)
+job_on_number text (Some second) cap = None
+
+-- the job of a word, with what the other arguments say
 abbrev pub job_named : List ℕ → List ℕ → Option (List ℕ) → ℕ → Show → Option JobOf
-job_named name first (Some second) cap show =
-    option_map (λ job. job.1) (find (λ job. bytes_eq name job.0) (jobs first second cap show))
-job_named name first None cap show = None
+job_named word first second cap show =
+    if bytes_eq word (codes "demo") then job_on_number first second cap else job_on_files word first second cap show
 
--- the job of the name and the files that the arguments have
+-- the job of the word and the files that the arguments have
 abbrev pub job_on : Texts → ℕ → Show → Option JobOf
 job_on texts cap show =
-    option_and_then (λ name. option_and_then (λ first. job_named name first texts.second cap show) texts.first) texts.job
+    option_and_then (λ word. option_and_then (λ first. job_named word first texts.second cap show) texts.first) texts.job
 
 -- the job that the arguments ask for, if the options stand for something
 abbrev pub job_with : Texts → Option JobOf

@@ -1,19 +1,32 @@
--- What the values of the options may be.
-use Rattle.std.specs.Prelude.{ℕ, ◌≤◌, List, Option, Some, None, codes, if◌then◌else◌}
+-- What the arguments may be.
+use Rattle.std.specs.Prelude.{ℕ, ◌≤◌, Bool, false, ◌&&◌, List, [], ◌∷◌, Option, Some, None, codes, nat_le, if◌then◌else◌}
 use Rattle.std.specs.Str.{bytes_eq}
 use Rattle.std.specs.Str.Parse.{digits_value, without_leading_plus}
 use Rattle.clap.specs.ValueTests.{is_unsigned_in}
-use Rattle.hz_words.specs.declared.values.Show.{Show}
-use Rattle.hz_words.specs.declared.values.Show.TheVariants.{Nodes, All}
+use Rattle.hz_report.specs.declared.show.Show.{Show}
+use Rattle.hz_report.specs.declared.show.Show.TheVariants.{Nodes, All}
 
--- a cap: a number of 1 to 1,000,000, as `clap` reads numbers, in decimal digits that a `+` may precede
+-- a number of 1 to a greatest one, as `clap` reads numbers, in decimal digits that a `+` may precede
+abbrev pub number_of : ℕ → List ℕ → Option ℕ
+number_of most text =
+    if is_unsigned_in 1 most text then Some (digits_value 10 (without_leading_plus text)) else None
+
+-- a cap
 abbrev pub cap_of : List ℕ → Option ℕ
-cap_of text =
-    if is_unsigned_in 1 1000000 text then Some (digits_value 10 (without_leading_plus text)) else None
+cap_of text = number_of 1000000 text
 
 -- a number is a cap
 abbrev pub IsCap : ℕ → Type 0
 IsCap cap = (1 ≤ cap) × (cap ≤ 1000000)
+
+-- whether the first byte is a digit other than 0
+abbrev pub begins_with_digit : List ℕ → Bool
+begins_with_digit [] = false
+begins_with_digit (byte ∷ bytes) = nat_le 49 byte && nat_le byte 57
+
+-- the number of a generated circuit: digits of which the first is not 0
+abbrev pub demo_of : List ℕ → Option ℕ
+demo_of text = if begins_with_digit text then number_of 18000 text else None
 
 -- which variables have a line
 abbrev pub show_of : List ℕ → Option Show

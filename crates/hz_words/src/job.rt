@@ -1,39 +1,54 @@
 //! The jobs that are built.
 ghost use Rattle.std.specs.Prelude.{◌≡◌, option_map, IfSome};
 ghost use Rattle.hz_words.specs.Command.{texts_of};
-ghost use Rattle.hz_words.specs.Job.{job_named, job_with, names_of, HasCap};
+ghost use Rattle.hz_words.specs.Job.{job_named, job_on_files, job_on_number, job_with, names_of, IsInRange};
 ghost use Rattle.hz_words.specs.Values.{IsCap};
 
 use crate::command::Arguments;
-use crate::values::{Show, read_cap, read_show};
+use crate::values::{read_cap, read_demo, read_show};
+use hz_report::Show;
 
-/// A job, with the names of its two files.
+/// What is done with the netlist of a first file and the text of a second.
 #[derive(Clone, Copy, Debug, PartialEq, Eq)]
-pub enum Job<'w> {
-    /// The changes of a script are analysed on a netlist.
+pub enum Task {
+    /// The changes of a script are analysed.
     Analyse {
-        /// The netlist.
-        first: &'w str,
-        /// The script.
-        second: &'w str,
         /// The most changes of a transient that are counted, 1 to 1,000,000.
         cap: u64,
         /// Which variables have a line.
         show: Show,
     },
-    /// The runs of a run text are replayed on a netlist.
-    Replay {
-        /// The netlist.
+    /// The runs of a run text are replayed.
+    Replay,
+    /// A run text is written in version 2.
+    Convert,
+}
+
+/// What the words ask for.
+#[derive(Clone, Copy, Debug, PartialEq, Eq)]
+pub enum Job<'w> {
+    /// A task on two files.
+    OnFiles {
+        /// What is done.
+        task: Task,
+        /// The name of the netlist's file.
         first: &'w str,
-        /// The run text.
+        /// The name of the second text's file.
         second: &'w str,
+    },
+    /// The circuit of a number is made and analysed.
+    Demo {
+        /// The number, 1 to 18,000.
+        number: u32,
+        /// The most changes of a transient that are counted, 1 to 1,000,000.
+        cap: u64,
     },
 }
 
 // The job that the arguments ask for.
 pub(crate) fn job_with<'w>(arguments: &Arguments<'w>) -> Option<Job<'w>>
     ensures job { option_map names_of result ≡ job_with (texts_of arguments.now) }
-    ensures cap { IfSome result HasCap }
+    ensures range { IfSome result IsInRange }
 {
     let cap = read_cap(arguments.cap?)?;
     let show = read_show(arguments.show?)?;
@@ -46,9 +61,9 @@ pub(crate) fn job_with<'w>(arguments: &Arguments<'w>) -> Option<Job<'w>>
     )
 }
 
-// The job of a name, with what the other arguments say.
+// The job of a word, with what the other arguments say.
 fn job_named<'w>(
-    name: &str,
+    word: &str,
     first: &'w str,
     second: Option<&'w str>,
     cap: u64,
@@ -56,17 +71,53 @@ fn job_named<'w>(
 ) -> Option<Job<'w>>
     requires { IsCap cap }
     ensures job { option_map names_of result
-        ≡ job_named name.now first.entry.now (option_map (λ text. text.now) second.entry) cap show }
-    ensures cap { IfSome result HasCap }
+        ≡ job_named word.now first.entry.now (option_map (λ text. text.now) second.entry) cap show }
+    ensures range { IfSome result IsInRange }
 {
-    match (name, second) {
-        ("analyse", Some(second)) => Some(Job::Analyse {
-            first,
-            second,
-            cap,
-            show,
-        }),
-        ("replay", Some(second)) => Some(Job::Replay { first, second }),
-        _ => None,
+    if word == "demo" {
+        job_on_number(first, second, cap)
+    } else {
+        job_on_files(word, first, second, cap, show)
     }
+}
+
+// The job of a word on two files.
+fn job_on_files<'w>(
+    word: &str,
+    first: &'w str,
+    second: Option<&'w str>,
+    cap: u64,
+    show: Show,
+) -> Option<Job<'w>>
+    requires { IsCap cap }
+    ensures job { option_map names_of result
+        ≡ job_on_files word.now first.entry.now (option_map (λ text. text.now) second.entry) cap show }
+    ensures range { IfSome result IsInRange }
+{
+    let second = second?;
+    let task = match word {
+        "analyse" => Task::Analyse { cap, show },
+        "replay" => Task::Replay,
+        "convert" => Task::Convert,
+        _ => return None,
+    };
+    Some(Job::OnFiles {
+        task,
+        first,
+        second,
+    })
+}
+
+// The job on the circuit of a number.
+fn job_on_number<'w>(text: &'w str, second: Option<&'w str>, cap: u64) -> Option<Job<'w>>
+    requires { IsCap cap }
+    ensures job { option_map names_of result
+        ≡ job_on_number text.entry.now (option_map (λ text. text.now) second.entry) cap }
+    ensures range { IfSome result IsInRange }
+{
+    if second.is_some() {
+        return None;
+    }
+    let number = read_demo(text)?;
+    Some(Job::Demo { number, cap })
 }

@@ -6,7 +6,7 @@
 //! |---|---|
 //! | `command` | the command as `clap` sees it, and the arguments that `clap` reads |
 //! | `job` | [`Job`]: the jobs that are built |
-//! | `values` | what the options' values may be |
+//! | `values` | what the arguments may be |
 //! | `reading` | [`read`]: the job of the words |
 //! | `fault` | why words name no job |
 #![tactic(auto)]
@@ -20,6 +20,6 @@ mod tests;
 mod values;
 
 pub use fault::WordsFault;
-pub use job::Job;
+pub use job::{Job, Task};
 pub use reading::read;
-pub use values::{MAX_CAP, Show};
+pub use values::MAX_CAP;

@@ -1,7 +1,7 @@
 //! The job of the words.
 ghost use Rattle.std.specs.Prelude.{map, IfOk};
 ghost use Rattle.std.specs.String.{string_bytes};
-ghost use Rattle.hz_words.specs.Job.{HasCap};
+ghost use Rattle.hz_words.specs.Job.{IsInRange};
 ghost use Rattle.hz_words.specs.Reading.{Reads};
 
 use crate::command::parse;
@@ -14,7 +14,7 @@ use std::alloc::Global;
 #[tactic(auto, unfolding(crate::specs::Job::job_of))]
 pub fn read(alloc: Global, words: &[String]) -> Result<Job<'_>, WordsFault>
     ensures job { Reads (map string_bytes words.now) result }
-    ensures cap { IfOk result HasCap }
+    ensures range { IfOk result IsInRange }
 {
     let arguments = parse(alloc, words)?;
     job_with(&arguments).ok_or(WordsFault::Refused)

@@ -1,6 +1,7 @@
 //! Words that are taken and words that are refused, with ample memory.
 
-use crate::{Job, Show, WordsFault, read};
+use crate::{Job, Task, WordsFault, read};
+use hz_report::Show;
 use std::alloc::{AllocError, Global};
 use std::test::Fail;
 
@@ -15,17 +16,27 @@ fn words_of(alloc: Global, line: &str) -> Result<Vec<String>, AllocError> {
 
 // The job `analyse` on the second file `b`.
 fn analyse(first: &str, cap: u64, show: Show) -> Option<Job<'_>> {
-    Some(Job::Analyse {
+    Some(Job::OnFiles {
+        task: Task::Analyse { cap, show },
         first,
         second: "b",
-        cap,
-        show,
     })
+}
+
+// The job `demo`.
+fn demo(number: u32, cap: u64) -> Option<Job<'static>> {
+    Some(Job::Demo { number, cap })
 }
 
 #[test]
 fn jobs_of_words(rt: HostRuntime) -> Result<(), Fail> {
-    let replay = Job::Replay {
+    let replay = Job::OnFiles {
+        task: Task::Replay,
+        first: "a",
+        second: "b",
+    };
+    let convert = Job::OnFiles {
+        task: Task::Convert,
         first: "a",
         second: "b",
     };
@@ -39,6 +50,16 @@ fn jobs_of_words(rt: HostRuntime) -> Result<(), Fail> {
         ("analyse -- --cap b", analyse("--cap", 1000, Show::Nodes)),
         ("analyse - b", analyse("-", 1000, Show::Nodes)),
         ("replay a b", Some(replay)),
+        ("convert a b", Some(convert)),
+        ("demo 1", demo(1, 1000)),
+        ("demo 18000 --cap 7", demo(18000, 7)),
+        ("demo 18001", None),
+        ("demo 0", None),
+        ("demo 007", None),
+        ("demo +1", None),
+        ("demo 1 b", None),
+        ("demo x", None),
+        ("demo", None),
         ("", None),
         ("analyse a", None),
         ("solve a b", None),

@@ -1,26 +1,52 @@
-//! What the values of the options may be.
-ghost use Rattle.std.specs.Prelude.{◌≡◌, IfSome};
-ghost use Rattle.hz_words.specs.Values.{cap_of, show_of, IsCap};
+//! What the arguments may be.
+ghost use Rattle.std.specs.Prelude.{◌≡◌, ◌≤◌, ◌^◌, ◌<◌, IfSome};
+ghost use Rattle.hz_gen.specs.Demo.{IsDemoNumber};
+ghost use Rattle.hz_words.specs.Values.{number_of, cap_of, show_of, demo_of, begins_with_digit, IsCap};
+
+use hz_gen::MAX_NUMBER;
+use hz_report::Show;
 
 /// The greatest cap.
 pub const MAX_CAP: u64 = 1_000_000;
-
-/// Which variables have a line in a report.
-#[derive(Clone, Copy, Debug, PartialEq, Eq)]
-pub enum Show {
-    /// The nodes.
-    Nodes,
-    /// The nodes and the wires.
-    All,
-}
 
 // The cap that a text stands for: a number of 1 to [`MAX_CAP`].
 pub(crate) fn read_cap(text: &str) -> Option<u64>
     ensures value { result ≡ cap_of text.now }
     ensures cap { IfSome result IsCap }
 {
+    read_number(text, MAX_CAP)
+}
+
+// The number of a generated circuit that a text stands for: digits of which the first is not 0.
+pub(crate) fn read_demo(text: &str) -> Option<u32>
+    ensures value { result ≡ demo_of text.now }
+    ensures number { IfSome result IsDemoNumber }
+{
+    if !begins_with_digit(text) {
+        return None;
+    }
+    let number = read_number(text, u64::from(MAX_NUMBER))?;
+    Some(number as u32)
+}
+
+// Whether the first byte of a text is a digit other than 0.
+fn begins_with_digit(text: &str) -> bool
+    ensures { result ≡ begins_with_digit text.now }
+{
+    match text.as_bytes().first() {
+        Some(byte) => (b'1'..=b'9').contains(byte),
+        None => false,
+    }
+}
+
+// The number of 1 to a greatest one that a text stands for.
+fn read_number(text: &str, most: u64) -> Option<u64>
+    ensures value { result ≡ number_of most text.now }
+    ensures least { IfSome result (λ number. 1 ≤ number) }
+    ensures most { IfSome result (λ number. number ≤ most) }
+{
     match text.parse::<u64>() {
-        Ok(cap) if (1..=MAX_CAP).contains(&cap) => Some(cap),
+        Ok(number) if (1..=most).contains(&number) => Some(number),
         _ => None,
     }
 }

@@ -9,4 +9,6 @@ pub enum Piece<'a> {
     Number(u32),
     /// How many items there are, in decimal digits.
     Count(usize),
+    /// A number of 64 bits, in decimal digits.
+    Long(u64),
 }

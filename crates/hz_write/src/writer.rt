@@ -61,6 +61,14 @@ impl<'k, K: Sink> Writer<'k, K> {
         self.text(digits.format(count).as_bytes());
     }
 
+    // Gives a number of 64 bits in decimal digits.
+    fn long(&mut self, value: u64)
+        ensures { Writes K.written K.faults (decimal value) self.old self.new }
+    {
+        let mut digits = Buffer::new();
+        self.text(digits.format(value).as_bytes());
+    }
+
     // Gives a piece.
     fn piece(&mut self, piece: Piece<'_>)
         ensures { Writes K.written K.faults (piece_text piece.entry) self.old self.new }
@@ -69,6 +77,7 @@ impl<'k, K: Sink> Writer<'k, K> {
             Piece::Text(text) => self.text(text),
             Piece::Number(number) => self.number(number),
             Piece::Count(count) => self.count(count),
+            Piece::Long(value) => self.long(value),
         }
     }
 

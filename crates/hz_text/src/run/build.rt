@@ -1,6 +1,6 @@
 // The run text of statements without a fault.
 
-ghost use Rattle.std.specs.Prelude.{◌≡◌, ◌≤◌, ◌++◌, ◌∷◌, [], length, map, All, Some, None, IsSome, false, is_none, IfOk, OnOk};
+ghost use Rattle.std.specs.Prelude.{◌≡◌, ◌≤◌, ◌++◌, ◌∷◌, [], length, map, drop, All, Some, None, IsSome, false, is_none, IfOk, OnOk};
 ghost use Rattle.std.specs.List.{flat_map, list_any, range_with_len};
 ghost use Rattle.hz_text.specs.declared.run.order.Place.TheVariants.{Between};
 ghost use Rattle.hz_text.specs.RunStatement.{Run, Step, Cycle, End};
@@ -10,37 +10,64 @@ ghost use Rattle.hz_text.specs.OrderPass.{place_after, runs_out_of_order};
 ghost use Rattle.hz_text.specs.RunRules.{AssignsBelow, first_run_fault};
 ghost use Rattle.hz_text.specs.RunText.{IsRunTextBy, step_of, run_statements};
 ghost use Rattle.hz_text.specs.RunOrder.{unnumbered};
-ghost use Rattle.hz_text.specs.RunBuilt.{last_place, IsRunAdded};
+ghost use Rattle.hz_text.specs.RunBuilt.{after_header, last_place, IsRunAdded};
 ghost use Rattle.hz_text.specs.Assignment.{bit_at};
 ghost use Rattle.hz_text.specs.Bits.{IsWholeStart};
 
 use crate::assignments::Assigned;
 use crate::bits::bits_of;
-use crate::run::order::is_end;
+use crate::run::order::{is_end, version_in};
 use crate::run::rules::assignments_in;
 use crate::run::statement::{RunEntry, RunHeld};
 use crate::run::text::{RunText, ToldRun};
+use crate::run::version::Version;
 use hz_core::{Circuit, Memory};
 use std::alloc::Global;
 
-// The run text of statements: the header, the start, the input, the runs and the end.
+// The run text of statements: the header, in version 2 with the size of the network, the start, the input, the runs and the
+// end.
 pub(crate) fn build_runs(
     alloc: Global,
     circuit: &Circuit,
     entries: &[RunEntry],
 ) -> Result<RunText, Memory>
-    requires some { 3 ≤ length entries.now }
+    requires some { 2 ≤ length (after_header entries.now) }
     requires below { All (AssignsBelow (length circuit.now.names)) entries.now }
     requires clear { first_run_fault circuit.now (run_entered_all entries.now) ≡ None }
     ensures { IfOk result (IsRunTextBy circuit.now (unnumbered (run_entered_all entries.now))) }
 {
-    let [_, start, input, later @ ..] = entries else {
+    let states = after_header(entries);
+    let [start, input, later @ ..] = states else {
         unreachable!();
     };
     let nodes = read_bits(alloc, assignments_in(&start.held), circuit.nodes())?;
     let input = read_bits(alloc, assignments_in(&input.held), circuit.inputs())?;
     let runs = read_runs(alloc, later)?;
     Ok(RunText::of(nodes, input, runs))
+}
+
+// The statements behind the header, and in version 2 behind the size of the network.
+fn after_header<'h, 'a>(entries: &'h [RunEntry<'a>]) -> &'h [RunEntry<'a>]
+    ensures { result.now ≡ after_header entries.now }
+{
+    let [header, later @ ..] = entries else {
+        return entries;
+    };
+    match version_in(&header.held) {
+        Some(Version::Two) => after_first(later),
+        Some(Version::One) => later,
+        None => later,
+    }
+}
+
+// The statements behind the first one.
+fn after_first<'h, 'a>(entries: &'h [RunEntry<'a>]) -> &'h [RunEntry<'a>]
+    ensures { result.now ≡ drop 1 entries.now }
+{
+    let [_, later @ ..] = entries else {
+        return entries;
+    };
+    later
 }
 
 // The bits that assignments give to so many nodes.

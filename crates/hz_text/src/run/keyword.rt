@@ -4,6 +4,7 @@
 #[derive(Clone, Copy, Debug)]
 pub(crate) enum RunKeyword {
     Runs,
+    Net,
     Start,
     Input,
     Run,

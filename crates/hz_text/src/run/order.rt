@@ -3,11 +3,12 @@
 ghost use Rattle.std.specs.Prelude.{◌≡◌};
 ghost use Rattle.hz_text.specs.declared.run.order.Place.TheVariants.{Between};
 ghost use Rattle.hz_text.specs.RunLookup.{run_held_by, run_entered_all};
-ghost use Rattle.hz_text.specs.OrderPass.{is_header, is_end};
-ghost use Rattle.hz_text.specs.RunFault.{is_start_line, is_input_line};
-ghost use Rattle.hz_text.specs.OrderPass.{place_after_step, place_after_cycle, place_after, end_out_of_order, runs_out_of_order, input_out_of_order, start_out_of_order, run_out_of_order};
+ghost use Rattle.hz_text.specs.OrderPass.{is_net_line, is_end};
+ghost use Rattle.hz_text.specs.RunFault.{version_in, is_start_line, is_input_line};
+ghost use Rattle.hz_text.specs.OrderPass.{place_after_step, place_after_cycle, place_after, end_out_of_order, runs_out_of_order, input_out_of_order, start_out_of_order, net_out_of_order, run_out_of_order};
 
 use crate::run::statement::{RunEntry, RunHeld};
+use crate::run::version::Version;
 
 /// Where one is among the runs of a text: before the first run, in a run's lead, in its cycle.
 #[derive(Clone, Copy, Debug)]
@@ -24,7 +25,23 @@ pub(crate) fn first_out_of_order(entries: &[RunEntry]) -> Option<u32>
     let [first, later @ ..] = entries else {
         return Some(0);
     };
-    if is_header(&first.held) {
+    let Some(version) = version_in(&first.held) else {
+        return Some(first.line);
+    };
+    match version {
+        Version::One => start_out_of_order(later),
+        Version::Two => net_out_of_order(later),
+    }
+}
+
+// The same from the size of the network on.
+fn net_out_of_order(entries: &[RunEntry]) -> Option<u32>
+    ensures { result ≡ net_out_of_order (run_entered_all entries.now) }
+{
+    let [first, later @ ..] = entries else {
+        return Some(0);
+    };
+    if is_net_line(&first.held) {
         start_out_of_order(later)
     } else {
         Some(first.line)
@@ -93,7 +110,8 @@ pub(crate) fn place_after(place: Place, held: &RunHeld) -> Option<Place>
     ensures { result ≡ place_after place (run_held_by held.now) }
 {
     match held {
-        RunHeld::Header => None,
+        RunHeld::Header(_) => None,
+        RunHeld::Net(_) => None,
         RunHeld::Start(_) => None,
         RunHeld::Input(_) => None,
         RunHeld::Run => Some(Place::Lead),
@@ -123,10 +141,20 @@ fn place_after_cycle(place: Place) -> Option<Place>
     }
 }
 
-fn is_header(held: &RunHeld) -> bool
-    ensures { result ≡ is_header (run_held_by held.now) }
+// The version of a text whose first statement this is.
+pub(crate) fn version_in(held: &RunHeld) -> Option<Version>
+    ensures { result ≡ version_in (run_held_by held.now) }
 {
-    matches!(held, RunHeld::Header)
+    match held {
+        RunHeld::Header(version) => Some(*version),
+        _ => None,
+    }
+}
+
+fn is_net_line(held: &RunHeld) -> bool
+    ensures { result ≡ is_net_line (run_held_by held.now) }
+{
+    matches!(held, RunHeld::Net(_))
 }
 
 pub(crate) fn is_start_line(held: &RunHeld) -> bool

@@ -7,13 +7,13 @@ ghost use Rattle.hz_core.specs.Netlist.{IsCircuit};
 ghost use Rattle.hz_net.specs.Network.{network_of};
 ghost use Rattle.hz_write.specs.Writer.{Writes};
 ghost use Rattle.hz_write.specs.Writes.{Wrote};
-ghost use Rattle.hz_text.specs.Printed.{statement_text};
 ghost use Rattle.hz_text.specs.RunFault.{IsRunFaultless};
-ghost use Rattle.hz_text.specs.RunPrinted.{spaced_word, variable_word, step_text, cycle_text, run_text, all_listed, run_text_printed};
+ghost use Rattle.hz_text.specs.RunPrinted.{spaced_word, variable_word, step_text, cycle_text, run_text, net_line, version_text, states_text, run_text_printed};
 ghost use Rattle.hz_text.specs.RunText.{IsRunTextFor, IsRunValue};
 ghost use Rattle.hz_text.specs.RunValue.{all_steps, cycle_steps};
 
 use crate::printing::write_bits;
+use crate::run::size::{Size, size_of};
 use crate::run::text::RunText;
 use hz_core::{Circuit, Memory};
 use hz_gmw::Run;
@@ -23,8 +23,8 @@ use hz_write::Piece::{Number, Text};
 use hz_write::Writer;
 use std::alloc::Global;
 
-/// Prints a run text of a network: the version, the start in the order of the nodes, the input in the order of the inputs,
-/// then each run, and the end. Keywords are in small letters, words are separated by one space, and each line ends with a
+/// Prints a run text of a network, in version 2: the version, the size of the network, the start in the order of the nodes,
+/// the input in the order of the inputs, then each run, and the end. Keywords are in small letters, words are separated by one space, and each line ends with a
 /// line feed. The wire into the second pin of a gate `g` is written `g(2)`. If the text has at most 16,777,216 bytes,
 /// [`crate::read_run`] gives the run text back.
 #[tactic(auto, unfolding(hz_outside::specs::Written::grown))]
@@ -41,8 +41,8 @@ pub fn print_run(alloc: Global, net: &Net, text: &RunText) -> Result<Vec<u8>, Me
     }
 }
 
-// Writes the lines of a run text.
-fn write_run_text<K: Sink>(out: &mut K, net: &Net, text: &RunText) -> Result<(), PutFault>
+/// Writes the lines of a run text, as [`print_run`] prints them. They are of version 2, whichever they were read from.
+pub fn write_run_text<K: Sink>(out: &mut K, net: &Net, text: &RunText) -> Result<(), PutFault>
     requires { IsRunTextFor net.now text.now }
     ensures circuit { IsCircuit net.now }
     ensures wrote { Wrote K.written K.faults (run_text_printed net.now text.now) out.old out.new result }
@@ -54,8 +54,9 @@ fn write_run_text<K: Sink>(out: &mut K, net: &Net, text: &RunText) -> Result<(),
     writer.finish()
 }
 
-/// Gives the lines before the runs of a run text: the version, the bit of each node at the start, and that of each input.
-#[tactic(auto, using(hz_write::proofs::Writers::writes_then))]
+/// Gives the lines before the runs of a run text: the version, the size of the network, the bit of each node at the start, and
+/// that of each input.
+#[tactic(auto, using(hz_write::proofs::Writers::writes_then), unfolding(crate::specs::RunPrinted::states_text))]
 pub fn write_states<K: Sink>(
     writer: &mut Writer<'_, K>,
     circuit: &Circuit,
@@ -65,13 +66,36 @@ pub fn write_states<K: Sink>(
     requires circuit { IsCircuit circuit.now }
     requires nodes { length nodes.now ≤ length circuit.now.names }
     requires input { length input.now ≤ length circuit.now.names }
-    ensures { Writes K.written K.faults
-        (codes "runs 1\n" ++ statement_text circuit.now (codes "start") (all_listed nodes.now)
-        ++ statement_text circuit.now (codes "input") (all_listed input.now)) writer.old writer.new }
+    ensures { Writes K.written K.faults (states_text circuit.now nodes.now input.now) writer.old writer.new }
 {
-    writer.line(&[Text(b"runs 1")]);
+    write_version(writer, circuit);
     write_bits(writer, circuit, b"start", nodes);
     write_bits(writer, circuit, b"input", input);
+}
+
+/// Gives the first lines of a run text: the version, and the size of the network.
+#[tactic(auto, using(hz_write::proofs::Writers::writes_then), unfolding(crate::specs::RunPrinted::version_text))]
+pub fn write_version<K: Sink>(writer: &mut Writer<'_, K>, circuit: &Circuit)
+    requires { IsCircuit circuit.now }
+    ensures { Writes K.written K.faults (version_text circuit.now) writer.old writer.new }
+{
+    writer.line(&[Text(b"runs 2")]);
+    write_net(writer, size_of(circuit));
+}
+
+// Gives the line with the size of a network.
+#[tactic(auto, using(hz_write::proofs::Writers::writes_same), unfolding(crate::specs::RunPrinted::net_line, hz_write::specs::Writes::line_of))]
+fn write_net<K: Sink>(writer: &mut Writer<'_, K>, size: Size)
+    ensures { Writes K.written K.faults (net_line size) writer.old writer.new }
+{
+    writer.line(&[
+        Text(b"net "),
+        Number(size.inputs),
+        Text(b" "),
+        Number(size.gates),
+        Text(b" "),
+        Number(size.wires),
+    ]);
 }
 
 /// Gives the line after the runs of a run text.

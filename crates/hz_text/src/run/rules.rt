@@ -4,12 +4,15 @@ ghost use Rattle.std.specs.Prelude.{◌≡◌, ◌≤◌, IfOk, is_none};
 ghost use Rattle.std.specs.List.{list_any};
 ghost use Rattle.std.specs.Option.{option_map};
 ghost use Rattle.hz_text.specs.RunLookup.{run_held_by, run_entered_all};
-ghost use Rattle.hz_text.specs.RunFault.{assignments_in, variables_in, names_unknown, first_start, first_input, steps_in};
-ghost use Rattle.hz_text.specs.RunRules.{least_left_out, lesser, least_missing_node, beyond_from};
+ghost use Rattle.hz_text.specs.RunFault.{assignments_in, variables_in, names_unknown, first_start, first_input, steps_in, is_second, size_in, first_size};
+ghost use Rattle.hz_text.specs.RunRules.{least_left_out, lesser, least_missing_node, beyond_from, first_mismatch};
 
 use crate::assignments::{Allowed, Assigned, any_unknown, least_unassigned};
+use crate::fault::Mismatch;
 use crate::run::order::{is_input_line, is_start_line};
+use crate::run::size::{Size, difference};
 use crate::run::statement::{RunEntry, RunHeld};
+use crate::run::version::Version;
 use hz_core::{Circuit, Memory};
 use std::alloc::Global;
 
@@ -123,6 +126,50 @@ pub(crate) fn line_beyond(entries: &[RunEntry]) -> Option<u32>
         }
     }
     None
+}
+
+// The first count of the network's size that a text of version 2 tells wrongly.
+pub(crate) fn first_mismatch(entries: &[RunEntry], real: Size) -> Option<Mismatch>
+    ensures { result ≡ first_mismatch real (run_entered_all entries.now) }
+{
+    let [first, ..] = entries else {
+        return None;
+    };
+    if !is_second(&first.held) {
+        return None;
+    }
+    let (line, told) = first_size(entries)?;
+    let (told, real) = difference(told, real)?;
+    Some(Mismatch { line, told, real })
+}
+
+// Whether the statement is the header of version 2.
+fn is_second(held: &RunHeld) -> bool
+    ensures { result ≡ is_second (run_held_by held.now) }
+{
+    matches!(held, RunHeld::Header(Version::Two))
+}
+
+// The first size of a network that a text tells, and its line.
+fn first_size(entries: &[RunEntry]) -> Option<(u32, Size)>
+    ensures { result ≡ first_size (run_entered_all entries.now) }
+{
+    for entry in entries {
+        if let Some(size) = size_in(&entry.held) {
+            return Some((entry.line, size));
+        }
+    }
+    None
+}
+
+// The size that a statement tells.
+fn size_in(held: &RunHeld) -> Option<Size>
+    ensures { result ≡ size_in (run_held_by held.now) }
+{
+    match held {
+        RunHeld::Net(size) => Some(*size),
+        _ => None,
+    }
 }
 
 // How many steps a statement is.

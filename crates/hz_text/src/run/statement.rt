@@ -5,16 +5,21 @@ ghost use Rattle.std.specs.Option.{option_map};
 ghost use Rattle.hz_line.specs.Reading.{entered_by, IsUnread};
 ghost use Rattle.hz_line.specs.Token.{token_of};
 ghost use Rattle.hz_text.specs.Rules.{AreBelow};
-ghost use Rattle.hz_text.specs.RunStatement.{run_keyword_of, is_version};
+ghost use Rattle.hz_text.specs.RunStatement.{run_keyword_of};
 ghost use Rattle.hz_text.specs.RunLookup.{run_looked_by, run_looked_with, run_held_by, run_keyword_by};
 ghost use Rattle.hz_text.specs.RunFault.{assignments_in};
 ghost use Rattle.hz_text.specs.RunRules.{run_rules};
 
 use crate::assignments::{Assigned, any_without_bit, read_assignments};
+use crate::fault::Mismatch;
 use crate::run::keyword::RunKeyword;
 use crate::run::order::first_out_of_order;
-use crate::run::rules::{assignments_in, least_missing_node, line_beyond, names_unknown};
+use crate::run::rules::{
+    assignments_in, first_mismatch, least_missing_node, line_beyond, names_unknown,
+};
+use crate::run::size::{Size, read_size, size_of};
 use crate::run::variables::read_variables;
+use crate::run::version::{Version, read_version};
 use crate::text::Text;
 use bumpalo::Bump;
 use hz_core::Memory;
@@ -25,7 +30,8 @@ use std::alloc::Global;
 /// A statement of a run text, looked up in a network. The variables of steps stand in an arena.
 #[derive(Debug, Drop)]
 pub(crate) enum RunHeld<'a> {
-    Header,
+    Header(Version),
+    Net(Size),
     Start(Vec<Assigned>),
     Input(Vec<Assigned>),
     Run,
@@ -117,6 +123,10 @@ impl<'a, 'n, 't> Text<'t> for RunStatements<'a, 'n> {
     fn line_beyond(&self, entries: &[RunEntry<'a>]) -> Option<u32> {
         line_beyond(entries)
     }
+
+    fn first_mismatch(&self, entries: &[RunEntry<'a>]) -> Option<Mismatch> {
+        first_mismatch(entries, size_of(self.net.circuit()))
+    }
 }
 
 // The statement of a keyword and the tokens after it.
@@ -134,8 +144,8 @@ fn read_statement_of<'a>(
     ensures below { IfOk result (λ held. AreBelow (length net.now.names) (assignments_in (run_held_by held))) }
 {
     match keyword {
-        RunKeyword::Runs if is_version(rest) => Ok(RunHeld::Header),
-        RunKeyword::Runs => Err(Unread::Form),
+        RunKeyword::Runs => Ok(RunHeld::Header(read_version(rest)?)),
+        RunKeyword::Net => Ok(RunHeld::Net(read_size(rest)?)),
         RunKeyword::Start => Ok(RunHeld::Start(read_assignments(alloc, net.circuit(), rest)?)),
         RunKeyword::Input => Ok(RunHeld::Input(read_assignments(alloc, net.circuit(), rest)?)),
         RunKeyword::Run if rest.is_empty() => Ok(RunHeld::Run),
@@ -148,16 +158,6 @@ fn read_statement_of<'a>(
     }
 }
 
-// Whether the tokens are the version of a run text.
-fn is_version(rest: &[Token]) -> bool
-    ensures { result ≡ is_version (map token_of rest.now) }
-{
-    let [Token::Word(version), after @ ..] = rest else {
-        return false;
-    };
-    after.is_empty() && *version == b"1".as_slice()
-}
-
 // The keyword that a word is, in any letter case.
 #[tactic(auto, unfolding(crate::specs::RunStatement::run_keyword_of))]
 fn run_keyword(word: &[u8]) -> Option<RunKeyword>
@@ -165,6 +165,8 @@ fn run_keyword(word: &[u8]) -> Option<RunKeyword>
 {
     if is_keyword(word, b"runs") {
         Some(RunKeyword::Runs)
+    } else if is_keyword(word, b"net") {
+        Some(RunKeyword::Net)
     } else if is_keyword(word, b"start") {
         Some(RunKeyword::Start)
     } else if is_keyword(word, b"input") {

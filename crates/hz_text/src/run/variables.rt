@@ -1,15 +1,16 @@
 // The variables of a step, looked up in a network.
 
-ghost use Rattle.std.specs.Prelude.{◌≡◌, ◌≤◌, ◌<◌, ◌∷◌, length, map, Some, None, IsTrue, IfSome, MatchResult, MatchOption};
+ghost use Rattle.std.specs.Prelude.{◌≡◌, ◌<◌, ◌∷◌, length, map, Some, IsTrue, IfSome, MatchResult};
 ghost use Rattle.std.specs.List.{list_all};
 ghost use Rattle.hz_line.specs.declared.bytes.Mark.TheVariants.{Open};
 ghost use Rattle.hz_line.specs.declared.tokens.Token.TheVariants.{Sign};
 ghost use Rattle.hz_line.specs.Token.{token_of};
 ghost use Rattle.hz_line.specs.Reading.{IsUnread};
-ghost use Rattle.hz_text.specs.RunStatement.{is_digit, is_decimal, number_by};
+ghost use Rattle.hz_text.specs.RunStatement.{is_digit, number_by};
 ghost use Rattle.hz_text.specs.RunLookup.{wire_into, variables_by};
 ghost use Rattle.hz_text.specs.VariablesRead.{IsPinAfter, IsFirstVariable};
 
+use crate::run::number::{is_decimal, number_within};
 use bumpalo::Bump;
 use hz_line::{Mark, Token, Unread};
 use hz_net::Net;
@@ -117,23 +118,6 @@ fn pin_within<'a>(tokens: &[Token<'a>]) -> PinAfter<'a>
     }
 }
 
-// Whether the word is a decimal number without leading zero.
-fn is_decimal(word: &[u8]) -> bool
-    ensures { result ≡ is_decimal word.now }
-{
-    let [first, later @ ..] = word else {
-        return false;
-    };
-    are_digits(word) && (*first != b'0' || later.is_empty())
-}
-
-// Whether the word has digits alone.
-fn are_digits(word: &[u8]) -> bool
-    ensures { result ≡ list_all is_digit word.now }
-{
-    word.iter().all(|byte| byte.is_ascii_digit())
-}
-
 // The wire into the pin with this number, counted from 1, of the node, if it is a gate with such a pin.
 fn wire_into(net: &Net, node: Option<u32>, digits: &[u8]) -> Option<u32>
     requires node { IfSome node (λ node. node < length net.now.names) }
@@ -144,26 +128,11 @@ fn wire_into(net: &Net, node: Option<u32>, digits: &[u8]) -> Option<u32>
     if node < net.circuit().inputs() {
         return None;
     }
-    let pin = small_number(digits)?;
+    let pin = number_within(digits, MAX_PIN)?;
     let (first, pins) = net.wires_in(node);
     if 1 <= pin && pin <= pins {
         Some(first + (pin - 1))
     } else {
         None
     }
-}
-
-// The number that digits stand for, if it is not above the most pins of a gate.
-fn small_number(digits: &[u8]) -> Option<u32>
-    requires { IsTrue (list_all is_digit digits.now) }
-    ensures { MatchOption result (256 < number_by digits.now) (λ number. number ≡ number_by digits.now) }
-{
-    let mut number = 0;
-    for digit in digits {
-        number = 10 * number + (*digit - b'0') as u32;
-        if number > MAX_PIN {
-            return None;
-        }
-    }
-    Some(number)
 }

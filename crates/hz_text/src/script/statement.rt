@@ -10,6 +10,7 @@ ghost use Rattle.hz_text.specs.Lookup.{held_by, keyword_by, looked_by};
 ghost use Rattle.hz_text.specs.ScriptRules.{script_rules};
 
 use crate::assignments::{Assigned, any_without_bit, read_assignments};
+use crate::fault::Mismatch;
 use crate::script::rules::{first_out_of_order, has_unknown, least_missing, line_beyond};
 use crate::text::Text;
 use hz_core::{Circuit, Memory};
@@ -99,6 +100,11 @@ impl<'c, 't> Text<'t> for Statements<'c> {
 
     fn line_beyond(&self, entries: &[Entry]) -> Option<u32> {
         line_beyond(entries)
+    }
+
+    // A script tells no size.
+    fn first_mismatch(&self, _entries: &[Entry]) -> Option<Mismatch> {
+        None
     }
 }
 

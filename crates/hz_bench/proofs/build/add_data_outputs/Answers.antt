@@ -1,1 +1,0 @@
-use Rattle.hz_bench.proofs.build.add_data_outputs.Goals as goal

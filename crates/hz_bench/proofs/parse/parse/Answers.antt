@@ -5,7 +5,7 @@ use Rattle.hz_bench.proofs.ParseLemmas.{IsParsing, IsParsing-begin, IsParsing-ro
 use Rattle.hz_bench.proofs.parse.parse.Goals as goal
 
 pub loop-left-init : goal.loop-left-init
-loop-left-init c = IsParsing-begin c.args.text c.in-Ok.statements c.in-Ok.ensures
+loop-left-init c = IsParsing-begin c.args.text c.new-statements.result c.new-statements.ensures
 
 pub add-requires-clause-variables : goal.add-requires-clause-variables
 add-requires-clause-variables c =
@@ -23,5 +23,5 @@ loop-left-preserved-in-Ok-add c =
     let read = c.in-Some-statement_of.ensures in
     let roomy = record c.loop-left.statements { lines = c.make_room.new.lines } in
     IsParsing-statement c.args.text.now roomy (numbered_line c.in-Some-statement_of.statement) c.add.new.self c.loop-left.line c.cut_line-cut.result.line.now c.cut_line-cut.result.rest c.in-Some.rest
-    (IsParsing-roomier c.args.text.now c.loop-left.statements roomy c.loop-left.line (Some c.in-Some.rest) refl refl refl refl refl c.in-Ok-make_room.ensures was)
+    (IsParsing-roomier c.args.text.now c.loop-left.statements roomy c.loop-left.line (Some c.in-Some.rest) refl refl refl refl refl c.in-Ok.ensures was)
     c.cut_line-cut.ensures.lines c.cut_line-cut.ensures.within read.0 read.1 c.in-Ok-add.ensures

@@ -1,10 +1,10 @@
 -- Each gate of the order has its turn; what is no unsettled gate has none.
-use Rattle.std.proofs.Common.{◌≡◌, ◌≢◌, ◌∙◌, ◌+◌, ◌<◌, ◌≤◌, ℕ, Bool, true, List, [], ◌∷◌, length, get_or, sym, ap, subst, refl, arith}
+use Rattle.std.proofs.Common.{◌≡◌, ◌∙◌, ◌+◌, ◌<◌, ℕ, Bool, true, List, length, get_or, sym, ap, subst, arith}
 use Rattle.std.proofs.lemmas.Bool.{both_ways}
 use Rattle.hz_core.specs.declared.tri.Tri.{Tri}
 use Rattle.hz_core.specs.declared.kind.Kind.{Kind}
 use Rattle.hz_core.specs.Ternary.{is_unknown}
-use Rattle.hz_core.specs.Netlist.{Netlist, IsGateNumber}
+use Rattle.hz_core.specs.Netlist.{Netlist}
 use Rattle.hz_net.specs.Network.{network_of, driver_at, value_at, Function}
 use Rattle.hz_net.specs.Passes.{IsUnknown}
 use Rattle.hz_net.proofs.Places.{length-network_of}

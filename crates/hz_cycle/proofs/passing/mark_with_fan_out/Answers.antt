@@ -1,6 +1,6 @@
-use Rattle.std.proofs.Common.{◌≡◌, ◌<◌, ℕ, Bool, List, length, get_or, sym, ap, ◌∙◌, subst, arith}
+use Rattle.std.proofs.Common.{◌≡◌, ◌<◌, ℕ, Bool, List, length, get_or, ap, ◌∙◌, arith}
 use Rattle.hz_core.specs.Pattern.{differs}
-use Rattle.hz_net.specs.Network.{network_of, bit_at}
+use Rattle.hz_net.specs.Network.{bit_at}
 use Rattle.hz_net.specs.Variables.{fan_out_of}
 use Rattle.hz_net.proofs.Places.{length-network_of}
 use Rattle.hz_cycle.proofs.FanOut.{marks-ascend, fan_out-inside}

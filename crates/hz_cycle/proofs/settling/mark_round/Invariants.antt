@@ -1,4 +1,4 @@
-use Rattle.std.proofs.Common.{◌≡◌, ◌<◌, ◌≤◌, ℕ, get_or, length}
+use Rattle.std.proofs.Common.{◌≡◌, ◌<◌, ◌≤◌, ℕ, get_or}
 use Rattle.std.specs.List.{slice_range}
 use Rattle.hz_reach.specs.Order.{key_at}
 use Rattle.hz_cycle.specs.Rounds.{differing}

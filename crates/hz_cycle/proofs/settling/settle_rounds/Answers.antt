@@ -1,8 +1,6 @@
 -- Each round is a step that has room; at the end every variable that settles has its value.
-use Rattle.std.proofs.Common.{◌≡◌, ◌∙◌, ◌<◌, ◌≤◌, ℕ, List, length, sym, ap, subst, arith}
-use Rattle.std.specs.List.{slice_range}
+use Rattle.std.proofs.Common.{◌∙◌, ℕ, length, ap, arith}
 use Rattle.hz_gmw.specs.Runs.{flipped}
-use Rattle.hz_cycle.specs.Rounds.{differing, IsOneRound}
 use Rattle.hz_cycle.proofs.RoundTurns.{round-flips, round-steps, rounds-next, rounds-end}
 use Rattle.hz_cycle.proofs.settling.settle_rounds.Goals as goal
 

@@ -1,6 +1,5 @@
 -- The rounds begin where the spread run ends, the pass where they end; the three are the settle run.
-use Rattle.std.proofs.Common.{◌≡◌, ◌∙◌, ◌+◌, ◌*◌, ◌≤◌, ◌++◌, ℕ, Bool, List, length, sym, ap, subst, refl, arith}
-use Rattle.hz_core.specs.declared.tri.Tri.{Tri}
+use Rattle.std.proofs.Common.{◌≡◌, ◌∙◌, ◌++◌, ℕ, Bool, List, length, sym, ap, subst, refl, arith}
 use Rattle.hz_core.proofs.Refinements.{length-Refines}
 use Rattle.hz_net.specs.Network.{network_of}
 use Rattle.hz_gmw.specs.Runs.{end_of}

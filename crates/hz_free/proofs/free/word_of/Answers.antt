@@ -1,8 +1,8 @@
 -- The word of a variable, by what it is.
-use Rattle.std.proofs.Common.{arith, ◌≡◌, ◌+◌, ◌∙◌, sym, ap, subst, length, IsTrue, slice_get}
+use Rattle.std.proofs.Common.{arith, ◌∙◌, sym, subst, length, IsTrue}
 use Rattle.hz_core.specs.Gate.{takes}
 use Rattle.hz_core.specs.Netlist.{gate_at}
-use Rattle.hz_net.specs.Network.{network_of, driver_at, Function}
+use Rattle.hz_net.specs.Network.{network_of}
 use Rattle.hz_net.specs.Variables.{first_wire}
 use Rattle.hz_net.specs.declared.variable.VarKind.TheVariants.{Input, Gate as GateVariable, Wire as WireVariable}
 use Rattle.hz_free.proofs.NextWord.{driven-as, next-input, source-told, next-wire, counted-wires, next-gate, length-wires, driven-at}

@@ -1,8 +1,7 @@
 -- A variable that reads nothing comes next.
-use Rattle.std.proofs.Common.{arith, ◌≡◌, ◌+◌, ◌∙◌, List, [], length, subst, sym, ap}
+use Rattle.std.proofs.Common.{arith, ◌≡◌, ◌∙◌, length, ap}
 use Rattle.hz_net.specs.Network.{network_of}
 use Rattle.hz_net.specs.Reads.{readers_of}
-use Rattle.hz_free.specs.Order.{AreFirst}
 use Rattle.hz_free.proofs.Counting.{first-more, first-same, first-ordering}
 use Rattle.hz_free.proofs.order.place_first.Goals as goal
 use Rattle.hz_free.proofs.order.place_first.Goals.{then-unread-var-eq0+in-Ok, else-unread-var-eq0}

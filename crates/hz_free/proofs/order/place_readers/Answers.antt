@@ -2,7 +2,7 @@
 use Rattle.std.proofs.Common.{◌+◌, length}
 use Rattle.hz_net.specs.Network.{network_of}
 use Rattle.hz_net.specs.Reads.{readers_of}
-use Rattle.hz_free.proofs.Counting.{var-inside, readers-begin, tell-reader, tell-bound}
+use Rattle.hz_free.proofs.Counting.{var-inside, readers-begin, tell-reader}
 use Rattle.hz_free.proofs.order.place_readers.Goals as goal
 
 pub readers-reader-items-requires : goal.readers-reader-items-requires

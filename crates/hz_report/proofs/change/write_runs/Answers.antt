@@ -1,21 +1,17 @@
--- The nodes come first in a state. There is one run.
-use Rattle.std.proofs.Common.{◌≡◌, refl, sym, length}
+-- The lines before the runs, the two runs, and the line after them.
+use Rattle.std.proofs.Common.{refl}
 use Rattle.std.proofs.lemmas.List.{append-nil}
-use Rattle.hz_text.specs.RunPrinted.{run_text_printed}
-use Rattle.hz_write.proofs.Writers.{writes_then, writes_same}
-use Rattle.hz_report.specs.Report.{runs_text}
-use Rattle.hz_report.proofs.Lines.{length-nodes}
+use Rattle.hz_text.specs.RunPrinted.{states_text, run_text_printed}
+use Rattle.hz_write.proofs.Writers.{writes_then}
+use Rattle.hz_report.specs.Report.{start_line}
 use Rattle.hz_report.proofs.change.write_runs.Goals as goal
 
-pub slice_bounds-write_states-end : goal.slice_bounds-write_states-end
-slice_bounds-write_states-end g c =
-    let end : c.nodes-nodes.result ≡ length c.args.net.now.names = rw c.circuit-circuit.ensures.same at c.nodes-nodes.ensures.nodes in
-    sym (length-nodes c.args.net.now c.args.start.now c.nodes-nodes.result c.circuit-circuit.ensures.circuit c.requires.start end)
-
 pub returns : goal.returns
-unfolding runs_text run_text_printed
+unfolding run_text_printed states_text start_line
 returns g c =
-    let end : c.nodes-nodes.result ≡ length c.args.net.now.names = rw c.circuit-circuit.ensures.same at c.nodes-nodes.ensures.nodes in
-    let states = rw (end, c.circuit-circuit.ensures.same) at c.write_states.ensures in
-    let run = writes_same c.write_run.ensures (sym (append-nil _)) in
-    writes_then (writes_then states run refl) c.write_end.ensures refl
+    let version = rw c.circuit.ensures.same at c.write_version.ensures in
+    let start = rw c.as_slice.ensures at c.write_start.ensures in
+    let input = rw (c.circuit-2.ensures.same, c.as_slice-2.ensures) at c.write_bits.ensures in
+    let states = writes_then (writes_then version start refl) input refl in
+    let runs = writes_then c.write_run.ensures c.write_run-2.ensures (simp append-nil) in
+    writes_then (writes_then states runs refl) c.write_end.ensures refl

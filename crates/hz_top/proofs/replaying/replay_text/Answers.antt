@@ -1,6 +1,7 @@
 use Rattle.std.proofs.Common.{inl, inr, codes}
 use Rattle.hz_text.specs.RunFault.{StandsInRuns}
-use Rattle.hz_top.specs.Outcome.{RunTextComes, TextSays}
+use Rattle.hz_top.specs.Outcome.{TextSays}
+use Rattle.hz_top.specs.RunTexts.{RunTextComes}
 use Rattle.hz_top.specs.Verdict.{ReplayComes}
 use Rattle.hz_top.proofs.Endings.{Answers-more}
 use Rattle.hz_top.proofs.Comings.{text-refused}

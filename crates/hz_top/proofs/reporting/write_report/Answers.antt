@@ -1,10 +1,36 @@
 -- All that the writer was given.
-use Rattle.std.proofs.Common.{refl, rules}
+use Rattle.std.proofs.Common.{◌≡◌, ◌∙◌, ◌++◌, List, ℕ, Bool, refl, ap, subst, rules}
+use Rattle.hz_core.specs.Netlist.{Netlist}
+use Rattle.hz_net.specs.Network.{network_of}
+use Rattle.hz_free.specs.Feedback.{AreFeedbackCycles}
 use Rattle.hz_write.proofs.Writers.{writes_then, wrote_whole}
+use Rattle.hz_desk.specs.Desk.{DeskOf}
+use Rattle.hz_seq.specs.Analyses.{AreAnalyses}
+use Rattle.hz_report.specs.Report.{head_text}
+use Rattle.hz_top.specs.Reports.{analyses_text}
+use Rattle.hz_top.proofs.ReadBack.{analyses-replay}
 use Rattle.hz_top.proofs.reporting.write_report.Goals as goal
 
 pub returns : goal.returns
 returns g c =
-    let lines = writes_then c.write_head.ensures c.write_change.ensures refl in
+    let netlist = c.args.net.now in
+    let changes = c.args.script.now.changes in
+    let made = c.write_changes.ensures in
+    let cycles = c.free.result.now.cycles in
+    let same : c.desk.result.now.netlist ≡ netlist = ap (λ (desk : DeskOf). desk.netlist) c.desk.ensures ∙ c.requires.net in
+    let are : AreAnalyses netlist c.args.cap c.args.start.now changes made.0 =
+    subst (λ (start : List Bool). AreAnalyses netlist c.args.cap start changes made.0) c.requires.begins made.1 in
+    let lines = writes_then c.write_head.ensures made.2 refl in
     let wrote = wrote_whole _ _ _ _ _ _ _ _ c.new-writer.ensures.begins lines c.finish.ensures in
-    search rules
+    (
+      head_text netlist cycles c.args.start.now ++ analyses_text netlist c.args.show 1 changes made.0,
+      record {
+        cycles = cycles;
+        are_cycles = subst (λ (n : Netlist). AreFeedbackCycles (network_of n) cycles) same c.free.ensures.feedback.are_cycles;
+        analyses = made.0;
+        are_analyses = are;
+        replay = analyses-replay c.run_counts.ensures.steps netlist c.args.cap changes c.args.start.now made.0 c.requires.circuit c.requires.start are;
+        lines = refl;
+      },
+      search rules,
+    )

@@ -1,4 +1,4 @@
-use Rattle.std.proofs.Common.{◌∙◌, ap, refl, ◌++◌, ◌∷◌, []}
+use Rattle.std.proofs.Common.{◌≡◌, ◌∙◌, ap, refl, ◌++◌, ◌∷◌, [], length, vec_len, rules}
 use Rattle.hz_core.proofs.FieldLemmas.{GateComes, HoldsCircuit-GateComes, view-GateComes, names_counted}
 use Rattle.hz_core.proofs.circuit.Circuit.add_gate.Goals as goal
 
@@ -6,32 +6,34 @@ comes :
     (c : goal.After-push_reserved) →
     GateComes c.self.inside
     (record {
-      names = c.insert.new.self;
+      names = c.add_name.new.names;
+      hashing = c.self.inside.hashing;
+      chains = c.add_name.new.chains;
       inputs = c.self.inside.inputs;
       cuts = c.self.inside.cuts;
       gates = c.push_reserved.new.self;
       outputs = c.self.inside.outputs;
       pins = c.self.inside.pins;
     })
-    c.in-Ok.key c.args.kind
+    c.args.name.now c.args.kind
 comes c =
     record {
-      names = c.in-Ok-insert.ensures.keys;
+      names = c.in_ok-add_name.ensures.names;
+      hashing = refl;
+      chains = c.in_ok-add_name.ensures.chains;
       inputs = refl;
       cuts = refl;
       gates = c.push_reserved.ensures.items ∙
-          (ap (λ was. was ++ c.new-2.result ∷ []) c.reserve.ensures.items ∙ ap (λ last. c.self.inside.gates.items ++ last ∷ []) c.new-2.ensures);
+          (ap (λ was. was ++ c.new.result ∷ []) c.reserve.ensures.items ∙ ap (λ last. c.self.inside.gates.items ++ last ∷ []) c.new.ensures);
       outputs = refl;
       pins = refl;
     }
 
 pub invariant_of-self-2 : goal.invariant_of-self-2
 invariant_of-self-2 c =
-    HoldsCircuit-GateComes _ _ _ _ _ _ c.self.view_is c.requires.fresh c.in-Ok.ensures (comes c) c.self.invariant
-    c.requires.name c.requires.room
+    HoldsCircuit-GateComes _ _ _ _ _ c.self.view_is c.requires.fresh (comes c) c.self.invariant c.requires.name c.requires.room
 
 pub returns-clause-ok : goal.returns-clause-ok
-returns-clause-ok c = (
-  c.len-number.ensures.len ∙ names_counted c.self.inside c.args.self.now c.self.view_is,
-  view-GateComes _ _ _ _ _ _ c.self.view_is c.requires.fresh c.in-Ok.ensures (comes c),
-)
+returns-clause-ok c =
+    let counted : vec_len c.self.inside.names ≡ length c.self.inside.names.items = search rules in
+    (c.len-number.ensures ∙ counted ∙ names_counted c.self.inside c.args.self.now c.self.view_is, view-GateComes _ _ _ _ _ c.self.view_is c.requires.fresh (comes c))

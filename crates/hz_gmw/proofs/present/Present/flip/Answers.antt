@@ -1,27 +1,67 @@
-use Rattle.std.proofs.Common.{◌≡◌, ◌<◌, ◌+◌, sym, refl, subst, Bool, not, false, List, length, get_or, set, arith}
-use Rattle.std.proofs.lemmas.List.{get_or_read}
-use Rattle.hz_net.specs.Network.{bit_at}
-use Rattle.hz_gmw.proofs.PresentLemmas.{FlippedSoFar, flip-step, flip-state}
+use Rattle.std.proofs.Common.{◌≡◌, ◌+◌, ◌∙◌, sym, ap, Bool, not, List, set, arith}
+use Rattle.std.specs.Prelude.{count_by}
+use Rattle.hz_net.specs.Network.{network_of, bit_at}
+use Rattle.hz_gmw.specs.Instability.{is_unstable, unstable_count}
+use Rattle.hz_gmw.specs.Presents.{around}
+use Rattle.hz_gmw.proofs.Driven.{around-once, around-inside}
+use Rattle.hz_gmw.proofs.Counts.{network-bound, listed-bound, unstable-flip, unstable-bound}
 use Rattle.hz_gmw.proofs.present.Present.flip.Goals as goal
 
-pub loop-var-preserved : goal.loop-var-preserved
-loop-var-preserved c =
-    let k = c.loop-var.var-index in
-    let flips = c.args.flips.now in
-    let x = get_or flips k 0 in
-    let few : k < length flips = omega arith in
-    let state = c.loop-var.self.state.items in
-    let so_far = c.loop-var.invariant.0 in
-    let long = so_far.long in
-    let inside : x < length state = (let within = c.requires.inside k 0 few in omega (arith, within, long)) in
-    let read : c.index.result.now ≡ bit_at state x = get_or_read state x c.index.result.now inside c.index.ensures false in (
-      subst (λ (bit : Bool). FlippedSoFar flips c.args.self.now.state.items c.args.self.now.touched (set state x (not bit)) c.insert.new.self (k + 1)) (sym read)
-          (subst (λ (touched : List Bool). FlippedSoFar flips c.args.self.now.state.items c.args.self.now.touched (set state x (not (bit_at state x))) touched (k + 1)) (sym c.insert.ensures)
-          (flip-step flips c.args.self.now.state.items c.args.self.now.touched state c.loop-var.self.touched k x so_far few refl)),
-      c.loop-var.invariant.1,
-      c.loop-var.invariant.2,
+pub overflow_sub-self : goal.overflow_sub-self
+overflow_sub-self c =
+    let netlist = c.args.net.now in
+    let present = c.args.self.now in
+    let circuit = c.requires.exact.counted.fits.circuit in
+    omega (
+      arith,
+      c.unstable_around.ensures,
+      c.requires.exact.unstable,
+      listed-bound netlist present.input.items present.state.items (around netlist c.args.var) (around-once netlist circuit c.args.var c.requires.var) (around-inside netlist circuit c.args.var c.requires.var),
     )
 
-pub returns-clause-state : goal.returns-clause-state
-returns-clause-state c =
-    flip-state c.args.flips.now c.args.self.now.state.items c.args.self.now.touched c.loop-var.self.state.items c.loop-var.self.touched c.loop-var.var-index c.loop-var.invariant.0 (omega arith)
+pub overflow_add-self : goal.overflow_add-self
+overflow_add-self c =
+    let netlist = c.args.net.now in
+    let present = c.args.self.now in
+    let after = c.change.new.self in
+    let var = c.args.var in
+    let circuit = c.requires.exact.counted.fits.circuit in
+    let list = around netlist var in
+    let next = set present.state.items var (not (bit_at present.state.items var)) in
+    let sums = unstable-flip netlist present.input.items present.state.items var circuit c.requires.var in
+    let few = listed-bound netlist present.input.items present.state.items list (around-once netlist circuit var c.requires.var) (around-inside netlist circuit var c.requires.var) in
+    let later : c.unstable_around-2.result ≡ count_by (is_unstable (network_of netlist) present.input.items next) list =
+    c.unstable_around-2.ensures ∙ (ap (λ (input : List Bool). count_by (is_unstable (network_of netlist) input after.state.items) list) c.change.ensures.input ∙
+    ap (λ (state : List Bool). count_by (is_unstable (network_of netlist) present.input.items state) list) c.change.ensures.state) in
+    omega (arith, c.unstable_around.ensures, c.requires.exact.unstable, c.change.ensures.unstable, later, sums, few, unstable-bound netlist present.input.items next, network-bound netlist circuit)
+
+pub returns-clause-exact : goal.returns-clause-exact
+returns-clause-exact c =
+    let netlist = c.args.net.now in
+    let present = c.args.self.now in
+    let after = c.change.new.self in
+    let var = c.args.var in
+    let circuit = c.requires.exact.counted.fits.circuit in
+    let list = around netlist var in
+    let next = set present.state.items var (not (bit_at present.state.items var)) in
+    let sums = unstable-flip netlist present.input.items present.state.items var circuit c.requires.var in
+    let few = listed-bound netlist present.input.items present.state.items list (around-once netlist circuit var c.requires.var) (around-inside netlist circuit var c.requires.var) in
+    let later : c.unstable_around-2.result ≡ count_by (is_unstable (network_of netlist) present.input.items next) list =
+    c.unstable_around-2.ensures ∙ (ap (λ (input : List Bool). count_by (is_unstable (network_of netlist) input after.state.items) list) c.change.ensures.input ∙
+    ap (λ (state : List Bool). count_by (is_unstable (network_of netlist) present.input.items state) list) c.change.ensures.state) in
+    let total : after.unstable + c.unstable_around-2.result ≡ unstable_count (network_of netlist) present.input.items next =
+    omega (arith, c.unstable_around.ensures, c.requires.exact.unstable, c.change.ensures.unstable, later, sums, few) in
+    record {
+      counted = record {
+        fits = record {
+          circuit = circuit;
+          whole = c.change.ensures.counted.fits.whole;
+          input = c.change.ensures.counted.fits.input;
+          state = c.change.ensures.counted.fits.state;
+          ones = c.change.ensures.counted.fits.ones;
+          wires = c.change.ensures.counted.fits.wires;
+        };
+        counts = c.change.ensures.counted.counts;
+      };
+      unstable = total ∙ sym (ap (λ (input : List Bool). unstable_count (network_of netlist) input after.state.items) c.change.ensures.input ∙ ap (λ (state : List Bool). unstable_count (network_of netlist) present.input.items state) c.change.ensures.state);
+    }

@@ -1,6 +1,11 @@
-use Rattle.hz_gmw.proofs.PresentLemmas.{InputBelow}
+use Rattle.std.proofs.Common.{◌≡◌, ◌<◌, ℕ}
+use Rattle.hz_net.specs.Network.{bit_at}
+use Rattle.hz_gmw.specs.Presents.{IsExact}
 use Rattle.hz_gmw.proofs.present.Present.turn_input.Given as goal
 
 -- the inputs so far have their given values
 abbrev pub invariant-loop-number : goal.invariant-loop-number
-invariant-loop-number l = InputBelow l.net l.input l.fn.self l.self l.number
+invariant-loop-number l =
+    IsExact l.net l.self
+    × (l.self.state.items ≡ l.fn.self.state.items)
+    × ((i : ℕ) → i < l.number → bit_at l.self.input.items i ≡ bit_at l.input i)

@@ -17,4 +17,4 @@ returns c =
     ap (λ (right : List Bool). least_from None (λ var. not (beq (bit_at state var) (bit_at right var))) list) c.as_slice-2.ensures.value) in
     subst (λ (now : Replayed). IsLeastOf (λ i. bit_at now.state i ≢ bit_at now.marked i) c.least_differing.result) c.self.view_is
     (subst (IsLeastOf (λ i. bit_at state i ≢ bit_at marked i)) (sym found)
-    (least-moved state marked c.self.inside.present.touched list c.members.ensures c.self.invariant.same))
+    (least-moved state marked c.self.inside.watch.changed list c.members.ensures c.self.invariant.same))

@@ -1,14 +1,14 @@
-use Rattle.std.proofs.Common.{◌<◌, sym, subst, length}
+use Rattle.std.proofs.Common.{◌≡◌, ◌<◌, ℕ, subst, length, arith}
 use Rattle.hz_net.specs.Network.{network_of, IsUnstable}
-use Rattle.hz_gmw.specs.Least.{IsLeastOf}
+use Rattle.hz_gmw.specs.Instability.{unstable_count}
 use Rattle.hz_gmw.specs.Replayed.{Replayed}
-use Rattle.hz_gmw.proofs.ReplayLemmas.{least-unstable}
+use Rattle.hz_gmw.proofs.ReplayLemmas.{none-unstable}
 use Rattle.hz_gmw.proofs.replay.Replay.least_unstable.Goals as goal
 
-pub returns : goal.returns
-returns c =
-    let net = network_of c.self.inside.net.now in
-    let present = c.self.inside.present in
-    subst (λ (now : Replayed). IsLeastOf (λ i. (i < length (network_of now.circuit)) × IsUnstable (network_of now.circuit) now.input now.state i) c.least_listed.result) c.self.view_is
-    (subst (IsLeastOf (λ i. (i < length net) × IsUnstable net present.input.items present.state.items i)) (sym c.least_listed.ensures)
-    (least-unstable net present.input.items present.state.items present.unstable c.members.result.now c.members.ensures c.self.invariant.exact.fits.unstable c.self.invariant.exact.unstable))
+pub returns-then-self-eq0 : goal.returns-then-self-eq0
+returns-then-self-eq0 c =
+    let fields = c.self.inside in
+    let present = fields.present in
+    let none : unstable_count (network_of fields.net.now) present.input.items present.state.items ≡ 0 = omega (arith, c.if-self-eq0.true, c.self.invariant.exact.unstable) in
+    subst (λ (now : Replayed). (i : ℕ) → (i < length (network_of now.circuit)) × IsUnstable (network_of now.circuit) now.input now.state i → ⊥) c.self.view_is
+    (none-unstable fields.net.now present.input.items present.state.items none)

@@ -3,7 +3,8 @@ use Rattle.std.proofs.lemmas.List.{length-replicate}
 use Rattle.hz_net.specs.Network.{bit_at}
 use Rattle.hz_gmw.specs.Presents.{taken_over}
 use Rattle.hz_gmw.specs.Replayed.{Replayed, replayed_at, begun_at}
-use Rattle.hz_gmw.proofs.ReplayLemmas.{taken-all}
+use Rattle.hz_gmw.proofs.Marks.{length-marked_with}
+use Rattle.hz_gmw.proofs.ReplayLemmas.{taken-all, restart-same}
 use Rattle.hz_gmw.proofs.replay.Replay.restart.Goals as goal
 
 pub invariant_of-self : goal.invariant_of-self
@@ -14,13 +15,17 @@ invariant_of-self c =
     let list = c.members.result.now in
     let gone : c.turn_back.new.self.state.items ≡ fields.begun.items =
     c.turn_back.ensures.state ∙ (ap (λ (given : List Bool). taken_over given state list) c.as_slice.ensures.value ∙
-    taken-all fields.begun.items state fields.moved list (held.exact.fits.state ∙ sym held.begun) c.members.ensures (λ i still. sym (held.back i still))) in
+    taken-all fields.begun.items state fields.moved list (held.exact.counted.fits.state ∙ sym held.begun) c.members.ensures (λ i still. sym (held.back i still))) in
     record {
       exact = c.turn_back.ensures.exact;
+      watch = record {
+        changed = ap (length {A = Bool}) c.insert_each.ensures ∙ (length-marked_with fields.watch.changed c.members-2.result.now ∙ held.watch.changed);
+        been_stable = held.watch.been_stable;
+      };
       marked = held.marked;
       same = λ i still.
-          let was = c.turn_back.ensures.untouched i still in
-          held.same i was.0 ∙ sym was.1;
+          restart-same fields.watch.changed c.insert_each.new.set fields.moved fields.marked.items fields.begun.items state c.members-2.result.now c.insert_each.ensures c.members-2.ensures (held.marked ∙ sym held.watch.changed) (held.begun ∙ sym held.watch.changed) held.same held.back i still
+          ∙ ap (λ (bits : List Bool). bit_at bits i) (sym gone);
       begun = held.begun;
       moved = ap (length {A = Bool}) c.clear.ensures ∙ (length-replicate (length fields.moved) false ∙ held.moved);
       back = λ i still. ap (λ (bits : List Bool). bit_at bits i) (sym gone);
@@ -36,7 +41,7 @@ returns-clause-at c =
     let list = c.members.result.now in
     let gone : c.turn_back.new.self.state.items ≡ begun =
     c.turn_back.ensures.state ∙ (ap (λ (given : List Bool). taken_over given state list) c.as_slice.ensures.value ∙
-    taken-all begun state fields.moved list (held.exact.fits.state ∙ sym held.begun) c.members.ensures (λ i still. sym (held.back i still))) in
+    taken-all begun state fields.moved list (held.exact.counted.fits.state ∙ sym held.begun) c.members.ensures (λ i still. sym (held.back i still))) in
     let at = c.mark.ensures.at ∙ (ap (λ (input : List Bool). replayed_at fields.net.now input begun c.turn_back.new.self.state.items) c.turn_back.ensures.input ∙
     ap (replayed_at fields.net.now fields.present.input.items begun) gone) in
     subst (λ (now : Replayed). c.mark.new.self ≡ begun_at now.circuit now.input now.begun) c.self.view_is at

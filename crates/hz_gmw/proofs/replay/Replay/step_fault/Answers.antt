@@ -1,14 +1,14 @@
-use Rattle.std.proofs.Common.{◌≡◌, ◌<◌, ◌≤◌, ◌∙◌, sym, ap, subst, ℕ, Bool, not, false, All, IsTrue, length}
+use Rattle.std.proofs.Common.{◌≡◌, ◌<◌, ◌≤◌, ◌∙◌, sym, ap, subst, ℕ, Bool, not, false, None, All, IsTrue, length}
 use Rattle.std.proofs.lemmas.Bool.{false≢true, eq-eqb}
 use Rattle.std.proofs.lemmas.List.{length-replicate}
 use Rattle.hz_net.specs.Network.{network_of, bit_at}
 use Rattle.hz_gmw.specs.Runs.{is_listed}
-use Rattle.hz_gmw.specs.Instability.{is_unstable}
-use Rattle.hz_gmw.specs.Least.{IsLeastOf}
+use Rattle.hz_gmw.specs.Instability.{is_unstable, unstable_variables}
+use Rattle.hz_gmw.specs.Least.{IsLeastOf, least_from}
 use Rattle.hz_gmw.specs.Replayed.{Replayed}
 use Rattle.hz_gmw.specs.ReplayFaults.{times}
-use Rattle.hz_gmw.proofs.LeastLemmas.{least-listed, least-repeated}
-use Rattle.hz_gmw.proofs.ReplayLemmas.{none-marked, step-by, stable-fault}
+use Rattle.hz_gmw.proofs.LeastLemmas.{least-repeated}
+use Rattle.hz_gmw.proofs.ReplayLemmas.{at-unstable_variables, none-marked, step-by, stable-fault, stable-listed}
 use Rattle.hz_gmw.proofs.replay.Replay.step_fault.Goals as goal
 
 pub returns-in-Some-clause-answer : goal.returns-in-Some-clause-answer
@@ -21,8 +21,8 @@ returns-in-Some-clause-answer c =
     let again = least-repeated flips named (none-marked named count c.self.invariant.named) (subst (λ (n : ℕ). All (λ (var : ℕ). var < n) flips) (sym long) inside) in
     subst (IsLeastOf (λ i. 2 ≤ times flips i)) (sym c.in-Some.ensures.least) again
 
-pub returns-in-Some-least_outside-clause-answer : goal.returns-in-Some-least_outside-clause-answer
-returns-in-Some-least_outside-clause-answer c =
+pub returns-in-Some-least_stable-clause-answer : goal.returns-in-Some-least_stable-clause-answer
+returns-in-Some-least_stable-clause-answer c =
     let flips = c.args.flips.now in
     let named = c.self.inside.named in
     let count = length (network_of c.self.inside.net.now) in
@@ -31,12 +31,14 @@ returns-in-Some-least_outside-clause-answer c =
     let again = least-repeated flips named (none-marked named count c.self.invariant.named) (subst (λ (n : ℕ). All (λ (var : ℕ). var < n) flips) (sym long) inside) in
     let once : (i : ℕ) → 2 ≤ times flips i → ⊥ = subst (IsLeastOf (λ i. 2 ≤ times flips i)) (sym c.in_default.ensures.least) again in
     let now = c.args.self.now in
-    let marks = c.self.inside.present.unstable in
+    let marks = unstable_variables (network_of now.circuit) now.input now.state in
     let right : (i : ℕ) → i < length (network_of now.circuit) → bit_at marks i ≡ is_unstable (network_of now.circuit) now.input now.state i =
-    subst (λ (now : Replayed). (i : ℕ) → i < length (network_of now.circuit) → bit_at marks i ≡ is_unstable (network_of now.circuit) now.input now.state i) c.self.view_is c.self.invariant.exact.unstable in
-    let stable = least-listed (λ var. not (bit_at marks var)) flips in
-    stable-fault (network_of now.circuit) now.input now.state marks flips c.in-Some-least_outside.var c.requires right once
-    (subst (IsLeastOf (λ i. IsTrue (is_listed flips i) × IsTrue (not (bit_at marks i)))) (sym c.in-Some-least_outside.ensures) stable)
+    at-unstable_variables (network_of now.circuit) now.input now.state in
+    let fields = c.self.inside in
+    let stable = subst (λ (now : Replayed). IsLeastOf (λ i. IsTrue (is_listed flips i) × IsTrue (not (bit_at (unstable_variables (network_of now.circuit) now.input now.state) i))) (least_from None (λ var. not (is_unstable (network_of fields.net.now) fields.present.input.items fields.present.state.items var)) flips)) c.self.view_is
+    (stable-listed (network_of fields.net.now) fields.present.input.items fields.present.state.items flips inside) in
+    stable-fault (network_of now.circuit) now.input now.state marks flips c.in-Some-least_stable.var c.requires right once
+    (subst (IsLeastOf (λ i. IsTrue (is_listed flips i) × IsTrue (not (bit_at marks i)))) (sym c.in-Some-least_stable.ensures) stable)
 
 pub returns-clause-answer : goal.returns-clause-answer
 returns-clause-answer c =
@@ -48,10 +50,12 @@ returns-clause-answer c =
     let again = least-repeated flips named (none-marked named count c.self.invariant.named) (subst (λ (n : ℕ). All (λ (var : ℕ). var < n) flips) (sym long) inside) in
     let once : (i : ℕ) → 2 ≤ times flips i → ⊥ = subst (IsLeastOf (λ i. 2 ≤ times flips i)) (sym c.in_default.ensures.least) again in
     let now = c.args.self.now in
-    let marks = c.self.inside.present.unstable in
+    let marks = unstable_variables (network_of now.circuit) now.input now.state in
     let right : (i : ℕ) → i < length (network_of now.circuit) → bit_at marks i ≡ is_unstable (network_of now.circuit) now.input now.state i =
-    subst (λ (now : Replayed). (i : ℕ) → i < length (network_of now.circuit) → bit_at marks i ≡ is_unstable (network_of now.circuit) now.input now.state i) c.self.view_is c.self.invariant.exact.unstable in
-    let stable = least-listed (λ var. not (bit_at marks var)) flips in
+    at-unstable_variables (network_of now.circuit) now.input now.state in
+    let fields = c.self.inside in
+    let stable = subst (λ (now : Replayed). IsLeastOf (λ i. IsTrue (is_listed flips i) × IsTrue (not (bit_at (unstable_variables (network_of now.circuit) now.input now.state) i))) (least_from None (λ var. not (is_unstable (network_of fields.net.now) fields.present.input.items fields.present.state.items var)) flips)) c.self.view_is
+    (stable-listed (network_of fields.net.now) fields.present.input.items fields.present.state.items flips inside) in
     step-by (network_of now.circuit) now.input now.state marks flips c.requires right
     (λ none. false≢true (c.if-is_empty.ensures ∙ eq-eqb (length flips) 0 (ap (length {A = ℕ}) none))) once
-    (subst (IsLeastOf (λ i. IsTrue (is_listed flips i) × IsTrue (not (bit_at marks i)))) (sym c.in_default-least_outside.ensures) stable)
+    (subst (IsLeastOf (λ i. IsTrue (is_listed flips i) × IsTrue (not (bit_at marks i)))) (sym c.in_default-least_stable.ensures) stable)

@@ -1,17 +1,17 @@
-use Rattle.std.proofs.Common.{◌≡◌, ◌∙◌, ap, ℕ, false, [], None, length, set, replicate, arith}
+use Rattle.std.proofs.Common.{◌≡◌, ◌∙◌, ap, ℕ, false, [], length, set, replicate, arith}
 use Rattle.std.proofs.lemmas.List.{length-set, nil_from_length}
-use Rattle.hz_gmw.proofs.SetLemmas.{AreSet-pop, marks-cleared}
+use Rattle.hz_gmw.proofs.SetLemmas.{AreMembers-pop, counted-pop, marks-cleared}
 use Rattle.hz_gmw.proofs.variable_set.VariableSet.clear.Goals as goal
 
 pub loop-var-preserved : goal.loop-var-preserved
 loop-var-preserved c =
     let fields = c.loop-var.self-inside in
     let holds = c.loop-var.invariant.0 in
-    let same : length (set fields.places.items c.in-Some.var None) ≡ length fields.places.items = length-set fields.places.items c.in-Some.var None in (
+    let same : length (set fields.marks.items c.in-Some.var false) ≡ length fields.marks.items = length-set fields.marks.items c.in-Some.var false in (
       record {
-        set = AreSet-pop fields.places.items fields.members.items c.pop.new.self.items c.in-Some.var holds.set c.in-Some.ensures.items;
+        members = AreMembers-pop fields.marks.items fields.members.items c.pop.new.self.items c.in-Some.var holds.members c.in-Some.ensures.items;
+        counted = counted-pop fields.marks.items fields.members.items c.pop.new.self.items c.in-Some.var holds.members c.in-Some.ensures.items holds.counted;
         room = omega (arith, same, c.in-Some.ensures.capacity, holds.room);
-        short = omega (arith, same, holds.short);
       },
       same ∙ c.loop-var.invariant.1,
     )
@@ -20,4 +20,4 @@ pub returns : goal.returns
 returns c =
     let fields = c.loop-var.self-inside in
     let none : fields.members.items ≡ [] = nil_from_length fields.members.items (omega (arith, c.in_default.ensures.cases.0, fields.members.ok.0)) in
-    marks-cleared fields.places.items fields.members.items c.loop-var.invariant.0.set none ∙ ap (λ (n : ℕ). replicate n false) c.loop-var.invariant.1
+    marks-cleared fields.marks.items fields.members.items c.loop-var.invariant.0.members none ∙ ap (λ (n : ℕ). replicate n false) c.loop-var.invariant.1

@@ -1,19 +1,20 @@
 use Rattle.std.proofs.Common.{List, ap, subst, inl, inr, Err}
 use Rattle.hz_line.specs.Statement.{Numbered}
-use Rattle.hz_text.specs.RunLookup.{LookedRun, run_entered_all}
+use Rattle.hz_text.specs.RunLookup.{LookedRun}
 use Rattle.hz_text.specs.RunText.{IsRunTextBy}
 use Rattle.hz_text.specs.RunOrder.{unnumbered}
-use Rattle.hz_text.proofs.RunBuildLaws.{clear_run, long_enough}
+use Rattle.hz_text.proofs.RunBuildLaws.{states_of}
 use Rattle.hz_text.proofs.RunUsableLaws.{usable_run}
 use Rattle.std.proofs.lemmas.Result.{err_from_is_err_and}
 use Rattle.hz_text.specs.RunFault.{StandsInRuns}
 use Rattle.hz_text.proofs.LeastFault.{exact}
+use Rattle.hz_text.proofs.RunFaultLaws.{one-mismatch}
 use Rattle.hz_text.proofs.run.read.read_run.Goals as goal
 
 pub returns-in_err-entries-clause-exact : goal.returns-in_err-entries-clause-exact
 returns-in_err-entries-clause-exact c =
     let p = err_from_is_err_and c.from_residual.result c.from_residual.ensures.1 in
-    λ fault h. rw (p.1, p.2) (elim (exact (StandsInRuns c.args.net.now c.args.text.now) c.in_err-entries.field-0.0 fault c.in_err-entries.ensures h) [
+    λ fault h. rw (p.1, p.2) (elim (exact (StandsInRuns c.args.net.now c.args.text.now) c.in_err-entries.field-0.0 fault (one-mismatch c.args.net.now c.args.text.now) c.in_err-entries.ensures h) [
       | inl same ↦ inl (ap Err same)
       | inr memory ↦ inr (ap Err memory)
     ])
@@ -21,7 +22,7 @@ returns-in_err-entries-clause-exact c =
 pub build_runs-requires-clause-some : goal.build_runs-requires-clause-some
 build_runs-requires-clause-some c =
     let is = c.in_ok-entries.ensures in
-    rw c.as_slice.ensures.value (long_enough c.in_ok-entries.entries.items (clear_run c.args.net.now (run_entered_all c.in_ok-entries.entries.items) is.clear).order)
+    rw c.as_slice.ensures.value (states_of c.args.net.now c.in_ok-entries.entries.items is.below is.clear).some
 
 pub returns-clause-value : goal.returns-clause-value
 returns-clause-value c =

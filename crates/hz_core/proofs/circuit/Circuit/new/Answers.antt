@@ -1,7 +1,0 @@
-use Rattle.std.proofs.Common.{refl}
-use Rattle.hz_core.proofs.FieldLemmas.{HoldsCircuit-empty}
-use Rattle.hz_core.proofs.circuit.Circuit.new.Goals as goal
-
-pub invariant_of-result : goal.invariant_of-result
-invariant_of-result c =
-    HoldsCircuit-empty _ c.with_hasher.ensures.empty refl c.new-2.ensures.items c.new-3.ensures.items c.new-4.ensures.empty refl

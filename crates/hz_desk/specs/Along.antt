@@ -1,0 +1,18 @@
+-- Runs of a length that a number of 32 bits counts, and how far a replayer went along one. Words about the inside of hz_desk.
+use Rattle.std.specs.Prelude.{◌≡◌, ℕ, ◌+◌, ◌≤◌, Bool, List, length, drop}
+use Rattle.hz_net.specs.Network.{Driver}
+use Rattle.hz_gmw.specs.Runs.{IsRun, end_of}
+use Rattle.hz_desk.specs.Races.{race_count, states_before}
+
+-- a run of at most a million steps
+pub record IsShortRun (net : List Driver) (input start : List Bool) (steps : List (List ℕ)) : Type 0 where
+  pub run : IsRun net input start steps
+  pub short : length steps ≤ 1000000
+
+-- After so many steps of a run the replayer is in a state from which the other steps go on, and has counted so many race
+-- states before it.
+pub record IsAlong (net : List Driver) (input start : List Bool) (steps : List (List ℕ)) (number races : ℕ) (state : List Bool) : Type 0 where
+  pub run : IsRun net input state (drop number steps)
+  pub ends : end_of state (drop number steps) ≡ end_of start steps
+  pub counted : races + race_count net input (states_before state (drop number steps)) ≡ race_count net input (states_before start steps)
+  pub few : races ≤ number

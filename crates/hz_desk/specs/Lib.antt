@@ -1,0 +1,14 @@
+pub mod Class
+pub mod Races
+pub mod Finding
+pub mod RightFinding
+pub mod Rows
+pub mod Passed
+pub mod Room
+pub mod RoomFor
+pub mod Desk
+pub mod Lent
+pub mod FindingRoom
+pub mod Along
+pub mod Filled
+pub mod Existence

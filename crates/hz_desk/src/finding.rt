@@ -1,0 +1,205 @@
+//! What is found of one change.
+ghost use Rattle.std.specs.Prelude.{◌≡◌, ◌≤◌, length, IfOk};
+ghost use Rattle.hz_desk.specs.Rows.{MayBeRow, MayBeRows, IsRowOf, AreRowsOf, changes_of};
+ghost use Rattle.hz_desk.specs.FindingRoom.{HasRooms};
+
+use crate::class::{Class, class_of};
+use hz_core::{Memory, Tri};
+use hz_gmw::Run;
+use hz_word::{Count, Word};
+use std::alloc::Global;
+use std::marker::Model;
+
+/// What is found of one variable.
+#[derive(Clone, Copy, Debug, PartialEq, Eq)]
+pub struct Row {
+    /// Its value at the start.
+    pub start: bool,
+    /// Its value in the result of Algorithm A: X if runs give it both values.
+    pub a: Tri,
+    /// Its value in the result of Algorithm B: X if both values may last.
+    pub b: Tri,
+    /// The most changes that it can make, up to a cap; none if it isn't feedback-free.
+    pub changes: Option<Count>,
+    /// What the change may do to it.
+    pub class: Class,
+}
+
+/// A row for each variable, in the order of the network's variables.
+#[derive(Debug, Drop)]
+pub struct Rows {
+    pub(crate) rows: Vec<Row>,
+}
+
+impl Model for Rows {
+    ghost use Rattle.std.specs.Prelude.{List};
+    ghost use Rattle.hz_desk.specs.declared.finding.Row.{Row};
+
+    ghost Value = { List Row };
+
+    ghost view = { λ fields. fields.rows.items };
+}
+
+impl Rows {
+    // As many rows, of no change.
+    pub(crate) fn with_room(alloc: Global, variables: usize) -> Result<Rows, Memory>
+        ensures { IfOk result (λ rows. length rows ≡ variables) }
+    {
+        let Ok(rows) = vec![in alloc; NO_CHANGE; variables] else {
+            return Err(Memory);
+        };
+        Ok(Rows { rows })
+    }
+
+    // Writes a row for each variable.
+    pub(crate) fn write(&mut self, start: &[bool], a: &[Tri], b: &[Tri], words: &[Option<Word>])
+        requires { MayBeRows (length self.old) start.now a.now b.now words.now }
+        ensures { AreRowsOf start.now a.now b.now words.now self.new }
+    {
+        write_rows(self.rows.as_mut_slice(), start, a, b, words);
+    }
+
+    /// The rows.
+    pub fn as_slice(&self) -> &[Row]
+        ensures { result.now ≡ self.now }
+    {
+        self.rows.as_slice()
+    }
+}
+
+/// A value for each input, in the order of the inputs.
+#[derive(Debug, Drop)]
+pub struct Bits {
+    pub(crate) bits: Vec<bool>,
+}
+
+impl Model for Bits {
+    ghost use Rattle.std.specs.Prelude.{Bool, List};
+
+    ghost Value = { List Bool };
+
+    ghost view = { λ fields. fields.bits.items };
+}
+
+// The row of a variable that stays 0.
+const NO_CHANGE: Row = Row {
+    start: false,
+    a: Tri::Zero,
+    b: Tri::Zero,
+    changes: None,
+    class: Class::Steady,
+};
+
+// Writes a row for each variable.
+fn write_rows(rows: &mut [Row], start: &[bool], a: &[Tri], b: &[Tri], words: &[Option<Word>])
+    requires { MayBeRows (length rows.old) start.now a.now b.now words.now }
+    ensures { AreRowsOf start.now a.now b.now words.now rows.new }
+{
+    for i in 0..rows.len() {
+        rows[i] = row_of(start[i], a[i], b[i], words[i]);
+    }
+}
+
+// The row of a variable.
+fn row_of(start: bool, a: Tri, b: Tri, word: Option<Word>) -> Row
+    requires { MayBeRow a b (changes_of word) }
+    ensures { IsRowOf start a b word result }
+{
+    let changes = changes_of(word);
+    Row {
+        start,
+        a,
+        b,
+        changes,
+        class: class_of(start, a, b, changes),
+    }
+}
+
+// The number of changes of a word, if there is one.
+fn changes_of(word: Option<Word>) -> Option<Count>
+    ensures { result ≡ changes_of word }
+{
+    match word {
+        Some(word) => Some(word.changes),
+        None => None,
+    }
+}
+
+impl Bits {
+    // As many bits, all 0.
+    pub(crate) fn with_room(alloc: Global, inputs: usize) -> Result<Bits, Memory>
+        ensures { IfOk result (λ bits. length bits ≡ inputs) }
+    {
+        let Ok(bits) = vec![in alloc; false; inputs] else {
+            return Err(Memory);
+        };
+        Ok(Bits { bits })
+    }
+
+    // Writes other values.
+    pub(crate) fn write(&mut self, bits: &[bool])
+        requires { length bits.now ≡ length self.old }
+        ensures { self.new ≡ bits.now }
+    {
+        self.bits.as_mut_slice().copy_from_slice(bits);
+    }
+
+    /// The values.
+    pub fn as_slice(&self) -> &[bool]
+        ensures { result.now ≡ self.now }
+    {
+        self.bits.as_slice()
+    }
+}
+
+/// What is found of one change: the results of Algorithms A and B of Brzozowski and Seger, the words of the algebra of
+/// transients of Brzozowski and Ésik, and three runs that show every X.
+#[derive(Debug, Drop)]
+pub struct Finding {
+    /// How many variables the network has.
+    pub variables: u32,
+    /// The rounds of Algorithm A, the last one included, which changes nothing.
+    pub rounds_a: u32,
+    /// The rounds of Algorithm B, the last one included, which changes nothing.
+    pub rounds_b: u32,
+    /// A row for each variable.
+    pub rows: Rows,
+    /// The input after the change.
+    pub input: Bits,
+    /// A run from the start in which each variable that is X in the result of Algorithm A changes once.
+    pub spread: Run,
+    /// A run from the start to a state in which each variable that Algorithm B settles has its value.
+    pub settle: Run,
+    /// A nontransient cycle from the last state of `settle`, in which each variable that is X in the result of Algorithm B
+    /// takes both values. It has no step if there is none.
+    pub cycle: Run,
+    /// How many states of `spread` are race states: states with two or more unstable variables.
+    pub spread_races: u32,
+    /// How many states of `settle` are race states.
+    pub settle_races: u32,
+    /// How many states of `cycle` are race states. Its first state, which is its last one too, counts once.
+    pub cycle_races: u32,
+}
+
+impl Finding {
+    // Room for the finding of a change, in which nothing is found.
+    pub(crate) fn with_room(alloc: Global, variables: u32, inputs: u32) -> Result<Finding, Memory>
+        requires { variables ≤ 200000 }
+        ensures { IfOk result (HasRooms variables inputs) }
+    {
+        let room = variables as usize;
+        Ok(Finding {
+            variables,
+            rounds_a: 0,
+            rounds_b: 0,
+            rows: Rows::with_room(alloc, room)?,
+            input: Bits::with_room(alloc, inputs as usize)?,
+            spread: Run::with_room(alloc, room, room)?,
+            settle: Run::with_room(alloc, 2 * room, 2 * room)?,
+            cycle: Run::with_room(alloc, 4 * room, 4 * room)?,
+            spread_races: 0,
+            settle_races: 0,
+            cycle_races: 0,
+        })
+    }
+}

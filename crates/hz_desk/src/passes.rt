@@ -1,0 +1,129 @@
+//! Both passes, and what they leave for the runs.
+ghost use Rattle.std.specs.Prelude.{◌≡◌, ◌<◌, length, IfOk};
+ghost use Rattle.hz_net.specs.Network.{network_of};
+ghost use Rattle.hz_net.specs.Starts.{IsStableStart};
+ghost use Rattle.hz_desk.specs.Passed.{ArePassed, HavePassRoom};
+
+use hz_core::{Memory, Tri};
+use hz_net::Net;
+use hz_outside::Steps;
+use hz_pass::{Front, settle, spread};
+use std::alloc::Global;
+use std::marker::Brand;
+use std::sync::ledger::{Blank, Ledger};
+
+/// The results of Algorithms A and B, the ranks and the settling rounds, and room for a pass.
+#[derive(Drop)]
+pub(crate) struct Passes {
+    pub a: Vec<Tri>,
+    pub ranks: Vec<u32>,
+    pub b: Vec<Tri>,
+    /// In which round of Algorithm B each variable settles.
+    pub when: Vec<u32>,
+    pub work: Vec<Tri>,
+    pub front: Front,
+}
+
+/// The rounds of Algorithms A and B.
+#[derive(Clone, Copy)]
+pub(crate) struct Rounds {
+    pub a: u32,
+    pub b: u32,
+}
+
+impl Passes {
+    // Room for the passes over a network.
+    pub(crate) fn new(alloc: Global, net: &Net) -> Result<Passes, Memory>
+        ensures { IfOk result (HavePassRoom net.now) }
+    {
+        let variables = net.len() as usize;
+        Ok(Passes {
+            a: all_unknown(alloc, variables)?,
+            ranks: all_zero(alloc, variables)?,
+            b: all_unknown(alloc, variables)?,
+            when: all_zero(alloc, variables)?,
+            work: all_unknown(alloc, variables)?,
+            front: Front::new(alloc, net)?,
+        })
+    }
+
+    // Runs both passes from a stable start under a new input.
+    pub(crate) fn make(&mut self, net: &Net, start: &[bool], input: &[bool]) -> Rounds
+        requires start { IsStableStart net.now start.now }
+        requires input { length input.now ≡ net.now.inputs }
+        requires room { HavePassRoom net.now self.old }
+        ensures passed { ArePassed net.now input.now start.now self.new.a.items self.new.ranks.items self.new.b.items self.new.when.items result.a result.b }
+        ensures room { HavePassRoom net.now self.new }
+    {
+        make_both::<Brand>(
+            net,
+            start,
+            input,
+            self.a.as_mut_slice(),
+            self.ranks.as_mut_slice(),
+            self.b.as_mut_slice(),
+            self.when.as_mut_slice(),
+            self.work.as_mut_slice(),
+            &mut self.front,
+            Blank::new(1),
+        )
+    }
+}
+
+// The same over slices. It counts the evaluations in a ledger of its own.
+fn make_both<L: Ledger>(
+    net: &Net,
+    start: &[bool],
+    input: &[bool],
+    a: &mut [Tri],
+    ranks: &mut [u32],
+    b: &mut [Tri],
+    when: &mut [u32],
+    work: &mut [Tri],
+    front: &mut Front,
+    ledger: Blank,
+) -> Rounds
+    requires start { IsStableStart net.now start.now }
+    requires input { length input.now ≡ net.now.inputs }
+    requires a { length a.old ≡ length (network_of net.now) }
+    requires ranks { length ranks.old ≡ length (network_of net.now) }
+    requires b { length b.old ≡ length (network_of net.now) }
+    requires when { length when.old ≡ length (network_of net.now) }
+    requires work { length work.old ≡ length (network_of net.now) }
+    requires front { front.old ≡ length (network_of net.now) }
+    requires name { ledger.name ≡ L.name }
+    requires parts { ledger.parts ≡ L.parts }
+    requires some { 0 < ledger.parts }
+    ensures passed { ArePassed net.now input.now start.now a.new ranks.new b.new when.new result.a result.b }
+    ensures front { front.new ≡ front.old }
+{
+    let (book, share) = ledger.open::<L>();
+    let mut steps = Steps::new(book, share);
+    let rounds_a = spread(net, input, start, a, ranks, work, front, &mut steps);
+    b.copy_from_slice(a);
+    let rounds_b = settle(net, input, b, when, work, front, &mut steps);
+    Rounds {
+        a: rounds_a,
+        b: rounds_b,
+    }
+}
+
+// As many values, all X.
+fn all_unknown(alloc: Global, variables: usize) -> Result<Vec<Tri>, Memory>
+    ensures { IfOk result (λ values. length values.items ≡ variables) }
+{
+    let Ok(values) = vec![in alloc; Tri::Unknown; variables] else {
+        return Err(Memory);
+    };
+    Ok(values)
+}
+
+// As many numbers, all 0.
+fn all_zero(alloc: Global, variables: usize) -> Result<Vec<u32>, Memory>
+    ensures { IfOk result (λ numbers. length numbers.items ≡ variables) }
+{
+    let Ok(numbers) = vec![in alloc; 0u32; variables] else {
+        return Err(Memory);
+    };
+    Ok(numbers)
+}

@@ -1,0 +1,81 @@
+//! The three runs of a change.
+ghost use Rattle.std.specs.Prelude.{◌≡◌, ◌*◌, ◌≤◌, [], length};
+ghost use Rattle.hz_net.specs.Network.{network_of};
+ghost use Rattle.hz_net.specs.Passes.{algorithm_a, IsResult, AreRanks};
+ghost use Rattle.hz_net.specs.Starts.{IsStableStart};
+ghost use Rattle.hz_gmw.specs.Runs.{end_of};
+ghost use Rattle.hz_reach.specs.Spread.{IsSpreadRun};
+ghost use Rattle.hz_desk.specs.Passed.{IsPassed};
+ghost use Rattle.hz_desk.specs.Filled.{AreRuns};
+ghost use Rattle.hz_desk.specs.Room.{HasRunRoom, IsScratchFor};
+
+use crate::passes::Passes;
+use hz_core::Tri;
+use hz_cycle::{cycle_run, settle_run};
+use hz_gmw::Run;
+use hz_net::Net;
+use hz_reach::{Scratch, run_counts, spread_flips, spread_run};
+
+// Makes the three runs in place of those that were there, by what both passes gave.
+pub(crate) fn make_runs(
+    net: &Net,
+    start: &[bool],
+    input: &[bool],
+    passes: &Passes,
+    scratch: &mut Scratch,
+    spread: &mut Run,
+    settle: &mut Run,
+    cycle: &mut Run,
+)
+    requires start { IsStableStart net.now start.now }
+    requires input { length input.now ≡ net.now.inputs }
+    requires passed { IsPassed net.now input.now start.now passes.now }
+    requires scratch { IsScratchFor net.now scratch.old }
+    requires spread { HasRunRoom (length (network_of net.now)) spread.old }
+    requires settle { HasRunRoom (2 * length (network_of net.now)) settle.old }
+    requires cycle { HasRunRoom (4 * length (network_of net.now)) cycle.old }
+    ensures runs { AreRuns (network_of net.now) input.now start.now passes.now.a.items passes.now.b.items spread.new.steps settle.new.steps cycle.new.steps }
+    ensures scratch { IsScratchFor net.now scratch.new }
+    ensures spread_room { HasRunRoom (length (network_of net.now)) spread.new }
+    ensures settle_room { HasRunRoom (2 * length (network_of net.now)) settle.new }
+    ensures cycle_room { HasRunRoom (4 * length (network_of net.now)) cycle.new }
+{
+    // A getter of the network tells its bound; the steps are told by how often each variable changes.
+    let _variables = net.len();
+    run_counts();
+    spread_flips();
+    let a = passes.a.as_slice();
+    let ranks = passes.ranks.as_slice();
+    let b = passes.b.as_slice();
+    let when = passes.when.as_slice();
+    make_spread(net, start, input, a, ranks, scratch, spread);
+    settle.clear();
+    settle_run(net, start, input, a, ranks, when, b, scratch, settle);
+    cycle.clear();
+    cycle_run(net, input, ranks, b, scratch, cycle);
+}
+
+// Makes the spread run in place of the run that was there.
+fn make_spread(
+    net: &Net,
+    start: &[bool],
+    input: &[bool],
+    a: &[Tri],
+    ranks: &[u32],
+    scratch: &mut Scratch,
+    run: &mut Run,
+)
+    requires start { IsStableStart net.now start.now }
+    requires input { length input.now ≡ net.now.inputs }
+    requires a { IsResult (algorithm_a (network_of net.now) input.now start.now) a.now }
+    requires ranks { AreRanks (algorithm_a (network_of net.now) input.now start.now) a.now ranks.now }
+    requires scratch { IsScratchFor net.now scratch.old }
+    requires room { HasRunRoom (length (network_of net.now)) run.old }
+    ensures run { IsSpreadRun (network_of net.now) input.now start.now a.now run.new.steps }
+    ensures state { scratch.new.state ≡ end_of start.now run.new.steps }
+    ensures marked { scratch.new.marked ≡ [] }
+    ensures room { HasRunRoom (length (network_of net.now)) run.new }
+{
+    run.clear();
+    spread_run(net, start, input, a, ranks, false, scratch, run);
+}

@@ -1,0 +1,23 @@
+use Rattle.std.proofs.Common.{◌≡◌, ◌∙◌, ◌+◌, ℕ, List, [], ◌++◌, ◌∷◌, ap, arith, length, length-append}
+use Rattle.hz_net.proofs.PartLemmas.{EndsAt-push, parts_from-push}
+use Rattle.hz_free.proofs.cycles.Cycles.push.Goals as goal
+
+pub invariant_of-self-2 : goal.invariant_of-self-2
+invariant_of-self-2 c =
+    let variables = c.self.inside.variables.items in
+    let items = c.in-Ok-extend_from_slice.ensures.items in
+    let long : length c.extend_from_slice.new.self.items ≡ length variables + length c.args.cycle.now = ap length items ∙ length-append variables c.args.cycle.now in
+    let last : c.len.result ≡ length c.extend_from_slice.new.self.items = c.len.ensures ∙ c.extend_from_slice.new.self.ok.0 in
+    let ends = c.in-Ok.ensures.items in
+    rw (c.push_reserved.ensures.items, last, ends) (EndsAt-push 0 c.self.inside.ends.items (length variables) (length c.extend_from_slice.new.self.items) c.self.invariant (omega (arith, long)))
+
+pub returns : goal.returns
+returns c =
+    let variables = c.self.inside.variables.items in
+    let ends = c.self.inside.ends.items in
+    let items = c.in-Ok-extend_from_slice.ensures.items in
+    let kept = c.in-Ok.ensures.items in
+    let long : length c.extend_from_slice.new.self.items ≡ length variables + length c.args.cycle.now = ap length items ∙ length-append variables c.args.cycle.now in
+    let last : c.len.result ≡ length variables + length c.args.cycle.now = c.len.ensures ∙ (c.extend_from_slice.new.self.ok.0 ∙ long) in
+    rw (c.push_reserved.ensures.items, last, items, kept)
+    (parts_from-push 0 ends variables c.args.cycle.now c.self.invariant ∙ ap (λ (cycles : List (List ℕ)). cycles ++ c.args.cycle.now ∷ []) c.self.view_is)

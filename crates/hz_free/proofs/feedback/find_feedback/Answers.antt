@@ -1,0 +1,19 @@
+-- The choices are those of the network.
+use Rattle.std.proofs.Common.{sym}
+use Rattle.std.proofs.lemmas.Result.{IfOk-weaker}
+use Rattle.hz_net.specs.Network.{network_of}
+use Rattle.hz_net.proofs.Wired.{wired-network_of}
+use Rattle.hz_free.proofs.Roots.{choices-AreLinks}
+use Rattle.hz_free.proofs.feedback.find_feedback.Goals as goal
+
+pub find_cycles-requires-clause-links : goal.find_cycles-requires-clause-links
+find_cycles-requires-clause-links c =
+    rw c.as_slice.ensures.value
+    (choices-AreLinks (network_of c.args.net.now) c.in_ok-choices.choices.items (wired-network_of c.args.net.now c.len-variables.ensures.circuit) c.in_ok-choices.ensures)
+
+pub returns : goal.returns
+returns c =
+    let choices = rw (sym c.as_slice.ensures.value) at c.in_ok-choices.ensures in
+    IfOk-weaker c.find_cycles.result _ _
+    (λ feedback found. found (network_of c.args.net.now) (wired-network_of c.args.net.now c.len-variables.ensures.circuit) choices)
+    c.find_cycles.ensures

@@ -1,0 +1,39 @@
+-- The next variable begins a cycle, or it has none that is not listed.
+use Rattle.std.proofs.Common.{arith, ◌∙◌, not, sym, ap}
+use Rattle.hz_free.proofs.Numbering.{numbered-skip, numbered-more, listed-few}
+use Rattle.hz_free.proofs.Following.{none-from, some-from}
+use Rattle.hz_free.proofs.PathLemmas.{link-not-none}
+use Rattle.hz_free.proofs.feedback.list_cycles.Goals as goal
+use Rattle.hz_free.proofs.feedback.list_cycles.Goals.{then-is_some+then-is_none+in-Ok, else-is_some, else-is_some-via-then-is_some+else-is_none, else-is_some-via-else-is_some}
+
+pub loop-var-preserved : goal.loop-var-preserved
+loop-var-preserved c =
+    elim c.if-is_some.branch [
+      | then-is_some+then-is_none+in-Ok w ↦
+          let listed = w.in-Ok.ensures in
+          rw (w.numbers-is, w.cycles-is)
+          (
+          record {
+            few = listed-few c.args.choosers.now c.loop-var.var c.loop-var.numbers c.loop-var.cycles w.list_cycle.new.numbers w.list_cycle.new.cycles c.loop-var.var listed c.loop-var.invariant.few;
+            numbered =
+                λ net are.
+                numbered-more net c.args.choosers.now c.loop-var.numbers w.list_cycle.new.numbers c.loop-var.var c.loop-var.cycles w.list_cycle.new.cycles
+                are (c.loop-var.invariant.numbered net are) (none-from _ (w.is_none.ensures ∙ ap not w.if-is_none.true)) listed;
+          }
+          )
+      | else-is_some w ↦
+          rw (w.numbers-is, w.cycles-is)
+          (
+          record {
+            few = let few = c.loop-var.invariant.few in omega arith;
+            numbered =
+                λ net are.
+                numbered-skip net c.args.choosers.now c.loop-var.numbers c.loop-var.var c.loop-var.cycles (c.loop-var.invariant.numbered net are)
+                (λ link.
+                elim w.else-is_some.branch [
+                  | else-is_some-via-then-is_some+else-is_none w' ↦ some-from c.loop-var.numbers c.loop-var.var (w'.is_none.ensures ∙ ap not w'.if-is_none.false)
+                  | else-is_some-via-else-is_some w' ↦ absurd (link-not-none c.args.choosers.now c.loop-var.var (none-from _ (sym w'.if-is_some.ensures)) link)
+                ]);
+          }
+          )
+    ]

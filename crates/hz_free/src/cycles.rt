@@ -1,0 +1,65 @@
+//! A list of cycles, laid one after the other into one vector.
+ghost use Rattle.std.specs.Prelude.{◌≡◌, ◌<◌, [], ◌∷◌, ◌++◌, length, slice_index_or, OnOk};
+
+use hz_core::Memory;
+use hz_net::part_at;
+use std::alloc::Global;
+use std::marker::Model;
+
+// Cycles, each a list of variables.
+#[derive(Debug, Drop)]
+pub(crate) struct Cycles {
+    // The variables of all cycles, one cycle after the other, and where each cycle ends.
+    variables: Vec<u32>,
+    ends: Vec<usize>,
+}
+
+impl Model for Cycles {
+    ghost use Rattle.std.specs.Prelude.{ℕ, List, length};
+    ghost use Rattle.hz_net.specs.Parts.{parts_from, EndsAt};
+
+    ghost Value = { List (List ℕ) };
+
+    ghost view = { λ fields. parts_from 0 fields.ends.items fields.variables.items };
+
+    ghost invariant = { λ fields. EndsAt 0 fields.ends.items (length fields.variables.items) };
+}
+
+impl Cycles {
+    // No cycles. It allocates nothing.
+    pub(crate) fn new(alloc: Global) -> Cycles
+        ensures { result ≡ [] }
+    {
+        Cycles {
+            variables: Vec::new(alloc),
+            ends: Vec::new(alloc),
+        }
+    }
+
+    pub(crate) fn len(&self) -> usize
+        ensures { result ≡ length self.now }
+    {
+        self.ends.len()
+    }
+
+    pub(crate) fn cycle(&self, number: usize) -> &[u32]
+        requires { number < length self.now }
+        ensures { result.now ≡ slice_index_or self.now number [] }
+    {
+        part_at(self.variables.as_slice(), self.ends.as_slice(), number)
+    }
+
+    // Adds a cycle. If there is no memory, nothing is added.
+    pub(crate) fn push(&mut self, cycle: &[u32]) -> Result<(), Memory>
+        ensures { OnOk result (self.new ≡ self.old ++ cycle.now ∷ []) }
+    {
+        let Ok(()) = self.ends.reserve(1) else {
+            return Err(Memory);
+        };
+        let Ok(()) = self.variables.extend_from_slice(cycle) else {
+            return Err(Memory);
+        };
+        self.ends.push_reserved(self.variables.len());
+        Ok(())
+    }
+}

@@ -1,0 +1,324 @@
+//! The feedback cycles. Each variable that is not feedback-free chooses one of the variables that it reads; the way back from
+//! choice to choice comes around in a cycle, which is the core of the variable.
+ghost use Rattle.std.specs.Prelude.{◌≡◌, ℕ, ◌+◌, ◌^◌, ◌<◌, ◌≤◌, Bool, false, true, List, None, [], length, map, IfOk, OnOk, MatchOption, IsTrue, All, nat_eq, position, slice_index_or};
+ghost use Rattle.hz_core.specs.Netlist.{Netlist};
+ghost use Rattle.hz_net.specs.Network.{Driver, network_of, bit_at};
+ghost use Rattle.hz_net.specs.Reads.{IsWired};
+ghost use Rattle.hz_gmw.specs.Runs.{is_listed};
+ghost use Rattle.hz_free.specs.Chains.{IsFeedbackFree};
+ghost use Rattle.hz_free.specs.Feedback.{IsChoice};
+ghost use Rattle.hz_free.specs.FreePart.{AreMarks, AreFeedback};
+ghost use Rattle.hz_free.specs.Paths.{LeadsTo, IsLink, AreLinks, IsPath, IsFollowed, AreChoices, AreRooted, AreChoosers, AreNumbered, HasRoot, HaveValue, HaveChoosers, IsFeeding, HasNoLinks, IsInside, IsListed, core_by};
+
+use crate::cycles::Cycles;
+use hz_core::Memory;
+use hz_net::{Net, VarKind};
+use std::alloc::Global;
+
+// The feedback cycles of a network, and for each variable the number of the cycle that is its core.
+#[derive(Debug, Drop)]
+pub(crate) struct Feedback {
+    pub(crate) cycles: Cycles,
+    pub(crate) cores: Vec<Option<u32>>,
+}
+
+// The feedback cycles of a network, given which of its variables are feedback-free.
+pub(crate) fn find_feedback(alloc: Global, net: &Net, free: &[bool]) -> Result<Feedback, Memory>
+    requires { AreMarks (network_of net.now) free.now }
+    ensures { IfOk result (λ feedback. AreFeedback (network_of net.now) feedback.cycles feedback.cores.items) }
+{
+    let _variables = net.len();
+    let choices = choose_all(alloc, net, free)?;
+    let mut choosers = no_links(alloc, choices.len())?;
+    let mut roots = no_links(alloc, choices.len())?;
+    let mut numbers = no_links(alloc, choices.len())?;
+    find_cycles(
+        alloc,
+        choices.as_slice(),
+        choosers.as_mut_slice(),
+        roots.as_mut_slice(),
+        numbers.as_mut_slice(),
+    )
+}
+
+// The cycles of given choices, with room for what is found of each variable: which variable of its cycle chose it, in which
+// variable of a cycle the way back from it ends, and the number of its cycle.
+fn find_cycles(
+    alloc: Global,
+    choices: &[Option<u32>],
+    choosers: &mut [Option<u32>],
+    roots: &mut [Option<u32>],
+    numbers: &mut [Option<u32>],
+) -> Result<Feedback, Memory>
+    requires room { length choices.now < 2 ^ 32 }
+    requires links { AreLinks choices.now }
+    requires choosers { HasNoLinks (length choices.now) choosers.old }
+    requires roots { HasNoLinks (length choices.now) roots.old }
+    requires numbers { HasNoLinks (length choices.now) numbers.old }
+    ensures { IfOk result (λ feedback. (net : List Driver) → IsWired net → AreChoices net choices.now → AreFeedback net feedback.cycles feedback.cores.items) }
+{
+    find_roots(alloc, choices, choosers, roots)?;
+    let cycles = list_cycles(alloc, choosers, numbers)?;
+    let cores = list_cores(alloc, roots, numbers)?;
+    Ok(Feedback { cycles, cores })
+}
+
+// What each variable chooses that is not feedback-free.
+fn choose_all(alloc: Global, net: &Net, free: &[bool]) -> Result<Vec<Option<u32>>, Memory>
+    requires { AreMarks (network_of net.now) free.now }
+    ensures { IfOk result (λ choices. AreChoices (network_of net.now) choices.items) }
+{
+    let mut choices = Vec::new(alloc);
+    for var in 0..net.len() {
+        let Ok(()) = choices.push(choose(net, free, var)) else {
+            return Err(Memory);
+        };
+    }
+    Ok(choices)
+}
+
+// What a variable chooses: the first variable that it reads and that is not feedback-free.
+fn choose(net: &Net, free: &[bool], var: u32) -> Option<u32>
+    requires var { var < length (network_of net.now) }
+    requires marks { AreMarks (network_of net.now) free.now }
+    ensures { MatchOption result (IsFeedbackFree (network_of net.now) var) (IsChoice (network_of net.now) var) }
+{
+    let _variables = net.len();
+    match net.kind_of(var) {
+        VarKind::Input { .. } => None,
+        VarKind::Gate { .. } => {
+            let (first, count) = net.wires_in(var);
+            first_feeding(free, first, first + count)
+        }
+        VarKind::Wire { source, .. } => first_feeding(free, source, source + 1),
+    }
+}
+
+// The first variable of a range that is not feedback-free.
+fn first_feeding(free: &[bool], first: u32, end: u32) -> Option<u32>
+    requires { end ≤ length free.now }
+    ensures { MatchOption result ((i : ℕ) → first ≤ i → i < end → bit_at free.now i ≡ true) (IsFeeding free.now first end) }
+{
+    for var in first..end {
+        if !free[var as usize] {
+            return Some(var);
+        }
+    }
+    None
+}
+
+// No variable leads to another one.
+fn no_links(alloc: Global, variables: usize) -> Result<Vec<Option<u32>>, Memory>
+    ensures { IfOk result (λ links. HasNoLinks variables links.items) }
+{
+    let Ok(links) = vec![in alloc; None; variables] else {
+        return Err(Memory);
+    };
+    Ok(links)
+}
+
+// The way from a variable from link to link, and the variable in which it ends.
+#[derive(Debug, Drop)]
+struct Path {
+    variables: Vec<u32>,
+    end: u32,
+}
+
+// Goes from a variable from link to link, until a variable that has a mark, and marks those on the way.
+fn follow(
+    alloc: Global,
+    links: &[Option<u32>],
+    start: u32,
+    mark: u32,
+    marks: &mut [Option<u32>],
+) -> Result<Path, Memory>
+    requires links { AreLinks links.now }
+    requires start { IsLink links.now start }
+    requires long { length marks.old ≡ length links.now }
+    ensures { IfOk result (λ path. IsFollowed links.now start mark path.variables.items path.end marks.old marks.new) }
+{
+    let mut variables = Vec::new(alloc);
+    let mut var = start;
+    while marks[var as usize].is_none() {
+        let Ok(()) = variables.push(var) else {
+            return Err(Memory);
+        };
+        marks[var as usize] = Some(mark);
+        var = links[var as usize].unwrap();
+    }
+    Ok(Path {
+        variables,
+        end: var,
+    })
+}
+
+// For each variable that has a choice its root, and for each variable of a cycle which one of the cycle chose it.
+fn find_roots(
+    alloc: Global,
+    choices: &[Option<u32>],
+    choosers: &mut [Option<u32>],
+    roots: &mut [Option<u32>],
+) -> Result<(), Memory>
+    requires room { length choices.now < 2 ^ 32 }
+    requires links { AreLinks choices.now }
+    requires rooted { AreRooted choices.now choosers.old roots.old 0 }
+    ensures { OnOk result (AreRooted choices.now choosers.new roots.new (length choices.now)) }
+{
+    for var in 0..choices.len() {
+        if choices[var].is_some() {
+            match find_root(alloc, choices, var as u32, choosers, roots) {
+                Ok(()) => {}
+                Err(fault) => return Err(fault),
+            }
+        }
+    }
+    Ok(())
+}
+
+// The root of a variable and of those on the way back from it.
+fn find_root(
+    alloc: Global,
+    choices: &[Option<u32>],
+    start: u32,
+    choosers: &mut [Option<u32>],
+    roots: &mut [Option<u32>],
+) -> Result<(), Memory>
+    requires links { AreLinks choices.now }
+    requires start { IsLink choices.now start }
+    requires rooted { AreRooted choices.now choosers.old roots.old start }
+    ensures { OnOk result (AreRooted choices.now choosers.new roots.new (start + 1)) }
+{
+    let path = follow(alloc, choices, start, start, roots)?;
+    let root = root_of(
+        choices,
+        path.variables.as_slice(),
+        path.end,
+        choosers,
+        roots,
+    );
+    set_roots(path.variables.as_slice(), root, roots);
+    Ok(())
+}
+
+// The root of the variables of a path. If the path ends in one of its own variables, it came around in a new cycle.
+fn root_of(
+    choices: &[Option<u32>],
+    path: &[u32],
+    end: u32,
+    choosers: &mut [Option<u32>],
+    roots: &[Option<u32>],
+) -> Option<u32>
+    requires links { AreLinks choices.now }
+    requires choosers { length choosers.old ≡ length choices.now }
+    requires path { (i : ℕ) → IsTrue (is_listed path.now i) → IsLink choices.now i }
+    requires end { end < length roots.now }
+    ensures { HasRoot choices.now path.now end choosers.old choosers.new roots.now result }
+{
+    match place_of(path, end) {
+        Some(place) => {
+            note_choosers(choices, &path[place..], choosers);
+            Some(end)
+        }
+        None => roots[end as usize],
+    }
+}
+
+// The place of a variable on a path.
+fn place_of(path: &[u32], end: u32) -> Option<usize>
+    ensures { result ≡ position (nat_eq end) path.now }
+{
+    path.iter().position(|var| end == *var)
+}
+
+// Each variable of a cycle is the one that chose its choice.
+fn note_choosers(choices: &[Option<u32>], cycle: &[u32], choosers: &mut [Option<u32>])
+    requires links { AreLinks choices.now }
+    requires choosers { length choosers.old ≡ length choices.now }
+    requires cycle { (i : ℕ) → IsTrue (is_listed cycle.now i) → IsLink choices.now i }
+    ensures { HaveChoosers choices.now cycle.now choosers.old choosers.new }
+{
+    for var in cycle {
+        let choice = choices[*var as usize].unwrap();
+        choosers[choice as usize] = Some(*var);
+    }
+}
+
+// The variables of a path have a root.
+fn set_roots(path: &[u32], root: Option<u32>, roots: &mut [Option<u32>])
+    requires { (i : ℕ) → IsTrue (is_listed path.now i) → i < length roots.old }
+    ensures { HaveValue path.now root roots.old roots.new }
+{
+    for var in path {
+        roots[*var as usize] = root;
+    }
+}
+
+// The cycles in the order of their least variables, each from its least variable on.
+fn list_cycles(
+    alloc: Global,
+    choosers: &[Option<u32>],
+    numbers: &mut [Option<u32>],
+) -> Result<Cycles, Memory>
+    requires room { length choosers.now < 2 ^ 32 }
+    requires links { AreLinks choosers.now }
+    requires numbers { HasNoLinks (length choosers.now) numbers.old }
+    ensures { IfOk result (λ cycles. (net : List Driver) → AreChoosers net choosers.now → AreNumbered net choosers.now numbers.new (length choosers.now) cycles) }
+{
+    let mut cycles = Cycles::new(alloc);
+    for var in 0..choosers.len() {
+        if choosers[var].is_some() && numbers[var].is_none() {
+            match list_cycle(alloc, choosers, var as u32, numbers, &mut cycles) {
+                Ok(()) => {}
+                Err(fault) => return Err(fault),
+            }
+        }
+    }
+    Ok(cycles)
+}
+
+// The cycle of a variable, from that variable on.
+fn list_cycle(
+    alloc: Global,
+    choosers: &[Option<u32>],
+    first: u32,
+    numbers: &mut [Option<u32>],
+    cycles: &mut Cycles,
+) -> Result<(), Memory>
+    requires links { AreLinks choosers.now }
+    requires first { IsLink choosers.now first }
+    requires long { length numbers.old ≡ length choosers.now }
+    requires room { length cycles.old < 2 ^ 32 }
+    ensures { OnOk result (IsListed choosers.now first numbers.old cycles.old numbers.new cycles.new) }
+{
+    let path = follow(alloc, choosers, first, cycles.len() as u32, numbers)?;
+    cycles.push(path.variables.as_slice())
+}
+
+// The number of each variable's core: that of its root.
+fn list_cores(
+    alloc: Global,
+    roots: &[Option<u32>],
+    numbers: &[Option<u32>],
+) -> Result<Vec<Option<u32>>, Memory>
+    requires { All (IsInside (length numbers.now)) roots.now }
+    ensures { IfOk result (λ cores. map (core_by numbers.now) roots.now ≡ cores.items) }
+{
+    let mut cores = Vec::new(alloc);
+    for root in roots {
+        let Ok(()) = cores.push(core_at(*root, numbers)) else {
+            return Err(Memory);
+        };
+    }
+    Ok(cores)
+}
+
+// The number at a root.
+fn core_at(root: Option<u32>, numbers: &[Option<u32>]) -> Option<u32>
+    requires { IsInside (length numbers.now) root }
+    ensures { result ≡ core_by numbers.now root }
+{
+    match root {
+        Some(root) => numbers[root as usize],
+        None => None,
+    }
+}

@@ -1,0 +1,141 @@
+//! The variables that are watched: those that may have waited ever since the mark.
+ghost use Rattle.std.specs.Prelude.{◌≡◌, ◌<◌, ◌-◌, false, [], ◌∷◌, length, count_by, All, IfOk, IsTrue, replicate};
+ghost use Rattle.std.specs.List.{range_with_len};
+ghost use Rattle.hz_net.specs.Network.{network_of, driver_at, bit_at};
+ghost use Rattle.hz_gmw.specs.Least.{IsLeastOf};
+ghost use Rattle.hz_gmw.specs.Presents.{IsCounted, IsExact, marked_with};
+ghost use Rattle.hz_gmw.specs.Watches.{WatchFits, lapses, is_watched, watched_variables, unstable_unchanged, NotesStable};
+
+use crate::present::{Present, kind_at, one_if};
+use crate::variable_set::{VariableSet, insert_each};
+use hz_core::Memory;
+use hz_net::{Net, VarKind};
+use std::alloc::Global;
+
+// What happened since the mark: which variables changed, and which gates were stable when a wire into them changed. An
+// unstable wire is watched unless its source changed: had the wire changed and its source not, the wire would be stable. An
+// unstable node is watched unless it changed or was stable.
+#[derive(Debug, Drop)]
+pub(crate) struct Watch {
+    pub changed: VariableSet,
+    pub been_stable: VariableSet,
+}
+
+impl Watch {
+    // Nothing happened.
+    pub(crate) fn new(alloc: Global, net: &Net) -> Result<Watch, Memory>
+        ensures changed { IfOk result (λ watch. watch.changed ≡ replicate (length (network_of net.now)) false) }
+        ensures been_stable { IfOk result (λ watch. watch.been_stable ≡ replicate (length net.now.names) false) }
+    {
+        let changed = VariableSet::new(alloc, net.len())?;
+        let been_stable = VariableSet::new(alloc, net.circuit().nodes())?;
+        Ok(Watch {
+            changed,
+            been_stable,
+        })
+    }
+
+    // Notes the listed variables, which are about to change.
+    pub(crate) fn note(&mut self, net: &Net, present: &Present, flips: &[u32])
+        requires counted { IsCounted net.now present.now }
+        requires fits { WatchFits net.now self.old }
+        requires inside { All (λ var. var < length (network_of net.now)) flips.now }
+        ensures changed { self.new.changed ≡ marked_with self.old.changed flips.now }
+        ensures been_stable { NotesStable (network_of net.now) present.now.input.items present.now.state.items flips.now self.old.been_stable self.new.been_stable }
+    {
+        for var in flips {
+            self.note_gate(net, present, *var);
+        }
+        insert_each(&mut self.changed, flips);
+    }
+
+    // Forgets what happened.
+    pub(crate) fn clear(&mut self)
+        ensures changed { self.new.changed ≡ replicate (length self.old.changed) false }
+        ensures been_stable { self.new.been_stable ≡ replicate (length self.old.been_stable) false }
+    {
+        self.changed.clear();
+        self.been_stable.clear();
+    }
+
+    // The least watched variable. The variables are searched only if some are watched.
+    pub(crate) fn least(&self, net: &Net, present: &Present) -> Option<u32>
+        requires exact { IsExact net.now present.now }
+        requires fits { WatchFits net.now self.now }
+        ensures { IsLeastOf (λ i. (i < length (network_of net.now)) × IsTrue (bit_at (watched_variables (network_of net.now) present.now.input.items present.now.state.items (bit_at self.now.changed) (bit_at self.now.been_stable)) i)) result }
+    {
+        if self.count(net, present) == 0 {
+            return None;
+        }
+        for var in 0..net.len() {
+            if self.contains(net, present, var) {
+                return Some(var);
+            }
+        }
+        None
+    }
+
+    // How many variables are watched: those that are unstable, without those to which something happened.
+    fn count(&self, net: &Net, present: &Present) -> u32
+        requires exact { IsExact net.now present.now }
+        requires fits { WatchFits net.now self.now }
+        ensures { result ≡ count_by (is_watched (network_of net.now) present.now.input.items present.now.state.items (bit_at self.now.changed) (bit_at self.now.been_stable)) (range_with_len 0 (length (network_of net.now))) }
+    {
+        let unstable = present.unstable;
+        let unchanged = present.without_nodes(net, unstable, self.changed.members());
+        self.without_stable(net, present, unchanged, self.been_stable.members())
+    }
+
+    // A number less how many of the listed nodes are unstable and did not change.
+    fn without_stable(&self, net: &Net, present: &Present, number: u32, list: &[u32]) -> u32
+        requires counted { IsCounted net.now present.now }
+        requires fits { WatchFits net.now self.now }
+        requires inside { All (λ node. node < length net.now.names) list.now }
+        ensures { result ≡ number - count_by (unstable_unchanged (network_of net.now) present.now.input.items present.now.state.items (bit_at self.now.changed)) list.now }
+    {
+        let mut left = number;
+        for node in list {
+            let counts = present.is_unstable(net, *node) && !self.changed.contains(*node);
+            left = left.saturating_sub(one_if(counts));
+        }
+        left
+    }
+
+    // Whether a variable is watched.
+    fn contains(&self, net: &Net, present: &Present, var: u32) -> bool
+        requires counted { IsCounted net.now present.now }
+        requires fits { WatchFits net.now self.now }
+        requires var { var < length (network_of net.now) }
+        ensures { result ≡ is_watched (network_of net.now) present.now.input.items present.now.state.items (bit_at self.now.changed) (bit_at self.now.been_stable) var }
+    {
+        present.is_unstable(net, var) && !self.lapsed(net, var)
+    }
+
+    // Whether something happened for which a variable is watched no longer.
+    fn lapsed(&self, net: &Net, var: u32) -> bool
+        requires fits { WatchFits net.now self.now }
+        requires var { var < length (network_of net.now) }
+        ensures { result ≡ lapses (driver_at (network_of net.now) var) (bit_at self.now.changed) (bit_at self.now.been_stable) var }
+    {
+        match kind_at(net, var) {
+            VarKind::Wire { source, .. } => self.changed.contains(source),
+            VarKind::Input { .. } => self.changed.contains(var) || self.been_stable.contains(var),
+            VarKind::Gate { .. } => self.changed.contains(var) || self.been_stable.contains(var),
+        }
+    }
+
+    // Notes the gate of a wire that is about to change, if the gate is stable.
+    fn note_gate(&mut self, net: &Net, present: &Present, var: u32)
+        requires counted { IsCounted net.now present.now }
+        requires fits { WatchFits net.now self.old }
+        requires var { var < length (network_of net.now) }
+        ensures changed { self.new.changed ≡ self.old.changed }
+        ensures been_stable { NotesStable (network_of net.now) present.now.input.items present.now.state.items (var ∷ []) self.old.been_stable self.new.been_stable }
+    {
+        if let VarKind::Wire { gate, .. } = kind_at(net, var) {
+            if !present.is_unstable(net, gate) {
+                self.been_stable.insert(gate);
+            }
+        }
+    }
+}

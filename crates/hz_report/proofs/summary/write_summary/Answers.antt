@@ -1,0 +1,13 @@
+-- One line after the other.
+use Rattle.std.proofs.Common.{refl}
+use Rattle.hz_write.proofs.Writers.{writes_then}
+use Rattle.hz_report.specs.Report.{summary_text}
+use Rattle.hz_report.proofs.summary.write_summary.Goals as goal
+
+pub returns : goal.returns
+unfolding summary_text
+returns g c =
+    let classes = rw c.as_slice.ensures at c.write_classes.ensures in
+    let counts = writes_then (writes_then c.write_netlist.ensures c.write_rounds.ensures refl) classes refl in
+    let runs = writes_then (writes_then counts c.write_size.ensures refl) c.write_size-2.ensures refl in
+    writes_then runs c.write_size-3.ensures refl

@@ -1,0 +1,4 @@
+pub mod Sequence
+pub mod Analyses
+pub mod Inside
+pub mod Lent

@@ -1,0 +1,16 @@
+-- The changes so far are analysed, and their lines are given.
+use Rattle.std.proofs.Common.{◌≡◌, List, length, take}
+use Rattle.hz_write.specs.Writer.{Writes}
+use Rattle.hz_seq.specs.Analyses.{Analysis}
+use Rattle.hz_seq.proofs.FirstAnalyses.{AreFirstAnalyses}
+use Rattle.hz_top.specs.Reports.{analyses_text}
+use Rattle.hz_top.proofs.Writable.{IsStopInside}
+use Rattle.hz_top.proofs.reporting.write_changes.Given as goal
+
+abbrev pub invariant-loop-number : goal.invariant-loop-number
+invariant-loop-number g l =
+    (analyses : List Analysis)
+    × AreFirstAnalyses l.net l.cap l.fn.sequence.start (take l.number l.script.changes) analyses l.sequence
+    × (length analyses ≡ length (take l.number l.script.changes))
+    × IsStopInside l.net l.sequence.stopped
+    × Writes g.K.Sink.written g.K.Sink.faults (analyses_text l.net l.show 1 (take l.number l.script.changes) analyses) l.fn.writer l.writer
