@@ -8,3 +8,4 @@ pub mod RunTexts
 pub mod Reports
 pub mod Outcome
 pub mod Faultless
+pub mod Headline
