@@ -1,9 +1,9 @@
 -- The headline, from the answer of a call.
 use Rattle.std.proofs.Common.{◌≡◌, ◌≢◌, ℕ, zero, suc, ◌+◌, ◌<◌, ◌≤◌, ◌⊎◌, inl, inr, Bool, true, false, not, cond, List, [], ◌∷◌, ◌++◌, length, take, map, All, Option, Some, None, IfSome, refl, subst, sym, ap, ◌∙◌, arith, Contains}
 use Rattle.std.specs.Prelude.{slice_get, option_map}
-use Rattle.std.proofs.lemmas.Bool.{cases_Bool}
-use Rattle.std.proofs.lemmas.Nat.{cases_lt}
+use Rattle.std.proofs.lemmas.Bool.{cases_Bool, cases_lt}
 use Rattle.std.proofs.lemmas.List.{length-map, get_or_past}
+use Rattle.std.proofs.lemmas.List.Sums.{sum_by-cons}
 use Rattle.std.proofs.lemmas.Option.{slice_get_within, get_or_from_slice_get}
 use Rattle.hz_core.specs.declared.tri.Tri.{Tri}
 use Rattle.hz_core.specs.declared.tri.Tri.TheVariants.{Zero, Unknown}
@@ -15,7 +15,6 @@ use Rattle.hz_gmw.specs.Runs.{is_listed, flipped}
 use Rattle.hz_gmw.specs.Cycles.{states_of}
 use Rattle.hz_gmw.proofs.Flips.{at-flipped, length-flipped}
 use Rattle.hz_reach.specs.Spread.{changes_in}
-use Rattle.hz_cycle.proofs.Steps.{changes-cons, listed, listed-none}
 use Rattle.hz_bench.specs.Fault.{IsFaultless}
 use Rattle.hz_bench.specs.Netlist.{netlist_of}
 use Rattle.hz_bench.specs.Text.{statements_of}
@@ -54,6 +53,14 @@ same-or-not false true = inr refl
 same-or-not true false = inr refl
 same-or-not true true = inl refl
 
+-- whether a step changes a variable, as a number
+abbrev once_if : Bool → ℕ
+once_if listed = cond listed 1 0
+
+-- how often a run changes a variable, by its first step
+changes-first : (flips : List ℕ) (steps : List (List ℕ)) (i : ℕ) → changes_in (flips ∷ steps) i ≡ once_if (is_listed flips i) + changes_in steps i
+changes-first flips steps i = sum_by-cons (λ (list : List ℕ). once_if (is_listed list i)) flips steps
+
 -- a variable that a run changes once has the complement of its first bit in some state
 changed-shows : (steps : List (List ℕ)) (state : List Bool) (i : ℕ) (bit : Bool) → i < length state → changes_in steps i ≡ 1 → bit ≡ not (bit_at state i) → (member : List Bool) × Contains (states_of state steps) member × (bit_at member i ≡ bit)
 changed-shows [] state i bit inside once is = absurd cc
@@ -61,15 +68,16 @@ changed-shows (flips ∷ steps) state i bit inside once is =
     let after : bit_at (flipped flips state) i ≡ cond (is_listed flips i) (not (bit_at state i)) (bit_at state i) = at-flipped flips state i inside in
     elim (cases_Bool (is_listed flips i)) [
       | inl there ↦ (
-          flipped flips state,
-          contains-later flips steps state (flipped flips state) (contains-first steps (flipped flips state)),
-          after ∙ (ap (λ (b : Bool). cond b (not (bit_at state i)) (bit_at state i)) there ∙ sym is)
-          )
+        flipped flips state,
+        contains-later flips steps state (flipped flips state) (contains-first steps (flipped flips state)),
+        after ∙ (ap (λ (b : Bool). cond b (not (bit_at state i)) (bit_at state i)) there ∙ sym is),
+      )
       | inr out ↦ (
           let stays : bit_at (flipped flips state) i ≡ bit_at state i = after ∙ ap (λ (b : Bool). cond b (not (bit_at state i)) (bit_at state i)) out in
-          let later : changes_in steps i ≡ 1 = omega (arith, once, changes-cons flips steps i, listed-none flips i out) in
+          let none : once_if (is_listed flips i) ≡ 0 = ap once_if out in
+          let later : changes_in steps i ≡ 1 = omega (arith, once, changes-first flips steps i, none) in
           let rest = changed-shows steps (flipped flips state) i bit (omega (arith, inside, length-flipped flips state)) later (is ∙ ap not (sym stays)) in
-          (rest.0, contains-later flips steps state rest.0 rest.1.0, rest.1.1)
+          (rest.0, contains-later flips steps state rest.0 rest.1, rest.2)
           )
     ]
 
@@ -88,9 +96,9 @@ takes-both steps state i inside once bit =
 -- what is X is among the values
 unknown-inside : (values : List Tri) (i : ℕ) → IsUnknown (value_at values i) → i < length values
 unknown-inside values i unknown = elim (cases_lt i (length values)) [
-    | inl inside ↦ inside
-    | inr past ↦ (let none : value_at values i ≡ Zero = get_or_past values i Zero past in cc)
-  ]
+  | inl inside ↦ inside
+  | inr past ↦ (let none : value_at values i ≡ Zero = get_or_past values i Zero past in cc)
+]
 
 -- a right finding, in the order of the headline's words
 pub right-is-exact : (netlist : Netlist) (input start : List Bool) (cap : ℕ) (finding : FindingOf) → IsRightFinding (network_of netlist) input start cap finding → AnalysisReplays netlist (Found finding) → IsExact netlist input start finding
@@ -148,18 +156,18 @@ module _ (netlist : Netlist) (cap : ℕ) (circuit : IsCircuit netlist) where
       elim are.1 [
         | inl settled ↦ (
             let next_stable : IsStableStart netlist settled.0 =
-            next-start netlist (changed_input (take netlist.inputs start) first) start settled.0 cap other circuit (input-long netlist start first circuit stable) are.0 settled.1.0 in
-            let rest = each-exact changes settled.0 analyses next_stable settled.1.1 (λ k f is. replay (suc k) f is) number change finding at found in
+            next-start netlist (changed_input (take netlist.inputs start) first) start settled.0 cap other circuit (input-long netlist start first circuit stable) are.0 settled.1 in
+            let rest = each-exact changes settled.0 analyses next_stable settled.2 (λ k f is. replay (suc k) f is) number change finding at found in
             record {
               from = rest.from;
-              starts = starts-later start settled.0 other analyses number rest.from settled.1.0 rest.starts;
+              starts = starts-later start settled.0 other analyses number rest.from settled.1 rest.starts;
               stable = rest.stable;
               exact = rest.exact;
             }
             )
         | inr unsettled ↦ (
             let stopped : slice_get (all_stopped unsettled.0 changes) number ≡ Some (Found finding) =
-            subst (λ (list : List Analysis). slice_get list number ≡ Some (Found finding)) unsettled.1.1 found in
+            subst (λ (list : List Analysis). slice_get list number ≡ Some (Found finding)) unsettled.2 found in
             absurd (stopped-not-found unsettled.0 changes number finding stopped)
             )
       ]
@@ -200,7 +208,7 @@ report-exact circuits cap show first second netlist script start report text val
 second-exact : TextsAreCircuits → (cap : ℕ) (show : Show) (first second : List ℕ) (netlist : Netlist) (report : List ℕ) → IsNetlistText first netlist → ScriptTextComes (ScriptComes cap show) netlist second status.Done report → IsExactReport show first second report
 second-exact circuits cap show first second netlist report text (inl (fault, least, says)) = absurd cc
 second-exact circuits cap show first second netlist report text (inr (value, faultless, is, inl (own_is, refused))) = absurd cc
-second-exact circuits cap show first second netlist report text (inr (value, faultless, is, inr (start, accepted, done, report_is))) =
+second-exact circuits cap show first second netlist report text (inr (value, faultless, is, inr (start, accepted, (done, report_is)))) =
     report-exact circuits cap show first second netlist value start report text is accepted report_is
 
 -- what the files come to, if the job is done
@@ -222,8 +230,8 @@ headline written faults told asked was now ends circuits answers cap show first 
       | inl done ↦ (
           let whole : WroteWhole written (JobComes told asked) was now status.Done = subst (Answers written faults (JobComes told asked) was now) done answers in
           let comes : FilesCome told (TaskComes (Analyse cap show)) first second status.Done whole.0 =
-          subst (λ (job : Option JobOf). JobComes told job status.Done whole.0) is whole.1.0 in
-          (done, (whole.0, whole.1.1, files-exact circuits told good.bytes_of cap show first second whole.0 good.is_told comes))
+          subst (λ (job : Option JobOf). JobComes told job status.Done whole.0) is whole.1 in
+          (done, (whole.0, whole.2, files-exact circuits told good.bytes_of cap show first second whole.0 good.is_told comes))
           )
       | inr out ↦ absurd (enough out)
     ]
