@@ -13,6 +13,8 @@ mod text;
 mod variables;
 mod version;
 
-pub use print::{print_run, write_end, write_run, write_run_text, write_states, write_variable, write_version};
+pub use print::{
+    print_run, write_end, write_run, write_run_text, write_states, write_variable, write_version,
+};
 pub use read::read_run;
 pub use text::RunText;
