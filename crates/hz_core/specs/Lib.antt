@@ -19,6 +19,7 @@
 -- IsPattern kind now free want list: the canonical pattern, which is the candidate with the fewest changed pins
 -- HasOneBit kind value bit: all lists with this gate value have this bit at each pin
 -- IsTurnedByAny kind value: any one pin, changed, gives the gate this value
+-- IsReached kind value found: one of these two, which the answer tells
 -- Netlist: a circuit by its names, inputs, cuts, gates and outputs
 -- IsName name: 1 to 255 bytes that may stand in a name
 -- node_named netlist name: the node with this name
