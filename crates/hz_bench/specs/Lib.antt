@@ -1,3 +1,34 @@
+-- Words, with their arguments, in the order in which one needs them.
+--
+-- Statement: an input, an output, a flip-flop or a gate, by its names
+-- statement_of tokens: the statement of a line
+-- numbered_statements text: the statements of a text, with their lines
+-- defined_name statement, used_names statement: what it defines and uses
+-- input_names, cut_names, gate_names, output_names: the names of statements, in order
+-- netlist_of statements: the circuit of statements
+-- Defines text line name, Uses text line name: a line does
+-- Stands text fault: the fault is in the text
+-- number_of fault, line_of fault: the order of faults: by number, then by line
+-- IsLeastFault text fault: the first fault of a text in this order
+-- IsAnswer text fault: that, or memory ran out
+-- IsFaultless text: no fault is in the text
+-- printed netlist: the text of a circuit
+-- variables_of statements: how many variables their network has
+-- first_fault statements: the first fault, as a function
+-- definer statements name: the line that defines a name first
+-- Table, line_for table name: the names that were defined, with their lines
+-- notes_of statements: what is kept of statements for the faults of a single line
+-- twice_fault statements: the first name that is defined again
+-- IsParsed text statements: what one pass over a text keeps
+-- AreGathered done statements: the same for a part of the text
+-- IsSorted old next new: what the pass does with one statement
+-- TellUndefined all some: the first undefined name of all statements is found among these
+-- fault_in statements: the first fault of what was kept
+-- IsAccepted text statements: a text without a fault
+-- AreUses nodes outputs uses: the numbers of the names that are used
+-- built nodes outputs: the circuit, built step by step
+-- MayBuild nodes outputs: each of these steps may be taken
+
 pub mod Statement
 pub mod Form
 pub mod Text

@@ -1,4 +1,20 @@
 //! Netlists in the .bench format: reading them into circuits, and printing circuits.
+//!
+//! | Module | What lives in it |
+//! |---|---|
+//! | `reading` | [`read`]: the order of work, and the order of the faults |
+//! | `parse` | the one pass over the lines: what is kept of each statement |
+//! | `statement` | the statement of a line |
+//! | `forms` | what a statement is, without its names |
+//! | `entry` | statements as the passes keep them |
+//! | `notes` | what is kept for the faults of a single line, and the counts |
+//! | `definitions` | the table of names, with the lines that define them |
+//! | `unknown` | the first name that no line defines |
+//! | `uses` | the numbers of the nodes that names stand for |
+//! | `build` | the circuit of the statements, step by step |
+//! | `printing` | [`print`]: the text of a circuit |
+//! | `fault` | [`BenchFault`]: why a text is no netlist |
+//! | `laws` | the law that a text without a fault is the text of a circuit |
 #![tactic(auto)]
 
 mod build;

@@ -1,4 +1,16 @@
-// The statements of a text.
+//! The statements of a text.
+//!
+//! The idea. One pass over the lines. Of each statement the faults that its own line shows are noted, the first line of each;
+//! its name goes into the table; and it is kept for later: a node for the circuit, an output by its line. Names that are
+//! used are looked up after the pass, when the table has every name. Beyond the most variables there will be no circuit,
+//! so a node is kept only if it reads a name that is not in the table yet, and then only its line and its sources.
+//!
+//! What must stay true: `IsSorted` for each statement and `AreGathered` for those so far. What is dropped can't be the first
+//! fault, in the order of `number_of` and then of lines: once a name is defined again, undefined names don't matter.
+//!
+//! What breaks if you add a fault: one that must be found beyond the most variables needs a note, or more of a `Waiting`;
+//! one whose number lies between two others needs its place in `fault_in`. A new kind of statement needs a list, and a case
+//! of `IsPlaced`.
 
 ghost use Rattle.std.specs.Prelude.{◌≡◌, ◌+◌, ◌<◌, ◌≤◌, ◌^◌, IfOk, length, MatchResult, OnOk};
 ghost use Rattle.hz_bench.specs.Entry.{stated, numbered_line, numbered_of, numbered_output};

@@ -1,4 +1,15 @@
 //! Ternary values, gate kinds and circuits: what a netlist stands for.
+//!
+//! | Module | What lives in it |
+//! |---|---|
+//! | `tri` | [`Tri`]: the ternary values 0, 1 and X |
+//! | `kind` | [`Kind`]: the kinds of gates, their functions and ternary extensions; in `kind/pattern.rt` the canonical pattern |
+//! | `circuit` | [`Circuit`]: named inputs, cuts, gates and outputs |
+//! | `gate` | the gates of a circuit, as it keeps them |
+//! | `name` | [`find_name`]: names that are found by their hashes |
+//! | `name_hashing` | [`NameHashing`]: how names are hashed |
+//! | `chains` | [`Chains`]: the chains of a hash table |
+//! | `memory` | [`Memory`]: memory ran out |
 #![tactic(auto)]
 
 mod chains;

@@ -1,3 +1,22 @@
+-- Words, with their arguments, in the order in which one needs them. A variable is settled if it is not X in the result b of
+-- Algorithm B, else unsettled.
+--
+-- AreOfChange netlist input ranks b: the result of Algorithm B and the ranks of Algorithm A are those of a change
+-- IsTurned net ranks b state: a turned state: a pass may begin there and end there
+-- IsSettleRun net input start a b steps: a run to a turned state
+-- IsCycleOf net input b state steps: a nontransient cycle in which each unsettled variable takes both values
+-- IsPass net input ranks b start steps state: a pass: each unsettled gate has a turn
+-- MayBegin net ranks b state: a pass may begin in this state
+-- AreEnough net ranks b state most, HasRoom net ranks b state run: a run has the room for a pass
+-- ArePatternWires netlist a state gate wires: the wires that change first in a gate's turn
+-- with_fan_out netlist state gate: the gate, and the wires from it that differ
+-- IsOneRound when order place next: the variables that settle in one round
+-- IsSettling net input when b start steps state: a run that settles them round by round
+-- HasSettleRunAndCycle net input start a b: both runs exist for a change
+-- SettleRunsExist, RunsShowB: they always do, and where they do Algorithm B is exact
+-- BIsExact: the value of Algorithm B is the join over the outcome states
+-- OutcomesExist: there is an outcome state
+
 pub mod Turned
 pub mod Cycles
 pub mod Marks

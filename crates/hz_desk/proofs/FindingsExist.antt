@@ -64,8 +64,7 @@ rows-of (bit ∷ start) (x ∷ a) (y ∷ b) [] long_a long_b long_words may = ab
 rows-of (bit ∷ start) (x ∷ a) (y ∷ b) (word ∷ words) long_a long_b long_words may =
     let class = class-of bit x y (changes_of word) (may 0 (omega arith)) in
     let row : Row = record { start = bit; a = x; b = y; changes = changes_of word; class = class.0 } in
-    let rest = rows-of start a b words (omega (arith, long_a)) (omega (arith, long_b)) (omega (arith, long_words)) (λ i few. may (suc i) (omega (arith, few))) in
-    (
+    let rest = rows-of start a b words (omega (arith, long_a)) (omega (arith, long_b)) (omega (arith, long_words)) (λ i few. may (suc i) (omega (arith, few))) in (
       row ∷ rest.0,
       record {
         starts = ap (λ (list : List Bool). bit ∷ list) rest.1.starts;
@@ -117,8 +116,7 @@ exists result_a result_b few_a few_b ranks_exist settling_exist spread_exists se
       spread_races = race_count net input (states_of start spread.0);
       settle_races = race_count net input (states_of start shown.settle);
       cycle_races = race_count net input (cycle_states (end_of start shown.settle) shown.cycle);
-    } in
-    (
+    } in (
       finding,
       filled netlist input start cap finding (record {
         circuit = circuit;

@@ -1,3 +1,22 @@
+-- Words, with their arguments, in the order in which one needs them.
+--
+-- FindingOf: what is found of a change: rows, rounds, the new input, three runs, race counts
+-- IsClass start a b changes class: the class of a variable
+-- IsRowOf start a b word row, AreRowsOf start a b words rows: the values of variables and their classes
+-- is_race net input state, race_count net input states: two or more variables are unstable
+-- AreChanges net input start cap changes: the numbers of changes of the feedback-free variables
+-- IsRightFinding net input start cap finding: every part of it is right for this change
+-- FindingsExist: there always is one
+-- OneClass: no variable has two classes
+-- finding_of finding: what the fields of the code's Finding stand for
+-- IsFilled netlist input start cap finding: what the analysis leaves in it, which makes it right
+-- AreRuns net input start a b spread settle cycle: the three runs of a change
+-- AreRacesOf net input start spread settle cycle ..: their race states
+-- ArePassed netlist input start a ranks b when rounds_a rounds_b: the results of both algorithms
+-- HavePassRoom, HasRunRoom, HasRooms, IsRoomFor: there is room for the analysis of every change
+-- DeskOf, LeavesDesk: what the code's Desk holds, and what it leaves behind
+-- IsAlong net input start steps number races state: how far the replayer has gone along a run
+
 pub mod Class
 pub mod Races
 pub mod Finding

@@ -116,8 +116,7 @@ module _ (readers : ℕ → List ℕ) (variables : ℕ) (inside : (i : ℕ) → 
 ordered-marks : (netlist : Netlist) → IsCircuit netlist → (part : FreePart) × IsOrdered netlist part
 ordered-marks netlist circuit =
     let found = ordered (readers_of netlist) (length (network_of netlist)) (readers-inside netlist circuit) in
-    let free : List Bool = map (λ n. eqb n 0) found.unread in
-    (
+    let free : List Bool = map (λ n. eqb n 0) found.unread in (
       record { free = free; order = found.order; cycles = []; cores = [] },
       record {
         marks = free-AreMarks netlist circuit found.unread found.order found.is_ordering free refl;

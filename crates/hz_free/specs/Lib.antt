@@ -1,3 +1,26 @@
+-- Words, with their arguments, in the order in which one needs them.
+--
+-- IsChain net i chain: a chain backwards from variable i, each read by the one before it
+-- IsFeedbackFree net i: no such chain repeats a variable
+-- AreVariableWords net input start words: each feedback-free variable has its word
+-- AreCappedWords net input start cap words: the capped forms, and None for the other variables
+-- variable_history start steps i: the history of variable i along a run
+-- IsChoice net i choice: the first variable that it reads and that is not feedback-free
+-- IsFeedbackCycle net cycle: each variable is the choice of the next, the last of the first, and the least comes first
+-- AreFeedbackCycles net cycles: all of them, by their least variables
+-- IsWayBack net i way end: from choice to choice
+-- IsCore net i cycle: the feedback cycle in which the way back ends
+-- FreePart: what the code's Free keeps
+-- IsFreePart netlist part: it is that of the network
+-- MarksExist, WordsExist: there always are such marks and words
+-- occurrences i list: how often a list has a number
+-- IsOrdering readers variables place left unread order: a topological order so far
+-- AreToldWords net input start cap placed capped words: the words that were made so far
+-- IsNextWord net input start cap capped i word: the word of variable i by those that it reads
+-- AreLinks links, LeadsTo links i next, IsPath links start path end: a list of links, and the paths along it
+-- AreChoices net choices, AreRooted choices choosers roots below: the choices as links, and where they end
+-- AreNumbered net choosers numbers below cycles: the cycles that were listed so far
+
 pub mod Chains
 pub mod VariableWords
 pub mod Order

@@ -1,4 +1,13 @@
 //! Circuits that are made from a number: a ring that oscillates beside a chain of hazards.
+//!
+//! | Module | What lives in it |
+//! |---|---|
+//! | `generator` | [`make`]: the circuit and the script of a number |
+//! | `circuit` | the circuit, part by part |
+//! | `gate` | a gate with its pins |
+//! | `node` | the numbers of the nodes that others read |
+//! | `script` | the script |
+//! | `fault` | [`GenFault`]: why no circuit is made |
 #![tactic(auto)]
 
 ghost use Rattle.hz_gen.specs.Starts.{DemoStarts};

@@ -1,4 +1,15 @@
 //! Runs of the general multiple-winner model.
+//!
+//! | Module | What lives in it |
+//! |---|---|
+//! | `run` | [`Run`]: the steps of a run, with room that is taken once |
+//! | `replay` | [`Replay`]: checks steps and cycles |
+//! | `replay_fault` | why a step or a cycle is refused |
+//! | `present` | the current state of a replayer, with what is counted of it |
+//! | `watch` | which variables may have waited since the mark |
+//! | `variable_set` | sets of variables |
+//! | `least` | the least listed variable with a property |
+//! | `ones` | the value of a gate by how many of its pins are 1 |
 #![tactic(auto)]
 
 ghost use Rattle.std.specs.Prelude.{◌≡◌, ℕ, List, Bool, length};

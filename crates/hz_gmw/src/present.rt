@@ -1,4 +1,15 @@
-//! The present state of a network, with what is counted of it.
+//! The current state of a network, with what is counted of it.
+//!
+//! The idea. A gate's value depends only on how many of its pins are 1, so one count for each gate gives its excitation.
+//! A wire is unstable if it differs from its source, so when a node changes, the stable wires from it become unstable and the
+//! others stable: one subtraction, whatever the fan-out. Only a variable and its readers can become stable or unstable when
+//! it changes, so the count of all unstable variables is mended by what is unstable among these before and after.
+//!
+//! What must stay true: `IsCounted` after every write to `input` or `state`, so no one else writes to them; `IsExact` after
+//! every `flip` and `set_input`.
+//!
+//! What breaks if you add a kind: one that is not symmetric in its pins (a multiplexer) has no value by a count of ones. If you
+//! add a kind of variable with readers of its own: `change_node` and `unstable_around` do not count them.
 ghost use Rattle.std.specs.Prelude.{◌≡◌, ◌<◌, ◌≤◌, ◌-◌, ◌+◌, ◌∷◌, Bool, true, false, not, length, count_by, sum_by, All, IfOk, slice_set, slice_index_or, replicate, if◌then◌else◌};
 ghost use Rattle.hz_core.specs.Netlist.{IsCircuit, IsWhole};
 ghost use Rattle.hz_net.specs.Network.{network_of, driver_at, excitation, Source, bit_at};

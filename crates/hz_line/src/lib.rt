@@ -9,6 +9,14 @@
 //!
 //! A text each of whose lines is one statement has a [`Grammar`], and [`read_statements`] gives its numbered statements or
 //! the first malformed line.
+//!
+//! | Module | What lives in it |
+//! |---|---|
+//! | `lines` | [`cut_line`]: one line off a text |
+//! | `bytes` | what a byte does in a line |
+//! | `tokens` | the tokens of a line, all of them or one after the other |
+//! | `keywords` | [`is_keyword`]: keywords, in any letter case |
+//! | `statements` | [`read_statements`]: the statements of a text by its [`Grammar`] |
 #![tactic(auto)]
 
 mod bytes;

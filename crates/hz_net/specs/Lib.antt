@@ -1,3 +1,35 @@
+-- Words, with their arguments, in the order in which one needs them.
+--
+-- Driver: what drives a variable: an input, a gate function of its wires, or the source of a wire
+-- network_of netlist: the complete network: a driver for each variable, inputs and gates first, then the wires
+-- driver_at net i: what drives variable i
+-- bit_at state i, value_at values i: the value of variable i in a state, and in a ternary state
+-- driven input state driver: what a driver asks for
+-- excitation net input state i: the excitation of variable i
+-- IsUnstable net input state i: its value differs from its excitation
+-- IsStable net input state: no variable is unstable
+-- driven3 input state driver, excitation3 net input state i: the same in ternary states
+-- algorithm_a net input start round, algorithm_b net input first round: the ternary states of both algorithms
+-- AreRounds sequence rounds: the sequence comes to rest in this round
+-- IsResult sequence result: its state then
+-- IsRank sequence i value rank: the first round in which an X of Algorithm A is X
+-- IsSettlingRound sequence i first value round: the first round in which an X settles in Algorithm B
+-- Reads driver i: a driver reads variable i
+-- AreReaders net i readers: the readers of variable i
+-- fan_out_of netlist node: the wires from a node
+-- first_wire netlist gate, at_wires netlist gate list: the wires of a gate, and what a list has there
+-- IsWireInto net gate wire: a wire goes into a gate
+-- IsWired net: wires come from nodes and go into gates
+-- IsGiven netlist listed pairs node bit: earlier values force a node to a bit
+-- IsForced netlist listed node bit: a chain of such steps does
+-- IsOpen netlist listed node: nothing forces the node
+-- IsCompletedStart netlist listed state: each node has its forced bit, each wire its source's
+-- IsStableStart netlist state: a state that is stable under its own inputs
+-- IsAcceptedStart netlist listed state: a completed start that is stable
+-- IsLeastOpen netlist listed node, IsLeastUnstable netlist listed gate: why a start is refused
+-- parts_from start ends list: a list that is cut into parts
+-- HoldsNetwork fields: the fields of the code's Net stand for the network
+
 pub mod Network
 pub mod Variables
 pub mod Reads

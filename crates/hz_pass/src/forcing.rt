@@ -1,4 +1,16 @@
 //! Values that are forced, carried from node to node.
+//!
+//! The idea. A worklist. A node that has got its value waits. When it is taken, its value goes to the cuts whose data node it
+//! is and to the wires from it; and each gate at the end of such a wire, if it is X, is evaluated over its wires. If that gives
+//! 0 or 1, the gate is set, and waits in its turn. Each set variable stays set, so the work ends after as many turns as there
+//! are nodes, and the order of the worklist does not matter.
+//!
+//! What must stay true: `ForcedSoFar`. A node waits exactly once, after it was set; a wire has its source's value or is X; a
+//! gate that is X has an extension that is X, unless one of its wires was just set. A listed value is never compared with what
+//! forces the node: whether the start is stable is asked afterwards.
+//!
+//! What breaks if you add a way to force a node: it needs a case in `IsGiven`, a list of those who wait for it, and a field in
+//! `ForcedSoFar` for what is still due, as cuts have. A value that is taken back breaks everything.
 ghost use Rattle.std.specs.Prelude.{◌≡◌, ◌≢◌, ◌+◌, ◌<◌, ◌≤◌, ◌^◌, [], ◌∷◌, List, Option, Bool, All, length, replicate, IfOk, OnOk};
 ghost use Rattle.hz_core.specs.declared.tri.Tri.TheVariants.{Unknown};
 ghost use Rattle.hz_core.specs.Ternary.{unknown_count};

@@ -8,6 +8,7 @@ pub mod Ended
 pub mod Rests
 pub mod Exact
 pub mod Places
+pub mod Links
 pub mod SortLemmas
 pub mod Marks
 pub mod Order

@@ -1,5 +1,5 @@
 -- What a scratch's fields stand for.
-use Rattle.std.specs.Prelude.{ℕ, ◌<◌, ◌≤◌, ◌^◌, IsTrue, length}
+use Rattle.std.specs.Prelude.{ℕ, ◌≡◌, ◌+◌, ◌<◌, ◌≤◌, ◌^◌, IsTrue, length}
 use Rattle.std.specs.Vec.{vec_capacity}
 use Rattle.hz_gmw.specs.Runs.{is_listed, RepeatsNone}
 use Rattle.hz_reach.specs.Scratched.{Scratched}
@@ -16,6 +16,8 @@ scratched_of fields =
 -- there is room for every variable, and the marked ones are variables, none of them twice
 pub record HoldsScratch (fields : Inside) : Type 0 where
   pub few : length fields.state.items < 2 ^ 32
+  pub first_fit : length fields.state.items + 1 ≤ vec_capacity fields.first
+  pub next_long : length fields.next.items ≡ length fields.state.items
   pub keyed_fit : length fields.state.items ≤ vec_capacity fields.keyed
   pub sorted_fit : length fields.state.items ≤ vec_capacity fields.sorted
   pub marked_fit : length fields.state.items ≤ vec_capacity fields.marked

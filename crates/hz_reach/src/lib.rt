@@ -1,4 +1,11 @@
 //! Runs that show both values of each variable that Algorithm A makes X.
+//!
+//! | Module | What lives in it |
+//! |---|---|
+//! | `spreading` | [`spread_run`]: a run that changes each X of Algorithm A once |
+//! | `scratch` | [`Scratch`]: the room to make a run in |
+//! | `existence` | the laws that both algorithms come to rest, and that there are spread runs |
+//! | `counts` | laws on the length of runs |
 #![tactic(auto)]
 
 ghost use Rattle.std.specs.Prelude.{◌≡◌, ℕ, Bool, List, length};

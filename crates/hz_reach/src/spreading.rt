@@ -1,4 +1,15 @@
 //! The spread run.
+//!
+//! The idea. Algorithm A makes variables X round by round, and the rank of a variable is its round. A gate becomes X by wires
+//! that became X in earlier rounds, each after its source. When the gate has its turn these sources have had theirs, so the
+//! wires are unstable and may change. The canonical pattern says which of them change, in one step, to give the gate the
+//! complement of its value; then the gate is unstable, and changes in the next step.
+//!
+//! What must stay true: turns come by rank; only unstable variables are marked; between two steps none is marked; no variable
+//! changes twice, so room for one flip and one step for each variable is enough.
+//!
+//! What breaks if you add a change: a wire before its source, or a gate before its wires, is stable then, and the step is
+//! none. A second change of a variable falsifies `IsSpreadRun`, and the room. A new kind of gate needs its canonical pattern.
 ghost use Rattle.std.specs.Prelude.{◌≡◌, ℕ, ◌+◌, ◌<◌, ◌≤◌, Bool, true, false, not, ◌&&◌, List, [], length, take, IsTrue, MatchBool};
 ghost use Rattle.hz_core.specs.Ternary.{is_unknown};
 ghost use Rattle.hz_core.specs.Gate.{takes};

@@ -1,2 +1,19 @@
+-- Words, with their arguments, in the order in which one needs them.
+--
+-- tri_letter value: 0, 1 or X
+-- node_name netlist node: the name of a node
+-- netlist_line netlist, feedback_line netlist cycle, start_line netlist start: the lines of a head
+-- head_text netlist cycles start: what a report begins with
+-- change_line netlist number change, rounds_line finding: how the lines of a change begin
+-- changes_word changes, class_word class: the words in a row
+-- row_line netlist i row: the line of a variable
+-- shown_rows netlist show rows: the rows that are shown
+-- races_line finding: the race states of the three runs
+-- runs_of_finding netlist finding: the run text that shows them
+-- change_text netlist show number change finding: the lines of a change
+-- stopped_text netlist number change i: the lines of a change that a variable stops
+-- classes_line rows, run_line name steps: the lines of a summary
+-- summary_text netlist finding: the summary of a change
+
 pub mod Words
 pub mod Report

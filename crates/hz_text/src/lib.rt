@@ -1,5 +1,16 @@
 //! Scripts, which are a start and changes of the inputs of a circuit, and run texts, which are a start, an input and runs of
 //! a network: read from a text and printed.
+//!
+//! | Module | What lives in it |
+//! |---|---|
+//! | `text` | the frame of all texts of statements: how one is read, and the passes that are the same for each |
+//! | `assignments` | assignments `name = word`, looked up in a circuit |
+//! | `bits` | the bits that assignments give to nodes |
+//! | `fault` | [`TextFault`]: why a text is refused |
+//! | `limit` | how long a text may be |
+//! | `printing` | assignments, as scripts and run texts print them |
+//! | `script` | [`Script`]: [`read_script`] and [`print_script`] |
+//! | `run` | [`RunText`]: [`read_run`] and [`print_run`] |
 #![tactic(auto)]
 
 mod assignments;
@@ -15,7 +26,8 @@ pub use fault::TextFault;
 pub use limit::MAX_TEXT;
 pub use printing::{bit_letter, write_assignments, write_bits};
 pub use run::{
-    RunText, print_run, read_run, write_end, write_run, write_run_text, write_states, write_variable, write_version,
+    RunText, print_run, read_run, write_end, write_run, write_run_text, write_states,
+    write_variable, write_version,
 };
 pub use script::{MAX_CHANGES, Script, print_script, read_script};
 

@@ -1,4 +1,19 @@
 //! Run texts: read from a text and printed.
+//!
+//! | Module | What lives in it |
+//! |---|---|
+//! | `read` | [`read_run`]: the order of work |
+//! | `statement` | the statements, looked up in a network |
+//! | `keyword` | the keywords with which they begin |
+//! | `variables` | the variables of a step |
+//! | `number` | decimal numbers |
+//! | `version` | the versions of the format |
+//! | `size` | the size of a network, as version 2 has it |
+//! | `order` | the order of the statements |
+//! | `rules` | the passes over the statements, one for each fault |
+//! | `build` | the run text of statements without a fault |
+//! | `text` | [`RunText`]: a start, an input, and runs |
+//! | `print` | [`print_run`], and the functions that write its lines |
 
 mod build;
 mod keyword;
@@ -13,6 +28,8 @@ mod text;
 mod variables;
 mod version;
 
-pub use print::{print_run, write_end, write_run, write_run_text, write_states, write_variable, write_version};
+pub use print::{
+    print_run, write_end, write_run, write_run_text, write_states, write_variable, write_version,
+};
 pub use read::read_run;
 pub use text::RunText;

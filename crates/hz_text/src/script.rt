@@ -1,4 +1,12 @@
 //! Scripts: a start and changes of inputs.
+//!
+//! | Module | What lives in it |
+//! |---|---|
+//! | `read` | [`read_script`]: the order of work |
+//! | `statement` | the statements, looked up in a circuit |
+//! | `rules` | the passes over the statements, one for each fault |
+//! | `build` | the script of statements without a fault |
+//! | `print` | [`print_script`]: the text of a script |
 
 ghost use Rattle.std.specs.Prelude.{◌≡◌, ◌<◌, ◌++◌, ◌∷◌, [], length, replicate, slice_get, slice_set, Some, None, IfOk, OnOk, OnErr};
 ghost use Rattle.hz_text.specs.ScriptValue.{IsChange, IsScript};

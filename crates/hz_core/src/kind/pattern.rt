@@ -1,4 +1,14 @@
 //! The canonical pattern of a gate: which of its free pins change to give it a wanted value.
+//!
+//! The idea. If the gate has the value already, nothing changes. Otherwise each kind has, for each value, one of two
+//! properties. Either a single list of bits gives the value, the one with the same bit at every pin (AND is 1 only on ones),
+//! and that list is the pattern. Or any one pin, once changed, gives the gate the value (AND leaves 1 by any pin), and the
+//! first free pin is changed. So no search is needed. `lone_bit` says which of the two it is.
+//!
+//! What must stay true: `IsReached`, for every kind and both values. The caller knows that some list on free pins will do.
+//!
+//! What breaks if you add a kind: a majority of three pins has neither property, since at 000 no one pin makes it 1. `choose`
+//! would have to search, and the lemma `reached` fails first.
 ghost use Rattle.std.specs.Prelude.{◌≡◌, Bool, false, not, List, IsTrue, MatchOption, length, slice_set, slice_index_or};
 ghost use Rattle.std.specs.List.{position};
 ghost use Rattle.hz_core.specs.Gate.{takes};
