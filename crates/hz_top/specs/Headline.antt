@@ -1,7 +1,7 @@
--- The headline, in the order of its words: for every accepted netlist, stable start and input change, the written report gives at
--- each printed variable, as A, the join of its values over all states that multiple-winner runs reach and, as B, the join over all
--- states that are reached from their nontransient cycles; each pass ends within one round more than there are variables; every X
--- comes with printed runs that replay and show both values.
+-- The headline, in the order of its words. If a netlist is accepted, its start is stable and its inputs change, then the report
+-- prints of each variable, as A, the join of the values that it takes in all states that runs of the multiple-winner model reach,
+-- and as B, the join over the states that are reached from the nontransient cycles of these runs. Both algorithms end after at most
+-- one round more than there are variables. Every X comes with printed runs that show both values, and that `replay` accepts.
 use Rattle.std.specs.Prelude.{◌≡◌, ◌≢◌, ℕ, zero, suc, ◌+◌, ◌<◌, ◌≤◌, Bool, List, ◌++◌, length, take, map, Contains, Option, Some, slice_get}
 use Rattle.hz_outside.specs.Counts.{Rose}
 use Rattle.hz_outside.specs.Written.{grown}
