@@ -59,7 +59,7 @@ text-ends Replay netlist text wanted own said good comes = runs-end netlist text
 text-ends Convert netlist text wanted own said good comes = convert-done netlist text own said good.0 comes ∙ sym good.1
 
 -- the bytes of a file that is told are the told ones
-told-bytes : (told : Told) (bytes_of : List ℕ → List ℕ) (name bytes : List ℕ) → told.held ≡ Some bytes_of → IfSome told.held (λ bytes_of. bytes ≡ bytes_of name) → bytes ≡ bytes_of name
+pub told-bytes : (told : Told) (bytes_of : List ℕ → List ℕ) (name bytes : List ℕ) → told.held ≡ Some bytes_of → IfSome told.held (λ bytes_of. bytes ≡ bytes_of name) → bytes ≡ bytes_of name
 told-bytes told bytes_of name bytes is_told is =
     subst (λ (held : Option (List ℕ → List ℕ)). IfSome held (λ bytes_of. bytes ≡ bytes_of name)) is_told is
 

@@ -13,3 +13,4 @@ pub mod ReportLines
 pub mod GoingOn
 pub mod FirstOnly
 pub mod ReadBack
+pub mod Headlines

@@ -19,6 +19,9 @@
 -- accepted_line runs, no_line netlist number refused: the lines of the verdict
 -- ConvertComes netlist runs status text: the conversion
 -- IsFaultlessJob told job status: nothing is to be refused in the job, which ends with this status
+-- Headline written faults told asked was now status: the headline of a call
+-- IsExactReport show netlist_text script_text report: the headline of a report
+-- IsExact netlist input start finding: the headline of one change
 -- MadeSteps was now steps: what the code's replay does in terms of a replayer's state
 
 pub mod Ending
@@ -31,3 +34,4 @@ pub mod RunTexts
 pub mod Reports
 pub mod Outcome
 pub mod Faultless
+pub mod Headline

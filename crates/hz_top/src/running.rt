@@ -5,12 +5,14 @@ ghost use Rattle.hz_outside.specs.Counts.{Rose};
 ghost use Rattle.hz_words.specs.Job.{JobOf, job_of, names_of, IsInRange};
 ghost use Rattle.hz_top.specs.Answer.{Answers};
 ghost use Rattle.hz_top.specs.Faultless.{IsFaultlessJob};
+ghost use Rattle.hz_top.specs.Headline.{Headline};
 ghost use Rattle.hz_top.specs.Outcome.{told_by, JobComes, MayLoad};
 
 use crate::demo::demo;
 use crate::order::work_on_files;
 use crate::refusal::put_words;
 use crate::status::{Status, status_after};
+use hz_bench::faultless_text_is_circuit;
 use hz_outside::{Files, Sink};
 use hz_words::{Job, WordsFault};
 use std::alloc::Global;
@@ -21,6 +23,9 @@ use std::alloc::Global;
 /// and the second at the second, each at most once. The text goes into the sink, line by line; a refusal is one line.
 pub fn run<F: Files, K: Sink>(alloc: Global, words: &[String], files: &mut F, out: &mut K) -> Status
     requires { MayLoad (F.granted files.old) (job_of (map string_bytes words.now)) }
+    ensures headline { Headline K.written K.faults
+        (told_by F.held F.faults F.longs files.old files.new) (job_of (map string_bytes words.now))
+        out.old out.new result }
     ensures answer { Answers K.written K.faults
         (JobComes (told_by F.held F.faults F.longs files.old files.new) (job_of (map string_bytes words.now)))
         out.old out.new result }
@@ -28,6 +33,17 @@ pub fn run<F: Files, K: Sink>(alloc: Global, words: &[String], files: &mut F, ou
         → IsFaultlessJob (told_by F.held F.faults F.longs files.old files.new) job own
         → ¬ Rose (K.faults out.old) (K.faults out.new)
         → (result ≡ own) ⊎ (result ≡ Status.Memory) }
+{
+    faultless_text_is_circuit();
+    answer(alloc, words, files, out)
+}
+
+// Reads the words, and does the job that they ask for.
+fn answer<F: Files, K: Sink>(alloc: Global, words: &[String], files: &mut F, out: &mut K) -> Status
+    requires { MayLoad (F.granted files.old) (job_of (map string_bytes words.now)) }
+    ensures { Answers K.written K.faults
+        (JobComes (told_by F.held F.faults F.longs files.old files.new) (job_of (map string_bytes words.now)))
+        out.old out.new result }
 {
     match hz_words::read(alloc, words) {
         Ok(job) => work(alloc, job, files, out),

@@ -1,31 +1,19 @@
-use Rattle.std.proofs.Common.{◌≡◌, None, refl, subst, sym, Option, map}
+use Rattle.std.proofs.Common.{map}
 use Rattle.std.specs.String.{string_bytes}
-use Rattle.hz_top.specs.declared.status.Status.TheVariants as status
-use Rattle.hz_top.specs.Answer.{Answers}
-use Rattle.hz_words.specs.Job.{JobOf, job_of}
-use Rattle.hz_words.specs.Reading.{Reads}
-use Rattle.hz_top.specs.Outcome.{JobComes, told_by}
-use Rattle.hz_top.specs.Refusal.{words_line}
-use Rattle.hz_top.proofs.Endings.{Answers-put}
+use Rattle.hz_words.specs.Job.{job_of}
+use Rattle.hz_top.specs.Outcome.{told_by}
 use Rattle.hz_top.proofs.Done.{ends-or-memory}
+use Rattle.hz_top.proofs.Headlines.{headline}
 use Rattle.hz_top.proofs.running.run.Goals as goal
 
-pub returns-in-Ok-clause-answer : goal.returns-in-Ok-clause-answer
-returns-in-Ok-clause-answer g c =
-    let told = told_by g.F.Files.held g.F.Files.faults g.F.Files.longs c.args.files.now c.work.new.files in
-    subst (λ (job : Option JobOf). Answers g.K.Sink.written g.K.Sink.faults (JobComes told job) c.args.out.now c.work.new.out c.work.result) (sym c.in-Ok.ensures.job) c.work.ensures
+pub returns-clause-headline : goal.returns-clause-headline
+returns-clause-headline g c =
+    let told = told_by g.F.Files.held g.F.Files.faults g.F.Files.longs c.args.files.now c.answer.new.files in
+    headline g.K.Sink.written g.K.Sink.faults told (job_of (map string_bytes c.args.words.now)) c.args.out.now c.answer.new.out c.answer.result
+    c.faultless_text_is_circuit.ensures c.answer.ensures
 
-pub returns-in-Ok-clause-done : goal.returns-in-Ok-clause-done
-returns-in-Ok-clause-done g c =
-    let told = told_by g.F.Files.held g.F.Files.faults g.F.Files.longs c.args.files.now c.work.new.files in
-    ends-or-memory g.K.Sink.written g.K.Sink.faults told (job_of (map string_bytes c.args.words.now)) c.args.out.now c.work.new.out c.work.result
-    (returns-in-Ok-clause-answer g c)
-
-pub returns-in-Err-Refused-clause-answer : goal.returns-in-Err-Refused-clause-answer
-returns-in-Err-Refused-clause-answer g c =
-    let told = told_by g.F.Files.held g.F.Files.faults g.F.Files.longs c.args.files.now c.args.files.now in
-    let asked = job_of (map string_bytes c.args.words.now) in
-    let none : asked ≡ None = rw (c.in-Err-Refused.is, c.in-Err-Refused.field-0-is) at c.read.ensures.job in
-    Answers-put g.K.Sink.written g.K.Sink.faults (JobComes told asked) c.args.out.now c.put_words.new.out status.Words words_line
-    c.put_words.result c.status_after.result tt
-    (subst (λ (job : Option JobOf). JobComes told job status.Words words_line) (sym none) ((λ place. (refl, refl)), (refl, refl))) c.put_words.ensures c.status_after.ensures
+pub returns-clause-done : goal.returns-clause-done
+returns-clause-done g c =
+    let told = told_by g.F.Files.held g.F.Files.faults g.F.Files.longs c.args.files.now c.answer.new.files in
+    ends-or-memory g.K.Sink.written g.K.Sink.faults told (job_of (map string_bytes c.args.words.now)) c.args.out.now c.answer.new.out c.answer.result
+    c.answer.ensures

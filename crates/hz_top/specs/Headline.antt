@@ -1,0 +1,95 @@
+-- The headline, in the order of its words. If a netlist is accepted, its start is stable and its inputs change, then the report
+-- prints of each variable, as A, the join of the values that it takes in all states that runs of the multiple-winner model reach,
+-- and as B, the join over the states that are reached from the nontransient cycles of these runs. Both algorithms end after at most
+-- one round more than there are variables. Every X comes with printed runs that show both values, and that `replay` accepts.
+use Rattle.std.specs.Prelude.{◌≡◌, ◌≢◌, ℕ, zero, suc, ◌+◌, ◌<◌, ◌≤◌, Bool, List, ◌++◌, length, take, map, Contains, Option, Some, slice_get}
+use Rattle.hz_outside.specs.Counts.{Rose}
+use Rattle.hz_outside.specs.Written.{grown}
+use Rattle.hz_core.specs.Netlist.{Netlist}
+use Rattle.hz_net.specs.Network.{Driver, network_of, bit_at, value_at}
+use Rattle.hz_net.specs.Passes.{algorithm_a, algorithm_b, IsUnknown, AreRounds}
+use Rattle.hz_net.specs.Starts.{IsStableStart, IsAcceptedStart}
+use Rattle.hz_gmw.specs.Runs.{IsRun, end_of, IsReachable, JoinsTo}
+use Rattle.hz_gmw.specs.Cycles.{states_of, IsNontransient, IsOutcome}
+use Rattle.hz_free.specs.Feedback.{AreFeedbackCycles}
+use Rattle.hz_text.specs.ScriptText.{IsValue}
+use Rattle.hz_text.specs.ScriptValue.{ScriptOf}
+use Rattle.hz_desk.specs.Finding.{FindingOf, values_a, values_b}
+use Rattle.hz_seq.specs.Sequence.{changed_input, IsSettledAt}
+use Rattle.hz_seq.specs.Analyses.{Analysis, Found}
+use Rattle.hz_report.specs.declared.show.Show.{Show}
+use Rattle.hz_report.specs.Report.{head_text}
+use Rattle.hz_words.specs.declared.job.Task.TheVariants.{Analyse}
+use Rattle.hz_words.specs.Job.{JobOf, OnFiles}
+use Rattle.hz_top.specs.declared.status.Status.{Status}
+use Rattle.hz_top.specs.declared.status.Status.TheVariants.{Done, Memory}
+use Rattle.hz_top.specs.Faultless.{AreFaultlessFiles}
+use Rattle.hz_top.specs.Outcome.{Told, IsNetlistText}
+use Rattle.hz_top.specs.Reports.{AnalysisReplays, analyses_text}
+
+-- variable i takes both values in states
+abbrev pub TakesBoth : List (List Bool) → ℕ → Type 0
+TakesBoth states i = (bit : Bool) → (state : List Bool) × Contains states state × (bit_at state i ≡ bit)
+
+-- What the headline says of one change, from a start to a new input:
+-- the A of each variable is the join of its values over all states that runs from the start reach;
+-- its B is the join over all states that are reached from the nontransient cycles of these runs;
+-- both passes end, each within one round more than there are variables;
+-- the spread run is a run from the start in whose states each variable that is X in A takes both values;
+-- the settle run is a run from the start, and from its last state there is a nontransient cycle in whose states each variable that
+-- is X in B takes both values;
+-- and the printed run text, in the job `replay`, comes to `yes`.
+pub record IsExact (netlist : Netlist) (input start : List Bool) (finding : FindingOf) : Type 0 where
+  pub a : (i : ℕ) → i < length (network_of netlist) → JoinsTo (IsReachable (network_of netlist) input start) i (value_at (values_a finding.rows) i)
+  pub b : (i : ℕ) → i < length (network_of netlist) → JoinsTo (IsOutcome (network_of netlist) input start) i (value_at (values_b finding.rows) i)
+  pub rounds_a : AreRounds (algorithm_a (network_of netlist) input start) finding.rounds_a
+  pub few_a : finding.rounds_a ≤ length (network_of netlist) + 1
+  pub rounds_b : AreRounds (algorithm_b (network_of netlist) input (values_a finding.rows)) finding.rounds_b
+  pub few_b : finding.rounds_b ≤ length (network_of netlist) + 1
+  pub spread : IsRun (network_of netlist) input start finding.spread
+  pub both_a : (i : ℕ) → IsUnknown (value_at (values_a finding.rows) i) → TakesBoth (states_of start finding.spread) i
+  pub settle : IsRun (network_of netlist) input start finding.settle
+  pub cycle : IsNontransient (network_of netlist) input (end_of start finding.settle) finding.cycle
+  pub both_b : (i : ℕ) → IsUnknown (value_at (values_b finding.rows) i) → TakesBoth (states_of (end_of start finding.settle) finding.cycle) i
+  pub replays : AnalysisReplays netlist (Found finding)
+
+-- Where the change with a number starts, counted from 0: the first one at the start of the script, each later one at the B of the
+-- change before, which has no X.
+abbrev pub StartsAt : List Bool → List Analysis → ℕ → List Bool → Type 0
+StartsAt start analyses zero from = from ≡ start
+StartsAt start analyses (suc before) from =
+    (finding : FindingOf) × (slice_get analyses before ≡ Some (Found finding)) × IsSettledAt (values_b finding.rows) from
+
+-- a change that was made starts at a stable state, and the headline holds of it
+pub record IsExactChange (netlist : Netlist) (start : List Bool) (analyses : List Analysis) (number : ℕ) (change : List (ℕ × Bool)) (finding : FindingOf) : Type 0 where
+  pub from : List Bool
+  pub starts : StartsAt start analyses number from
+  pub stable : IsStableStart netlist from
+  pub exact : IsExact netlist (changed_input (take netlist.inputs from) change) from finding
+
+-- The report on the texts of a netlist and a script: its lines are those of the circuit, of the start and of what each change comes
+-- to, and of each change that is made the headline holds.
+pub record IsExactReport (show : Show) (netlist_text script_text report : List ℕ) : Type 0 where
+  pub netlist : Netlist
+  pub is_netlist : IsNetlistText netlist_text netlist
+  pub script : ScriptOf
+  pub is_script : IsValue netlist script_text script
+  pub start : List Bool
+  pub is_start : IsAcceptedStart netlist script.start start
+  pub cycles : List (List ℕ)
+  pub are_cycles : AreFeedbackCycles (network_of netlist) cycles
+  pub analyses : List Analysis
+  pub one_each : length analyses ≡ length script.changes
+  pub lines : report ≡ head_text netlist cycles start ++ analyses_text netlist show 1 script.changes analyses
+  pub exact :
+      (number : ℕ) (change : List (ℕ × Bool)) (finding : FindingOf) → slice_get script.changes number ≡ Some change
+      → slice_get analyses number ≡ Some (Found finding) → IsExactChange netlist start analyses number change finding
+
+-- The headline of a call that is asked to analyse: if the netlist is accepted, the script has no fault and its start is stable, no
+-- load and no put fails and memory suffices, the call is done, and the text that it wrote is such a report.
+abbrev pub Headline : {S : Type 0} → (S → Option (List ℕ)) → (S → ℕ) → Told → Option JobOf → S → S → Status → Type 0
+Headline written faults told asked was now result =
+    (cap : ℕ) (show : Show) (first second : List ℕ) → asked ≡ Some (OnFiles (Analyse cap show) first second)
+    → (good : AreFaultlessFiles told (Analyse cap show) first second Done) → ¬ Rose (faults was) (faults now) → result ≢ Memory
+    → (result ≡ Done) × ((report : List ℕ) × (written now ≡ grown (written was) report)
+    × IsExactReport show (good.bytes_of first) (good.bytes_of second) report)
