@@ -2,6 +2,7 @@
 
 mod build;
 mod keyword;
+mod laws;
 mod number;
 mod order;
 mod print;
@@ -13,6 +14,9 @@ mod text;
 mod variables;
 mod version;
 
-pub use print::{print_run, write_end, write_run, write_run_text, write_states, write_variable, write_version};
+pub use laws::printed_runs_are_read;
+pub use print::{
+    print_run, write_end, write_run, write_run_text, write_states, write_variable, write_version,
+};
 pub use read::read_run;
 pub use text::RunText;
