@@ -42,4 +42,3 @@ pub record IsReport (netlist : Netlist) (cap : ℕ) (show : Show) (start : List 
 -- the job is done with this text
 abbrev pub Reports : Netlist → ℕ → Show → List Bool → List (List (ℕ × Bool)) → Status → List ℕ → Type 0
 Reports netlist cap show start changes own text = (own ≡ status.Done) × IsReport netlist cap show start changes text
-

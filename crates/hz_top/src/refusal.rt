@@ -217,11 +217,7 @@ fn put_open<K: Sink>(out: &mut K, circuit: &Circuit, gate: u32) -> Result<(), Pu
 
 // A gate that is unstable at the start.
 #[tactic(auto, unfolding(crate::specs::Refusal::unstable_line))]
-fn put_unstable<K: Sink>(
-    out: &mut K,
-    circuit: &Circuit,
-    gate: u32,
-) -> Result<(), PutFault>
+fn put_unstable<K: Sink>(out: &mut K, circuit: &Circuit, gate: u32) -> Result<(), PutFault>
     requires { gate < length circuit.now.names }
     ensures { Wrote K.written K.faults (unstable_line circuit.now gate) out.old out.new result }
 {

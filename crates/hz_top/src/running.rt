@@ -45,7 +45,11 @@ fn work<F: Files, K: Sink>(alloc: Global, job: Job<'_>, files: &mut F, out: &mut
         out.old out.new result }
 {
     match job {
-        Job::OnFiles { task, first, second } => work_on_files(alloc, task, first, second, files, out),
+        Job::OnFiles {
+            task,
+            first,
+            second,
+        } => work_on_files(alloc, task, first, second, files, out),
         Job::Demo { number, cap } => demo(alloc, number, cap, out),
     }
 }
