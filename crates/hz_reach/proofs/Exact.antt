@@ -5,14 +5,13 @@ use Rattle.std.proofs.lemmas.Bool.{cases_eq, cases_lt, and_parts, and_from, not-
 use Rattle.hz_core.specs.declared.tri.Tri.{Tri}
 use Rattle.hz_core.specs.declared.tri.Tri.TheVariants.{Zero, One, Unknown}
 use Rattle.hz_core.specs.declared.kind.Kind.{Kind}
-use Rattle.hz_core.specs.Ternary.{admits, IsJoinOf}
+use Rattle.hz_core.specs.Ternary.{admits, IsJoinOf, Refines}
 use Rattle.hz_core.specs.Netlist.{Netlist, IsCircuit}
 use Rattle.hz_core.proofs.Refinements.{get_or-Refines}
 use Rattle.hz_net.specs.Network.{Driver, External, Function, Source, driver_at, network_of, bit_at, value_at, IsStable}
 use Rattle.hz_net.specs.Reads.{IsWired}
 use Rattle.hz_net.specs.Passes.{algorithm_a, AreRounds, AreRanks}
 use Rattle.hz_gmw.specs.Runs.{is_listed, end_of, IsReachable, JoinsTo}
-use Rattle.hz_gmw.proofs.CoverA.{covers}
 use Rattle.hz_reach.specs.Order.{key_at}
 use Rattle.hz_core.specs.Pattern.{differs}
 use Rattle.hz_reach.specs.Picked.{picked}
@@ -210,9 +209,15 @@ joins-by set One true here admitted complement = (here, λ there. let no_bit = a
 joins-by set Unknown false here admitted complement = (here, complement refl)
 joins-by set Unknown true here admitted complement = (complement refl, here)
 
--- Algorithm A is exact
-pub exact : (netlist : Netlist) (input old start : List Bool) (rounds i : ℕ) → IsCircuit netlist → length start ≡ length (network_of netlist) → IsStable (network_of netlist) old start → AreRounds (algorithm_a (network_of netlist) input start) rounds → JoinsTo (IsReachable (network_of netlist) input start) i (value_at (algorithm_a (network_of netlist) input start rounds) i)
-exact netlist input old start rounds i circuit long stable are =
+-- Algorithm A covers the reachable states
+abbrev pub Covers : Type 0
+Covers =
+    (net : List Driver) (input start state : List Bool) (rounds : ℕ) → length start ≡ length net → AreRounds (algorithm_a net input start) rounds →
+    IsReachable net input start state → Refines state (algorithm_a net input start rounds)
+
+-- Algorithm A is exact, since it covers
+pub exact : Covers → (netlist : Netlist) (input old start : List Bool) (rounds i : ℕ) → IsCircuit netlist → length start ≡ length (network_of netlist) → IsStable (network_of netlist) old start → AreRounds (algorithm_a (network_of netlist) input start) rounds → JoinsTo (IsReachable (network_of netlist) input start) i (value_at (algorithm_a (network_of netlist) input start rounds) i)
+exact covers netlist input old start rounds i circuit long stable are =
     let net = network_of netlist in
     let ranks = ranks_of (algorithm_a net input start) rounds in
     let ranked : AreRanks (algorithm_a net input start) (algorithm_a net input start rounds) ranks = ranks-exist (algorithm_a net input start) rounds in

@@ -14,6 +14,8 @@ ghost use Rattle.hz_net.specs.Network.{network_of, value_at, IsStable};
 ghost use Rattle.hz_net.specs.Passes.{algorithm_a, AreRounds};
 ghost use Rattle.hz_gmw.specs.Runs.{IsReachable, JoinsTo};
 
+use hz_gmw::a_covers;
+
 mod counts;
 mod existence;
 mod scratch;
@@ -29,4 +31,6 @@ pub use spreading::{mark_changed, spread_run};
 /// there and another has 1.
 pub fn a_is_exact()
     ensures { (netlist : Netlist) (input own start : List Bool) (rounds i : ℕ) → IsCircuit netlist → length start ≡ length (network_of netlist) → IsStable (network_of netlist) own start → AreRounds (algorithm_a (network_of netlist) input start) rounds → JoinsTo (IsReachable (network_of netlist) input start) i (value_at (algorithm_a (network_of netlist) input start rounds) i) }
-{}
+{
+    a_covers();
+}

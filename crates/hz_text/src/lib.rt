@@ -26,8 +26,8 @@ pub use fault::TextFault;
 pub use limit::MAX_TEXT;
 pub use printing::{bit_letter, write_assignments, write_bits};
 pub use run::{
-    RunText, print_run, read_run, write_end, write_run, write_run_text, write_states,
-    write_variable, write_version,
+    RunText, print_run, printed_runs_are_read, read_run, write_end, write_run, write_run_text,
+    write_states, write_variable, write_version,
 };
 pub use script::{MAX_CHANGES, Script, print_script, read_script};
 

@@ -14,9 +14,11 @@
 //! | `build` | the run text of statements without a fault |
 //! | `text` | [`RunText`]: a start, an input, and runs |
 //! | `print` | [`print_run`], and the functions that write its lines |
+//! | `laws` | the law that printed run texts are read as what was printed |
 
 mod build;
 mod keyword;
+mod laws;
 mod number;
 mod order;
 mod print;
@@ -28,6 +30,7 @@ mod text;
 mod variables;
 mod version;
 
+pub use laws::printed_runs_are_read;
 pub use print::{
     print_run, write_end, write_run, write_run_text, write_states, write_variable, write_version,
 };

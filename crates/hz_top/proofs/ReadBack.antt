@@ -15,9 +15,9 @@ use Rattle.hz_gmw.specs.Cycles.{IsNontransient}
 use Rattle.hz_gmw.specs.Recorded.{flip_count}
 use Rattle.hz_reach.specs.Counts.{StepsAreNoMoreThanFlips}
 use Rattle.hz_text.specs.RunPrinted.{run_text_printed}
+use Rattle.hz_text.specs.RunReadBack.{PrintedRunsAreRead}
 use Rattle.hz_text.specs.RunText.{IsRunTextFor}
 use Rattle.hz_text.specs.RunValue.{RunOf, RunTextOf, cycle_steps, all_steps}
-use Rattle.hz_text.proofs.RunPrintedLaws.{printed-faultless, printed-value}
 use Rattle.hz_desk.specs.declared.finding.Row.{Row}
 use Rattle.hz_desk.specs.Finding.{FindingOf, values_a, values_b}
 use Rattle.hz_seq.specs.Sequence.{changed_input, IsFindingOfChange}
@@ -79,10 +79,11 @@ all-inside net input start (run ∷ runs) accepted =
 
 -- runs that are accepted are printed as a text that replays
 pub accepted-replays :
+    PrintedRunsAreRead →
     (netlist : Netlist) (value : RunTextOf) → IsCircuit netlist → length value.nodes ≡ length netlist.names → length value.input ≡ netlist.inputs →
     length (all_steps value.runs) ≤ 2000000 → flip_count (all_steps value.runs) ≤ 2000000 → AreAccepted netlist value →
     ReplaysAs netlist (run_text_printed netlist value) value.runs
-accepted-replays netlist value circuit nodes inputs steps flips accepted =
+accepted-replays read netlist value circuit nodes inputs steps flips accepted =
     let usable : IsRunTextFor netlist value = record {
       nodes = nodes;
       inputs = inputs;
@@ -90,7 +91,8 @@ accepted-replays netlist value circuit nodes inputs steps flips accepted =
       few_steps = steps;
       few_variables = flips;
     } in
-    inr (value, printed-faultless netlist value circuit usable, printed-value netlist value circuit usable, inl (accepted, (refl, refl)))
+    let is = read netlist value circuit usable in
+    inr (value, is.0, is.1, inl (accepted, (refl, refl)))
 
 -- how long two runs are together, the second with a cycle
 two-long : (spread settle cycle : List (List ℕ)) → length (all_steps (record { lead = spread; cycle = None } ∷ record { lead = settle; cycle = Some cycle } ∷ [])) ≡ length spread + (length settle + length cycle)
@@ -115,10 +117,10 @@ two-flips spread settle cycle =
 
 -- the runs of a right finding are printed as such a text
 pub finding-replays :
-    StepsAreNoMoreThanFlips →
+    PrintedRunsAreRead → StepsAreNoMoreThanFlips →
     (netlist : Netlist) (cap : ℕ) (start : List Bool) (change : List (ℕ × Bool)) (finding : FindingOf) → IsCircuit netlist → IsStableStart netlist start →
     IsFindingOfChange netlist cap start change finding → AnalysisReplays netlist (Found finding)
-finding-replays no_more netlist cap start change finding circuit begins right =
+finding-replays read no_more netlist cap start change finding circuit begins right =
     let net = network_of netlist in
     let value = runs_of_finding netlist finding in
     let input = changed_input (take netlist.inputs start) change in
@@ -150,7 +152,7 @@ finding-replays no_more netlist cap start change finding circuit begins right =
     (record { lead = right.spread.run; cycle = tt })
     (All-cons (IsAcceptedRun net input start) (record { lead = finding.settle; cycle = Some finding.cycle }) []
     (record { lead = right.settle.run; cycle = right.cycle.nontransient }) (All-nil (IsAcceptedRun net input start))) in
-    accepted-replays netlist value circuit nodes fit.input steps flips
+    accepted-replays read netlist value circuit nodes fit.input steps flips
     (subst (λ (bits : List Bool). All (IsAcceptedRun net bits (start_of netlist value)) value.runs) same_input
     (subst (λ (state : List Bool). All (IsAcceptedRun net input state) value.runs) from accepted))
 
@@ -160,17 +162,17 @@ all-stopped-replay netlist var (change ∷ changes) = All-cons (AnalysisReplays 
 
 -- and so are those of all analyses
 pub analyses-replay :
-    StepsAreNoMoreThanFlips →
+    PrintedRunsAreRead → StepsAreNoMoreThanFlips →
     (netlist : Netlist) (cap : ℕ) (changes : List (List (ℕ × Bool))) (start : List Bool) (analyses : List Analysis) → IsCircuit netlist → IsStableStart netlist start →
     AreAnalyses netlist cap start changes analyses → All (AnalysisReplays netlist) analyses
-analyses-replay no_more netlist cap [] start [] circuit begins are = All-nil (AnalysisReplays netlist)
-analyses-replay no_more netlist cap [] start (analysis ∷ analyses) circuit begins are = absurd are
-analyses-replay no_more netlist cap (change ∷ changes) start [] circuit begins are = absurd are
-analyses-replay no_more netlist cap (change ∷ changes) start (Stopped var ∷ analyses) circuit begins are = absurd are
-analyses-replay no_more netlist cap (change ∷ changes) start (Found finding ∷ analyses) circuit begins are =
-    All-cons (AnalysisReplays netlist) (Found finding) analyses (finding-replays no_more netlist cap start change finding circuit begins are.0) (elim are.1 [
+analyses-replay read no_more netlist cap [] start [] circuit begins are = All-nil (AnalysisReplays netlist)
+analyses-replay read no_more netlist cap [] start (analysis ∷ analyses) circuit begins are = absurd are
+analyses-replay read no_more netlist cap (change ∷ changes) start [] circuit begins are = absurd are
+analyses-replay read no_more netlist cap (change ∷ changes) start (Stopped var ∷ analyses) circuit begins are = absurd are
+analyses-replay read no_more netlist cap (change ∷ changes) start (Found finding ∷ analyses) circuit begins are =
+    All-cons (AnalysisReplays netlist) (Found finding) analyses (finding-replays read no_more netlist cap start change finding circuit begins are.0) (elim are.1 [
       | inl settled ↦
-          analyses-replay no_more netlist cap changes settled.0 analyses circuit
+          analyses-replay read no_more netlist cap changes settled.0 analyses circuit
           (next-start netlist (changed_input (take netlist.inputs start) change) start settled.0 cap finding circuit (input-long netlist start change circuit begins) are.0 settled.1) settled.2
       | inr unsettled ↦ subst (All (AnalysisReplays netlist)) (sym unsettled.2) (all-stopped-replay netlist unsettled.0 changes)
     ])

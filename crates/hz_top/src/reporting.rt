@@ -18,7 +18,7 @@ use hz_outside::{PutFault, Sink};
 use hz_reach::run_counts;
 use hz_report::{Show, write_change, write_head, write_stopped};
 use hz_seq::Sequence;
-use hz_text::Script;
+use hz_text::{Script, printed_runs_are_read};
 use hz_write::Writer;
 use std::alloc::Global;
 
@@ -68,8 +68,9 @@ fn write_report<K: Sink>(
     ensures { (text : List ℕ) × IsReport net.now cap show start.now script.now.changes text
         × Wrote K.written K.faults text out.old out.new result }
 {
-    // The law tells that the printed runs have few steps.
+    // The laws tell that the printed runs have few steps, and that what is printed is read as these runs.
     run_counts();
+    printed_runs_are_read();
     let mut writer = Writer::new(out);
     write_head(&mut writer, net, sequence.desk().free(), start);
     write_changes(&mut writer, net, script, cap, show, sequence);

@@ -14,7 +14,17 @@ fn words_of(alloc: Global, words: &[&str]) -> Result<Vec<String>, AllocError> {
     Ok(all)
 }
 
-// Runs a job over a netlist and a second text. The load and the put of these numbers fail, and of number 0 none does.
+// Pieces of a text, one after the other.
+fn joined(alloc: Global, pieces: &[&str]) -> Result<String, AllocError> {
+    let mut text = String::new(alloc);
+    for piece in pieces {
+        text.push_str(piece)?;
+    }
+    Ok(text)
+}
+
+// Runs a job over a netlist and a second text. The load and the put of these numbers fail, and of number 0 none does. The put
+// that fails takes so many bytes.
 fn run_job(
     alloc: Global,
     job: &str,
@@ -22,14 +32,14 @@ fn run_job(
     netlist: &str,
     second: &str,
     load: u64,
-    put: u64,
+    (put, taken): (u64, usize),
 ) -> Result<(Status, MemSink), Fail> {
     let mut files = MemFiles::new(alloc);
     files.add("n", netlist.as_bytes())?;
     files.add("s", second.as_bytes())?;
     files.fail(load)?;
     let mut out = MemSink::new(alloc);
-    out.fail(put, 3)?;
+    out.fail(put, taken)?;
     let mut words = words_of(alloc, &[job, "n", "s"])?;
     for option in options {
         words.push(String::from_str(alloc, option)?)?;
@@ -39,7 +49,17 @@ fn run_job(
 }
 
 // The NOR latch.
-const LATCH: &str = "INPUT(r)\nINPUT(s)\nOUTPUT(q)\nq = NOR(r, qb)\nqb = NOR(s, q)\n";
+const LATCH: &str = "INPUT(r)\nINPUT(s)\nOUTPUT(q)\nOUTPUT(qb)\nq = NOR(r, qb)\nqb = NOR(s, q)\n";
+
+// The start and the input of its runs, the two runs that are printed of its critical race, and the cycle of the second.
+const STATES: &str = "start r=1 s=1 q=0 qb=0\ninput r=0 s=0\n";
+
+const SPREAD: &str = "run\nstep r s\nstep q(1)\nstep q\nstep qb(1)\nstep qb\nstep q(2) qb(2)\n";
+
+const SETTLE: &str =
+    "run\nstep r s\nstep q(1)\nstep q\nstep qb(1)\nstep qb\nstep q(2)\nstep q qb(2)\nstep qb\n";
+
+const CYCLE: &str = "cycle\nstep q(2)\nstep q qb(2)\nstep qb\nstep q(2)\nstep q qb(2)\nstep qb\n";
 
 // A multiplexer, whose output has a static hazard where the selecting input changes.
 const MULTIPLEXER: &str = "INPUT(s)\nINPUT(x)\nINPUT(y)\nOUTPUT(z)\n\
@@ -61,7 +81,13 @@ const RING: &str = "INPUT(x)\n\
     w = BUFF(v)\n";
 
 // Options, netlists, scripts and what is printed.
-const REPORTS: [(&[&str], &str, &str, &str); 11] = [
+const REPORTS: [(&[&str], &str, &str, &str); 12] = [
+    (
+        &[],
+        "",
+        "start\n",
+        "netlist inputs 0 gates 0 wires 0 variables 0\nstart\n",
+    ),
     (
         &[],
         "",
@@ -459,7 +485,7 @@ const REPORTS: [(&[&str], &str, &str, &str); 11] = [
 #[test]
 fn reports(rt: HostRuntime) -> Result<(), Fail> {
     for (options, netlist, script, text) in REPORTS {
-        let (status, out) = run_job(rt.alloc(), "analyse", options, netlist, script, 0, 0)?;
+        let (status, out) = run_job(rt.alloc(), "analyse", options, netlist, script, 0, (0, 0))?;
         assert_eq!(rt; status, Status::Done);
         assert_eq!(rt; out.bytes(), text.as_bytes());
     }
@@ -527,53 +553,153 @@ fn refusals(rt: HostRuntime) -> Result<(), Fail> {
         (STICKY, "start a=1\n", 5, "refused: start: open q\n"),
     ];
     for (netlist, script, code, text) in rows {
-        let (status, out) = run_job(rt.alloc(), "analyse", &[], netlist, script, 0, 0)?;
+        let (status, out) = run_job(rt.alloc(), "analyse", &[], netlist, script, 0, (0, 0))?;
         assert_eq!(rt; status.code(), code);
         assert_eq!(rt; out.bytes(), text.as_bytes());
     }
     Ok(())
 }
 
+// A script with more changes than there may be.
+#[test]
+fn too_many_changes(rt: HostRuntime) -> Result<(), Fail> {
+    let mut script = String::from_str(rt.alloc(), "start a=0\n")?;
+    for _ in 0..10_001 {
+        script.push_str("change\n")?;
+    }
+    let (status, out) = run_job(
+        rt.alloc(),
+        "analyse",
+        &[],
+        "INPUT(a)\n",
+        script.as_str(),
+        0,
+        (0, 0),
+    )?;
+    assert_eq!(rt; status, Status::Text);
+    assert_eq!(rt;
+        out.bytes(),
+        b"refused: script line 10002: too many\n".as_slice()
+    );
+    Ok(())
+}
+
+// The printed runs of the latch, and those with one line changed; a ring whose cycle lets a variable wait; and a step of no
+// variable.
 #[test]
 fn replays(rt: HostRuntime) -> Result<(), Fail> {
     let rows = [
         (
-            "run\nstep r\nrun\nstep s\nstep r\ncycle\nstep q(1) qb(1)\nstep q qb\n\
-            step q(2) qb(2)\nstep q qb\nstep q(2) qb(2)\nend\n",
-            1,
-            "no: run 2 cycle: differs q(1)\n",
-        ),
-        (
-            "run\nrun\nstep s r\nend\n",
+            LATCH,
+            [STATES, SPREAD, SETTLE, CYCLE],
             0,
-            "yes: runs 2 steps 1 cycles 0\n",
+            "yes: runs 2 steps 20 cycles 1\n",
         ),
         (
-            "run\nstep r s\nrun\ncycle\nstep r\nstep q\nend\n",
+            LATCH,
+            [
+                STATES,
+                SPREAD,
+                "run\nstep r s\nstep q\nstep qb(1)\nstep qb\nstep q(2)\nstep q qb(2)\nstep qb\n",
+                CYCLE,
+            ],
             1,
             "no: run 2 step 2: stable q\n",
         ),
         (
-            "run\nstep r qb(1) r qb(1)\nend\n",
+            LATCH,
+            [
+                STATES,
+                SPREAD,
+                SETTLE,
+                "cycle\nstep q(2)\nstep q qb(2)\nstep qb\nstep q(2)\nstep q qb(2)\n",
+            ],
+            1,
+            "no: run 2 cycle: differs qb\n",
+        ),
+        (
+            LATCH,
+            [STATES, SPREAD, SETTLE, "cycle\n"],
+            1,
+            "no: run 2 cycle: not stable q(2)\n",
+        ),
+        (
+            LATCH,
+            [
+                STATES,
+                "run\nstep\nstep r s\nstep q(1)\nstep q\nstep qb(1)\nstep qb\nstep q(2) qb(2)\n",
+                SETTLE,
+                CYCLE,
+            ],
+            1,
+            "no: run 1 step 1: empty\n",
+        ),
+        (
+            LATCH,
+            [
+                STATES,
+                "run\nstep r r\nstep q(1)\nstep q\nstep qb(1)\nstep qb\nstep q(2) qb(2)\n",
+                SETTLE,
+                CYCLE,
+            ],
             1,
             "no: run 1 step 1: repeated r\n",
         ),
         (
-            "run\nstep qb(3)\nend\n",
+            "INPUT(e)\ny = NAND(e, y)\nd = BUFF(e)\n",
+            [
+                "start e=0 y=1 d=0\ninput e=1\n",
+                "run\nstep e\nstep y(1)\n",
+                "cycle\nstep y\nstep y(2)\n",
+                "step y\nstep y(2)\n",
+            ],
+            1,
+            "no: run 1 cycle: transient d(1)\n",
+        ),
+        (
+            LATCH,
+            [STATES, "run\nstep qb(3)\n", SETTLE, CYCLE],
             4,
             "refused: runs line 5: unknown name\n",
         ),
     ];
-    for (runs, code, text) in rows {
-        let mut whole = String::from_str(
+    for (netlist, [states, first, second, cycle], code, text) in rows {
+        let whole = joined(
             rt.alloc(),
-            "runs 1\nstart r=1 s=1 q=0 qb=0\ninput r=0 s=0\n",
+            &["runs 1\n", states, first, second, cycle, "end\n"],
         )?;
-        whole.push_str(runs)?;
-        let (status, out) = run_job(rt.alloc(), "replay", &[], LATCH, whole.as_str(), 0, 0)?;
+        let (status, out) = run_job(
+            rt.alloc(),
+            "replay",
+            &[],
+            netlist,
+            whole.as_str(),
+            0,
+            (0, 0),
+        )?;
         assert_eq!(rt; status.code(), code);
         assert_eq!(rt; out.bytes(), text.as_bytes());
     }
+    Ok(())
+}
+
+// The runs that are printed of the latch are read and printed as they stand.
+#[test]
+fn printed_runs(rt: HostRuntime) -> Result<(), Fail> {
+    let whole = joined(
+        rt.alloc(),
+        &[
+            "runs 2\nnet 2 2 4\n",
+            STATES,
+            SPREAD,
+            SETTLE,
+            CYCLE,
+            "end\n",
+        ],
+    )?;
+    let (status, out) = run_job(rt.alloc(), "convert", &[], LATCH, whole.as_str(), 0, (0, 0))?;
+    assert_eq!(rt; status, Status::Done);
+    assert_eq!(rt; out.bytes(), whole.as_bytes());
     Ok(())
 }
 
@@ -593,47 +719,49 @@ fn converts(rt: HostRuntime) -> Result<(), Fail> {
     for (header, code, text) in rows {
         let mut whole = String::from_str(rt.alloc(), header)?;
         whole.push_str(states)?;
-        let (status, out) = run_job(rt.alloc(), "convert", &[], LATCH, whole.as_str(), 0, 0)?;
+        let (status, out) = run_job(rt.alloc(), "convert", &[], LATCH, whole.as_str(), 0, (0, 0))?;
         assert_eq!(rt; status.code(), code);
         assert_eq!(rt; out.bytes(), text.as_bytes());
     }
     Ok(())
 }
 
+// Loads and puts that fail, on the multiplexer.
 #[test]
 fn failures(rt: HostRuntime) -> Result<(), Fail> {
+    let none = (0, 0);
     let rows = [
         (
             "analyze",
             0,
-            0,
+            none,
             2,
             "refused: words; usage: hazard JOB FIRST [SECOND] [--cap N] [--show nodes|all]\n",
         ),
+        ("analyse", 1, none, 6, "refused: first file not read\n"),
+        ("analyse", 2, none, 6, "refused: second file not read\n"),
+        ("analyse", 0, (1, 3), 8, "net"),
         (
             "analyse",
             0,
-            3,
+            (2, 3),
             8,
-            "netlist inputs 1 gates 0 wires 0 variables 1\nstart a=0\ncha",
-        ),
-        ("analyse", 1, 0, 6, "refused: first file not read\n"),
-        ("analyse", 2, 0, 6, "refused: second file not read\n"),
-        ("analyse", 0, 1, 8, "net"),
-        (
-            "analyse",
-            0,
-            2,
-            8,
-            "netlist inputs 1 gates 0 wires 0 variables 1\nsta",
+            "netlist inputs 3 gates 4 wires 7 variables 14\nsta",
         ),
         (
             "analyse",
             0,
-            6,
+            (3, 0),
             8,
-            "netlist inputs 1 gates 0 wires 0 variables 1\nstart a=0\n\
-            change 1 a=1\nrounds A 2 B 2\na start 0 A X B 1 changes 1 single\nrac",
+            "netlist inputs 3 gates 4 wires 7 variables 14\nstart s=1 x=1 y=1 n=0 a=1 b=0 z=1\n",
+        ),
+        (
+            "analyse",
+            0,
+            (6, 3),
+            8,
+            "netlist inputs 3 gates 4 wires 7 variables 14\nstart s=1 x=1 y=1 n=0 a=1 b=0 z=1\n\
+            change 1 s=0\nrounds A 7 B 8\ns start 1 A X B 0 changes 1 single\nx s",
         ),
     ];
     for (job, load, put, code, text) in rows {
@@ -641,8 +769,8 @@ fn failures(rt: HostRuntime) -> Result<(), Fail> {
             rt.alloc(),
             job,
             &[],
-            "INPUT(a)\n",
-            "start a=0\nchange a=1\n",
+            MULTIPLEXER,
+            "start s=1 x=1 y=1\nchange s=0\n",
             load,
             put,
         )?;

@@ -1,6 +1,6 @@
--- The law is proved for all networks of circuits.
+-- The spread run shows each X, and the law that Algorithm A covers says the rest.
 use Rattle.hz_reach.proofs.Exact.{exact}
 use Rattle.hz_reach.proofs.a_is_exact.Goals as goal
 
 pub returns : goal.returns
-returns c = exact
+returns c = exact c.a_covers.ensures

@@ -28,7 +28,7 @@ returns g c =
         are_cycles = subst (λ (n : Netlist). AreFeedbackCycles (network_of n) cycles) same c.free.ensures.feedback.are_cycles;
         analyses = made.0;
         are_analyses = are;
-        replay = analyses-replay c.run_counts.ensures.steps netlist c.args.cap changes c.args.start.now made.0 c.requires.circuit c.requires.start are;
+        replay = analyses-replay c.printed_runs_are_read.ensures c.run_counts.ensures.steps netlist c.args.cap changes c.args.start.now made.0 c.requires.circuit c.requires.start are;
         lines = refl;
       },
       search rules,
