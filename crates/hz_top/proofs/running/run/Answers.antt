@@ -3,7 +3,6 @@ use Rattle.std.specs.String.{string_bytes}
 use Rattle.hz_top.specs.declared.status.Status.TheVariants as status
 use Rattle.hz_top.specs.Answer.{Answers}
 use Rattle.hz_words.specs.Job.{JobOf, job_of}
-use Rattle.hz_words.specs.Reading.{Reads}
 use Rattle.hz_top.specs.Outcome.{JobComes, told_by}
 use Rattle.hz_top.specs.Refusal.{words_line}
 use Rattle.hz_top.proofs.Endings.{Answers-put}
