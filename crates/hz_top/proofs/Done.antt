@@ -1,6 +1,6 @@
 -- How a job ends in which nothing is to be refused but a step or a cycle, where memory does not run out and the output is
 -- taken.
-use Rattle.std.proofs.Common.{◌≡◌, ap, ℕ, ◌⊎◌, inl, inr, List, Option, Some, IfSome, refl, subst, sym, ◌∙◌, arith}
+use Rattle.std.proofs.Common.{◌≡◌, ap, ℕ, ◌⊎◌, inl, inr, List, Option, Some, IfSome, refl, subst, sym, ◌∙◌}
 use Rattle.hz_outside.specs.Counts.{Rose}
 use Rattle.hz_outside.specs.declared.fault.Place.TheVariants.{First, Second}
 use Rattle.hz_core.specs.Netlist.{Netlist}

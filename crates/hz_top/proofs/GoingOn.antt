@@ -1,5 +1,5 @@
 -- A sequence that goes on by one change more.
-use Rattle.std.proofs.Common.{◌≡◌, ◌∙◌, ℕ, Bool, List, [], ◌∷◌, ◌++◌, Option, Some, None, refl, sym, ap, subst}
+use Rattle.std.proofs.Common.{ℕ, Bool, List, [], ◌∷◌, ◌++◌, sym, subst}
 use Rattle.hz_core.specs.Netlist.{Netlist, IsCircuit}
 use Rattle.hz_seq.specs.Sequence.{Sequenced}
 use Rattle.hz_seq.specs.Analyses.{Analysis, Found, Stopped, GoesOn}

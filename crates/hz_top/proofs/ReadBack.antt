@@ -1,5 +1,5 @@
 -- Runs that are accepted are printed as a text that replays, and those of a right finding are.
-use Rattle.std.proofs.Common.{◌≡◌, ◌∙◌, sym, ap, subst, refl, inl, inr, ℕ, suc, ◌+◌, ◌*◌, ◌-◌, ◌<◌, ◌≤◌, Bool, false, List, [], ◌∷◌, ◌++◌, map, Option, None, Some, IfSome, length, get_or, take, All, arith, length-append}
+use Rattle.std.proofs.Common.{◌≡◌, ◌∙◌, sym, ap, subst, refl, inl, inr, ℕ, suc, ◌+◌, ◌-◌, ◌<◌, ◌≤◌, Bool, false, List, [], ◌∷◌, ◌++◌, map, Option, None, Some, IfSome, length, get_or, take, All, arith, length-append}
 use Rattle.std.proofs.lemmas.Bool.{cases_lt}
 use Rattle.std.proofs.lemmas.List.{length-take-le, get_or-take, length-map}
 use Rattle.std.proofs.lemmas.List.Elements.{All-nil, All-cons, All-head, All-tail, All-append}
@@ -10,7 +10,7 @@ use Rattle.hz_net.specs.Network.{Driver, network_of, wires_of, bit_at, driven, I
 use Rattle.hz_net.specs.Starts.{IsStableStart}
 use Rattle.hz_net.specs.Variables.{expanded}
 use Rattle.hz_net.proofs.Places.{no_wire, All-wires_of, length-wires_of, length-network_of, driver_at-wire, length-expanded, bit_at-expanded-node, bit_at-expanded-wire}
-use Rattle.hz_gmw.specs.Runs.{IsRun, end_of}
+use Rattle.hz_gmw.specs.Runs.{end_of}
 use Rattle.hz_gmw.specs.Cycles.{IsNontransient}
 use Rattle.hz_gmw.specs.Recorded.{flip_count}
 use Rattle.hz_reach.specs.Counts.{StepsAreNoMoreThanFlips}

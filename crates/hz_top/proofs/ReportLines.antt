@@ -1,5 +1,5 @@
 -- The lines of one analysis more.
-use Rattle.std.proofs.Common.{◌≡◌, ◌∙◌, ℕ, suc, ◌+◌, Bool, List, [], ◌∷◌, ◌++◌, length, refl, sym, ap, append_assoc, append-nil, arith}
+use Rattle.std.proofs.Common.{◌≡◌, ◌∙◌, ℕ, suc, ◌+◌, Bool, List, [], ◌∷◌, ◌++◌, length, sym, ap, append_assoc, append-nil, arith}
 use Rattle.hz_core.specs.Netlist.{Netlist}
 use Rattle.hz_seq.specs.Analyses.{Analysis}
 use Rattle.hz_report.specs.declared.show.Show.{Show}

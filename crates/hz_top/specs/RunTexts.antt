@@ -1,5 +1,5 @@
 -- What a run text comes to, if a judge says what comes of its value; the judges are the jobs `replay` and `convert`.
-use Rattle.std.specs.Prelude.{◌≡◌, ℕ, ◌⊎◌, List, codes}
+use Rattle.std.specs.Prelude.{ℕ, ◌⊎◌, List, codes}
 use Rattle.hz_core.specs.Netlist.{Netlist}
 use Rattle.hz_text.specs.declared.fault.TextFault.{TextFault}
 use Rattle.hz_text.specs.RunFault.{IsLeastRunFault, IsRunFaultless}

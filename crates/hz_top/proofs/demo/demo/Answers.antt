@@ -1,13 +1,12 @@
 -- The start of a generated script is accepted.
-use Rattle.std.proofs.Common.{◌≡◌, ◌∙◌, ap, sym, subst, length, List, ℕ, Bool, Option, arith, refl}
+use Rattle.std.proofs.Common.{◌≡◌, ◌∙◌, ap, sym, subst, length, List, Bool, Option, arith}
 use Rattle.hz_core.specs.Netlist.{Netlist, IsCircuit}
-use Rattle.hz_net.specs.Starts.{IsAcceptedStart}
 use Rattle.hz_text.specs.ScriptValue.{ScriptOf}
 use Rattle.hz_text.specs.ScriptText.{IsScriptFor}
 use Rattle.hz_gen.specs.Demo.{demo_netlist, demo_script}
 use Rattle.hz_pass.specs.Completed.{IsStartFault}
 use Rattle.hz_top.specs.Answer.{Answers}
-use Rattle.hz_top.specs.Outcome.{DemoComes, SummaryComes, StartSays}
+use Rattle.hz_top.specs.Outcome.{DemoComes, StartSays}
 use Rattle.hz_top.proofs.Endings.{Answers-more}
 use Rattle.hz_top.proofs.Comings.{ListsInputs-front, start-not-refused}
 use Rattle.hz_top.proofs.demo.demo.Goals as goal

@@ -1,9 +1,8 @@
 -- One change after the other.
-use Rattle.std.proofs.Common.{◌≡◌, ◌∙◌, ◌+◌, ◌<◌, ℕ, Bool, List, [], ◌∷◌, ◌++◌, length, take, drop, get_or, Option, None, is_some, true, refl, sym, ap, subst, arith, add-one}
+use Rattle.std.proofs.Common.{◌≡◌, ◌∙◌, ◌+◌, ◌<◌, ℕ, Bool, List, [], ◌∷◌, ◌++◌, length, take, drop, get_or, is_some, true, refl, sym, ap, subst, arith, add-one}
 use Rattle.std.proofs.lemmas.List.{length-take-le, length-append, take-append-drop}
 use Rattle.std.proofs.lemmas.Option.{get_or_from_slice_get}
 use Rattle.std.proofs.Math.Seq.{take-suc, take-length}
-use Rattle.hz_core.specs.Netlist.{Netlist}
 use Rattle.hz_text.specs.ScriptValue.{IsChange}
 use Rattle.hz_write.specs.Writer.{Writes}
 use Rattle.hz_write.proofs.Writers.{writes_nothing, writes_then, writes_failed}

@@ -2,7 +2,7 @@
 use Rattle.std.proofs.Common.{Some, refl, subst, sym}
 use Rattle.hz_words.specs.Job.{names_of}
 use Rattle.hz_words.specs.declared.job.Job.{Job}
-use Rattle.hz_words.specs.declared.job.Job.TheVariants.{OnFiles, Demo}
+use Rattle.hz_words.specs.declared.job.Job.TheVariants.{Demo}
 use Rattle.hz_top.specs.Answer.{Answers}
 use Rattle.hz_top.specs.Outcome.{JobComes, DemoComes, told_by}
 use Rattle.hz_top.proofs.Endings.{Answers-more}
