@@ -11,14 +11,14 @@ use Rattle.std.proofs.lemmas.Slice.Eq.{bytes_eq-Decides}
 use Rattle.hz_line.specs.Statement.{Numbered}
 use Rattle.hz_bench.specs.declared.fault.BenchFault.{BenchFault}
 use Rattle.hz_bench.specs.declared.fault.BenchFault.TheVariants as fault
-use Rattle.hz_bench.specs.Check.{uses_undefined, first_that, fault_or, too_many, first_fault}
+use Rattle.hz_bench.specs.Check.{uses_undefined, first_that, fault_or, too_many_fault, first_fault}
 use Rattle.hz_bench.specs.Definition.{defines, definer, defined_names}
 use Rattle.hz_bench.specs.Netlist.{input_names, cut_names, gate_names, all_inputs, node_names}
-use Rattle.hz_bench.specs.Statement.{Statement, Input, Output, FlipFlop, Gate, defined_name, used_names, has_long_name, has_unknown_kind, has_wrong_pins, pin_count}
-use Rattle.hz_bench.specs.Text.{variables_of, variables_among}
+use Rattle.hz_bench.specs.Statement.{Statement, Input, Output, FlipFlop, Gate, defined_name, used_names, has_long_name, has_unknown_kind, has_wrong_pins, statement_pin_count}
+use Rattle.hz_bench.specs.Text.{variable_total, variable_total_among}
 use Rattle.hz_bench.specs.Twice.{twice_or, earlier_line, twice_after, twice_fault}
 use Rattle.hz_bench.proofs.DefinitionLemmas.{plain, definer-cons, defined_names-push}
-use Rattle.hz_bench.proofs.NotedLemmas.{variables_of-statements}
+use Rattle.hz_bench.proofs.NoteLemmas.{variable_total-statements}
 
 -- the names are new where they come: none is among these or among those before it
 abbrev pub Apart : List (List ℕ) → List (List ℕ) → Type 0
@@ -38,7 +38,7 @@ pub record IsChecked (statements : List Statement) : Type 0 where
   pub gates_apart : Apart (all_inputs statements) (gate_names statements)
   pub pins : AllByRecursion (λ statement. has_wrong_pins statement ≡ false) statements
   pub defined : AllByRecursion (UsesKnown (node_names statements)) statements
-  pub few : variables_of statements ≤ 200000
+  pub few : variable_total statements ≤ 200000
 
 -- no statement passes a test that finds none
 pub each_fails : (test : Statement → Bool) (statements : List (Numbered Statement)) → first_that test statements ≡ None → AllByRecursion (λ statement. test statement ≡ false) (plain statements)
@@ -256,7 +256,7 @@ option_or-none : (answer rest : Option BenchFault) → option_or answer rest ≡
 option_or-none None rest h = (refl, h)
 option_or-none (Some found) rest h = cc
 
-few_enough : (variables : ℕ) → too_many variables ≡ None → variables ≤ 200000
+few_enough : (variables : ℕ) → too_many_fault variables ≡ None → variables ≤ 200000
 few_enough variables h = by_test (nat_lt 200000 variables) refl h
   where
     by_test : (b : Bool) → nat_lt 200000 variables ≡ b → cond b (Some (fault.TooMany variables)) None ≡ None → variables ≤ 200000
@@ -273,7 +273,7 @@ checked statements h =
     let a = fault_or-none (λ found. fault.Name found.line) (first_that has_long_name statements) _ h in
     let b = fault_or-none (λ found. fault.KindUnknown found.line) (first_that has_unknown_kind statements) _ a.1 in
     let d = option_or-none (twice_fault statements) _ b.1 in
-    let e = fault_or-none (λ found. fault.Pins found.line (pin_count found.statement)) (first_that has_wrong_pins statements) _ d.1 in
+    let e = fault_or-none (λ found. fault.Pins found.line (statement_pin_count found.statement)) (first_that has_wrong_pins statements) _ d.1 in
     let f = fault_or-none (λ found. fault.Undefined found.line) (first_that (uses_undefined statements) statements) _ e.1 in
     let apart = apart-from_twice [] statements d.0 in
     record {
@@ -284,7 +284,7 @@ checked statements h =
       gates_apart = gates_apart (all_inputs (plain statements)) [] (plain statements) (no_input (plain statements)) apart;
       pins = each_fails has_wrong_pins statements e.0;
       defined = each_known statements (plain statements) (each_fails (uses_undefined statements) statements f.0);
-      few = (let few = few_enough (variables_among statements) f.1 in let same = variables_of-statements statements in omega (arith, few, same));
+      few = (let few = few_enough (variable_total_among statements) f.1 in let same = variable_total-statements statements in omega (arith, few, same));
     }
 
 -- names that are apart, one list after the other

@@ -9,15 +9,15 @@ use Rattle.hz_core.specs.Netlist.{Netlist, IsCircuit, IsCutNumber, data_of, prim
 use Rattle.hz_core.proofs.CircuitLemmas.{data_of-cut}
 use Rattle.hz_bench.specs.declared.entry.Entry.{Entry}
 use Rattle.hz_bench.specs.declared.forms.Form.TheVariants as form
-use Rattle.hz_bench.specs.Built.{Connecting, IsNode, MayOutput, MayPin, MayPins, MayRead, MaySteps, after_output, after_pin, after_pins, after_read, built, connected, nodes_of, with_data_output, with_data_outputs}
-use Rattle.hz_bench.specs.Entry.{stated, statement_list}
+use Rattle.hz_bench.specs.BuiltNetlist.{BuilderState, HasNode, MayAddOutput, MayAddPinNamed, MayAddPins, MayAddPinFrom, AreAdmissibleSteps, with_output_of, with_pin_named, with_pins_of, with_pin_from, built_netlist, connected_netlist, unconnected_netlist, with_data_output, with_data_outputs}
+use Rattle.hz_bench.specs.Entry.{statement_of_entry, statement_list}
 use Rattle.hz_bench.specs.Netlist.{node_names, number_in, output_names}
 use Rattle.hz_bench.specs.Form.{form_of}
 use Rattle.hz_bench.specs.Statement.{Statement, Input, Output, FlipFlop, Gate, sources_of}
 use Rattle.hz_bench.specs.Uses.{pins_in}
 use Rattle.hz_bench.proofs.EntryLemmas.{entry-formed}
 use Rattle.hz_bench.proofs.BuildLemmas.{entries_may}
-use Rattle.hz_bench.proofs.NetlistLemmas.{nodes_of-is, connected-is}
+use Rattle.hz_bench.proofs.NetlistLemmas.{unconnected_netlist-is, connected-is}
 
 -- the number of a name that a node has is that of a node
 pub number-below : (names : List (List ℕ)) (name : List ℕ) → IsSome (position (bytes_eq name) names) → number_in names name < length names
@@ -28,31 +28,31 @@ number-below names name h = by_test (nat_lt (number_in names name) (length names
     by_test false t h = cc
 
 -- the pins of a gate by names and by numbers
-pins-numbered : (gate : ℕ) (netlist : Netlist) (names : List (List ℕ)) → fold (after_pin gate) netlist names ≡ fold (after_read gate) netlist (map (number_in netlist.names) names)
+pins-numbered : (gate : ℕ) (netlist : Netlist) (names : List (List ℕ)) → fold (with_pin_named gate) netlist names ≡ fold (with_pin_from gate) netlist (map (number_in netlist.names) names)
 pins-numbered gate netlist [] = refl
-pins-numbered gate netlist (name ∷ names) = pins-numbered gate (after_pin gate netlist name) names
+pins-numbered gate netlist (name ∷ names) = pins-numbered gate (with_pin_named gate netlist name) names
 
-may_read : (gate : ℕ) (netlist : Netlist) (names : List (List ℕ)) → MaySteps (MayPin gate) (after_pin gate) netlist names → MaySteps (MayRead gate) (after_read gate) netlist (map (number_in netlist.names) names)
+may_read : (gate : ℕ) (netlist : Netlist) (names : List (List ℕ)) → AreAdmissibleSteps (MayAddPinNamed gate) (with_pin_named gate) netlist names → AreAdmissibleSteps (MayAddPinFrom gate) (with_pin_from gate) netlist (map (number_in netlist.names) names)
 may_read gate netlist [] h = tt
 may_read gate netlist (name ∷ names) h = (
   record { gate_is = h.0.gate_is; node_is = number-below netlist.names name h.0.source_is; pins = h.0.pins; room = h.0.room },
-  may_read gate (after_pin gate netlist name) names h.1,
+  may_read gate (with_pin_named gate netlist name) names h.1,
 )
 
 -- pins leave the names
-names-kept : (gate : ℕ) (netlist : Netlist) (nodes : List ℕ) → (fold (after_read gate) netlist nodes).names ≡ netlist.names
+names-kept : (gate : ℕ) (netlist : Netlist) (nodes : List ℕ) → (fold (with_pin_from gate) netlist nodes).names ≡ netlist.names
 names-kept gate netlist [] = refl
-names-kept gate netlist (node ∷ nodes) = names-kept gate (after_read gate netlist node) nodes
+names-kept gate netlist (node ∷ nodes) = names-kept gate (with_pin_from gate netlist node) nodes
 
 -- a gate whose pins come next, which read the first of the nodes that are left
-record IsGateNow (now : Connecting) (pins : ℕ) (left : List ℕ) (statement : Statement) (rest : List Statement) : Type 0 where
+record IsGateNow (now : BuilderState) (pins : ℕ) (left : List ℕ) (statement : Statement) (rest : List Statement) : Type 0 where
   enough : pins ≤ length left
   room : now.gate < 200000
-  may : MaySteps (MayRead now.gate) (after_read now.gate) now.netlist (take pins left)
-  next : after_pins now statement ≡ record now { netlist = fold (after_read now.gate) now.netlist (take pins left); gate = suc now.gate }
+  may : AreAdmissibleSteps (MayAddPinFrom now.gate) (with_pin_from now.gate) now.netlist (take pins left)
+  next : with_pins_of now statement ≡ record now { netlist = fold (with_pin_from now.gate) now.netlist (take pins left); gate = suc now.gate }
   left_next : drop pins left ≡ pins_in now.netlist.names rest
 
-gate_now : (now : Connecting) (pins : ℕ) (left : List ℕ) (kind : Option Kind) (statement : Statement) (rest : List Statement) → form_of statement ≡ Some (form.Gate kind) → pins ≡ length (sources_of statement) → MayPins now statement
+gate_now : (now : BuilderState) (pins : ℕ) (left : List ℕ) (kind : Option Kind) (statement : Statement) (rest : List Statement) → form_of statement ≡ Some (form.Gate kind) → pins ≡ length (sources_of statement) → MayAddPins now statement
     → left ≡ pins_in now.netlist.names (statement ∷ rest) → IsGateNow now pins left statement rest
 gate_now now pins left kind (Input name) rest h count may is = cc
 gate_now now pins left kind (Output name) rest h count may is = cc
@@ -65,21 +65,21 @@ gate_now now pins left kind (Gate name word sources) rest h count may is =
     record {
       enough = (let all : length left ≡ length (numbers ++ more) = ap length is in omega (arith, all, long, length-append numbers more));
       room = may.0;
-      may = subst (MaySteps (MayRead now.gate) (after_read now.gate) now.netlist) (sym front) (may_read now.gate now.netlist sources may.1);
-      next = ap (λ netlist. record now { netlist = netlist; gate = suc now.gate }) (pins-numbered now.gate now.netlist sources ∙ ap (fold (after_read now.gate) now.netlist) (sym front));
+      may = subst (AreAdmissibleSteps (MayAddPinFrom now.gate) (with_pin_from now.gate) now.netlist) (sym front) (may_read now.gate now.netlist sources may.1);
+      next = ap (λ netlist. record now { netlist = netlist; gate = suc now.gate }) (pins-numbered now.gate now.netlist sources ∙ ap (fold (with_pin_from now.gate) now.netlist) (sym front));
       left_next = ap (drop pins) is ∙ drop_at numbers more pins long;
     }
 
 -- a cut whose data node comes next: the first of the nodes that are left
-record IsCutNow (now : Connecting) (left : List ℕ) (statement : Statement) (rest : List Statement) : Type 0 where
+record IsCutNow (now : BuilderState) (left : List ℕ) (statement : Statement) (rest : List Statement) : Type 0 where
   enough : 1 ≤ length left
   room : now.cut < 200000
   cut_is : IsCutNumber now.netlist now.cut
   node_is : get_or left 0 0 < length now.netlist.names
-  next : after_pins now statement ≡ record now { netlist = with_data now.netlist now.cut (get_or left 0 0); cut = suc now.cut }
+  next : with_pins_of now statement ≡ record now { netlist = with_data now.netlist now.cut (get_or left 0 0); cut = suc now.cut }
   left_next : drop 1 left ≡ pins_in now.netlist.names rest
 
-cut_sources : (now : Connecting) (left : List ℕ) (name : List ℕ) (sources : List (List ℕ)) (rest : List Statement) → MayPins now (FlipFlop name sources)
+cut_sources : (now : BuilderState) (left : List ℕ) (name : List ℕ) (sources : List (List ℕ)) (rest : List Statement) → MayAddPins now (FlipFlop name sources)
     → left ≡ pins_in now.netlist.names (FlipFlop name sources ∷ rest) → IsCutNow now left (FlipFlop name sources) rest
 cut_sources now left name [] rest may is = absurd (let one = may.1.one in omega (arith, one))
 cut_sources now left name (source ∷ next ∷ more) rest may is = absurd (let one = may.1.one in omega (arith, one))
@@ -95,7 +95,7 @@ cut_sources now left name (source ∷ []) rest may is =
       left_next = ap (drop 1) is;
     }
 
-cut_now : (now : Connecting) (left : List ℕ) (statement : Statement) (rest : List Statement) → form_of statement ≡ Some form.FlipFlop → MayPins now statement
+cut_now : (now : BuilderState) (left : List ℕ) (statement : Statement) (rest : List Statement) → form_of statement ≡ Some form.FlipFlop → MayAddPins now statement
     → left ≡ pins_in now.netlist.names (statement ∷ rest) → IsCutNow now left statement rest
 cut_now now left (Input name) rest h may is = cc
 cut_now now left (Output name) rest h may is = cc
@@ -103,7 +103,7 @@ cut_now now left (FlipFlop name sources) rest h may is = cut_sources now left na
 cut_now now left (Gate name kind sources) rest h may is = cc
 
 -- an input reads nothing
-no_pins : (now : Connecting) (statement : Statement) → form_of statement ≡ Some form.Input → (after_pins now statement ≡ now) × (sources_of statement ≡ [])
+no_pins : (now : BuilderState) (statement : Statement) → form_of statement ≡ Some form.Input → (with_pins_of now statement ≡ now) × (sources_of statement ≡ [])
 no_pins now (Input name) h = (refl, refl)
 no_pins now (Output name) h = (refl, refl)
 no_pins now (FlipFlop name sources) h = cc
@@ -111,46 +111,46 @@ no_pins now (Gate name kind sources) h = cc
 
 -- the cuts and gates so far are connected: what is left leads to the whole circuit
 pub record IsConnecting (whole : Netlist) (entries : List Entry) (index : ℕ) (circuit : Netlist) (cut gate : ℕ) (left : List ℕ) : Type 0 where
-  pub rest : (fold after_pins (record { netlist = circuit; cut = cut; gate = gate }) (statement_list (drop index entries))).netlist ≡ whole
-  pub may : MaySteps MayPins after_pins (record { netlist = circuit; cut = cut; gate = gate }) (statement_list (drop index entries))
+  pub rest : (fold with_pins_of (record { netlist = circuit; cut = cut; gate = gate }) (statement_list (drop index entries))).netlist ≡ whole
+  pub may : AreAdmissibleSteps MayAddPins with_pins_of (record { netlist = circuit; cut = cut; gate = gate }) (statement_list (drop index entries))
   pub left_is : left ≡ pins_in circuit.names (statement_list (drop index entries))
 
 module _ (whole : Netlist) (entries : List Entry) (index : ℕ) (circuit : Netlist) (cut gate : ℕ) (left : List ℕ) (entry : Entry) (inside : index < length entries) (is : entry ≡ get_or entries index entry) (was : IsConnecting whole entries index circuit cut gate left) where
-  abbrev now : Connecting
+  abbrev now : BuilderState
   now = record { netlist = circuit; cut = cut; gate = gate }
 
   abbrev later : List Statement
   later = statement_list (drop (index + 1) entries)
 
-  next_is : {Y : Type 0} (F : List Statement → Y) → F (statement_list (drop index entries)) ≡ F (stated entry ∷ later)
-  next_is F = at_drop_more (λ (all : List Entry). F (statement_list all)) entries index entry inside ∙ ap (λ (one : Entry). F (stated one ∷ later)) (sym is)
+  next_is : {Y : Type 0} (F : List Statement → Y) → F (statement_list (drop index entries)) ≡ F (statement_of_entry entry ∷ later)
+  next_is F = at_drop_more (λ (all : List Entry). F (statement_list all)) entries index entry inside ∙ ap (λ (one : Entry). F (statement_of_entry one ∷ later)) (sym is)
 
-  next_may : MayPins now (stated entry) × MaySteps MayPins after_pins (after_pins now (stated entry)) later
-  next_may = entries_may MayPins after_pins now entries index entry inside is was.may
+  next_may : MayAddPins now (statement_of_entry entry) × AreAdmissibleSteps MayAddPins with_pins_of (with_pins_of now (statement_of_entry entry)) later
+  next_may = entries_may MayAddPins with_pins_of now entries index entry inside is was.may
 
   -- one statement more is connected
-  connected_more : (new : Connecting) (back : List ℕ) → after_pins now (stated entry) ≡ new → back ≡ pins_in circuit.names later → new.netlist.names ≡ circuit.names
+  connected_more : (new : BuilderState) (back : List ℕ) → with_pins_of now (statement_of_entry entry) ≡ new → back ≡ pins_in circuit.names later → new.netlist.names ≡ circuit.names
       → IsConnecting whole entries (index + 1) new.netlist new.cut new.gate back
   connected_more new back next left_next names =
       record {
-        rest = sym (next_is (λ all. (fold after_pins now all).netlist) ∙ ap (λ (one : Connecting). (fold after_pins one later).netlist) next) ∙ was.rest;
-        may = subst (λ (one : Connecting). MaySteps MayPins after_pins one later) next next_may.1;
+        rest = sym (next_is (λ all. (fold with_pins_of now all).netlist) ∙ ap (λ (one : BuilderState). (fold with_pins_of one later).netlist) next) ∙ was.rest;
+        may = subst (λ (one : BuilderState). AreAdmissibleSteps MayAddPins with_pins_of one later) next next_may.1;
         left_is = left_next ∙ ap (λ all. pins_in all later) (sym names);
       }
 
-  gate_of : (kind : Option Kind) → entry.form ≡ form.Gate kind → IsGateNow now entry.pins left (stated entry) later
-  gate_of kind h = gate_now now entry.pins left kind (stated entry) later (sym (entry-formed entry) ∙ ap Some h) entry.counted next_may.0 (was.left_is ∙ next_is (pins_in circuit.names))
+  gate_of : (kind : Option Kind) → entry.form ≡ form.Gate kind → IsGateNow now entry.pins left (statement_of_entry entry) later
+  gate_of kind h = gate_now now entry.pins left kind (statement_of_entry entry) later (sym (entry-formed entry) ∙ ap Some h) entry.counted next_may.0 (was.left_is ∙ next_is (pins_in circuit.names))
 
   pub gate-enough : (kind : Option Kind) → entry.form ≡ form.Gate kind → entry.pins ≤ length left
   gate-enough kind h = (gate_of kind h).enough
 
-  pub gate-may : (kind : Option Kind) → entry.form ≡ form.Gate kind → MaySteps (MayRead gate) (after_read gate) circuit (take entry.pins left)
+  pub gate-may : (kind : Option Kind) → entry.form ≡ form.Gate kind → AreAdmissibleSteps (MayAddPinFrom gate) (with_pin_from gate) circuit (take entry.pins left)
   gate-may kind h = (gate_of kind h).may
 
   pub gate-room : (kind : Option Kind) → entry.form ≡ form.Gate kind → gate < 200000
   gate-room kind h = (gate_of kind h).room
 
-  pub gate-connected : (kind : Option Kind) (new : Netlist) → entry.form ≡ form.Gate kind → new ≡ fold (after_read gate) circuit (take entry.pins left)
+  pub gate-connected : (kind : Option Kind) (new : Netlist) → entry.form ≡ form.Gate kind → new ≡ fold (with_pin_from gate) circuit (take entry.pins left)
       → IsConnecting whole entries (index + 1) new cut (gate + 1) (drop entry.pins left)
   gate-connected kind new h made =
       let here = gate_of kind h in
@@ -159,8 +159,8 @@ module _ (whole : Netlist) (entries : List Entry) (index : ℕ) (circuit : Netli
       (here.next ∙ ap (λ netlist. record now { netlist = netlist; gate = suc gate }) (sym made) ∙ ap (λ number. record { netlist = new; cut = cut; gate = number }) one)
       here.left_next (ap (λ (netlist : Netlist). netlist.names) made ∙ names-kept gate circuit (take entry.pins left))
 
-  cut_of : entry.form ≡ form.FlipFlop → IsCutNow now left (stated entry) later
-  cut_of h = cut_now now left (stated entry) later (sym (entry-formed entry) ∙ ap Some h) next_may.0 (was.left_is ∙ next_is (pins_in circuit.names))
+  cut_of : entry.form ≡ form.FlipFlop → IsCutNow now left (statement_of_entry entry) later
+  cut_of h = cut_now now left (statement_of_entry entry) later (sym (entry-formed entry) ∙ ap Some h) next_may.0 (was.left_is ∙ next_is (pins_in circuit.names))
 
   pub cut-enough : entry.form ≡ form.FlipFlop → 1 ≤ length left
   cut-enough h = (cut_of h).enough
@@ -185,19 +185,19 @@ module _ (whole : Netlist) (entries : List Entry) (index : ℕ) (circuit : Netli
 
   pub nothing-connected : entry.form ≡ form.Input → IsConnecting whole entries (index + 1) circuit cut gate left
   nothing-connected h =
-      let same = no_pins now (stated entry) (sym (entry-formed entry) ∙ ap Some h) in
+      let same = no_pins now (statement_of_entry entry) (sym (entry-formed entry) ∙ ap Some h) in
       connected_more now left same.0
       (was.left_is ∙ next_is (pins_in circuit.names) ∙ ap (λ (sources : List (List ℕ)). map (number_in circuit.names) sources ++ pins_in circuit.names later) same.1) refl
 
 -- outputs by names and by numbers
-outputs-numbered : (netlist : Netlist) (statements : List Statement) → fold after_output netlist statements ≡ fold with_output netlist (map (number_in netlist.names) (output_names statements))
+outputs-numbered : (netlist : Netlist) (statements : List Statement) → fold with_output_of netlist statements ≡ fold with_output netlist (map (number_in netlist.names) (output_names statements))
 outputs-numbered netlist [] = refl
 outputs-numbered netlist (Input name ∷ rest) = outputs-numbered netlist rest
 outputs-numbered netlist (Output name ∷ rest) = outputs-numbered (with_output netlist (number_in netlist.names name)) rest
 outputs-numbered netlist (FlipFlop name sources ∷ rest) = outputs-numbered netlist rest
 outputs-numbered netlist (Gate name kind sources ∷ rest) = outputs-numbered netlist rest
 
-may_name : (netlist : Netlist) (statements : List Statement) → MaySteps MayOutput after_output netlist statements → MaySteps IsNode with_output netlist (map (number_in netlist.names) (output_names statements))
+may_name : (netlist : Netlist) (statements : List Statement) → AreAdmissibleSteps MayAddOutput with_output_of netlist statements → AreAdmissibleSteps HasNode with_output netlist (map (number_in netlist.names) (output_names statements))
 may_name netlist [] h = tt
 may_name netlist (Input name ∷ rest) h = may_name netlist rest h.1
 may_name netlist (Output name ∷ rest) h = (number-below netlist.names name h.0, may_name (with_output netlist (number_in netlist.names name)) rest h.1)
@@ -205,25 +205,25 @@ may_name netlist (FlipFlop name sources ∷ rest) h = may_name netlist rest h.1
 may_name netlist (Gate name kind sources ∷ rest) h = may_name netlist rest h.1
 
 -- the names of the circuit are those of the nodes
-pub nodes-named : (statements : List Statement) → (nodes_of statements).names ≡ node_names statements
-nodes-named statements = ap (λ (netlist : Netlist). netlist.names) (nodes_of-is statements)
+pub nodes-named : (statements : List Statement) → (unconnected_netlist statements).names ≡ node_names statements
+nodes-named statements = ap (λ (netlist : Netlist). netlist.names) (unconnected_netlist-is statements)
 
-connected-named : (statements : List Statement) → (connected (nodes_of statements) statements).names ≡ node_names statements
+connected-named : (statements : List Statement) → (connected_netlist (unconnected_netlist statements) statements).names ≡ node_names statements
 connected-named statements = ap (λ (netlist : Netlist). netlist.names) (connected-is statements)
 
 -- the outputs that are used may be added, and they are those of the circuit
 module _ (nodes outputs : List Statement) (numbers : List ℕ) (are : numbers ≡ map (number_in (node_names nodes)) (output_names outputs)) where
-  numbers_are : map (number_in (connected (nodes_of nodes) nodes).names) (output_names outputs) ≡ numbers
+  numbers_are : map (number_in (connected_netlist (unconnected_netlist nodes) nodes).names) (output_names outputs) ≡ numbers
   numbers_are = ap (λ names. map (number_in names) (output_names outputs)) (connected-named nodes) ∙ sym are
 
-  pub outputs-may : MaySteps MayOutput after_output (connected (nodes_of nodes) nodes) outputs → MaySteps IsNode with_output (connected (nodes_of nodes) nodes) numbers
-  outputs-may may = subst (MaySteps IsNode with_output (connected (nodes_of nodes) nodes)) numbers_are (may_name (connected (nodes_of nodes) nodes) outputs may)
+  pub outputs-may : AreAdmissibleSteps MayAddOutput with_output_of (connected_netlist (unconnected_netlist nodes) nodes) outputs → AreAdmissibleSteps HasNode with_output (connected_netlist (unconnected_netlist nodes) nodes) numbers
+  outputs-may may = subst (AreAdmissibleSteps HasNode with_output (connected_netlist (unconnected_netlist nodes) nodes)) numbers_are (may_name (connected_netlist (unconnected_netlist nodes) nodes) outputs may)
 
-  pub outputs-made : with_data_outputs (fold with_output (connected (nodes_of nodes) nodes) numbers) ≡ built nodes outputs
+  pub outputs-made : with_data_outputs (fold with_output (connected_netlist (unconnected_netlist nodes) nodes) numbers) ≡ built_netlist nodes outputs
   outputs-made = ap with_data_outputs outputs_are
     where
-      outputs_are : fold with_output (connected (nodes_of nodes) nodes) numbers ≡ fold after_output (connected (nodes_of nodes) nodes) outputs
-      outputs_are = ap (fold with_output (connected (nodes_of nodes) nodes)) (sym numbers_are) ∙ sym (outputs-numbered (connected (nodes_of nodes) nodes) outputs)
+      outputs_are : fold with_output (connected_netlist (unconnected_netlist nodes) nodes) numbers ≡ fold with_output_of (connected_netlist (unconnected_netlist nodes) nodes) outputs
+      outputs_are = ap (fold with_output (connected_netlist (unconnected_netlist nodes) nodes)) (sym numbers_are) ∙ sym (outputs-numbered (connected_netlist (unconnected_netlist nodes) nodes) outputs)
 
 with_data_output-cuts : (netlist : Netlist) (node : Option ℕ) → ((with_data_output netlist node).cuts ≡ netlist.cuts) × ((with_data_output netlist node).inputs ≡ netlist.inputs)
 with_data_output-cuts netlist None = (refl, refl)

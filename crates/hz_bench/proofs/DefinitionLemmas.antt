@@ -6,8 +6,8 @@ use Rattle.std.proofs.lemmas.Slice.Eq.{bytes_eq-Decides}
 use Rattle.std.specs.List.{list_any}
 use Rattle.std.specs.Str.{bytes_eq}
 use Rattle.hz_line.specs.Statement.{Numbered}
-use Rattle.hz_bench.specs.Definition.{Table, is_that, defines, definer, defined_names, line_for, line_for_defined, IsPut, IsTableOf}
-use Rattle.hz_bench.specs.Statement.{Statement, Input, Output, FlipFlop, Gate, defined_name, is_node}
+use Rattle.hz_bench.specs.Definition.{Table, is_that, defines, definer, defined_names, line_for, line_for_defined, AddsDefinition, IsTableOf}
+use Rattle.hz_bench.specs.Statement.{Statement, Input, Output, FlipFlop, Gate, defined_name, defines_node}
 use Rattle.hz_bench.specs.Twice.{twice_or, earlier_line, twice_after, twice_fault}
 
 pub definer-cons : (first : Numbered Statement) (rest : List (Numbered Statement)) (name : List ℕ) → definer (first ∷ rest) name ≡ cond (defines name first.statement) (Some first.line) (definer rest name)
@@ -38,7 +38,7 @@ put_one : (defined name : List ℕ) (line : ℕ) (seen : List (Numbered Statemen
 put_one defined name line seen true same none = let e = (bytes_eq-Decides defined name).0 same in rw (ap (definer seen) (sym e) ∙ none) refl
 put_one defined name line seen false same none = sym (option_or-none (definer seen name))
 
-pub put : (old new : Table) (seen : List (Numbered Statement)) (next : Numbered Statement) (defined : Option (List ℕ)) → defined_name next.statement ≡ defined → IsPut old new next.line defined → IsTableOf seen old → IsTableOf (seen ++ next ∷ []) new
+pub put : (old new : Table) (seen : List (Numbered Statement)) (next : Numbered Statement) (defined : Option (List ℕ)) → defined_name next.statement ≡ defined → AddsDefinition old new next.line defined → IsTableOf seen old → IsTableOf (seen ++ next ∷ []) new
 put old new seen next None e added table = λ name. added name ∙ table name ∙ sym (definer-push seen next name ∙ ap (λ d. option_or (definer seen name) (cond (is_that name d) (Some next.line) None)) e ∙ option_or-none (definer seen name))
 put old new seen next (Some defined) e added table = λ name.
     added.1 name ∙ ap (cond (bytes_eq defined name) (Some next.line)) (table name) ∙ put_one defined name next.line seen (bytes_eq defined name) refl (sym (table defined) ∙ added.0)
@@ -88,7 +88,7 @@ pub undefined-table : (lines : Table) (statements : List (Numbered Statement)) (
 undefined-table lines statements names table = any-same (λ name. not (is_some (line_for lines name))) (λ name. not (is_some (definer statements name))) (λ name. ap (λ line. not (is_some line)) (table name)) names
 
 -- a statement that is no node defines no name
-pub undefined-no_node : (statement : Statement) → is_node statement ≡ false → defined_name statement ≡ None
+pub undefined-no_node : (statement : Statement) → defines_node statement ≡ false → defined_name statement ≡ None
 undefined-no_node (Input name) h = cc
 undefined-no_node (Output name) h = refl
 undefined-no_node (FlipFlop name sources) h = cc

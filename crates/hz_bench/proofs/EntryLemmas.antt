@@ -4,7 +4,7 @@ use Rattle.std.proofs.lemmas.List.{get_or-map, length-map}
 use Rattle.hz_bench.specs.declared.entry.Entry.{Entry}
 use Rattle.hz_bench.specs.declared.forms.Form.{Form}
 use Rattle.hz_bench.specs.declared.forms.Form.TheVariants as form
-use Rattle.hz_bench.specs.Entry.{stated, numbered_of, numbered_list}
+use Rattle.hz_bench.specs.Entry.{statement_of_entry, numbered_of, numbered_list}
 use Rattle.hz_bench.specs.Form.{form_of, statement_with}
 use Rattle.hz_bench.specs.Statement.{defined_name, name_of}
 
@@ -20,10 +20,10 @@ form_of-statement_with name form.FlipFlop part = refl
 form_of-statement_with name (form.Gate kind) part = refl
 
 -- so an entry has those of its statement
-pub entry-named : (entry : Entry) → entry.name.now ≡ name_of (stated entry)
+pub entry-named : (entry : Entry) → entry.name.now ≡ name_of (statement_of_entry entry)
 entry-named entry = name_of-statement_with entry.name.now entry.form entry.sources.now
 
-pub entry-formed : (entry : Entry) → Some entry.form ≡ form_of (stated entry)
+pub entry-formed : (entry : Entry) → Some entry.form ≡ form_of (statement_of_entry entry)
 entry-formed entry = form_of-statement_with entry.name.now entry.form entry.sources.now
 
 -- and defines its name
@@ -32,7 +32,7 @@ defined_name-statement_with name form.Input part = refl
 defined_name-statement_with name form.FlipFlop part = refl
 defined_name-statement_with name (form.Gate kind) part = refl
 
-pub entry-defines : (entry : Entry) → defined_name (stated entry) ≡ Some entry.name.now
+pub entry-defines : (entry : Entry) → defined_name (statement_of_entry entry) ≡ Some entry.name.now
 entry-defines entry = defined_name-statement_with entry.name.now entry.form entry.sources.now
 
 pub numbered_inside : (entries : List Entry) (index : ℕ) → index < length entries → index < length (numbered_list entries)

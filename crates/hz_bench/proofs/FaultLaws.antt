@@ -9,19 +9,19 @@ use Rattle.std.proofs.lemmas.List.Folds.{Any-from_list_any, list_any_at}
 use Rattle.std.proofs.lemmas.Slice.Eq.{bytes_eq-Decides}
 use Rattle.hz_line.specs.Line.{lines_of}
 use Rattle.hz_line.specs.Statement.{Malformed, Numbered, first_malformed}
-use Rattle.hz_line.proofs.StatementLemmas.{Ascends, numbered_from-Ascends, meaning_at-first, meaning_at-none, find-Some, find-None, stated, stating, first_line-found, first_line-unfound, Ascends-front, Ascends-before}
+use Rattle.hz_line.proofs.StatementLemmas.{Ascends, numbered_from-Ascends, meaning_at-first, meaning_at-none, find-Some, find-None, stated, stating, first_passing_line-found, first_passing_line-unfound, Ascends-front, Ascends-before}
 use Rattle.hz_bench.specs.declared.fault.BenchFault.{BenchFault}
 use Rattle.hz_bench.specs.declared.fault.BenchFault.TheVariants.{Form, Name, KindUnknown, Twice, Pins, Undefined, TooMany, Memory}
-use Rattle.hz_bench.specs.Check.{uses_undefined, fault_or, too_many, first_fault}
+use Rattle.hz_bench.specs.Check.{uses_undefined, fault_or, too_many_fault, first_fault}
 use Rattle.hz_bench.specs.Definition.{is_that, defines, definer}
-use Rattle.hz_bench.specs.Fault.{States, HasThat, Defines, Uses, IsSecond, Stands, number_of, line_of, ComesFirst, IsLeastFault, IsFaultless}
-use Rattle.hz_bench.specs.Statement.{Statement, statement_of, defined_name, used_names, has_long_name, has_unknown_kind, has_wrong_pins, pin_count}
-use Rattle.hz_bench.specs.Text.{meaning_at, numbered_statements, statements_of, variables_of, variables_among}
+use Rattle.hz_bench.specs.Fault.{States, HasThat, Defines, Uses, IsSecond, HasFault, fault_number, fault_line_number, ComesFirst, IsLeastFault, IsFaultless}
+use Rattle.hz_bench.specs.Statement.{Statement, statement_of, defined_name, used_names, has_long_name, has_unknown_kind, has_wrong_pins, statement_pin_count}
+use Rattle.hz_bench.specs.Text.{bench_meaning_at, bench_statements, statements_of, variable_total, variable_total_among}
 use Rattle.hz_bench.specs.Twice.{twice_or, earlier_line, twice_after, twice_fault}
 use Rattle.hz_bench.proofs.DefinitionLemmas.{definer-append, definer-cons}
-use Rattle.hz_bench.proofs.NotedLemmas.{variables_of-statements}
+use Rattle.hz_bench.proofs.NoteLemmas.{variable_total-statements}
 
-ascending : (text : List ℕ) → Ascends 1 (numbered_statements text)
+ascending : (text : List ℕ) → Ascends 1 (bench_statements text)
 ascending text = numbered_from-Ascends statement_of 1 (lines_of text)
 
 -- the line has a statement that passes a test with its line
@@ -31,17 +31,17 @@ HasOn test text line = (statement : Statement) × States text line statement × 
 -- what stands in a text where a fault with this number stands on this line
 abbrev ByNumber : List ℕ → ℕ → ℕ → Type 0
 ByNumber text zero line = ⊥
-ByNumber text (suc zero) line = meaning_at text line ≡ Malformed
+ByNumber text (suc zero) line = bench_meaning_at text line ≡ Malformed
 ByNumber text (suc (suc zero)) line = HasThat has_long_name text line
 ByNumber text (suc (suc (suc zero))) line = HasThat has_unknown_kind text line
 ByNumber text (suc (suc (suc (suc zero)))) line = ⊥
 ByNumber text (suc (suc (suc (suc (suc zero))))) line = (first : ℕ) × ((name : List ℕ) × IsSecond text line first name)
 ByNumber text (suc (suc (suc (suc (suc (suc zero)))))) line = HasThat has_wrong_pins text line
 ByNumber text (suc (suc (suc (suc (suc (suc (suc zero))))))) line = (name : List ℕ) × Uses text line name × ((other : ℕ) → ¬ Defines text other name)
-ByNumber text (suc (suc (suc (suc (suc (suc (suc (suc zero)))))))) line = 200000 < variables_of (statements_of text)
+ByNumber text (suc (suc (suc (suc (suc (suc (suc (suc zero)))))))) line = 200000 < variable_total (statements_of text)
 ByNumber text (suc (suc (suc (suc (suc (suc (suc (suc (suc more))))))))) line = ⊥
 
-by_number : (text : List ℕ) (fault : BenchFault) → Stands text fault → ByNumber text (number_of fault) (line_of fault)
+by_number : (text : List ℕ) (fault : BenchFault) → HasFault text fault → ByNumber text (fault_number fault) (fault_line_number fault)
 by_number text (Form line) p = p
 by_number text (Name line) p = p
 by_number text (KindUnknown line) p = p
@@ -53,7 +53,7 @@ by_number text Memory p = p
 
 -- each fault that stands in the text has at least this number
 abbrev pub NoneBelow : List ℕ → ℕ → Type 0
-NoneBelow text number = (other : BenchFault) → Stands text other → number ≤ number_of other
+NoneBelow text number = (other : BenchFault) → HasFault text other → number ≤ fault_number other
 
 none_below-one : (text : List ℕ) → NoneBelow text 1
 none_below-one text (Form line) p = lit≤ tt
@@ -66,13 +66,13 @@ none_below-one text (TooMany variables) p = lit≤ tt
 none_below-one text Memory p = absurd p
 
 none_below-next : (text : List ℕ) (number : ℕ) → NoneBelow text number → ((line : ℕ) → ByNumber text number line → ⊥) → NoneBelow text (suc number)
-none_below-next text number low none other p = by_order (cases_lt number (number_of other))
+none_below-next text number low none other p = by_order (cases_lt number (fault_number other))
   where
-    by_order : (number < number_of other) ⊎ (number_of other ≤ number) → suc number ≤ number_of other
+    by_order : (number < fault_number other) ⊎ (fault_number other ≤ number) → suc number ≤ fault_number other
     by_order (inl more) = omega (arith, more)
     by_order (inr less) =
-        let same : number_of other ≡ number = omega (arith, less, low other p) in
-        absurd (none (line_of other) (subst (λ n. ByNumber text n (line_of other)) same (by_number text other p)))
+        let same : fault_number other ≡ number = omega (arith, less, low other p) in
+        absurd (none (fault_line_number other) (subst (λ n. ByNumber text n (fault_line_number other)) same (by_number text other p)))
 
 none_below-end : (text : List ℕ) → NoneBelow text 9 → IsFaultless text
 none_below-end text low (Form line) p = absurd (omega (arith, low (Form line) p))
@@ -85,14 +85,14 @@ none_below-end text low (TooMany variables) p = absurd (omega (arith, low (TooMa
 none_below-end text low Memory p = p
 
 -- a fault is the least where none has a lesser number, and none of its number an earlier line
-IsLeastFault-from : (text : List ℕ) (number : ℕ) (fault : BenchFault) → number_of fault ≡ number → Stands text fault → NoneBelow text number → ((line : ℕ) → ByNumber text number line → line_of fault ≤ line) → IsLeastFault text fault
-IsLeastFault-from text number fault is stands low least = record { stands = stands; least = λ other p. by_order other p (cases_lt number (number_of other)) }
+IsLeastFault-from : (text : List ℕ) (number : ℕ) (fault : BenchFault) → fault_number fault ≡ number → HasFault text fault → NoneBelow text number → ((line : ℕ) → ByNumber text number line → fault_line_number fault ≤ line) → IsLeastFault text fault
+IsLeastFault-from text number fault is stands low least = record { stands = stands; least = λ other p. by_order other p (cases_lt number (fault_number other)) }
   where
-    by_order : (other : BenchFault) → Stands text other → (number < number_of other) ⊎ (number_of other ≤ number) → ComesFirst fault other
+    by_order : (other : BenchFault) → HasFault text other → (number < fault_number other) ⊎ (fault_number other ≤ number) → ComesFirst fault other
     by_order other p (inl more) = inl (omega (arith, is, more))
     by_order other p (inr less) =
-        let same : number_of other ≡ number = omega (arith, less, low other p) in
-        inr (is ∙ sym same, least (line_of other) (subst (λ n. ByNumber text n (line_of other)) same (by_number text other p)))
+        let same : fault_number other ≡ number = omega (arith, less, low other p) in
+        inr (is ∙ sym same, least (fault_line_number other) (subst (λ n. ByNumber text n (fault_line_number other)) same (by_number text other p)))
 
 -- what an answer says of the text
 abbrev pub Outcome : List ℕ → Option BenchFault → Type 0
@@ -100,21 +100,21 @@ Outcome text answer = MatchOption answer (IsFaultless text) (IsLeastFault text)
 
 -- a pass over the statements finds the least fault of its number, if there is one
 outcome-found : (text : List ℕ) (number : ℕ) (test : Numbered Statement → Bool) (fault : Numbered Statement → BenchFault) (answer : Option (Numbered Statement)) (rest : Option BenchFault)
-    → NoneBelow text number → ((found : Numbered Statement) → number_of (fault found) ≡ number) → ((found : Numbered Statement) → line_of (fault found) ≡ found.line)
-    → ((found : Numbered Statement) → States text found.line found.statement → test found ≡ true → Stands text (fault found))
+    → NoneBelow text number → ((found : Numbered Statement) → fault_number (fault found) ≡ number) → ((found : Numbered Statement) → fault_line_number (fault found) ≡ found.line)
+    → ((found : Numbered Statement) → States text found.line found.statement → test found ≡ true → HasFault text (fault found))
     → ((line : ℕ) → ByNumber text number line → HasOn test text line)
-    → find test (numbered_statements text) ≡ answer
-    → (find test (numbered_statements text) ≡ None → NoneBelow text (suc number) → Outcome text rest) → Outcome text (fault_or fault answer rest)
+    → find test (bench_statements text) ≡ answer
+    → (find test (bench_statements text) ≡ None → NoneBelow text (suc number) → Outcome text rest) → Outcome text (fault_or fault answer rest)
 outcome-found text number test fault None rest low is at stands has e next =
     next e (none_below-next text number low (λ line p. passed line (has line p)))
   where
     passed : (line : ℕ) → HasOn test text line → ⊥
-    passed line (statement, states, passes) = find-None test (numbered_statements text) e _ (stating statement_of text line statement states) passes
+    passed line (statement, states, passes) = find-None test (bench_statements text) e _ (stating statement_of text line statement states) passes
 outcome-found text number test fault (Some found) rest low is at stands has e next =
-    let h = find-Some test (numbered_statements text) 1 found (ascending text) e in
+    let h = find-Some test (bench_statements text) 1 found (ascending text) e in
     IsLeastFault-from text number (fault found) (is found) (stands found (stated statement_of text found h.among) h.passes) low (λ line p. passed line h.least (has line p))
   where
-    passed : (line : ℕ) → ((other : Numbered Statement) → Contains (numbered_statements text) other → test other ≡ true → found.line ≤ other.line) → HasOn test text line → line_of (fault found) ≤ line
+    passed : (line : ℕ) → ((other : Numbered Statement) → Contains (bench_statements text) other → test other ≡ true → found.line ≤ other.line) → HasOn test text line → fault_line_number (fault found) ≤ line
     passed line least (statement, states, passes) =
         let no_less = least (record { line = line; statement = statement }) (stating statement_of text line statement states) passes in
         omega (arith, at found, no_less)
@@ -129,7 +129,7 @@ pub form-none : (text : List ℕ) → first_malformed statement_of 1 (lines_of t
 form-none text e = none_below-next text 1 (none_below-one text) (meaning_at-none statement_of text e)
 
 -- the count of variables comes last
-outcome-many : (text : List ℕ) (variables : ℕ) → variables_of (statements_of text) ≡ variables → NoneBelow text 8 → Outcome text (too_many variables)
+outcome-many : (text : List ℕ) (variables : ℕ) → variable_total (statements_of text) ≡ variables → NoneBelow text 8 → Outcome text (too_many_fault variables)
 outcome-many text variables is low = by_test (nat_lt 200000 variables) refl
   where
     by_test : (b : Bool) → nat_lt 200000 variables ≡ b → Outcome text (cond b (Some (TooMany variables)) None)
@@ -153,40 +153,40 @@ record IsDefiner (text : List ℕ) (name : List ℕ) (first : ℕ) : Type 0 wher
   there : Defines text first name
   earliest : (other : ℕ) → Defines text other name → first ≤ other
 
-definer-Some : (text name : List ℕ) (first : ℕ) → definer (numbered_statements text) name ≡ Some first → IsDefiner text name first
-definer-Some text name first e = by_found (first_line-found (defines name) (numbered_statements text) first e)
+definer-Some : (text name : List ℕ) (first : ℕ) → definer (bench_statements text) name ≡ Some first → IsDefiner text name first
+definer-Some text name first e = by_found (first_passing_line-found (defines name) (bench_statements text) first e)
   where
-    by_found : (found : Numbered Statement) × (find (λ numbered. defines name numbered.statement) (numbered_statements text) ≡ Some found) × (found.line ≡ first) → IsDefiner text name first
+    by_found : (found : Numbered Statement) × (find (λ numbered. defines name numbered.statement) (bench_statements text) ≡ Some found) × (found.line ≡ first) → IsDefiner text name first
     by_found (found, e, at) =
-        let h = find-Some (λ (numbered : Numbered Statement). defines name numbered.statement) (numbered_statements text) 1 found (ascending text) e in
+        let h = find-Some (λ (numbered : Numbered Statement). defines name numbered.statement) (bench_statements text) 1 found (ascending text) e in
         let P : ℕ → Type 0 = λ line. Defines text line name in
         record {
           there = subst P at (found.statement, stated statement_of text found h.among, defines-Some name (defined_name found.statement) h.passes);
           earliest = λ other p. (let no_less = h.least (record { line = other; statement = p.0 }) (stating statement_of text other p.0 p.1) (defines-true name p.0 p.2) in omega (arith, at, no_less));
         }
 
-definer-None : (text name : List ℕ) → definer (numbered_statements text) name ≡ None → (other : ℕ) → Defines text other name → ⊥
+definer-None : (text name : List ℕ) → definer (bench_statements text) name ≡ None → (other : ℕ) → Defines text other name → ⊥
 definer-None text name e other (statement, states, is) =
-    find-None (λ (numbered : Numbered Statement). defines name numbered.statement) (numbered_statements text) (first_line-unfound (defines name) (numbered_statements text) e) _ (stating statement_of text other statement states) (defines-true name statement is)
+    find-None (λ (numbered : Numbered Statement). defines name numbered.statement) (bench_statements text) (first_passing_line-unfound (defines name) (bench_statements text) e) _ (stating statement_of text other statement states) (defines-true name statement is)
 
 -- what a pass over the uses finds
 not-some : (line : Option ℕ) → not (is_some line) ≡ true → line ≡ None
 not-some None h = refl
 not-some (Some line) h = cc
 
-undefined-stands : (text : List ℕ) (found : Numbered Statement) → States text found.line found.statement → uses_undefined (numbered_statements text) found.statement ≡ true → Stands text (Undefined found.line)
-undefined-stands text found states h = by_use (Any-from_list_any (λ name. not (is_some (definer (numbered_statements text) name))) (used_names found.statement) h)
+undefined-stands : (text : List ℕ) (found : Numbered Statement) → States text found.line found.statement → uses_undefined (bench_statements text) found.statement ≡ true → HasFault text (Undefined found.line)
+undefined-stands text found states h = by_use (Any-from_list_any (λ name. not (is_some (definer (bench_statements text) name))) (used_names found.statement) h)
   where
-    by_use : Any (λ name. not (is_some (definer (numbered_statements text) name)) ≡ true) (used_names found.statement) → Stands text (Undefined found.line)
+    by_use : Any (λ name. not (is_some (definer (bench_statements text) name)) ≡ true) (used_names found.statement) → HasFault text (Undefined found.line)
     by_use (k, name, l, is, none) = (name, (found.statement, states, (k, l, is)), definer-None text name (not-some _ none))
 
-undefined-none : (text name : List ℕ) (line : Option ℕ) → definer (numbered_statements text) name ≡ line → ((other : ℕ) → ¬ Defines text other name) → not (is_some line) ≡ true
+undefined-none : (text name : List ℕ) (line : Option ℕ) → definer (bench_statements text) name ≡ line → ((other : ℕ) → ¬ Defines text other name) → not (is_some line) ≡ true
 undefined-none text name None e none = refl
 undefined-none text name (Some line) e none = absurd (none line (definer-Some text name line e).there)
 
-undefined-has : (text : List ℕ) (line : ℕ) → ByNumber text 7 line → HasOn (λ numbered. uses_undefined (numbered_statements text) numbered.statement) text line
+undefined-has : (text : List ℕ) (line : ℕ) → ByNumber text 7 line → HasOn (λ numbered. uses_undefined (bench_statements text) numbered.statement) text line
 undefined-has text line (name, (statement, states, (k, l, is)), none) =
-    (statement, states, list_any_at (λ name. not (is_some (definer (numbered_statements text) name))) (used_names statement) k name l (rw is (undefined-none text name _ refl none)))
+    (statement, states, list_any_at (λ name. not (is_some (definer (bench_statements text) name))) (used_names statement) k name l (rw is (undefined-none text name _ refl none)))
 
 -- the line of a first definition is there, and before another
 abbrev is_before : Option ℕ → ℕ → Bool
@@ -210,7 +210,7 @@ earlier_line-front seen back (Some name) first e = definer-append seen back name
 
 earlier_line-before : (seen back : List (Numbered Statement)) (next : Numbered Statement) (defined : Option (List ℕ)) (first : ℕ) → Ascends 1 (seen ++ next ∷ back) → earlier_line seen defined ≡ Some first → first < next.line
 earlier_line-before seen back next None first h e = cc
-earlier_line-before seen back next (Some name) first h e = by_found (first_line-found (defines name) seen first e)
+earlier_line-before seen back next (Some name) first h e = by_found (first_passing_line-found (defines name) seen first e)
   where
     by_found : (found : Numbered Statement) × (find (λ numbered. defines name numbered.statement) seen ≡ Some found) × (found.line ≡ first) → first < next.line
     by_found (found, e, at) =
@@ -244,24 +244,24 @@ twice_after-find all seen (next ∷ rest) e h =
         let second : is_second all next ≡ false = rw e (earlier_line-here seen rest next (defined_name next.statement) refl is) in
         rw second ih
 
-second-stands : (text : List ℕ) (found : Numbered Statement) → States text found.line found.statement → is_second (numbered_statements text) found ≡ true → Stands text (second_fault (numbered_statements text) found)
+second-stands : (text : List ℕ) (found : Numbered Statement) → States text found.line found.statement → is_second (bench_statements text) found ≡ true → HasFault text (second_fault (bench_statements text) found)
 second-stands text found states h = by_name (defined_name found.statement) refl h
   where
-    by_line : (name : List ℕ) (line : Option ℕ) → defined_name found.statement ≡ Some name → definer (numbered_statements text) name ≡ line → is_before line found.line ≡ true → Stands text (Twice found.line (line_found line))
+    by_line : (name : List ℕ) (line : Option ℕ) → defined_name found.statement ≡ Some name → definer (bench_statements text) name ≡ line → is_before line found.line ≡ true → HasFault text (Twice found.line (line_found line))
     by_line name None is e h = cc
     by_line name (Some first) is e h =
         let law = definer-Some text name first e in
         (name, record { here = (found.statement, states, is); there = law.there; earlier = grind (arith, nat_tests, h); earliest = law.earliest })
 
-    by_name : (defined : Option (List ℕ)) → defined_name found.statement ≡ defined → is_before (earlier_line (numbered_statements text) defined) found.line ≡ true → Stands text (Twice found.line (line_found (earlier_line (numbered_statements text) defined)))
+    by_name : (defined : Option (List ℕ)) → defined_name found.statement ≡ defined → is_before (earlier_line (bench_statements text) defined) found.line ≡ true → HasFault text (Twice found.line (line_found (earlier_line (bench_statements text) defined)))
     by_name None is h = cc
-    by_name (Some name) is h = by_line name (definer (numbered_statements text) name) is refl h
+    by_name (Some name) is h = by_line name (definer (bench_statements text) name) is refl h
 
 -- the first line of a name that is defined twice
-pub second-first : (text : List ℕ) (line first : ℕ) (name : List ℕ) → IsSecond text line first name → definer (numbered_statements text) name ≡ Some first
-second-first text line first name second = by_line (definer (numbered_statements text) name) refl
+pub second-first : (text : List ℕ) (line first : ℕ) (name : List ℕ) → IsSecond text line first name → definer (bench_statements text) name ≡ Some first
+second-first text line first name second = by_line (definer (bench_statements text) name) refl
   where
-    by_line : (found : Option ℕ) → definer (numbered_statements text) name ≡ found → found ≡ Some first
+    by_line : (found : Option ℕ) → definer (bench_statements text) name ≡ found → found ≡ Some first
     by_line None e = absurd (definer-None text name e line second.here)
     by_line (Some other) e =
         let law = definer-Some text name other e in
@@ -270,10 +270,10 @@ second-first text line first name second = by_line (definer (numbered_statements
         let same : other ≡ first = omega (arith, low, high) in
         ap Some same
 
-second-has : (text : List ℕ) (line : ℕ) → ByNumber text 5 line → HasOn (is_second (numbered_statements text)) text line
+second-has : (text : List ℕ) (line : ℕ) → ByNumber text 5 line → HasOn (is_second (bench_statements text)) text line
 second-has text line (first, (name, second)) = by_statement second.here
   where
-    by_statement : Defines text line name → HasOn (is_second (numbered_statements text)) text line
+    by_statement : Defines text line name → HasOn (is_second (bench_statements text)) text line
     by_statement (statement, states, is) =
         let before = second.earlier in
         let less : nat_lt first line ≡ true = grind (arith, nat_tests, before) in
@@ -284,18 +284,18 @@ option_or-map : (fault : Numbered Statement → BenchFault) (answer : Option (Nu
 option_or-map fault None rest = refl
 option_or-map fault (Some found) rest = refl
 
-twice-found : (text : List ℕ) (rest : Option BenchFault) → option_or (twice_fault (numbered_statements text)) rest ≡ fault_or (second_fault (numbered_statements text)) (find (is_second (numbered_statements text)) (numbered_statements text)) rest
+twice-found : (text : List ℕ) (rest : Option BenchFault) → option_or (twice_fault (bench_statements text)) rest ≡ fault_or (second_fault (bench_statements text)) (find (is_second (bench_statements text)) (bench_statements text)) rest
 twice-found text rest =
-    ap (λ answer. option_or answer rest) (twice_after-find (numbered_statements text) [] (numbered_statements text) refl (ascending text))
-    ∙ option_or-map (second_fault (numbered_statements text)) (find (is_second (numbered_statements text)) (numbered_statements text)) rest
+    ap (λ answer. option_or answer rest) (twice_after-find (bench_statements text) [] (bench_statements text) refl (ascending text))
+    ∙ option_or-map (second_fault (bench_statements text)) (find (is_second (bench_statements text)) (bench_statements text)) rest
 
 -- what the passes answer over the statements of a text without a malformed line
-pub first_fault-outcome : (text : List ℕ) → NoneBelow text 2 → Outcome text (first_fault (numbered_statements text))
+pub first_fault-outcome : (text : List ℕ) → NoneBelow text 2 → Outcome text (first_fault (bench_statements text))
 first_fault-outcome text low2 =
-    let all = numbered_statements text in
+    let all = bench_statements text in
     outcome-found text 2 (λ numbered. has_long_name numbered.statement) (λ found. Name found.line) _ _ low2 (λ found. refl) (λ found. refl) (λ found states p. (found.statement, states, p)) (λ line p. p) refl
     (λ none low3. outcome-found text 3 (λ numbered. has_unknown_kind numbered.statement) (λ found. KindUnknown found.line) _ _ low3 (λ found. refl) (λ found. refl) (λ found states p. (found.statement, states, p)) (λ line p. p) refl
     (λ none low4. subst (Outcome text) (sym (twice-found text _)) (outcome-found text 5 (is_second all) (second_fault all) _ _ (none_below-next text 4 low4 (λ line p. p)) (λ found. refl) (λ found. refl) (second-stands text) (second-has text) refl
-    (λ none low6. outcome-found text 6 (λ numbered. has_wrong_pins numbered.statement) (λ found. Pins found.line (pin_count found.statement)) _ _ low6 (λ found. refl) (λ found. refl) (λ found states p. (found.statement, states, p, refl)) (λ line p. p) refl
+    (λ none low6. outcome-found text 6 (λ numbered. has_wrong_pins numbered.statement) (λ found. Pins found.line (statement_pin_count found.statement)) _ _ low6 (λ found. refl) (λ found. refl) (λ found states p. (found.statement, states, p, refl)) (λ line p. p) refl
     (λ none low7. outcome-found text 7 (λ numbered. uses_undefined all numbered.statement) (λ found. Undefined found.line) _ _ low7 (λ found. refl) (λ found. refl) (undefined-stands text) (undefined-has text) refl
-    (λ none low8. outcome-many text (variables_among all) (variables_of-statements all) low8))))))
+    (λ none low8. outcome-many text (variable_total_among all) (variable_total-statements all) low8))))))

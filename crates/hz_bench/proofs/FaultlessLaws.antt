@@ -8,33 +8,33 @@ use Rattle.hz_core.proofs.CircuitLemmas.{IsCircuit-empty, IsCircuit-with_input, 
 use Rattle.hz_line.specs.declared.bytes.Mark.TheVariants.{Open, Close, Comma, Equals}
 use Rattle.hz_line.specs.Line.{lines_of}
 use Rattle.hz_line.specs.Statement.{Meaning, Nothing, Malformed, Means, Numbered, with_meaning, meaning_by, meaning_of_tokens, numbered_from, first_malformed}
-use Rattle.hz_line.specs.Token.{TokenOf, WordOf, MarkOf, tokens_of, IsWord, AreWords}
-use Rattle.hz_line.proofs.TokenLemmas.{tokens_of-AreWords}
+use Rattle.hz_line.specs.Token.{TokenOf, WordOf, MarkOf, tokens_of, IsWordToken, AreWordTokens}
+use Rattle.hz_line.proofs.TokenLemmas.{tokens_of-AreWordTokens}
 use Rattle.hz_bench.specs.declared.fault.BenchFault.{BenchFault}
 use Rattle.hz_bench.specs.declared.fault.BenchFault.TheVariants.{Form}
-use Rattle.hz_bench.specs.Built.{Connecting, MaySteps, MayInput, MayCut, MayGate, MayPin, MayPins, MayOutput, after_input, after_cut, after_gate, after_pin, after_pins, after_output, inputs_of, nodes_of, unconnected, connected, with_data_output}
+use Rattle.hz_bench.specs.BuiltNetlist.{BuilderState, AreAdmissibleSteps, MayAddInput, MayAddCut, MayAddGate, MayAddPinNamed, MayAddPins, MayAddOutput, with_input_of, with_cut_of, with_gate_of, with_pin_named, with_pins_of, with_output_of, inputs_of, unconnected_netlist, initial_builder, connected_netlist, with_data_output}
 use Rattle.hz_bench.specs.Check.{first_fault}
 use Rattle.hz_bench.specs.Fault.{IsFaultless}
-use Rattle.hz_bench.specs.Netlist.{data_name, kind_of, number_in, netlist_of}
-use Rattle.hz_bench.specs.Statement.{Statement, Input, Output, FlipFlop, Gate, Port, InputPort, OutputPort, port_word, port_of, defined_by, is_flip_flop, kind_named, names_of, name_of, statement_of}
-use Rattle.hz_bench.specs.Text.{meaning_of, numbered_statements, statements_of}
+use Rattle.hz_bench.specs.Netlist.{data_name, kind_of, number_in, circuit_of_statements}
+use Rattle.hz_bench.specs.Statement.{Statement, Input, Output, FlipFlop, Gate, Port, InputPort, OutputPort, port_word, port_of, defined_by, is_flip_flop, kind_named, name_list_of, name_of, statement_of}
+use Rattle.hz_bench.specs.Text.{bench_meaning, bench_statements, statements_of}
 use Rattle.hz_bench.proofs.BuildLemmas.{IsName-word}
 use Rattle.hz_bench.proofs.CheckedLemmas.{IsChecked, checked}
 use Rattle.hz_bench.proofs.ConnectLemmas.{number-below}
 use Rattle.hz_bench.proofs.FaultLaws.{Outcome, form-least, form-none, first_fault-outcome}
-use Rattle.hz_bench.proofs.MayLemmas.{may_build, whole}
-use Rattle.hz_bench.proofs.NetlistLemmas.{built-netlist_of}
+use Rattle.hz_bench.proofs.AdmissibleLemmas.{may_build, whole}
+use Rattle.hz_bench.proofs.NetlistLemmas.{built-circuit_of_statements}
 
 -- the name that a statement begins with is a word
 abbrev Worded : Statement → Type 0
-Worded statement = IsWord (name_of statement)
+Worded statement = IsWordToken (name_of statement)
 
-port_worded : (name : List ℕ) (made : Option Port) (statement : Statement) → option_map (port_of name) made ≡ Some statement → IsWord name → Worded statement
+port_worded : (name : List ℕ) (made : Option Port) (statement : Statement) → option_map (port_of name) made ≡ Some statement → IsWordToken name → Worded statement
 port_worded name None statement h word = cc
 port_worded name (Some InputPort) statement h word = let is : Input name ≡ statement = cc h in subst Worded is word
 port_worded name (Some OutputPort) statement h word = let is : Output name ≡ statement = cc h in subst Worded is word
 
-defined_worded : (name kind : List ℕ) (names : Option (List (List ℕ))) (statement : Statement) → option_map (defined_by name kind) names ≡ Some statement → IsWord name → Worded statement
+defined_worded : (name kind : List ℕ) (names : Option (List (List ℕ))) (statement : Statement) → option_map (defined_by name kind) names ≡ Some statement → IsWordToken name → Worded statement
 defined_worded name kind None statement h word = cc
 defined_worded name kind (Some names) statement h word = by_word (is_flip_flop kind) h
   where
@@ -42,7 +42,7 @@ defined_worded name kind (Some names) statement h word = by_word (is_flip_flop k
     by_word true h = let is : FlipFlop name names ≡ statement = cc h in subst Worded is word
     by_word false h = let is : Gate name (kind_named kind) names ≡ statement = cc h in subst Worded is word
 
-tokens_worded : (tokens : List TokenOf) (statement : Statement) → statement_of tokens ≡ Some statement → AreWords tokens → Worded statement
+tokens_worded : (tokens : List TokenOf) (statement : Statement) → statement_of tokens ≡ Some statement → AreWordTokens tokens → Worded statement
 tokens_worded [] statement h words = cc
 tokens_worded (MarkOf mark ∷ rest) statement h words = cc
 tokens_worded (WordOf first ∷ []) statement h words = cc
@@ -65,13 +65,13 @@ tokens_worded (WordOf first ∷ MarkOf Equals ∷ WordOf second ∷ WordOf third
 tokens_worded (WordOf first ∷ MarkOf Equals ∷ WordOf second ∷ MarkOf Close ∷ rest) statement h words = cc
 tokens_worded (WordOf first ∷ MarkOf Equals ∷ WordOf second ∷ MarkOf Comma ∷ rest) statement h words = cc
 tokens_worded (WordOf first ∷ MarkOf Equals ∷ WordOf second ∷ MarkOf Equals ∷ rest) statement h words = cc
-tokens_worded (WordOf first ∷ MarkOf Equals ∷ WordOf second ∷ MarkOf Open ∷ rest) statement h words = defined_worded first second (names_of rest) statement h words.0
+tokens_worded (WordOf first ∷ MarkOf Equals ∷ WordOf second ∷ MarkOf Open ∷ rest) statement h words = defined_worded first second (name_list_of rest) statement h words.0
 
-found_worded : (tokens : List TokenOf) (found : Option Statement) (statement : Statement) → found ≡ statement_of tokens → meaning_by found ≡ Means statement → AreWords tokens → Worded statement
+found_worded : (tokens : List TokenOf) (found : Option Statement) (statement : Statement) → found ≡ statement_of tokens → meaning_by found ≡ Means statement → AreWordTokens tokens → Worded statement
 found_worded tokens None statement same h words = cc
 found_worded tokens (Some found) statement same h words = tokens_worded tokens statement (cc (same, h)) words
 
-meaning_worded : (tokens : Option (List TokenOf)) (statement : Statement) → meaning_of_tokens statement_of tokens ≡ Means statement → IfSome tokens AreWords → Worded statement
+meaning_worded : (tokens : Option (List TokenOf)) (statement : Statement) → meaning_of_tokens statement_of tokens ≡ Means statement → IfSome tokens AreWordTokens → Worded statement
 meaning_worded None statement h words = cc
 meaning_worded (Some []) statement h words = cc
 meaning_worded (Some (token ∷ tokens)) statement h words = found_worded (token ∷ tokens) (statement_of (token ∷ tokens)) statement refl h words
@@ -79,61 +79,61 @@ meaning_worded (Some (token ∷ tokens)) statement h words = found_worded (token
 -- the statements of a text begin with words
 lines_worded : (line : ℕ) (lines : List (List ℕ)) → AllByRecursion Worded (map (λ numbered. numbered.statement) (numbered_from statement_of line lines))
 lines_worded line [] = tt
-lines_worded line (first ∷ rest) = by_meaning (meaning_of first) refl (lines_worded (suc line) rest)
+lines_worded line (first ∷ rest) = by_meaning (bench_meaning first) refl (lines_worded (suc line) rest)
   where
-    by_meaning : (meaning : Meaning Statement) → meaning_of first ≡ meaning → AllByRecursion Worded (map (λ (numbered : Numbered Statement). numbered.statement) (numbered_from statement_of (suc line) rest))
+    by_meaning : (meaning : Meaning Statement) → bench_meaning first ≡ meaning → AllByRecursion Worded (map (λ (numbered : Numbered Statement). numbered.statement) (numbered_from statement_of (suc line) rest))
         → AllByRecursion Worded (map (λ (numbered : Numbered Statement). numbered.statement) (with_meaning line meaning (numbered_from statement_of (suc line) rest)))
     by_meaning Nothing is ih = ih
     by_meaning Malformed is ih = ih
-    by_meaning (Means statement) is ih = (meaning_worded (tokens_of first) statement is (tokens_of-AreWords first), ih)
+    by_meaning (Means statement) is ih = (meaning_worded (tokens_of first) statement is (tokens_of-AreWordTokens first), ih)
 
 -- a step that makes a circuit of a circuit, once for each statement
 steps_circuit : (May : Netlist → Statement → Type 0) (step : Netlist → Statement → Netlist) → ((now : Netlist) (statement : Statement) → IsCircuit now → May now statement → Worded statement → IsCircuit (step now statement))
-    → (now : Netlist) (statements : List Statement) → IsCircuit now → MaySteps May step now statements → AllByRecursion Worded statements → IsCircuit (fold step now statements)
+    → (now : Netlist) (statements : List Statement) → IsCircuit now → AreAdmissibleSteps May step now statements → AllByRecursion Worded statements → IsCircuit (fold step now statements)
 steps_circuit May step keeps now [] circuit may words = circuit
 steps_circuit May step keeps now (statement ∷ rest) circuit may words =
     steps_circuit May step keeps (step now statement) rest (keeps now statement circuit may.0 words.0) may.1 words.1
 
-input_circuit : (now : Netlist) (statement : Statement) → IsCircuit now → MayInput now statement → Worded statement → IsCircuit (after_input now statement)
+input_circuit : (now : Netlist) (statement : Statement) → IsCircuit now → MayAddInput now statement → Worded statement → IsCircuit (with_input_of now statement)
 input_circuit now (Input name) circuit may word = IsCircuit-with_input now name circuit (IsName-word name word may.0.short) may.0.fresh may.2 may.0.room
 input_circuit now (Output name) circuit may word = circuit
 input_circuit now (FlipFlop name sources) circuit may word = circuit
 input_circuit now (Gate name kind sources) circuit may word = circuit
 
-cut_circuit : (now : Netlist) (statement : Statement) → IsCircuit now → MayCut now statement → Worded statement → IsCircuit (after_cut now statement)
+cut_circuit : (now : Netlist) (statement : Statement) → IsCircuit now → MayAddCut now statement → Worded statement → IsCircuit (with_cut_of now statement)
 cut_circuit now (Input name) circuit may word = circuit
 cut_circuit now (Output name) circuit may word = circuit
 cut_circuit now (FlipFlop name sources) circuit may word = IsCircuit-with_cut now name circuit (IsName-word name word may.0.short) may.0.fresh may.1 may.0.room
 cut_circuit now (Gate name kind sources) circuit may word = circuit
 
-gate_circuit : (now : Netlist) (statement : Statement) → IsCircuit now → MayGate now statement → Worded statement → IsCircuit (after_gate now statement)
+gate_circuit : (now : Netlist) (statement : Statement) → IsCircuit now → MayAddGate now statement → Worded statement → IsCircuit (with_gate_of now statement)
 gate_circuit now (Input name) circuit may word = circuit
 gate_circuit now (Output name) circuit may word = circuit
 gate_circuit now (FlipFlop name sources) circuit may word = circuit
 gate_circuit now (Gate name kind sources) circuit may word = IsCircuit-with_gate now name (kind_of kind) circuit (IsName-word name word may.short) may.fresh may.room
 
-output_circuit : (now : Netlist) (statement : Statement) → IsCircuit now → MayOutput now statement → Worded statement → IsCircuit (after_output now statement)
+output_circuit : (now : Netlist) (statement : Statement) → IsCircuit now → MayAddOutput now statement → Worded statement → IsCircuit (with_output_of now statement)
 output_circuit now (Input name) circuit may word = circuit
 output_circuit now (Output name) circuit may word = IsCircuit-with_output now (number_in now.names name) circuit (number-below now.names name may)
 output_circuit now (FlipFlop name sources) circuit may word = circuit
 output_circuit now (Gate name kind sources) circuit may word = circuit
 
 -- the pins of one gate
-sources_circuit : (gate : ℕ) (now : Netlist) (names : List (List ℕ)) → IsCircuit now → MaySteps (MayPin gate) (after_pin gate) now names → IsCircuit (fold (after_pin gate) now names)
+sources_circuit : (gate : ℕ) (now : Netlist) (names : List (List ℕ)) → IsCircuit now → AreAdmissibleSteps (MayAddPinNamed gate) (with_pin_named gate) now names → IsCircuit (fold (with_pin_named gate) now names)
 sources_circuit gate now [] circuit may = circuit
 sources_circuit gate now (name ∷ names) circuit may =
-    sources_circuit gate (after_pin gate now name) names
+    sources_circuit gate (with_pin_named gate now name) names
     (IsCircuit-with_pin now gate (number_in now.names name) circuit may.0.gate_is (number-below now.names name may.0.source_is) may.0.pins may.0.room) may.1
 
-pins_circuit : (now : Connecting) (statements : List Statement) → IsCircuit now.netlist → MaySteps MayPins after_pins now statements → IsCircuit (fold after_pins now statements).netlist
+pins_circuit : (now : BuilderState) (statements : List Statement) → IsCircuit now.netlist → AreAdmissibleSteps MayAddPins with_pins_of now statements → IsCircuit (fold with_pins_of now statements).netlist
 pins_circuit now [] circuit may = circuit
 pins_circuit now (Input name ∷ rest) circuit may = pins_circuit now rest circuit may.1
 pins_circuit now (Output name ∷ rest) circuit may = pins_circuit now rest circuit may.1
 pins_circuit now (FlipFlop name sources ∷ rest) circuit may =
-    pins_circuit (after_pins now (FlipFlop name sources)) rest
+    pins_circuit (with_pins_of now (FlipFlop name sources)) rest
     (IsCircuit-with_data now.netlist now.cut (number_in now.netlist.names (data_name sources)) circuit may.0.1.cut_is (number-below now.netlist.names (data_name sources) may.0.1.source_is)) may.1
 pins_circuit now (Gate name kind sources ∷ rest) circuit may =
-    pins_circuit (after_pins now (Gate name kind sources)) rest (sources_circuit now.gate now.netlist sources circuit may.0.1) may.1
+    pins_circuit (with_pins_of now (Gate name kind sources)) rest (sources_circuit now.gate now.netlist sources circuit may.0.1) may.1
 
 -- the data nodes
 data_circuit : (now : Netlist) (cuts : List (Option ℕ)) → IsCircuit now → All (IsDataAmong (length now.names)) cuts → IsCircuit (fold with_data_output now cuts)
@@ -144,16 +144,16 @@ data_circuit now (Some node ∷ rest) circuit below =
     data_circuit (with_output now node) rest (IsCircuit-with_output now node circuit (All-head P (Some node) rest below)) (All-tail P (Some node) rest below)
 
 -- what is built of checked statements is a circuit
-built_circuit : (statements : List Statement) → IsChecked statements → AllByRecursion Worded statements → IsCircuit (netlist_of statements)
+built_circuit : (statements : List Statement) → IsChecked statements → AllByRecursion Worded statements → IsCircuit (circuit_of_statements statements)
 built_circuit statements h words =
     let may = may_build statements h in
-    let inputs = steps_circuit MayInput after_input input_circuit empty_netlist statements IsCircuit-empty may.inputs words in
-    let cuts = steps_circuit MayCut after_cut cut_circuit (fold after_input empty_netlist statements) statements inputs may.cuts words in
-    let gates = steps_circuit MayGate after_gate gate_circuit (inputs_of statements) statements cuts may.gates words in
-    let pins = pins_circuit (unconnected (nodes_of statements)) statements gates may.pins in
-    let outputs = steps_circuit MayOutput after_output output_circuit (connected (nodes_of statements) statements) statements pins may.outputs_may words in
-    let now = fold after_output (connected (nodes_of statements) statements) statements in
-    subst IsCircuit (built-netlist_of statements) (data_circuit now now.cuts outputs outputs.data_nodes)
+    let inputs = steps_circuit MayAddInput with_input_of input_circuit empty_netlist statements IsCircuit-empty may.inputs words in
+    let cuts = steps_circuit MayAddCut with_cut_of cut_circuit (fold with_input_of empty_netlist statements) statements inputs may.cuts words in
+    let gates = steps_circuit MayAddGate with_gate_of gate_circuit (inputs_of statements) statements cuts may.gates words in
+    let pins = pins_circuit (initial_builder (unconnected_netlist statements)) statements gates may.pins in
+    let outputs = steps_circuit MayAddOutput with_output_of output_circuit (connected_netlist (unconnected_netlist statements) statements) statements pins may.outputs_may words in
+    let now = fold with_output_of (connected_netlist (unconnected_netlist statements) statements) statements in
+    subst IsCircuit (built-circuit_of_statements statements) (data_circuit now now.cuts outputs outputs.data_nodes)
 
 -- the statements of a text without fault are checked
 faultless-formed : (text : List ℕ) → IsFaultless text → (found : Option ℕ) → first_malformed statement_of 1 (lines_of text) ≡ found → found ≡ None
@@ -164,9 +164,9 @@ faultless-none : (text : List ℕ) → IsFaultless text → (found : Option Benc
 faultless-none text faultless None h = refl
 faultless-none text faultless (Some fault) h = absurd (faultless fault h.stands)
 
-pub faultless-circuit : (text : List ℕ) → IsFaultless text → IsCircuit (netlist_of (statements_of text)) × IsWhole (netlist_of (statements_of text))
+pub faultless-circuit : (text : List ℕ) → IsFaultless text → IsCircuit (circuit_of_statements (statements_of text)) × IsWhole (circuit_of_statements (statements_of text))
 faultless-circuit text faultless =
     let formed = faultless-formed text faultless (first_malformed statement_of 1 (lines_of text)) refl in
-    let none = faultless-none text faultless (first_fault (numbered_statements text)) (first_fault-outcome text (form-none text formed)) in
-    let fine = checked (numbered_statements text) none in
+    let none = faultless-none text faultless (first_fault (bench_statements text)) (first_fault-outcome text (form-none text formed)) in
+    let fine = checked (bench_statements text) none in
     (built_circuit (statements_of text) fine (lines_worded 1 (lines_of text)), whole (statements_of text) fine)

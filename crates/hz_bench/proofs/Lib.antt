@@ -6,10 +6,10 @@ pub mod TableLemmas
 pub mod EntryLemmas
 pub mod FaultLaws
 pub mod FaultlessLaws
-pub mod GatheredLemmas
-pub mod MayLemmas
+pub mod ReaderLemmas
+pub mod AdmissibleLemmas
 pub mod NetlistLemmas
-pub mod NotedLemmas
+pub mod NoteLemmas
 pub mod NumberLemmas
 pub mod ParseLemmas
 pub mod PrintedCircuit
@@ -17,6 +17,6 @@ pub mod PrintedFaults
 pub mod PrintedLemmas
 pub mod PrintedLines
 pub mod ReadLaws
-pub mod Sorted
+pub mod KeptStatements
 pub mod StatementLemmas
 pub mod UseLemmas

@@ -7,15 +7,15 @@ use Rattle.hz_core.specs.Netlist as netlist
 use Rattle.hz_line.specs.Statement.{Numbered}
 use Rattle.hz_bench.specs.declared.entry.Entry.{Entry}
 use Rattle.hz_bench.specs.declared.entry.OutputLine.{OutputLine}
-use Rattle.hz_bench.specs.Built.{after_input, after_cut, after_gate, after_pin, after_pins, after_output, inputs_of, nodes_of, connected, with_data_output, with_data_outputs, built}
-use Rattle.hz_bench.specs.Entry.{stated, numbered_list, numbered_outputs, statement_list, output_list}
-use Rattle.hz_bench.specs.Netlist.{input_names, cut_names, data_name, data_nodes, gate_names, output_names, all_inputs, node_names, number_in, kind_of, gates_of, add_once, netlist_of}
+use Rattle.hz_bench.specs.BuiltNetlist.{with_input_of, with_cut_of, with_gate_of, with_pin_named, with_pins_of, with_output_of, inputs_of, unconnected_netlist, connected_netlist, with_data_output, with_data_outputs, built_netlist}
+use Rattle.hz_bench.specs.Entry.{statement_of_entry, numbered_list, numbered_outputs, statement_list, output_list}
+use Rattle.hz_bench.specs.Netlist.{input_names, cut_names, data_name, data_nodes, gate_names, output_names, all_inputs, node_names, number_in, kind_of, gates_of, add_once, circuit_of_statements}
 use Rattle.hz_bench.specs.Statement.{Statement, Input, Output, FlipFlop, Gate}
 
 -- the statements of entries, and those of lines of outputs, without their lines
 pub statement_list-numbered : (entries : List Entry) → map (λ (numbered : Numbered Statement). numbered.statement) (numbered_list entries) ≡ statement_list entries
 statement_list-numbered [] = refl
-statement_list-numbered (entry ∷ rest) = ap (λ statements. stated entry ∷ statements) (statement_list-numbered rest)
+statement_list-numbered (entry ∷ rest) = ap (λ statements. statement_of_entry entry ∷ statements) (statement_list-numbered rest)
 
 pub output_list-numbered : (outputs : List OutputLine) → map (λ (numbered : Numbered Statement). numbered.statement) (numbered_outputs outputs) ≡ output_list outputs
 output_list-numbered [] = refl
@@ -25,7 +25,7 @@ output_list-numbered (output ∷ rest) = ap (λ statements. Output output.name.n
 add-one-suc : (a b : ℕ) → (a + 1) + b ≡ a + suc b
 add-one-suc a b = omega arith
 
-inputs_added : (all : netlist.Netlist) (statements : List Statement) → fold after_input all statements ≡ record all { names = all.names ++ input_names statements; inputs = all.inputs + length (input_names statements) }
+inputs_added : (all : netlist.Netlist) (statements : List Statement) → fold with_input_of all statements ≡ record all { names = all.names ++ input_names statements; inputs = all.inputs + length (input_names statements) }
 inputs_added all [] = rw (append-nil, add-zero) refl
 inputs_added all (Input name ∷ rest) = inputs_added (netlist.with_input all name) rest ∙ rw (append_assoc, add-one-suc all.inputs (length (input_names rest))) refl
 inputs_added all (Output name ∷ rest) = inputs_added all rest
@@ -40,7 +40,7 @@ bare_cuts (Output name ∷ rest) = bare_cuts rest
 bare_cuts (FlipFlop name sources ∷ rest) = None ∷ bare_cuts rest
 bare_cuts (Gate name kind sources ∷ rest) = bare_cuts rest
 
-cuts_added : (all : netlist.Netlist) (statements : List Statement) → fold after_cut all statements ≡ record all { names = all.names ++ cut_names statements; inputs = all.inputs + length (cut_names statements); cuts = all.cuts ++ bare_cuts statements }
+cuts_added : (all : netlist.Netlist) (statements : List Statement) → fold with_cut_of all statements ≡ record all { names = all.names ++ cut_names statements; inputs = all.inputs + length (cut_names statements); cuts = all.cuts ++ bare_cuts statements }
 unfolding bare_cuts
 cuts_added all [] = rw (append-nil, add-zero, append-nil) refl
 cuts_added all (Input name ∷ rest) = cuts_added all rest
@@ -56,7 +56,7 @@ bare_gates (Output name ∷ rest) = bare_gates rest
 bare_gates (FlipFlop name sources ∷ rest) = bare_gates rest
 bare_gates (Gate name kind sources ∷ rest) = record { kind = kind_of kind; sources = [] } ∷ bare_gates rest
 
-gates_added : (all : netlist.Netlist) (statements : List Statement) → fold after_gate all statements ≡ record all { names = all.names ++ gate_names statements; gates = all.gates ++ bare_gates statements }
+gates_added : (all : netlist.Netlist) (statements : List Statement) → fold with_gate_of all statements ≡ record all { names = all.names ++ gate_names statements; gates = all.gates ++ bare_gates statements }
 unfolding bare_gates
 gates_added all [] = rw (append-nil, append-nil) refl
 gates_added all (Input name ∷ rest) = gates_added all rest
@@ -69,7 +69,7 @@ abbrev pub with_gates : netlist.Netlist → List netlist.Gate → netlist.Netlis
 with_gates all gates = record all { gates = gates }
 
 pub pin_added : (all : netlist.Netlist) (number : ℕ) (done more : List netlist.Gate) (kind : Kind) (sources : List ℕ) (source : List ℕ) → number ≡ all.inputs + length done
-    → after_pin number (with_gates all (done ++ record { kind = kind; sources = sources } ∷ more)) source ≡ with_gates all (done ++ record { kind = kind; sources = sources ++ number_in all.names source ∷ [] } ∷ more)
+    → with_pin_named number (with_gates all (done ++ record { kind = kind; sources = sources } ∷ more)) source ≡ with_gates all (done ++ record { kind = kind; sources = sources ++ number_in all.names source ∷ [] } ∷ more)
 pin_added all number done more kind sources source place =
     let was : netlist.Gate = record { kind = kind; sources = sources } in
     let will : netlist.Gate = record { kind = kind; sources = sources ++ number_in all.names source ∷ [] } in
@@ -79,10 +79,10 @@ pin_added all number done more kind sources source place =
     ∙ ap (with_gates all) (set_at done was more will (number - all.inputs) here)
 
 pub pins_added : (all : netlist.Netlist) (number : ℕ) (done more : List netlist.Gate) (kind : Kind) (sources : List ℕ) (names : List (List ℕ)) → number ≡ all.inputs + length done
-    → fold (after_pin number) (with_gates all (done ++ record { kind = kind; sources = sources } ∷ more)) names ≡ with_gates all (done ++ record { kind = kind; sources = sources ++ map (number_in all.names) names } ∷ more)
+    → fold (with_pin_named number) (with_gates all (done ++ record { kind = kind; sources = sources } ∷ more)) names ≡ with_gates all (done ++ record { kind = kind; sources = sources ++ map (number_in all.names) names } ∷ more)
 pins_added all number done more kind sources [] place = rw append-nil refl
 pins_added all number done more kind sources (name ∷ names) place =
-    ap (λ next. fold (after_pin number) next names) (pin_added all number done more kind sources name place)
+    ap (λ next. fold (with_pin_named number) next names) (pin_added all number done more kind sources name place)
     ∙ pins_added all number done more kind (sources ++ number_in all.names name ∷ []) names place
     ∙ rw append_assoc refl
 
@@ -112,7 +112,7 @@ next_cut all cut node made more place =
 
 parts_connected : (all : netlist.Netlist) (cut number : ℕ) (made : List (Option ℕ)) (done : List netlist.Gate) (statements : List Statement)
     → cut ≡ (all.inputs - length (made ++ bare_cuts statements)) + length made → number ≡ all.inputs + length done
-    → (fold after_pins (record { netlist = with_parts all (made ++ bare_cuts statements) (done ++ bare_gates statements); cut = cut; gate = number }) statements).netlist
+    → (fold with_pins_of (record { netlist = with_parts all (made ++ bare_cuts statements) (done ++ bare_gates statements); cut = cut; gate = number }) statements).netlist
     ≡ with_parts all (made ++ cuts_of all.names statements) (done ++ gates_of all.names statements)
 unfolding bare_cuts bare_gates
 parts_connected all cut number made done [] at place = refl
@@ -121,7 +121,7 @@ parts_connected all cut number made done (Output name ∷ rest) at place = parts
 parts_connected all cut number made done (FlipFlop name sources ∷ rest) at place =
     let node = number_in all.names (data_name sources) in
     let moved : made ++ Some node ∷ bare_cuts rest ≡ (made ++ Some node ∷ []) ++ bare_cuts rest = sym (append_assoc made (Some node ∷ []) (bare_cuts rest)) in
-    ap (λ now. (fold after_pins (record { netlist = now; cut = suc cut; gate = number }) rest).netlist)
+    ap (λ now. (fold with_pins_of (record { netlist = now; cut = suc cut; gate = number }) rest).netlist)
     (data_set all cut node made (bare_cuts rest) (done ++ bare_gates rest) at ∙ ap (λ cuts. with_parts all cuts (done ++ bare_gates rest)) moved)
     ∙ parts_connected all (suc cut) number (made ++ Some node ∷ []) done rest (next_cut all cut node made (bare_cuts rest) at) place
     ∙ ap (λ cuts. with_parts all cuts (done ++ gates_of all.names rest)) (append_assoc made (Some node ∷ []) (cuts_of all.names rest))
@@ -131,11 +131,11 @@ parts_connected all cut number made done (Gate name kind sources ∷ rest) at pl
     let one = pins_added now number done (bare_gates rest) (kind_of kind) [] sources place in
     let moved : done ++ gate ∷ bare_gates rest ≡ (done ++ gate ∷ []) ++ bare_gates rest = sym (append_assoc done (gate ∷ []) (bare_gates rest)) in
     let next : suc number ≡ all.inputs + length (done ++ gate ∷ []) = omega (arith, place, length-append done (gate ∷ [])) in
-    ap (λ made. (fold after_pins (record { netlist = made; cut = cut; gate = suc number }) rest).netlist) (one ∙ ap (with_gates now) moved)
+    ap (λ made. (fold with_pins_of (record { netlist = made; cut = cut; gate = suc number }) rest).netlist) (one ∙ ap (with_gates now) moved)
     ∙ parts_connected all cut (suc number) made (done ++ gate ∷ []) rest at next
     ∙ ap (with_parts all (made ++ cuts_of all.names rest)) (append_assoc done (gate ∷ []) (gates_of all.names rest))
 
-outputs_added : (all : netlist.Netlist) (statements : List Statement) → fold after_output all statements ≡ record all { outputs = fold add_once all.outputs (map (number_in all.names) (output_names statements)) }
+outputs_added : (all : netlist.Netlist) (statements : List Statement) → fold with_output_of all statements ≡ record all { outputs = fold add_once all.outputs (map (number_in all.names) (output_names statements)) }
 outputs_added all [] = refl
 outputs_added all (Input name ∷ rest) = outputs_added all rest
 outputs_added all (Output name ∷ rest) = outputs_added (netlist.with_output all (number_in all.names name)) rest
@@ -162,16 +162,16 @@ bare_inputs statements = record { names = all_inputs statements; inputs = length
 abbrev pub bare : List Statement → netlist.Netlist
 bare statements = record { names = node_names statements; inputs = length (all_inputs statements); cuts = bare_cuts statements; gates = bare_gates statements; outputs = [] }
 
-pub inputs-is : (statements : List Statement) → fold after_input netlist.empty_netlist statements ≡ only_inputs statements
+pub inputs-is : (statements : List Statement) → fold with_input_of netlist.empty_netlist statements ≡ only_inputs statements
 inputs-is statements = inputs_added netlist.empty_netlist statements ∙ rw (zero-add (length (input_names statements))) refl
 
 pub inputs_of-is : (statements : List Statement) → inputs_of statements ≡ bare_inputs statements
 inputs_of-is statements =
-    ap (λ all. fold after_cut all statements) (inputs-is statements) ∙ cuts_added (only_inputs statements) statements
+    ap (λ all. fold with_cut_of all statements) (inputs-is statements) ∙ cuts_added (only_inputs statements) statements
     ∙ ap (λ inputs. record (bare_inputs statements) { inputs = inputs }) (sym (length-append (input_names statements) (cut_names statements)))
 
-pub nodes_of-is : (statements : List Statement) → nodes_of statements ≡ bare statements
-nodes_of-is statements = ap (λ all. fold after_gate all statements) (inputs_of-is statements) ∙ gates_added (bare_inputs statements) statements
+pub unconnected_netlist-is : (statements : List Statement) → unconnected_netlist statements ≡ bare statements
+unconnected_netlist-is statements = ap (λ all. fold with_gate_of all statements) (inputs_of-is statements) ∙ gates_added (bare_inputs statements) statements
 
 -- and the cuts with their data nodes, and the gates with their pins
 abbrev pub connected_circuit : List Statement → netlist.Netlist
@@ -184,18 +184,18 @@ connected_circuit statements =
       outputs = [];
     }
 
-pub connected-is : (statements : List Statement) → connected (nodes_of statements) statements ≡ connected_circuit statements
+pub connected-is : (statements : List Statement) → connected_netlist (unconnected_netlist statements) statements ≡ connected_circuit statements
 connected-is statements =
     let all = bare statements in
-    ap (λ all. connected all statements) (nodes_of-is statements)
+    ap (λ all. connected_netlist all statements) (unconnected_netlist-is statements)
     ∙ parts_connected all (netlist.primary_inputs all) all.inputs [] [] statements (sym (add-zero (netlist.primary_inputs all))) (sym (add-zero all.inputs))
 
-pub built-netlist_of : (statements : List Statement) → built statements statements ≡ netlist_of statements
-built-netlist_of statements =
+pub built-circuit_of_statements : (statements : List Statement) → built_netlist statements statements ≡ circuit_of_statements statements
+built-circuit_of_statements statements =
     let names = node_names statements in
     let outputs = map (number_in names) (output_names statements) in
     let nodes = data_nodes names statements in
     let made = record (connected_circuit statements) { outputs = fold add_once [] outputs } in
-    ap with_data_outputs (ap (λ all. fold after_output all statements) (connected-is statements) ∙ outputs_added (connected_circuit statements) statements)
+    ap with_data_outputs (ap (λ all. fold with_output_of all statements) (connected-is statements) ∙ outputs_added (connected_circuit statements) statements)
     ∙ data_outputs_added made nodes
     ∙ ap (λ outputs. record made { outputs = outputs }) (sym (each_once-append [] outputs nodes))

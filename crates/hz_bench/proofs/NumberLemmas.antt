@@ -8,7 +8,7 @@ use Rattle.hz_bench.specs.declared.entry.Entry.{Entry}
 use Rattle.hz_bench.specs.declared.forms.Form.{Form}
 use Rattle.hz_bench.specs.declared.forms.Form.TheVariants as form
 use Rattle.hz_bench.specs.Definition.{defined_names}
-use Rattle.hz_bench.specs.Entry.{stated, numbered_list, statement_list}
+use Rattle.hz_bench.specs.Entry.{statement_of_entry, numbered_list, statement_list}
 use Rattle.hz_bench.specs.Netlist.{input_names, cut_names, gate_names, node_names, number_in}
 use Rattle.hz_bench.specs.Form.{form_of}
 use Rattle.hz_bench.specs.Statement.{Statement, Input, Output, FlipFlop, Gate}
@@ -29,9 +29,9 @@ numbers_from input cut gate (Some form.Input ∷ rest) = input ∷ numbers_from 
 numbers_from input cut gate (Some form.FlipFlop ∷ rest) = cut ∷ numbers_from input (suc cut) gate rest
 numbers_from input cut gate (Some (form.Gate kind) ∷ rest) = gate ∷ numbers_from input cut (suc gate) rest
 
-forms-stated : (entries : List Entry) → forms_of entries ≡ map form_of (statement_list entries)
-forms-stated [] = refl
-forms-stated (entry ∷ rest) = ap (λ one. one ∷ forms_of rest) (entry-formed entry) ∙ ap (λ forms. form_of (stated entry) ∷ forms) (forms-stated rest)
+forms-statement_of_entry : (entries : List Entry) → forms_of entries ≡ map form_of (statement_list entries)
+forms-statement_of_entry [] = refl
+forms-statement_of_entry (entry ∷ rest) = ap (λ one. one ∷ forms_of rest) (entry-formed entry) ∙ ap (λ forms. form_of (statement_of_entry entry) ∷ forms) (forms-statement_of_entry rest)
 
 -- there are no more inputs and flip-flops than statements
 inputs_within : (statements : List Statement) → length (input_names statements) + length (cut_names statements) ≤ length statements
@@ -42,7 +42,7 @@ inputs_within (FlipFlop name sources ∷ rest) = let h = inputs_within rest in o
 inputs_within (Gate name kind sources ∷ rest) = let h = inputs_within rest in omega arith
 
 pub inputs_few : (entries : List Entry) → length (input_names (statement_list entries)) + length (cut_names (statement_list entries)) ≤ length entries
-inputs_few entries = omega (arith, inputs_within (statement_list entries), length-map entries stated)
+inputs_few entries = omega (arith, inputs_within (statement_list entries), length-map entries statement_of_entry)
 
 -- a name that is apart from all before it is absent there
 Apart-absent : (names front back : List (List ℕ)) (name : List ℕ) → Apart names (front ++ name ∷ back) → list_any (bytes_eq name) (names ++ front) ≡ false
@@ -105,6 +105,6 @@ numbers-known entries once =
     let inputs = input_names statements in
     let cuts = cut_names statements in
     let apart = subst (λ (all : List Statement). Apart [] (node_names all)) (statement_list-numbered entries) (nodes_apart (numbered_list entries) once) in
-    ap (numbers_from 0 (length inputs) (length inputs + length cuts)) (forms-stated entries)
+    ap (numbers_from 0 (length inputs) (length inputs + length cuts)) (forms-statement_of_entry entries)
     ∙ numbers_placed (node_names statements) [] [] [] statements 0 (length inputs) (length inputs + length cuts) apart refl refl (ap length (append-nil inputs))
     (ap length (append-nil (inputs ++ cuts)) ∙ length-append inputs cuts)

@@ -6,39 +6,39 @@ use Rattle.std.specs.Str.{bytes_eq}
 use Rattle.std.proofs.lemmas.List.{append-nil}
 use Rattle.hz_line.specs.declared.bytes.Mark.TheVariants.{Open, Close, Comma, Equals}
 use Rattle.hz_line.specs.Line.{lines_of, lines_of_rest, rest_length}
-use Rattle.hz_line.specs.Statement.{Nothing, Means, Numbered, with_meaning, meaning_by, meaning_of_tokens, numbered_from, malformed_before, first_malformed, first_line}
+use Rattle.hz_line.specs.Statement.{Nothing, Means, Numbered, with_meaning, meaning_by, meaning_of_tokens, numbered_from, malformed_before, first_malformed, first_passing_line}
 use Rattle.hz_line.specs.Token.{TokenOf, WordOf, MarkOf, tokens_of}
 use Rattle.hz_line.proofs.TokenLemmas.{tokens_of-length}
 use Rattle.hz_bench.specs.declared.notes.Notes.{Notes}
 use Rattle.hz_bench.specs.declared.parse.Statements.{Statements}
 use Rattle.hz_bench.specs.Entry.{numbered_list, numbered_outputs, waiting_list}
-use Rattle.hz_bench.specs.Gathered.{AreGathered, IsNothingRead, IsSorted}
+use Rattle.hz_bench.specs.ReaderState.{AreGathered, IsNothingRead, AddsStatement}
 use Rattle.hz_bench.specs.Pass.{IsParsed}
-use Rattle.hz_bench.specs.FaultIn.{again_fault}
-use Rattle.hz_bench.specs.Statement.{Statement, Input, Output, FlipFlop, Gate, statement_of, names_of, Port, InputPort, OutputPort, port_word, port_of, defined_by, is_flip_flop, kind_named, variables_in, words_of, sources_of}
-use Rattle.hz_bench.specs.Text.{meaning_of, numbered_statements, variables_among}
-use Rattle.hz_bench.proofs.GatheredLemmas.{gathered-more}
-use Rattle.hz_bench.proofs.NotedLemmas.{inputs_few, variables_of-statements, variables-push}
+use Rattle.hz_bench.specs.FaultIn.{redefinition_fault}
+use Rattle.hz_bench.specs.Statement.{Statement, Input, Output, FlipFlop, Gate, statement_of, name_list_of, Port, InputPort, OutputPort, port_word, port_of, defined_by, is_flip_flop, kind_named, statement_variable_count, words_of, sources_of}
+use Rattle.hz_bench.specs.Text.{bench_meaning, bench_statements, variable_total_among}
+use Rattle.hz_bench.proofs.ReaderLemmas.{gathered-more}
+use Rattle.hz_bench.proofs.NoteLemmas.{inputs_few, variable_total-statements, variables-push}
 use Rattle.hz_bench.proofs.StatementLemmas.{IsNameList-from_some}
 
 -- what was read so far, before the rest of the text
 pub record IsParsing (text : List ℕ) (statements : Statements) (line : ℕ) (left : Option (Bor (List ℕ))) : Type 0 where
   pub done : List (Numbered Statement)
   pub gathered : AreGathered done statements
-  pub whole : done ++ numbered_from statement_of (suc line) (lines_of_rest left) ≡ numbered_statements text
+  pub whole : done ++ numbered_from statement_of (suc line) (lines_of_rest left) ≡ bench_statements text
   pub formed : first_malformed statement_of (suc line) (lines_of_rest left) ≡ first_malformed statement_of 1 (lines_of text)
   pub lines : line + rest_length left ≤ length text + 1
-  pub variables : variables_among done + rest_length left ≤ length text + 1
+  pub variables : variable_total_among done + rest_length left ≤ length text + 1
 
 -- of no statement
 gathered-nothing : (statements : Statements) → IsNothingRead statements → AreGathered [] statements
 gathered-nothing statements nothing = record {
   outputs = ap numbered_outputs nothing.outputs;
   notes = nothing.notes;
-  again = ap (option_map again_fault) nothing.again;
+  again = ap (option_map redefinition_fault) nothing.again;
   table = λ once. λ name. ap (lookup (bytes_eq name)) nothing.table;
   names = λ once. ap (map (λ (entry : List ℕ × ℕ). entry.0)) nothing.table;
-  telling = λ once. λ test. λ fails. ap (first_line (λ statement. test (sources_of statement))) (ap (λ nodes. numbered_list nodes ++ waiting_list statements.waiting.items) nothing.nodes ∙ ap waiting_list nothing.waiting);
+  telling = λ once. λ test. λ fails. ap (first_passing_line (λ statement. test (sources_of statement))) (ap (λ nodes. numbered_list nodes ++ waiting_list statements.waiting.items) nothing.nodes ∙ ap waiting_list nothing.waiting);
   nodes = λ few. ap numbered_list nothing.nodes;
   none_waits = λ few. nothing.waiting;
 }
@@ -77,7 +77,7 @@ IsParsing-roomier text statements more line left nodes waiting outputs notes aga
     }
 
 -- a statement has no more variables than its line has tokens
-port_weight : (name : List ℕ) (made : Option Port) (statement : Statement) → option_map (port_of name) made ≡ Some statement → variables_in statement ≤ 4
+port_weight : (name : List ℕ) (made : Option Port) (statement : Statement) → option_map (port_of name) made ≡ Some statement → statement_variable_count statement ≤ 4
 port_weight name None statement h = cc
 port_weight name (Some InputPort) (Input other) h = lit≤ tt
 port_weight name (Some InputPort) (Output other) h = lit≤ tt
@@ -88,24 +88,24 @@ port_weight name (Some OutputPort) (Output other) h = lit≤ tt
 port_weight name (Some OutputPort) (FlipFlop other sources) h = cc
 port_weight name (Some OutputPort) (Gate other kind sources) h = cc
 
-gate_weight : (name word : List ℕ) (rest : List TokenOf) (names : Option (List (List ℕ))) (statement : Statement) → names ≡ names_of rest → option_map (defined_by name word) names ≡ Some statement → variables_in statement ≤ length rest + 4
+gate_weight : (name word : List ℕ) (rest : List TokenOf) (names : Option (List (List ℕ))) (statement : Statement) → names ≡ name_list_of rest → option_map (defined_by name word) names ≡ Some statement → statement_variable_count statement ≤ length rest + 4
 gate_weight name word rest None statement same h = cc
 gate_weight name word rest (Some names) statement same h = by_word (is_flip_flop word) h
   where
-    by_word : (b : Bool) → Some (cond b (FlipFlop name names) (Gate name (kind_named word) names)) ≡ Some statement → variables_in statement ≤ length rest + 4
+    by_word : (b : Bool) → Some (cond b (FlipFlop name names) (Gate name (kind_named word) names)) ≡ Some statement → statement_variable_count statement ≤ length rest + 4
     by_word true h =
         let is : FlipFlop name names ≡ statement = cc h in
-        subst (λ (one : Statement). variables_in one ≤ length rest + 4) is (omega arith)
+        subst (λ (one : Statement). statement_variable_count one ≤ length rest + 4) is (omega arith)
     by_word false h =
         let is : Gate name (kind_named word) names ≡ statement = cc h in
         let list = IsNameList-from_some rest (ap is_some (sym same)) in
         let words : words_of rest ≡ names = cc (list.words, same) in
         let twice = list.twice in
         let few : length names + length names ≡ length rest = omega (arith, ap length words, twice) in
-        subst (λ (one : Statement). variables_in one ≤ length rest + 4) is (omega arith)
+        subst (λ (one : Statement). statement_variable_count one ≤ length rest + 4) is (omega arith)
 
 -- only a head of two words, each with a mark after it, begins a statement
-statement_weight : (tokens : List TokenOf) (statement : Statement) → statement_of tokens ≡ Some statement → variables_in statement ≤ length tokens
+statement_weight : (tokens : List TokenOf) (statement : Statement) → statement_of tokens ≡ Some statement → statement_variable_count statement ≤ length tokens
 statement_weight [] statement h = cc
 statement_weight (MarkOf mark ∷ rest) statement h = cc
 statement_weight (WordOf first ∷ []) statement h = cc
@@ -129,24 +129,24 @@ statement_weight (WordOf first ∷ MarkOf Equals ∷ WordOf second ∷ MarkOf Cl
 statement_weight (WordOf first ∷ MarkOf Equals ∷ WordOf second ∷ MarkOf Comma ∷ rest) statement h = cc
 statement_weight (WordOf first ∷ MarkOf Equals ∷ WordOf second ∷ MarkOf Equals ∷ rest) statement h = cc
 statement_weight (WordOf first ∷ MarkOf Equals ∷ WordOf second ∷ MarkOf Open ∷ rest) statement h =
-    let few = gate_weight first second rest (names_of rest) statement refl h in omega arith
+    let few = gate_weight first second rest (name_list_of rest) statement refl h in omega arith
 
-found_weight : (tokens : List TokenOf) (found : Option Statement) (statement : Statement) → found ≡ statement_of tokens → meaning_by found ≡ Means statement → variables_in statement ≤ length tokens
+found_weight : (tokens : List TokenOf) (found : Option Statement) (statement : Statement) → found ≡ statement_of tokens → meaning_by found ≡ Means statement → statement_variable_count statement ≤ length tokens
 found_weight tokens None statement same h = cc
 found_weight tokens (Some found) statement same h = statement_weight tokens statement (cc (same, h))
 
-meaning_weight : (tokens : Option (List TokenOf)) (statement : Statement) (n : ℕ) → IfSome tokens (λ all. length all ≤ n) → meaning_of_tokens statement_of tokens ≡ Means statement → variables_in statement ≤ n
+meaning_weight : (tokens : Option (List TokenOf)) (statement : Statement) (n : ℕ) → IfSome tokens (λ all. length all ≤ n) → meaning_of_tokens statement_of tokens ≡ Means statement → statement_variable_count statement ≤ n
 meaning_weight None statement n short h = cc
 meaning_weight (Some []) statement n short h = cc
 meaning_weight (Some (token ∷ tokens)) statement n short h =
     let few = found_weight (token ∷ tokens) (statement_of (token ∷ tokens)) statement refl h in omega arith
 
-pub line_weight : (line : List ℕ) (statement : Statement) → meaning_of line ≡ Means statement → variables_in statement ≤ length line
+pub line_weight : (line : List ℕ) (statement : Statement) → bench_meaning line ≡ Means statement → statement_variable_count statement ≤ length line
 line_weight line statement h = meaning_weight (tokens_of line) statement (length line) (tokens_of-length line) h
 
 -- a line without tokens
 pub IsParsing-nothing : (text : List ℕ) (statements : Statements) (line : ℕ) (first : List ℕ) (left : Option (Bor (List ℕ))) (whole : Bor (List ℕ))
-    → IsParsing text statements line (Some whole) → lines_of whole.now ≡ first ∷ lines_of_rest left → length first + rest_length left ≤ length whole.now → meaning_of first ≡ Nothing → IsParsing text statements (line + 1) left
+    → IsParsing text statements line (Some whole) → lines_of whole.now ≡ first ∷ lines_of_rest left → length first + rest_length left ≤ length whole.now → bench_meaning first ≡ Nothing → IsParsing text statements (line + 1) left
 IsParsing-nothing text statements line first left whole was cut shorter meaning =
     record {
       done = was.done;
@@ -163,19 +163,19 @@ numbered_read line one h = ap (λ place. record { line = place; statement = one.
 -- the whole text was read
 pub IsParsed-end : (text : List ℕ) (statements : Statements) (line : ℕ) → IsParsing text statements line None → IsParsed text statements
 IsParsed-end text statements line was =
-    let all : was.done ≡ numbered_statements text = sym (append-nil was.done) ∙ was.whole in
+    let all : was.done ≡ bench_statements text = sym (append-nil was.done) ∙ was.whole in
     record {
       gathered = subst (λ done. AreGathered done statements) all was.gathered;
       formed = sym was.formed;
-      fits = let v = was.variables in let e = variables_of-statements (numbered_statements text) in let e' = ap variables_among all in omega arith;
+      fits = let v = was.variables in let e = variable_total-statements (bench_statements text) in let e' = ap variable_total_among all in omega arith;
     }
 
 -- the statement of a line may be counted with those before it
 pub variables_fit : (text : List ℕ) (statements : Statements) (statement : Statement) (line : ℕ) (first : List ℕ) (left : Option (Bor (List ℕ))) (whole : Bor (List ℕ))
-    → IsParsing text statements line (Some whole) → length first + rest_length left ≤ length whole.now → meaning_of first ≡ Means statement → statements.notes.variables + variables_in statement ≤ length text + 1
+    → IsParsing text statements line (Some whole) → length first + rest_length left ≤ length whole.now → bench_meaning first ≡ Means statement → statements.notes.variables + statement_variable_count statement ≤ length text + 1
 variables_fit text statements statement line first left whole was shorter meaning =
     let weight = line_weight first statement meaning in
-    let counted : statements.notes.variables ≡ variables_among was.done = ap (λ (notes : Notes). notes.variables) was.gathered.notes in
+    let counted : statements.notes.variables ≡ variable_total_among was.done = ap (λ (notes : Notes). notes.variables) was.gathered.notes in
     let v = was.variables in
     omega arith
 
@@ -185,11 +185,11 @@ inputs_noted text statements line left was = rw (was.gathered.notes) (inputs_few
 
 -- a line with a statement
 pub IsParsing-statement : (text : List ℕ) (statements : Statements) (one : Numbered Statement) (more : Statements) (line : ℕ) (first : List ℕ) (left : Option (Bor (List ℕ))) (whole : Bor (List ℕ))
-    → IsParsing text statements line (Some whole) → lines_of whole.now ≡ first ∷ lines_of_rest left → length first + rest_length left ≤ length whole.now → one.line ≡ line + 1 → meaning_of first ≡ Means one.statement → IsSorted statements one more → IsParsing text more (line + 1) left
+    → IsParsing text statements line (Some whole) → lines_of whole.now ≡ first ∷ lines_of_rest left → length first + rest_length left ≤ length whole.now → one.line ≡ line + 1 → bench_meaning first ≡ Means one.statement → AddsStatement statements one more → IsParsing text more (line + 1) left
 IsParsing-statement text statements one more line first left whole was cut shorter placed meaning sorted =
     let weight = line_weight first one.statement meaning in
     let counted = variables-push was.done one in
-    let all : was.done ++ one ∷ numbered_from statement_of (suc (suc line)) (lines_of_rest left) ≡ numbered_statements text =
+    let all : was.done ++ one ∷ numbered_from statement_of (suc (suc line)) (lines_of_rest left) ≡ bench_statements text =
     ap (λ (next : Numbered Statement). was.done ++ next ∷ numbered_from statement_of (suc (suc line)) (lines_of_rest left)) (numbered_read line one placed)
     ∙ sym (ap (λ lines. was.done ++ numbered_from statement_of (suc line) lines) cut ∙ ap (λ means. was.done ++ with_meaning (suc line) means (numbered_from statement_of (suc (suc line)) (lines_of_rest left))) meaning) ∙ was.whole in
     record {

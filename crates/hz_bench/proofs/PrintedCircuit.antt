@@ -14,10 +14,10 @@ use Rattle.hz_core.specs.Netlist.{Netlist, Gate as GateOf, IsCircuit, IsDataAmon
 use Rattle.hz_core.proofs.CircuitLemmas.{same_netlist}
 use Rattle.hz_line.specs.Line.{lines_of}
 use Rattle.hz_line.specs.Statement.{Meaning, Nothing, Malformed, Means, Numbered, with_meaning, numbered_from}
-use Rattle.hz_bench.specs.Netlist.{input_names, cut_names, data_names, data_nodes, gate_names, output_names, all_inputs, node_names, number_in, gates_of, add_once, each_once, netlist_of}
+use Rattle.hz_bench.specs.Netlist.{input_names, cut_names, data_names, data_nodes, gate_names, output_names, all_inputs, node_names, number_in, gates_of, add_once, each_once, circuit_of_statements}
 use Rattle.hz_bench.specs.Statement.{InputPort, OutputPort, Statement, statement_of}
-use Rattle.hz_bench.specs.Text.{meaning_of, statements_of}
-use Rattle.hz_bench.specs.Printed.{name_at, printed}
+use Rattle.hz_bench.specs.Text.{bench_meaning, statements_of}
+use Rattle.hz_bench.specs.Printed.{name_at, netlist_text}
 use Rattle.hz_bench.proofs.NetlistLemmas.{each_once-append}
 use Rattle.hz_bench.proofs.PrintedLines.{ports, cut_statements, gate_statements, statements_for, IsReadAs, printed-IsReadAs}
 
@@ -28,9 +28,9 @@ meant (Nothing ∷ rest) = meant rest
 meant (Malformed ∷ rest) = meant rest
 meant (Means statement ∷ rest) = statement ∷ meant rest
 
-meant_lines : (line : ℕ) (lines : List (List ℕ)) → map (λ numbered. numbered.statement) (numbered_from statement_of line lines) ≡ meant (map meaning_of lines)
+meant_lines : (line : ℕ) (lines : List (List ℕ)) → map (λ numbered. numbered.statement) (numbered_from statement_of line lines) ≡ meant (map bench_meaning lines)
 meant_lines line [] = refl
-meant_lines line (first ∷ rest) = by_meaning (meaning_of first) (numbered_from statement_of (suc line) rest) (map meaning_of rest) (meant_lines (suc line) rest)
+meant_lines line (first ∷ rest) = by_meaning (bench_meaning first) (numbered_from statement_of (suc line) rest) (map bench_meaning rest) (meant_lines (suc line) rest)
   where
     by_meaning : (meaning : Meaning Statement) (later : List (Numbered Statement)) (meanings : List (Meaning Statement)) → map (λ numbered. numbered.statement) later ≡ meant meanings → map (λ numbered. numbered.statement) (with_meaning line meaning later) ≡ meant (meaning ∷ meanings)
     by_meaning Nothing later meanings h = h
@@ -182,7 +182,7 @@ once done (next ∷ rest) distinct =
     longer (first ∷ done) next rest = let ih = longer done next rest in omega arith
 
 -- the circuit of a circuit's statements is this circuit
-circuit_back : (netlist : Netlist) → IsCircuit netlist → IsWhole netlist → netlist_of (statements_for netlist) ≡ netlist
+circuit_back : (netlist : Netlist) → IsCircuit netlist → IsWhole netlist → circuit_of_statements (statements_for netlist) ≡ netlist
 circuit_back netlist circuit whole =
     let names = netlist.names in
     let primary = primary_inputs netlist in
@@ -215,7 +215,7 @@ circuit_back netlist circuit whole =
     let few = length-take-le primary names (omega (arith, circuit.nodes)) in
     let nodes_are : data_nodes (node_names statements) statements ≡ set.nodes =
     ap (λ all. data_nodes all statements) nodes ∙ ap (map (number_in names)) read ∙ numbers_back names set.nodes circuit.names_distinct set.below in
-    same_netlist (netlist_of statements) netlist nodes
+    same_netlist (circuit_of_statements statements) netlist nodes
     (ap length front ∙ omega (arith, length-append inputs cuts, few, length-named_from names primary set.nodes, total))
     (ap (map Some) nodes_are ∙ sym set.are)
     (ap (λ all. gates_of all statements) nodes ∙ made)
@@ -230,6 +230,6 @@ circuit_back netlist circuit whole =
     )
 
 -- a printed text stands for its circuit
-pub printed-circuit : (netlist : Netlist) → IsCircuit netlist → IsWhole netlist → netlist_of (statements_of (printed netlist)) ≡ netlist
+pub printed-circuit : (netlist : Netlist) → IsCircuit netlist → IsWhole netlist → circuit_of_statements (statements_of (netlist_text netlist)) ≡ netlist
 printed-circuit netlist circuit whole =
-    ap netlist_of (IsReadAs-statements (printed netlist) (statements_for netlist) (printed-IsReadAs netlist circuit whole)) ∙ circuit_back netlist circuit whole
+    ap circuit_of_statements (IsReadAs-statements (netlist_text netlist) (statements_for netlist) (printed-IsReadAs netlist circuit whole)) ∙ circuit_back netlist circuit whole

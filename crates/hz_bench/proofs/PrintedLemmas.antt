@@ -2,7 +2,7 @@
 use Rattle.std.proofs.Common.{◌≡◌, ◌∙◌, ℕ, ◌+◌, ◌-◌, ◌<◌, ◌≤◌, suc, List, [], ◌∷◌, ◌++◌, Option, None, length, map, take, get_or, sym, ap, arith, append_assoc, codes, add-zero}
 use Rattle.std.proofs.lemmas.List.{take_more, map_push, append-nil, length-take-le}
 use Rattle.hz_core.specs.Netlist.{Gate}
-use Rattle.hz_bench.specs.Printed.{name_at, port_line, port_lines, more_sources, cut_lines, cut_text, gate_line, gate_lines}
+use Rattle.hz_bench.specs.Printed.{name_at, port_line, port_lines, more_sources, cut_lines, cut_text, gate_line, gate_texts}
 
 -- a text with a piece more
 pub text_more : (old now new front back whole : List ℕ) → now ≡ old ++ front → new ≡ now ++ back → whole ≡ front ++ back → new ≡ old ++ whole
@@ -25,24 +25,24 @@ more_sources-push names (first ∷ sources) source = ap (λ rest. (codes ", " ++
 pub sources_more : (names : List (List ℕ)) (sources : List ℕ) (index : ℕ) → index < length sources → more_sources names (take (index + 1) sources) ≡ more_sources names (take index sources) ++ (codes ", " ++ name_at names (get_or sources index 0))
 sources_more names sources index inside = ap (more_sources names) (take_more sources index 0 inside) ∙ more_sources-push names (take index sources) (get_or sources index 0)
 
-gate_lines-push : (names : List (List ℕ)) (node : ℕ) (gates : List Gate) (gate : Gate) → gate_lines names node (gates ++ gate ∷ []) ≡ gate_lines names node gates ++ gate_line names (name_at names (node + length gates)) gate
-gate_lines-push names node [] gate = append-nil (gate_line names (name_at names node) gate) ∙ ap (λ place. gate_line names (name_at names place) gate) (sym (add-zero node))
-gate_lines-push names node (first ∷ gates) gate =
-    ap (λ rest. gate_line names (name_at names node) first ++ rest) (gate_lines-push names (suc node) gates gate ∙ ap (λ place. gate_lines names (suc node) gates ++ gate_line names (name_at names place) gate) (shift node (length gates)))
-    ∙ sym (append_assoc (gate_line names (name_at names node) first) (gate_lines names (suc node) gates) (gate_line names (name_at names (node + suc (length gates))) gate))
+gate_texts-push : (names : List (List ℕ)) (node : ℕ) (gates : List Gate) (gate : Gate) → gate_texts names node (gates ++ gate ∷ []) ≡ gate_texts names node gates ++ gate_line names (name_at names (node + length gates)) gate
+gate_texts-push names node [] gate = append-nil (gate_line names (name_at names node) gate) ∙ ap (λ place. gate_line names (name_at names place) gate) (sym (add-zero node))
+gate_texts-push names node (first ∷ gates) gate =
+    ap (λ rest. gate_line names (name_at names node) first ++ rest) (gate_texts-push names (suc node) gates gate ∙ ap (λ place. gate_texts names (suc node) gates ++ gate_line names (name_at names place) gate) (shift node (length gates)))
+    ∙ sym (append_assoc (gate_line names (name_at names node) first) (gate_texts names (suc node) gates) (gate_line names (name_at names (node + suc (length gates))) gate))
   where
     shift : (a b : ℕ) → suc a + b ≡ a + suc b
     shift a b = omega arith
 
 pub gates_more : (names : List (List ℕ)) (inputs : ℕ) (gates : List Gate) (node : ℕ) (other : Gate) → inputs ≤ node → node < inputs + length gates
-    → gate_lines names inputs (take (node + 1 - inputs) gates) ≡ gate_lines names inputs (take (node - inputs) gates) ++ gate_line names (name_at names node) (get_or gates (node - inputs) other)
+    → gate_texts names inputs (take (node + 1 - inputs) gates) ≡ gate_texts names inputs (take (node - inputs) gates) ++ gate_line names (name_at names node) (get_or gates (node - inputs) other)
 gates_more names inputs gates node other low high =
     let inside : node - inputs < length gates = omega arith in
     let next : node + 1 - inputs ≡ (node - inputs) + 1 = omega arith in
     let place : inputs + length (take (node - inputs) gates) ≡ node = let short = length-take-le (node - inputs) gates (omega arith) in omega arith in
-    ap (λ count. gate_lines names inputs (take count gates)) next ∙ ap (gate_lines names inputs) (take_more gates (node - inputs) other inside)
-    ∙ gate_lines-push names inputs (take (node - inputs) gates) (get_or gates (node - inputs) other)
-    ∙ ap (λ at. gate_lines names inputs (take (node - inputs) gates) ++ gate_line names (name_at names at) (get_or gates (node - inputs) other)) place
+    ap (λ count. gate_texts names inputs (take count gates)) next ∙ ap (gate_texts names inputs) (take_more gates (node - inputs) other inside)
+    ∙ gate_texts-push names inputs (take (node - inputs) gates) (get_or gates (node - inputs) other)
+    ∙ ap (λ at. gate_texts names inputs (take (node - inputs) gates) ++ gate_line names (name_at names at) (get_or gates (node - inputs) other)) place
 
 cut_lines-push : (names : List (List ℕ)) (node : ℕ) (cuts : List (Option ℕ)) (cut : Option ℕ) → cut_lines names node (cuts ++ cut ∷ []) ≡ cut_lines names node cuts ++ cut_text names (name_at names (node + length cuts)) cut
 cut_lines-push names node [] cut = append-nil (cut_text names (name_at names node) cut) ∙ ap (λ place. cut_text names (name_at names place) cut) (sym (add-zero node))

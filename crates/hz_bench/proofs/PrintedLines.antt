@@ -9,19 +9,19 @@ use Rattle.hz_core.specs.declared.kind.Kind.{Kind}
 use Rattle.hz_core.specs.declared.kind.Kind.TheVariants.{And, Nand, Or, Nor, Xor, Xnor, Not, Buff}
 use Rattle.hz_core.specs.Netlist.{Netlist, Gate as GateOf, IsName, IsCircuit, IsDataAmong, IsGateAmong, IsWhole, primary_inputs}
 use Rattle.hz_line.specs.declared.bytes.Mark.TheVariants.{Open, Close, Comma, Equals}
-use Rattle.hz_line.specs.Byte.{class_of, is_letter}
+use Rattle.hz_line.specs.Byte.{class_of, is_word_byte}
 use Rattle.hz_line.specs.Line.{lines_of}
 use Rattle.hz_line.specs.Token.{TokenOf, WordOf, MarkOf, tokens_of, with_token, begins_in_word}
 use Rattle.hz_line.specs.Statement.{Meaning, Nothing, Means, meaning_of_tokens}
-use Rattle.hz_line.proofs.WrittenLemmas.{tokens_of-open, tokens_of-close, tokens_of-comma, tokens_of-equals, tokens_of-space, is_letter-separators, tokens_of-word_before, is_inline, word_bytes, lines_of-written}
-use Rattle.hz_bench.specs.Statement.{Port, InputPort, OutputPort, Statement, Gate, kind_named, port_word, port_of, names_of, statement_of, FlipFlop, is_flip_flop}
-use Rattle.hz_bench.specs.Text.{meaning_of}
-use Rattle.hz_bench.specs.Printed.{name_at, kind_name, port_line, port_lines, cut_line, cut_lines, more_sources, source_list, gate_head, gate_line, gate_lines, printed}
+use Rattle.hz_line.proofs.WrittenLemmas.{tokens_of-open, tokens_of-close, tokens_of-comma, tokens_of-equals, tokens_of-space, is_word_byte-separators, tokens_of-word_before, is_inline, word_bytes, lines_of-written}
+use Rattle.hz_bench.specs.Statement.{Port, InputPort, OutputPort, Statement, Gate, kind_named, port_word, port_of, name_list_of, statement_of, FlipFlop, is_flip_flop}
+use Rattle.hz_bench.specs.Text.{bench_meaning}
+use Rattle.hz_bench.specs.Printed.{name_at, kind_name, port_line, port_lines, cut_line, cut_lines, more_sources, source_list, gate_head, gate_line, gate_texts, netlist_text}
 
 -- a word that stands within a line
 pub record IsWritten (word : List ℕ) : Type 0 where
   pub some : 0 < length word
-  pub letters : list_all is_letter word ≡ true
+  pub letters : list_all is_word_byte word ≡ true
   pub inline : list_all is_inline word ≡ true
 
 IsWritten-name : (name : List ℕ) → IsName name → IsWritten name
@@ -83,12 +83,12 @@ output_word = record { written = record { some = omega arith; letters = refl; in
 
 -- what each line of a text is
 abbrev pub meanings_of : List ℕ → List (Meaning Statement)
-meanings_of text = map meaning_of (lines_of text)
+meanings_of text = map bench_meaning (lines_of text)
 
-one_line : (line rest : List ℕ) (statement : Statement) → list_all is_inline line ≡ true → meaning_of line ≡ Means statement → meanings_of ((line ++ 10 ∷ []) ++ rest) ≡ Means statement ∷ meanings_of rest
+one_line : (line rest : List ℕ) (statement : Statement) → list_all is_inline line ≡ true → bench_meaning line ≡ Means statement → meanings_of ((line ++ 10 ∷ []) ++ rest) ≡ Means statement ∷ meanings_of rest
 one_line line rest statement inline means =
     ap meanings_of (append_assoc line (10 ∷ []) rest)
-    ∙ ap (map meaning_of) (lines_of-written line rest inline)
+    ∙ ap (map bench_meaning) (lines_of-written line rest inline)
     ∙ ap (λ first. first ∷ meanings_of rest) means
 
 -- the line of an input or an output, before its line feed
@@ -102,11 +102,11 @@ port_split word name =
 
 port_tokens : (word name : List ℕ) → IsWritten word → IsWritten name → tokens_of (port_body word name) ≡ Some (WordOf word ∷ MarkOf Open ∷ WordOf name ∷ MarkOf Close ∷ [])
 port_tokens word name first second =
-    let named = tokens_of-word_before name (41 ∷ []) second.some second.letters is_letter-separators.2 ∙ ap (with_token (WordOf name)) (tokens_of-close []) in
-    tokens_of-word_before word (40 ∷ (name ++ 41 ∷ [])) first.some first.letters is_letter-separators.1
+    let named = tokens_of-word_before name (41 ∷ []) second.some second.letters is_word_byte-separators.2 ∙ ap (with_token (WordOf name)) (tokens_of-close []) in
+    tokens_of-word_before word (40 ∷ (name ++ 41 ∷ [])) first.some first.letters is_word_byte-separators.1
     ∙ ap (with_token (WordOf word)) (tokens_of-open (name ++ 41 ∷ []) ∙ ap (with_token (MarkOf Open)) named)
 
-port_meaning : (word name : List ℕ) (made : Port) → IsPortWord word made → IsWritten name → meaning_of (port_body word name) ≡ Means (port_of name made)
+port_meaning : (word name : List ℕ) (made : Port) → IsPortWord word made → IsWritten name → bench_meaning (port_body word name) ≡ Means (port_of name made)
 port_meaning word name made is written = ap (meaning_of_tokens statement_of) (port_tokens word name is.written written) ∙ rw is.makes refl
 
 port_inline : (word name : List ℕ) → IsWritten word → IsWritten name → list_all is_inline (port_body word name) ≡ true
@@ -135,9 +135,9 @@ abbrev further : List (List ℕ) → List TokenOf
 further [] = MarkOf Close ∷ []
 further (name ∷ names) = MarkOf Comma ∷ WordOf name ∷ further names
 
-names_of-further : (name : List ℕ) (names : List (List ℕ)) → names_of (WordOf name ∷ further names) ≡ Some (name ∷ names)
-names_of-further name [] = refl
-names_of-further name (next ∷ names) = ap (option_map (λ (rest : List (List ℕ)). name ∷ rest)) (names_of-further next names)
+name_list_of-further : (name : List ℕ) (names : List (List ℕ)) → name_list_of (WordOf name ∷ further names) ≡ Some (name ∷ names)
+name_list_of-further name [] = refl
+name_list_of-further name (next ∷ names) = ap (option_map (λ (rest : List (List ℕ)). name ∷ rest)) (name_list_of-further next names)
 
 -- each of these numbers is a node with a name
 abbrev AreNodes : List (List ℕ) → List ℕ → Type 0
@@ -147,8 +147,8 @@ node_written : (names : List (List ℕ)) (node : ℕ) → All IsName names → n
 node_written names node named below = IsWritten-name (name_at names node) (named node [] below)
 
 further_begins : (names : List (List ℕ)) (sources : List ℕ) → begins_in_word (more_sources names sources ++ 41 ∷ []) ≡ false
-further_begins names [] = is_letter-separators.2
-further_begins names (source ∷ sources) = is_letter-separators.3
+further_begins names [] = is_word_byte-separators.2
+further_begins names (source ∷ sources) = is_word_byte-separators.3
 
 further_tokens : (names : List (List ℕ)) (sources : List ℕ) → All IsName names → AreNodes names sources → tokens_of (more_sources names sources ++ 41 ∷ []) ≡ Some (further (map (name_at names) sources))
 further_tokens names [] named below = tokens_of-close []
@@ -171,7 +171,7 @@ further_inline names (source ∷ sources) named below =
     rw (list_all-append is_inline (name_at names source) (more_sources names sources), word.inline, ih) refl
 
 -- the tokens of a list of sources, up to the closing parenthesis, are the names
-sources_tokens : (names : List (List ℕ)) (sources : List ℕ) → All IsName names → AreNodes names sources → 1 ≤ length sources → (tokens : List TokenOf) × (tokens_of (source_list names sources ++ 41 ∷ []) ≡ Some tokens) × (names_of tokens ≡ Some (map (name_at names) sources))
+sources_tokens : (names : List (List ℕ)) (sources : List ℕ) → All IsName names → AreNodes names sources → 1 ≤ length sources → (tokens : List TokenOf) × (tokens_of (source_list names sources ++ 41 ∷ []) ≡ Some tokens) × (name_list_of tokens ≡ Some (map (name_at names) sources))
 sources_tokens names [] named below some = absurd (omega arith)
 sources_tokens names (first ∷ rest) named below some =
     let P : ℕ → Type 0 = λ node. node < length names in
@@ -181,7 +181,7 @@ sources_tokens names (first ∷ rest) named below some =
       ap tokens_of (append_assoc name (more_sources names rest) (41 ∷ []))
           ∙ tokens_of-word_before name (more_sources names rest ++ 41 ∷ []) word.some word.letters (further_begins names rest)
           ∙ ap (with_token (WordOf name)) (further_tokens names rest named (All-tail P first rest below)),
-      names_of-further name (map (name_at names) rest),
+      name_list_of-further name (map (name_at names) rest),
     )
 
 sources_inline : (names : List (List ℕ)) (sources : List ℕ) → All IsName names → AreNodes names sources → list_all is_inline (source_list names sources) ≡ true
@@ -206,11 +206,11 @@ cut_tokens name source first second =
     let word = codes "DFF" in
     let spelled = flip_flop_word.0 in
     let back = 40 ∷ (source ++ 41 ∷ []) in
-    let last = tokens_of-word_before source (41 ∷ []) second.some second.letters is_letter-separators.2 ∙ ap (with_token (WordOf source)) (tokens_of-close []) in
-    let kind_first = tokens_of-word_before word back spelled.some spelled.letters is_letter-separators.1
+    let last = tokens_of-word_before source (41 ∷ []) second.some second.letters is_word_byte-separators.2 ∙ ap (with_token (WordOf source)) (tokens_of-close []) in
+    let kind_first = tokens_of-word_before word back spelled.some spelled.letters is_word_byte-separators.1
     ∙ ap (with_token (WordOf word)) (tokens_of-open (source ++ 41 ∷ []) ∙ ap (with_token (MarkOf Open)) last) in
     let equals_first = tokens_of-space (61 ∷ 32 ∷ word ++ back) ∙ tokens_of-equals (32 ∷ word ++ back) ∙ ap (with_token (MarkOf Equals)) (tokens_of-space (word ++ back) ∙ kind_first) in
-    tokens_of-word_before name (32 ∷ 61 ∷ 32 ∷ word ++ back) first.some first.letters is_letter-separators.0
+    tokens_of-word_before name (32 ∷ 61 ∷ 32 ∷ word ++ back) first.some first.letters is_word_byte-separators.0
     ∙ ap (with_token (WordOf name)) equals_first
 
 cut_inline : (name source : List ℕ) → IsWritten name → IsWritten source → list_all is_inline (cut_body name source) ≡ true
@@ -248,10 +248,10 @@ unfolding gate_head
 head_tokens name rest kind written =
     let word = kind_name kind in
     let spelled = IsWritten-kind kind in
-    let kind_first = ap tokens_of (append_assoc word (40 ∷ []) rest) ∙ tokens_of-word_before word (40 ∷ rest) spelled.some spelled.letters is_letter-separators.1 ∙ ap (with_token (WordOf word)) (tokens_of-open rest) in
+    let kind_first = ap tokens_of (append_assoc word (40 ∷ []) rest) ∙ tokens_of-word_before word (40 ∷ rest) spelled.some spelled.letters is_word_byte-separators.1 ∙ ap (with_token (WordOf word)) (tokens_of-open rest) in
     let equals_first = tokens_of-space (61 ∷ 32 ∷ (word ++ 40 ∷ []) ++ rest) ∙ tokens_of-equals (32 ∷ (word ++ 40 ∷ []) ++ rest) ∙ ap (with_token (MarkOf Equals)) (tokens_of-space ((word ++ 40 ∷ []) ++ rest) ∙ kind_first) in
     ap tokens_of (append_assoc name (32 ∷ 61 ∷ 32 ∷ word ++ 40 ∷ []) rest)
-    ∙ tokens_of-word_before name (32 ∷ 61 ∷ 32 ∷ (word ++ 40 ∷ []) ++ rest) written.some written.letters is_letter-separators.0
+    ∙ tokens_of-word_before name (32 ∷ 61 ∷ 32 ∷ (word ++ 40 ∷ []) ++ rest) written.some written.letters is_word_byte-separators.0
     ∙ ap (with_token (WordOf name)) equals_first
 
 head_inline : (name : List ℕ) (kind : Kind) → IsWritten name → list_all is_inline (gate_head name kind) ≡ true
@@ -273,7 +273,7 @@ gate_split names name gate =
 abbrev pub gate_statement : List (List ℕ) → List ℕ → GateOf → Statement
 gate_statement names name gate = Gate name (Some gate.kind) (map (name_at names) gate.sources)
 
-gate_meaning : (names : List (List ℕ)) (name : List ℕ) (gate : GateOf) → All IsName names → IsWritten name → AreNodes names gate.sources → 1 ≤ length gate.sources → meaning_of (gate_body names name gate) ≡ Means (gate_statement names name gate)
+gate_meaning : (names : List (List ℕ)) (name : List ℕ) (gate : GateOf) → All IsName names → IsWritten name → AreNodes names gate.sources → 1 ≤ length gate.sources → bench_meaning (gate_body names name gate) ≡ Means (gate_statement names name gate)
 gate_meaning names name gate named written below some =
     let list = sources_tokens names gate.sources named below some in
     ap (meaning_of_tokens statement_of) (head_tokens name (source_list names gate.sources ++ 41 ∷ []) gate.kind written)
@@ -299,12 +299,12 @@ gate_statements names node (gate ∷ rest) = gate_statement names (name_at names
 abbrev pub HasPin : GateOf → Type 0
 HasPin gate = 1 ≤ length gate.sources
 
-gates_read : (names : List (List ℕ)) (node : ℕ) (gates : List GateOf) → All IsName names → node + length gates ≤ length names → All (IsGateAmong (length names)) gates → All HasPin gates → meanings_of (gate_lines names node gates) ≡ map Means (gate_statements names node gates) ++ Nothing ∷ []
+gates_read : (names : List (List ℕ)) (node : ℕ) (gates : List GateOf) → All IsName names → node + length gates ≤ length names → All (IsGateAmong (length names)) gates → All HasPin gates → meanings_of (gate_texts names node gates) ≡ map Means (gate_statements names node gates) ++ Nothing ∷ []
 gates_read names node [] named room among pins = refl
 gates_read names node (gate ∷ rest) named room among pins =
     let written = node_written names node named (omega (arith, room)) in
     let sound = All-head (IsGateAmong (length names)) gate rest among in
-    gate_read names (name_at names node) (gate_lines names (suc node) rest) gate named written sound.sources (All-head HasPin gate rest pins)
+    gate_read names (name_at names node) (gate_texts names (suc node) rest) gate named written sound.sources (All-head HasPin gate rest pins)
     ∙ ap (λ later. Means (gate_statement names (name_at names node) gate) ∷ later)
     (gates_read names (suc node) rest named (omega (arith, room)) (All-tail (IsGateAmong (length names)) gate rest among) (All-tail HasPin gate rest pins))
 
@@ -323,8 +323,8 @@ IsReadAs text statements = meanings_of text ≡ map Means statements ++ Nothing 
 means_append : (front back : List Statement) (last : List (Meaning Statement)) → map Means (front ++ back) ++ last ≡ map Means front ++ (map Means back ++ last)
 means_append front back last = ap (λ all. all ++ last) (map-append Means front back) ∙ append_assoc (map Means front) (map Means back) last
 
-pub printed-IsReadAs : (netlist : Netlist) → IsCircuit netlist → IsWhole netlist → IsReadAs (printed netlist) (statements_for netlist)
-unfolding printed
+pub printed-IsReadAs : (netlist : Netlist) → IsCircuit netlist → IsWhole netlist → IsReadAs (netlist_text netlist) (statements_for netlist)
+unfolding netlist_text
 printed-IsReadAs netlist circuit whole =
     let names = netlist.names in
     let primary = primary_inputs netlist in
@@ -336,7 +336,7 @@ printed-IsReadAs netlist circuit whole =
     let input_lines = port_lines (codes "INPUT") inputs in
     let output_lines = port_lines (codes "OUTPUT") outputs in
     let cut_text = cut_lines names primary netlist.cuts in
-    let gate_text = gate_lines names netlist.inputs netlist.gates in
+    let gate_text = gate_texts names netlist.inputs netlist.gates in
     let last = gates_read names netlist.inputs netlist.gates circuit.names (omega (arith, circuit.nodes)) circuit.gates whole.gates in
     let third = cuts_read names primary netlist.cuts gate_text circuit.names (omega (arith, circuit.nodes, circuit.cuts)) circuit.data_nodes
     ∙ ap (λ later. map Means cuts ++ later) last in

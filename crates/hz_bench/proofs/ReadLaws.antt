@@ -5,20 +5,20 @@ use Rattle.hz_bench.specs.declared.notes.Notes.{Notes}
 use Rattle.hz_bench.specs.declared.parse.Statements.{Statements}
 use Rattle.hz_bench.specs.declared.fault.BenchFault.{BenchFault}
 use Rattle.hz_bench.specs.declared.fault.BenchFault.TheVariants.{Form, Name, KindUnknown, Twice, Pins, Undefined, TooMany, Memory}
-use Rattle.hz_bench.specs.Fault.{Defines, Stands, number_of, line_of, ComesFirst, IsLeastFault, IsAnswer}
+use Rattle.hz_bench.specs.Fault.{Defines, HasFault, fault_number, fault_line_number, ComesFirst, IsLeastFault, IsNetlistRefusal}
 use Rattle.hz_bench.specs.Pass.{IsParsed, IsParseFault, IsAccepted}
-use Rattle.hz_bench.specs.Statement.{defined_name, pin_count}
-use Rattle.hz_bench.specs.Text.{meaning_at, statement_meant, numbered_statements, statements_of, variables_of}
+use Rattle.hz_bench.specs.Statement.{defined_name, statement_pin_count}
+use Rattle.hz_bench.specs.Text.{bench_meaning_at, statement_meant, bench_statements, statements_of, variable_total}
 use Rattle.hz_bench.specs.Twice.{IsFoundOrMemory, earlier_line}
 use Rattle.hz_bench.proofs.CheckedLemmas.{checked}
 use Rattle.hz_bench.proofs.FaultLaws.{Outcome, form-least, form-none, first_fault-outcome, second-first, line_found}
-use Rattle.hz_bench.proofs.MayLemmas.{may_build, whole}
-use Rattle.hz_bench.proofs.NotedLemmas.{variables_of-statements}
+use Rattle.hz_bench.proofs.AdmissibleLemmas.{may_build, whole}
+use Rattle.hz_bench.proofs.NoteLemmas.{variable_total-statements}
 use Rattle.hz_bench.specs.FaultIn.{fault_in}
-use Rattle.hz_bench.proofs.Sorted.{fault_in-first, may_build-sorted}
+use Rattle.hz_bench.proofs.KeptStatements.{fault_in-first, may_build-sorted}
 
 -- why a text was not parsed
-pub parse-answer : (text : List ℕ) (fault : BenchFault) → IsParseFault text fault → IsAnswer text fault
+pub parse-answer : (text : List ℕ) (fault : BenchFault) → IsParseFault text fault → IsNetlistRefusal text fault
 parse-answer text (Form line) h = form-least text line h
 parse-answer text (Name line) h = absurd h
 parse-answer text (KindUnknown line) h = absurd h
@@ -33,7 +33,7 @@ check-outcome : (text : List ℕ) (statements : Statements) (answer : Option Ben
 check-outcome text statements answer parsed e =
     subst (Outcome text) (sym (fault_in-first text statements parsed) ∙ e) (first_fault-outcome text (form-none text parsed.formed))
 
-pub check-answer : (text : List ℕ) (statements : Statements) (fault : BenchFault) → IsParsed text statements → IsFoundOrMemory (fault_in statements) fault → IsAnswer text fault
+pub check-answer : (text : List ℕ) (statements : Statements) (fault : BenchFault) → IsParsed text statements → IsFoundOrMemory (fault_in statements) fault → IsNetlistRefusal text fault
 check-answer text statements (Form line) parsed h = check-outcome text statements (Some (Form line)) parsed h
 check-answer text statements (Name line) parsed h = check-outcome text statements (Some (Name line)) parsed h
 check-answer text statements (KindUnknown line) parsed h = check-outcome text statements (Some (KindUnknown line)) parsed h
@@ -45,10 +45,10 @@ check-answer text statements Memory parsed h = tt
 
 pub accepted : (text : List ℕ) (statements : Statements) → IsParsed text statements → fault_in statements ≡ None → IsAccepted text statements
 accepted text statements parsed e =
-    let fine = checked (numbered_statements text) (sym (fault_in-first text statements parsed) ∙ e) in
+    let fine = checked (bench_statements text) (sym (fault_in-first text statements parsed) ∙ e) in
     let few = fine.few in
     let gathered = parsed.gathered in
-    let nodes = gathered.nodes (omega (arith, ap (λ (notes : Notes). notes.variables) gathered.notes, variables_of-statements (numbered_statements text), few)) in
+    let nodes = gathered.nodes (omega (arith, ap (λ (notes : Notes). notes.variables) gathered.notes, variable_total-statements (bench_statements text), few)) in
     record {
       nodes = nodes;
       outputs = gathered.outputs;
@@ -60,16 +60,16 @@ accepted text statements parsed e =
 -- the one fault with this number on this line: what it carries besides is the text's
 abbrev fault_at : List ℕ → ℕ → ℕ → BenchFault
 fault_at text number line =
-    let statement = statement_meant (meaning_at text line) in
+    let statement = statement_meant (bench_meaning_at text line) in
     if number == 1 then Form line
     else (if number == 2 then Name line
     else (if number == 3 then KindUnknown line
-    else (if number == 5 then Twice line (line_found (earlier_line (numbered_statements text) (defined_name statement)))
-    else (if number == 6 then Pins line (pin_count statement)
+    else (if number == 5 then Twice line (line_found (earlier_line (bench_statements text) (defined_name statement)))
+    else (if number == 6 then Pins line (statement_pin_count statement)
     else (if number == 7 then Undefined line
-    else (if number == 8 then TooMany (variables_of (statements_of text)) else Memory))))))
+    else (if number == 8 then TooMany (variable_total (statements_of text)) else Memory))))))
 
-fault_at-back : (text : List ℕ) (fault : BenchFault) → Stands text fault → fault_at text (number_of fault) (line_of fault) ≡ fault
+fault_at-back : (text : List ℕ) (fault : BenchFault) → HasFault text fault → fault_at text (fault_number fault) (fault_line_number fault) ≡ fault
 fault_at-back text (Form line) p = refl
 fault_at-back text (Name line) p = refl
 fault_at-back text (KindUnknown line) p = refl
@@ -77,14 +77,14 @@ fault_at-back text (Twice line first) (name, second) = by_statement second.here
   where
     by_statement : Defines text line name → fault_at text 5 line ≡ Twice line first
     by_statement (statement, states, is) =
-        let named : defined_name (statement_meant (meaning_at text line)) ≡ Some name = ap (λ meaning. defined_name (statement_meant meaning)) states ∙ is in
-        ap (λ line_of_first. Twice line (line_found line_of_first)) (ap (earlier_line (numbered_statements text)) named ∙ second-first text line first name second)
-fault_at-back text (Pins line count) (statement, states, wrong, is) = ap (Pins line) (ap (λ meaning. pin_count (statement_meant meaning)) states ∙ is)
+        let named : defined_name (statement_meant (bench_meaning_at text line)) ≡ Some name = ap (λ meaning. defined_name (statement_meant meaning)) states ∙ is in
+        ap (λ line_of_first. Twice line (line_found line_of_first)) (ap (earlier_line (bench_statements text)) named ∙ second-first text line first name second)
+fault_at-back text (Pins line count) (statement, states, wrong, is) = ap (Pins line) (ap (λ meaning. statement_pin_count (statement_meant meaning)) states ∙ is)
 fault_at-back text (Undefined line) p = refl
 fault_at-back text (TooMany variables) p = ap TooMany p.1
 fault_at-back text Memory p = absurd p
 
-both-first : (fault other : BenchFault) → ComesFirst fault other → ComesFirst other fault → (number_of fault ≡ number_of other) × (line_of fault ≡ line_of other)
+both-first : (fault other : BenchFault) → ComesFirst fault other → ComesFirst other fault → (fault_number fault ≡ fault_number other) × (fault_line_number fault ≡ fault_line_number other)
 both-first fault other (inl a) (inl b) = absurd (omega (arith, a, b))
 both-first fault other (inl a) (inr b) = absurd (omega (arith, a, b.0))
 both-first fault other (inr a) (inl b) = absurd (omega (arith, a.0, b))
@@ -94,9 +94,9 @@ both-first fault other (inr a) (inr b) = (a.0, omega (arith, a.1, b.1))
 pub least-unique : (text : List ℕ) (fault other : BenchFault) → IsLeastFault text fault → IsLeastFault text other → fault ≡ other
 least-unique text fault other a b =
     let same = both-first fault other (a.least other b.stands) (b.least fault a.stands) in
-    sym (fault_at-back text fault a.stands) ∙ ap (λ number. fault_at text number (line_of fault)) same.0 ∙ ap (fault_at text (number_of other)) same.1 ∙ fault_at-back text other b.stands
+    sym (fault_at-back text fault a.stands) ∙ ap (λ number. fault_at text number (fault_line_number fault)) same.0 ∙ ap (fault_at text (fault_number other)) same.1 ∙ fault_at-back text other b.stands
 
-pub answer-exact : (text : List ℕ) (fault other : BenchFault) → IsAnswer text fault → IsLeastFault text other → (fault ≡ other) ⊎ (fault ≡ Memory)
+pub answer-exact : (text : List ℕ) (fault other : BenchFault) → IsNetlistRefusal text fault → IsLeastFault text other → (fault ≡ other) ⊎ (fault ≡ Memory)
 answer-exact text (Form line) other h l = inl (least-unique text (Form line) other h l)
 answer-exact text (Name line) other h l = inl (least-unique text (Name line) other h l)
 answer-exact text (KindUnknown line) other h l = inl (least-unique text (KindUnknown line) other h l)

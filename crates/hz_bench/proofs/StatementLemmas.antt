@@ -4,15 +4,15 @@ use Rattle.std.specs.List.{list_any}
 use Rattle.hz_line.specs.declared.bytes.Mark.{Mark}
 use Rattle.hz_line.specs.declared.bytes.Mark.TheVariants.{Open, Close, Comma, Equals}
 use Rattle.hz_line.specs.Statement.{Means, meaning_of_tokens}
-use Rattle.hz_line.specs.Token.{TokenOf, WordOf, MarkOf, tokens_of, with_token, is_bare, IsWord, AreWords}
-use Rattle.hz_line.proofs.TokenLemmas.{tokens_of-AreWords}
+use Rattle.hz_line.specs.Token.{TokenOf, WordOf, MarkOf, tokens_of, with_token, has_no_token, IsWordToken, AreWordTokens}
+use Rattle.hz_line.proofs.TokenLemmas.{tokens_of-AreWordTokens}
 use Rattle.hz_bench.specs.declared.forms.Form.TheVariants as form
 use Rattle.hz_bench.specs.declared.statement.Head.{Head}
 use Rattle.hz_bench.specs.declared.statement.NameList.{NameList}
-use Rattle.hz_bench.specs.Head.{has_marked_first, head_tokens, names_by, noted_names, no_names}
+use Rattle.hz_bench.specs.Head.{has_punctuated_first, head_tokens, names_by, name_list_with, no_name_list}
 use Rattle.hz_bench.specs.Form.{form_named, statement_with}
-use Rattle.hz_bench.specs.Statement.{Gate, statement_of, names_of, words_of, Port, port_word, port_of, kind_named, has_long_name, is_long, words_by, are_marked, are_marked_words, FlipFlop, name_of, sources_of, defined_by, is_flip_flop, words_in}
-use Rattle.hz_bench.specs.Text.{meaning_of}
+use Rattle.hz_bench.specs.Statement.{Gate, statement_of, name_list_of, words_of, Port, port_word, port_of, kind_named, has_long_name, is_long, words_by, are_punctuated, are_punctuated_words, FlipFlop, name_of, sources_of, defined_by, is_flip_flop, words_in}
+use Rattle.hz_bench.specs.Text.{bench_meaning}
 
 or_false : (a : Bool) → (a || false) ≡ a
 or_false true = refl
@@ -56,7 +56,7 @@ long_with name word part =
 
 -- a list of names in words
 pub record IsNameList (tokens : List TokenOf) : Type 0 where
-  pub words : names_of tokens ≡ Some (words_of tokens)
+  pub words : name_list_of tokens ≡ Some (words_of tokens)
   pub twice : length tokens ≡ 2 * length (words_of tokens)
 
 names_step : (name : List ℕ) (names : Option (List (List ℕ))) (words : List (List ℕ)) → is_some (option_map (λ (rest : List (List ℕ)). name ∷ rest) names) ≡ true → (is_some names ≡ true → names ≡ Some words) → option_map (λ (rest : List (List ℕ)). name ∷ rest) names ≡ Some (name ∷ words)
@@ -67,7 +67,7 @@ more_names : (name : List ℕ) (names : Option (List (List ℕ))) → is_some (o
 more_names name None h = cc
 more_names name (Some names) h = refl
 
-pub IsNameList-from_some : (tokens : List TokenOf) → is_some (names_of tokens) ≡ true → IsNameList tokens
+pub IsNameList-from_some : (tokens : List TokenOf) → is_some (name_list_of tokens) ≡ true → IsNameList tokens
 IsNameList-from_some [] h = cc
 IsNameList-from_some (MarkOf mark ∷ rest) h = cc
 IsNameList-from_some (WordOf name ∷ []) h = cc
@@ -77,7 +77,7 @@ IsNameList-from_some (WordOf name ∷ MarkOf Equals ∷ rest) h = cc
 IsNameList-from_some (WordOf name ∷ MarkOf Close ∷ []) h = record { words = refl; twice = refl }
 IsNameList-from_some (WordOf name ∷ MarkOf Close ∷ token ∷ rest) h = cc
 IsNameList-from_some (WordOf name ∷ MarkOf Comma ∷ rest) h =
-    let ih = IsNameList-from_some rest (more_names name (names_of rest) h) in
+    let ih = IsNameList-from_some rest (more_names name (name_list_of rest) h) in
     record { words = ap (option_map (λ (names : List (List ℕ)). name ∷ names)) ih.words; twice = let t = ih.twice in omega arith }
 
 -- the tokens of a head before these
@@ -85,11 +85,11 @@ abbrev pub headed : List ℕ → Mark → List ℕ → Mark → Option (List Tok
 headed first mark second next tokens = with_token (WordOf first) (with_token (MarkOf mark) (with_token (WordOf second) (with_token (MarkOf next) tokens)))
 
 -- an input or output
-pub port_meant : (text : List ℕ) (head : Head) (made : Port) → tokens_of text ≡ head_tokens head → head.mark ≡ Open → head.next ≡ Close → is_bare (tokens_of head.rest.now) ≡ true → port_word head.first.now ≡ Some made → meaning_of text ≡ Means (port_of head.second.now made)
+pub port_meant : (text : List ℕ) (head : Head) (made : Port) → tokens_of text ≡ head_tokens head → head.mark ≡ Open → head.next ≡ Close → has_no_token (tokens_of head.rest.now) ≡ true → port_word head.first.now ≡ Some made → bench_meaning text ≡ Means (port_of head.second.now made)
 port_meant text head made tokens opened closed bare port =
     ap (meaning_of_tokens statement_of) tokens ∙ rw (opened, closed) (meant (tokens_of head.rest.now) bare)
   where
-    meant : (rest : Option (List TokenOf)) → is_bare rest ≡ true → meaning_of_tokens statement_of (headed head.first.now Open head.second.now Close rest) ≡ Means (port_of head.second.now made)
+    meant : (rest : Option (List TokenOf)) → has_no_token rest ≡ true → meaning_of_tokens statement_of (headed head.first.now Open head.second.now Close rest) ≡ Means (port_of head.second.now made)
     meant None h = cc
     meant (Some []) h = rw port refl
     meant (Some (token ∷ rest)) h = cc
@@ -106,17 +106,17 @@ listed_words : (tokens : Option (List TokenOf)) (names : List (List ℕ)) → na
 listed_words None names h = cc
 listed_words (Some tokens) names h = sym (IsNameList-from_some tokens (ap is_some h)).words ∙ h
 
-listed_by : (tokens : Option (List TokenOf)) (found : Option (List (List ℕ))) (noted : NameList) → names_by tokens ≡ found → option_map (noted_names no_names) found ≡ Some noted → IsListed tokens noted
+listed_by : (tokens : Option (List TokenOf)) (found : Option (List (List ℕ))) (noted : NameList) → names_by tokens ≡ found → option_map (name_list_with no_name_list) found ≡ Some noted → IsListed tokens noted
 listed_by tokens None noted e h = cc
 listed_by tokens (Some names) noted e h =
-    let same : noted_names no_names names ≡ noted = cc h in
+    let same : name_list_with no_name_list names ≡ noted = cc h in
     record { names = names; listed = e; words = listed_words tokens names e; count = let e = ap (λ (list : NameList). list.count) same in omega arith; long = sym (ap (λ (list : NameList). list.long) same) }
 
-pub IsListed-from_noted : (tokens : Option (List TokenOf)) (noted : NameList) → option_map (noted_names no_names) (names_by tokens) ≡ Some noted → IsListed tokens noted
+pub IsListed-from_noted : (tokens : Option (List TokenOf)) (noted : NameList) → option_map (name_list_with no_name_list) (names_by tokens) ≡ Some noted → IsListed tokens noted
 IsListed-from_noted tokens noted h = listed_by tokens (names_by tokens) noted refl h
 
 -- a flip-flop or a gate
-pub gate_meant : (text : List ℕ) (head : Head) (names : List (List ℕ)) → tokens_of text ≡ head_tokens head → head.mark ≡ Equals → head.next ≡ Open → names_by (tokens_of head.rest.now) ≡ Some names → meaning_of text ≡ Means (defined_by head.first.now head.second.now names)
+pub gate_meant : (text : List ℕ) (head : Head) (names : List (List ℕ)) → tokens_of text ≡ head_tokens head → head.mark ≡ Equals → head.next ≡ Open → names_by (tokens_of head.rest.now) ≡ Some names → bench_meaning text ≡ Means (defined_by head.first.now head.second.now names)
 gate_meant text head names tokens equals opened listed =
     ap (meaning_of_tokens statement_of) tokens ∙ rw (equals, opened) (meant (tokens_of head.rest.now) listed)
   where
@@ -125,14 +125,14 @@ gate_meant text head names tokens equals opened listed =
     meant (Some rest) h = rw h refl
 
 -- the words of a head are words, where what follows it has tokens
-headed_words : (first second : List ℕ) (mark next : Mark) (rest : Option (List TokenOf)) → is_some rest ≡ true → IfSome (headed first mark second next rest) AreWords → IsWord first × IsWord second
+headed_words : (first second : List ℕ) (mark next : Mark) (rest : Option (List TokenOf)) → is_some rest ≡ true → IfSome (headed first mark second next rest) AreWordTokens → IsWordToken first × IsWordToken second
 headed_words first second mark next None h words = cc
 headed_words first second mark next (Some rest) h words = (words.0, words.1.0)
 
-pub head_words : (text : List ℕ) (head : Head) → tokens_of text ≡ head_tokens head → is_some (tokens_of head.rest.now) ≡ true → IsWord head.first.now × IsWord head.second.now
-head_words text head e some = headed_words head.first.now head.second.now head.mark head.next (tokens_of head.rest.now) some (subst (λ (found : Option (List TokenOf)). IfSome found AreWords) e (tokens_of-AreWords text))
+pub head_words : (text : List ℕ) (head : Head) → tokens_of text ≡ head_tokens head → is_some (tokens_of head.rest.now) ≡ true → IsWordToken head.first.now × IsWordToken head.second.now
+head_words text head e some = headed_words head.first.now head.second.now head.mark head.next (tokens_of head.rest.now) some (subst (λ (found : Option (List TokenOf)). IfSome found AreWordTokens) e (tokens_of-AreWordTokens text))
 
-pub bare-some : (tokens : Option (List TokenOf)) → is_bare tokens ≡ true → is_some tokens ≡ true
+pub bare-some : (tokens : Option (List TokenOf)) → has_no_token tokens ≡ true → is_some tokens ≡ true
 bare-some None h = cc
 bare-some (Some tokens) h = refl
 
@@ -146,7 +146,7 @@ listed-some None names h = cc
 listed-some (Some tokens) names h = refl
 
 -- a list of names is words, each with a mark after it
-names_marked : (tokens : List TokenOf) → is_some (names_of tokens) ≡ true → are_marked_words tokens ≡ true
+names_marked : (tokens : List TokenOf) → is_some (name_list_of tokens) ≡ true → are_punctuated_words tokens ≡ true
 names_marked [] h = cc
 names_marked (MarkOf mark ∷ rest) h = cc
 names_marked (WordOf name ∷ []) h = cc
@@ -155,19 +155,19 @@ names_marked (WordOf name ∷ MarkOf Open ∷ rest) h = cc
 names_marked (WordOf name ∷ MarkOf Equals ∷ rest) h = cc
 names_marked (WordOf name ∷ MarkOf Close ∷ []) h = refl
 names_marked (WordOf name ∷ MarkOf Close ∷ token ∷ rest) h = cc
-names_marked (WordOf name ∷ MarkOf Comma ∷ rest) h = names_marked rest (more_names name (names_of rest) h)
+names_marked (WordOf name ∷ MarkOf Comma ∷ rest) h = names_marked rest (more_names name (name_list_of rest) h)
 
-pub listed_marked : (tokens : Option (List TokenOf)) (names : List (List ℕ)) → names_by tokens ≡ Some names → are_marked tokens ≡ true
+pub listed_marked : (tokens : Option (List TokenOf)) (names : List (List ℕ)) → names_by tokens ≡ Some names → are_punctuated tokens ≡ true
 listed_marked None names h = cc
 listed_marked (Some tokens) names h = names_marked tokens (ap is_some h)
 
 -- the first of these words is one of them, and the others come after its mark
-pub first_marked : (tokens rest : Option (List TokenOf)) (word : List ℕ) (mark : Mark) → tokens ≡ with_token (WordOf word) (with_token (MarkOf mark) rest) → are_marked tokens ≡ true → (words_by tokens ≡ word ∷ words_by rest) × (are_marked rest ≡ true)
-first_marked tokens None word mark e h = absurd (true≢false (sym h ∙ ap are_marked e))
-first_marked tokens (Some rest) word mark e h = (ap words_by e, sym (ap are_marked e) ∙ h)
+pub first_marked : (tokens rest : Option (List TokenOf)) (word : List ℕ) (mark : Mark) → tokens ≡ with_token (WordOf word) (with_token (MarkOf mark) rest) → are_punctuated tokens ≡ true → (words_by tokens ≡ word ∷ words_by rest) × (are_punctuated rest ≡ true)
+first_marked tokens None word mark e h = absurd (true≢false (sym h ∙ ap are_punctuated e))
+first_marked tokens (Some rest) word mark e h = (ap words_by e, sym (ap are_punctuated e) ∙ h)
 
 -- where no word with a mark comes first, there is none
-pub none_marked : (tokens : Option (List TokenOf)) → has_marked_first tokens ≡ false → are_marked tokens ≡ true → words_by tokens ≡ []
+pub none_marked : (tokens : Option (List TokenOf)) → has_punctuated_first tokens ≡ false → are_punctuated tokens ≡ true → words_by tokens ≡ []
 none_marked None e h = cc
 none_marked (Some []) e h = refl
 none_marked (Some (MarkOf mark ∷ rest)) e h = cc

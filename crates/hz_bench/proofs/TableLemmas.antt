@@ -15,12 +15,12 @@ use Rattle.std.specs.Cmp.Lexicographic.{nat_list_eq_equiv}
 use Rattle.std.proofs.lemmas.Map.Keys.{IsDistinct-push}
 use Rattle.hz_bench.specs.declared.definitions.Definition.{Definition}
 use Rattle.hz_bench.specs.declared.definitions.Definitions.TheInside.{Inside}
-use Rattle.hz_bench.specs.Definition.{Table, names_in, line_for}
-use Rattle.hz_bench.specs.Table.{entry_of, table_of, names_of, HoldsNames}
+use Rattle.hz_bench.specs.Definition.{Table, table_names, line_for}
+use Rattle.hz_bench.specs.Table.{entry_of, table_of, definition_names, HoldsNames}
 use Rattle.hz_bench.proofs.DefinitionLemmas.{option_or-none}
 
 -- the names of a table are those of its definitions
-pub names-in : (entries : List Definition) → names_in (map entry_of entries) ≡ names_of entries
+pub names-in : (entries : List Definition) → table_names (map entry_of entries) ≡ definition_names entries
 names-in [] = refl
 names-in (one ∷ rest) = ap (λ names. one.name.now ∷ names) (names-in rest)
 
@@ -50,12 +50,12 @@ none-of None none = refl
 none-of (Some line) none = cc
 
 -- a name without a place has no line
-pub line-absent : (table : Table) (name : List ℕ) → position (bytes_eq name) (names_in table) ≡ None → line_for table name ≡ None
+pub line-absent : (table : Table) (name : List ℕ) → position (bytes_eq name) (table_names table) ≡ None → line_for table name ≡ None
 line-absent table name none = none-of (line_for table name) (sym (some_index (bytes_eq name) table) ∙ ap is_some none)
 
 -- a name with a place has the line of the definition there
 pub line-at : (entries : List Definition) (name : List ℕ) (place : ℕ) (one : Definition) → place < length entries → one ≡ get_or entries place one →
-    position (bytes_eq name) (names_in (map entry_of entries)) ≡ Some place → line_for (map entry_of entries) name ≡ Some one.line
+    position (bytes_eq name) (table_names (map entry_of entries)) ≡ Some place → line_for (map entry_of entries) name ≡ Some one.line
 line-at entries name place one inside at is =
     let table = map entry_of entries in
     let read : slice_get (map (λ (entry : List ℕ × ℕ). entry.1) table) place ≡ lookup (bytes_eq name) table =
@@ -67,16 +67,16 @@ line-at entries name place one inside at is =
     ∙ ap (λ (entry : List ℕ × ℕ). entry.1) (get_or-map entry_of entries place one (entry_of one) inside) ∙ ap (λ (entry : Definition). entry.line) (sym at))
 
 -- the fields hold the names again where a new one came
-pub holds-more : (old new : Inside) (name : List ℕ) (one : Definition) → HoldsNames old → one.name.now ≡ name → position (bytes_eq name) (names_of old.entries.items) ≡ None →
+pub holds-more : (old new : Inside) (name : List ℕ) (one : Definition) → HoldsNames old → one.name.now ≡ name → position (bytes_eq name) (definition_names old.entries.items) ≡ None →
     new.hashing ≡ old.hashing → new.entries.items ≡ old.entries.items ++ one ∷ [] → new.chains ≡ old.chains ++ hash_of old.hashing name ∷ [] → HoldsNames new
 holds-more old new name one was is fresh hashing entries chains =
-    let names : names_of new.entries.items ≡ names_of old.entries.items ++ name ∷ [] =
-    ap names_of entries ∙ map-append (λ (entry : Definition). entry.name.now) old.entries.items (one ∷ []) ∙ ap (λ last. names_of old.entries.items ++ last ∷ []) is in
+    let names : definition_names new.entries.items ≡ definition_names old.entries.items ++ name ∷ [] =
+    ap definition_names entries ∙ map-append (λ (entry : Definition). entry.name.now) old.entries.items (one ∷ []) ∙ ap (λ last. definition_names old.entries.items ++ last ∷ []) is in
     record {
       hashed = chains ∙ ap (λ hashes. hashes ++ hash_of old.hashing name ∷ []) was.hashed
-          ∙ sym (map-append (hash_of old.hashing) (names_of old.entries.items) (name ∷ []))
-          ∙ ap (map (hash_of old.hashing)) (sym names) ∙ ap (λ one. map (hash_of one) (names_of new.entries.items)) (sym hashing);
-      distinct = subst (IsDistinct bytes_eq) (sym names) (IsDistinct-push nat_list_eq_equiv (names_of old.entries.items) name was.distinct (list_any-from_position_none (bytes_eq name) (names_of old.entries.items) fresh));
+          ∙ sym (map-append (hash_of old.hashing) (definition_names old.entries.items) (name ∷ []))
+          ∙ ap (map (hash_of old.hashing)) (sym names) ∙ ap (λ one. map (hash_of one) (definition_names new.entries.items)) (sym hashing);
+      distinct = subst (IsDistinct bytes_eq) (sym names) (IsDistinct-push nat_list_eq_equiv (definition_names old.entries.items) name was.distinct (list_any-from_position_none (bytes_eq name) (definition_names old.entries.items) fresh));
     }
 
 -- the table has one entry more
@@ -84,6 +84,6 @@ pub table-more : (old new : Inside) (one : Definition) → new.entries.items ≡
 table-more old new one entries = ap (map entry_of) entries ∙ map-append entry_of old.entries.items (one ∷ [])
 
 -- a table without names has them distinct
-pub distinct-none : (entries : List Definition) → entries ≡ [] → IsDistinct bytes_eq (names_of entries)
+pub distinct-none : (entries : List Definition) → entries ≡ [] → IsDistinct bytes_eq (definition_names entries)
 unfolding IsDistinct
-distinct-none entries none = subst (λ all. IsDistinct bytes_eq (names_of all)) (sym none) tt
+distinct-none entries none = subst (λ all. IsDistinct bytes_eq (definition_names all)) (sym none) tt

@@ -4,8 +4,8 @@ use Rattle.std.specs.Option.{option_or}
 use Rattle.std.specs.List.{list_any}
 use Rattle.hz_line.specs.Statement.{Numbered}
 use Rattle.hz_bench.specs.Definition.{definer}
-use Rattle.hz_bench.specs.Statement.{Statement, sources_of, used_names, has_long_name, has_unknown_kind, has_wrong_pins, pin_count}
-use Rattle.hz_bench.specs.Text.{variables_among}
+use Rattle.hz_bench.specs.Statement.{Statement, sources_of, used_names, has_long_name, has_unknown_kind, has_wrong_pins, statement_pin_count}
+use Rattle.hz_bench.specs.Text.{variable_total_among}
 use Rattle.hz_bench.specs.Twice.{twice_fault}
 use Rattle.hz_bench.specs.declared.fault.BenchFault.{BenchFault}
 use Rattle.hz_bench.specs.declared.fault.BenchFault.TheVariants as fault
@@ -28,8 +28,8 @@ fault_or fault None later = later
 fault_or fault (Some found) later = Some (fault found)
 
 -- more inputs, gates and pins than a circuit has
-abbrev pub too_many : ℕ → Option BenchFault
-too_many variables = if nat_lt 200000 variables then Some (fault.TooMany variables) else None
+abbrev pub too_many_fault : ℕ → Option BenchFault
+too_many_fault variables = if nat_lt 200000 variables then Some (fault.TooMany variables) else None
 
 -- the fault of statements, none of which is malformed: the least number and, of this number, the first line
 abbrev pub first_fault : List (Numbered Statement) → Option BenchFault
@@ -37,12 +37,12 @@ first_fault statements =
     fault_or (λ found. fault.Name found.line) (first_that has_long_name statements)
     (fault_or (λ found. fault.KindUnknown found.line) (first_that has_unknown_kind statements)
     (option_or (twice_fault statements)
-    (fault_or (λ found. fault.Pins found.line (pin_count found.statement)) (first_that has_wrong_pins statements)
+    (fault_or (λ found. fault.Pins found.line (statement_pin_count found.statement)) (first_that has_wrong_pins statements)
     (fault_or (λ found. fault.Undefined found.line) (first_that (uses_undefined statements) statements)
-    (too_many (variables_among statements))))))
+    (too_many_fault (variable_total_among statements))))))
 
 -- the earlier of two lines, where both are there
-abbrev pub earlier : Option ℕ → Option ℕ → Option ℕ
-earlier None other = other
-earlier (Some one) None = Some one
-earlier (Some one) (Some other) = Some (min one other)
+abbrev pub earlier_of_lines : Option ℕ → Option ℕ → Option ℕ
+earlier_of_lines None other = other
+earlier_of_lines (Some one) None = Some one
+earlier_of_lines (Some one) (Some other) = Some (min one other)

@@ -3,8 +3,8 @@ use Rattle.std.specs.Prelude.{◌≡◌, ℕ, Bool, false, not, is_some, List, [
 use Rattle.std.specs.Str.{bytes_eq}
 use Rattle.std.specs.Map.{lookup}
 use Rattle.hz_bench.specs.declared.entry.Entry.{Entry}
-use Rattle.hz_line.specs.Statement.{Numbered, first_line}
-use Rattle.hz_bench.specs.Entry.{stated}
+use Rattle.hz_line.specs.Statement.{Numbered, first_passing_line}
+use Rattle.hz_bench.specs.Entry.{statement_of_entry}
 use Rattle.hz_bench.specs.Statement.{Statement, Input, Output, FlipFlop, Gate, defined_name}
 
 -- the name is the one that is defined, if one is
@@ -18,7 +18,7 @@ defines name statement = is_that name (defined_name statement)
 
 -- the line of the first statement that defines the name
 abbrev pub definer : List (Numbered Statement) → List ℕ → Option ℕ
-definer statements name = first_line (defines name) statements
+definer statements name = first_passing_line (defines name) statements
 
 -- the names that statements define, in order
 abbrev pub defined_names : List Statement → List (List ℕ)
@@ -33,8 +33,8 @@ abbrev pub Table : Type 0
 Table = List (List ℕ × ℕ)
 
 -- the names in a table, in order
-abbrev pub names_in : Table → List (List ℕ)
-names_in table = map (λ entry. entry.0) table
+abbrev pub table_names : Table → List (List ℕ)
+table_names table = map (λ entry. entry.0) table
 
 -- the line that a table has for a name
 abbrev pub line_for : Table → List ℕ → Option ℕ
@@ -45,9 +45,9 @@ abbrev pub IsTableOf : List (Numbered Statement) → Table → Type 0
 IsTableOf statements table = (name : List ℕ) → line_for table name ≡ definer statements name
 
 -- the line of the defined name is put into a table that has none for it; without a defined name the table stays
-abbrev pub IsPut : Table → Table → ℕ → Option (List ℕ) → Type 0
-IsPut old new line None = (name : List ℕ) → line_for new name ≡ line_for old name
-IsPut old new line (Some defined) = (line_for old defined ≡ None) × ((name : List ℕ) → line_for new name ≡ (if bytes_eq defined name then Some line else line_for old name))
+abbrev pub AddsDefinition : Table → Table → ℕ → Option (List ℕ) → Type 0
+AddsDefinition old new line None = (name : List ℕ) → line_for new name ≡ line_for old name
+AddsDefinition old new line (Some defined) = (line_for old defined ≡ None) × ((name : List ℕ) → line_for new name ≡ (if bytes_eq defined name then Some line else line_for old name))
 
 -- the line that a table has for the defined name, if one is defined
 abbrev pub line_for_defined : Table → Option (List ℕ) → Option ℕ
@@ -60,8 +60,8 @@ IsEmptyTable table = table ≡ []
 
 -- a statement came to the table: its name is new there, and is put after the others, or a first line defines it already
 abbrev pub IsDefinedIn : Table → Table → Entry → Option ℕ → Type 0
-IsDefinedIn old new entry None = IsPut old new entry.line (defined_name (stated entry)) × (names_in new ≡ names_in old ++ defined_names (stated entry ∷ []))
-IsDefinedIn old new entry (Some first) = line_for_defined old (defined_name (stated entry)) ≡ Some first
+IsDefinedIn old new entry None = AddsDefinition old new entry.line (defined_name (statement_of_entry entry)) × (table_names new ≡ table_names old ++ defined_names (statement_of_entry entry ∷ []))
+IsDefinedIn old new entry (Some first) = line_for_defined old (defined_name (statement_of_entry entry)) ≡ Some first
 
 -- a table does not have the name
 abbrev pub is_missing : Table → List ℕ → Bool

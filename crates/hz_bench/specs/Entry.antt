@@ -10,12 +10,12 @@ use Rattle.hz_bench.specs.Form.{statement_with}
 use Rattle.hz_bench.specs.Statement.{Statement, Output, Gate, words_in}
 
 -- the statement that an entry is
-abbrev pub stated : Entry → Statement
-stated entry = statement_with entry.name.now entry.form entry.sources.now
+abbrev pub statement_of_entry : Entry → Statement
+statement_of_entry entry = statement_with entry.name.now entry.form entry.sources.now
 
 -- an entry as a statement with its line
 abbrev pub numbered_of : Entry → Numbered Statement
-numbered_of entry = record { line = entry.line; statement = stated entry }
+numbered_of entry = record { line = entry.line; statement = statement_of_entry entry }
 
 -- entries as the statements of a text
 abbrev pub numbered_list : List Entry → List (Numbered Statement)
@@ -23,7 +23,7 @@ numbered_list entries = map numbered_of entries
 
 -- the statements of entries
 abbrev pub statement_list : List Entry → List Statement
-statement_list entries = map stated entries
+statement_list entries = map statement_of_entry entries
 
 -- a line of an output as a statement with its line
 abbrev pub numbered_output : OutputLine → Numbered Statement

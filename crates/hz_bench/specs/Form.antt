@@ -2,7 +2,7 @@
 use Rattle.std.specs.Prelude.{ℕ, Bool, false, not, ◌==◌, is_some, List, Option, Some, None, if◌then◌else◌}
 use Rattle.hz_bench.specs.declared.forms.Form.{Form}
 use Rattle.hz_bench.specs.declared.forms.Form.TheVariants as form
-use Rattle.hz_bench.specs.Statement.{Statement, Input, Output, FlipFlop, Gate, kind_named, is_flip_flop, refuses, words_in}
+use Rattle.hz_bench.specs.Statement.{Statement, Input, Output, FlipFlop, Gate, kind_named, is_flip_flop, refuses_pin_count, words_in}
 
 -- the form of a flip-flop or a gate, by the word in the kind's place
 abbrev pub form_named : List ℕ → Form
@@ -22,13 +22,13 @@ statement_with name form.FlipFlop part = FlipFlop name (words_in part)
 statement_with name (form.Gate kind) part = Gate name kind (words_in part)
 
 -- the word in the kind's place names no kind
-abbrev pub is_unknown : Form → Bool
-is_unknown form.Input = false
-is_unknown form.FlipFlop = false
-is_unknown (form.Gate kind) = not (is_some kind)
+abbrev pub names_no_kind : Form → Bool
+names_no_kind form.Input = false
+names_no_kind form.FlipFlop = false
+names_no_kind (form.Gate kind) = not (is_some kind)
 
 -- so many names are wrong
 abbrev pub refuses_pins : Form → ℕ → Bool
 refuses_pins form.Input pins = false
 refuses_pins form.FlipFlop pins = not (pins == 1)
-refuses_pins (form.Gate kind) pins = refuses kind pins
+refuses_pins (form.Gate kind) pins = refuses_pin_count kind pins

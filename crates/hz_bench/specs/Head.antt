@@ -8,20 +8,20 @@ use Rattle.hz_bench.specs.declared.statement.Head.{Head}
 use Rattle.hz_bench.specs.declared.statement.MarkedWord.{MarkedWord}
 use Rattle.hz_bench.specs.declared.statement.NameList.{NameList}
 use Rattle.hz_bench.specs.Entry.{numbered_line}
-use Rattle.hz_bench.specs.Statement.{Statement, statement_of, names_of, is_long}
-use Rattle.hz_bench.specs.Text.{meaning_of}
+use Rattle.hz_bench.specs.Statement.{Statement, statement_of, name_list_of, is_long}
+use Rattle.hz_bench.specs.Text.{bench_meaning}
 
 -- the first tokens are a word and a mark
-abbrev pub has_marked_first : Option (List TokenOf) → Bool
-has_marked_first None = false
-has_marked_first (Some []) = false
-has_marked_first (Some (MarkOf mark ∷ tokens)) = false
-has_marked_first (Some (WordOf word ∷ tokens)) = has_mark_first (Some tokens)
+abbrev pub has_punctuated_first : Option (List TokenOf) → Bool
+has_punctuated_first None = false
+has_punctuated_first (Some []) = false
+has_punctuated_first (Some (MarkOf mark ∷ tokens)) = false
+has_punctuated_first (Some (WordOf word ∷ tokens)) = has_mark_first (Some tokens)
 
 -- a line begins with this word and this mark, before a shorter line; or with no word that has a mark after it
-abbrev pub IsMarkedFirst : List ℕ → Option MarkedWord → Type 0
-IsMarkedFirst line None = has_marked_first (tokens_of line) ≡ false
-IsMarkedFirst line (Some marked) = (tokens_of line ≡ with_token (WordOf marked.word.now) (with_token (MarkOf marked.mark) (tokens_of marked.rest.now))) × (length marked.rest.now < length line)
+abbrev pub IsPunctuatedFirst : List ℕ → Option MarkedWord → Type 0
+IsPunctuatedFirst line None = has_punctuated_first (tokens_of line) ≡ false
+IsPunctuatedFirst line (Some marked) = (tokens_of line ≡ with_token (WordOf marked.word.now) (with_token (MarkOf marked.mark) (tokens_of marked.rest.now))) × (length marked.rest.now < length line)
 
 -- the statement of a line's tokens, if it has them and they are one
 abbrev pub statement_by : Option (List TokenOf) → Option Statement
@@ -29,9 +29,9 @@ statement_by None = None
 statement_by (Some tokens) = statement_of tokens
 
 -- what is read of a line: its statement, or nothing where it has none
-abbrev pub IsRead : ℕ → List ℕ → Option Line → Type 0
-IsRead line text None = statement_by (tokens_of text) ≡ None
-IsRead line text (Some found) = ((numbered_line found).line ≡ line) × (meaning_of text ≡ Means (numbered_line found).statement)
+abbrev pub IsStatementOfLine : ℕ → List ℕ → Option Line → Type 0
+IsStatementOfLine line text None = statement_by (tokens_of text) ≡ None
+IsStatementOfLine line text (Some found) = ((numbered_line found).line ≡ line) × (bench_meaning text ≡ Means (numbered_line found).statement)
 
 -- the tokens of a head, and of the line after it
 abbrev pub head_tokens : Head → Option (List TokenOf)
@@ -45,12 +45,12 @@ IsHeadOf line (Some head) = (tokens_of line ≡ head_tokens head) × (length hea
 -- the names that a line's tokens list, if it has them and they are a list of names
 abbrev pub names_by : Option (List TokenOf) → Option (List (List ℕ))
 names_by None = None
-names_by (Some tokens) = names_of tokens
+names_by (Some tokens) = name_list_of tokens
 
 -- what is noted of names, after what was noted before them
-abbrev pub noted_names : NameList → List (List ℕ) → NameList
-noted_names noted names = record { count = noted.count + length names; long = noted.long || list_any is_long names }
+abbrev pub name_list_with : NameList → List (List ℕ) → NameList
+name_list_with noted names = record { count = noted.count + length names; long = noted.long || list_any is_long names }
 
 -- nothing is noted yet
-abbrev pub no_names : NameList
-no_names = record { count = 0; long = false }
+abbrev pub no_name_list : NameList
+no_name_list = record { count = 0; long = false }

@@ -2,18 +2,18 @@
 --
 -- Statement: an input, an output, a flip-flop or a gate, by its names
 -- statement_of tokens: the statement of a line
--- numbered_statements text: the statements of a text, with their lines
+-- bench_statements text: the statements of a text, with their lines
 -- defined_name statement, used_names statement: what it defines and uses
 -- input_names, cut_names, gate_names, output_names: the names of statements, in order
--- netlist_of statements: the circuit of statements
+-- circuit_of_statements statements: the circuit of statements
 -- Defines text line name, Uses text line name: a line does
--- Stands text fault: the fault is in the text
--- number_of fault, line_of fault: the order of faults: by number, then by line
+-- HasFault text fault: the fault is in the text
+-- fault_number fault, fault_line_number fault: the order of faults: by number, then by line
 -- IsLeastFault text fault: the first fault of a text in this order
--- IsAnswer text fault: that, or memory ran out
+-- IsNetlistRefusal text fault: that, or memory ran out
 -- IsFaultless text: no fault is in the text
--- printed netlist: the text of a circuit
--- variables_of statements: how many variables their network has
+-- netlist_text netlist: the text of a circuit
+-- variable_total statements: how many variables their network has
 -- first_fault statements: the first fault, as a function
 -- definer statements name: the line that defines a name first
 -- Table, line_for table name: the names that were defined, with their lines
@@ -21,12 +21,12 @@
 -- twice_fault statements: the first name that is defined again
 -- IsParsed text statements: what one pass over a text keeps
 -- AreGathered done statements: the same for a part of the text
--- IsSorted old next new: what the pass does with one statement
--- TellUndefined all some: the first undefined name of all statements is found among these
+-- AddsStatement old next new: what the pass does with one statement
+-- HaveSameUndefined all some: the first undefined name of all statements is found among these
 -- fault_in statements: the first fault of what was kept
 -- IsAccepted text statements: a text without a fault
 -- AreUses nodes outputs uses: the numbers of the names that are used
--- built nodes outputs: the circuit, built step by step
+-- built_netlist nodes outputs: the circuit, built step by step
 -- MayBuild nodes outputs: each of these steps may be taken
 
 pub mod Statement
@@ -39,11 +39,11 @@ pub mod Table
 pub mod Twice
 pub mod Pass
 pub mod Check
-pub mod Noted
+pub mod FaultNotes
 pub mod FaultIn
-pub mod Gathered
+pub mod ReaderState
 pub mod Fault
 pub mod Netlist
-pub mod Built
+pub mod BuiltNetlist
 pub mod Printed
 pub mod Uses

@@ -90,8 +90,8 @@ data_nodes names statements = map (number_in names) (data_names statements)
 
 -- the circuit of statements: the inputs, and then the flip-flops as cuts, each with its data node; the gates; the outputs, and then
 -- the data nodes, each once at its first place
-abbrev pub netlist_of : List Statement → netlist.Netlist
-netlist_of statements =
+abbrev pub circuit_of_statements : List Statement → netlist.Netlist
+circuit_of_statements statements =
     let names = node_names statements in
     record {
       names = names;

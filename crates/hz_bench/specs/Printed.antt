@@ -48,9 +48,9 @@ unfoldable pub gate_line : List (List ℕ) → List ℕ → Gate → List ℕ
 gate_line names name gate = gate_head name gate.kind ++ (source_list names gate.sources ++ (codes ")" ++ 10 ∷ []))
 
 -- the lines of gates, the first of which is this node
-abbrev pub gate_lines : List (List ℕ) → ℕ → List Gate → List ℕ
-gate_lines names node [] = []
-gate_lines names node (gate ∷ rest) = gate_line names (name_at names node) gate ++ gate_lines names (suc node) rest
+abbrev pub gate_texts : List (List ℕ) → ℕ → List Gate → List ℕ
+gate_texts names node [] = []
+gate_texts names node (gate ∷ rest) = gate_line names (name_at names node) gate ++ gate_texts names (suc node) rest
 
 -- the line of a flip-flop: its name and the name that it reads
 unfoldable pub cut_line : List ℕ → List ℕ → List ℕ
@@ -67,9 +67,9 @@ cut_lines names node [] = []
 cut_lines names node (cut ∷ rest) = cut_text names (name_at names node) cut ++ cut_lines names (suc node) rest
 
 -- the text of a circuit: primary inputs, outputs, cuts and gates, a line each
-unfoldable pub printed : Netlist → List ℕ
-printed netlist =
+unfoldable pub netlist_text : Netlist → List ℕ
+netlist_text netlist =
     port_lines (codes "INPUT") (take (primary_inputs netlist) netlist.names)
     ++ port_lines (codes "OUTPUT") (map (name_at netlist.names) netlist.outputs)
     ++ cut_lines netlist.names (primary_inputs netlist) netlist.cuts
-    ++ gate_lines netlist.names netlist.inputs netlist.gates
+    ++ gate_texts netlist.names netlist.inputs netlist.gates

@@ -55,15 +55,15 @@ port_of name InputPort = Input name
 port_of name OutputPort = Output name
 
 -- one or more names separated by commas, and a closing parenthesis
-abbrev pub names_of : List TokenOf → Option (List (List ℕ))
-names_of (WordOf name ∷ MarkOf Close ∷ []) = Some (name ∷ [])
-names_of (WordOf name ∷ MarkOf Comma ∷ rest) = option_map (λ names. name ∷ names) (names_of rest)
-names_of _ = None
+abbrev pub name_list_of : List TokenOf → Option (List (List ℕ))
+name_list_of (WordOf name ∷ MarkOf Close ∷ []) = Some (name ∷ [])
+name_list_of (WordOf name ∷ MarkOf Comma ∷ rest) = option_map (λ names. name ∷ names) (name_list_of rest)
+name_list_of _ = None
 
 -- the one statement of a token list, if it is one: WORD ( NAME ) or NAME = KIND ( NAME , .. NAME )
 abbrev pub statement_of : List TokenOf → Option Statement
 statement_of (WordOf word ∷ MarkOf Open ∷ WordOf name ∷ MarkOf Close ∷ []) = option_map (port_of name) (port_word word)
-statement_of (WordOf name ∷ MarkOf Equals ∷ WordOf kind ∷ MarkOf Open ∷ rest) = option_map (defined_by name kind) (names_of rest)
+statement_of (WordOf name ∷ MarkOf Equals ∷ WordOf kind ∷ MarkOf Open ∷ rest) = option_map (defined_by name kind) (name_list_of rest)
 statement_of _ = None
 
 -- the name that a statement begins with: the one that it defines, or an output's
@@ -74,15 +74,15 @@ name_of (FlipFlop name sources) = name
 name_of (Gate name kind sources) = name
 
 -- the statement defines its name: it is an input, a flip-flop or a gate
-abbrev pub is_node : Statement → Bool
-is_node (Input name) = true
-is_node (Output name) = false
-is_node (FlipFlop name sources) = true
-is_node (Gate name kind sources) = true
+abbrev pub defines_node : Statement → Bool
+defines_node (Input name) = true
+defines_node (Output name) = false
+defines_node (FlipFlop name sources) = true
+defines_node (Gate name kind sources) = true
 
 -- the statement is an output
 abbrev pub is_output : Statement → Bool
-is_output statement = not (is_node statement)
+is_output statement = not (defines_node statement)
 
 -- the names that a flip-flop or a gate's pins read
 abbrev pub sources_of : Statement → List (List ℕ)
@@ -121,27 +121,27 @@ has_unknown_kind (FlipFlop name sources) = false
 has_unknown_kind (Gate name kind sources) = not (is_some kind)
 
 -- a gate of this kind does not take so many pins; without a kind, it takes no more than 256
-abbrev pub refuses : Option Kind → ℕ → Bool
-refuses (Some kind) pins = not (takes kind pins)
-refuses None pins = nat_lt 256 pins
+abbrev pub refuses_pin_count : Option Kind → ℕ → Bool
+refuses_pin_count (Some kind) pins = not (takes kind pins)
+refuses_pin_count None pins = nat_lt 256 pins
 
 -- how many names a flip-flop reads, or how many pins a gate has
-abbrev pub pin_count : Statement → ℕ
-pin_count statement = length (sources_of statement)
+abbrev pub statement_pin_count : Statement → ℕ
+statement_pin_count statement = length (sources_of statement)
 
 -- a flip-flop does not read one name, or the kind of a gate does not take its pins
 abbrev pub has_wrong_pins : Statement → Bool
 has_wrong_pins (Input name) = false
 has_wrong_pins (Output name) = false
 has_wrong_pins (FlipFlop name sources) = not (length sources == 1)
-has_wrong_pins (Gate name kind sources) = refuses kind (length sources)
+has_wrong_pins (Gate name kind sources) = refuses_pin_count kind (length sources)
 
 -- how many variables a statement brings: an input or a flip-flop one, a gate one and one for each pin
-abbrev pub variables_in : Statement → ℕ
-variables_in (Input name) = 1
-variables_in (Output name) = 0
-variables_in (FlipFlop name sources) = 1
-variables_in (Gate name kind sources) = 1 + length sources
+abbrev pub statement_variable_count : Statement → ℕ
+statement_variable_count (Input name) = 1
+statement_variable_count (Output name) = 0
+statement_variable_count (FlipFlop name sources) = 1
+statement_variable_count (Gate name kind sources) = 1 + length sources
 
 -- the words among tokens
 abbrev pub words_of : List TokenOf → List (List ℕ)
@@ -159,12 +159,12 @@ abbrev pub words_in : List ℕ → List (List ℕ)
 words_in part = words_by (tokens_of part)
 
 -- words, each with a mark after it
-abbrev pub are_marked_words : List TokenOf → Bool
-are_marked_words [] = true
-are_marked_words (WordOf word ∷ MarkOf mark ∷ tokens) = are_marked_words tokens
-are_marked_words _ = false
+abbrev pub are_punctuated_words : List TokenOf → Bool
+are_punctuated_words [] = true
+are_punctuated_words (WordOf word ∷ MarkOf mark ∷ tokens) = are_punctuated_words tokens
+are_punctuated_words _ = false
 
 -- a part of a line has tokens, and they are words, each with a mark after it
-abbrev pub are_marked : Option (List TokenOf) → Bool
-are_marked None = false
-are_marked (Some tokens) = are_marked_words tokens
+abbrev pub are_punctuated : Option (List TokenOf) → Bool
+are_punctuated None = false
+are_punctuated (Some tokens) = are_punctuated_words tokens

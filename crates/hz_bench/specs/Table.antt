@@ -16,10 +16,10 @@ abbrev pub table_of : Inside → Table
 table_of fields = map entry_of fields.entries.items
 
 -- the names of definitions
-abbrev pub names_of : List Definition → List (List ℕ)
-names_of entries = map (λ one. one.name.now) entries
+abbrev pub definition_names : List Definition → List (List ℕ)
+definition_names entries = map (λ one. one.name.now) entries
 
 -- the names are on chains, each once
 pub record HoldsNames (fields : Inside) : Type 0 where
-  pub hashed : fields.chains ≡ map (hash_of fields.hashing) (names_of fields.entries.items)
-  pub distinct : IsDistinct bytes_eq (names_of fields.entries.items)
+  pub hashed : fields.chains ≡ map (hash_of fields.hashing) (definition_names fields.entries.items)
+  pub distinct : IsDistinct bytes_eq (definition_names fields.entries.items)

@@ -2,15 +2,15 @@
 use Rattle.std.specs.Prelude.{ℕ, List, [], map, filter, sum_by}
 use Rattle.hz_line.specs.Statement as grammar
 use Rattle.hz_line.specs.Statement.{Meaning, Nothing, Malformed, Means, Numbered}
-use Rattle.hz_bench.specs.Statement.{Statement, Output, statement_of, variables_in, is_node, is_output}
+use Rattle.hz_bench.specs.Statement.{Statement, Output, statement_of, statement_variable_count, defines_node, is_output}
 
 -- what a line is
-abbrev pub meaning_of : List ℕ → Meaning Statement
-meaning_of line = grammar.meaning_of statement_of line
+abbrev pub bench_meaning : List ℕ → Meaning Statement
+bench_meaning line = grammar.meaning_of statement_of line
 
 -- what the line with this number is
-abbrev pub meaning_at : List ℕ → ℕ → Meaning Statement
-meaning_at text line = grammar.meaning_at statement_of text line
+abbrev pub bench_meaning_at : List ℕ → ℕ → Meaning Statement
+bench_meaning_at text line = grammar.meaning_at statement_of text line
 
 -- the statement that a line means; for a line that means none, an output without a name
 abbrev pub statement_meant : Meaning Statement → Statement
@@ -19,24 +19,24 @@ statement_meant Malformed = Output []
 statement_meant (Means statement) = statement
 
 -- the statements of a text, with their lines
-abbrev pub numbered_statements : List ℕ → List (Numbered Statement)
-numbered_statements text = grammar.numbered_statements statement_of text
+abbrev pub bench_statements : List ℕ → List (Numbered Statement)
+bench_statements text = grammar.numbered_statements statement_of text
 
 -- the statements of a text
 abbrev pub statements_of : List ℕ → List Statement
-statements_of text = map (λ numbered. numbered.statement) (numbered_statements text)
+statements_of text = map (λ numbered. numbered.statement) (bench_statements text)
 
 -- inputs, gates and pins of the statements in all
-abbrev pub variables_of : List Statement → ℕ
-variables_of statements = sum_by variables_in statements
+abbrev pub variable_total : List Statement → ℕ
+variable_total statements = sum_by statement_variable_count statements
 
 -- the variables of numbered statements
-abbrev pub variables_among : List (Numbered Statement) → ℕ
-variables_among statements = sum_by (λ numbered. variables_in numbered.statement) statements
+abbrev pub variable_total_among : List (Numbered Statement) → ℕ
+variable_total_among statements = sum_by (λ numbered. statement_variable_count numbered.statement) statements
 
 -- the inputs and gates among statements
 abbrev pub nodes_among : List (Numbered Statement) → List (Numbered Statement)
-nodes_among statements = filter (λ numbered. is_node numbered.statement) statements
+nodes_among statements = filter (λ numbered. defines_node numbered.statement) statements
 
 -- the outputs among statements
 abbrev pub outputs_among : List (Numbered Statement) → List (Numbered Statement)

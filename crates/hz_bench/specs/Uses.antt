@@ -3,7 +3,7 @@ use Rattle.std.specs.Prelude.{◌≡◌, ℕ, Bool, not, List, [], ◌++◌, ◌
 use Rattle.std.specs.List.{slice_index_or}
 use Rattle.std.specs.Option.{unwrap_or}
 use Rattle.std.specs.Str.{bytes_eq}
-use Rattle.hz_bench.specs.Definition.{Table, names_in}
+use Rattle.hz_bench.specs.Definition.{Table, table_names}
 use Rattle.hz_bench.specs.declared.uses.Uses.{Uses}
 use Rattle.hz_bench.specs.Netlist.{node_names, output_names, number_in}
 use Rattle.hz_bench.specs.Statement.{Statement, sources_of}
@@ -20,7 +20,7 @@ pub record AreUses (nodes outputs : List Statement) (uses : Uses) : Type 0 where
 
 -- the number that a table has for a name, where these are the numbers of its names in order
 abbrev pub number_for : Table → List ℕ → List ℕ → Option ℕ
-number_for table numbers name = option_map (λ place. slice_index_or numbers place 0) (position (bytes_eq name) (names_in table))
+number_for table numbers name = option_map (λ place. slice_index_or numbers place 0) (position (bytes_eq name) (table_names table))
 
 -- a name has no number
 abbrev pub is_unnumbered : (List ℕ → Option ℕ) → List ℕ → Bool

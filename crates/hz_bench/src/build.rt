@@ -3,8 +3,8 @@
 ghost use Rattle.std.specs.Prelude.{◌≡◌, ◌<◌, IfOk, OnOk, fold, true};
 ghost use Rattle.std.specs.List.{slice_set};
 ghost use Rattle.hz_core.specs.Netlist.{data_of, with_output};
-ghost use Rattle.hz_bench.specs.Built.{after_input, after_cut, after_gate, after_pins, after_read, built, connected, unconnected, with_data_output, with_data_outputs, AreMarked, IsNode, MayBuild, MayCut, MayGate, MayInput, MayPins, MayRead, MaySteps};
-ghost use Rattle.hz_bench.specs.Entry.{stated, statement_list, output_list};
+ghost use Rattle.hz_bench.specs.BuiltNetlist.{with_input_of, with_cut_of, with_gate_of, with_pins_of, with_pin_from, built_netlist, connected_netlist, initial_builder, with_data_output, with_data_outputs, AreMarked, HasNode, MayBuild, MayAddCut, MayAddGate, MayAddInput, MayAddPins, MayAddPinFrom, AreAdmissibleSteps};
+ghost use Rattle.hz_bench.specs.Entry.{statement_of_entry, statement_list, output_list};
 ghost use Rattle.hz_bench.specs.Netlist.{kind_of};
 ghost use Rattle.hz_bench.specs.Uses.{pins_in, AreUses};
 
@@ -19,7 +19,7 @@ use std::alloc::Global;
 pub(crate) fn build(alloc: Global, statements: &Statements, uses: &Uses) -> Result<Circuit, Memory>
     requires may { MayBuild (statement_list statements.now.nodes.items) (output_list statements.now.outputs.items) }
     requires uses { AreUses (statement_list statements.now.nodes.items) (output_list statements.now.outputs.items) uses.now }
-    ensures { IfOk result (λ circuit. circuit ≡ built (statement_list statements.now.nodes.items) (output_list statements.now.outputs.items)) }
+    ensures { IfOk result (λ circuit. circuit ≡ built_netlist (statement_list statements.now.nodes.items) (output_list statements.now.outputs.items)) }
 {
     let nodes = statements.nodes.as_slice();
     let lines = &statements.lines;
@@ -35,8 +35,8 @@ pub(crate) fn build(alloc: Global, statements: &Statements, uses: &Uses) -> Resu
 
 // Adds the inputs.
 fn add_inputs(circuit: &mut Circuit, entries: &[Entry]) -> Result<(), Memory>
-    requires { MaySteps MayInput after_input circuit.old (statement_list entries.now) }
-    ensures { OnOk result (circuit.new ≡ fold after_input circuit.old (statement_list entries.now)) }
+    requires { AreAdmissibleSteps MayAddInput with_input_of circuit.old (statement_list entries.now) }
+    ensures { OnOk result (circuit.new ≡ fold with_input_of circuit.old (statement_list entries.now)) }
 {
     for entry in entries {
         match add_input(circuit, entry) {
@@ -49,8 +49,8 @@ fn add_inputs(circuit: &mut Circuit, entries: &[Entry]) -> Result<(), Memory>
 
 // Adds the input of a statement, if it is one.
 fn add_input(circuit: &mut Circuit, entry: &Entry) -> Result<(), Memory>
-    requires { MayInput circuit.old (stated entry.now) }
-    ensures { OnOk result (circuit.new ≡ after_input circuit.old (stated entry.now)) }
+    requires { MayAddInput circuit.old (statement_of_entry entry.now) }
+    ensures { OnOk result (circuit.new ≡ with_input_of circuit.old (statement_of_entry entry.now)) }
 {
     match entry.form {
         Form::Input => {
@@ -63,8 +63,8 @@ fn add_input(circuit: &mut Circuit, entry: &Entry) -> Result<(), Memory>
 
 // Adds the cuts, without data nodes.
 fn add_cuts(circuit: &mut Circuit, entries: &[Entry]) -> Result<(), Memory>
-    requires { MaySteps MayCut after_cut circuit.old (statement_list entries.now) }
-    ensures { OnOk result (circuit.new ≡ fold after_cut circuit.old (statement_list entries.now)) }
+    requires { AreAdmissibleSteps MayAddCut with_cut_of circuit.old (statement_list entries.now) }
+    ensures { OnOk result (circuit.new ≡ fold with_cut_of circuit.old (statement_list entries.now)) }
 {
     for entry in entries {
         match add_cut(circuit, entry) {
@@ -77,8 +77,8 @@ fn add_cuts(circuit: &mut Circuit, entries: &[Entry]) -> Result<(), Memory>
 
 // Adds the cut of a statement, if it is a flip-flop.
 fn add_cut(circuit: &mut Circuit, entry: &Entry) -> Result<(), Memory>
-    requires { MayCut circuit.old (stated entry.now) }
-    ensures { OnOk result (circuit.new ≡ after_cut circuit.old (stated entry.now)) }
+    requires { MayAddCut circuit.old (statement_of_entry entry.now) }
+    ensures { OnOk result (circuit.new ≡ with_cut_of circuit.old (statement_of_entry entry.now)) }
 {
     match entry.form {
         Form::FlipFlop => {
@@ -91,8 +91,8 @@ fn add_cut(circuit: &mut Circuit, entry: &Entry) -> Result<(), Memory>
 
 // Adds the gates, without pins.
 fn add_gates(circuit: &mut Circuit, entries: &[Entry]) -> Result<(), Memory>
-    requires { MaySteps MayGate after_gate circuit.old (statement_list entries.now) }
-    ensures { OnOk result (circuit.new ≡ fold after_gate circuit.old (statement_list entries.now)) }
+    requires { AreAdmissibleSteps MayAddGate with_gate_of circuit.old (statement_list entries.now) }
+    ensures { OnOk result (circuit.new ≡ fold with_gate_of circuit.old (statement_list entries.now)) }
 {
     for entry in entries {
         match add_gate(circuit, entry) {
@@ -105,8 +105,8 @@ fn add_gates(circuit: &mut Circuit, entries: &[Entry]) -> Result<(), Memory>
 
 // Adds the gate of a statement, if it is one.
 fn add_gate(circuit: &mut Circuit, entry: &Entry) -> Result<(), Memory>
-    requires { MayGate circuit.old (stated entry.now) }
-    ensures { OnOk result (circuit.new ≡ after_gate circuit.old (stated entry.now)) }
+    requires { MayAddGate circuit.old (statement_of_entry entry.now) }
+    ensures { OnOk result (circuit.new ≡ with_gate_of circuit.old (statement_of_entry entry.now)) }
 {
     match entry.form {
         Form::Gate(kind) => {
@@ -126,9 +126,9 @@ fn kind_of(kind: Option<Kind>) -> Kind
 
 // Gives the cuts their data nodes, and connects the pins of the gates, to these nodes, statement by statement.
 fn connect_nodes(circuit: &mut Circuit, entries: &[Entry], nodes: &[u32]) -> Result<(), Memory>
-    requires may { MaySteps MayPins after_pins (unconnected circuit.old) (statement_list entries.now) }
+    requires may { AreAdmissibleSteps MayAddPins with_pins_of (initial_builder circuit.old) (statement_list entries.now) }
     requires nodes { nodes.now ≡ pins_in circuit.old.names (statement_list entries.now) }
-    ensures { OnOk result (circuit.new ≡ connected circuit.old (statement_list entries.now)) }
+    ensures { OnOk result (circuit.new ≡ connected_netlist circuit.old (statement_list entries.now)) }
 {
     let mut cut = circuit.primary_inputs();
     let mut gate = circuit.inputs();
@@ -157,8 +157,8 @@ fn connect_nodes(circuit: &mut Circuit, entries: &[Entry], nodes: &[u32]) -> Res
 
 // Connects the pins of a gate to these nodes.
 fn connect_gate(circuit: &mut Circuit, gate: u32, sources: &[u32]) -> Result<(), Memory>
-    requires { MaySteps (MayRead gate) (after_read gate) circuit.old sources.now }
-    ensures { OnOk result (circuit.new ≡ fold (after_read gate) circuit.old sources.now) }
+    requires { AreAdmissibleSteps (MayAddPinFrom gate) (with_pin_from gate) circuit.old sources.now }
+    ensures { OnOk result (circuit.new ≡ fold (with_pin_from gate) circuit.old sources.now) }
 {
     for source in sources {
         match circuit.connect(gate, *source) {
@@ -171,7 +171,7 @@ fn connect_gate(circuit: &mut Circuit, gate: u32, sources: &[u32]) -> Result<(),
 
 // Makes these nodes outputs. One that is an output already costs no look-up.
 fn add_outputs(alloc: Global, circuit: &mut Circuit, outputs: &[u32]) -> Result<(), Memory>
-    requires { MaySteps IsNode with_output circuit.old outputs.now }
+    requires { AreAdmissibleSteps HasNode with_output circuit.old outputs.now }
     ensures { OnOk result (circuit.new ≡ fold with_output circuit.old outputs.now) }
 {
     let Ok(mut marks) = vec![in alloc; false; circuit.nodes() as usize] else {
@@ -188,7 +188,7 @@ fn add_outputs(alloc: Global, circuit: &mut Circuit, outputs: &[u32]) -> Result<
 
 // Makes a node an output, if it is not marked as one, and marks it.
 fn add_output(circuit: &mut Circuit, marks: &mut Vec<bool>, node: u32) -> Result<(), Memory>
-    requires node { IsNode circuit.old node }
+    requires node { HasNode circuit.old node }
     requires marks { AreMarked circuit.old marks.old.items }
     ensures added { OnOk result (circuit.new ≡ with_output circuit.old node) }
     ensures marks { OnOk result (AreMarked circuit.new marks.new.items) }

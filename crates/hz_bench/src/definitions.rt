@@ -3,8 +3,8 @@
 ghost use Rattle.std.specs.Prelude.{◌≡◌, ◌<◌, ◌++◌, ◌∷◌, [], None, IfOk, IfSome, OnOk, is_some, length, map, position};
 ghost use Rattle.std.specs.Str.{bytes_eq};
 ghost use Rattle.hz_core.specs.NameHash.{hash_of};
-ghost use Rattle.hz_bench.specs.Definition.{line_for, names_in, IsDefinedIn, IsEmptyTable};
-ghost use Rattle.hz_bench.specs.Table.{names_of};
+ghost use Rattle.hz_bench.specs.Definition.{line_for, table_names, IsDefinedIn, IsEmptyTable};
+ghost use Rattle.hz_bench.specs.Table.{definition_names};
 
 use crate::entry::Entry;
 use hz_core::{Chains, Memory, NameHashing, Named, find_name};
@@ -89,7 +89,7 @@ impl<'a> Definitions<'a> {
 
     // Adds a name that the table does not have.
     fn add(&mut self, name: &'a [u8], line: u32) -> Result<(), Memory>
-        requires { position (bytes_eq name.now) (names_in self.old) ≡ None }
+        requires { position (bytes_eq name.now) (table_names self.old) ≡ None }
         ensures { OnOk result (self.new ≡ self.old ++ (name.now, line) ∷ []) }
     {
         let Ok(()) = self.entries.reserve(1) else {
@@ -124,7 +124,7 @@ fn hash_names(
     hashing: &NameHashing,
     chains: &mut Chains,
 ) -> Result<(), Memory>
-    ensures { OnOk result (chains.new ≡ chains.old ++ map (hash_of hashing.now) (names_of entries.now)) }
+    ensures { OnOk result (chains.new ≡ chains.old ++ map (hash_of hashing.now) (definition_names entries.now)) }
 {
     for entry in entries {
         match chains.push(hashing.hash(entry.name)) {
@@ -178,7 +178,7 @@ pub(crate) fn is_defined(lines: &Definitions, name: &[u8]) -> bool
 
 /// The place of a name in the table.
 pub(crate) fn place_of(lines: &Definitions, name: &[u8]) -> Option<usize>
-    ensures place { result ≡ position (bytes_eq name.now) (names_in lines.now) }
+    ensures place { result ≡ position (bytes_eq name.now) (table_names lines.now) }
     ensures within { IfSome result (λ place. place < length lines.now) }
 {
     find_name(

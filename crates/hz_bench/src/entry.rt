@@ -1,9 +1,9 @@
 // The statements of a text, as the passes over them read them.
 
 ghost use Rattle.std.specs.Prelude.{◌≡◌, ◌<◌, ◌^◌, length, true};
-ghost use Rattle.hz_line.specs.Token.{IsWord, tokens_of};
+ghost use Rattle.hz_line.specs.Token.{IsWordToken, tokens_of};
 ghost use Rattle.hz_bench.specs.Form.{statement_with};
-ghost use Rattle.hz_bench.specs.Statement.{sources_of, has_long_name, words_in, are_marked};
+ghost use Rattle.hz_bench.specs.Statement.{sources_of, has_long_name, words_in, are_punctuated};
 
 use crate::forms::Form;
 
@@ -22,9 +22,9 @@ pub struct Entry<'a> {
     pub sources: &'a [u8],
     /// How many sources there are.
     pub pins: usize,
-    ghost worded: { IsWord name.now },
+    ghost worded: { IsWordToken name.now },
     ghost sourced: { words_in sources.now ≡ sources_of (statement_with name.now form sources.now) },
-    ghost listed: { are_marked (tokens_of sources.now) ≡ true },
+    ghost listed: { are_punctuated (tokens_of sources.now) ≡ true },
     ghost counted: { pins ≡ length (sources_of (statement_with name.now form sources.now)) },
     ghost small: { pins < 2 ^ 32 },
     ghost measured: { long ≡ has_long_name (statement_with name.now form sources.now) },
@@ -38,7 +38,7 @@ pub struct Waiting<'a> {
     pub line: u32,
     /// The line from the first source on.
     pub sources: &'a [u8],
-    ghost listed: { are_marked (tokens_of sources.now) ≡ true },
+    ghost listed: { are_punctuated (tokens_of sources.now) ≡ true },
 }
 
 // A million gates may wait at once, so their size is memory and time.

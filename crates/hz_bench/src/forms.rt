@@ -1,8 +1,8 @@
 // What a statement is, without its names.
 
 ghost use Rattle.std.specs.Prelude.{◌≡◌, ◌∷◌, []};
-ghost use Rattle.hz_bench.specs.Form.{form_named, is_unknown, refuses_pins};
-ghost use Rattle.hz_bench.specs.Statement.{kind_named, is_flip_flop, refuses};
+ghost use Rattle.hz_bench.specs.Form.{form_named, names_no_kind, refuses_pins};
+ghost use Rattle.hz_bench.specs.Statement.{kind_named, is_flip_flop, refuses_pin_count};
 
 use hz_core::{Kind, MAX_PINS};
 use hz_line::is_keyword;
@@ -97,7 +97,7 @@ fn kind_of_four(a: u8, b: u8, c: u8, d: u8) -> Option<Kind>
 
 impl Form {
     pub(crate) fn is_unknown(self) -> bool
-        ensures { result ≡ is_unknown self }
+        ensures { result ≡ names_no_kind self }
     {
         match self {
             Form::Gate(kind) => kind.is_none(),
@@ -118,7 +118,7 @@ impl Form {
 
 // Whether a gate of this kind does not take so many pins.
 fn refuses(kind: Option<Kind>, pins: usize) -> bool
-    ensures { result ≡ refuses kind pins }
+    ensures { result ≡ refuses_pin_count kind pins }
 {
     match kind {
         Some(kind) => !kind.takes(pins),

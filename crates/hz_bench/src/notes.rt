@@ -1,9 +1,9 @@
 // What is noted of statements while they are read.
 
 ghost use Rattle.std.specs.Prelude.{◌≡◌, ◌+◌, ◌<◌, ◌≤◌, ◌^◌, [], None, if◌then◌else◌, Some};
-ghost use Rattle.hz_bench.specs.Entry.{stated, numbered_of, numbered_output};
-ghost use Rattle.hz_bench.specs.Noted.{noted, nothing_noted, first_of, wrong_or};
-ghost use Rattle.hz_bench.specs.Statement.{variables_in};
+ghost use Rattle.hz_bench.specs.Entry.{statement_of_entry, numbered_of, numbered_output};
+ghost use Rattle.hz_bench.specs.FaultNotes.{notes_with, no_notes, first_of, wrong_or};
+ghost use Rattle.hz_bench.specs.Statement.{statement_variable_count};
 
 use crate::entry::{Entry, OutputLine};
 use crate::forms::Form;
@@ -38,7 +38,7 @@ pub struct Notes {
 impl Notes {
     // Of no statement.
     pub(crate) fn new() -> Notes
-        ensures { result ≡ nothing_noted }
+        ensures { result ≡ no_notes }
     {
         Notes {
             long_name: None,
@@ -53,8 +53,8 @@ impl Notes {
     // Notes one input, flip-flop or gate more.
     pub(crate) fn add(&mut self, entry: &Entry)
         requires inputs { self.old.inputs + self.old.cuts ≤ self.old.variables }
-        requires variables { self.old.variables + variables_in (stated entry.now) < 2 ^ 32 }
-        ensures { self.new ≡ noted self.old (numbered_of entry.now) }
+        requires variables { self.old.variables + statement_variable_count (statement_of_entry entry.now) < 2 ^ 32 }
+        ensures { self.new ≡ notes_with self.old (numbered_of entry.now) }
     {
         let form = entry.form;
         note_line(&mut self.long_name, entry.long, entry.line);
@@ -75,7 +75,7 @@ impl Notes {
 
     // Notes one output more, which brings no variables and has nothing but its name.
     pub(crate) fn add_output(&mut self, output: &OutputLine)
-        ensures { self.new ≡ noted self.old (numbered_output output.now) }
+        ensures { self.new ≡ notes_with self.old (numbered_output output.now) }
     {
         note_line(&mut self.long_name, is_long(output.name), output.line);
     }

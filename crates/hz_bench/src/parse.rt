@@ -5,17 +5,17 @@
 //! used are looked up after the pass, when the table has every name. Beyond the most variables there will be no circuit,
 //! so a node is kept only if it reads a name that is not in the table yet, and then only its line and its sources.
 //!
-//! What must stay true: `IsSorted` for each statement and `AreGathered` for those so far. What is dropped can't be the first
-//! fault, in the order of `number_of` and then of lines: once a name is defined again, undefined names don't matter.
+//! What must stay true: `AddsStatement` for each statement and `AreGathered` for those so far. What is dropped can't be the first
+//! fault, in the order of `fault_number` and then of lines: once a name is defined again, undefined names don't matter.
 //!
 //! What breaks if you add a fault: one that must be found beyond the most variables needs a note, or more of a `Waiting`;
 //! one whose number lies between two others needs its place in `fault_in`. A new kind of statement needs a list, and a case
-//! of `IsPlaced`.
+//! of `PlacesStatement`.
 
 ghost use Rattle.std.specs.Prelude.{◌≡◌, ◌+◌, ◌<◌, ◌≤◌, ◌^◌, IfOk, length, MatchResult, OnOk};
-ghost use Rattle.hz_bench.specs.Entry.{stated, numbered_line, numbered_of, numbered_output};
-ghost use Rattle.hz_bench.specs.Statement.{variables_in};
-ghost use Rattle.hz_bench.specs.Gathered.{IsDefining, IsNothingRead, IsSorted};
+ghost use Rattle.hz_bench.specs.Entry.{statement_of_entry, numbered_line, numbered_of, numbered_output};
+ghost use Rattle.hz_bench.specs.Statement.{statement_variable_count};
+ghost use Rattle.hz_bench.specs.ReaderState.{DefinesName, IsNothingRead, AddsStatement};
 ghost use Rattle.hz_bench.specs.Pass.{IsParsed, IsParseFault};
 
 use crate::definitions::{Definitions, define, make_room};
@@ -96,8 +96,8 @@ impl<'a> Statements<'a> {
     // Adds the next statement of the text.
     fn add(&mut self, line: Line<'a>) -> Result<(), Memory>
         requires inputs { self.old.notes.inputs + self.old.notes.cuts ≤ self.old.notes.variables }
-        requires variables { self.old.notes.variables + variables_in (numbered_line line).statement < 2 ^ 32 }
-        ensures { OnOk result (IsSorted self.old (numbered_line line.entry) self.new) }
+        requires variables { self.old.notes.variables + statement_variable_count (numbered_line line).statement < 2 ^ 32 }
+        ensures { OnOk result (AddsStatement self.old (numbered_line line.entry) self.new) }
     {
         match line {
             Line::Node(entry) => self.add_node(entry),
@@ -108,8 +108,8 @@ impl<'a> Statements<'a> {
     // Adds an input, a flip-flop or a gate.
     fn add_node(&mut self, entry: Entry<'a>) -> Result<(), Memory>
         requires inputs { self.old.notes.inputs + self.old.notes.cuts ≤ self.old.notes.variables }
-        requires variables { self.old.notes.variables + variables_in (stated entry) < 2 ^ 32 }
-        ensures { OnOk result (IsSorted self.old (numbered_of entry.entry) self.new) }
+        requires variables { self.old.notes.variables + statement_variable_count (statement_of_entry entry) < 2 ^ 32 }
+        ensures { OnOk result (AddsStatement self.old (numbered_of entry.entry) self.new) }
     {
         self.notes.add(&entry);
         self.define(&entry)?;
@@ -131,7 +131,7 @@ impl<'a> Statements<'a> {
 
     // Adds an output.
     fn add_output(&mut self, output: OutputLine<'a>) -> Result<(), Memory>
-        ensures { OnOk result (IsSorted self.old (numbered_output output.entry) self.new) }
+        ensures { OnOk result (AddsStatement self.old (numbered_output output.entry) self.new) }
     {
         self.notes.add_output(&output);
         let Ok(()) = self.outputs.push(output) else {
@@ -142,7 +142,7 @@ impl<'a> Statements<'a> {
 
     // Puts the name that a statement defines into the table, or notes that a line defines it already.
     fn define(&mut self, entry: &Entry<'a>) -> Result<(), Memory>
-        ensures { OnOk result (IsDefining self.old entry.now self.new) }
+        ensures { OnOk result (DefinesName self.old entry.now self.new) }
     {
         if self.again.is_some() {
             return Ok(());

@@ -2,10 +2,10 @@
 
 ghost use Rattle.std.specs.Prelude.{◌≡◌, ◌++◌, ◌<◌, All, IfOk, OnOk, codes, length, map, take};
 ghost use Rattle.hz_bench.specs.Fault.{IsFaultless};
-ghost use Rattle.hz_bench.specs.Netlist.{netlist_of};
+ghost use Rattle.hz_bench.specs.Netlist.{circuit_of_statements};
 ghost use Rattle.hz_bench.specs.Text.{statements_of};
 ghost use Rattle.hz_core.specs.Netlist.{IsCircuit, IsGateNumber, IsWhole, data_of, gate_at, primary_inputs};
-ghost use Rattle.hz_bench.specs.Printed.{cut_line, cut_lines, cut_text, gate_head, gate_line, gate_lines, kind_name, more_sources, name_at, port_line, port_lines, printed, source_list};
+ghost use Rattle.hz_bench.specs.Printed.{cut_line, cut_lines, cut_text, gate_head, gate_line, gate_texts, kind_name, more_sources, name_at, port_line, port_lines, netlist_text, source_list};
 
 use hz_core::{Circuit, Kind, Memory};
 use std::alloc::Global;
@@ -13,12 +13,12 @@ use std::alloc::Global;
 /// Prints a circuit in the .bench format: first the primary inputs, then the outputs, then the cuts as flip-flops, then the gates,
 /// a line each, each in order, kinds in capitals and the buffer as `BUFF`, each line ended by a line feed. If the text has at most
 /// 16,777,216 bytes, [`crate::read`] gives the circuit back.
-#[tactic(auto, unfolding(crate::specs::Printed::printed))]
+#[tactic(auto, unfolding(crate::specs::Printed::netlist_text))]
 pub fn print(alloc: Global, circuit: &Circuit) -> Result<Vec<u8>, Memory>
     requires { IsWhole circuit.now }
-    ensures text { IfOk result (λ text. text.items ≡ printed circuit.now) }
+    ensures text { IfOk result (λ text. text.items ≡ netlist_text circuit.now) }
     ensures faultless { IfOk result (λ text. IsFaultless text.items) }
-    ensures circuit { IfOk result (λ text. netlist_of (statements_of text.items) ≡ circuit.now) }
+    ensures circuit { IfOk result (λ text. circuit_of_statements (statements_of text.items) ≡ circuit.now) }
 {
     let mut text = Vec::new(alloc);
     print_inputs(&mut text, circuit)?;
@@ -105,7 +105,7 @@ fn print_flip_flop(text: &mut Vec<u8>, name: &[u8], source: &[u8]) -> Result<(),
 
 // Prints the gates.
 fn print_gates(text: &mut Vec<u8>, circuit: &Circuit) -> Result<(), Memory>
-    ensures { OnOk result (text.new.items ≡ text.old.items ++ gate_lines circuit.now.names circuit.now.inputs circuit.now.gates) }
+    ensures { OnOk result (text.new.items ≡ text.old.items ++ gate_texts circuit.now.names circuit.now.inputs circuit.now.gates) }
 {
     for gate in circuit.inputs()..circuit.nodes() {
         match print_gate(text, circuit, gate) {

@@ -3,9 +3,9 @@
 ghost use Rattle.std.specs.Prelude.{◌≡◌, ◌<◌, ◌≤◌, ◌^◌, ◌⊎◌, IfOk, IfErr, OnOk, IsErrOf, MatchResult, None, Some, length};
 ghost use Rattle.hz_core.specs.Netlist.{IsWhole};
 ghost use Rattle.hz_bench.specs.Entry.{statement_list, output_list};
-ghost use Rattle.hz_bench.specs.Fault.{IsAnswer, IsFaultless, IsLeastFault};
-ghost use Rattle.hz_bench.specs.Netlist.{netlist_of};
-ghost use Rattle.hz_bench.specs.Pass.{IsAccepted, IsListed};
+ghost use Rattle.hz_bench.specs.Fault.{IsNetlistRefusal, IsFaultless, IsLeastFault};
+ghost use Rattle.hz_bench.specs.Netlist.{circuit_of_statements};
+ghost use Rattle.hz_bench.specs.Pass.{IsAccepted, HasAllNodes};
 ghost use Rattle.hz_bench.specs.FaultIn.{fault_in, many_fault};
 ghost use Rattle.hz_bench.specs.Text.{statements_of};
 ghost use Rattle.hz_bench.specs.Twice.{IsFoundOrMemory};
@@ -29,10 +29,10 @@ use std::alloc::Global;
 /// reads is an output after all others. It takes time linear in the text.
 pub fn read(alloc: Global, text: &[u8]) -> Result<Circuit, BenchFault>
     requires { length text.now ≤ 16777216 }
-    ensures circuit { IfOk result (λ circuit. circuit ≡ netlist_of (statements_of text.now)) }
+    ensures circuit { IfOk result (λ circuit. circuit ≡ circuit_of_statements (statements_of text.now)) }
     ensures whole { IfOk result (λ circuit. IsWhole circuit) }
     ensures faultless { OnOk result (IsFaultless text.now) }
-    ensures fault { IfErr result (IsAnswer text.now) }
+    ensures fault { IfErr result (IsNetlistRefusal text.now) }
     ensures exact { (fault : BenchFault) → IsLeastFault text.now fault
         → IsErrOf result fault ⊎ IsErrOf result BenchFault.Memory }
 {
@@ -55,7 +55,7 @@ fn read_accepted<'a>(alloc: Global, text: &'a [u8]) -> Result<Accepted<'a>, Benc
     requires { length text.now ≤ 16777216 }
     ensures { MatchResult result
         (λ accepted. IsAccepted text.now accepted.statements × AreUses (statement_list accepted.statements.nodes.items) (output_list accepted.statements.outputs.items) accepted.uses)
-        (λ fault. IsAnswer text.now fault) }
+        (λ fault. IsNetlistRefusal text.now fault) }
 {
     let statements = parse(alloc, text)?;
     let uses = check(alloc, &statements)?;
@@ -64,7 +64,7 @@ fn read_accepted<'a>(alloc: Global, text: &'a [u8]) -> Result<Accepted<'a>, Benc
 
 // Checks the statements, in the order of the faults, and answers the nodes that they use.
 fn check(alloc: Global, statements: &Statements) -> Result<Uses, BenchFault>
-    requires { statements.now.again ≡ None → statements.now.notes.variables ≤ 200000 → IsListed statements.now }
+    requires { statements.now.again ≡ None → statements.now.notes.variables ≤ 200000 → HasAllNodes statements.now }
     ensures { MatchResult result
         (λ uses. (fault_in statements.now ≡ None) × AreUses (statement_list statements.now.nodes.items) (output_list statements.now.outputs.items) uses)
         (λ fault. IsFoundOrMemory (fault_in statements.now) fault) }

@@ -1,8 +1,8 @@
 // The statement of a line.
 
 ghost use Rattle.std.specs.Prelude.{◌≡◌, ◌<◌, ◌≤◌, ◌^◌, ◌+◌, ◌||◌, [], ◌∷◌, None, Some, if◌then◌else◌, IfSome, length, option_map};
-ghost use Rattle.hz_line.specs.Token.{tokens_of, is_bare};
-ghost use Rattle.hz_bench.specs.Head.{IsRead, IsMarkedFirst, IsHeadOf, head_tokens, names_by, noted_names, no_names};
+ghost use Rattle.hz_line.specs.Token.{tokens_of, has_no_token};
+ghost use Rattle.hz_bench.specs.Head.{IsStatementOfLine, IsPunctuatedFirst, IsHeadOf, head_tokens, names_by, name_list_with, no_name_list};
 ghost use Rattle.hz_bench.specs.Statement.{is_long};
 
 use crate::entry::{Entry, Line, OutputLine};
@@ -12,7 +12,7 @@ use hz_line::{Mark, first_mark, first_word, is_bare, is_keyword};
 /// The statement of a line, if it has one. It takes no memory.
 pub(crate) fn statement_of<'a>(line: u32, text: &'a [u8]) -> Option<Line<'a>>
     requires { length text.now < 2 ^ 32 }
-    ensures { IsRead line text.now result }
+    ensures { IsStatementOfLine line text.now result }
 {
     let head = head_of(text)?;
     match (head.mark, head.next) {
@@ -66,7 +66,7 @@ fn head_of<'a>(line: &'a [u8]) -> Option<Head<'a>>
 /// but the last, which a parenthesis follows.
 #[inline(always)]
 pub(crate) fn marked_word<'a>(line: &'a [u8]) -> Option<MarkedWord<'a>>
-    ensures { IsMarkedFirst line.now result }
+    ensures { IsPunctuatedFirst line.now result }
 {
     let (word, after) = first_word(line)?;
     let (mark, rest) = first_mark(after)?;
@@ -79,7 +79,7 @@ fn port<'a>(line: u32, text: &'a [u8], head: &Head<'a>) -> Option<Line<'a>>
     requires tokens { tokens_of text.now ≡ head_tokens head.now }
     requires opened { head.now.mark ≡ Mark.Open }
     requires closed { head.now.next ≡ Mark.Close }
-    ensures { IsRead line text.now result }
+    ensures { IsStatementOfLine line text.now result }
 {
     if !is_bare(head.rest) {
         return None;
@@ -109,7 +109,7 @@ fn gate<'a>(line: u32, text: &'a [u8], head: &Head<'a>) -> Option<Line<'a>>
     requires equals { head.now.mark ≡ Mark.Equals }
     requires opened { head.now.next ≡ Mark.Open }
     requires few { length head.now.rest.now < 2 ^ 32 }
-    ensures { IsRead line text.now result }
+    ensures { IsStatementOfLine line text.now result }
 {
     let names = names(head.rest)?;
     Some(Line::Node(Entry {
@@ -124,7 +124,7 @@ fn gate<'a>(line: u32, text: &'a [u8], head: &Head<'a>) -> Option<Line<'a>>
 
 // What is noted of the one or more names, separated by commas and closed by a parenthesis, that a line has.
 fn names(line: &[u8]) -> Option<NameList>
-    ensures noted { result ≡ option_map (noted_names no_names) (names_by (tokens_of line.now)) }
+    ensures noted { result ≡ option_map (name_list_with no_name_list) (names_by (tokens_of line.now)) }
     ensures few { IfSome result (λ names. names.count ≤ length line.now) }
 {
     let mut names = NameList {
@@ -149,7 +149,7 @@ impl NameList {
     // The same with one name more.
     fn add(self, name: &[u8]) -> NameList
         requires { self.count + 1 < 2 ^ 63 }
-        ensures { result ≡ noted_names self (name.now ∷ []) }
+        ensures { result ≡ name_list_with self (name.now ∷ []) }
     {
         NameList {
             count: self.count + 1,
@@ -166,7 +166,7 @@ impl NameList {
 
     // The same, if nothing follows the names.
     fn at_end(self, rest: &[u8]) -> Option<NameList>
-        ensures { result ≡ if is_bare (tokens_of rest.now) then Some self else None }
+        ensures { result ≡ if has_no_token (tokens_of rest.now) then Some self else None }
     {
         if is_bare(rest) { Some(self) } else { None }
     }

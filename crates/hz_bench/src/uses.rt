@@ -2,12 +2,12 @@
 
 ghost use Rattle.std.specs.Prelude.{◌≡◌, ◌<◌, ◌≤◌, ◌^◌, ◌++◌, ◌∷◌, [], false, IfOk, MatchResult, None, length, map, option_map};
 ghost use Rattle.std.specs.List.{list_any};
-ghost use Rattle.hz_line.specs.Statement.{first_line};
-ghost use Rattle.hz_bench.specs.Check.{earlier};
+ghost use Rattle.hz_line.specs.Statement.{first_passing_line};
+ghost use Rattle.hz_bench.specs.Check.{earlier_of_lines};
 ghost use Rattle.hz_bench.specs.Definition.{defined_names};
-ghost use Rattle.hz_bench.specs.Entry.{stated, numbered_list, numbered_outputs, statement_list, output_list};
+ghost use Rattle.hz_bench.specs.Entry.{statement_of_entry, numbered_list, numbered_outputs, statement_list, output_list};
 ghost use Rattle.hz_bench.specs.Netlist.{input_names, cut_names, node_names, output_names, number_in};
-ghost use Rattle.hz_bench.specs.Pass.{IsListed};
+ghost use Rattle.hz_bench.specs.Pass.{HasAllNodes};
 ghost use Rattle.hz_bench.specs.FaultIn.{unknown_line};
 ghost use Rattle.hz_bench.specs.Statement.{sources_of, used_names};
 ghost use Rattle.hz_bench.specs.Twice.{twice_fault, IsFoundOrMemory};
@@ -34,7 +34,7 @@ pub struct Uses {
 
 /// The nodes that the statements use, or the first line that uses a name which no statement defines.
 pub(crate) fn resolve(alloc: Global, statements: &Statements) -> Result<Uses, BenchFault>
-    requires { IsListed statements.now }
+    requires { HasAllNodes statements.now }
     ensures { MatchResult result
         (λ uses. (unknown_line statements.now ≡ None) × AreUses (statement_list statements.now.nodes.items) (output_list statements.now.outputs.items) uses)
         (λ fault. IsFoundOrMemory (option_map BenchFault.Undefined (unknown_line statements.now)) fault) }
@@ -67,7 +67,7 @@ pub(crate) fn resolve(alloc: Global, statements: &Statements) -> Result<Uses, Be
 
 /// The earlier of two lines, where both are there.
 pub(crate) fn earlier(one: Option<u32>, other: Option<u32>) -> Option<u32>
-    ensures { result ≡ earlier one other }
+    ensures { result ≡ earlier_of_lines one other }
 {
     match (one, other) {
         (Some(one), Some(other)) => Some(one.min(other)),
@@ -123,7 +123,7 @@ fn resolve_pins(
     pins: &mut Vec<u32>,
 ) -> Result<Option<u32>, Memory>
     requires { length lines.now ≡ length numbers.now }
-    ensures line { IfOk result (λ line. line ≡ first_line (λ statement. list_any (is_unnumbered (number_for lines.now numbers.now)) (sources_of statement)) (numbered_list nodes.now)) }
+    ensures line { IfOk result (λ line. line ≡ first_passing_line (λ statement. list_any (is_unnumbered (number_for lines.now numbers.now)) (sources_of statement)) (numbered_list nodes.now)) }
     ensures pins { IfOk result (λ line. line ≡ None → pins.new.items ≡ pins.old.items ++ pin_numbers (number_for lines.now numbers.now) (statement_list nodes.now)) }
 {
     for entry in nodes {
@@ -144,8 +144,8 @@ fn resolve_sources(
     pins: &mut Vec<u32>,
 ) -> Result<bool, Memory>
     requires { length lines.now ≡ length numbers.now }
-    ensures unnumbered { IfOk result (λ unnumbered. unnumbered ≡ list_any (is_unnumbered (number_for lines.now numbers.now)) (sources_of (stated entry.now))) }
-    ensures pins { IfOk result (λ unnumbered. unnumbered ≡ false → pins.new.items ≡ pins.old.items ++ numbers_of (number_for lines.now numbers.now) (sources_of (stated entry.now))) }
+    ensures unnumbered { IfOk result (λ unnumbered. unnumbered ≡ list_any (is_unnumbered (number_for lines.now numbers.now)) (sources_of (statement_of_entry entry.now))) }
+    ensures pins { IfOk result (λ unnumbered. unnumbered ≡ false → pins.new.items ≡ pins.old.items ++ numbers_of (number_for lines.now numbers.now) (sources_of (statement_of_entry entry.now))) }
 {
     let mut left = entry.sources;
     while let Some(source) = marked_word(left) {
@@ -166,7 +166,7 @@ fn resolve_outputs(
     found: &mut Vec<u32>,
 ) -> Result<Option<u32>, Memory>
     requires { length lines.now ≡ length numbers.now }
-    ensures line { IfOk result (λ line. line ≡ first_line (λ statement. list_any (is_unnumbered (number_for lines.now numbers.now)) (used_names statement)) (numbered_outputs outputs.now)) }
+    ensures line { IfOk result (λ line. line ≡ first_passing_line (λ statement. list_any (is_unnumbered (number_for lines.now numbers.now)) (used_names statement)) (numbered_outputs outputs.now)) }
     ensures found { IfOk result (λ line. line ≡ None → found.new.items ≡ found.old.items ++ numbers_of (number_for lines.now numbers.now) (output_names (output_list outputs.now))) }
 {
     for output in outputs {

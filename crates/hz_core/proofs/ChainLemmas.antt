@@ -7,7 +7,7 @@ use Rattle.std.proofs.lemmas.Bool.{eq-eqb, eqb-true, false≢true}
 use Rattle.std.proofs.Math.Seq.{map-set_same}
 use Rattle.hz_core.specs.declared.chains.Link.{Link}
 use Rattle.hz_core.proofs.ListLemmas.{get_or-default}
-use Rattle.hz_core.specs.Chains.{bucket, hashes_of, has_hash, is_in, previous, AreLinked, IsChainedTo, IsOnChain}
+use Rattle.hz_core.specs.Chains.{bucket, hashes_of, has_hash, is_in_bucket, previous_passing, AreLinked, IsChainedTo, IsOnChain}
 
 -- a bucket is one of so many
 pub bucket_inside : (count hash : ℕ) → 0 < count → bucket count hash < count
@@ -15,51 +15,51 @@ unfolding bucket
 bucket_inside count hash some = let below = and_le_r hash (count - 1) in omega arith
 
 -- no number is beyond the count
-pub previous-within : (test : ℕ → Bool) (count : ℕ) → previous test count ≤ count
-previous-within test zero = omega arith
-previous-within test (suc count) = by (test count) (previous-within test count)
+pub previous_passing-within : (test : ℕ → Bool) (count : ℕ) → previous_passing test count ≤ count
+previous_passing-within test zero = omega arith
+previous_passing-within test (suc count) = by (test count) (previous_passing-within test count)
   where
-    by : (passes : Bool) → previous test count ≤ count → (if passes then suc count else previous test count) ≤ suc count
+    by : (passes : Bool) → previous_passing test count ≤ count → (if passes then suc count else previous_passing test count) ≤ suc count
     by true below = omega arith
     by false below = omega (arith, below)
 
 -- what is found passes
-pub previous-passes : (test : ℕ → Bool) (count place : ℕ) → previous test count ≡ suc place → test place ≡ true
-previous-passes test zero place is = absurd (omega (arith, is))
-previous-passes test (suc count) place is = by (test count) refl is (previous-passes test count place)
+pub previous_passing-passes : (test : ℕ → Bool) (count place : ℕ) → previous_passing test count ≡ suc place → test place ≡ true
+previous_passing-passes test zero place is = absurd (omega (arith, is))
+previous_passing-passes test (suc count) place is = by (test count) refl is (previous_passing-passes test count place)
   where
-    by : (passes : Bool) → test count ≡ passes → (if passes then suc count else previous test count) ≡ suc place → (previous test count ≡ suc place → test place ≡ true) → test place ≡ true
+    by : (passes : Bool) → test count ≡ passes → (if passes then suc count else previous_passing test count) ≡ suc place → (previous_passing test count ≡ suc place → test place ≡ true) → test place ≡ true
     by true passes same ih = let here : place ≡ count = omega (arith, same) in ap test here ∙ passes
     by false passes same ih = ih same
 
 -- what passes stands no later than what is found
-pub previous-bound : (test : ℕ → Bool) (count place : ℕ) → place < count → test place ≡ true → place < previous test count
-previous-bound test zero place inside passes = absurd (omega (arith, inside))
-previous-bound test (suc count) place inside passes = by (test count) refl (previous-bound test count place)
+pub previous_passing-bound : (test : ℕ → Bool) (count place : ℕ) → place < count → test place ≡ true → place < previous_passing test count
+previous_passing-bound test zero place inside passes = absurd (omega (arith, inside))
+previous_passing-bound test (suc count) place inside passes = by (test count) refl (previous_passing-bound test count place)
   where
-    by : (last : Bool) → test count ≡ last → (place < count → test place ≡ true → place < previous test count) → place < (if last then suc count else previous test count)
+    by : (last : Bool) → test count ≡ last → (place < count → test place ≡ true → place < previous_passing test count) → place < (if last then suc count else previous_passing test count)
     by true is ih = inside
     by false is ih =
         let other : place ≢ count = λ here. absurd (false≢true (sym is ∙ ap test (sym here) ∙ passes)) in
         ih (omega (arith, inside, other)) passes
 
 -- what fails another test, which is weaker, may be skipped
-pub previous-skip : (test weaker : ℕ → Bool) (count : ℕ) → ((place : ℕ) → place < count → test place ≡ true → weaker place ≡ true) → previous test count ≡ previous test (previous weaker count)
-previous-skip test weaker zero implies = refl
-previous-skip test weaker (suc count) implies = by (weaker count) (test count) refl refl (previous-skip test weaker count (λ place inside. implies place (omega (arith, inside))))
+pub previous_passing-skip : (test weaker : ℕ → Bool) (count : ℕ) → ((place : ℕ) → place < count → test place ≡ true → weaker place ≡ true) → previous_passing test count ≡ previous_passing test (previous_passing weaker count)
+previous_passing-skip test weaker zero implies = refl
+previous_passing-skip test weaker (suc count) implies = by (weaker count) (test count) refl refl (previous_passing-skip test weaker count (λ place inside. implies place (omega (arith, inside))))
   where
-    by : (weak strong : Bool) → weaker count ≡ weak → test count ≡ strong → previous test count ≡ previous test (previous weaker count)
-        → (if strong then suc count else previous test count) ≡ previous test (if weak then suc count else previous weaker count)
-    by true strong first second ih = ap (λ passes. if passes then suc count else previous test count) (sym second)
+    by : (weak strong : Bool) → weaker count ≡ weak → test count ≡ strong → previous_passing test count ≡ previous_passing test (previous_passing weaker count)
+        → (if strong then suc count else previous_passing test count) ≡ previous_passing test (if weak then suc count else previous_passing weaker count)
+    by true strong first second ih = ap (λ passes. if passes then suc count else previous_passing test count) (sym second)
     by false true first second ih = absurd (false≢true (sym first ∙ implies count (omega arith) second))
     by false false first second ih = ih
 
 -- tests that agree find the same
-pub previous-same : (test other : ℕ → Bool) (count : ℕ) → ((place : ℕ) → place < count → test place ≡ other place) → previous test count ≡ previous other count
-previous-same test other zero agree = refl
-previous-same test other (suc count) agree =
-    ap (λ passes. if passes then suc count else previous test count) (agree count (omega arith))
-    ∙ ap (λ below. if other count then suc count else below) (previous-same test other count (λ place inside. agree place (omega (arith, inside))))
+pub previous_passing-same : (test other : ℕ → Bool) (count : ℕ) → ((place : ℕ) → place < count → test place ≡ other place) → previous_passing test count ≡ previous_passing other count
+previous_passing-same test other zero agree = refl
+previous_passing-same test other (suc count) agree =
+    ap (λ passes. if passes then suc count else previous_passing test count) (agree count (omega arith))
+    ∙ ap (λ below. if other count then suc count else below) (previous_passing-same test other count (λ place inside. agree place (omega (arith, inside))))
 
 -- the hash at a place
 pub hash_at : (links : List Link) (place : ℕ) (link : Link) → place < length links → link ≡ get_or links place link → get_or (hashes_of links) place 0 ≡ link.hash
@@ -73,7 +73,7 @@ module _ (count : ℕ) (links : List Link) (hash number place : ℕ) (link : Lin
   wanted = has_hash hashes hash
 
   abbrev test : ℕ → Bool
-  test = is_in count hashes (bucket count link.hash)
+  test = is_in_bucket count hashes (bucket count link.hash)
 
   inside : place < length links
   inside = omega (arith, on.inside, is)
@@ -81,13 +81,13 @@ module _ (count : ℕ) (links : List Link) (hash number place : ℕ) (link : Lin
   here : get_or hashes place 0 ≡ link.hash
   here = hash_at links place link inside at
 
-  next : link.before ≡ previous test place
+  next : link.before ≡ previous_passing test place
   next = linked place link inside at
 
   mine : bucket count link.hash ≡ bucket count hash
   mine = ap (bucket count) (sym here) ∙ eqb-true (bucket count (get_or hashes place 0)) (bucket count hash) (on.shares place is)
 
-  shares : (before : ℕ) → test before ≡ true → is_in count hashes (bucket count hash) before ≡ true
+  shares : (before : ℕ) → test before ≡ true → is_in_bucket count hashes (bucket count hash) before ≡ true
   shares before passes = ap (λ other. bucket count (get_or hashes before 0) == other) (sym mine) ∙ passes
 
   implies : (earlier : ℕ) → earlier < place → wanted earlier ≡ true → test earlier ≡ true
@@ -97,49 +97,49 @@ module _ (count : ℕ) (links : List Link) (hash number place : ℕ) (link : Lin
   pub seek-on : IsOnChain count links hash link.before
   seek-on =
       record {
-        inside = omega (arith, inside, next, previous-within test place);
-        shares = λ before same. shares before (previous-passes test place before (sym next ∙ same));
+        inside = omega (arith, inside, next, previous_passing-within test place);
+        shares = λ before same. shares before (previous_passing-passes test place before (sym next ∙ same));
       }
 
   -- it is an earlier one
   pub seek-less : link.before < number
-  seek-less = omega (arith, next, previous-within test place, is)
+  seek-less = omega (arith, next, previous_passing-within test place, is)
 
   -- an entry whose hash differs is skipped along its link
-  pub seek-step : (link.hash == hash) ≡ false → previous (has_hash (hashes_of links) hash) link.before ≡ previous (has_hash (hashes_of links) hash) number
+  pub seek-step : (link.hash == hash) ≡ false → previous_passing (has_hash (hashes_of links) hash) link.before ≡ previous_passing (has_hash (hashes_of links) hash) number
   seek-step differs =
-      ap (previous wanted) next ∙ sym (previous-skip wanted test place implies)
-      ∙ ap (λ passes. if passes then suc place else previous wanted place) (sym (ap (λ one. one == hash) here ∙ differs))
-      ∙ ap (previous wanted) (sym is)
+      ap (previous_passing wanted) next ∙ sym (previous_passing-skip wanted test place implies)
+      ∙ ap (λ passes. if passes then suc place else previous_passing wanted place) (sym (ap (λ one. one == hash) here ∙ differs))
+      ∙ ap (previous_passing wanted) (sym is)
 
   -- an entry with the hash is found
-  pub seek-found : (link.hash == hash) ≡ true → number ≡ previous (has_hash (hashes_of links) hash) number
+  pub seek-found : (link.hash == hash) ≡ true → number ≡ previous_passing (has_hash (hashes_of links) hash) number
   seek-found same =
-      is ∙ ap (λ passes. if passes then suc place else previous wanted place) (sym (ap (λ one. one == hash) here ∙ same))
-      ∙ ap (previous wanted) (sym is)
+      is ∙ ap (λ passes. if passes then suc place else previous_passing wanted place) (sym (ap (λ one. one == hash) here ∙ same))
+      ∙ ap (previous_passing wanted) (sym is)
 
 -- the last entry of a bucket is on the chain of each hash of the bucket
 pub head-on :
     (count : ℕ) (links : List Link) (hash number done : ℕ) → done ≤ length links →
-    number ≡ previous (is_in count (hashes_of links) (bucket count hash)) done → IsOnChain count links hash number
+    number ≡ previous_passing (is_in_bucket count (hashes_of links) (bucket count hash)) done → IsOnChain count links hash number
 head-on count links hash number done within is =
-    let test = is_in count (hashes_of links) (bucket count hash) in
+    let test = is_in_bucket count (hashes_of links) (bucket count hash) in
     record {
-      inside = omega (arith, is, previous-within test done, within);
-      shares = λ place same. previous-passes test done place (sym is ∙ same);
+      inside = omega (arith, is, previous_passing-within test done, within);
+      shares = λ place same. previous_passing-passes test done place (sym is ∙ same);
     }
 
 -- and the last entry with the hash is found from there
 pub head-finds :
     (count : ℕ) (links : List Link) (hash number done : ℕ) →
-    number ≡ previous (is_in count (hashes_of links) (bucket count hash)) done →
-    previous (has_hash (hashes_of links) hash) number ≡ previous (has_hash (hashes_of links) hash) done
+    number ≡ previous_passing (is_in_bucket count (hashes_of links) (bucket count hash)) done →
+    previous_passing (has_hash (hashes_of links) hash) number ≡ previous_passing (has_hash (hashes_of links) hash) done
 head-finds count links hash number done is =
     let hashes = hashes_of links in
     let wanted = has_hash hashes hash in
-    let test = is_in count hashes (bucket count hash) in
-    ap (previous wanted) is
-    ∙ sym (previous-skip wanted test done (λ place below same. eq-eqb (bucket count (get_or hashes place 0)) (bucket count hash) (ap (bucket count) (eqb-true (get_or hashes place 0) hash same))))
+    let test = is_in_bucket count hashes (bucket count hash) in
+    ap (previous_passing wanted) is
+    ∙ sym (previous_passing-skip wanted test done (λ place below same. eq-eqb (bucket count (get_or hashes place 0)) (bucket count hash) (ap (bucket count) (eqb-true (get_or hashes place 0) hash same))))
 
 -- an entry is put on the chain of its bucket
 module _ (heads : List ℕ) (links : List Link) (entry : ℕ) (link new : Link) (inside : entry < length links) (was : IsChainedTo heads links entry) (at : link ≡ get_or links entry link) (same : new.hash ≡ link.hash) (before : new.before ≡ get_or heads (bucket (length heads) link.hash) 0) where
@@ -156,28 +156,28 @@ module _ (heads : List ℕ) (links : List Link) (entry : ℕ) (link new : Link) 
   joined-hashes = map-set_same (λ (one : Link). one.hash) links entry new link (same ∙ ap (λ (one : Link). one.hash) at)
 
   joined-test : (other : ℕ) (last : Bool) → (chain == other) ≡ last →
-      previous (is_in count (hashes_of links) other) (suc entry) ≡ (if last then suc entry else previous (is_in count (hashes_of links) other) entry)
+      previous_passing (is_in_bucket count (hashes_of links) other) (suc entry) ≡ (if last then suc entry else previous_passing (is_in_bucket count (hashes_of links) other) entry)
   joined-test other last is =
-      ap (λ passes. if passes then suc entry else previous (is_in count (hashes_of links) other) entry)
+      ap (λ passes. if passes then suc entry else previous_passing (is_in_bucket count (hashes_of links) other) entry)
       (ap (λ hash. bucket count hash == other) (hash_at links entry link inside at) ∙ is)
 
   joined-end : (other : ℕ) (last : Bool) → (chain == other) ≡ last → other < count →
-      get_or (set heads chain (suc entry)) other 0 ≡ (if last then suc entry else previous (is_in count (hashes_of links) other) entry)
+      get_or (set heads chain (suc entry)) other 0 ≡ (if last then suc entry else previous_passing (is_in_bucket count (hashes_of links) other) entry)
   joined-end other true is below =
       ap (λ place. get_or (set heads chain (suc entry)) place 0) (sym (eqb-true chain other is)) ∙ get_or-set_same heads chain (suc entry) 0 chain-inside
   joined-end other false is below =
       get_or-set_other heads chain other (suc entry) 0 (λ equal. absurd (false≢true (sym is ∙ eq-eqb chain other (sym equal)))) ∙ was.ends other below
 
-  joined-ends : (other : ℕ) → other < count → get_or (set heads chain (suc entry)) other 0 ≡ previous (is_in count (hashes_of links) other) (suc entry)
+  joined-ends : (other : ℕ) → other < count → get_or (set heads chain (suc entry)) other 0 ≡ previous_passing (is_in_bucket count (hashes_of links) other) (suc entry)
   joined-ends other below = joined-end other (chain == other) refl below ∙ sym (joined-test other (chain == other) refl)
 
   joined-link : (place : ℕ) (one : Link) → ((eqb place entry ≡ true) × (place ≡ entry)) ⊎ ((eqb place entry ≡ false) × (place ≢ entry)) → place < suc entry → one ≡ get_or (set links entry new) place one →
-      one.before ≡ previous (is_in count (hashes_of links) (bucket count one.hash)) place
+      one.before ≡ previous_passing (is_in_bucket count (hashes_of links) (bucket count one.hash)) place
   joined-link place one (inl (_, at_entry)) below is =
       let found : one ≡ new = is ∙ ap (λ spot. get_or (set links entry new) spot one) at_entry ∙ get_or-set_same links entry new one inside in
       ap (λ (one : Link). one.before) found ∙ before ∙ was.ends chain chain-inside
-      ∙ ap (λ hash. previous (is_in count (hashes_of links) (bucket count hash)) entry) (sym (ap (λ (one : Link). one.hash) found ∙ same))
-      ∙ ap (previous (is_in count (hashes_of links) (bucket count one.hash))) (sym at_entry)
+      ∙ ap (λ hash. previous_passing (is_in_bucket count (hashes_of links) (bucket count hash)) entry) (sym (ap (λ (one : Link). one.hash) found ∙ same))
+      ∙ ap (previous_passing (is_in_bucket count (hashes_of links) (bucket count one.hash))) (sym at_entry)
   joined-link place one (inr (_, other)) below is = was.linked place one (omega (arith, below, other)) (is ∙ get_or-set_other links entry place new one other)
 
   abbrev heads_new : List ℕ
@@ -194,12 +194,12 @@ module _ (heads : List ℕ) (links : List Link) (entry : ℕ) (link new : Link) 
       record {
         ends = λ other below.
             joined-ends other (omega (arith, below, counted))
-            ∙ ap (λ size. previous (is_in size (hashes_of links) other) (suc entry)) (sym counted)
-            ∙ ap (λ hashes_new. previous (is_in (length heads_new) hashes_new other) (suc entry)) (sym joined-hashes);
+            ∙ ap (λ size. previous_passing (is_in_bucket size (hashes_of links) other) (suc entry)) (sym counted)
+            ∙ ap (λ hashes_new. previous_passing (is_in_bucket (length heads_new) hashes_new other) (suc entry)) (sym joined-hashes);
         linked = λ place one below is.
             joined-link place one (eqb_tells place entry) below is
-            ∙ ap (λ size. previous (is_in size (hashes_of links) (bucket size one.hash)) place) (sym counted)
-            ∙ ap (λ hashes_new. previous (is_in (length heads_new) hashes_new (bucket (length heads_new) one.hash)) place) (sym joined-hashes);
+            ∙ ap (λ size. previous_passing (is_in_bucket size (hashes_of links) (bucket size one.hash)) place) (sym counted)
+            ∙ ap (λ hashes_new. previous_passing (is_in_bucket (length heads_new) hashes_new (bucket (length heads_new) one.hash)) place) (sym joined-hashes);
         some = λ any. omega (arith, counted, was.some (omega (arith, inside)));
       }
 
@@ -211,14 +211,14 @@ pub more-chained :
     (heads : List ℕ) (links : List Link) (link : Link) (done : ℕ) → done ≤ length links → 0 < length heads → IsChainedTo heads links done → IsChainedTo heads (links ++ link ∷ []) done
 more-chained heads links link done within some was =
     record {
-      ends = λ chain below. was.ends chain below ∙ previous-same (is_in (length heads) (hashes_of links) chain) (is_in (length heads) (hashes_of (links ++ link ∷ [])) chain) done (agree chain);
+      ends = λ chain below. was.ends chain below ∙ previous_passing-same (is_in_bucket (length heads) (hashes_of links) chain) (is_in_bucket (length heads) (hashes_of (links ++ link ∷ [])) chain) done (agree chain);
       linked = λ place one below is.
           was.linked place one below (is ∙ get_or_append_left links (link ∷ []) one place (omega (arith, below, within)))
-          ∙ previous-same (is_in (length heads) (hashes_of links) (bucket (length heads) one.hash)) (is_in (length heads) (hashes_of (links ++ link ∷ [])) (bucket (length heads) one.hash)) place (λ spot inside. agree (bucket (length heads) one.hash) spot (omega (arith, inside, below)));
+          ∙ previous_passing-same (is_in_bucket (length heads) (hashes_of links) (bucket (length heads) one.hash)) (is_in_bucket (length heads) (hashes_of (links ++ link ∷ [])) (bucket (length heads) one.hash)) place (λ spot inside. agree (bucket (length heads) one.hash) spot (omega (arith, inside, below)));
       some = λ any. some;
     }
   where
-    agree : (chain place : ℕ) → place < done → is_in (length heads) (hashes_of links) chain place ≡ is_in (length heads) (hashes_of (links ++ link ∷ [])) chain place
+    agree : (chain place : ℕ) → place < done → is_in_bucket (length heads) (hashes_of links) chain place ≡ is_in_bucket (length heads) (hashes_of (links ++ link ∷ [])) chain place
     agree chain place below =
         ap (λ hash. bucket (length heads) hash == chain)
         (sym (ap (λ (all : List ℕ). get_or all place 0) (map-append (λ (one : Link). one.hash) links (link ∷ [])) ∙ get_or_append_left (hashes_of links) (link.hash ∷ []) 0 place (omega (arith, below, within, length-map links (λ (one : Link). one.hash)))))
@@ -251,14 +251,14 @@ pub head_within :
 head_within heads links entry number place hash inside was here before =
     let below : place < length heads = omega (arith, here, bucket_inside (length heads) hash (was.some (omega (arith, inside)))) in
     let read : number ≡ get_or heads place 0 = before ∙ get_or-default heads place number 0 below in
-    omega (arith, read, was.ends place below, previous-within (is_in (length heads) (hashes_of links) place) entry, inside)
+    omega (arith, read, was.ends place below, previous_passing-within (is_in_bucket (length heads) (hashes_of links) place) entry, inside)
 
 -- the head of a bucket that was read
 pub head_read :
     (heads : List ℕ) (links : List Link) (hash number place count : ℕ) → IsChainedTo heads links (length links) → count ≡ length heads →
     place ≡ bucket count hash → place < count → number ≡ get_or heads place number →
-    number ≡ previous (is_in count (hashes_of links) (bucket count hash)) (length links)
+    number ≡ previous_passing (is_in_bucket count (hashes_of links) (bucket count hash)) (length links)
 head_read heads links hash number place count was counted here below before =
     before ∙ get_or-default heads place number 0 (omega (arith, below, counted)) ∙ was.ends place (omega (arith, below, counted))
-    ∙ ap (λ chain. previous (is_in (length heads) (hashes_of links) chain) (length links)) here
-    ∙ ap (λ size. previous (is_in size (hashes_of links) (bucket count hash)) (length links)) (sym counted)
+    ∙ ap (λ chain. previous_passing (is_in_bucket (length heads) (hashes_of links) chain) (length links)) here
+    ∙ ap (λ size. previous_passing (is_in_bucket size (hashes_of links) (bucket count hash)) (length links)) (sym counted)

@@ -6,7 +6,7 @@ use Rattle.hz_core.specs.NameHash.{hash_of}
 use Rattle.hz_core.specs.declared.kind.Kind.{Kind}
 use Rattle.hz_core.specs.declared.kind.Kind.TheVariants.{And}
 use Rattle.hz_core.specs.declared.circuit.Circuit.TheInside.{Inside}
-use Rattle.hz_core.specs.Inside.{netlist_of, HoldsCircuit}
+use Rattle.hz_core.specs.Inside.{netlist_of_fields, HoldsCircuit}
 use Rattle.hz_core.specs.Netlist.{Gate, Netlist, IsName, IsCircuit, IsGateNumber, pin_count, variable_count, most_pins, gate_at, node_named, empty_netlist, with_input, with_cut, with_gate, with_source, with_pin}
 use Rattle.std.proofs.lemmas.List.{map-append}
 use Rattle.hz_core.proofs.ListLemmas.{get_or-default}
@@ -25,13 +25,13 @@ name_hashed old new name hashed hashing names chains =
 
 -- fields that stand for a circuit, and count its pins
 holds_circuit :
-    (fields : Inside) (netlist : Netlist) → netlist_of fields ≡ netlist → IsCircuit netlist → fields.pins ≡ pin_count netlist →
+    (fields : Inside) (netlist : Netlist) → netlist_of_fields fields ≡ netlist → IsCircuit netlist → fields.pins ≡ pin_count netlist →
     fields.chains ≡ map (hash_of fields.hashing) fields.names.items → HoldsCircuit fields
 holds_circuit fields netlist same circuit counted hashed =
     record { circuit = rw same circuit; counted = counted ∙ sym (ap pin_count same); hashed = hashed }
 
 -- the circuit that the fields stand for
-circuit_of : (fields : Inside) (netlist : Netlist) → netlist_of fields ≡ netlist → HoldsCircuit fields → IsCircuit netlist
+circuit_of : (fields : Inside) (netlist : Netlist) → netlist_of_fields fields ≡ netlist → HoldsCircuit fields → IsCircuit netlist
 circuit_of fields netlist same holds = subst IsCircuit same holds.circuit
 
 -- the fields of a new circuit
@@ -40,7 +40,7 @@ pub HoldsCircuit-empty :
     fields.outputs.keys ≡ [] → fields.pins ≡ 0 → HoldsCircuit fields
 HoldsCircuit-empty fields names chains inputs cuts gates outputs pins =
     holds_circuit fields empty_netlist
-    (same_netlist (netlist_of fields) empty_netlist names inputs cuts gates outputs)
+    (same_netlist (netlist_of_fields fields) empty_netlist names inputs cuts gates outputs)
     IsCircuit-empty pins (chains ∙ ap (map (hash_of fields.hashing)) (sym names))
 
 -- the fields from old to new, where an input came
@@ -56,15 +56,15 @@ pub record InputComes (old new : Inside) (name : List ℕ) : Type 0 where
 
 -- then the circuit is the definition's
 pub view-InputComes :
-    (old new : Inside) (netlist : Netlist) (name : List ℕ) → netlist_of old ≡ netlist →
-    node_named netlist name ≡ None → InputComes old new name → netlist_of new ≡ with_input netlist name
+    (old new : Inside) (netlist : Netlist) (name : List ℕ) → netlist_of_fields old ≡ netlist →
+    node_named netlist name ≡ None → InputComes old new name → netlist_of_fields new ≡ with_input netlist name
 view-InputComes old new netlist name same fresh comes =
-    same_netlist (netlist_of new) (with_input (netlist_of old) name) comes.names
+    same_netlist (netlist_of_fields new) (with_input (netlist_of_fields old) name) comes.names
     comes.inputs comes.cuts comes.gates comes.outputs ∙ ap (λ n. with_input n name) same
 
 -- and the invariant holds again
 pub HoldsCircuit-InputComes :
-    (old new : Inside) (netlist : Netlist) (name : List ℕ) → netlist_of old ≡ netlist →
+    (old new : Inside) (netlist : Netlist) (name : List ℕ) → netlist_of_fields old ≡ netlist →
     node_named netlist name ≡ None → InputComes old new name → HoldsCircuit old → IsName name →
     netlist.gates ≡ [] → variable_count netlist < 200000 → HoldsCircuit new
 HoldsCircuit-InputComes old new netlist name same fresh comes holds is_name no_gate room =
@@ -85,15 +85,15 @@ pub record CutComes (old new : Inside) (name : List ℕ) : Type 0 where
 
 -- then the circuit is the definition's
 pub view-CutComes :
-    (old new : Inside) (netlist : Netlist) (name : List ℕ) → netlist_of old ≡ netlist →
-    node_named netlist name ≡ None → CutComes old new name → netlist_of new ≡ with_cut netlist name
+    (old new : Inside) (netlist : Netlist) (name : List ℕ) → netlist_of_fields old ≡ netlist →
+    node_named netlist name ≡ None → CutComes old new name → netlist_of_fields new ≡ with_cut netlist name
 view-CutComes old new netlist name same fresh comes =
-    same_netlist (netlist_of new) (with_cut (netlist_of old) name) comes.names
+    same_netlist (netlist_of_fields new) (with_cut (netlist_of_fields old) name) comes.names
     comes.inputs comes.cuts comes.gates comes.outputs ∙ ap (λ n. with_cut n name) same
 
 -- and the invariant holds again
 pub HoldsCircuit-CutComes :
-    (old new : Inside) (netlist : Netlist) (name : List ℕ) → netlist_of old ≡ netlist →
+    (old new : Inside) (netlist : Netlist) (name : List ℕ) → netlist_of_fields old ≡ netlist →
     node_named netlist name ≡ None → CutComes old new name → HoldsCircuit old → IsName name →
     netlist.gates ≡ [] → variable_count netlist < 200000 → HoldsCircuit new
 HoldsCircuit-CutComes old new netlist name same fresh comes holds is_name no_gate room =
@@ -114,15 +114,15 @@ pub record GateComes (old new : Inside) (name : List ℕ) (kind : Kind) : Type 0
 
 -- then the circuit is the definition's
 pub view-GateComes :
-    (old new : Inside) (netlist : Netlist) (name : List ℕ) (kind : Kind) → netlist_of old ≡ netlist →
-    node_named netlist name ≡ None → GateComes old new name kind → netlist_of new ≡ with_gate netlist name kind
+    (old new : Inside) (netlist : Netlist) (name : List ℕ) (kind : Kind) → netlist_of_fields old ≡ netlist →
+    node_named netlist name ≡ None → GateComes old new name kind → netlist_of_fields new ≡ with_gate netlist name kind
 view-GateComes old new netlist name kind same fresh comes =
-    same_netlist (netlist_of new) (with_gate (netlist_of old) name kind) comes.names
+    same_netlist (netlist_of_fields new) (with_gate (netlist_of_fields old) name kind) comes.names
     comes.inputs comes.cuts comes.gates comes.outputs ∙ ap (λ n. with_gate n name kind) same
 
 -- and the invariant holds again
 pub HoldsCircuit-GateComes :
-    (old new : Inside) (netlist : Netlist) (name : List ℕ) (kind : Kind) → netlist_of old ≡ netlist →
+    (old new : Inside) (netlist : Netlist) (name : List ℕ) (kind : Kind) → netlist_of_fields old ≡ netlist →
     node_named netlist name ≡ None → GateComes old new name kind → HoldsCircuit old → IsName name →
     variable_count netlist < 200000 → HoldsCircuit new
 HoldsCircuit-GateComes old new netlist name kind same fresh comes holds is_name room =
@@ -144,21 +144,21 @@ pub record PinComes (old new : Inside) (was : Gate) (node source : ℕ) : Type 0
 
 -- then the circuit is the definition's
 pub view-PinComes :
-    (old new : Inside) (netlist : Netlist) (was : Gate) (node source : ℕ) → netlist_of old ≡ netlist → HoldsCircuit old →
-    IsGateNumber netlist node → PinComes old new was node source → netlist_of new ≡ with_pin netlist node source
+    (old new : Inside) (netlist : Netlist) (was : Gate) (node source : ℕ) → netlist_of_fields old ≡ netlist → HoldsCircuit old →
+    IsGateNumber netlist node → PinComes old new was node source → netlist_of_fields new ≡ with_pin netlist node source
 view-PinComes old new netlist was node source same holds is_gate comes =
-    let is_gate_of_old : IsGateNumber (netlist_of old) node = subst (λ n. IsGateNumber n node) (sym same) is_gate in
+    let is_gate_of_old : IsGateNumber (netlist_of_fields old) node = subst (λ n. IsGateNumber n node) (sym same) is_gate in
     let within : node - old.inputs < length old.gates.items = omega (arith, holds.circuit.nodes, is_gate_of_old.0, is_gate_of_old.1) in
-    let read : was ≡ gate_at (netlist_of old) node =
+    let read : was ≡ gate_at (netlist_of_fields old) node =
     comes.read ∙ get_or-default old.gates.items (node - old.inputs) was (record { kind = And; sources = [] }) within in
-    same_netlist (netlist_of new) (with_pin (netlist_of old) node source) comes.names
+    same_netlist (netlist_of_fields new) (with_pin (netlist_of_fields old) node source) comes.names
     comes.inputs comes.cuts
     (comes.gates ∙ ap (λ gate. set old.gates.items (node - old.inputs) (with_source gate source)) read)
     comes.outputs ∙ ap (λ n. with_pin n node source) same
 
 -- and the invariant holds again
 pub HoldsCircuit-PinComes :
-    (old new : Inside) (netlist : Netlist) (was : Gate) (node source : ℕ) → netlist_of old ≡ netlist → HoldsCircuit old →
+    (old new : Inside) (netlist : Netlist) (was : Gate) (node source : ℕ) → netlist_of_fields old ≡ netlist → HoldsCircuit old →
     IsGateNumber netlist node → PinComes old new was node source → source < length netlist.names →
     length (gate_at netlist node).sources < most_pins (gate_at netlist node).kind → variable_count netlist < 200000 →
     HoldsCircuit new
@@ -170,13 +170,13 @@ HoldsCircuit-PinComes old new netlist was node source same holds is_gate comes i
     (comes.chains ∙ holds.hashed ∙ ap (map (hash_of old.hashing)) (sym comes.names) ∙ ap (λ one. map (hash_of one) new.names.items) (sym comes.hashing))
 
 -- how many names, of a list of keys
-pub names_counted : (fields : Inside) (netlist : Netlist) → netlist_of fields ≡ netlist → length fields.names.items ≡ length netlist.names
+pub names_counted : (fields : Inside) (netlist : Netlist) → netlist_of_fields fields ≡ netlist → length fields.names.items ≡ length netlist.names
 names_counted fields netlist same =
     ap (λ n. length n.names) same
 
 -- the key that is looked for stands where its name does
 pub found_at :
-    (fields : Inside) (netlist : Netlist) (name : List ℕ) → netlist_of fields ≡ netlist →
+    (fields : Inside) (netlist : Netlist) (name : List ℕ) → netlist_of_fields fields ≡ netlist →
     position (bytes_eq name) fields.names.items ≡ node_named netlist name
 found_at fields netlist name same =
     ap (λ n. node_named n name) same

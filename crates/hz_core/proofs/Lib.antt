@@ -7,5 +7,5 @@ pub mod Extensions
 pub mod Joins
 pub mod Kleene
 pub mod Refinements
-pub mod Reached
+pub mod BitOrSwitchLemmas
 pub mod Patterns

@@ -9,8 +9,8 @@ use Rattle.std.proofs.lemmas.List.Quantifiers.{position-Some}
 use Rattle.std.proofs.lemmas.Map.Keys.{apart_from_distinct}
 use Rattle.std.proofs.lemmas.Bool.Decides.{eqb_tells, Decides-ltb}
 use Rattle.std.proofs.lemmas.Slice.Eq.{bytes_eq-Decides}
-use Rattle.hz_core.specs.Chains.{has_hash, has_name, previous}
-use Rattle.hz_core.proofs.ChainLemmas.{previous-within, previous-passes, previous-bound}
+use Rattle.hz_core.specs.Chains.{has_hash, has_name, previous_passing}
+use Rattle.hz_core.proofs.ChainLemmas.{previous_passing-within, previous_passing-passes, previous_passing-bound}
 use Rattle.hz_core.proofs.ListLemmas.{get_or-default, list_any-from_position_none}
 
 module _ (names : List (List ℕ)) (hash : List ℕ → ℕ) (hashes : List ℕ) (name : List ℕ) (hashed : hashes ≡ map hash names) where
@@ -24,23 +24,23 @@ module _ (names : List (List ℕ)) (hash : List ℕ → ℕ) (hashes : List ℕ)
       (ap (λ (all : List ℕ). get_or all place 0) hashed ∙ get_or-map hash names place [] 0 inside ∙ ap hash (sym same))
 
   -- what is known of the number of the last entry with the hash, before a place
-  pub search-inside : (number done : ℕ) → done ≤ length names → number ≡ previous (has_hash hashes (hash name)) done → number ≤ done
-  search-inside number done within is = omega (arith, is, previous-within (has_hash hashes (hash name)) done)
+  pub search-inside : (number done : ℕ) → done ≤ length names → number ≡ previous_passing (has_hash hashes (hash name)) done → number ≤ done
+  search-inside number done within is = omega (arith, is, previous_passing-within (has_hash hashes (hash name)) done)
 
-  pub search-hashed : (number done : ℕ) → number ≡ previous (has_hash hashes (hash name)) done → (place : ℕ) → number ≡ suc place → has_hash hashes (hash name) place ≡ true
-  search-hashed number done is place same = previous-passes (has_hash hashes (hash name)) done place (sym is ∙ same)
+  pub search-hashed : (number done : ℕ) → number ≡ previous_passing (has_hash hashes (hash name)) done → (place : ℕ) → number ≡ suc place → has_hash hashes (hash name) place ≡ true
+  search-hashed number done is place same = previous_passing-passes (has_hash hashes (hash name)) done place (sym is ∙ same)
 
-  pub search-left : (number done : ℕ) → done ≤ length names → number ≡ previous (has_hash hashes (hash name)) done →
+  pub search-left : (number done : ℕ) → done ≤ length names → number ≡ previous_passing (has_hash hashes (hash name)) done →
       (place : ℕ) → place < done → has_name names name place ≡ true → place < number
   search-left number done within is place below same =
-      omega (arith, is, previous-bound (has_hash hashes (hash name)) done place below (named-hashed place (omega (arith, below, within)) same))
+      omega (arith, is, previous_passing-bound (has_hash hashes (hash name)) done place below (named-hashed place (omega (arith, below, within)) same))
 
-  pub search-begins : (number : ℕ) → number ≡ previous (has_hash hashes (hash name)) (length hashes) → number ≡ previous (has_hash hashes (hash name)) (length names)
-  search-begins number is = is ∙ ap (previous (has_hash hashes (hash name))) counted
+  pub search-begins : (number : ℕ) → number ≡ previous_passing (has_hash hashes (hash name)) (length hashes) → number ≡ previous_passing (has_hash hashes (hash name)) (length names)
+  search-begins number is = is ∙ ap (previous_passing (has_hash hashes (hash name))) counted
 
   -- the entry before one with the hash
-  pub search-next : (next at : ℕ) → next ≡ previous (has_hash hashes (get_or hashes at 0)) at → has_hash hashes (hash name) at ≡ true → next ≡ previous (has_hash hashes (hash name)) at
-  search-next next at is same = is ∙ ap (λ wanted. previous (has_hash hashes wanted) at) (eqb-true (get_or hashes at 0) (hash name) same)
+  pub search-next : (next at : ℕ) → next ≡ previous_passing (has_hash hashes (get_or hashes at 0)) at → has_hash hashes (hash name) at ≡ true → next ≡ previous_passing (has_hash hashes (hash name)) at
+  search-next next at is same = is ∙ ap (λ wanted. previous_passing (has_hash hashes wanted) at) (eqb-true (get_or hashes at 0) (hash name) same)
 
 -- no place has the name, so no item has
 pub none-named : (names : List (List ℕ)) (name : List ℕ) → ((place : ℕ) → place < length names → has_name names name place ≡ true → place < 0) → list_any (bytes_eq name) names ≡ false

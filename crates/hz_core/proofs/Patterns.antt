@@ -13,8 +13,8 @@ use Rattle.hz_core.specs.declared.tri.Tri.TheVariants.{Zero, One, Unknown}
 use Rattle.hz_core.specs.Ternary.{tri_of, admits, IsJoinOf}
 use Rattle.hz_core.specs.Gate.{takes, gate_value}
 use Rattle.hz_core.specs.Extension.{extension, IsValueOver}
-use Rattle.hz_core.specs.Pattern.{Agrees, IsCandidate, differs, changed, ComesNoLater, IsPattern}
-use Rattle.hz_core.specs.Reached.{HasOneBit, IsTurnedByAny}
+use Rattle.hz_core.specs.Pattern.{AgreesAtFixedPins, IsCandidate, differs, changed_pins, ComesNoLater, IsPattern}
+use Rattle.hz_core.specs.BitOrSwitch.{HasOneBit, IsSwitchedByAnyPin}
 use Rattle.hz_core.proofs.Extensions.{IsExtension-extension}
 use Rattle.hz_core.proofs.ListLemmas.{list_any-from_position_none}
 use Rattle.hz_core.proofs.Refinements.{length-Refines, get_or-Refines, known-admits}
@@ -68,17 +68,17 @@ same-differs true false e = absurd (true≢false e)
 same-differs true true e = refl
 
 -- the changed pins of a list that is not changed, and of one with one pin changed
-pub changed-same : (now : List Bool) → changed now now ≡ []
+pub changed-same : (now : List Bool) → changed_pins now now ≡ []
 changed-same now =
     filter_none (λ pin. differs (get_or now pin false) (get_or now pin false)) 0 (length now) (λ q low high. differs-same (get_or now q false))
 
-pub changed-set : (now : List Bool) (pin : ℕ) → pin < length now → changed now (set now pin (not (get_or now pin false))) ≡ pin ∷ []
+pub changed-set : (now : List Bool) (pin : ℕ) → pin < length now → changed_pins now (set now pin (not (get_or now pin false))) ≡ pin ∷ []
 changed-set now pin within =
     filter_one (λ q. differs (get_or now q false) (get_or (set now pin (not (get_or now pin false))) q false)) 0 (length now) pin (omega arith) (omega arith)
     (rw get_or-set_same (differs-not (get_or now pin false)))
     (λ q other. rw get_or-set_other (differs-same (get_or now q false)))
 
-pub same-changed : (now list : List Bool) → length list ≡ length now → changed now list ≡ [] → list ≡ now
+pub same-changed : (now list : List Bool) → length list ≡ length now → changed_pins now list ≡ [] → list ≡ now
 same-changed now list e none =
     ext_get_or false list now e
     (λ i within. same-differs (get_or now i false) (get_or list i false)
@@ -113,7 +113,7 @@ IsPattern-lone kind now free want bit alone list candidate =
     record {
       candidate = subst (λ l. IsCandidate kind now free want l) (only list candidate) candidate;
       fewest = λ other c. rw (only other c) (omega arith);
-      least = λ other c one. rw (only other c) (ComesNoLater-same (changed now (replicate (length now) bit)));
+      least = λ other c one. rw (only other c) (ComesNoLater-same (changed_pins now (replicate (length now) bit)));
     }
 
 nonempty : (list : List ℕ) → (list ≡ [] → ⊥) → 1 ≤ length list
@@ -121,7 +121,7 @@ nonempty [] h = absurd (h refl)
 nonempty (x ∷ list) h = omega arith
 
 -- a place that is changed is free, so it is not below the first free one
-changed_free : (now free list : List Bool) (pin q : ℕ) → Agrees now free list → pin < length now → ((k : ℕ) → k < pin → get_or free k false ≡ false) → differs (get_or now q false) (get_or list q false) ≡ true → pin ≤ q
+changed_free : (now free list : List Bool) (pin q : ℕ) → AgreesAtFixedPins now free list → pin < length now → ((k : ℕ) → k < pin → get_or free k false ≡ false) → differs (get_or now q false) (get_or list q false) ≡ true → pin ≤ q
 changed_free now free list pin q agrees within before differing =
     elim (cases_lt q pin) [
       | inl below ↦
@@ -146,12 +146,12 @@ kept_other now free pin q is_free bound =
     get_or-set_other now pin q (not (get_or now pin false)) false (λ same. false≢true (sym bound ∙ ap (λ k. get_or free k false) same ∙ is_free))
 
 -- the first free pin changed, where each pin alone gives the value
-pub IsPattern-first : (kind : Kind) (now free : List Bool) (want : Bool) (pin : ℕ) → IsTrue (takes kind (length now)) → length free ≡ length now → gate_value kind now ≡ not want → IsTurnedByAny kind want → position (λ f. f) free ≡ Some pin → IsPattern kind now free want (set now pin (not (get_or now pin false)))
+pub IsPattern-first : (kind : Kind) (now free : List Bool) (want : Bool) (pin : ℕ) → IsTrue (takes kind (length now)) → length free ≡ length now → gate_value kind now ≡ not want → IsSwitchedByAnyPin kind want → position (λ f. f) free ≡ Some pin → IsPattern kind now free want (set now pin (not (get_or now pin false)))
 IsPattern-first kind now free want pin taken long value turned is =
     let first = position-Some (λ f. f) free pin false is in
     let within : pin < length now = omega (arith, first.0) in
-    let one : changed now (set now pin (not (get_or now pin false))) ≡ pin ∷ [] = changed-set now pin within in
-    let other_value = λ (list : List Bool) (c : IsCandidate kind now free want list) (e : changed now list ≡ []).
+    let one : changed_pins now (set now pin (not (get_or now pin false))) ≡ pin ∷ [] = changed-set now pin within in
+    let other_value = λ (list : List Bool) (c : IsCandidate kind now free want list) (e : changed_pins now list ≡ []).
     no_two want (sym value ∙ ap (gate_value kind) (sym (same-changed now list c.agrees.same_length e)) ∙ c.value) in
     record {
       candidate = record {
@@ -161,10 +161,10 @@ IsPattern-first kind now free want pin taken long value turned is =
         };
         value = turned now taken value pin within;
       };
-      fewest = λ other c. rw one (nonempty (changed now other) (other_value other c));
+      fewest = λ other c. rw one (nonempty (changed_pins now other) (other_value other c));
       least = λ other c same.
           rw one
-          (ComesNoLater-one (λ q. differs (get_or now q false) (get_or other q false)) pin (changed now other)
+          (ComesNoLater-one (λ q. differs (get_or now q false) (get_or other q false)) pin (changed_pins now other)
           (λ q differing. changed_free now free other pin q c.agrees within first.2 differing)
           (filter_passes (λ q. differs (get_or now q false) (get_or other q false)) (range_with_len 0 (length now)))
           (same ∙ ap length one));
@@ -181,13 +181,13 @@ none_free free none i =
     ]
 
 -- without a free pin the present values are the only list that agrees
-pub Agrees-none : (now free list : List Bool) → Agrees now free list → position (λ f. f) free ≡ None → length free ≡ length now → list ≡ now
-Agrees-none now free list agrees none long =
+pub AgreesAtFixedPins-none : (now free list : List Bool) → AgreesAtFixedPins now free list → position (λ f. f) free ≡ None → length free ≡ length now → list ≡ now
+AgreesAtFixedPins-none now free list agrees none long =
     ext_get_or false list now agrees.same_length
     (λ i within. agrees.kept i (omega (arith, agrees.same_length)) (none_free free none i))
 
 -- a pin that a pattern changes is free
-pub free-changed : (now free list : List Bool) (pin : ℕ) → Agrees now free list → pin < length now → (get_or list pin false ≡ get_or now pin false → ⊥) → get_or free pin false ≡ true
+pub free-changed : (now free list : List Bool) (pin : ℕ) → AgreesAtFixedPins now free list → pin < length now → (get_or list pin false ≡ get_or now pin false → ⊥) → get_or free pin false ≡ true
 free-changed now free list pin agrees within changes =
     elim (cases_Bool (get_or free pin false)) [
       | inl is_free ↦ is_free
@@ -195,9 +195,9 @@ free-changed now free list pin agrees within changes =
     ]
 
 -- what the change of the first free pin leaves is the pattern
-pub IsPattern-changed : (kind : Kind) (now free list : List Bool) (want : Bool) (found : Option ℕ) → IsTrue (takes kind (length now)) → length free ≡ length now → (gate_value kind now ≡ want → ⊥) → IsTurnedByAny kind want → (other : List Bool) → IsCandidate kind now free want other → position (λ f. f) free ≡ found → MatchOption found (list ≡ now) (λ pin. list ≡ set now pin (not (get_or now pin false))) → IsPattern kind now free want list
+pub IsPattern-changed : (kind : Kind) (now free list : List Bool) (want : Bool) (found : Option ℕ) → IsTrue (takes kind (length now)) → length free ≡ length now → (gate_value kind now ≡ want → ⊥) → IsSwitchedByAnyPin kind want → (other : List Bool) → IsCandidate kind now free want other → position (λ f. f) free ≡ found → MatchOption found (list ≡ now) (λ pin. list ≡ set now pin (not (get_or now pin false))) → IsPattern kind now free want list
 IsPattern-changed kind now free list want None taken long not_yet turned other c is e =
-    absurd (not_yet (ap (gate_value kind) (sym (Agrees-none now free other c.agrees is long)) ∙ c.value))
+    absurd (not_yet (ap (gate_value kind) (sym (AgreesAtFixedPins-none now free other c.agrees is long)) ∙ c.value))
 IsPattern-changed kind now free list want (Some pin) taken long not_yet turned other c is e =
     subst (λ l. IsPattern kind now free want l) (sym e)
     (IsPattern-first kind now free want pin taken long (other_bit (gate_value kind now) want not_yet) turned is)
@@ -299,8 +299,8 @@ pub same-IsPattern : (kind : Kind) (now free : List Bool) (want : Bool) (list ot
 same-IsPattern kind now free want list other p q =
     let there = p.fewest other q.candidate in
     let back = q.fewest list p.candidate in
-    let long : length (changed now other) ≡ length (changed now list) = omega arith in
-    let pins = same-ComesNoLater (changed now list) (changed now other) (p.least other q.candidate long) (q.least list p.candidate (sym long)) in
+    let long : length (changed_pins now other) ≡ length (changed_pins now list) = omega arith in
+    let pins = same-ComesNoLater (changed_pins now list) (changed_pins now other) (p.least other q.candidate long) (q.least list p.candidate (sym long)) in
     let list_long = p.candidate.agrees.same_length in
     let other_long = q.candidate.agrees.same_length in
     ext_get_or false list other (list_long ∙ sym other_long)

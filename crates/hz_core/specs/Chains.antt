@@ -5,9 +5,9 @@ use Rattle.std.specs.Str.{bytes_eq}
 use Rattle.hz_core.specs.declared.chains.Link.{Link}
 
 -- the number, counted from 1, of the last of the first so many places that pass; 0 if none does
-abbrev pub previous : (ℕ → Bool) → ℕ → ℕ
-previous test zero = zero
-previous test (suc place) = if test place then suc place else previous test place
+abbrev pub previous_passing : (ℕ → Bool) → ℕ → ℕ
+previous_passing test zero = zero
+previous_passing test (suc place) = if test place then suc place else previous_passing test place
 
 -- the hashes of entries
 abbrev pub hashes_of : List Link → List ℕ
@@ -22,13 +22,13 @@ unfoldable pub bucket : ℕ → ℕ → ℕ
 bucket count hash = bit_and hash (count - 1)
 
 -- the entry at a place has its hash in the bucket
-abbrev pub is_in : ℕ → List ℕ → ℕ → ℕ → Bool
-is_in count hashes chain place = bucket count (slice_index_or hashes place 0) == chain
+abbrev pub is_in_bucket : ℕ → List ℕ → ℕ → ℕ → Bool
+is_in_bucket count hashes chain place = bucket count (slice_index_or hashes place 0) == chain
 
 -- each of the first so many entries is linked to the one before it in its bucket
 abbrev pub AreLinkedTo : ℕ → List Link → ℕ → Type 0
 AreLinkedTo count links done =
-    (place : ℕ) (link : Link) → place < done → link ≡ slice_index_or links place link → link.before ≡ previous (is_in count (hashes_of links) (bucket count link.hash)) place
+    (place : ℕ) (link : Link) → place < done → link ≡ slice_index_or links place link → link.before ≡ previous_passing (is_in_bucket count (hashes_of links) (bucket count link.hash)) place
 
 -- each entry is
 abbrev pub AreLinked : ℕ → List Link → Type 0
@@ -37,11 +37,11 @@ AreLinked count links = AreLinkedTo count links (length links)
 -- the number is 0, or that of an entry which shares the bucket of the hash
 pub record IsOnChain (count : ℕ) (links : List Link) (hash number : ℕ) : Type 0 where
   pub inside : number ≤ length links
-  pub shares : (place : ℕ) → number ≡ suc place → is_in count (hashes_of links) (bucket count hash) place ≡ true
+  pub shares : (place : ℕ) → number ≡ suc place → is_in_bucket count (hashes_of links) (bucket count hash) place ≡ true
 
 -- the first so many entries are linked, and each bucket has the last of them
 pub record IsChainedTo (heads : List ℕ) (links : List Link) (done : ℕ) : Type 0 where
-  pub ends : (chain : ℕ) → chain < length heads → slice_index_or heads chain 0 ≡ previous (is_in (length heads) (hashes_of links) chain) done
+  pub ends : (chain : ℕ) → chain < length heads → slice_index_or heads chain 0 ≡ previous_passing (is_in_bucket (length heads) (hashes_of links) chain) done
   pub linked : AreLinkedTo (length heads) links done
   pub some : 0 < length links → 0 < length heads
 

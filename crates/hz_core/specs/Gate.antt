@@ -61,11 +61,11 @@ inverts Not = true
 inverts Buff = false
 
 -- the value of a connective
-abbrev pub value_of : Connective → List Bool → Bool
-value_of conjunction pins = every_pin pins
-value_of disjunction pins = some_pin pins
-value_of parity pins = odd_pins pins
-value_of copy pins = only_pin pins
+abbrev pub connective_value : Connective → List Bool → Bool
+connective_value conjunction pins = every_pin pins
+connective_value disjunction pins = some_pin pins
+connective_value parity pins = odd_pins pins
+connective_value copy pins = only_pin pins
 
 -- a bit, complemented if the first one is 1
 abbrev pub complemented_if : Bool → Bool → Bool
@@ -74,4 +74,4 @@ complemented_if true bit = not bit
 
 -- the gate function: the value of the kind's connective, complemented if the kind inverts
 abbrev pub gate_value : Kind → List Bool → Bool
-gate_value kind pins = complemented_if (inverts kind) (value_of (connective kind) pins)
+gate_value kind pins = complemented_if (inverts kind) (connective_value (connective kind) pins)

@@ -13,13 +13,13 @@
 -- gate_value kind bits: the gate function
 -- IsExtension kind values value: the ternary extension of the gate function, as a join over all refinements
 -- extension kind values: the same, as a function
--- Agrees now free list: a list agrees with the present bits at every pin that is not free
+-- AgreesAtFixedPins now free list: a list agrees with the present bits at every pin that is not free
 -- IsCandidate kind now free want list: it agrees, and the gate has the wanted value on it
--- changed now list: the pins at which it differs from the present bits
+-- changed_pins now list: the pins at which it differs from the present bits
 -- IsPattern kind now free want list: the canonical pattern, which is the candidate with the fewest changed pins
 -- HasOneBit kind value bit: all lists with this gate value have this bit at each pin
--- IsTurnedByAny kind value: any one pin, changed, gives the gate this value
--- IsReached kind value found: one of these two, which the answer tells
+-- IsSwitchedByAnyPin kind value: any one pin, changed, gives the gate this value
+-- HasBitOrSwitch kind value found: one of these two, which the answer tells
 -- Netlist: a circuit by its names, inputs, cuts, gates and outputs
 -- IsName name: 1 to 255 bytes that may stand in a name
 -- node_named netlist name: the node with this name
@@ -31,14 +31,14 @@
 -- with_input, with_cut, with_data, with_gate, with_pin, with_output: a circuit with one part more
 -- hash_of hashing name: the hash of a name
 -- AreLinked count links: each entry of a hash table is linked to the one before it in its bucket
--- netlist_of fields, HoldsCircuit fields: the circuit that the fields of the code's Circuit stand for
+-- netlist_of_fields fields, HoldsCircuit fields: the circuit that the fields of the code's Circuit stand for
 
 pub mod Ternary
 pub mod Gate
 pub mod Extension
 pub mod Kleene
 pub mod Pattern
-pub mod Reached
+pub mod BitOrSwitch
 pub mod NameHash
 pub mod Chains
 pub mod Netlist

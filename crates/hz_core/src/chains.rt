@@ -5,7 +5,7 @@
 //! entries; one is the sign that names were chosen to collide.
 ghost use Rattle.std.specs.Prelude.{◌≡◌, ◌+◌, ◌-◌, ◌<◌, ◌≤◌, ◌^◌, ◌++◌, ◌∷◌, [], length, map, replicate, IfOk, OnOk, OnErr, slice_get};
 ghost use Rattle.std.specs.List.{slice_index_or};
-ghost use Rattle.hz_core.specs.Chains.{bucket, hashes_of, previous, has_hash, AreLinked, IsOnChain, IsChainedTo};
+ghost use Rattle.hz_core.specs.Chains.{bucket, hashes_of, previous_passing, has_hash, AreLinked, IsOnChain, IsChainedTo};
 
 use crate::Memory;
 use std::alloc::Global;
@@ -118,7 +118,7 @@ impl Chains {
     /// The number of the last entry with this hash, counted from 1; 0 if there is none.
     #[inline]
     pub fn last(&self, hash: u32) -> u32
-        ensures { result ≡ previous (has_hash self.now hash) (length self.now) }
+        ensures { result ≡ previous_passing (has_hash self.now hash) (length self.now) }
     {
         if self.heads.is_empty() {
             return 0;
@@ -130,7 +130,7 @@ impl Chains {
     /// The number of the last entry before this one that has the same hash, counted from 1; 0 if there is none.
     pub fn earlier(&self, entry: usize) -> u32
         requires { entry < length self.now }
-        ensures { result ≡ previous (has_hash self.now (slice_index_or self.now entry 0)) entry }
+        ensures { result ≡ previous_passing (has_hash self.now (slice_index_or self.now entry 0)) entry }
     {
         let link = self.links[entry];
         seek(
@@ -185,7 +185,7 @@ fn bucket(count: usize, hash: u32) -> usize
 fn seek(count: usize, links: &[Link], hash: u32, from: u32) -> u32
     requires linked { AreLinked count links.now }
     requires on { IsOnChain count links.now hash from }
-    ensures { result ≡ previous (has_hash (hashes_of links.now) hash) from }
+    ensures { result ≡ previous_passing (has_hash (hashes_of links.now) hash) from }
 {
     let mut number = from;
     while number > 0 {

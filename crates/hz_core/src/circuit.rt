@@ -38,9 +38,9 @@ impl Model for Circuit {
 
     ghost Value = { Netlist };
 
-    ghost use Rattle.hz_core.specs.Inside.{netlist_of, HoldsCircuit};
+    ghost use Rattle.hz_core.specs.Inside.{netlist_of_fields, HoldsCircuit};
 
-    ghost view = { netlist_of };
+    ghost view = { netlist_of_fields };
 
     ghost invariant = { HoldsCircuit };
 }

@@ -3,7 +3,7 @@
 //! Anyone can calculate the plain hash, so whoever writes a netlist can choose names that share it. A keyed hash begins with a
 //! secret of its caller, and who does not know the secret can't choose such names.
 ghost use Rattle.std.specs.Prelude.{◌≡◌, None};
-ghost use Rattle.hz_core.specs.NameHash.{hash_of, plain_hash, keyed_hash, keyed_with};
+ghost use Rattle.hz_core.specs.NameHash.{hash_of, plain_hash, keyed_hash, hashing_with_key};
 
 use std::fmt;
 use std::fmt::{Debug, Formatter, Write};
@@ -25,7 +25,7 @@ impl NameHashing {
 
     /// SipHash over this key and the name. It takes a few times as long.
     pub fn keyed(key: &[u8]) -> NameHashing
-        ensures { result ≡ keyed_with key.now }
+        ensures { result ≡ hashing_with_key key.now }
     {
         let mut hasher = DefaultHasher::new();
         hasher.write(key);

@@ -14,7 +14,7 @@ use Rattle.hz_net.proofs.Sequences.{length-algorithm_a, AllBelow-closed, closed-
 use Rattle.hz_reach.specs.Order.{key_at}
 use Rattle.hz_cycle.specs.Pass.{IsFixed}
 use Rattle.hz_cycle.specs.Cycles.{AreOfChange}
-use Rattle.hz_cycle.proofs.Settled.{fixed-result}
+use Rattle.hz_cycle.proofs.SettledVariables.{fixed-result}
 
 -- a value above X is X
 above-unknown : (value : Tri) → IsTrue (is_below Unknown value) → value ≡ Unknown

@@ -5,18 +5,18 @@ use Rattle.std.specs.List.{range_with_len}
 use Rattle.std.proofs.lemmas.List.Sums.{sum_by-cons}
 use Rattle.hz_core.specs.declared.tri.Tri.{Tri}
 use Rattle.hz_net.specs.Network.{Driver}
-use Rattle.hz_gmw.specs.Recorded.{Recorded, flip_count}
+use Rattle.hz_gmw.specs.RunRecord.{RunRecord, flip_count}
 use Rattle.hz_reach.specs.Counts.{FlipsPerVariable, StepsAreNoMoreThanFlips}
 use Rattle.hz_reach.specs.Room.{Spends}
 use Rattle.hz_cycle.specs.Pass.{HasRoom, IsPass}
-use Rattle.hz_cycle.proofs.CycleFound.{two-enough}
+use Rattle.hz_cycle.proofs.CycleExists.{two-enough}
 
 pub twos : (first count : ℕ) → sum_by (λ (i : ℕ). 2) (range_with_len first count) ≡ 2 * count
 twos first zero = refl
 twos first (suc count) = omega (arith, sum_by-cons (λ (i : ℕ). 2) first (range_with_len (first + 1) count), twos (first + 1) count)
 
 -- room for two flips and steps for each variable is room for a pass
-pub room-twice : (net : List Driver) (ranks : List ℕ) (b : List Tri) (state : List Bool) (run : Recorded) → 2 * length net ≤ run.spare_flips → 2 * length net ≤ run.spare_steps → HasRoom net ranks b state run
+pub room-twice : (net : List Driver) (ranks : List ℕ) (b : List Tri) (state : List Bool) (run : RunRecord) → 2 * length net ≤ run.spare_flips → 2 * length net ≤ run.spare_steps → HasRoom net ranks b state run
 room-twice net ranks b state run flips steps = record {
   most = λ i. 2;
   enough = two-enough net ranks b state;
@@ -26,7 +26,7 @@ room-twice net ranks b state run flips steps = record {
 
 -- the first pass leaves the room for the second
 pub room-left :
-    (net : List Driver) (input : List Bool) (ranks : List ℕ) (b : List Tri) (begun state : List Bool) (made : List (List ℕ)) (before now : Recorded) →
+    (net : List Driver) (input : List Bool) (ranks : List ℕ) (b : List Tri) (begun state : List Bool) (made : List (List ℕ)) (before now : RunRecord) →
     FlipsPerVariable → StepsAreNoMoreThanFlips → IsPass net input ranks b begun made state → before.steps ≡ [] → now.steps ≡ before.steps ++ made →
     Spends before now → 4 * length net ≤ before.spare_flips → 4 * length net ≤ before.spare_steps → HasRoom net ranks b state now
 room-left net input ranks b begun state made before now per_variable no_more pass empty whole spent flips steps =

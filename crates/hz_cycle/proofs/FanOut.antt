@@ -9,8 +9,8 @@ use Rattle.hz_net.specs.Network.{Wire, wires_of, network_of, Source, driver_at, 
 use Rattle.hz_net.specs.Variables.{readers_from, fan_out_of}
 use Rattle.hz_net.proofs.Places.{length-network_of}
 use Rattle.hz_net.proofs.Wires.{IsWireFrom, IsWireFrom-driver_at, driver_at-IsWireFrom, Contains-fan_out_of, IsWireFrom-fan_out_of}
-use Rattle.hz_gmw.specs.Runs.{is_listed, RepeatsNone}
-use Rattle.hz_reach.proofs.PickedLemmas.{differs-true, true-differs}
+use Rattle.hz_gmw.specs.Runs.{is_listed, IsRepeatFree}
+use Rattle.hz_reach.proofs.FilteredRangeLemmas.{differs-true, true-differs}
 use Rattle.hz_cycle.specs.Marks.{with_fan_out}
 use Rattle.hz_cycle.proofs.Turn.{IsWithFanOut}
 
@@ -39,7 +39,7 @@ listed-above low (x ∷ list) i ascends there =
       | inr later ↦ omega (arith, listed-above (suc x) list i ascends.1 later, ascends.0)
     ]
 
-pub ascends-once : (low : ℕ) (list : List ℕ) → Ascends low list → RepeatsNone list
+pub ascends-once : (low : ℕ) (list : List ℕ) → Ascends low list → IsRepeatFree list
 ascends-once low [] ascends = tt
 ascends-once low (x ∷ list) ascends =
     (false_from_ne_true _ (λ there. omega (arith, listed-above (suc x) list x ascends.1 there)), ascends-once (suc x) list ascends.1)

@@ -16,37 +16,37 @@ use Rattle.hz_net.specs.Network.{Driver, Function, network_of, driver_at, bit_at
 use Rattle.hz_net.specs.Variables.{first_wire, at_wires}
 use Rattle.hz_net.specs.Passes.{IsUnknown}
 use Rattle.hz_net.proofs.Places.{driver_at-gate}
-use Rattle.hz_gmw.specs.Runs.{is_listed, flipped}
-use Rattle.hz_gmw.specs.Recorded.{Recorded, flip_count}
+use Rattle.hz_gmw.specs.Runs.{is_listed, state_after}
+use Rattle.hz_gmw.specs.RunRecord.{RunRecord, flip_count}
 use Rattle.hz_reach.specs.Counts.{FlipsAreChanges, StepsAreNoMoreThanFlips}
-use Rattle.hz_reach.specs.Order.{key_at, IsEarlier, AreByKey}
-use Rattle.hz_reach.specs.Room.{after, Spends}
-use Rattle.hz_reach.specs.Scratched.{Scratched}
+use Rattle.hz_reach.specs.Order.{key_at, IsEarlier, IsInKeyOrder}
+use Rattle.hz_reach.specs.Room.{with_step_if_any, Spends}
+use Rattle.hz_reach.specs.ScratchState.{ScratchState}
 use Rattle.hz_net.specs.Reads.{IsWired}
 use Rattle.hz_reach.specs.Spread.{changes_in}
-use Rattle.hz_reach.proofs.Listed.{listed-cases, listed-left, listed-right}
-use Rattle.hz_reach.proofs.PickedLemmas.{only-one, is-one}
-use Rattle.hz_reach.proofs.Places.{listed-at, listed-place}
+use Rattle.hz_reach.proofs.DistinctLists.{listed-cases, listed-left, listed-right}
+use Rattle.hz_reach.proofs.FilteredRangeLemmas.{only-one, is-one}
+use Rattle.hz_reach.proofs.ListPlaces.{listed-at, listed-place}
 use Rattle.hz_net.proofs.Wired.{is_gate_of, wired-network_of}
 use Rattle.hz_cycle.specs.Marks.{ArePatternWires, with_fan_out}
 use Rattle.hz_cycle.specs.Pass.{IsFixed, MayBegin, HasRoom, IsPassMade}
-use Rattle.hz_cycle.proofs.Settled.{gate-possible}
-use Rattle.hz_cycle.proofs.Earlier.{not-earlier, not-both}
+use Rattle.hz_cycle.proofs.SettledVariables.{gate-possible}
+use Rattle.hz_cycle.proofs.KeyOrder.{not-earlier, not-both}
 use Rattle.hz_cycle.proofs.FanOut.{marks-with-fan_out}
-use Rattle.hz_cycle.proofs.Few.{underway-few, underway-pass}
-use Rattle.hz_cycle.proofs.Goes.{goes-somewhere}
-use Rattle.hz_cycle.proofs.Had.{underway-same}
+use Rattle.hz_cycle.proofs.PassBounds.{underway-few, underway-pass}
+use Rattle.hz_cycle.proofs.WireTargets.{goes-somewhere}
+use Rattle.hz_cycle.proofs.TurnsTaken.{underway-same}
 use Rattle.hz_cycle.proofs.Turn.{also, IsNext, IsWithFanOut, turn_wires, turn_middle, pin-inside}
 use Rattle.hz_cycle.proofs.TurnKeeps.{also-itself, also-other}
 use Rattle.hz_cycle.proofs.TurnedStates.{underway-begin}
-use Rattle.hz_cycle.proofs.Underway.{IsUnderway, underway-after}
+use Rattle.hz_cycle.proofs.PassSteps.{IsUnderway, underway-after}
 
 -- the variables before a place of the order
 abbrev pub had_before : ℕ → List ℕ → ℕ → Bool
 had_before place list i = is_listed (take place list) i
 
 -- what a call of `make_pass` is given
-pub record IsPassAsked (netlist : Netlist) (ranks : List ℕ) (b : List Tri) (begun : List Bool) (first : Recorded) : Type 0 where
+pub record IsPassAsked (netlist : Netlist) (ranks : List ℕ) (b : List Tri) (begun : List Bool) (first : RunRecord) : Type 0 where
   pub circuit : IsCircuit netlist
   pub fixed : (input : List Bool) × IsFixed (network_of netlist) input b
   pub long : length ranks ≡ length (network_of netlist)
@@ -55,9 +55,9 @@ pub record IsPassAsked (netlist : Netlist) (ranks : List ℕ) (b : List Tri) (be
   pub room : HasRoom (network_of netlist) ranks b begun first
 
 -- after so many variables of the order
-pub record IsPassing (netlist : Netlist) (ranks : List ℕ) (b : List Tri) (begun : List Bool) (first : Recorded) (place : ℕ) (scratch : Scratched) (now : Recorded) : Type 0 where
+pub record IsPassing (netlist : Netlist) (ranks : List ℕ) (b : List Tri) (begun : List Bool) (first : RunRecord) (place : ℕ) (scratch : ScratchState) (now : RunRecord) : Type 0 where
   pub asked : IsPassAsked netlist ranks b begun first
-  pub sorted : AreByKey ranks scratch.sorted
+  pub sorted : IsInKeyOrder ranks scratch.sorted
   pub marked : scratch.marked ≡ []
   pub made : List (List ℕ)
   pub steps : now.steps ≡ first.steps ++ made
@@ -67,35 +67,35 @@ pub record IsPassing (netlist : Netlist) (ranks : List ℕ) (b : List Tri) (begu
       IsUnderway (network_of netlist) input ranks b begun (had_before place scratch.sorted) made scratch.state
 
 -- after the first step of a turn, when the variables of the second are marked
-pub record IsHalfTurned (netlist : Netlist) (gate : ℕ) (wires : List ℕ) (scratch : Scratched) (now : Recorded) (later : Scratched) (then : Recorded) (pair : List ℕ) : Type 0 where
+pub record IsHalfTurned (netlist : Netlist) (gate : ℕ) (wires : List ℕ) (scratch : ScratchState) (now : RunRecord) (later : ScratchState) (then : RunRecord) (pair : List ℕ) : Type 0 where
   pub sorted : later.sorted ≡ scratch.sorted
-  pub state : later.state ≡ flipped wires scratch.state
-  pub steps : then.steps ≡ after now.steps wires
+  pub state : later.state ≡ state_after wires scratch.state
+  pub steps : then.steps ≡ with_step_if_any now.steps wires
   pub spent : Spends now then
   pub pair_is : pair ≡ with_fan_out netlist later.state gate
 
 -- Room
 
-pub steps-after : (steps : List (List ℕ)) (flips : List ℕ) (before : List (List ℕ)) → after (before ++ steps) flips ≡ before ++ after steps flips
+pub steps-after : (steps : List (List ℕ)) (flips : List ℕ) (before : List (List ℕ)) → with_step_if_any (before ++ steps) flips ≡ before ++ with_step_if_any steps flips
 steps-after steps [] before = refl
 steps-after steps (i ∷ flips) before = append_assoc before steps ((i ∷ flips) ∷ [])
 
-pub flips-after : (steps : List (List ℕ)) (flips : List ℕ) → flip_count (after steps flips) ≡ flip_count steps + length flips
+pub flips-after : (steps : List (List ℕ)) (flips : List ℕ) → flip_count (with_step_if_any steps flips) ≡ flip_count steps + length flips
 flips-after steps [] = omega arith
 flips-after steps (i ∷ flips) = sum_by_push (λ (list : List ℕ). length list) steps (i ∷ flips)
 
 pub flips-append : (steps more : List (List ℕ)) → flip_count (steps ++ more) ≡ flip_count steps + flip_count more
 flips-append steps more = sum_by-append (λ (list : List ℕ). length list) steps more
 
-pub length-after : (steps : List (List ℕ)) (flips : List ℕ) → flips ≢ [] → length (after steps flips) ≡ length steps + 1
+pub length-after : (steps : List (List ℕ)) (flips : List ℕ) → flips ≢ [] → length (with_step_if_any steps flips) ≡ length steps + 1
 length-after steps [] some = absurd (some refl)
 length-after steps (i ∷ flips) some = length-append steps ((i ∷ flips) ∷ [])
 
-length-later : (steps : List (List ℕ)) (flips : List ℕ) → length steps ≤ length (after steps flips)
+length-later : (steps : List (List ℕ)) (flips : List ℕ) → length steps ≤ length (with_step_if_any steps flips)
 length-later steps [] = omega arith
 length-later steps (i ∷ flips) = omega (arith, length-append steps ((i ∷ flips) ∷ []))
 
-module _ {netlist : Netlist} {ranks : List ℕ} {b : List Tri} {begun : List Bool} {first : Recorded} {place : ℕ} {scratch : Scratched} {now : Recorded} (passing : IsPassing netlist ranks b begun first place scratch now) (inside : place < length scratch.sorted) where
+module _ {netlist : Netlist} {ranks : List ℕ} {b : List Tri} {begun : List Bool} {first : RunRecord} {place : ℕ} {scratch : ScratchState} {now : RunRecord} (passing : IsPassing netlist ranks b begun first place scratch now) (inside : place < length scratch.sorted) where
   abbrev net : List Driver
   net = network_of netlist
 
@@ -200,9 +200,9 @@ module _ {netlist : Netlist} {ranks : List ℕ} {b : List Tri} {begun : List Boo
       flip = marks-with-fan_out netlist middle var passing.asked.circuit is_gate.1
 
       abbrev made_after : List (List ℕ)
-      made_after = after (after passing.made (turn_wires scratch.state start pins marks.pattern)) flips
+      made_after = with_step_if_any (with_step_if_any passing.made (turn_wires scratch.state start pins marks.pattern)) flips
 
-      pub underway-turn : (input : List Bool) → IsFixed (network_of netlist) input b → IsUnderway (network_of netlist) input ranks b begun (also (had_before place scratch.sorted) (get_or scratch.sorted place 0)) made_after (flipped flips middle)
+      pub underway-turn : (input : List Bool) → IsFixed (network_of netlist) input b → IsUnderway (network_of netlist) input ranks b begun (also (had_before place scratch.sorted) (get_or scratch.sorted place 0)) made_after (state_after flips middle)
       underway-turn input fixed = underway-after wired fixed (passing.underway input fixed) next marks.canonical flip
 
       -- the flips of the turn fit into the room
@@ -229,7 +229,7 @@ module _ {netlist : Netlist} {ranks : List ℕ} {b : List Tri} {begun : List Boo
 
       flips-in-turn : flip_count made_after ≡ flip_count passing.made + length wires + length flips
       flips-in-turn =
-          flips-after (after passing.made (turn_wires scratch.state start pins marks.pattern)) flips
+          flips-after (with_step_if_any passing.made (turn_wires scratch.state start pins marks.pattern)) flips
           ∙ (ap (λ (n : ℕ). n + length flips) (flips-after passing.made (turn_wires scratch.state start pins marks.pattern))
           ∙ ap (λ (list : List ℕ). flip_count passing.made + length list + length flips) (sym same-wires))
 
@@ -241,7 +241,7 @@ module _ {netlist : Netlist} {ranks : List ℕ} {b : List Tri} {begun : List Boo
           omega (
             arith,
             turn-steps changes fewer,
-            length-later (after passing.made (turn_wires scratch.state start pins marks.pattern)) flips,
+            length-later (with_step_if_any passing.made (turn_wires scratch.state start pins marks.pattern)) flips,
             length-after passing.made (turn_wires scratch.state start pins marks.pattern) (λ none. some (same-wires ∙ none)),
             steps-so-far,
             passing.spent.steps,
@@ -249,18 +249,18 @@ module _ {netlist : Netlist} {ranks : List ℕ} {b : List Tri} {begun : List Boo
           )
 
       -- after the first step of the turn
-      module _ {later : Scratched} {then : Recorded} {pair : List ℕ} (half : IsHalfTurned netlist (get_or scratch.sorted place 0) wires scratch now later then pair) where
+      module _ {later : ScratchState} {then : RunRecord} {pair : List ℕ} (half : IsHalfTurned netlist (get_or scratch.sorted place 0) wires scratch now later then pair) where
         same-state : later.state ≡ middle
-        same-state = half.state ∙ ap (λ (list : List ℕ). flipped list scratch.state) same-wires
+        same-state = half.state ∙ ap (λ (list : List ℕ). state_after list scratch.state) same-wires
 
         same-flips : pair ≡ flips
         same-flips = half.pair_is ∙ ap (λ (s : List Bool). with_fan_out netlist s var) same-state
 
-        steps-then : then.steps ≡ first.steps ++ after passing.made (turn_wires scratch.state start pins marks.pattern)
+        steps-then : then.steps ≡ first.steps ++ with_step_if_any passing.made (turn_wires scratch.state start pins marks.pattern)
         steps-then =
             half.steps
-            ∙ (ap (λ (list : List (List ℕ)). after list wires) passing.steps
-            ∙ (steps-after passing.made wires first.steps ∙ ap (λ (list : List ℕ). first.steps ++ after passing.made list) same-wires))
+            ∙ (ap (λ (list : List (List ℕ)). with_step_if_any list wires) passing.steps
+            ∙ (steps-after passing.made wires first.steps ∙ ap (λ (list : List ℕ). first.steps ++ with_step_if_any passing.made list) same-wires))
 
         pub pair-flips : FlipsAreChanges → length pair ≤ then.spare_flips
         pair-flips changes =
@@ -282,9 +282,9 @@ module _ {netlist : Netlist} {ranks : List ℕ} {b : List Tri} {begun : List Boo
             omega (
               arith,
               turn-steps changes fewer,
-              length-after (after passing.made (turn_wires scratch.state start pins marks.pattern)) flips (λ none. cc),
+              length-after (with_step_if_any passing.made (turn_wires scratch.state start pins marks.pattern)) flips (λ none. cc),
               ap (length {A = List ℕ}) steps-then,
-              length-append first.steps (after passing.made (turn_wires scratch.state start pins marks.pattern)),
+              length-append first.steps (with_step_if_any passing.made (turn_wires scratch.state start pins marks.pattern)),
               steps-so-far,
               passing.spent.steps,
               half.spent.steps,
@@ -292,21 +292,21 @@ module _ {netlist : Netlist} {ranks : List ℕ} {b : List Tri} {begun : List Boo
             )
 
         -- after the second
-        pub passing-turn : {last : Scratched} {end : Recorded} → last.sorted ≡ later.sorted → last.marked ≡ [] → last.state ≡ flipped pair later.state → end.steps ≡ after then.steps pair → Spends then end → IsPassing netlist ranks b begun first (place + 1) last end
+        pub passing-turn : {last : ScratchState} {end : RunRecord} → last.sorted ≡ later.sorted → last.marked ≡ [] → last.state ≡ state_after pair later.state → end.steps ≡ with_step_if_any then.steps pair → Spends then end → IsPassing netlist ranks b begun first (place + 1) last end
         passing-turn {last} {end} last_sorted last_marked last_state end_steps end_spent =
             let order : last.sorted ≡ scratch.sorted = last_sorted ∙ half.sorted in
-            let here : last.state ≡ flipped flips middle =
-            last_state ∙ (ap (λ (list : List ℕ). flipped list later.state) same-flips ∙ ap (flipped flips) same-state) in
+            let here : last.state ≡ state_after flips middle =
+            last_state ∙ (ap (λ (list : List ℕ). state_after list later.state) same-flips ∙ ap (state_after flips) same-state) in
             record {
               asked = passing.asked;
-              sorted = subst (AreByKey ranks) (sym order) passing.sorted;
+              sorted = subst (IsInKeyOrder ranks) (sym order) passing.sorted;
               marked = last_marked;
               made = made_after;
               steps =
                   end_steps
-                  ∙ (ap (λ (list : List (List ℕ)). after list pair) steps-then
-                  ∙ (steps-after (after passing.made (turn_wires scratch.state start pins marks.pattern)) pair first.steps
-                  ∙ ap (λ (list : List ℕ). first.steps ++ after (after passing.made (turn_wires scratch.state start pins marks.pattern)) list) same-flips));
+                  ∙ (ap (λ (list : List (List ℕ)). with_step_if_any list pair) steps-then
+                  ∙ (steps-after (with_step_if_any passing.made (turn_wires scratch.state start pins marks.pattern)) pair first.steps
+                  ∙ ap (λ (list : List ℕ). first.steps ++ with_step_if_any (with_step_if_any passing.made (turn_wires scratch.state start pins marks.pattern)) list) same-flips));
               spent = record {
                 flips = omega (arith, passing.spent.flips, half.spent.flips, end_spent.flips);
                 steps = omega (arith, passing.spent.steps, half.spent.steps, end_spent.steps);
@@ -325,7 +325,7 @@ module _ {netlist : Netlist} {ranks : List ℕ} {b : List Tri} {begun : List Boo
 
 -- The beginning and the end.
 
-pub passing-begin : {netlist : Netlist} {ranks : List ℕ} {b : List Tri} {begun : List Bool} {first : Recorded} {scratch : Scratched} → IsPassAsked netlist ranks b begun first → AreByKey ranks scratch.sorted → scratch.marked ≡ [] → scratch.state ≡ begun → IsPassing netlist ranks b begun first 0 scratch first
+pub passing-begin : {netlist : Netlist} {ranks : List ℕ} {b : List Tri} {begun : List Bool} {first : RunRecord} {scratch : ScratchState} → IsPassAsked netlist ranks b begun first → IsInKeyOrder ranks scratch.sorted → scratch.marked ≡ [] → scratch.state ≡ begun → IsPassing netlist ranks b begun first 0 scratch first
 passing-begin {netlist} {ranks} {b} {begun} {first} {scratch} asked sorted marked state = record {
   asked = asked;
   sorted = sorted;
@@ -338,7 +338,7 @@ passing-begin {netlist} {ranks} {b} {begun} {first} {scratch} asked sorted marke
       (underway-same (wired-network_of netlist asked.circuit) fixed (record { same = λ gate kind start pins drives unsettled. refl }) (underway-begin asked.begins));
 }
 
-pub passing-end : {netlist : Netlist} {ranks : List ℕ} {b : List Tri} {begun : List Bool} {first : Recorded} {place : ℕ} {scratch : Scratched} {now : Recorded} → IsPassing netlist ranks b begun first place scratch now → length scratch.sorted ≤ place → IsPassMade (network_of netlist) ranks b begun first.steps now.steps scratch.state
+pub passing-end : {netlist : Netlist} {ranks : List ℕ} {b : List Tri} {begun : List Bool} {first : RunRecord} {place : ℕ} {scratch : ScratchState} {now : RunRecord} → IsPassing netlist ranks b begun first place scratch now → length scratch.sorted ≤ place → IsPassMade (network_of netlist) ranks b begun first.steps now.steps scratch.state
 passing-end {netlist} {ranks} {b} {begun} {first} {place} {scratch} {now} passing end = record {
   made = passing.made;
   whole = passing.steps;
@@ -361,6 +361,6 @@ pub driven-gate : (netlist : Netlist) (gate : ℕ) (kind : Kind) (start pins : �
 driven-gate netlist gate kind start pins circuit drives = (is_gate_of netlist circuit gate kind start pins drives).is_gate
 
 -- a state has a bit for each variable
-pub passing-long : {netlist : Netlist} {ranks : List ℕ} {b : List Tri} {begun : List Bool} {first : Recorded} {place : ℕ} {scratch : Scratched} {now : Recorded} → IsPassing netlist ranks b begun first place scratch now → length scratch.state ≡ length (network_of netlist)
+pub passing-long : {netlist : Netlist} {ranks : List ℕ} {b : List Tri} {begun : List Bool} {first : RunRecord} {place : ℕ} {scratch : ScratchState} {now : RunRecord} → IsPassing netlist ranks b begun first place scratch now → length scratch.state ≡ length (network_of netlist)
 passing-long {netlist} {ranks} {b} {begun} {first} {place} {scratch} passing =
     length-Refines scratch.state b (passing.underway passing.asked.fixed.0 passing.asked.fixed.1).inside.settled ∙ passing.asked.fixed.1.long

@@ -9,22 +9,22 @@ use Rattle.hz_core.specs.Ternary.{admits, is_below, AllBelow, Refines}
 use Rattle.hz_core.proofs.Refinements.{length-Refines, get_or-Refines, Refines-get_or, get_or-AllBelow, AllBelow-same, AllBelow-through}
 use Rattle.hz_net.specs.Network.{Driver, driver_at, bit_at, value_at, excitation, IsUnstable}
 use Rattle.hz_net.specs.Passes.{excitations, algorithm_b, IsKnown, IsUnknown, IsFirstRound, IsSettlingRound}
-use Rattle.hz_net.proofs.Excitations.{admits-driven, at-excitations}
+use Rattle.hz_net.proofs.Excitations.{admits-driver_value, at-excitations}
 use Rattle.hz_net.proofs.Sequences.{length-algorithm_b, AllBelow-algorithm_b}
-use Rattle.hz_gmw.specs.Runs.{is_listed, IsStep, IsRun, flipped, end_of}
+use Rattle.hz_gmw.specs.Runs.{is_listed, IsStep, IsRun, state_after, end_of}
 use Rattle.hz_gmw.proofs.CoverB.{length-end_of}
-use Rattle.hz_reach.specs.Order.{key_at, IsEarlier, AreByKey}
-use Rattle.hz_reach.specs.Room.{after}
+use Rattle.hz_reach.specs.Order.{key_at, IsEarlier, IsInKeyOrder}
+use Rattle.hz_reach.specs.Room.{with_step_if_any}
 use Rattle.hz_reach.specs.Spread.{changes_in}
-use Rattle.hz_reach.proofs.Places.{listed-at, listed-place}
-use Rattle.hz_reach.proofs.Rooms.{end_of-after}
-use Rattle.hz_cycle.specs.Rounds.{differing, IsOneRound, AreRoundsOf, IsSettling}
-use Rattle.hz_cycle.proofs.Settled.{either-value}
+use Rattle.hz_reach.proofs.ListPlaces.{listed-at, listed-place}
+use Rattle.hz_reach.proofs.SpreadRoom.{end_of-after}
+use Rattle.hz_cycle.specs.Rounds.{differing_variables, IsOneRound, AreRoundsOf, IsSettlingRun}
+use Rattle.hz_cycle.proofs.SettledVariables.{either-value}
 use Rattle.hz_cycle.proofs.FanOut.{Ascends, ascends-once, filtered-is, is-filtered, ascends-filter}
 use Rattle.hz_cycle.proofs.PassTurns.{had_before}
-use Rattle.hz_cycle.proofs.Steps.{listed, changes-after, listed-none, run-after, unchanged-end}
-use Rattle.hz_cycle.proofs.Turn.{flipped-listed, flipped-unlisted}
-use Rattle.hz_cycle.proofs.Underway.{turns}
+use Rattle.hz_cycle.proofs.StepLemmas.{listed, changes-after, listed-none, run-after, unchanged-end}
+use Rattle.hz_cycle.proofs.Turn.{state_after-listed, state_after-unlisted}
+use Rattle.hz_cycle.proofs.PassSteps.{turns}
 
 -- Values
 
@@ -136,7 +136,7 @@ module _ {net : List Driver} {input : List Bool} {a : List Tri} {when : List ℕ
   when-first : (i : ℕ) → key_at when i ≢ 0 → IsUnknown (value_at a i) × IsKnown (value_at b i) × IsFirstRound (algorithm_b net input a) i IsKnown (key_at when i)
   when-first i some = settling-first (algorithm_b net input a) i (value_at a i) (value_at b i) (key_at when i) (rounds.rounds.each i (when-inside i some)) some
 
-  module _ {order : List ℕ} {place : ℕ} {made : List (List ℕ)} {state : List Bool} (sorted : AreByKey when order) (settled : IsSettledTo net input b begun order place made state) where
+  module _ {order : List ℕ} {place : ℕ} {made : List (List ℕ)} {state : List Bool} (sorted : IsInKeyOrder when order) (settled : IsSettledTo net input b begun order place made state) where
     state-long : length state ≡ length net
     state-long = ap (length {A = Bool}) (sym settled.ends) ∙ (length-end_of begun made ∙ (length-Refines begun a rounds.refined ∙ rounds.long))
 
@@ -261,10 +261,10 @@ module _ {net : List Driver} {input : List Bool} {a : List Tri} {when : List ℕ
           omega (arith, less, ap (key_at when) same, group-round i there))
 
       abbrev flips : List ℕ
-      flips = differing b state (slice_range order place next)
+      flips = differing_variables b state (slice_range order place next)
 
       -- a variable of the round that has not its value is unstable
-      flips-unstable : (i : ℕ) → is_listed (differing b state (slice_range order place next)) i ≡ true → IsUnstable net input state i
+      flips-unstable : (i : ℕ) → is_listed (differing_variables b state (slice_range order place next)) i ≡ true → IsUnstable net input state i
       flips-unstable i there same =
           let is = filtered-is (λ var. not (admits (value_at b var) (bit_at state var))) (slice_range order place next) i there in
           let out : admits (value_at b i) (bit_at state i) ≡ false = not-admits _ is.1 in
@@ -276,7 +276,7 @@ module _ {net : List Driver} {input : List Bool} {a : List Tri} {when : List ℕ
           let equal : value_at b i ≡ value_at (algorithm_b net input a (suc before)) i = below-known _ _ known (result-below (suc before) i) in
           let excited : IsTrue (admits (value_at b i) (excitation net input state i)) =
           subst (λ (value : Tri). IsTrue (admits value (excitation net input state i))) (sym (equal ∙ at-excitations net input (algorithm_b net input a before) i inside))
-          (admits-driven input state (algorithm_b net input a before) (refines-before before here) (driver_at net i)) in
+          (admits-driver_value input state (algorithm_b net input a before) (refines-before before here) (driver_at net i)) in
           both_ways _ out (subst (λ (bit : Bool). IsTrue (admits (value_at b i) bit)) (sym same) excited)) first.2.there first.0
         where
           by_round : (round : ℕ) → key_at when i ≡ round → ((before : ℕ) → key_at when i ≡ suc before → ⊥) → IsKnown (value_at (algorithm_b net input a (key_at when i)) i) → IsUnknown (value_at a i) → ⊥
@@ -302,10 +302,10 @@ module _ {net : List Driver} {input : List Bool} {a : List Tri} {when : List ℕ
           number (inl less) first_key second_key here there = absurd (omega (arith, less, first_key, second_key))
           number (inr same) first_key second_key here there = omega (arith, same.1, here, there)
 
-      pub flips-step : differing b state (slice_range order place next) ≢ [] → IsStep net input state (differing b state (slice_range order place next))
+      pub flips-step : differing_variables b state (slice_range order place next) ≢ [] → IsStep net input state (differing_variables b state (slice_range order place next))
       flips-step some = record {
         some = some;
-        once = ascends-once 0 (differing b state (slice_range order place next)) (ascends-filter (λ var. not (admits (value_at b var) (bit_at state var))) 0 (slice_range order place next) group-ascends);
+        once = ascends-once 0 (differing_variables b state (slice_range order place next)) (ascends-filter (λ var. not (admits (value_at b var) (bit_at state var))) 0 (slice_range order place next) group-ascends);
         inside = λ i there.
             let is = filtered-is (λ var. not (admits (value_at b var) (bit_at state var))) (slice_range order place next) i there in
             omega (arith, when-inside i (group-some i is.0), rounds.long);
@@ -344,20 +344,20 @@ module _ {net : List Driver} {input : List Bool} {a : List Tri} {when : List ℕ
                 )
           ]
 
-      flips-group : (i : ℕ) → is_listed (differing b state (slice_range order place next)) i ≡ true → is_listed (slice_range order place next) i ≡ true
+      flips-group : (i : ℕ) → is_listed (differing_variables b state (slice_range order place next)) i ≡ true → is_listed (slice_range order place next) i ≡ true
       flips-group i there = (filtered-is (λ var. not (admits (value_at b var) (bit_at state var))) (slice_range order place next) i there).0
 
-      done-after : (i : ℕ) → had_before next order i ≡ true → IsTrue (admits (value_at b i) (bit_at (flipped (differing b state (slice_range order place next)) state) i))
+      done-after : (i : ℕ) → had_before next order i ≡ true → IsTrue (admits (value_at b i) (bit_at (state_after (differing_variables b state (slice_range order place next)) state) i))
       done-after i there =
-          elim (cases_Bool (is_listed (differing b state (slice_range order place next)) i)) [
+          elim (cases_Bool (is_listed (differing_variables b state (slice_range order place next)) i)) [
             | inl flips_it ↦ (
                 let is = filtered-is (λ var. not (admits (value_at b var) (bit_at state var))) (slice_range order place next) i flips_it in
                 subst (λ (bit : Bool). IsTrue (admits (value_at b i) bit))
-                (sym (flipped-listed (differing b state (slice_range order place next)) state i (omega (arith, when-inside i (group-some i is.0), rounds.long, state-long)) flips_it))
+                (sym (state_after-listed (differing_variables b state (slice_range order place next)) state i (omega (arith, when-inside i (group-some i is.0), rounds.long, state-long)) flips_it))
                 (other-admitted (value_at b i) (bit_at state i) (not-admits _ is.1))
                 )
             | inr stays ↦
-                subst (λ (bit : Bool). IsTrue (admits (value_at b i) bit)) (sym (flipped-unlisted (differing b state (slice_range order place next)) state i stays))
+                subst (λ (bit : Bool). IsTrue (admits (value_at b i) bit)) (sym (state_after-unlisted (differing_variables b state (slice_range order place next)) state i stays))
                 (elim (had-either i there) [
                   | inl before ↦ settled.done i before
                   | inr here ↦ elim (cases_Bool (admits (value_at b i) (bit_at state i))) [
@@ -367,17 +367,17 @@ module _ {net : List Driver} {input : List Bool} {a : List Tri} {when : List ℕ
                 ])
           ]
 
-      once-after : (i : ℕ) → changes_in (after made (differing b state (slice_range order place next))) i ≤ turns (had_before next order) i
+      once-after : (i : ℕ) → changes_in (with_step_if_any made (differing_variables b state (slice_range order place next))) i ≤ turns (had_before next order) i
       once-after i =
-          let more = changes-after made (differing b state (slice_range order place next)) i in
-          elim (cases_Bool (is_listed (differing b state (slice_range order place next)) i)) [
+          let more = changes-after made (differing_variables b state (slice_range order place next)) i in
+          elim (cases_Bool (is_listed (differing_variables b state (slice_range order place next)) i)) [
             | inl flips_it ↦ (
                 let zero : turns (had_before place order) i ≤ 0 = rw (group-new i (flips-group i flips_it)) (omega arith) in
-                let one_more : listed (differing b state (slice_range order place next)) i ≤ 1 = rw flips_it (omega arith) in
+                let one_more : listed (differing_variables b state (slice_range order place next)) i ≤ 1 = rw flips_it (omega arith) in
                 let now_there : 1 ≤ turns (had_before next order) i = rw (had-group i (flips-group i flips_it)) (omega arith) in
                 omega (arith, more, settled.once i, zero, one_more, now_there)
                 )
-            | inr stays ↦ omega (arith, more, listed-none (differing b state (slice_range order place next)) i stays, settled.once i, later i)
+            | inr stays ↦ omega (arith, more, listed-none (differing_variables b state (slice_range order place next)) i stays, settled.once i, later i)
           ]
         where
           later : (i : ℕ) → turns (had_before place order) i ≤ turns (had_before next order) i
@@ -387,11 +387,11 @@ module _ {net : List Driver} {input : List Bool} {a : List Tri} {when : List ℕ
           ]
 
       -- after the round
-      pub settled-after : IsSettledTo net input b begun order next (after made (differing b state (slice_range order place next))) (flipped (differing b state (slice_range order place next)) state)
+      pub settled-after : IsSettledTo net input b begun order next (with_step_if_any made (differing_variables b state (slice_range order place next))) (state_after (differing_variables b state (slice_range order place next)) state)
       settled-after = record {
-        run = run-after net input begun made (differing b state (slice_range order place next)) settled.run
-            (λ some. subst (λ (s : List Bool). IsStep net input s (differing b state (slice_range order place next))) (sym settled.ends) (flips-step some));
-        ends = end_of-after begun made (differing b state (slice_range order place next)) ∙ ap (flipped (differing b state (slice_range order place next))) settled.ends;
+        run = run-after net input begun made (differing_variables b state (slice_range order place next)) settled.run
+            (λ some. subst (λ (s : List Bool). IsStep net input s (differing_variables b state (slice_range order place next))) (sym settled.ends) (flips-step some));
+        ends = end_of-after begun made (differing_variables b state (slice_range order place next)) ∙ ap (state_after (differing_variables b state (slice_range order place next))) settled.ends;
         done = done-after;
         once = once-after;
       }
@@ -412,7 +412,7 @@ module _ {net : List Driver} {input : List Bool} {a : List Tri} {when : List ℕ
           greater (inr same) other = absurd (other (sym same.0))
 
     -- at the end of the order
-    pub settled-end : length order ≤ place → IsSettling net input when b begun made state
+    pub settled-end : length order ≤ place → IsSettlingRun net input when b begun made state
     settled-end end = record {
       run = settled.run;
       ends = settled.ends;

@@ -7,15 +7,15 @@ use Rattle.std.proofs.lemmas.List.Elements.{filter-append}
 use Rattle.hz_core.specs.declared.tri.Tri.{Tri}
 use Rattle.hz_core.specs.Ternary.{admits}
 use Rattle.hz_net.specs.Network.{Driver, bit_at, value_at}
-use Rattle.hz_gmw.specs.Runs.{is_listed, flipped}
-use Rattle.hz_gmw.specs.Recorded.{Recorded, flip_count}
-use Rattle.hz_gmw.proofs.Flips.{length-flipped}
+use Rattle.hz_gmw.specs.Runs.{is_listed, state_after}
+use Rattle.hz_gmw.specs.RunRecord.{RunRecord, flip_count}
+use Rattle.hz_gmw.proofs.Flips.{length-state_after}
 use Rattle.hz_reach.specs.Counts.{FlipsPerVariable, StepsAreNoMoreThanFlips}
-use Rattle.hz_reach.specs.Order.{key_at, IsEarlier, AreByKey}
-use Rattle.hz_reach.specs.Room.{after, Spends}
-use Rattle.hz_reach.specs.Scratched.{Scratched}
-use Rattle.hz_reach.proofs.Places.{listed-at, listed-place}
-use Rattle.hz_cycle.specs.Rounds.{differing, IsOneRound, AreRoundsOf, AreRoundsMade}
+use Rattle.hz_reach.specs.Order.{key_at, IsEarlier, IsInKeyOrder}
+use Rattle.hz_reach.specs.Room.{with_step_if_any, Spends}
+use Rattle.hz_reach.specs.ScratchState.{ScratchState}
+use Rattle.hz_reach.proofs.ListPlaces.{listed-at, listed-place}
+use Rattle.hz_cycle.specs.Rounds.{differing_variables, IsOneRound, AreRoundsOf, AreRoundsMade}
 use Rattle.hz_cycle.proofs.FanOut.{filtered-is}
 use Rattle.hz_cycle.proofs.PassTurns.{had_before, steps-after, flips-after, flips-append, length-after}
 use Rattle.hz_cycle.proofs.RoundSteps.{IsSettledTo, IsRoundStart, settled-begin, starts-begin, settled-after, starts-after, settled-end}
@@ -23,7 +23,7 @@ use Rattle.hz_cycle.proofs.RoundSteps.{IsSettledTo, IsRoundStart, settled-begin,
 -- One round is marked
 
 -- a variable of the order has a key
-pub order-inside : (keys order : List ℕ) (k : ℕ) → AreByKey keys order → k < length order → get_or order k 0 < length keys
+pub order-inside : (keys order : List ℕ) (k : ℕ) → IsInKeyOrder keys order → k < length order → get_or order k 0 < length keys
 order-inside keys order k sorted inside =
     let some : key_at keys (get_or order k 0) ≢ 0 = (sorted.keyed (get_or order k 0)).0 (listed-at order k inside) in
     elim (cases_lt (get_or order k 0) (length keys)) [
@@ -40,18 +40,18 @@ slice-more order from place above inside =
     ∙ (take_more (drop from order) (place - from) 0 (omega (arith, length-drop from order, above, inside))
     ∙ ap (λ (x : ℕ). take (place - from) (drop from order) ++ x ∷ []) (get_or-drop from order (place - from) 0 ∙ ap (λ (n : ℕ). get_or order n 0) here))
 
-pub differing-more : (b : List Tri) (state : List Bool) (list : List ℕ) (var : ℕ) → admits (value_at b var) (bit_at state var) ≡ false → differing b state (list ++ var ∷ []) ≡ differing b state list ++ var ∷ []
+pub differing-more : (b : List Tri) (state : List Bool) (list : List ℕ) (var : ℕ) → admits (value_at b var) (bit_at state var) ≡ false → differing_variables b state (list ++ var ∷ []) ≡ differing_variables b state list ++ var ∷ []
 differing-more b state list var lacks =
     filter-append (λ v. not (admits (value_at b v) (bit_at state v))) list (var ∷ [])
-    ∙ ap (λ (bit : Bool). differing b state list ++ cond (not bit) (var ∷ []) []) lacks
+    ∙ ap (λ (bit : Bool). differing_variables b state list ++ cond (not bit) (var ∷ []) []) lacks
 
-pub differing-skip : (b : List Tri) (state : List Bool) (list : List ℕ) (var : ℕ) → admits (value_at b var) (bit_at state var) ≡ true → differing b state (list ++ var ∷ []) ≡ differing b state list
+pub differing-skip : (b : List Tri) (state : List Bool) (list : List ℕ) (var : ℕ) → admits (value_at b var) (bit_at state var) ≡ true → differing_variables b state (list ++ var ∷ []) ≡ differing_variables b state list
 differing-skip b state list var has =
     filter-append (λ v. not (admits (value_at b v) (bit_at state v))) list (var ∷ [])
-    ∙ (ap (λ (bit : Bool). differing b state list ++ cond (not bit) (var ∷ []) []) has ∙ append-nil (differing b state list))
+    ∙ (ap (λ (bit : Bool). differing_variables b state list ++ cond (not bit) (var ∷ []) []) has ∙ append-nil (differing_variables b state list))
 
 -- marks so far are less than the next variable of the round
-pub round-ascends : (keys order : List ℕ) (b : List Tri) (state : List Bool) (from place i : ℕ) → AreByKey keys order → place < length order → ((k : ℕ) → from ≤ k → k < place + 1 → key_at keys (get_or order k 0) ≡ key_at keys (get_or order from 0)) → is_listed (differing b state (slice_range order from place)) i ≡ true → i < get_or order place 0
+pub round-ascends : (keys order : List ℕ) (b : List Tri) (state : List Bool) (from place i : ℕ) → IsInKeyOrder keys order → place < length order → ((k : ℕ) → from ≤ k → k < place + 1 → key_at keys (get_or order k 0) ≡ key_at keys (get_or order from 0)) → is_listed (differing_variables b state (slice_range order from place)) i ≡ true → i < get_or order place 0
 round-ascends keys order b state from place i sorted inside same there =
     let listed = (filtered-is (λ v. not (admits (value_at b v) (bit_at state v))) (slice_range order from place) i there).0 in
     let at = listed-place (slice_range order from place) i listed in
@@ -66,14 +66,14 @@ round-ascends keys order b state from place i sorted inside same there =
 -- The rounds one after the other
 
 -- what a call of `settle_rounds` is given
-pub record AreRoundsAsked (when : List ℕ) (b : List Tri) (begun : List Bool) (first : Recorded) : Type 0 where
+pub record AreRoundsAsked (when : List ℕ) (b : List Tri) (begun : List Bool) (first : RunRecord) : Type 0 where
   pub rounds : (net : List Driver) × (input : List Bool) × (a : List Tri) × AreRoundsOf net input a when b begun
   pub flips : length when ≤ first.spare_flips
   pub steps : length when ≤ first.spare_steps
 
-pub record AreRoundsUnderway (when : List ℕ) (b : List Tri) (begun : List Bool) (first : Recorded) (place : ℕ) (scratch : Scratched) (now : Recorded) : Type 0 where
+pub record AreRoundsUnderway (when : List ℕ) (b : List Tri) (begun : List Bool) (first : RunRecord) (place : ℕ) (scratch : ScratchState) (now : RunRecord) : Type 0 where
   pub asked : AreRoundsAsked when b begun first
-  pub sorted : AreByKey when scratch.sorted
+  pub sorted : IsInKeyOrder when scratch.sorted
   pub marked : scratch.marked ≡ []
   pub long : length scratch.state ≡ length begun
   pub made : List (List ℕ)
@@ -84,7 +84,7 @@ pub record AreRoundsUnderway (when : List ℕ) (b : List Tri) (begun : List Bool
       (net : List Driver) (input : List Bool) (a : List Tri) → AreRoundsOf net input a when b begun →
       IsSettledTo net input b begun scratch.sorted place made scratch.state
 
-pub rounds-begin : {when : List ℕ} {b : List Tri} {begun : List Bool} {first : Recorded} {scratch : Scratched} → AreRoundsAsked when b begun first → AreByKey when scratch.sorted → scratch.marked ≡ [] → scratch.state ≡ begun → AreRoundsUnderway when b begun first 0 scratch first
+pub rounds-begin : {when : List ℕ} {b : List Tri} {begun : List Bool} {first : RunRecord} {scratch : ScratchState} → AreRoundsAsked when b begun first → IsInKeyOrder when scratch.sorted → scratch.marked ≡ [] → scratch.state ≡ begun → AreRoundsUnderway when b begun first 0 scratch first
 rounds-begin {when} {b} {begun} {first} {scratch} asked sorted marked state = record {
   asked = asked;
   sorted = sorted;
@@ -97,12 +97,12 @@ rounds-begin {when} {b} {begun} {first} {scratch} asked sorted marked state = re
   settled = λ net input a rounds. subst (IsSettledTo net input b begun scratch.sorted 0 []) (sym state) (settled-begin net input b begun scratch.sorted);
 }
 
-module _ {when : List ℕ} {b : List Tri} {begun : List Bool} {first : Recorded} {place : ℕ} {scratch : Scratched} {now : Recorded} (underway : AreRoundsUnderway when b begun first place scratch now) where
-  module _ {next : ℕ} {flips : List ℕ} (one : IsOneRound when scratch.sorted place next) (marks : flips ≡ differing b scratch.state (slice_range scratch.sorted place next)) where
+module _ {when : List ℕ} {b : List Tri} {begun : List Bool} {first : RunRecord} {place : ℕ} {scratch : ScratchState} {now : RunRecord} (underway : AreRoundsUnderway when b begun first place scratch now) where
+  module _ {next : ℕ} {flips : List ℕ} (one : IsOneRound when scratch.sorted place next) (marks : flips ≡ differing_variables b scratch.state (slice_range scratch.sorted place next)) where
     abbrev made_after : List (List ℕ)
-    made_after = after underway.made (differing b scratch.state (slice_range scratch.sorted place next))
+    made_after = with_step_if_any underway.made (differing_variables b scratch.state (slice_range scratch.sorted place next))
 
-    settled-next : (net : List Driver) (input : List Bool) (a : List Tri) → AreRoundsOf net input a when b begun → IsSettledTo net input b begun scratch.sorted next made_after (flipped (differing b scratch.state (slice_range scratch.sorted place next)) scratch.state)
+    settled-next : (net : List Driver) (input : List Bool) (a : List Tri) → AreRoundsOf net input a when b begun → IsSettledTo net input b begun scratch.sorted next made_after (state_after (differing_variables b scratch.state (slice_range scratch.sorted place next)) scratch.state)
     settled-next net input a rounds = settled-after rounds underway.sorted (underway.settled net input a rounds) one underway.starts
 
     few-flips : FlipsPerVariable → flip_count made_after ≤ length when
@@ -130,34 +130,34 @@ module _ {when : List ℕ} {b : List Tri} {begun : List Bool} {first : Recorded}
 
     pub round-flips : FlipsPerVariable → length flips ≤ now.spare_flips
     round-flips per_variable =
-        omega (arith, few-flips per_variable, flips-after underway.made (differing b scratch.state (slice_range scratch.sorted place next)), ap (length {A = ℕ}) marks, flips-so-far, underway.spent.flips, underway.asked.flips)
+        omega (arith, few-flips per_variable, flips-after underway.made (differing_variables b scratch.state (slice_range scratch.sorted place next)), ap (length {A = ℕ}) marks, flips-so-far, underway.spent.flips, underway.asked.flips)
 
     pub round-steps : FlipsPerVariable → StepsAreNoMoreThanFlips → flips ≢ [] → 1 ≤ now.spare_steps
     round-steps per_variable no_more some =
         omega (
           arith,
           few-steps per_variable no_more,
-          length-after underway.made (differing b scratch.state (slice_range scratch.sorted place next)) (λ none. some (marks ∙ none)),
+          length-after underway.made (differing_variables b scratch.state (slice_range scratch.sorted place next)) (λ none. some (marks ∙ none)),
           steps-so-far,
           underway.spent.steps,
           underway.asked.steps,
         )
 
-    pub rounds-next : {last : Scratched} {end : Recorded} → last.sorted ≡ scratch.sorted → last.marked ≡ [] → last.state ≡ flipped flips scratch.state → end.steps ≡ after now.steps flips → Spends now end → AreRoundsUnderway when b begun first next last end
+    pub rounds-next : {last : ScratchState} {end : RunRecord} → last.sorted ≡ scratch.sorted → last.marked ≡ [] → last.state ≡ state_after flips scratch.state → end.steps ≡ with_step_if_any now.steps flips → Spends now end → AreRoundsUnderway when b begun first next last end
     rounds-next {last} {end} sorted marked state steps spent =
-        let here : last.state ≡ flipped (differing b scratch.state (slice_range scratch.sorted place next)) scratch.state =
-        state ∙ ap (λ (list : List ℕ). flipped list scratch.state) marks in
+        let here : last.state ≡ state_after (differing_variables b scratch.state (slice_range scratch.sorted place next)) scratch.state =
+        state ∙ ap (λ (list : List ℕ). state_after list scratch.state) marks in
         let rounds = underway.asked.rounds in
         record {
           asked = underway.asked;
-          sorted = subst (AreByKey when) (sym sorted) underway.sorted;
+          sorted = subst (IsInKeyOrder when) (sym sorted) underway.sorted;
           marked = marked;
-          long = ap (length {A = Bool}) here ∙ (length-flipped (differing b scratch.state (slice_range scratch.sorted place next)) scratch.state ∙ underway.long);
+          long = ap (length {A = Bool}) here ∙ (length-state_after (differing_variables b scratch.state (slice_range scratch.sorted place next)) scratch.state ∙ underway.long);
           made = made_after;
           steps =
               steps
-              ∙ (ap (λ (list : List (List ℕ)). after list flips) underway.steps
-              ∙ (steps-after underway.made flips first.steps ∙ ap (λ (list : List ℕ). first.steps ++ after underway.made list) marks));
+              ∙ (ap (λ (list : List (List ℕ)). with_step_if_any list flips) underway.steps
+              ∙ (steps-after underway.made flips first.steps ∙ ap (λ (list : List ℕ). first.steps ++ with_step_if_any underway.made list) marks));
           spent = record { flips = omega (arith, underway.spent.flips, spent.flips); steps = omega (arith, underway.spent.steps, spent.steps) };
           starts = subst (λ (list : List ℕ). IsRoundStart when list next) (sym sorted) (starts-after rounds.3 underway.sorted (underway.settled rounds.0 rounds.1 rounds.2 rounds.3) one underway.starts);
           settled = λ net input a given.

@@ -12,20 +12,20 @@ use Rattle.hz_core.specs.Ternary.{is_unknown, Refines}
 use Rattle.hz_core.specs.Pattern.{differs, IsPattern}
 use Rattle.hz_core.proofs.Refinements.{length-Refines}
 use Rattle.hz_core.proofs.Patterns.{free-changed}
-use Rattle.hz_net.specs.Network.{Driver, Function, Source, driver_at, bit_at, value_at, driven, excitation, IsUnstable}
+use Rattle.hz_net.specs.Network.{Driver, Function, Source, driver_at, bit_at, value_at, driver_value, excitation, IsUnstable}
 use Rattle.hz_net.specs.Passes.{IsUnknown}
 use Rattle.hz_net.proofs.PartLemmas.{length-part, at-part}
-use Rattle.hz_gmw.specs.Runs.{is_listed, RepeatsNone, IsStep, flipped}
-use Rattle.hz_gmw.proofs.Flips.{length-flipped, at-flipped}
+use Rattle.hz_gmw.specs.Runs.{is_listed, IsRepeatFree, IsStep, state_after}
+use Rattle.hz_gmw.proofs.Flips.{length-state_after, at-state_after}
 use Rattle.hz_reach.specs.Order.{IsEarlier}
 use Rattle.hz_net.specs.Reads.{IsWireInto, IsWired}
 use Rattle.hz_reach.specs.Turn.{changed_wires}
-use Rattle.hz_reach.proofs.Parts.{driver-inside, same-part}
-use Rattle.hz_reach.proofs.PickedLemmas.{picked-is, is-picked, picked-once, differs-true, true-differs}
+use Rattle.hz_reach.proofs.StateParts.{driver-inside, same-part}
+use Rattle.hz_reach.proofs.FilteredRangeLemmas.{filtered_range-is, is-filtered_range, filtered_range-once, differs-true, true-differs}
 use Rattle.hz_cycle.specs.Pass.{IsFixed}
-use Rattle.hz_cycle.proofs.Settled.{unknown-is, refines-flipped, unknown-inside, wire-source}
-use Rattle.hz_cycle.proofs.Earlier.{earlier-or-not}
-use Rattle.hz_cycle.proofs.Inside.{IsInside}
+use Rattle.hz_cycle.proofs.SettledVariables.{unknown-is, refines-state_after, unknown-inside, wire-source}
+use Rattle.hz_cycle.proofs.KeyOrder.{earlier-or-not}
+use Rattle.hz_cycle.proofs.PassInvariant.{IsInside}
 
 -- Bits
 
@@ -40,15 +40,15 @@ not-itself false e = cc
 not-itself true e = cc
 
 -- the bit of a listed variable, and of one that is not listed
-pub flipped-listed : (flips : List ℕ) (state : List Bool) (i : ℕ) → i < length state → is_listed flips i ≡ true → bit_at (flipped flips state) i ≡ not (bit_at state i)
-flipped-listed flips state i inside there =
-    at-flipped flips state i inside ∙ ap (λ (b : Bool). cond b (not (bit_at state i)) (bit_at state i)) there
+pub state_after-listed : (flips : List ℕ) (state : List Bool) (i : ℕ) → i < length state → is_listed flips i ≡ true → bit_at (state_after flips state) i ≡ not (bit_at state i)
+state_after-listed flips state i inside there =
+    at-state_after flips state i inside ∙ ap (λ (b : Bool). cond b (not (bit_at state i)) (bit_at state i)) there
 
-pub flipped-unlisted : (flips : List ℕ) (state : List Bool) (i : ℕ) → is_listed flips i ≡ false → bit_at (flipped flips state) i ≡ bit_at state i
-flipped-unlisted flips state i out =
+pub state_after-unlisted : (flips : List ℕ) (state : List Bool) (i : ℕ) → is_listed flips i ≡ false → bit_at (state_after flips state) i ≡ bit_at state i
+state_after-unlisted flips state i out =
     elim (cases_lt i (length state)) [
-      | inl inside ↦ at-flipped flips state i inside ∙ ap (λ (b : Bool). cond b (not (bit_at state i)) (bit_at state i)) out
-      | inr past ↦ get_or_past (flipped flips state) i false (omega (arith, past, length-flipped flips state)) ∙ sym (get_or_past state i false past)
+      | inl inside ↦ at-state_after flips state i inside ∙ ap (λ (b : Bool). cond b (not (bit_at state i)) (bit_at state i)) out
+      | inr past ↦ get_or_past (state_after flips state) i false (omega (arith, past, length-state_after flips state)) ∙ sym (get_or_past state i false past)
     ]
 
 pub same-or-differ : (here there : Bool) → (here ≡ there) ⊎ (here ≢ there)
@@ -77,11 +77,11 @@ abbrev pub turn_wires : List Bool → ℕ → ℕ → List Bool → List ℕ
 turn_wires state first pins pattern = changed_wires first (slice_range state first (first + pins)) pattern
 
 abbrev pub turn_middle : List Bool → ℕ → ℕ → List Bool → List Bool
-turn_middle state first pins pattern = flipped (turn_wires state first pins pattern) state
+turn_middle state first pins pattern = state_after (turn_wires state first pins pattern) state
 
 -- a gate, and the wires of its fan-out that differ from it
 pub record IsWithFanOut (net : List Driver) (state : List Bool) (gate : ℕ) (flips : List ℕ) : Type 0 where
-  pub once : RepeatsNone flips
+  pub once : IsRepeatFree flips
   pub itself : is_listed flips gate ≡ true
   pub others : (i : ℕ) → is_listed flips i ≡ true → (i ≡ gate) ⊎ ((driver_at net i ≡ Source gate) × (bit_at state i ≢ bit_at state gate))
   pub follows : (i : ℕ) → driver_at net i ≡ Source gate → bit_at state i ≢ bit_at state gate → is_listed flips i ≡ true
@@ -160,7 +160,7 @@ module _ {net : List Driver} {input : List Bool} {b : List Tri} {ranks : List �
 
     pub listed-pin : (i : ℕ) → is_listed wires i ≡ true → (pin : ℕ) × (pin < pins) × (i ≡ first + pin) × (bit_at pattern pin ≢ bit_at now pin)
     listed-pin i there =
-        let is = picked-is test first (length now) i there in
+        let is = filtered_range-is test first (length now) i there in
         let here : i ≡ first + is.place = is.is in
         let place : i - first ≡ is.place = omega (arith, here) in
         let differ : bit_at now (i - first) ≢ bit_at pattern (i - first) = differs-true _ _ is.passes in
@@ -169,7 +169,7 @@ module _ {net : List Driver} {input : List Bool} {b : List Tri} {ranks : List �
     pin-listed : (pin : ℕ) → pin < pins → bit_at pattern pin ≢ bit_at now pin → is_listed wires (first + pin) ≡ true
     pin-listed pin few differ =
         let place : first + pin - first ≡ pin = omega arith in
-        is-picked test first (length now) pin (omega (arith, few, now-long))
+        is-filtered_range test first (length now) pin (omega (arith, few, now-long))
         (subst (λ (n : ℕ). differs (bit_at now n) (bit_at pattern n) ≡ true) (sym place) (true-differs (bit_at now pin) (bit_at pattern pin) (λ same. differ (sym same))))
 
     pub wires-unsettled : (i : ℕ) → is_listed wires i ≡ true → IsUnknown (value_at b i)
@@ -180,13 +180,13 @@ module _ {net : List Driver} {input : List Bool} {b : List Tri} {ranks : List �
     pub wires-step : wires ≢ [] → IsStep net input state wires
     wires-step some = record {
       some = some;
-      once = picked-once test first (length (slice_range state first (first + pins)));
+      once = filtered_range-once test first (length (slice_range state first (first + pins)));
       inside = λ i there. unknown-inside fixed i (wires-unsettled i there);
       unstable = λ i there.
           let is = listed-pin i there in
           let drives = from is.0 is.1 in
           let unknown = changed-unknown is.0 is.1 is.3 in
-          let excited : excitation net input state (first + is.0) ≡ bit_at state drives.0 = ap (driven input state) drives.1 in
+          let excited : excitation net input state (first + is.0) ≡ bit_at state drives.0 = ap (driver_value input state) drives.1 in
           subst (λ (n : ℕ). IsUnstable net input state n) (sym is.2) (λ same. pin-differs is.0 drives.0 is.1 drives.1 unknown (same ∙ excited));
     }
 
@@ -198,29 +198,29 @@ module _ {net : List Driver} {input : List Bool} {b : List Tri} {ranks : List �
     set-pin pin few =
         elim (same-or-differ (bit_at pattern pin) (bit_at now pin)) [
           | inl same ↦
-              flipped-unlisted wires state (first + pin) (false_from_ne_true _ (λ there.
+              state_after-unlisted wires state (first + pin) (false_from_ne_true _ (λ there.
               let is = listed-pin (first + pin) there in
               let here : first + pin ≡ first + is.0 = is.2 in
               let place : is.0 ≡ pin = omega (arith, here) in
               is.3 (subst (λ (n : ℕ). bit_at pattern n ≡ bit_at now n) (sym place) same)))
               ∙ (sym (at-now pin few) ∙ sym same)
           | inr differ ↦
-              flipped-listed wires state (first + pin) (omega (arith, pin-inside pin few, long)) (pin-listed pin few differ)
+              state_after-listed wires state (first + pin) (omega (arith, pin-inside pin few, long)) (pin-listed pin few differ)
               ∙ (ap not (sym (at-now pin few)) ∙ sym (other-bit _ _ differ))
         ]
 
     pub kept-other : (i : ℕ) → ((pin : ℕ) → pin < pins → i ≢ first + pin) → bit_at middle i ≡ bit_at state i
-    kept-other i none = flipped-unlisted wires state i (false_from_ne_true _ (λ there. let is = listed-pin i there in none is.0 is.1 is.2))
+    kept-other i none = state_after-unlisted wires state i (false_from_ne_true _ (λ there. let is = listed-pin i there in none is.0 is.1 is.2))
 
     pub gate-kept : bit_at middle gate ≡ bit_at state gate
     gate-kept = kept-other gate (λ pin few here. no-pin gate pin here few next.drives)
 
     middle-long : length middle ≡ length net
-    middle-long = length-flipped wires state ∙ long
+    middle-long = length-state_after wires state ∙ long
 
     pub gate-excited : excitation net input middle gate ≡ not (bit_at state gate)
     gate-excited =
-        ap (driven input middle) next.drives
+        ap (driver_value input middle) next.drives
         ∙ (ap (gate_value kind) (same-part middle pattern first pins pattern-long (λ pin few. omega (arith, pin-inside pin few, middle-long)) set-pin)
         ∙ canonical.candidate.value)
 
@@ -243,33 +243,33 @@ module _ {net : List Driver} {input : List Bool} {b : List Tri} {ranks : List �
               let at_gate : bit_at middle gate ≡ excitation net input middle gate =
               subst (λ (n : ℕ). bit_at middle n ≡ excitation net input middle n) here same in
               not-itself (bit_at state gate) (sym gate-excited ∙ (sym at_gate ∙ gate-kept))
-          | inr wire ↦ wire.1 (same ∙ ap (driven input middle) wire.0)
+          | inr wire ↦ wire.1 (same ∙ ap (driver_value input middle) wire.0)
         ];
       }
 
       abbrev last : List Bool
-      last = flipped flips (turn_middle state first pins pattern)
+      last = state_after flips (turn_middle state first pins pattern)
 
       -- what the turn has made of the state
       pub after-turn : IsAfterTurn net gate first pins pattern state last
       after-turn = record {
-        long = length-flipped flips middle ∙ length-flipped wires state;
-        gate_turns = flipped-listed flips middle gate (omega (arith, unknown-inside fixed gate next.unsettled, middle-long)) flip.itself ∙ ap not gate-kept;
+        long = length-state_after flips middle ∙ length-state_after wires state;
+        gate_turns = state_after-listed flips middle gate (omega (arith, unknown-inside fixed gate next.unsettled, middle-long)) flip.itself ∙ ap not gate-kept;
         fan_out = λ wire drives.
             elim (same-or-differ (bit_at middle wire) (bit_at middle gate)) [
-              | inl same ↦ flipped-unlisted flips middle wire (false_from_ne_true _ (λ there. elim (flip.others wire there) [
+              | inl same ↦ state_after-unlisted flips middle wire (false_from_ne_true _ (λ there. elim (flip.others wire there) [
                 | inl here ↦ (let again : driver_at net wire ≡ Function kind first pins = ap (driver_at net) here ∙ next.drives in cc)
                 | inr differ ↦ differ.1 same
               ])) ∙ (same ∙ gate-kept)
               | inr differ ↦
-                  flipped-listed flips middle wire (omega (arith, driver-inside net wire gate drives, middle-long)) (flip.follows wire drives differ)
+                  state_after-listed flips middle wire (omega (arith, driver-inside net wire gate drives, middle-long)) (flip.follows wire drives differ)
                   ∙ (ap not (other-bit _ _ differ) ∙ (twice (bit_at middle gate) ∙ gate-kept))
             ];
-        pattern_set = λ pin few other. flipped-unlisted flips middle (first + pin) (false_from_ne_true _ (λ there. elim (flip.others (first + pin) there) [
+        pattern_set = λ pin few other. state_after-unlisted flips middle (first + pin) (false_from_ne_true _ (λ there. elim (flip.others (first + pin) there) [
           | inl here ↦ no-pin gate pin (sym here) few next.drives
           | inr wire ↦ other wire.0
         ])) ∙ set-pin pin few;
-        others = λ i away out none. flipped-unlisted flips middle i (false_from_ne_true _ (λ there. elim (flip.others i there) [
+        others = λ i away out none. state_after-unlisted flips middle i (false_from_ne_true _ (λ there. elim (flip.others i there) [
           | inl here ↦ away here
           | inr wire ↦ out wire.0
         ])) ∙ kept-other i none;
@@ -280,4 +280,4 @@ module _ {net : List Driver} {input : List Bool} {b : List Tri} {ranks : List �
           twice true = refl
 
       pub settled-after : Refines last b
-      settled-after = refines-flipped middle b flips (refines-flipped state b wires inside.settled wires-unsettled) flips-unsettled
+      settled-after = refines-state_after middle b flips (refines-state_after state b wires inside.settled wires-unsettled) flips-unsettled

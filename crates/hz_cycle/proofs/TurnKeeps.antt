@@ -13,9 +13,9 @@ use Rattle.hz_net.proofs.PartLemmas.{length-part, at-part}
 use Rattle.hz_reach.specs.Order.{IsEarlier}
 use Rattle.hz_net.specs.Reads.{IsWireInto, IsWired}
 use Rattle.hz_cycle.specs.Pass.{IsFixed}
-use Rattle.hz_cycle.proofs.Settled.{same-known, no-input, wire-source}
-use Rattle.hz_cycle.proofs.Earlier.{not-earlier, not-both}
-use Rattle.hz_cycle.proofs.Inside.{HasPatternInside, IsInside}
+use Rattle.hz_cycle.proofs.SettledVariables.{same-known, no-input, wire-source}
+use Rattle.hz_cycle.proofs.KeyOrder.{not-earlier, not-both}
+use Rattle.hz_cycle.proofs.PassInvariant.{HasPatternInside, IsInside}
 use Rattle.hz_cycle.proofs.Turn.{other-bit, not-itself, also, IsNext, IsAfterTurn, pin-inside, pin-differs}
 
 -- who has had a turn

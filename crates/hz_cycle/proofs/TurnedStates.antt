@@ -14,12 +14,12 @@ use Rattle.hz_reach.specs.Order.{IsEarlier}
 use Rattle.hz_net.specs.Reads.{IsWireInto, IsWired}
 use Rattle.hz_cycle.specs.Pass.{IsFixed, MayBegin}
 use Rattle.hz_cycle.specs.Turned.{IsShown, HasPattern, IsTurned}
-use Rattle.hz_cycle.proofs.Settled.{either-value, same-known, no-input, wire-source}
-use Rattle.hz_cycle.proofs.Earlier.{earlier-or-not}
-use Rattle.hz_cycle.proofs.Inside.{IsInside}
+use Rattle.hz_cycle.proofs.SettledVariables.{either-value, same-known, no-input, wire-source}
+use Rattle.hz_cycle.proofs.KeyOrder.{earlier-or-not}
+use Rattle.hz_cycle.proofs.PassInvariant.{IsInside}
 use Rattle.hz_cycle.proofs.Turn.{other-bit}
-use Rattle.hz_cycle.proofs.Underway.{IsUnderway}
-use Rattle.hz_cycle.proofs.Had.{source-gate}
+use Rattle.hz_cycle.proofs.PassSteps.{IsUnderway}
+use Rattle.hz_cycle.proofs.TurnsTaken.{source-gate}
 
 -- nobody has had a turn
 abbrev pub nobody : ℕ → Bool

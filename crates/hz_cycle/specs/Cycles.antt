@@ -7,7 +7,7 @@ use Rattle.hz_net.specs.Network.{Driver, network_of, bit_at, value_at, excitatio
 use Rattle.hz_net.specs.Passes.{algorithm_a, algorithm_b, IsKnown, IsUnknown, IsResult, AreRanks}
 use Rattle.hz_net.specs.Starts.{IsStableStart}
 use Rattle.hz_gmw.specs.Runs.{IsRun, end_of}
-use Rattle.hz_gmw.specs.Recorded.{flip_count}
+use Rattle.hz_gmw.specs.RunRecord.{flip_count}
 use Rattle.hz_gmw.specs.Cycles.{states_of, IsNontransient}
 
 -- The result of Algorithm B and the ranks of Algorithm A are those of some change: of a stable start under this input.

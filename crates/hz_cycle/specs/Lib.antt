@@ -11,7 +11,7 @@
 -- ArePatternWires netlist a state gate wires: the wires that change first in a gate's turn
 -- with_fan_out netlist state gate: the gate, and the wires from it that differ
 -- IsOneRound when order place next: the variables that settle in one round
--- IsSettling net input when b start steps state: a run that settles them round by round
+-- IsSettlingRun net input when b start steps state: a run that settles them round by round
 -- HasSettleRunAndCycle net input start a b: both runs exist for a change
 -- SettleRunsExist, RunsShowB: they always do, and where they do Algorithm B is exact
 -- BIsExact: the value of Algorithm B is the join over the outcome states

@@ -5,10 +5,10 @@ use Rattle.std.specs.List.{range_with_len}
 use Rattle.hz_core.specs.declared.tri.Tri.{Tri}
 use Rattle.hz_core.specs.declared.kind.Kind.{Kind}
 use Rattle.hz_core.specs.Ternary.{Refines}
-use Rattle.hz_net.specs.Network.{Driver, Function, Source, driver_at, bit_at, value_at, driven3}
+use Rattle.hz_net.specs.Network.{Driver, Function, Source, driver_at, bit_at, value_at, driver_value3}
 use Rattle.hz_net.specs.Passes.{IsKnown, IsUnknown}
 use Rattle.hz_gmw.specs.Runs.{IsRun, end_of}
-use Rattle.hz_gmw.specs.Recorded.{Recorded}
+use Rattle.hz_gmw.specs.RunRecord.{RunRecord}
 use Rattle.hz_gmw.specs.Cycles.{states_of}
 use Rattle.hz_reach.specs.Order.{IsEarlier}
 use Rattle.hz_net.specs.Reads.{IsWireInto}
@@ -18,7 +18,7 @@ use Rattle.hz_cycle.specs.Turned.{IsTurned}
 -- a ternary state that one round of Algorithm B leaves as it is
 pub record IsFixed (net : List Driver) (input : List Bool) (b : List Tri) : Type 0 where
   pub long : length b ≡ length net
-  pub same : (i : ℕ) → i < length net → value_at b i ≡ driven3 input b (driver_at net i)
+  pub same : (i : ℕ) → i < length net → value_at b i ≡ driver_value3 input b (driver_at net i)
 
 -- A state in which a pass may begin: each settled variable has its value, and an unsettled wire into an unsettled gate
 -- differs from its source if the source is not earlier.
@@ -42,7 +42,7 @@ pub record AreEnough (net : List Driver) (ranks : List ℕ) (b : List Tri) (stat
       IsUnknown (value_at b gate) → (IsEarlier ranks source gate → bit_at state wire ≢ bit_at state source) → 2 ≤ most wire
 
 -- a run has the room for a pass
-pub record HasRoom (net : List Driver) (ranks : List ℕ) (b : List Tri) (state : List Bool) (run : Recorded) : Type 0 where
+pub record HasRoom (net : List Driver) (ranks : List ℕ) (b : List Tri) (state : List Bool) (run : RunRecord) : Type 0 where
   pub most : ℕ → ℕ
   pub enough : AreEnough net ranks b state most
   pub flips : sum_by most (range_with_len 0 (length net)) ≤ run.spare_flips

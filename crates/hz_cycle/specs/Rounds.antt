@@ -10,8 +10,8 @@ use Rattle.hz_reach.specs.Order.{key_at}
 use Rattle.hz_reach.specs.Spread.{changes_in}
 
 -- of listed variables those whose bit is not that of their value
-abbrev pub differing : List Tri → List Bool → List ℕ → List ℕ
-differing b state list = filter (λ var. not (admits (value_at b var) (bit_at state var))) list
+abbrev pub differing_variables : List Tri → List Bool → List ℕ → List ℕ
+differing_variables b state list = filter (λ var. not (admits (value_at b var) (bit_at state var))) list
 
 -- The variables of one round: those of an order from a place up to another one, where the next round begins.
 pub record IsOneRound (when order : List ℕ) (place next : ℕ) : Type 0 where
@@ -30,7 +30,7 @@ pub record AreRoundsOf (net : List Driver) (input : List Bool) (a : List Tri) (w
 
 -- A run that settles what Algorithm B settles: its last state refines the result, and it changes each variable at most
 -- once, and only those with a settling round.
-pub record IsSettling (net : List Driver) (input : List Bool) (when : List ℕ) (b : List Tri) (begun : List Bool) (made : List (List ℕ)) (state : List Bool) : Type 0 where
+pub record IsSettlingRun (net : List Driver) (input : List Bool) (when : List ℕ) (b : List Tri) (begun : List Bool) (made : List (List ℕ)) (state : List Bool) : Type 0 where
   pub run : IsRun net input begun made
   pub ends : end_of begun made ≡ state
   pub values : Refines state b
@@ -43,4 +43,4 @@ pub record AreRoundsMade (when : List ℕ) (b : List Tri) (begun : List Bool) (b
   pub whole : after ≡ before ++ made
   pub settling :
       (net : List Driver) (input : List Bool) (a : List Tri) → AreRoundsOf net input a when b begun →
-      IsSettling net input when b begun made state
+      IsSettlingRun net input when b begun made state

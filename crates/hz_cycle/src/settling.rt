@@ -6,10 +6,10 @@ ghost use Rattle.hz_net.specs.Network.{Driver, network_of};
 ghost use Rattle.hz_net.specs.Passes.{algorithm_a, algorithm_b, IsResult, AreRanks, AreSettlingRounds};
 ghost use Rattle.hz_net.specs.Starts.{IsStableStart};
 ghost use Rattle.hz_gmw.specs.Runs.{end_of};
-ghost use Rattle.hz_reach.specs.Order.{AreByKey};
+ghost use Rattle.hz_reach.specs.Order.{IsInKeyOrder};
 ghost use Rattle.hz_reach.specs.Room.{Spends};
 ghost use Rattle.hz_cycle.specs.Cycles.{IsSettleRun};
-ghost use Rattle.hz_cycle.specs.Rounds.{differing, IsOneRound, AreRoundsOf, AreRoundsMade};
+ghost use Rattle.hz_cycle.specs.Rounds.{differing_variables, IsOneRound, AreRoundsOf, AreRoundsMade};
 ghost use Rattle.hz_cycle.specs.Turned.{IsTurned};
 
 use crate::passing::make_pass;
@@ -90,11 +90,11 @@ fn settle_rounds(when: &[u32], b: &[Tri], scratch: &mut Scratch, run: &mut Run)
 fn mark_round(when: &[u32], b: &[Tri], from: usize, scratch: &mut Scratch) -> usize
     requires when { length when.now ≡ length scratch.old.state }
     requires b { length b.now ≡ length scratch.old.state }
-    requires sorted { AreByKey when.now scratch.old.sorted }
+    requires sorted { IsInKeyOrder when.now scratch.old.sorted }
     requires from { from < length scratch.old.sorted }
     requires none_marked { scratch.old.marked ≡ [] }
     ensures round { IsOneRound when.now scratch.old.sorted from result }
-    ensures marked { scratch.new.marked ≡ differing b.now scratch.old.state (slice_range scratch.old.sorted from result) }
+    ensures marked { scratch.new.marked ≡ differing_variables b.now scratch.old.state (slice_range scratch.old.sorted from result) }
     ensures state { scratch.new.state ≡ scratch.old.state }
     ensures sorted { scratch.new.sorted ≡ scratch.old.sorted }
 {

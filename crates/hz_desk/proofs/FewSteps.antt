@@ -5,7 +5,7 @@ use Rattle.hz_core.specs.Ternary.{unknown_count}
 use Rattle.hz_net.specs.Network.{Driver}
 use Rattle.hz_net.proofs.Sequences.{unknown_count-le-length}
 use Rattle.hz_gmw.specs.Runs.{end_of}
-use Rattle.hz_gmw.specs.Recorded.{flip_count}
+use Rattle.hz_gmw.specs.RunRecord.{flip_count}
 use Rattle.hz_reach.specs.Spread.{IsSpreadRun}
 use Rattle.hz_reach.specs.Counts.{StepsAreNoMoreThanFlips, FlipsOfSpreadRun}
 use Rattle.hz_cycle.specs.Cycles.{IsSettleRun, IsCycleOf}

@@ -26,7 +26,7 @@ use Rattle.hz_desk.specs.Class.{IsClass}
 use Rattle.hz_desk.specs.Existence.{FindingsExist}
 use Rattle.hz_desk.specs.Finding.{FindingOf}
 use Rattle.hz_desk.specs.Filled.{FilledIsRight}
-use Rattle.hz_desk.specs.Passed.{ArePassed}
+use Rattle.hz_desk.specs.ResultsOfPasses.{ArePassResults}
 use Rattle.hz_desk.specs.Races.{race_count, cycle_states}
 use Rattle.hz_desk.specs.Rows.{MayBeRow, MayBeRows, AreRowsOf, changes_of}
 use Rattle.hz_desk.proofs.FewSteps.{are-runs}
@@ -85,7 +85,7 @@ exists result_a result_b few_a few_b ranks_exist settling_exist spread_exists se
     let b = result_b net input start a.0 begins.long a.1 in
     let ranks = ranks_exist (algorithm_a net input start) a.0 a.1 in
     let settling = settling_exist (algorithm_b net input a.0) a.0 b.0 b.1 in
-    let passed : ArePassed netlist input start a.0 ranks.0 b.0 settling.0 a.1.0 b.1.0 = record {
+    let passed : ArePassResults netlist input start a.0 ranks.0 b.0 settling.0 a.1.0 b.1.0 = record {
       a_rounds = a.1.1;
       a_result = a.1.2;
       a_bound = few_a net input start a.1.0 begins.long a.1.1;

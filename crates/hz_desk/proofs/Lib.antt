@@ -1,8 +1,8 @@
-pub mod Written
-pub mod Goes
+pub mod RowLoop
+pub mod RaceLoop
 pub mod BelowA
 pub mod FewSteps
 pub mod RowFacts
-pub mod Right
+pub mod RightFindings
 pub mod ClassTable
 pub mod FindingsExist

@@ -16,11 +16,11 @@ use Rattle.hz_word.specs.declared.count.Count.{Count}
 use Rattle.hz_word.specs.declared.count.Count.TheVariants.{Exact, Many}
 use Rattle.hz_word.specs.declared.word.Word.{Word}
 use Rattle.hz_word.specs.Word.{change_count}
-use Rattle.hz_word.specs.Capped.{capped, capped_count}
+use Rattle.hz_word.specs.Capped.{capped_word, capped_count}
 use Rattle.hz_free.specs.Chains.{IsFeedbackFree}
 use Rattle.hz_free.specs.FreePart.{AreMarks}
 use Rattle.hz_free.specs.VariableWords.{AreVariableWords, AreCappedWords}
-use Rattle.hz_desk.specs.Passed.{ArePassed}
+use Rattle.hz_desk.specs.ResultsOfPasses.{ArePassResults}
 use Rattle.hz_desk.specs.Rows.{changes_of, MayBeRows}
 use Rattle.hz_desk.proofs.BelowA.{below-result, below-first}
 
@@ -58,11 +58,11 @@ WordsChange =
     (1 ≤ change_count (get_or words i [])) ↔ (value_at result i ≡ Unknown)
 
 -- the results have a value for each variable
-pub long-a : (netlist : Netlist) (input start : List Bool) (a : List Tri) (ranks : List ℕ) (b : List Tri) (when : List ℕ) (rounds_a rounds_b : ℕ) → IsStableStart netlist start → ArePassed netlist input start a ranks b when rounds_a rounds_b → length a ≡ length (network_of netlist)
+pub long-a : (netlist : Netlist) (input start : List Bool) (a : List Tri) (ranks : List ℕ) (b : List Tri) (when : List ℕ) (rounds_a rounds_b : ℕ) → IsStableStart netlist start → ArePassResults netlist input start a ranks b when rounds_a rounds_b → length a ≡ length (network_of netlist)
 long-a netlist input start a ranks b when rounds_a rounds_b begins passed =
     ap length passed.a_result ∙ length-algorithm_a (network_of netlist) input start begins.long rounds_a
 
-pub long-b : (netlist : Netlist) (input start : List Bool) (a : List Tri) (ranks : List ℕ) (b : List Tri) (when : List ℕ) (rounds_a rounds_b : ℕ) → IsStableStart netlist start → ArePassed netlist input start a ranks b when rounds_a rounds_b → length b ≡ length (network_of netlist)
+pub long-b : (netlist : Netlist) (input start : List Bool) (a : List Tri) (ranks : List ℕ) (b : List Tri) (when : List ℕ) (rounds_a rounds_b : ℕ) → IsStableStart netlist start → ArePassResults netlist input start a ranks b when rounds_a rounds_b → length b ≡ length (network_of netlist)
 long-b netlist input start a ranks b when rounds_a rounds_b begins passed =
     ap length passed.b_result
     ∙ length-algorithm_b (network_of netlist) input a (long-a netlist input start a ranks b when rounds_a rounds_b begins passed) rounds_b
@@ -81,7 +81,7 @@ constant-known change netlist free input start most a rounds told i circuit whol
     unfed : bit_at free i ≡ true → ⊥
     unfed marked =
         let is_free : IsFeedbackFree (network_of netlist) i = (marks.exact i below).0 marked in
-        let told_is : get_or told i None ≡ Some (capped most word) = get_or_from_slice_get told i (Some (capped most word)) None (words.free i below is_free) in
+        let told_is : get_or told i None ≡ Some (capped_word most word) = get_or_from_slice_get told i (Some (capped_word most word)) None (words.free i below is_free) in
         let counted : Some (capped_count most (change_count word)) ≡ Some (Exact 0) = sym (ap changes_of told_is) ∙ counts in
         let none : change_count word ≡ 0 = none-counted (change_count word) (nat_le (change_count word) most) counted in
         let some : 1 ≤ change_count word =
@@ -96,7 +96,7 @@ constant-known change netlist free input start most a rounds told i circuit whol
         none-some (Exact 0) counted
 
 -- what is known of all variables
-pub may-be-rows : WordsChange → (netlist : Netlist) (free : List Bool) (input start : List Bool) (cap : ℕ) (a : List Tri) (ranks : List ℕ) (b : List Tri) (when : List ℕ) (rounds_a rounds_b : ℕ) (told : List (Option Word)) → IsCircuit netlist → IsWhole netlist → AreMarks (network_of netlist) free → IsStableStart netlist start → ArePassed netlist input start a ranks b when rounds_a rounds_b → AreCappedWords (network_of netlist) input start cap told → MayBeRows (length (network_of netlist)) start a b told
+pub may-be-rows : WordsChange → (netlist : Netlist) (free : List Bool) (input start : List Bool) (cap : ℕ) (a : List Tri) (ranks : List ℕ) (b : List Tri) (when : List ℕ) (rounds_a rounds_b : ℕ) (told : List (Option Word)) → IsCircuit netlist → IsWhole netlist → AreMarks (network_of netlist) free → IsStableStart netlist start → ArePassResults netlist input start a ranks b when rounds_a rounds_b → AreCappedWords (network_of netlist) input start cap told → MayBeRows (length (network_of netlist)) start a b told
 may-be-rows change netlist free input start cap a ranks b when rounds_a rounds_b told circuit whole marks begins passed words =
     let net = network_of netlist in
     let below : AllBelow b a = subst (λ (values : List Tri). AllBelow values a) (sym passed.b_result)

@@ -6,7 +6,7 @@ use Rattle.hz_core.specs.Ternary.{unknown_count}
 use Rattle.hz_net.specs.Network.{Driver, network_of}
 use Rattle.hz_net.specs.Starts.{IsStableStart}
 use Rattle.hz_gmw.specs.Runs.{end_of}
-use Rattle.hz_gmw.specs.Recorded.{flip_count}
+use Rattle.hz_gmw.specs.RunRecord.{flip_count}
 use Rattle.hz_gmw.specs.Cycles.{states_of}
 use Rattle.hz_reach.specs.Spread.{IsSpreadRun}
 use Rattle.hz_cycle.specs.Cycles.{IsSettleRun, IsCycleOf}
@@ -14,8 +14,8 @@ use Rattle.hz_word.specs.declared.word.Word.{Word}
 use Rattle.hz_free.specs.VariableWords.{AreCappedWords}
 use Rattle.hz_desk.specs.Finding.{FindingOf}
 use Rattle.hz_desk.specs.Races.{race_count, cycle_states}
-use Rattle.hz_desk.specs.Along.{IsShortRun}
-use Rattle.hz_desk.specs.Passed.{ArePassed}
+use Rattle.hz_desk.specs.RunProgress.{IsShortRun}
+use Rattle.hz_desk.specs.ResultsOfPasses.{ArePassResults}
 use Rattle.hz_desk.specs.Rows.{AreRowsOf}
 use Rattle.hz_desk.specs.RightFinding.{IsRightFinding}
 
@@ -45,7 +45,7 @@ pub record IsFilled (netlist : Netlist) (input start : List Bool) (cap : ℕ) (f
   pub ranks : List ℕ
   pub b : List Tri
   pub when : List ℕ
-  pub passed : ArePassed netlist input start a ranks b when finding.rounds_a finding.rounds_b
+  pub passed : ArePassResults netlist input start a ranks b when finding.rounds_a finding.rounds_b
   pub runs : AreRuns (network_of netlist) input start a b finding.spread finding.settle finding.cycle
   pub words : List (Option Word)
   pub are_words : AreCappedWords (network_of netlist) input start cap words

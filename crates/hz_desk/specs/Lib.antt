@@ -12,7 +12,7 @@
 -- IsFilled netlist input start cap finding: what the analysis leaves in it, which makes it right
 -- AreRuns net input start a b spread settle cycle: the three runs of a change
 -- AreRacesOf net input start spread settle cycle ..: their race states
--- ArePassed netlist input start a ranks b when rounds_a rounds_b: the results of both algorithms
+-- ArePassResults netlist input start a ranks b when rounds_a rounds_b: the results of both algorithms
 -- HavePassRoom, HasRunRoom, HasRooms, IsRoomFor: there is room for the analysis of every change
 -- DeskOf, LeavesDesk: what the code's Desk holds, and what it leaves behind
 -- IsAlong net input start steps number races state: how far the replayer has gone along a run
@@ -22,12 +22,12 @@ pub mod Races
 pub mod Finding
 pub mod RightFinding
 pub mod Rows
-pub mod Passed
+pub mod ResultsOfPasses
 pub mod Room
 pub mod RoomFor
 pub mod Desk
 pub mod Lent
 pub mod FindingRoom
-pub mod Along
+pub mod RunProgress
 pub mod Filled
 pub mod Existence

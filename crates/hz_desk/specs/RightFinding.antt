@@ -4,7 +4,7 @@ use Rattle.hz_core.specs.Ternary.{unknown_count, Refines}
 use Rattle.hz_net.specs.Network.{Driver, value_at}
 use Rattle.hz_net.specs.Passes.{algorithm_a, algorithm_b, AreRounds}
 use Rattle.hz_gmw.specs.Runs.{end_of, IsReachable, JoinsTo}
-use Rattle.hz_gmw.specs.Recorded.{flip_count}
+use Rattle.hz_gmw.specs.RunRecord.{flip_count}
 use Rattle.hz_gmw.specs.Cycles.{states_of, IsOutcome}
 use Rattle.hz_reach.specs.Spread.{IsSpreadRun}
 use Rattle.hz_cycle.specs.Cycles.{IsSettleRun, IsCycleOf}

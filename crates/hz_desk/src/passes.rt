@@ -2,7 +2,7 @@
 ghost use Rattle.std.specs.Prelude.{◌≡◌, ◌<◌, length, IfOk};
 ghost use Rattle.hz_net.specs.Network.{network_of};
 ghost use Rattle.hz_net.specs.Starts.{IsStableStart};
-ghost use Rattle.hz_desk.specs.Passed.{ArePassed, HavePassRoom};
+ghost use Rattle.hz_desk.specs.ResultsOfPasses.{ArePassResults, HavePassRoom};
 
 use hz_core::{Memory, Tri};
 use hz_net::Net;
@@ -52,7 +52,7 @@ impl Passes {
         requires start { IsStableStart net.now start.now }
         requires input { length input.now ≡ net.now.inputs }
         requires room { HavePassRoom net.now self.old }
-        ensures passed { ArePassed net.now input.now start.now self.new.a.items self.new.ranks.items self.new.b.items self.new.when.items result.a result.b }
+        ensures passed { ArePassResults net.now input.now start.now self.new.a.items self.new.ranks.items self.new.b.items self.new.when.items result.a result.b }
         ensures room { HavePassRoom net.now self.new }
     {
         make_both::<Brand>(
@@ -94,7 +94,7 @@ fn make_both<L: Ledger>(
     requires name { ledger.name ≡ L.name }
     requires parts { ledger.parts ≡ L.parts }
     requires some { 0 < ledger.parts }
-    ensures passed { ArePassed net.now input.now start.now a.new ranks.new b.new when.new result.a result.b }
+    ensures passed { ArePassResults net.now input.now start.now a.new ranks.new b.new when.new result.a result.b }
     ensures front { front.new ≡ front.old }
 {
     let (book, share) = ledger.open::<L>();

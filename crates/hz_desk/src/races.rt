@@ -4,7 +4,7 @@ ghost use Rattle.hz_net.specs.Network.{network_of};
 ghost use Rattle.hz_gmw.specs.Runs.{end_of};
 ghost use Rattle.hz_gmw.specs.Cycles.{states_of};
 ghost use Rattle.hz_desk.specs.Races.{is_race, race_count, states_before, cycle_states};
-ghost use Rattle.hz_desk.specs.Along.{IsShortRun};
+ghost use Rattle.hz_desk.specs.RunProgress.{IsShortRun};
 ghost use Rattle.hz_desk.specs.Filled.{AreRacesOf};
 
 use hz_gmw::{Replay, Run};

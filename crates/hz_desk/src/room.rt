@@ -7,7 +7,7 @@ ghost use Rattle.hz_desk.specs.RightFinding.{IsRightFinding};
 ghost use Rattle.hz_free.specs.FreePart.{IsFreePart};
 ghost use Rattle.hz_free.specs.VariableWords.{AreCappedWords};
 ghost use Rattle.hz_desk.specs.Rows.{AreRowsOf};
-ghost use Rattle.hz_desk.specs.Passed.{IsPassed};
+ghost use Rattle.hz_desk.specs.ResultsOfPasses.{HasPassResults};
 ghost use Rattle.hz_desk.specs.Filled.{FilledIsRight};
 ghost use Rattle.hz_desk.specs.RoomFor.{IsRoomFor};
 
@@ -125,7 +125,7 @@ fn fill_rows(
     requires input { length input.now ≡ net.now.inputs }
     requires cap_low { 1 ≤ cap }
     requires cap_high { cap ≤ 1000000 }
-    requires passed { IsPassed net.now input.now start.now passes.now }
+    requires passed { HasPassResults net.now input.now start.now passes.now }
     requires words { length words.old ≡ length (network_of net.now) }
     requires rows { length rows.old ≡ length (network_of net.now) }
     ensures words { AreCappedWords (network_of net.now) input.now start.now cap words.new }

@@ -5,7 +5,7 @@ ghost use Rattle.hz_net.specs.Passes.{algorithm_a, IsResult, AreRanks};
 ghost use Rattle.hz_net.specs.Starts.{IsStableStart};
 ghost use Rattle.hz_gmw.specs.Runs.{end_of};
 ghost use Rattle.hz_reach.specs.Spread.{IsSpreadRun};
-ghost use Rattle.hz_desk.specs.Passed.{IsPassed};
+ghost use Rattle.hz_desk.specs.ResultsOfPasses.{HasPassResults};
 ghost use Rattle.hz_desk.specs.Filled.{AreRuns};
 ghost use Rattle.hz_desk.specs.Room.{HasRunRoom, IsScratchFor};
 
@@ -29,7 +29,7 @@ pub(crate) fn make_runs(
 )
     requires start { IsStableStart net.now start.now }
     requires input { length input.now ≡ net.now.inputs }
-    requires passed { IsPassed net.now input.now start.now passes.now }
+    requires passed { HasPassResults net.now input.now start.now passes.now }
     requires scratch { IsScratchFor net.now scratch.old }
     requires spread { HasRunRoom (length (network_of net.now)) spread.old }
     requires settle { HasRunRoom (2 * length (network_of net.now)) settle.old }

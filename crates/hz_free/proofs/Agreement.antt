@@ -8,7 +8,7 @@ use Rattle.hz_core.specs.Ternary.{tri_of}
 use Rattle.hz_core.specs.Extension.{extension}
 use Rattle.hz_core.specs.Netlist.{Netlist, IsCircuit}
 use Rattle.hz_core.proofs.Extensions.{extension-map}
-use Rattle.hz_net.specs.Network.{Driver, External, Function, Source, network_of, driver_at, driven3, bit_at, value_at}
+use Rattle.hz_net.specs.Network.{Driver, External, Function, Source, network_of, driver_at, driver_value3, bit_at, value_at}
 use Rattle.hz_net.specs.Passes.{excitations, algorithm_b, AreRounds}
 use Rattle.hz_net.specs.Reads.{Reads}
 use Rattle.hz_net.proofs.Wired.{wired-network_of}
@@ -45,7 +45,7 @@ fixed-result net input first (suc round) long are =
 
 module _ (netlist : Netlist) (circuit : IsCircuit netlist) (input start : List Bool) (words : List (List Bool)) (are : AreVariableWords (network_of netlist) input start words) where
   module _ (b : List Tri) (fixed : IsFixed (network_of netlist) input b) where
-    ends-by : (i : ℕ) → i < length (network_of netlist) → (driver : Driver) → driver_at (network_of netlist) i ≡ driver → IsDrivenWord input start words i driver (get_or words i []) → ((j : ℕ) → Reads driver j → value_at b j ≡ tri_of (last_letter (get_or words j []))) → driven3 input b driver ≡ tri_of (last_letter (get_or words i []))
+    ends-by : (i : ℕ) → i < length (network_of netlist) → (driver : Driver) → driver_at (network_of netlist) i ≡ driver → IsDrivenWord input start words i driver (get_or words i []) → ((j : ℕ) → Reads driver j → value_at b j ≡ tri_of (last_letter (get_or words j []))) → driver_value3 input b driver ≡ tri_of (last_letter (get_or words i []))
     ends-by i few (External place) driven_by word_is reads =
         ap tri_of (sym (ap last_letter word_is ∙ input_word-last (bit_at start i) (bit_at input place)))
     ends-by i few (Source node) driven_by word_is reads = reads node refl ∙ ap (λ (w : List Bool). tri_of (last_letter w)) (sym word_is)

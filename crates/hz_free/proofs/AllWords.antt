@@ -8,15 +8,15 @@ use Rattle.hz_core.specs.Netlist.{Netlist}
 use Rattle.hz_net.specs.Network.{Driver, External, Function, Source, network_of, driver_at, bit_at}
 use Rattle.hz_net.specs.Reads.{Reads}
 use Rattle.hz_net.proofs.PartLemmas.{same-parts}
-use Rattle.hz_gmw.specs.Runs.{is_listed, RepeatsNone}
+use Rattle.hz_gmw.specs.Runs.{is_listed, IsRepeatFree}
 use Rattle.hz_word.specs.declared.word.Word.{Word}
 use Rattle.hz_word.specs.Word.{IsWord}
 use Rattle.hz_word.specs.Walk.{IsWordOf}
-use Rattle.hz_word.specs.Capped.{capped}
+use Rattle.hz_word.specs.Capped.{capped_word}
 use Rattle.hz_free.specs.Chains.{IsFeedbackFree}
 use Rattle.hz_free.specs.FreePart.{FreePart, IsFreePart, AreMarks}
 use Rattle.hz_free.specs.VariableWords.{IsDrivenWord, AreCappedWords}
-use Rattle.hz_free.specs.Told.{AreToldWords, IsReady, IsNextWord}
+use Rattle.hz_free.specs.CappedWords.{AreWordsSoFar, IsReady, IsNextWord}
 use Rattle.hz_free.proofs.Lists.{listed-cases, listed-left, listed-one, unlisted-before}
 use Rattle.hz_free.proofs.Kahn.{listed-push-same, listed-push-other, at-listed}
 
@@ -32,7 +32,7 @@ same-driven input start words words' i (Source node) word long same driven = dri
 pub record IsOrdered (netlist : Netlist) (part : FreePart) : Type 0 where
   pub marks : AreMarks (network_of netlist) part.free
   pub listed : (i : ℕ) → i < length (network_of netlist) → is_listed part.order i ≡ bit_at part.free i
-  pub once : RepeatsNone part.order
+  pub once : IsRepeatFree part.order
   pub inside : (i : ℕ) → is_listed part.order i ≡ true → i < length (network_of netlist)
   pub after : (at j : ℕ) → at < length part.order → Reads (driver_at (network_of netlist) (get_or part.order at 0)) j → is_listed (take at part.order) j ≡ true
 
@@ -57,7 +57,7 @@ module _ (netlist : Netlist) (input start : List Bool) (cap : ℕ) (part : FreeP
             (is.after place j few (subst (λ (m : ℕ). Reads (driver_at (network_of netlist) m) j) (listed-one i (get_or part.order place 0) here) reads)))
       ]
 
-  module _ (place : ℕ) (few : place < length part.order) (told : List (Option Word)) (words : List (List Bool)) (are : AreToldWords (network_of netlist) input start cap (take place part.order) told words) where
+  module _ (place : ℕ) (few : place < length part.order) (told : List (Option Word)) (words : List (List Bool)) (are : AreWordsSoFar (network_of netlist) input start cap (take place part.order) told words) where
     pub ready-words : IsReady (network_of netlist) input start cap told (get_or part.order place 0)
     ready-words = record {
       placed = take place part.order;
@@ -92,13 +92,13 @@ module _ (netlist : Netlist) (input start : List Bool) (cap : ℕ) (part : FreeP
             | inr now ↦ subst P (sym (listed-one i (get_or part.order place 0) now)) here
           ]
 
-      pub one-more : AreToldWords (network_of netlist) input start cap (take (place + 1) part.order) (set told (get_or part.order place 0) (Some (capped cap word))) (set words (get_or part.order place 0) word)
+      pub one-more : AreWordsSoFar (network_of netlist) input start cap (take (place + 1) part.order) (set told (get_or part.order place 0) (Some (capped_word cap word))) (set words (get_or part.order place 0) word)
       one-more =
           let below = var-below in
           let told_long = are.told_long in
           rw add-one (record {
             long = length-set words (get_or part.order place 0) word ∙ are.long;
-            told_long = length-set told (get_or part.order place 0) (Some (capped cap word)) ∙ are.told_long;
+            told_long = length-set told (get_or part.order place 0) (Some (capped_word cap word)) ∙ are.told_long;
             is_word = by-place (λ i. IsWord (get_or (set words (get_or part.order place 0) word) i []))
                 (subst (λ (w : List Bool). IsWord w) (sym new-word) is_word)
                 (λ i there. subst (λ (w : List Bool). IsWord w) (old-word i there) (are.is_word i there));
@@ -109,16 +109,16 @@ module _ (netlist : Netlist) (input start : List Bool) (cap : ℕ) (part : FreeP
                 (λ i there. subst (λ (w : List Bool). IsDrivenWord input start (set words (get_or part.order place 0) word) i (driver_at (network_of netlist) i) w) (old-word i there)
                 (same-driven input start words (set words (get_or part.order place 0) word) i (driver_at (network_of netlist) i) (get_or words i []) longer
                 (λ j reads. old-word j (reads-placed place i j (omega arith) there reads)) (are.driven i there)));
-            tells = by-place (λ i. get_or (set told (get_or part.order place 0) (Some (capped cap word))) i None ≡ Some (capped cap (get_or (set words (get_or part.order place 0) word) i [])))
+            tells = by-place (λ i. get_or (set told (get_or part.order place 0) (Some (capped_word cap word))) i None ≡ Some (capped_word cap (get_or (set words (get_or part.order place 0) word) i [])))
                 (let inside : get_or part.order place 0 < length told = omega arith in
-                rw get_or-set_same (ap (λ (w : List Bool). Some (capped cap w)) (sym new-word)))
+                rw get_or-set_same (ap (λ (w : List Bool). Some (capped_word cap w)) (sym new-word)))
                 (λ i there.
                 let ne : i ≢ get_or part.order place 0 = not-var i there in
-                rw get_or-set_other (are.tells i there ∙ ap (λ (w : List Bool). Some (capped cap w)) (old-word i there)));
+                rw get_or-set_other (are.tells i there ∙ ap (λ (w : List Bool). Some (capped_word cap w)) (old-word i there)));
             others = λ i out. later-none i out;
           })
         where
-          later-none : (i : ℕ) → is_listed (take (suc place) part.order) i ≡ false → get_or (set told (get_or part.order place 0) (Some (capped cap word))) i None ≡ None
+          later-none : (i : ℕ) → is_listed (take (suc place) part.order) i ≡ false → get_or (set told (get_or part.order place 0) (Some (capped_word cap word))) i None ≡ None
           later-none i out =
               let out' : is_listed (take place part.order ++ get_or part.order place 0 ∷ []) i ≡ false = subst (λ (list : List ℕ). is_listed list i ≡ false) (take-suc part.order place 0 few) out in
               elim (cases_eq i (get_or part.order place 0)) [
@@ -128,7 +128,7 @@ module _ (netlist : Netlist) (input start : List Bool) (cap : ℕ) (part : FreeP
               ]
 
   -- all
-  pub all-words : (told : List (Option Word)) (words : List (List Bool)) → AreToldWords (network_of netlist) input start cap part.order told words → AreCappedWords (network_of netlist) input start cap told
+  pub all-words : (told : List (Option Word)) (words : List (List Bool)) → AreWordsSoFar (network_of netlist) input start cap part.order told words → AreCappedWords (network_of netlist) input start cap told
   all-words told words are = record {
     words = words;
     are_words = record {
@@ -155,7 +155,7 @@ module _ (netlist : Netlist) (input start : List Bool) (cap : ℕ) (part : FreeP
           ]
 
 -- none yet
-pub no-words : (netlist : Netlist) (input start : List Bool) (cap : ℕ) (told : List (Option Word)) → length told ≡ length (network_of netlist) → ((i : ℕ) → get_or told i None ≡ None) → (words : List (List Bool)) × AreToldWords (network_of netlist) input start cap [] told words
+pub no-words : (netlist : Netlist) (input start : List Bool) (cap : ℕ) (told : List (Option Word)) → length told ≡ length (network_of netlist) → ((i : ℕ) → get_or told i None ≡ None) → (words : List (List Bool)) × AreWordsSoFar (network_of netlist) input start cap [] told words
 no-words netlist input start cap told long none = (
   replicate (length (network_of netlist)) [],
   record {
@@ -169,12 +169,12 @@ no-words netlist input start cap told long none = (
 )
 
 -- the next one, as the loop has it
-pub next-words : (netlist : Netlist) (input start : List Bool) (cap : ℕ) (part : FreePart) → IsOrdered netlist part → (place : ℕ) → place < length part.order → (told : List (Option Word)) → (words : List (List Bool)) × AreToldWords (network_of netlist) input start cap (take place part.order) told words → (var : ℕ) → var ≡ get_or part.order place 0 → (outcome : Word) → IsNextWord (network_of netlist) input start cap told var outcome → (words : List (List Bool)) × AreToldWords (network_of netlist) input start cap (take (place + 1) part.order) (set told var (Some outcome)) words
+pub next-words : (netlist : Netlist) (input start : List Bool) (cap : ℕ) (part : FreePart) → IsOrdered netlist part → (place : ℕ) → place < length part.order → (told : List (Option Word)) → (words : List (List Bool)) × AreWordsSoFar (network_of netlist) input start cap (take place part.order) told words → (var : ℕ) → var ≡ get_or part.order place 0 → (outcome : Word) → IsNextWord (network_of netlist) input start cap told var outcome → (words : List (List Bool)) × AreWordsSoFar (network_of netlist) input start cap (take (place + 1) part.order) (set told var (Some outcome)) words
 unfolding ready-words
 next-words netlist input start cap part is place few told (words, are) var at outcome is_next =
     let next = subst (λ (i : ℕ). IsNextWord (network_of netlist) input start cap told i outcome) at is_next (ready-words netlist input start cap part is place few told words are) in (
       set words (get_or part.order place 0) next.0,
-      subst (λ (i : ℕ). AreToldWords (network_of netlist) input start cap (take (place + 1) part.order) (set told i (Some outcome)) (set words (get_or part.order place 0) next.0)) (sym at)
-          (subst (λ (word : Word). AreToldWords (network_of netlist) input start cap (take (place + 1) part.order) (set told (get_or part.order place 0) (Some word)) (set words (get_or part.order place 0) next.0)) next.3
+      subst (λ (i : ℕ). AreWordsSoFar (network_of netlist) input start cap (take (place + 1) part.order) (set told i (Some outcome)) (set words (get_or part.order place 0) next.0)) (sym at)
+          (subst (λ (word : Word). AreWordsSoFar (network_of netlist) input start cap (take (place + 1) part.order) (set told (get_or part.order place 0) (Some word)) (set words (get_or part.order place 0) next.0)) next.3
           (one-more netlist input start cap part is place few told words are next.0 next.1 next.2)),
     )

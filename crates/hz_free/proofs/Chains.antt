@@ -6,7 +6,7 @@ use Rattle.hz_net.specs.Network.{Driver, External, Function, Source, driver_at}
 use Rattle.hz_net.specs.Reads.{Reads, IsWireInto, IsWired}
 use Rattle.hz_gmw.specs.Runs.{is_listed}
 use Rattle.hz_free.specs.Chains.{IsChain, IsFeedbackFree}
-use Rattle.hz_free.proofs.Lists.{repeats_none-bound}
+use Rattle.hz_free.proofs.Lists.{is_repeat_free-bound}
 use Rattle.hz_free.proofs.Kahn.{listed-push-same}
 use Rattle.std.proofs.lemmas.Bool.{cases_lt}
 use Rattle.std.proofs.lemmas.List.{get_or_past}
@@ -83,7 +83,7 @@ module _ (net : List Driver) (Goes : ℕ → Type 0) (inside : (i : ℕ) → Goe
   pub not-free : (i : ℕ) → Goes i → IsFeedbackFree net i → ⊥
   not-free i goes free =
       let long = long-chain (length net) i goes in
-      let bound = repeats_none-bound (i ∷ long.0) (length net) (free long.0 long.1) (λ j there.
+      let bound = is_repeat_free-bound (i ∷ long.0) (length net) (free long.0 long.1) (λ j there.
       elim (or_cases (eqb j i) (is_listed long.0 j) there) [
         | inl same ↦ subst (λ (m : ℕ). m < length net) (sym (eqb-true j i same)) (inside i goes)
         | inr later ↦ long.3 j later
@@ -121,7 +121,7 @@ module _ (net : List Driver) (wired : IsWired net) (P : ℕ → Type 0) (step : 
   free-short : (i : ℕ) → i < length net → IsFeedbackFree net i → IsShort (length net) i
   unfolding IsShort
   free-short i few free chain is_chain =
-      let bound = repeats_none-bound (i ∷ chain) (length net) (free chain is_chain) (λ j there.
+      let bound = is_repeat_free-bound (i ∷ chain) (length net) (free chain is_chain) (λ j there.
       elim (or_cases (eqb j i) (is_listed chain j) there) [
         | inl same ↦ subst (λ (m : ℕ). m < length net) (sym (eqb-true j i same)) few
         | inr later ↦ chain-inside i chain j is_chain later

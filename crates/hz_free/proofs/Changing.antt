@@ -12,7 +12,7 @@ use Rattle.hz_core.specs.Extension.{extension, IsValueOver}
 use Rattle.hz_core.specs.Netlist.{Netlist, IsCircuit, IsWhole}
 use Rattle.hz_core.proofs.Extensions.{IsExtension-extension, gate_value-known}
 use Rattle.hz_core.proofs.Refinements.{known-admits, admits-tri_of, get_or-Refines, length-Refines}
-use Rattle.hz_net.specs.Network.{Driver, External, Function, Source, network_of, driver_at, driven3, bit_at, value_at, IsStable}
+use Rattle.hz_net.specs.Network.{Driver, External, Function, Source, network_of, driver_at, driver_value3, bit_at, value_at, IsStable}
 use Rattle.hz_net.specs.Passes.{excitations, algorithm_a, AreRounds}
 use Rattle.hz_net.specs.Reads.{Reads}
 use Rattle.hz_net.proofs.Wired.{wired-network_of}
@@ -20,7 +20,7 @@ use Rattle.hz_net.proofs.Excitations.{length-excitations, at-excitations, at-joi
 use Rattle.hz_net.proofs.Sequences.{length-algorithm_a, start-refines, closed-result}
 use Rattle.hz_net.proofs.PartLemmas.{length-part, at-part}
 use Rattle.hz_word.specs.Word.{IsWord, AreWords, first_letter, change_count}
-use Rattle.hz_word.specs.Walk.{present_letters, after_move, IsWalk, change, walk_changes, IsWordOf}
+use Rattle.hz_word.specs.Walk.{current_letters, after_move, IsWalk, change_between, walk_changes, IsWordOf}
 use Rattle.hz_word.proofs.Longest.{takes-HasPins, part-IsWordOf}
 use Rattle.hz_word.proofs.Moves.{after_move-AreWords}
 use Rattle.hz_free.specs.Chains.{IsFeedbackFree}
@@ -76,13 +76,13 @@ known-not_unknown : (v : Bool) → tri_of v ≡ Unknown → ⊥
 known-not_unknown true e = cc
 known-not_unknown false e = cc
 
-change-zero : (a b : Bool) → change a b ≡ 0 → a ≡ b
+change-zero : (a b : Bool) → change_between a b ≡ 0 → a ≡ b
 change-zero true true e = refl
 change-zero true false e = absurd (omega arith)
 change-zero false true e = absurd (omega arith)
 change-zero false false e = refl
 
-change-one : (a b : Bool) → change a b ≤ 1
+change-one : (a b : Bool) → change_between a b ≤ 1
 change-one true true = omega arith
 change-one true false = omega arith
 change-one false true = omega arith
@@ -112,7 +112,7 @@ admits_all-alone [] v is_word none first = absurd is_word
 admits_all-alone (letter ∷ []) v is_word none first = (subst (λ (b : Bool). IsTrue (admits (tri_of v) b)) (sym first) (admits-tri_of v), tt)
 admits_all-alone (letter ∷ next ∷ rest) v is_word none first = absurd (omega arith)
 
-admit-present : (values : List Tri) (words : List (List Bool)) → AreWords words → AdmitWords values words → Refines (present_letters words) values
+admit-present : (values : List Tri) (words : List (List Bool)) → AreWords words → AdmitWords values words → Refines (current_letters words) values
 admit-present [] [] are_words admit = tt
 admit-present [] (word ∷ words) are_words admit = absurd admit
 admit-present (value ∷ values) [] are_words admit = absurd admit
@@ -138,11 +138,11 @@ walk-constant kind values v words (move ∷ moves) are_words admit same walk =
     let next_words = after_move-AreWords words move are_words walk.0.0 in
     let next_admit = admit-move values words move admit in
     let later = walk-constant kind values v (after_move words move) moves next_words next_admit same walk.1 in
-    let here : change (gate_value kind (present_letters words)) (gate_value kind (present_letters (after_move words move))) ≡ 0 =
-    rw (same (present_letters words) (admit-present values words are_words admit), same (present_letters (after_move words move)) (admit-present values (after_move words move) next_words next_admit)) (change-self v) in
+    let here : change_between (gate_value kind (current_letters words)) (gate_value kind (current_letters (after_move words move))) ≡ 0 =
+    rw (same (current_letters words) (admit-present values words are_words admit), same (current_letters (after_move words move)) (admit-present values (after_move words move) next_words next_admit)) (change-self v) in
     omega arith
   where
-    change-self : (b : Bool) → change b b ≡ 0
+    change-self : (b : Bool) → change_between b b ≡ 0
     change-self true = refl
     change-self false = refl
 
@@ -154,17 +154,17 @@ admit-each (value ∷ values) [] long each = absurd (omega arith)
 admit-each (value ∷ values) (word ∷ words) long each = (each 0 (omega arith), admit-each values words (omega arith) (λ k few. each (suc k) (omega arith)))
 
 -- letters that words without a change leave as they are can all be come to by one move
-one-move : (kind : Kind) (words : List (List Bool)) (word bits : List Bool) → AreWords words → IsTrue (takes kind (length words)) → IsWordOf kind words word → change_count word ≡ 0 → length bits ≡ length words → ((k : ℕ) → k < length words → change (get_or (present_letters words) k false) (get_or bits k false) ≤ change_count (get_or words k [])) → gate_value kind bits ≡ gate_value kind (present_letters words)
+one-move : (kind : Kind) (words : List (List Bool)) (word bits : List Bool) → AreWords words → IsTrue (takes kind (length words)) → IsWordOf kind words word → change_count word ≡ 0 → length bits ≡ length words → ((k : ℕ) → k < length words → change_between (get_or (current_letters words) k false) (get_or bits k false) ≤ change_count (get_or words k [])) → gate_value kind bits ≡ gate_value kind (current_letters words)
 one-move kind words word bits are_words takes_words is_word none long bounds =
-    let present_long : length (present_letters words) ≡ length words = length-map words first_letter in
-    elim (cases_Bool (some_pin (moved (present_letters words) bits))) [
-      | inr same ↦ ap (gate_value kind) (sym (moved-none (present_letters words) bits (present_long ∙ sym long) same))
+    let present_long : length (current_letters words) ≡ length words = length-map words first_letter in
+    elim (cases_Bool (some_pin (moved (current_letters words) bits))) [
+      | inr same ↦ ap (gate_value kind) (sym (moved-none (current_letters words) bits (present_long ∙ sym long) same))
       | inl some ↦
-          let may = move-may words (present_letters words) bits present_long long bounds in
-          let letters = move-letters words (present_letters words) bits are_words refl long may in
-          let bound = part-IsWordOf kind words are_words (takes-HasPins kind (length words) takes_words) word is_word (moved (present_letters words) bits ∷ []) ((may, some), tt) in
-          let zero_is : change (gate_value kind (present_letters words)) (gate_value kind (present_letters (after_move words (moved (present_letters words) bits)))) ≡ 0 = omega arith in
-          sym (change-zero (gate_value kind (present_letters words)) (gate_value kind (present_letters (after_move words (moved (present_letters words) bits)))) zero_is ∙ ap (gate_value kind) letters)
+          let may = move-may words (current_letters words) bits present_long long bounds in
+          let letters = move-letters words (current_letters words) bits are_words refl long may in
+          let bound = part-IsWordOf kind words are_words (takes-HasPins kind (length words) takes_words) word is_word (moved (current_letters words) bits ∷ []) ((may, some), tt) in
+          let zero_is : change_between (gate_value kind (current_letters words)) (gate_value kind (current_letters (after_move words (moved (current_letters words) bits)))) ≡ 0 = omega arith in
+          sym (change-zero (gate_value kind (current_letters words)) (gate_value kind (current_letters (after_move words (moved (current_letters words) bits)))) zero_is ∙ ap (gate_value kind) letters)
     ]
 
 input_word-same : (old new : Bool) → change_count (input_word old new) ≡ 0 → new ≡ old
@@ -188,13 +188,13 @@ module _ (netlist : Netlist) (circuit : IsCircuit netlist) (netlist_whole : IsWh
   begin-value : (i : ℕ) → i < length (network_of netlist) → value_at (algorithm_a (network_of netlist) input start 0) i ≡ tri_of (bit_at start i)
   begin-value i few = get_or-map tri_of start i false Zero (omega arith)
 
-  next-value : (round i : ℕ) → i < length (network_of netlist) → value_at (algorithm_a (network_of netlist) input start (suc round)) i ≡ join_of (value_at (algorithm_a (network_of netlist) input start round) i) (driven3 input (algorithm_a (network_of netlist) input start round) (driver_at (network_of netlist) i))
+  next-value : (round i : ℕ) → i < length (network_of netlist) → value_at (algorithm_a (network_of netlist) input start (suc round)) i ≡ join_of (value_at (algorithm_a (network_of netlist) input start round) i) (driver_value3 input (algorithm_a (network_of netlist) input start round) (driver_at (network_of netlist) i))
   next-value round i few =
       at-join_each (algorithm_a (network_of netlist) input start round) (excitations (network_of netlist) input (algorithm_a (network_of netlist) input start round))
       (length-algorithm_a (network_of netlist) input start whole round ∙ sym (length-excitations (network_of netlist) input (algorithm_a (network_of netlist) input start round))) i
       ∙ ap (join_of (value_at (algorithm_a (network_of netlist) input start round) i)) (at-excitations (network_of netlist) input (algorithm_a (network_of netlist) input start round) i few)
 
-  closed-value : (i : ℕ) → i < length (network_of netlist) → value_at (algorithm_a (network_of netlist) input start rounds) i ≡ join_of (value_at (algorithm_a (network_of netlist) input start rounds) i) (driven3 input (algorithm_a (network_of netlist) input start rounds) (driver_at (network_of netlist) i))
+  closed-value : (i : ℕ) → i < length (network_of netlist) → value_at (algorithm_a (network_of netlist) input start rounds) i ≡ join_of (value_at (algorithm_a (network_of netlist) input start rounds) i) (driver_value3 input (algorithm_a (network_of netlist) input start rounds) (driver_at (network_of netlist) i))
   closed-value i few =
       let closed = closed-result (network_of netlist) input start rounds whole are_rounds in
       ap (λ (values : List Tri). value_at values i) closed.same
@@ -206,7 +206,7 @@ module _ (netlist : Netlist) (circuit : IsCircuit netlist) (netlist_whole : IsWh
   start-admitted i = get_or-Refines start (algorithm_a (network_of netlist) input start rounds) (start-refines (network_of netlist) input start whole rounds) i
 
   -- a variable whose excitation is its start in all rounds keeps its start
-  stays : (i : ℕ) → i < length (network_of netlist) → ((round : ℕ) → driven3 input (algorithm_a (network_of netlist) input start round) (driver_at (network_of netlist) i) ≡ tri_of (bit_at start i)) → (round : ℕ) → value_at (algorithm_a (network_of netlist) input start round) i ≡ tri_of (bit_at start i)
+  stays : (i : ℕ) → i < length (network_of netlist) → ((round : ℕ) → driver_value3 input (algorithm_a (network_of netlist) input start round) (driver_at (network_of netlist) i) ≡ tri_of (bit_at start i)) → (round : ℕ) → value_at (algorithm_a (network_of netlist) input start round) i ≡ tri_of (bit_at start i)
   stays i few asked zero = begin-value i few
   stays i few asked (suc round) =
       let before = stays i few asked round in
@@ -219,10 +219,10 @@ module _ (netlist : Netlist) (circuit : IsCircuit netlist) (netlist_whole : IsWh
   record-input i place few driven_by word_is = record {
     still = λ none.
         let same = input_word-same (bit_at start i) (bit_at input place) (sym (ap change_count word_is) ∙ none) in
-        stays i few (λ round. ap (driven3 input (algorithm_a (network_of netlist) input start round)) driven_by ∙ ap tri_of same);
+        stays i few (λ round. ap (driver_value3 input (algorithm_a (network_of netlist) input start round)) driven_by ∙ ap tri_of same);
     moves = λ some.
         let counted : change_count (get_or words i []) ≡ change_count (input_word (bit_at start i) (bit_at input place)) = ap change_count word_is in
-        let closed = closed-value i few ∙ ap (λ (driver : Driver). join_of (value_at (algorithm_a (network_of netlist) input start rounds) i) (driven3 input (algorithm_a (network_of netlist) input start rounds) driver)) driven_by in
+        let closed = closed-value i few ∙ ap (λ (driver : Driver). join_of (value_at (algorithm_a (network_of netlist) input start rounds) i) (driver_value3 input (algorithm_a (network_of netlist) input start rounds) driver)) driven_by in
         join-other (value_at (algorithm_a (network_of netlist) input start rounds) i) (tri_of (bit_at input place)) (bit_at start i) (start-admitted i) closed
         (input_word-differs (bit_at start i) (bit_at input place) (omega arith));
   }
@@ -233,12 +233,12 @@ module _ (netlist : Netlist) (circuit : IsCircuit netlist) (netlist_whole : IsWh
       record {
         still = λ none.
             let none' : change_count (get_or words node []) ≡ 0 = sym (ap change_count word_is) ∙ none in
-            stays i few (λ round. ap (driven3 input (algorithm_a (network_of netlist) input start round)) driven_by ∙ (agreed.still none' round ∙ ap tri_of same_start));
+            stays i few (λ round. ap (driver_value3 input (algorithm_a (network_of netlist) input start round)) driven_by ∙ (agreed.still none' round ∙ ap tri_of same_start));
         moves = λ some.
             let counted : change_count (get_or words i []) ≡ change_count (get_or words node []) = ap change_count word_is in
             let source_unknown = agreed.moves (omega arith) in
             closed-value i few
-            ∙ (ap (λ (driver : Driver). join_of (value_at (algorithm_a (network_of netlist) input start rounds) i) (driven3 input (algorithm_a (network_of netlist) input start rounds) driver)) driven_by
+            ∙ (ap (λ (driver : Driver). join_of (value_at (algorithm_a (network_of netlist) input start rounds) i) (driver_value3 input (algorithm_a (network_of netlist) input start rounds) driver)) driven_by
             ∙ (ap (join_of (value_at (algorithm_a (network_of netlist) input start rounds) i)) source_unknown
             ∙ join-unknown (value_at (algorithm_a (network_of netlist) input start rounds) i)));
       }
@@ -256,11 +256,11 @@ module _ (netlist : Netlist) (circuit : IsCircuit netlist) (netlist_whole : IsWh
     wires-takes : IsTrue (takes kind (length (slice_range words first (first + pins))))
     wires-takes = takes-wires netlist circuit input start whole stable words are netlist_whole i kind first pins few driven_by
 
-    present-start : present_letters (slice_range words first (first + pins)) ≡ slice_range start first (first + pins)
+    present-start : current_letters (slice_range words first (first + pins)) ≡ slice_range start first (first + pins)
     present-start = wires-present netlist circuit input start whole stable words are netlist_whole i kind first pins few driven_by wire_followed
 
     -- the gate value of the first letters is the start
-    start-value : gate_value kind (present_letters (slice_range words first (first + pins))) ≡ bit_at start i
+    start-value : gate_value kind (current_letters (slice_range words first (first + pins))) ≡ bit_at start i
     start-value = sym is_word.begins ∙ (followed i few free).first
 
     pins-of : List Tri → List Tri
@@ -279,15 +279,15 @@ module _ (netlist : Netlist) (circuit : IsCircuit netlist) (netlist_whole : IsWh
         let less' : k < pins = omega (arith, less, wires-long) in
         let word : change_count (get_or (slice_range words first (first + pins)) k []) ≡ change_count (get_or words (first + k) []) = ap change_count (at-part words first pins k [] less') in
         elim (cases_lt 0 (change_count (get_or words (first + k) []))) [
-          | inl some ↦ let one = change-one (get_or (present_letters (slice_range words first (first + pins))) k false) (get_or bits k false) in omega arith
+          | inl some ↦ let one = change-one (get_or (current_letters (slice_range words first (first + pins))) k false) (get_or bits k false) in omega arith
           | inr alone ↦
               let value = (wire_agreed k less').still (omega arith) round in
               let admitted : IsTrue (admits (tri_of (bit_at start (first + k))) (get_or bits k false)) =
               subst (λ (t : Tri). IsTrue (admits t (get_or bits k false))) (at-part (algorithm_a (network_of netlist) input start round) first pins k Zero less' ∙ value)
               (get_or-Refines bits (slice_range (algorithm_a (network_of netlist) input start round) first (first + pins)) refines k) in
               let bit : get_or bits k false ≡ bit_at start (first + k) = known-admits (bit_at start (first + k)) (get_or bits k false) admitted in
-              let letter : get_or (present_letters (slice_range words first (first + pins))) k false ≡ bit_at start (first + k) = ap (λ (list : List Bool). get_or list k false) present-start ∙ at-part start first pins k false less' in
-              let same : change (get_or (present_letters (slice_range words first (first + pins))) k false) (get_or bits k false) ≡ 0 = rw (letter, bit) (change-same (bit_at start (first + k))) in
+              let letter : get_or (current_letters (slice_range words first (first + pins))) k false ≡ bit_at start (first + k) = ap (λ (list : List Bool). get_or list k false) present-start ∙ at-part start first pins k false less' in
+              let same : change_between (get_or (current_letters (slice_range words first (first + pins))) k false) (get_or bits k false) ≡ 0 = rw (letter, bit) (change-same (bit_at start (first + k))) in
               omega arith
         ])
         ∙ start-value
@@ -313,10 +313,10 @@ module _ (netlist : Netlist) (circuit : IsCircuit netlist) (netlist_whole : IsWh
     record-gate = record {
       still = λ none.
           stays i few (λ round.
-          ap (driven3 input (algorithm_a (network_of netlist) input start round)) driven_by
+          ap (driver_value3 input (algorithm_a (network_of netlist) input start round)) driven_by
           ∙ extension-constant kind (slice_range (algorithm_a (network_of netlist) input start round) first (first + pins)) (bit_at start i) (still-bits none round));
       moves = λ some.
-          let closed = closed-value i few ∙ ap (λ (driver : Driver). join_of (value_at (algorithm_a (network_of netlist) input start rounds) i) (driven3 input (algorithm_a (network_of netlist) input start rounds) driver)) driven_by in
+          let closed = closed-value i few ∙ ap (λ (driver : Driver). join_of (value_at (algorithm_a (network_of netlist) input start rounds) i) (driver_value3 input (algorithm_a (network_of netlist) input start rounds) driver)) driven_by in
           elim (tri_of-or-not (extension kind (slice_range (algorithm_a (network_of netlist) input start rounds) first (first + pins))) (bit_at start i)) [
             | inr ne ↦ join-other (value_at (algorithm_a (network_of netlist) input start rounds) i) (extension kind (slice_range (algorithm_a (network_of netlist) input start rounds) first (first + pins))) (bit_at start i) (start-admitted i) closed ne
             | inl same ↦

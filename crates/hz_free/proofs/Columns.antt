@@ -3,11 +3,11 @@ use Rattle.std.proofs.Common.{◌≡◌, ℕ, zero, suc, ◌+◌, ◌<◌, ◌�
 use Rattle.std.specs.Bool.{beq}
 use Rattle.std.proofs.lemmas.Bool.{cases_Bool, false≢true, true≢false}
 use Rattle.hz_core.specs.Gate.{some_pin}
-use Rattle.hz_gmw.specs.Runs.{flipped}
+use Rattle.hz_gmw.specs.Runs.{state_after}
 use Rattle.hz_word.specs.Word.{IsWord, AreWords, change_count}
-use Rattle.hz_word.specs.Walk.{present_letters, MayAdvance, after_move, IsPartOfWalk, change, walk_changes}
+use Rattle.hz_word.specs.Walk.{current_letters, MayAdvance, after_move, IsPartOfWalk, change_between, walk_changes}
 use Rattle.hz_word.proofs.Moves.{after_move-AreWords, length-after_move}
-use Rattle.hz_gmw.proofs.Flips.{length-flipped}
+use Rattle.hz_gmw.proofs.Flips.{length-state_after}
 use Rattle.hz_free.proofs.Delays.{changes_along, change-same}
 
 -- the places at which two rows differ
@@ -30,7 +30,7 @@ moved-none (false ∷ before) (false ∷ after) long none = ap (λ row. false �
 long-word : (word : List Bool) → 1 ≤ change_count word → 1 < length word
 long-word word some = omega arith
 
-pub move-may : (words : List (List Bool)) (before after : List Bool) → length before ≡ length words → length after ≡ length words → ((k : ℕ) → k < length words → change (get_or before k false) (get_or after k false) ≤ change_count (get_or words k [])) → MayAdvance words (moved before after)
+pub move-may : (words : List (List Bool)) (before after : List Bool) → length before ≡ length words → length after ≡ length words → ((k : ℕ) → k < length words → change_between (get_or before k false) (get_or after k false) ≤ change_count (get_or words k [])) → MayAdvance words (moved before after)
 move-may [] [] after long long' bounds = tt
 move-may [] (letter ∷ before) after long long' bounds = absurd (omega arith)
 move-may (word ∷ words) [] after long long' bounds = absurd (omega arith)
@@ -62,7 +62,7 @@ cons-tail : {a b : Bool} {xs ys : List Bool} → ◌≡◌ {A = List Bool} (a �
 cons-tail e = cc
 
 -- after the move the letters are those of the next row
-pub move-letters : (words : List (List Bool)) (before after : List Bool) → AreWords words → present_letters words ≡ before → length after ≡ length words → MayAdvance words (moved before after) → present_letters (after_move words (moved before after)) ≡ after
+pub move-letters : (words : List (List Bool)) (before after : List Bool) → AreWords words → current_letters words ≡ before → length after ≡ length words → MayAdvance words (moved before after) → current_letters (after_move words (moved before after)) ≡ after
 move-letters [] [] [] are_words present long may = refl
 move-letters [] [] (next ∷ after) are_words present long may = absurd (omega arith)
 move-letters [] (letter ∷ before) after are_words present long may = cc
@@ -90,7 +90,7 @@ dropped : (word : List Bool) → 1 < length word → change_count (drop 1 word) 
 dropped [] long = absurd (omega arith)
 dropped (letter ∷ rest) long = omega arith
 
-move-counts : (words : List (List Bool)) (before after : List Bool) (k : ℕ) → length before ≡ length words → length after ≡ length words → MayAdvance words (moved before after) → k < length words → change_count (get_or (after_move words (moved before after)) k []) + change (get_or before k false) (get_or after k false) ≡ change_count (get_or words k [])
+move-counts : (words : List (List Bool)) (before after : List Bool) (k : ℕ) → length before ≡ length words → length after ≡ length words → MayAdvance words (moved before after) → k < length words → change_count (get_or (after_move words (moved before after)) k []) + change_between (get_or before k false) (get_or after k false) ≡ change_count (get_or words k [])
 move-counts [] before after k long long' may few = absurd (omega arith)
 move-counts (word ∷ words) [] after k long long' may few = absurd (omega arith)
 move-counts (word ∷ words) (letter ∷ before) [] k long long' may few = absurd (omega arith)
@@ -102,29 +102,29 @@ move-counts (word ∷ words) (false ∷ before) (true ∷ after) zero long long'
 
 -- rows along a run
 module _ (gate : List Bool → Bool) (row : List Bool → List Bool) (variables : ℕ) where
-  pub part-along : (words : List (List Bool)) (state : List Bool) (steps : List (List ℕ)) → AreWords words → present_letters words ≡ row state → length state ≡ variables → ((s : List Bool) → length s ≡ variables → length (row s) ≡ length words) → ((k : ℕ) → k < length words → changes_along (λ s. get_or (row s) k false) state steps ≤ change_count (get_or words k [])) → (moves : List (List Bool)) × IsPartOfWalk words moves × (walk_changes gate words moves ≡ changes_along (λ s. gate (row s)) state steps)
+  pub part-along : (words : List (List Bool)) (state : List Bool) (steps : List (List ℕ)) → AreWords words → current_letters words ≡ row state → length state ≡ variables → ((s : List Bool) → length s ≡ variables → length (row s) ≡ length words) → ((k : ℕ) → k < length words → changes_along (λ s. get_or (row s) k false) state steps ≤ change_count (get_or words k [])) → (moves : List (List Bool)) × IsPartOfWalk words moves × (walk_changes gate words moves ≡ changes_along (λ s. gate (row s)) state steps)
   part-along words state [] are_words present whole long bounds = ([], tt, refl)
   part-along words state (flips ∷ steps) are_words present whole long bounds =
-      let whole' : length (flipped flips state) ≡ variables = length-flipped flips state ∙ whole in
-      elim (cases_Bool (some_pin (moved (row state) (row (flipped flips state))))) [
+      let whole' : length (state_after flips state) ≡ variables = length-state_after flips state ∙ whole in
+      elim (cases_Bool (some_pin (moved (row state) (row (state_after flips state))))) [
         | inl some ↦
-            let may : MayAdvance words (moved (row state) (row (flipped flips state))) = move-may words (row state) (row (flipped flips state)) (long state whole) (long (flipped flips state) whole') (λ k few. let bound = bounds k few in omega arith) in
-            let letters = move-letters words (row state) (row (flipped flips state)) are_words present (long (flipped flips state) whole') may in
-            let rest = part-along (after_move words (moved (row state) (row (flipped flips state)))) (flipped flips state) steps
-            (after_move-AreWords words (moved (row state) (row (flipped flips state))) are_words may) letters whole'
-            (λ s there. long s there ∙ sym (length-after_move words (moved (row state) (row (flipped flips state)))))
+            let may : MayAdvance words (moved (row state) (row (state_after flips state))) = move-may words (row state) (row (state_after flips state)) (long state whole) (long (state_after flips state) whole') (λ k few. let bound = bounds k few in omega arith) in
+            let letters = move-letters words (row state) (row (state_after flips state)) are_words present (long (state_after flips state) whole') may in
+            let rest = part-along (after_move words (moved (row state) (row (state_after flips state)))) (state_after flips state) steps
+            (after_move-AreWords words (moved (row state) (row (state_after flips state))) are_words may) letters whole'
+            (λ s there. long s there ∙ sym (length-after_move words (moved (row state) (row (state_after flips state)))))
             (λ k few.
-            let few' : k < length words = omega (arith, few, length-after_move words (moved (row state) (row (flipped flips state)))) in
+            let few' : k < length words = omega (arith, few, length-after_move words (moved (row state) (row (state_after flips state)))) in
             let bound = bounds k few' in
-            let count = move-counts words (row state) (row (flipped flips state)) k (long state whole) (long (flipped flips state) whole') may few' in
+            let count = move-counts words (row state) (row (state_after flips state)) k (long state whole) (long (state_after flips state) whole') may few' in
             omega arith) in
             let same = rest.2 in
-            let here : change (gate (present_letters words)) (gate (present_letters (after_move words (moved (row state) (row (flipped flips state)))))) ≡ change (gate (row state)) (gate (row (flipped flips state))) = rw (present, letters) refl in
-            (moved (row state) (row (flipped flips state)) ∷ rest.0, ((may, some), rest.1), omega arith)
+            let here : change_between (gate (current_letters words)) (gate (current_letters (after_move words (moved (row state) (row (state_after flips state)))))) ≡ change_between (gate (row state)) (gate (row (state_after flips state))) = rw (present, letters) refl in
+            (moved (row state) (row (state_after flips state)) ∷ rest.0, ((may, some), rest.1), omega arith)
         | inr none ↦
-            let same_row = moved-none (row state) (row (flipped flips state)) (long state whole ∙ sym (long (flipped flips state) whole')) none in
-            let rest = part-along words (flipped flips state) steps are_words (present ∙ same_row) whole' long (λ k few. let bound = bounds k few in omega arith) in
+            let same_row = moved-none (row state) (row (state_after flips state)) (long state whole ∙ sym (long (state_after flips state) whole')) none in
+            let rest = part-along words (state_after flips state) steps are_words (present ∙ same_row) whole' long (λ k few. let bound = bounds k few in omega arith) in
             let same = rest.2 in
-            let here : change (gate (row state)) (gate (row (flipped flips state))) ≡ 0 = rw same_row (change-same (gate (row (flipped flips state)))) in
+            let here : change_between (gate (row state)) (gate (row (state_after flips state))) ≡ 0 = rw same_row (change-same (gate (row (state_after flips state)))) in
             (rest.0, rest.1, omega arith)
       ]

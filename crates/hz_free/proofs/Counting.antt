@@ -3,14 +3,14 @@ use Rattle.std.proofs.Common.{◌≡◌, ℕ, zero, suc, ◌+◌, ◌-◌, ◌<�
 use Rattle.std.proofs.lemmas.Bool.{cases_Bool, cases_lt, cases_eq, both_ways, eqb-true, eq-eqb}
 use Rattle.hz_core.specs.Netlist.{Netlist}
 use Rattle.hz_net.specs.Network.{Wire, wires_of}
-use Rattle.hz_net.specs.Variables.{readers_from, variables_of}
+use Rattle.hz_net.specs.Variables.{readers_from, variable_kinds}
 use Rattle.hz_net.specs.Reads.{readers_by, readers_of}
 use Rattle.hz_net.specs.declared.variable.VarKind.{VarKind}
 use Rattle.hz_net.specs.declared.variable.VarKind.TheVariants.{Input, Gate as GateVariable, Wire as WireVariable}
 use Rattle.std.specs.Prelude.{slice_get}
 use Rattle.hz_gmw.specs.Runs.{is_listed}
-use Rattle.hz_free.specs.Order.{occurrences, unplaced, IsOrdering, AreReads, AreFirst, IsTold}
-use Rattle.hz_free.proofs.Lists.{listed-cases, listed-one, repeats_none-push}
+use Rattle.hz_free.specs.Order.{occurrences, unplaced_count, IsOrdering, AreReads, AreFirst, ReducesReader}
+use Rattle.hz_free.proofs.Lists.{listed-cases, listed-one, is_repeat_free-push}
 use Rattle.hz_free.proofs.Kahn.{eqb-other, occurrences-same, occurrences-other, listed-push-same, listed-push-other, unplaced-none, at-listed, begin-telling, unread-reader, told-waits, told-placed}
 
 -- no variable is twice among the readers of a variable
@@ -58,9 +58,9 @@ readers_by-once netlist i j (Some (GateVariable kind)) = readers_from-once i (le
 readers_by-once netlist i j (Some (WireVariable gate pin source)) = one-once i gate
 
 pub readers_of-once : (netlist : Netlist) (i j : ℕ) → occurrences i (readers_of netlist j) ≤ 1
-readers_of-once netlist i j = readers_by-once netlist i j (slice_get (variables_of netlist) j)
+readers_of-once netlist i j = readers_by-once netlist i j (slice_get (variable_kinds netlist) j)
 
-unplaced-bound : (readers : ℕ → List ℕ) (placed : List ℕ) (n i : ℕ) → ((j : ℕ) → occurrences i (readers j) ≤ 1) → unplaced readers placed n i ≤ n
+unplaced-bound : (readers : ℕ → List ℕ) (placed : List ℕ) (n i : ℕ) → ((j : ℕ) → occurrences i (readers j) ≤ 1) → unplaced_count readers placed n i ≤ n
 unplaced-bound readers placed zero i one = omega arith
 unplaced-bound readers placed (suc n) i one =
     let earlier = unplaced-bound readers placed n i one in
@@ -121,7 +121,7 @@ module _ (readers : ℕ → List ℕ) (variables : ℕ) (unread : List ℕ) wher
               | inl earlier ↦ let few = are.inside i earlier in omega arith
               | inr here ↦ let same = listed-one i below here in omega arith
             ];
-        once = repeats_none-push order below are.once out;
+        once = is_repeat_free-push order below are.once out;
       }
 
   pub first-same : (below : ℕ) (order : List ℕ) → AreFirst below unread order → get_or unread below 0 ≢ 0 → AreFirst (below + 1) unread order
@@ -176,7 +176,7 @@ module _ (readers : ℕ → List ℕ) (variables place : ℕ) (unread order : Li
       subst (λ (list : List ℕ). IsOrdering readers variables (place + 1) list unread order) (ap readers var-at ∙ sym same)
       (begin-telling readers variables place unread order is within)
 
-pub tell-reader : (readers : ℕ → List ℕ) (variables place : ℕ) (items unread order unread' order' : List ℕ) (index : ℕ) → IsOrdering readers variables place (drop index items) unread order → index < length items → get_or items index 0 < variables → IsTold (get_or items index 0) unread order unread' order' → IsOrdering readers variables place (drop (index + 1) items) unread' order'
+pub tell-reader : (readers : ℕ → List ℕ) (variables place : ℕ) (items unread order unread' order' : List ℕ) (index : ℕ) → IsOrdering readers variables place (drop index items) unread order → index < length items → get_or items index 0 < variables → ReducesReader (get_or items index 0) unread order unread' order' → IsOrdering readers variables place (drop (index + 1) items) unread' order'
 tell-reader readers variables place items unread order unread' order' index is few inside told =
     let left = drop (suc index) items in
     let reader = get_or items index 0 in

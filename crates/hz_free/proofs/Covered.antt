@@ -8,14 +8,14 @@ use Rattle.hz_core.specs.declared.kind.Kind.{Kind}
 use Rattle.hz_core.specs.Gate.{takes, gate_value}
 use Rattle.hz_core.specs.Netlist.{Netlist, IsCircuit, IsWhole, gate_at}
 use Rattle.hz_core.proofs.CircuitLemmas.{takes-at_gate}
-use Rattle.hz_net.specs.Network.{Driver, External, Function, Source, network_of, driver_at, driven, bit_at, excitation, IsStable}
+use Rattle.hz_net.specs.Network.{Driver, External, Function, Source, network_of, driver_at, driver_value, bit_at, excitation, IsStable}
 use Rattle.hz_net.specs.Reads.{Reads, IsWired}
 use Rattle.hz_net.proofs.Wired.{wired-network_of, is_gate_of}
 use Rattle.hz_net.proofs.PartLemmas.{length-part, at-part}
 use Rattle.hz_gmw.specs.Runs.{IsRun}
 use Rattle.hz_word.specs.Word.{IsWord, AreWords, first_letter, change_count}
-use Rattle.hz_word.specs.Walk.{present_letters, IsWordOf, change}
-use Rattle.hz_word.specs.Capped.{capped}
+use Rattle.hz_word.specs.Walk.{current_letters, IsWordOf, change_between}
+use Rattle.hz_word.specs.Capped.{capped_word}
 use Rattle.hz_word.specs.Covers.{Covers}
 use Rattle.hz_word.proofs.Longest.{takes-HasPins, part-IsWordOf}
 use Rattle.hz_free.specs.Chains.{IsFeedbackFree}
@@ -26,8 +26,8 @@ use Rattle.hz_free.proofs.Delays.{changes_along, change-same, delay, constant-al
 use Rattle.hz_free.proofs.Columns.{part-along}
 
 -- a capped word covers a history with the first letter of the word and no more changes
-covers-capped : (cap : ℕ) (word history : List Bool) → first_letter history ≡ first_letter word → change_count history ≤ change_count word → Covers (capped cap word) history
-covers-capped cap word history first bound = record {
+covers-capped_word : (cap : ℕ) (word history : List Bool) → first_letter history ≡ first_letter word → change_count history ≤ change_count word → Covers (capped_word cap word) history
+covers-capped_word cap word history first bound = record {
   same_first = first;
   bounded = elim (cases_Bool (nat_le (change_count word) cap)) [
     | inl within ↦ rw within bound
@@ -36,10 +36,10 @@ covers-capped cap word history first bound = record {
 }
 
 -- what a variable that is no input asks for does not depend on the input
-same-driven-input : (input other state : List Bool) (driver : Driver) → ((place : ℕ) → driver ≡ External place → ⊥) → driven input state driver ≡ driven other state driver
-same-driven-input input other state (External place) no_input = absurd (no_input place refl)
-same-driven-input input other state (Function kind first pins) no_input = refl
-same-driven-input input other state (Source node) no_input = refl
+same-driver_value-input : (input other state : List Bool) (driver : Driver) → ((place : ℕ) → driver ≡ External place → ⊥) → driver_value input state driver ≡ driver_value other state driver
+same-driver_value-input input other state (External place) no_input = absurd (no_input place refl)
+same-driver_value-input input other state (Function kind first pins) no_input = refl
+same-driver_value-input input other state (Source node) no_input = refl
 
 input_word-first : (old new : Bool) → first_letter (input_word old new) ≡ old
 input_word-first true true = refl
@@ -47,7 +47,7 @@ input_word-first true false = refl
 input_word-first false true = refl
 input_word-first false false = refl
 
-input_word-changes : (old new : Bool) → change old new ≡ change_count (input_word old new)
+input_word-changes : (old new : Bool) → change_between old new ≡ change_count (input_word old new)
 input_word-changes true true = refl
 input_word-changes true false = refl
 input_word-changes false true = refl
@@ -72,13 +72,13 @@ module _ (netlist : Netlist) (circuit : IsCircuit netlist) (input start : List B
   -- a variable that is no input begins with the value that it asks for
   begins-stable : (i : ℕ) → i < length (network_of netlist) → ((place : ℕ) → driver_at (network_of netlist) i ≡ External place → ⊥) → bit_at start i ≡ excitation (network_of netlist) input start i
   begins-stable i few no_input =
-      stable i few ∙ same-driven-input (take netlist.inputs start) input start (driver_at (network_of netlist) i) no_input
+      stable i few ∙ same-driver_value-input (take netlist.inputs start) input start (driver_at (network_of netlist) i) no_input
 
   -- a variable that is no input changes at most as often as its excitation
   follows : (i : ℕ) → i < length (network_of netlist) → ((place : ℕ) → driver_at (network_of netlist) i ≡ External place → ⊥) → (steps : List (List ℕ)) → IsRun (network_of netlist) input start steps → changes_along (λ s. bit_at s i) start steps ≤ changes_along (λ s. excitation (network_of netlist) input s i) start steps
   follows i few no_input steps run =
       let late = delay (network_of netlist) input i start steps (omega arith) run in
-      let none : change (bit_at start i) (excitation (network_of netlist) input start i) ≡ 0 =
+      let none : change_between (bit_at start i) (excitation (network_of netlist) input start i) ≡ 0 =
       rw (begins-stable i few no_input) (change-same (excitation (network_of netlist) input start i)) in
       omega arith
 
@@ -89,9 +89,9 @@ module _ (netlist : Netlist) (circuit : IsCircuit netlist) (input start : List B
         first = input_word-first (bit_at start i) (bit_at input place);
         bound = λ steps run.
             let late = delay (network_of netlist) input i start steps (omega arith) run in
-            let constant = constant-along (λ s. excitation (network_of netlist) input s i) (bit_at input place) start steps (λ s. ap (driven input s) driven_by) in
-            let asked : excitation (network_of netlist) input start i ≡ bit_at input place = ap (driven input start) driven_by in
-            let same : change (bit_at start i) (excitation (network_of netlist) input start i) ≡ change (bit_at start i) (bit_at input place) = rw asked refl in
+            let constant = constant-along (λ s. excitation (network_of netlist) input s i) (bit_at input place) start steps (λ s. ap (driver_value input s) driven_by) in
+            let asked : excitation (network_of netlist) input start i ≡ bit_at input place = ap (driver_value input start) driven_by in
+            let same : change_between (bit_at start i) (excitation (network_of netlist) input start i) ≡ change_between (bit_at start i) (bit_at input place) = rw asked refl in
             let counted = input_word-changes (bit_at start i) (bit_at input place) in
             omega arith;
       })
@@ -104,10 +104,10 @@ module _ (netlist : Netlist) (circuit : IsCircuit netlist) (input start : List B
       let no_input : (place : ℕ) → driver_at (network_of netlist) i ≡ External place → ⊥ = λ place e. source-place node place (sym driven_by ∙ e) in
       subst (λ (w : List Bool). IsFollowed (network_of netlist) input start i w) (sym word_is) (record {
         is_word = source.is_word;
-        first = source.first ∙ sym (begins-stable i few no_input ∙ ap (driven input start) driven_by);
+        first = source.first ∙ sym (begins-stable i few no_input ∙ ap (driver_value input start) driven_by);
         bound = λ steps run.
             let late = follows i few no_input steps run in
-            let same = same-along (λ s. excitation (network_of netlist) input s i) (λ s. bit_at s node) start steps (λ s. ap (driven input s) driven_by) in
+            let same = same-along (λ s. excitation (network_of netlist) input s i) (λ s. bit_at s node) start steps (λ s. ap (driver_value input s) driven_by) in
             let bound = source.bound steps run in
             omega arith;
       })
@@ -145,8 +145,8 @@ module _ (netlist : Netlist) (circuit : IsCircuit netlist) (input start : List B
             let less' : k < pins = omega (arith, less, length-wires) in
             subst (λ (w : List Bool). IsWord w) (sym (at-part words first pins k [] less')) (followed k less').is_word)
 
-        pub wires-present : present_letters (slice_range words first (first + pins)) ≡ slice_range start first (first + pins)
-        wires-present = ext_get_or false (present_letters (slice_range words first (first + pins))) (slice_range start first (first + pins))
+        pub wires-present : current_letters (slice_range words first (first + pins)) ≡ slice_range start first (first + pins)
+        wires-present = ext_get_or false (current_letters (slice_range words first (first + pins))) (slice_range start first (first + pins))
             (length-map (slice_range words first (first + pins)) first_letter ∙ sym (length-row start whole))
             (λ k less.
             let less' : k < pins = omega (arith, less, length-map (slice_range words first (first + pins)) first_letter, length-wires) in
@@ -159,10 +159,10 @@ module _ (netlist : Netlist) (circuit : IsCircuit netlist) (input start : List B
             let no_input : (place : ℕ) → driver_at (network_of netlist) i ≡ External place → ⊥ = λ place e. function-place kind first pins place (sym driven_by ∙ e) in
             record {
               is_word = is_word.is_word;
-              first = is_word.begins ∙ (ap (gate_value kind) wires-present ∙ sym (begins-stable i few no_input ∙ ap (driven input start) driven_by));
+              first = is_word.begins ∙ (ap (gate_value kind) wires-present ∙ sym (begins-stable i few no_input ∙ ap (driver_value input start) driven_by));
               bound = λ steps run.
                   let late = follows i few no_input steps run in
-                  let same = same-along (λ s. excitation (network_of netlist) input s i) (λ s. gate_value kind (slice_range s first (first + pins))) start steps (λ s. ap (driven input s) driven_by) in
+                  let same = same-along (λ s. excitation (network_of netlist) input s i) (λ s. gate_value kind (slice_range s first (first + pins))) start steps (λ s. ap (driver_value input s) driven_by) in
                   let part = part-along (gate_value kind) (λ s. slice_range s first (first + pins)) (length (network_of netlist)) (slice_range words first (first + pins)) start steps wires-AreWords wires-present whole length-row
                   (λ k less.
                   let less' : k < pins = omega (arith, less, length-wires) in
@@ -188,10 +188,10 @@ module _ (netlist : Netlist) (circuit : IsCircuit netlist) (input start : List B
         (λ j few_j free_j reads. follows-by j few_j (driver_at (network_of netlist) j) refl (are.each j few_j free_j) reads)
         i few free
 
-    pub free-covered : (cap i : ℕ) (steps : List (List ℕ)) → i < length (network_of netlist) → IsFeedbackFree (network_of netlist) i → IsRun (network_of netlist) input start steps → Covers (capped cap (get_or words i [])) (variable_history start steps i)
+    pub free-covered : (cap i : ℕ) (steps : List (List ℕ)) → i < length (network_of netlist) → IsFeedbackFree (network_of netlist) i → IsRun (network_of netlist) input start steps → Covers (capped_word cap (get_or words i [])) (variable_history start steps i)
     free-covered cap i steps few free run =
         let followed = free-followed i few free in
         let count = change_count-history start steps i in
         let bound = followed.bound steps run in
-        covers-capped cap (get_or words i []) (variable_history start steps i)
+        covers-capped_word cap (get_or words i []) (variable_history start steps i)
         (first_letter-history start steps i ∙ sym followed.first) (omega arith)

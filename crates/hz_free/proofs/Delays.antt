@@ -3,24 +3,24 @@ use Rattle.std.proofs.Common.{◌≡◌, ◌≢◌, ℕ, ◌+◌, ◌<◌, ◌�
 use Rattle.std.specs.Bool.{beq}
 use Rattle.std.proofs.lemmas.Bool.{cases_Bool, false≢true}
 use Rattle.hz_net.specs.Network.{Driver, bit_at, excitation}
-use Rattle.hz_gmw.specs.Runs.{is_listed, flipped, IsRun}
+use Rattle.hz_gmw.specs.Runs.{is_listed, state_after, IsRun}
 use Rattle.hz_gmw.specs.Cycles.{states_of}
-use Rattle.hz_gmw.proofs.Flips.{length-flipped, at-flipped}
-use Rattle.hz_word.specs.Walk.{change}
+use Rattle.hz_gmw.proofs.Flips.{length-state_after, at-state_after}
+use Rattle.hz_word.specs.Walk.{change_between}
 use Rattle.hz_word.specs.Word.{first_letter, change_count}
-use Rattle.hz_word.specs.Covers.{reduced_after}
+use Rattle.hz_word.specs.Covers.{reduction_after}
 use Rattle.hz_free.specs.VariableWords.{variable_history}
 
 -- how often a value changes along a run
 abbrev pub changes_along : (List Bool → Bool) → List Bool → List (List ℕ) → ℕ
 changes_along f state [] = 0
-changes_along f state (flips ∷ steps) = change (f state) (f (flipped flips state)) + changes_along f (flipped flips state) steps
+changes_along f state (flips ∷ steps) = change_between (f state) (f (state_after flips state)) + changes_along f (state_after flips state) steps
 
-pub change-same : (a : Bool) → change a a ≡ 0
+pub change-same : (a : Bool) → change_between a a ≡ 0
 change-same true = refl
 change-same false = refl
 
-change-triangle : (a b c : Bool) → change a c ≤ change a b + change b c
+change-triangle : (a b c : Bool) → change_between a c ≤ change_between a b + change_between b c
 change-triangle true true true = omega arith
 change-triangle true true false = omega arith
 change-triangle true false true = omega arith
@@ -30,7 +30,7 @@ change-triangle false true false = omega arith
 change-triangle false false true = omega arith
 change-triangle false false false = omega arith
 
-pub change-not : (a : Bool) → change a (not a) ≡ 1
+pub change-not : (a : Bool) → change_between a (not a) ≡ 1
 change-not true = refl
 change-not false = refl
 
@@ -41,41 +41,41 @@ other false true ne = refl
 other false false ne = absurd (ne refl)
 
 -- one step of a variable: it stays, or it takes the value of its excitation, from which it differed
-delay-step : (x e x' e' : Bool) (later later_e : ℕ) (flips_it : Bool) → (flips_it ≡ true → x ≢ e) → x' ≡ cond flips_it (not x) x → later ≤ later_e + change x' e' → change x x' + later ≤ change e e' + later_e + change x e
+delay-step : (x e x' e' : Bool) (later later_e : ℕ) (flips_it : Bool) → (flips_it ≡ true → x ≢ e) → x' ≡ cond flips_it (not x) x → later ≤ later_e + change_between x' e' → change_between x x' + later ≤ change_between e e' + later_e + change_between x e
 delay-step x e x' e' later later_e true unstable moves bound =
     let e_is : e ≡ not x = other x e (unstable refl) in
     let x_is : x' ≡ not x = moves in
-    let one : change x e ≡ 1 = rw e_is (change-not x) in
-    let one' : change x x' ≡ 1 = rw x_is (change-not x) in
-    let same : change x' e' ≡ change e e' = rw (x_is, e_is) refl in
+    let one : change_between x e ≡ 1 = rw e_is (change-not x) in
+    let one' : change_between x x' ≡ 1 = rw x_is (change-not x) in
+    let same : change_between x' e' ≡ change_between e e' = rw (x_is, e_is) refl in
     omega arith
 delay-step x e x' e' later later_e false unstable moves bound =
     let x_is : x' ≡ x = moves in
-    let none : change x x' ≡ 0 = rw x_is (change-same x) in
-    let same : change x' e' ≡ change x e' = rw x_is refl in
+    let none : change_between x x' ≡ 0 = rw x_is (change-same x) in
+    let same : change_between x' e' ≡ change_between x e' = rw x_is refl in
     let triangle = change-triangle x e e' in
     omega arith
 
 -- along a run
-pub delay : (net : List Driver) (input : List Bool) (i : ℕ) (state : List Bool) (steps : List (List ℕ)) → i < length state → IsRun net input state steps → changes_along (λ s. bit_at s i) state steps ≤ changes_along (λ s. excitation net input s i) state steps + change (bit_at state i) (excitation net input state i)
+pub delay : (net : List Driver) (input : List Bool) (i : ℕ) (state : List Bool) (steps : List (List ℕ)) → i < length state → IsRun net input state steps → changes_along (λ s. bit_at s i) state steps ≤ changes_along (λ s. excitation net input s i) state steps + change_between (bit_at state i) (excitation net input state i)
 delay net input i state [] inside run = omega arith
 delay net input i state (flips ∷ steps) inside run =
-    let inside' : i < length (flipped flips state) = omega (arith, length-flipped flips state) in
-    let later = delay net input i (flipped flips state) steps inside' run.1 in
-    delay-step (bit_at state i) (excitation net input state i) (bit_at (flipped flips state) i) (excitation net input (flipped flips state) i)
-    (changes_along (λ s. bit_at s i) (flipped flips state) steps) (changes_along (λ s. excitation net input s i) (flipped flips state) steps)
-    (is_listed flips i) (λ listed. run.0.unstable i listed) (at-flipped flips state i inside) later
+    let inside' : i < length (state_after flips state) = omega (arith, length-state_after flips state) in
+    let later = delay net input i (state_after flips state) steps inside' run.1 in
+    delay-step (bit_at state i) (excitation net input state i) (bit_at (state_after flips state) i) (excitation net input (state_after flips state) i)
+    (changes_along (λ s. bit_at s i) (state_after flips state) steps) (changes_along (λ s. excitation net input s i) (state_after flips state) steps)
+    (is_listed flips i) (λ listed. run.0.unstable i listed) (at-state_after flips state i inside) later
 
 -- a value that stays does not change
 pub constant-along : (f : List Bool → Bool) (b : Bool) (state : List Bool) (steps : List (List ℕ)) → ((s : List Bool) → f s ≡ b) → changes_along f state steps ≡ 0
 constant-along f b state [] same = refl
 constant-along f b state (flips ∷ steps) same =
-    let later = constant-along f b (flipped flips state) steps same in
-    let none : change (f state) (f (flipped flips state)) ≡ 0 = rw (same state, same (flipped flips state)) (change-same b) in
+    let later = constant-along f b (state_after flips state) steps same in
+    let none : change_between (f state) (f (state_after flips state)) ≡ 0 = rw (same state, same (state_after flips state)) (change-same b) in
     omega arith
 
 -- the history of a variable has these changes
-length-reduced : (f : List Bool → Bool) (v : Bool) (state : List Bool) (steps : List (List ℕ)) → length (reduced_after v (map f (states_of state steps))) ≡ change v (f state) + changes_along f state steps
+length-reduced : (f : List Bool → Bool) (v : Bool) (state : List Bool) (steps : List (List ℕ)) → length (reduction_after v (map f (states_of state steps))) ≡ change_between v (f state) + changes_along f state steps
 length-reduced f v state [] =
     elim (cases_Bool (beq v (f state))) [
       | inl same ↦ rw same refl
@@ -84,12 +84,12 @@ length-reduced f v state [] =
 length-reduced f v state (flips ∷ steps) =
     elim (cases_Bool (beq v (f state))) [
       | inl same ↦
-          let later = length-reduced f v (flipped flips state) steps in
+          let later = length-reduced f v (state_after flips state) steps in
           let v_is : v ≡ f state = beq-same v (f state) same in
-          let moved : change v (f (flipped flips state)) ≡ change (f state) (f (flipped flips state)) = rw v_is refl in
+          let moved : change_between v (f (state_after flips state)) ≡ change_between (f state) (f (state_after flips state)) = rw v_is refl in
           rw same (omega arith)
       | inr differ ↦
-          let later = length-reduced f (f state) (flipped flips state) steps in
+          let later = length-reduced f (f state) (state_after flips state) steps in
           rw differ (omega arith)
     ]
   where
@@ -102,7 +102,7 @@ length-reduced f v state (flips ∷ steps) =
 pub change_count-history : (start : List Bool) (steps : List (List ℕ)) (i : ℕ) → change_count (variable_history start steps i) ≡ changes_along (λ s. bit_at s i) start steps
 change_count-history start [] i = refl
 change_count-history start (flips ∷ steps) i =
-    let e = length-reduced (λ s. bit_at s i) (bit_at start i) (flipped flips start) steps in
+    let e = length-reduced (λ s. bit_at s i) (bit_at start i) (state_after flips start) steps in
     omega arith
 
 pub first_letter-history : (start : List Bool) (steps : List (List ℕ)) (i : ℕ) → first_letter (variable_history start steps i) ≡ bit_at start i
@@ -113,6 +113,6 @@ first_letter-history start (flips ∷ steps) i = refl
 pub same-along : (f g : List Bool → Bool) (state : List Bool) (steps : List (List ℕ)) → ((s : List Bool) → f s ≡ g s) → changes_along f state steps ≡ changes_along g state steps
 same-along f g state [] same = refl
 same-along f g state (flips ∷ steps) same =
-    let later = same-along f g (flipped flips state) steps same in
-    let here : change (f state) (f (flipped flips state)) ≡ change (g state) (g (flipped flips state)) = rw (same state, same (flipped flips state)) refl in
+    let later = same-along f g (state_after flips state) steps same in
+    let here : change_between (f state) (f (state_after flips state)) ≡ change_between (g state) (g (state_after flips state)) = rw (same state, same (state_after flips state)) refl in
     omega arith

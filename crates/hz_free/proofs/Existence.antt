@@ -5,10 +5,10 @@ use Rattle.std.proofs.lemmas.Bool.{cases_Bool, cases_eq, cases_lt, or_cases, bot
 use Rattle.std.proofs.lemmas.List.Elements.{All-cons, All-nil}
 use Rattle.hz_net.specs.Network.{Driver, External, Function, Source, driver_at}
 use Rattle.hz_net.specs.Reads.{Reads, IsWired}
-use Rattle.hz_gmw.specs.Runs.{is_listed, RepeatsNone}
+use Rattle.hz_gmw.specs.Runs.{is_listed, IsRepeatFree}
 use Rattle.hz_free.specs.Chains.{IsChain, IsFeedbackFree}
 use Rattle.hz_free.specs.Feedback.{IsChoice, ComesAround, IsFeedbackCycle, AreFeedbackCycles}
-use Rattle.hz_free.proofs.Lists.{repeats_none-bound, listed-head, listed-left}
+use Rattle.hz_free.proofs.Lists.{is_repeat_free-bound, listed-head, listed-left}
 use Rattle.hz_free.proofs.Chains.{free-from_reads, reads-free, reads-inside}
 use Rattle.hz_free.proofs.FeedbackCycles.{all-listed, cycle-closed, cycle-least, chosen-in, all-around, same-cycle}
 use Rattle.hz_free.proofs.FoundCycles.{first-chooses, reader-inside}
@@ -132,7 +132,7 @@ module _ (net : List Driver) (wired : IsWired net) where
   long-not-free : (i : ℕ) → HasLong (length net) i → IsFeedbackFree net i → ⊥
   unfolding HasLong
   long-not-free i long free =
-      let bound = repeats_none-bound long.0 (length net) (free long.0 long.1).1 (λ j there. chain-inside i long.0 j long.1 there) in
+      let bound = is_repeat_free-bound long.0 (length net) (free long.0 long.1).1 (λ j there. chain-inside i long.0 j long.1 there) in
       let length_is = long.2 in
       omega arith
 
@@ -231,7 +231,7 @@ module _ (net : List Driver) (wired : IsWired net) where
       absurd (omega arith)
 
   -- one step of the way, and how it goes on
-  step : (first last : ℕ) (rest : List ℕ) → ComesAround net first last rest → RepeatsNone rest → ((j : ℕ) → is_listed rest j ≡ true → first < j) → (is_listed rest last ≡ false → first < last → HasCycle first ⊎ (HasCycle first → ⊥)) → HasCycle first ⊎ (HasCycle first → ⊥)
+  step : (first last : ℕ) (rest : List ℕ) → ComesAround net first last rest → IsRepeatFree rest → ((j : ℕ) → is_listed rest j ≡ true → first < j) → (is_listed rest last ≡ false → first < last → HasCycle first ⊎ (HasCycle first → ⊥)) → HasCycle first ⊎ (HasCycle first → ⊥)
   unfolding HasCycle
   step first last rest around once greater further =
       elim (cases_eq last first) [
@@ -261,10 +261,10 @@ module _ (net : List Driver) (wired : IsWired net) where
         | inr later ↦ listed-inside first last rest j around later
       ]
 
-  walk : (fuel first last : ℕ) (rest : List ℕ) → length net ≤ fuel + length rest → ComesAround net first last rest → RepeatsNone rest → ((j : ℕ) → is_listed rest j ≡ true → first < j) → HasCycle first ⊎ (HasCycle first → ⊥)
+  walk : (fuel first last : ℕ) (rest : List ℕ) → length net ≤ fuel + length rest → ComesAround net first last rest → IsRepeatFree rest → ((j : ℕ) → is_listed rest j ≡ true → first < j) → HasCycle first ⊎ (HasCycle first → ⊥)
   walk zero first last rest enough around once greater =
       step first last rest around once greater
-      (λ out more. let bound = repeats_none-bound (last ∷ rest) (length net) (out, once) (λ j there. all-inside first last rest j around there) in absurd (omega arith))
+      (λ out more. let bound = is_repeat_free-bound (last ∷ rest) (length net) (out, once) (λ j there. all-inside first last rest j around there) in absurd (omega arith))
   walk (suc fuel) first last rest enough around once greater =
       step first last rest around once greater
       (λ out more.

@@ -4,7 +4,7 @@ use Rattle.std.proofs.Common.{◌≡◌, ℕ, ◌<◌, ◌≤◌, true, false, L
 use Rattle.std.proofs.lemmas.Bool.{cases_eq, cases_lt, or_cases, or_parts, or_right, both_ways, eqb-true}
 use Rattle.std.proofs.lemmas.List.Elements.{All-head, All-tail, All-cons, All-nil}
 use Rattle.hz_net.specs.Network.{Driver}
-use Rattle.hz_gmw.specs.Runs.{is_listed, RepeatsNone}
+use Rattle.hz_gmw.specs.Runs.{is_listed, IsRepeatFree}
 use Rattle.hz_free.specs.Feedback.{IsChoice, ComesAround, IsFeedbackCycle}
 use Rattle.hz_free.proofs.Lists.{listed-head, listed-one, listed-append, listed-left}
 
@@ -60,7 +60,7 @@ cycle-closed net [] i j is there choice = absurd is
 cycle-closed net (first ∷ rest) i j is there choice = chosen-in net first first rest i j is.0 (turned first rest i there) choice
 
 -- two variables of a cycle choose different variables
-choosers-apart : (net : List Driver) (first last : ℕ) (rest : List ℕ) (i j k : ℕ) → ComesAround net first last rest → RepeatsNone (last ∷ rest) → is_listed (rest ++ first ∷ []) i ≡ true → is_listed (rest ++ first ∷ []) j ≡ true → IsChoice net i k → IsChoice net j k → i ≡ j
+choosers-apart : (net : List Driver) (first last : ℕ) (rest : List ℕ) (i j k : ℕ) → ComesAround net first last rest → IsRepeatFree (last ∷ rest) → is_listed (rest ++ first ∷ []) i ≡ true → is_listed (rest ++ first ∷ []) j ≡ true → IsChoice net i k → IsChoice net j k → i ≡ j
 choosers-apart net first last [] i j k around once left right of_i of_j = listed-one i first left ∙ sym (listed-one j first right)
 choosers-apart net first last (w ∷ rest) i j k around once left right of_i of_j =
     elim (or_cases (eqb i w) (is_listed (rest ++ first ∷ []) i) left) [

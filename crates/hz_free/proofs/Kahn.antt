@@ -4,8 +4,8 @@ use Rattle.std.proofs.lemmas.Bool.{cases_Bool, cases_lt, cases_eq, or_cases, or_
 use Rattle.std.proofs.Math.Seq.{take-suc, get_or-append_seam, take-append_seam}
 use Rattle.std.proofs.lemmas.List.{take-append-le, get_or_append_left}
 use Rattle.hz_gmw.specs.Runs.{is_listed}
-use Rattle.hz_free.specs.Order.{occurrences, unplaced, IsOrdering}
-use Rattle.hz_free.proofs.Lists.{listed-append, listed-cases, listed-head, listed-one, repeats_none-push, unlisted-before}
+use Rattle.hz_free.specs.Order.{occurrences, unplaced_count, IsOrdering}
+use Rattle.hz_free.proofs.Lists.{listed-append, listed-cases, listed-head, listed-one, is_repeat_free-push, unlisted-before}
 
 -- tests of equality
 pub eqb-self : (a : ℕ) → eqb a a ≡ true
@@ -35,14 +35,14 @@ pub listed-push-same : (placed : List ℕ) (var : ℕ) → is_listed (placed ++ 
 listed-push-same placed var = listed-append placed (var ∷ []) var ∙ or_right _ _ (listed-head var [])
 
 -- a number that is placed counts no more
-unplaced-same : (readers : ℕ → List ℕ) (placed : List ℕ) (var n i : ℕ) → n ≤ var → unplaced readers placed n i ≡ unplaced readers (placed ++ var ∷ []) n i
+unplaced-same : (readers : ℕ → List ℕ) (placed : List ℕ) (var n i : ℕ) → n ≤ var → unplaced_count readers placed n i ≡ unplaced_count readers (placed ++ var ∷ []) n i
 unplaced-same readers placed var zero i beyond = refl
 unplaced-same readers placed var (suc n) i beyond =
     let earlier = unplaced-same readers placed var n i (omega arith) in
     let ne : n ≢ var = omega arith in
     rw (listed-push-other placed var n ne) (ap (λ m. m + cond (is_listed placed n) 0 (occurrences i (readers n))) earlier)
 
-unplaced-more : (readers : ℕ → List ℕ) (placed : List ℕ) (var n i : ℕ) → is_listed placed var ≡ false → var < n → unplaced readers placed n i ≡ unplaced readers (placed ++ var ∷ []) n i + occurrences i (readers var)
+unplaced-more : (readers : ℕ → List ℕ) (placed : List ℕ) (var n i : ℕ) → is_listed placed var ≡ false → var < n → unplaced_count readers placed n i ≡ unplaced_count readers (placed ++ var ∷ []) n i + occurrences i (readers var)
 unplaced-more readers placed var zero i out few = absurd (omega arith)
 unplaced-more readers placed var (suc n) i out few =
     elim (cases_eq n var) [
@@ -57,7 +57,7 @@ unplaced-more readers placed var (suc n) i out few =
     ]
 
 -- nothing is unplaced, or something is
-pub unplaced-none : (readers : ℕ → List ℕ) (placed : List ℕ) (n i j : ℕ) → unplaced readers placed n i ≡ 0 → j < n → 1 ≤ occurrences i (readers j) → is_listed placed j ≡ true
+pub unplaced-none : (readers : ℕ → List ℕ) (placed : List ℕ) (n i j : ℕ) → unplaced_count readers placed n i ≡ 0 → j < n → 1 ≤ occurrences i (readers j) → is_listed placed j ≡ true
 unplaced-none readers placed zero i j none few some = absurd (omega arith)
 unplaced-none readers placed (suc n) i j none few some =
     elim (cases_eq j n) [
@@ -78,10 +78,10 @@ pub record IsUnplaced (readers : ℕ → List ℕ) (placed : List ℕ) (n i : �
   pub out : is_listed placed var ≡ false
   pub read : 1 ≤ occurrences i (readers var)
 
-pub unplaced-some : (readers : ℕ → List ℕ) (placed : List ℕ) (n i : ℕ) → 1 ≤ unplaced readers placed n i → IsUnplaced readers placed n i
+pub unplaced-some : (readers : ℕ → List ℕ) (placed : List ℕ) (n i : ℕ) → 1 ≤ unplaced_count readers placed n i → IsUnplaced readers placed n i
 unplaced-some readers placed zero i some = absurd (omega arith)
 unplaced-some readers placed (suc n) i some =
-    elim (cases_lt 0 (unplaced readers placed n i)) [
+    elim (cases_lt 0 (unplaced_count readers placed n i)) [
       | inl earlier ↦
           let found = unplaced-some readers placed n i (omega arith) in
           record { var = found.var; below = let b = found.below in omega arith; out = found.out; read = found.read }
@@ -144,14 +144,14 @@ module _ (readers : ℕ → List ℕ) (variables place reader : ℕ) (left unrea
   inside_unread : reader < length unread
   inside_unread = let long = is.long in omega arith
 
-  counted-told : (i : ℕ) → i < variables → get_or (set unread reader (get_or unread reader 0 - 1)) i 0 ≡ unplaced readers (take place order) variables i + occurrences i left
+  counted-told : (i : ℕ) → i < variables → get_or (set unread reader (get_or unread reader 0 - 1)) i 0 ≡ unplaced_count readers (take place order) variables i + occurrences i left
   counted-told i within =
       let counted = is.counted i within in
       elim (cases_eq i reader) [
         | inl e ↦
             let inside : reader < length unread = inside_unread in
             let same = occurrences-same reader left in
-            let at_reader : get_or unread reader 0 ≡ unplaced readers (take place order) variables reader + occurrences reader (reader ∷ left) = is.counted reader within_reader in
+            let at_reader : get_or unread reader 0 ≡ unplaced_count readers (take place order) variables reader + occurrences reader (reader ∷ left) = is.counted reader within_reader in
             rw e (rw get_or-set_same (omega arith))
         | inr ne ↦
             let other = occurrences-other i reader left ne in
@@ -196,7 +196,7 @@ module _ (readers : ℕ → List ℕ) (variables place reader : ℕ) (left unrea
                   rw e (rw get_or-set_same (listed-push-same order reader ∙ sym (eq-eqb (get_or unread reader 0 - 1) 0 none)))
               | inr ne ↦ rw get_or-set_other (listed-push-other order reader i ne ∙ is.listed i few)
             ];
-        once = repeats_none-push order reader is.once before;
+        once = is_repeat_free-push order reader is.once before;
         inside = λ i there.
             elim (listed-cases order (reader ∷ []) i there) [
               | inl earlier ↦ is.inside i earlier
@@ -220,7 +220,7 @@ module _ (readers : ℕ → List ℕ) (variables place reader : ℕ) (left unrea
                 let front : take at (order ++ reader ∷ []) ≡ order = subst (λ (i : ℕ). take i (order ++ reader ∷ []) ≡ order) (sym e) (take-append_seam order (reader ∷ [])) in
                 let counted = is.counted reader within_reader in
                 let one = occurrences-same reader left in
-                let all : unplaced readers (take place order) variables reader ≡ 0 = omega arith in
+                let all : unplaced_count readers (take place order) variables reader ≡ 0 = omega arith in
                 rw front
                 (listed-from_take place order j
                 (unplaced-none readers (take place order) variables reader j all few_j (subst (λ (i : ℕ). 1 ≤ occurrences i (readers j)) same read)))

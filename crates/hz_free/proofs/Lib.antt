@@ -5,7 +5,7 @@ pub mod Chains
 pub mod Parts
 pub mod PathLemmas
 pub mod FeedbackCycles
-pub mod Following
+pub mod FollowedPaths
 pub mod Roots
 pub mod Numbering
 pub mod FoundCycles
@@ -13,8 +13,8 @@ pub mod OneList
 pub mod Existence
 pub mod Choices
 pub mod CycleList
-pub mod Noting
-pub mod Gathered
+pub mod NotedValues
+pub mod GateWords
 pub mod NextWord
 pub mod AllWords
 pub mod Delays

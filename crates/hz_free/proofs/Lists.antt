@@ -4,7 +4,7 @@ use Rattle.std.specs.List.{AllByRecursion, IsDistinct}
 use Rattle.std.proofs.lemmas.Bool.{cases_Bool, or_cases, or_parts, or_from, or_left, both_ways, eqb-true, eq-eqb}
 use Rattle.std.proofs.lemmas.List.Folds.{list_any-append}
 use Rattle.std.proofs.lemmas.Map.Steps.{length-le_from_distinct_below}
-use Rattle.hz_gmw.specs.Runs.{is_listed, RepeatsNone}
+use Rattle.hz_gmw.specs.Runs.{is_listed, IsRepeatFree}
 
 pub listed-append : (xs ys : List ℕ) (i : ℕ) → is_listed (xs ++ ys) i ≡ (is_listed xs i || is_listed ys i)
 listed-append xs ys i = list_any-append (eqb i) xs ys
@@ -25,11 +25,11 @@ pub unlisted-append : (xs ys : List ℕ) (i : ℕ) → is_listed xs i ≡ false 
 unlisted-append xs ys i left right = listed-append xs ys i ∙ or_from _ _ left right
 
 -- one more at the end
-pub repeats_none-push : (xs : List ℕ) (x : ℕ) → RepeatsNone xs → is_listed xs x ≡ false → RepeatsNone (xs ++ x ∷ [])
-repeats_none-push [] x once out = (refl, tt)
-repeats_none-push (y ∷ xs) x once out =
+pub is_repeat_free-push : (xs : List ℕ) (x : ℕ) → IsRepeatFree xs → is_listed xs x ≡ false → IsRepeatFree (xs ++ x ∷ [])
+is_repeat_free-push [] x once out = (refl, tt)
+is_repeat_free-push (y ∷ xs) x once out =
     let parts = or_parts _ _ out in
-    (unlisted-append xs (x ∷ []) y once.0 (or_from _ _ (eqb-turned x y parts.0) refl), repeats_none-push xs x once.1 parts.1)
+    (unlisted-append xs (x ∷ []) y once.0 (or_from _ _ (eqb-turned x y parts.0) refl), is_repeat_free-push xs x once.1 parts.1)
   where
     eqb-turned : (a b : ℕ) → eqb a b ≡ false → eqb b a ≡ false
     eqb-turned a b e =
@@ -39,7 +39,7 @@ repeats_none-push (y ∷ xs) x once out =
         ]
 
 -- of a list that names none twice, an element is not listed among those before it
-pub unlisted-before : (xs : List ℕ) (at : ℕ) → RepeatsNone xs → at < length xs → is_listed (take at xs) (get_or xs at 0) ≡ false
+pub unlisted-before : (xs : List ℕ) (at : ℕ) → IsRepeatFree xs → at < length xs → is_listed (take at xs) (get_or xs at 0) ≡ false
 unlisted-before xs zero once inside = refl
 unlisted-before [] (suc at) once inside = absurd (omega arith)
 unlisted-before (x ∷ xs) (suc at) once inside =
@@ -68,10 +68,10 @@ distinct-from : (x : ℕ) (xs : List ℕ) → is_listed xs x ≡ false → AllBy
 distinct-from x [] out = tt
 distinct-from x (y ∷ ys) out = let parts = or_parts _ _ out in (parts.0, distinct-from x ys parts.1)
 
-distinct : (xs : List ℕ) → RepeatsNone xs → IsDistinct eqb xs
+distinct : (xs : List ℕ) → IsRepeatFree xs → IsDistinct eqb xs
 unfolding IsDistinct
 distinct [] once = tt
 distinct (x ∷ xs) once = (distinct-from x xs once.0, distinct xs once.1)
 
-pub repeats_none-bound : (xs : List ℕ) (n : ℕ) → RepeatsNone xs → ((i : ℕ) → is_listed xs i ≡ true → i < n) → length xs ≤ n
-repeats_none-bound xs n once inside = length-le_from_distinct_below xs n (distinct xs once) inside
+pub is_repeat_free-bound : (xs : List ℕ) (n : ℕ) → IsRepeatFree xs → ((i : ℕ) → is_listed xs i ≡ true → i < n) → length xs ≤ n
+is_repeat_free-bound xs n once inside = length-le_from_distinct_below xs n (distinct xs once) inside

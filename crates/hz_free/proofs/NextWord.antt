@@ -9,18 +9,18 @@ use Rattle.hz_core.specs.Gate.{takes}
 use Rattle.hz_core.specs.Netlist.{Netlist, IsCircuit, IsWhole, variable_count}
 use Rattle.hz_net.specs.Network.{Driver, External, Function, Source, network_of, driver_at, bit_at}
 use Rattle.hz_net.specs.Reads.{Reads}
-use Rattle.hz_net.specs.Variables.{variables_of, first_wire}
-use Rattle.hz_net.specs.Entries.{driver_of, seen_as, entries_of, IsEntryAt}
+use Rattle.hz_net.specs.Variables.{variable_kinds, first_wire}
+use Rattle.hz_net.specs.Entries.{driver_of, entry_kind, entries_of, IsEntryAt}
 use Rattle.hz_net.specs.declared.entry.Entry.{Entry}
 use Rattle.hz_net.specs.declared.entry.Entry.TheVariants.{Input as InputEntry, Gate as GateEntry, Wire as WireEntry}
 use Rattle.hz_net.specs.declared.variable.VarKind.{VarKind}
-use Rattle.hz_net.proofs.Places.{length-network_of, length-entries_of, driver_at-entry, variables_of-entry, IsEntryAt-entries_of}
+use Rattle.hz_net.proofs.Places.{length-network_of, length-entries_of, driver_at-entry, variable_kinds-entry, IsEntryAt-entries_of}
 use Rattle.hz_net.proofs.PartLemmas.{length-part, at-part}
 use Rattle.hz_word.specs.declared.word.Word.{Word}
 use Rattle.hz_word.specs.Word.{IsWord, AreWords, change_count}
-use Rattle.hz_word.specs.Capped.{capped, capped_count, IsCounted}
+use Rattle.hz_word.specs.Capped.{capped_word, capped_count, IsWithinCap}
 use Rattle.hz_free.specs.VariableWords.{IsDrivenWord, input_word}
-use Rattle.hz_free.specs.Told.{IsDrivenAs, IsReady, IsNextWord, HasCounted, IsGateWord}
+use Rattle.hz_free.specs.CappedWords.{IsDrivenAs, IsReady, IsNextWord, HasCountedWord, IsGateWord}
 
 -- an element that is there does not depend on the default
 pub default-same : {X : Type 0} (xs : List X) (k : ℕ) (d e : X) → k < length xs → get_or xs k d ≡ get_or xs k e
@@ -29,7 +29,7 @@ default-same (x ∷ xs) zero d e few = refl
 default-same (x ∷ xs) (suc k) d e few = default-same xs k d e (omega arith)
 
 -- how a variable is driven, by its entry
-driven-entry : (netlist : Netlist) (var : ℕ) (entry : Entry) → IsCircuit netlist → IsEntryAt netlist var entry → driver_at (network_of netlist) var ≡ driver_of entry → var < length (network_of netlist) → IsDrivenAs netlist var (seen_as entry)
+driven-entry : (netlist : Netlist) (var : ℕ) (entry : Entry) → IsCircuit netlist → IsEntryAt netlist var entry → driver_at (network_of netlist) var ≡ driver_of entry → var < length (network_of netlist) → IsDrivenAs netlist var (entry_kind entry)
 driven-entry netlist var (InputEntry number) circuit at driven within =
     (driven, subst (λ (n : ℕ). n < netlist.inputs) (sym at.0) at.1)
 driven-entry netlist var (GateEntry kind first pins) circuit at driven within = (
@@ -44,14 +44,14 @@ driven-entry netlist var (WireEntry gate pin source) circuit at driven within =
 some-same : (a b : VarKind) → Some a ≡ Some b → a ≡ b
 some-same a b e = cc
 
-pub driven-as : (netlist : Netlist) (var : ℕ) (kind : VarKind) → IsCircuit netlist → IsWhole netlist → var < length (network_of netlist) → slice_get (variables_of netlist) var ≡ Some kind → IsDrivenAs netlist var kind
+pub driven-as : (netlist : Netlist) (var : ℕ) (kind : VarKind) → IsCircuit netlist → IsWhole netlist → var < length (network_of netlist) → slice_get (variable_kinds netlist) var ≡ Some kind → IsDrivenAs netlist var kind
 driven-as netlist var kind circuit whole within seen =
     let few : var < variable_count netlist = omega (arith, length-network_of netlist circuit) in
     let read : get_or (entries_of netlist) var (InputEntry 0) ≡ get_or (entries_of netlist) var (get_or (entries_of netlist) var (InputEntry 0)) =
     default-same (entries_of netlist) var (InputEntry 0) (get_or (entries_of netlist) var (InputEntry 0)) (omega (arith, length-entries_of netlist circuit)) in
     subst (IsDrivenAs netlist var)
-    (some-same (seen_as (get_or (entries_of netlist) var (InputEntry 0))) kind
-    (sym (variables_of-entry netlist var (get_or (entries_of netlist) var (InputEntry 0)) circuit few read) ∙ seen))
+    (some-same (entry_kind (get_or (entries_of netlist) var (InputEntry 0))) kind
+    (sym (variable_kinds-entry netlist var (get_or (entries_of netlist) var (InputEntry 0)) circuit few read) ∙ seen))
     (driven-entry netlist var (get_or (entries_of netlist) var (InputEntry 0)) circuit
     (IsEntryAt-entries_of netlist var (InputEntry 0) circuit whole few)
     (driver_at-entry netlist var (get_or (entries_of netlist) var (InputEntry 0)) circuit few read) within)
@@ -64,7 +64,7 @@ pub AreWords-each : (words : List (List Bool)) → ((k : ℕ) → k < length wor
 AreWords-each [] each = tt
 AreWords-each (word ∷ words) each = (each 0 (omega arith), AreWords-each words (λ k few. each (suc k) (omega arith)))
 
-counted-capped_count : (cap n : ℕ) → IsCounted cap (capped_count cap n)
+counted-capped_count : (cap n : ℕ) → IsWithinCap cap (capped_count cap n)
 counted-capped_count cap n =
     elim (cases_Bool (nat_le n cap)) [
       | inl within ↦ rw within (leb-true n cap within)
@@ -79,11 +79,11 @@ input_word-IsWord true false = (λ e. cc, tt)
 input_word-IsWord false true = (λ e. cc, tt)
 
 module _ (netlist : Netlist) (circuit : IsCircuit netlist) (input start : List Bool) (cap var : ℕ) (told : List (Option Word)) where
-  reads-told : (ready : IsReady (network_of netlist) input start cap told var) → (j : ℕ) → Reads (driver_at (network_of netlist) var) j → get_or told j None ≡ Some (capped cap (get_or ready.words j []))
+  reads-told : (ready : IsReady (network_of netlist) input start cap told var) → (j : ℕ) → Reads (driver_at (network_of netlist) var) j → get_or told j None ≡ Some (capped_word cap (get_or ready.words j []))
   reads-told ready j reads = ready.are_told.tells j (ready.reads j reads)
 
   -- an input
-  pub next-input : (number : ℕ) (outcome : Word) → driver_at (network_of netlist) var ≡ External number → capped cap (input_word (bit_at start var) (bit_at input number)) ≡ outcome → IsNextWord (network_of netlist) input start cap told var outcome
+  pub next-input : (number : ℕ) (outcome : Word) → driver_at (network_of netlist) var ≡ External number → capped_word cap (input_word (bit_at start var) (bit_at input number)) ≡ outcome → IsNextWord (network_of netlist) input start cap told var outcome
   next-input number outcome driven same ready = (
     input_word (bit_at start var) (bit_at input number),
     input_word-IsWord (bit_at start var) (bit_at input number),
@@ -104,7 +104,7 @@ module _ (netlist : Netlist) (circuit : IsCircuit netlist) (input start : List B
         get_or ready.words source [],
         ready.are_told.is_word source (ready.reads source reads),
         subst (λ (driver : Driver). IsDrivenWord input start ready.words var driver (get_or ready.words source [])) (sym driven) refl,
-        same-word (capped cap (get_or ready.words source [])) outcome (sym tells ∙ same),
+        same-word (capped_word cap (get_or ready.words source [])) outcome (sym tells ∙ same),
       )
 
   -- a gate
@@ -115,16 +115,16 @@ module _ (netlist : Netlist) (circuit : IsCircuit netlist) (input start : List B
     pub length-wires : IsReady (network_of netlist) input start cap told var → length (slice_range told first (first + count)) ≡ count
     length-wires ready = let long = ready.are_told.told_long in length-part told first count (λ k few. omega arith)
 
-    at-wire : (ready : IsReady (network_of netlist) input start cap told var) (k : ℕ) (d : Option Word) → k < count → get_or (slice_range told first (first + count)) k d ≡ Some (capped cap (get_or ready.words (first + k) []))
+    at-wire : (ready : IsReady (network_of netlist) input start cap told var) (k : ℕ) (d : Option Word) → k < count → get_or (slice_range told first (first + count)) k d ≡ Some (capped_word cap (get_or ready.words (first + k) []))
     at-wire ready k d few =
         let long = length-wires ready in
         default-same (slice_range told first (first + count)) k d None (omega arith)
         ∙ (at-part told first count k None few ∙ reads-told ready (first + k) (wire-reads k few))
 
-    pub counted-wires : IsReady (network_of netlist) input start cap told var → All (HasCounted cap) (slice_range told first (first + count))
+    pub counted-wires : IsReady (network_of netlist) input start cap told var → All (HasCountedWord cap) (slice_range told first (first + count))
     counted-wires ready = λ k d few.
         let long = length-wires ready in
-        subst (HasCounted cap) (sym (at-wire ready k d (omega arith))) (counted-capped_count cap (change_count (get_or ready.words (first + k) [])))
+        subst (HasCountedWord cap) (sym (at-wire ready k d (omega arith))) (counted-capped_count cap (change_count (get_or ready.words (first + k) [])))
 
     pub next-gate : (outcome : Word) → IsGateWord kind (slice_range told first (first + count)) cap outcome → IsNextWord (network_of netlist) input start cap told var outcome
     next-gate outcome is_gate ready =
@@ -135,13 +135,13 @@ module _ (netlist : Netlist) (circuit : IsCircuit netlist) (input start : List B
         let are_words : AreWords (slice_range ready.words first (first + count)) = AreWords-each (slice_range ready.words first (first + count)) (λ k few.
         subst (λ (word : List Bool). IsWord word) (sym (at-part ready.words first count k [] (omega arith)))
         (ready.are_told.is_word (first + k) (ready.reads (first + k) (wire-reads k (omega arith))))) in
-        let same : map (λ (word : List Bool). Some (capped cap word)) (slice_range ready.words first (first + count)) ≡ slice_range told first (first + count) =
-        ext_get_or None (map (λ (word : List Bool). Some (capped cap word)) (slice_range ready.words first (first + count))) (slice_range told first (first + count))
-        (length-map (slice_range ready.words first (first + count)) (λ (word : List Bool). Some (capped cap word)) ∙ (long_words ∙ sym long_told))
+        let same : map (λ (word : List Bool). Some (capped_word cap word)) (slice_range ready.words first (first + count)) ≡ slice_range told first (first + count) =
+        ext_get_or None (map (λ (word : List Bool). Some (capped_word cap word)) (slice_range ready.words first (first + count))) (slice_range told first (first + count))
+        (length-map (slice_range ready.words first (first + count)) (λ (word : List Bool). Some (capped_word cap word)) ∙ (long_words ∙ sym long_told))
         (λ k few.
-        let less : k < count = omega (arith, few, length-map (slice_range ready.words first (first + count)) (λ (word : List Bool). Some (capped cap word))) in
-        get_or-map (λ (word : List Bool). Some (capped cap word)) (slice_range ready.words first (first + count)) k [] None (omega arith)
-        ∙ (ap (λ (word : List Bool). Some (capped cap word)) (at-part ready.words first count k [] less) ∙ sym (at-wire ready k None less))) in
+        let less : k < count = omega (arith, few, length-map (slice_range ready.words first (first + count)) (λ (word : List Bool). Some (capped_word cap word))) in
+        get_or-map (λ (word : List Bool). Some (capped_word cap word)) (slice_range ready.words first (first + count)) k [] None (omega arith)
+        ∙ (ap (λ (word : List Bool). Some (capped_word cap word)) (at-part ready.words first count k [] less) ∙ sym (at-wire ready k None less))) in
         let made = is_gate (slice_range ready.words first (first + count)) are_words same in (
           made.0,
           made.1.is_word,

@@ -5,7 +5,7 @@ use Rattle.std.proofs.lemmas.List.{get_or_push, get_or_append_left}
 use Rattle.hz_net.specs.Network.{Driver}
 use Rattle.hz_gmw.specs.Runs.{is_listed}
 use Rattle.hz_free.specs.Feedback.{ComesAround, IsFeedbackCycle}
-use Rattle.hz_free.specs.Paths.{LeadsTo, IsLink, IsFollowed, AreChoosers, AreNumbered, HasNoLinks, IsListed}
+use Rattle.hz_free.specs.Paths.{LeadsTo, IsLink, IsPathToMark, AreChoosers, AreNumbered, HasNoLinks, AddsCycle}
 use Rattle.hz_free.proofs.Lists.{listed-head}
 use Rattle.hz_free.proofs.FeedbackCycles.{all-listed, choice-one}
 use Rattle.hz_free.proofs.PathLemmas.{link-one, not-linked, path-before, path-last, path-closes, path-around, IsLedTo}
@@ -42,7 +42,7 @@ length-cycles : (cycles : List (List ℕ)) (cycle : List ℕ) → length (cycles
 length-cycles [] cycle = refl
 length-cycles (first ∷ cycles) cycle = ap suc (length-cycles cycles cycle)
 
-module _ (net : List Driver) (choosers numbers numbers' : List (Option ℕ)) (below : ℕ) (cycles : List (List ℕ)) (v : ℕ) (rest : List ℕ) (end : ℕ) (are_choosers : AreChoosers net choosers) (are : AreNumbered net choosers numbers below cycles) (followed : IsFollowed choosers below (length cycles) (v ∷ rest) end numbers numbers') where
+module _ (net : List Driver) (choosers numbers numbers' : List (Option ℕ)) (below : ℕ) (cycles : List (List ℕ)) (v : ℕ) (rest : List ℕ) (end : ℕ) (are_choosers : AreChoosers net choosers) (are : AreNumbered net choosers numbers below cycles) (followed : IsPathToMark choosers below (length cycles) (v ∷ rest) end numbers numbers') where
   one-chooser : (i j k : ℕ) → LeadsTo choosers i k → LeadsTo choosers j k → i ≡ j
   one-chooser i j k left right = choice-one net k i j (are_choosers.chosen k i left) (are_choosers.chosen k j right)
 
@@ -180,11 +180,11 @@ module _ (net : List Driver) (choosers numbers numbers' : List (Option ℕ)) (be
             ];
       }
 
-pub numbered-more : (net : List Driver) (choosers numbers numbers' : List (Option ℕ)) (below : ℕ) (cycles cycles' : List (List ℕ)) → AreChoosers net choosers → AreNumbered net choosers numbers below cycles → get_or numbers below None ≡ None → IsListed choosers below numbers cycles numbers' cycles' → AreNumbered net choosers numbers' (below + 1) cycles'
+pub numbered-more : (net : List Driver) (choosers numbers numbers' : List (Option ℕ)) (below : ℕ) (cycles cycles' : List (List ℕ)) → AreChoosers net choosers → AreNumbered net choosers numbers below cycles → get_or numbers below None ≡ None → AddsCycle choosers below numbers cycles numbers' cycles' → AreNumbered net choosers numbers' (below + 1) cycles'
 numbered-more net choosers numbers numbers' below cycles cycles' are_choosers are none listed =
     subst (AreNumbered net choosers numbers' (below + 1)) (sym listed.listed) (by-path listed.cycle listed.followed)
   where
-    by-path : (cycle : List ℕ) → IsFollowed choosers below (length cycles) cycle listed.end numbers numbers' → AreNumbered net choosers numbers' (below + 1) (cycles ++ cycle ∷ [])
+    by-path : (cycle : List ℕ) → IsPathToMark choosers below (length cycles) cycle listed.end numbers numbers' → AreNumbered net choosers numbers' (below + 1) (cycles ++ cycle ∷ [])
     by-path [] followed =
         let same : get_or numbers' listed.end None ≡ get_or numbers listed.end None = followed.following.others listed.end refl in
         let at_end : get_or numbers listed.end None ≡ None = subst (λ (m : ℕ). get_or numbers m None ≡ None) followed.following.is_path none in
@@ -192,7 +192,7 @@ numbered-more net choosers numbers numbers' below cycles cycles' are_choosers ar
     by-path (v ∷ rest) followed = numbered-push net choosers numbers numbers' below cycles v rest listed.end are_choosers are followed
 
 -- one more is listed
-pub listed-few : (choosers : List (Option ℕ)) (first : ℕ) (numbers : List (Option ℕ)) (cycles : List (List ℕ)) (numbers' : List (Option ℕ)) (cycles' : List (List ℕ)) (below : ℕ) → IsListed choosers first numbers cycles numbers' cycles' → length cycles ≤ below → length cycles' ≤ below + 1
+pub listed-few : (choosers : List (Option ℕ)) (first : ℕ) (numbers : List (Option ℕ)) (cycles : List (List ℕ)) (numbers' : List (Option ℕ)) (cycles' : List (List ℕ)) (below : ℕ) → AddsCycle choosers first numbers cycles numbers' cycles' → length cycles ≤ below → length cycles' ≤ below + 1
 listed-few choosers first numbers cycles numbers' cycles' below listed few =
     let long = ap length listed.listed ∙ length-cycles cycles listed.cycle in
     omega arith

@@ -4,7 +4,7 @@ use Rattle.std.proofs.lemmas.Bool.{or_cases, or_right, both_ways, eqb-true}
 use Rattle.std.proofs.lemmas.List.{get_or_past}
 use Rattle.std.proofs.lemmas.Bool.{cases_lt}
 use Rattle.hz_net.specs.Network.{Driver}
-use Rattle.hz_gmw.specs.Runs.{is_listed, RepeatsNone}
+use Rattle.hz_gmw.specs.Runs.{is_listed, IsRepeatFree}
 use Rattle.hz_free.specs.Feedback.{IsChoice, ComesAround, IsWayBack}
 use Rattle.hz_free.specs.Paths.{LeadsTo, IsLink, IsPath}
 use Rattle.hz_free.proofs.Lists.{listed-head, listed-one}
@@ -88,7 +88,7 @@ path-last links start v (w ∷ rest) end is =
     record { from = led.from; there = or_right _ _ led.there; leads = led.leads }
 
 -- a path that ends on itself ends in its start, if no two variables lead to its end
-pub path-closes : (links : List (Option ℕ)) (start v : ℕ) (rest : List ℕ) (end : ℕ) → ((i j : ℕ) → LeadsTo links i end → LeadsTo links j end → i ≡ j) → IsPath links start (v ∷ rest) end → RepeatsNone (v ∷ rest) → is_listed (v ∷ rest) end ≡ true → end ≡ start
+pub path-closes : (links : List (Option ℕ)) (start v : ℕ) (rest : List ℕ) (end : ℕ) → ((i j : ℕ) → LeadsTo links i end → LeadsTo links j end → i ≡ j) → IsPath links start (v ∷ rest) end → IsRepeatFree (v ∷ rest) → is_listed (v ∷ rest) end ≡ true → end ≡ start
 path-closes links start v [] end one is once there = listed-one end v there ∙ sym is.0
 path-closes links start v (w ∷ rest) end one is once there =
     elim (or_cases (eqb end v) (is_listed (w ∷ rest) end) there) [

@@ -5,7 +5,7 @@ use Rattle.std.proofs.lemmas.List.Elements.{All-cons, All-nil}
 use Rattle.hz_net.specs.Network.{Driver}
 use Rattle.hz_net.specs.Reads.{IsWired}
 use Rattle.hz_gmw.specs.Runs.{is_listed}
-use Rattle.hz_free.specs.Paths.{LeadsTo, IsLink, AreLinks, IsPath, IsFollowed, AreChoices, AreRooted, HasNoLinks, HasRoot, HaveChoosers, IsInside}
+use Rattle.hz_free.specs.Paths.{LeadsTo, IsLink, AreLinks, IsPath, IsPathToMark, AreChoices, AreRooted, HasNoLinks, HasRoot, HaveChoosers, IsInside}
 use Rattle.hz_free.proofs.Lists.{listed-head}
 use Rattle.hz_free.proofs.Chains.{reads-inside}
 use Rattle.hz_free.proofs.PathLemmas.{link-one, not-linked, link-inside, path-from, path-append, path-before, path-last}
@@ -85,7 +85,7 @@ record IsFound (choices choosers choosers' : List (Option ℕ)) (path : List ℕ
   chosen : (i j : ℕ) → LeadsTo choosers' j i → LeadsTo choices i j
   again : (i j : ℕ) → LeadsTo choosers' j i → IsLink choosers' i
 
-module _ (choices choosers choosers' roots roots1 : List (Option ℕ)) (start below : ℕ) (path : List ℕ) (end : ℕ) (found : Option ℕ) (are : AreRooted choices choosers roots below) (followed : IsFollowed choices start start path end roots roots1) where
+module _ (choices choosers choosers' roots roots1 : List (Option ℕ)) (start below : ℕ) (path : List ℕ) (end : ℕ) (found : Option ℕ) (are : AreRooted choices choosers roots below) (followed : IsPathToMark choices start start path end roots roots1) where
   found-new : (front cycle : List ℕ) → path ≡ front ++ end ∷ cycle → HaveChoosers choices (end ∷ cycle) choosers choosers' → found ≡ Some end → IsFound choices choosers choosers' path found
   found-new front cycle same have is_end =
       record {

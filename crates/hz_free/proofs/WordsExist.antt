@@ -18,14 +18,14 @@ use Rattle.hz_net.proofs.Readers.{readers-inside}
 use Rattle.hz_net.proofs.PartLemmas.{length-part, at-part}
 use Rattle.hz_word.specs.declared.word.Word.{Word}
 use Rattle.hz_word.specs.Word.{IsWord, AreWords}
-use Rattle.hz_word.specs.Capped.{capped}
+use Rattle.hz_word.specs.Capped.{capped_word}
 use Rattle.hz_word.proofs.Folds.{IsFold-kind_word}
 use Rattle.hz_free.specs.FreePart.{FreePart, MarksExist}
-use Rattle.hz_free.specs.Order.{unplaced, IsOrdering, AreReads, AreFirst}
-use Rattle.hz_free.specs.Told.{AreToldWords}
+use Rattle.hz_free.specs.Order.{unplaced_count, IsOrdering, AreReads, AreFirst}
+use Rattle.hz_free.specs.CappedWords.{AreWordsSoFar}
 use Rattle.hz_free.specs.VariableWords.{IsDrivenWord, input_word, AreCappedWords}
 use Rattle.hz_free.specs.VariableWords.{WordsExist}
-use Rattle.hz_free.proofs.Lists.{repeats_none-bound}
+use Rattle.hz_free.proofs.Lists.{is_repeat_free-bound}
 use Rattle.hz_free.proofs.Kahn.{at-listed, begin-telling, unread-reader, told-waits, told-placed}
 use Rattle.hz_free.proofs.Counting.{first-more, first-same, first-ordering}
 use Rattle.hz_free.proofs.Chains.{reads-inside}
@@ -48,17 +48,17 @@ record OrderedTo (readers : ℕ → List ℕ) (variables place : ℕ) : Type 0 w
 module _ (readers : ℕ → List ℕ) (variables : ℕ) (inside : (i : ℕ) → i < variables → All (λ reader. reader < variables) (readers i)) where
   -- how many variables each one reads
   counts : List ℕ
-  counts = map (λ i. unplaced readers [] variables i) (range_with_len 0 variables)
+  counts = map (λ i. unplaced_count readers [] variables i) (range_with_len 0 variables)
 
-  count-at : (i : ℕ) → i < variables → get_or counts i 0 ≡ unplaced readers [] variables i
+  count-at : (i : ℕ) → i < variables → get_or counts i 0 ≡ unplaced_count readers [] variables i
   unfolding counts
   count-at i few =
-      get_or-map-range_with_len (λ i. unplaced readers [] variables i) 0 variables i i 0 few (omega arith)
+      get_or-map-range_with_len (λ i. unplaced_count readers [] variables i) 0 variables i i 0 few (omega arith)
 
   counted : AreReads readers variables variables [] counts
   unfolding counts
   counted = record {
-    long = length-map-range_with_len (λ i. unplaced readers [] variables i) 0 variables;
+    long = length-map-range_with_len (λ i. unplaced_count readers [] variables i) 0 variables;
     counted = λ i few. let at = count-at i few in omega arith;
   }
 
@@ -91,7 +91,7 @@ module _ (readers : ℕ → List ℕ) (variables : ℕ) (inside : (i : ℕ) → 
   finish : (fuel place : ℕ) (unread order : List ℕ) → variables ≤ place + fuel → IsOrdering readers variables place [] unread order → Ordered readers variables
   finish zero place unread order enough is =
       let within = is.within in
-      let bound = repeats_none-bound order variables is.once is.inside in
+      let bound = is_repeat_free-bound order variables is.once is.inside in
       let ends : place ≡ length order = omega arith in
       record { unread = unread; order = order; is_ordering = subst (λ (n : ℕ). IsOrdering readers variables n [] unread order) ends is }
   finish (suc fuel) place unread order enough is =
@@ -158,14 +158,14 @@ module _ (netlist : Netlist) (circuit : IsCircuit netlist) (whole : IsWhole netl
       AreWords-each (slice_range words first (first + pins)) (λ k less.
       let less' : k < pins = omega (arith, less, wires_long) in
       subst (λ (w : List Bool). IsWord w) (sym (at-part words first pins k [] less')) (each (first + k) (omega arith, omega arith))) in
-      let taken : IsTrue (takes kind (length (map (capped cap) (slice_range words first (first + pins))))) =
-      subst (λ (n : ℕ). IsTrue (takes kind n)) (gate.pins_are ∙ sym (length-map (slice_range words first (first + pins)) (capped cap) ∙ wires_long))
+      let taken : IsTrue (takes kind (length (map (capped_word cap) (slice_range words first (first + pins))))) =
+      subst (λ (n : ℕ). IsTrue (takes kind n)) (gate.pins_are ∙ sym (length-map (slice_range words first (first + pins)) (capped_word cap) ∙ wires_long))
       (subst (λ (k : Kind). IsTrue (takes k (length (gate_at netlist i).sources))) gate.same_kind (takes-at_gate netlist i circuit whole gate.is_gate)) in
-      let made = IsFold-kind_word kind (map (capped cap) (slice_range words first (first + pins))) cap taken (slice_range words first (first + pins)) are refl in
+      let made = IsFold-kind_word kind (map (capped_word cap) (slice_range words first (first + pins))) cap taken (slice_range words first (first + pins)) are refl in
       (made.0, made.1.is_word, made.1)
 
   -- one variable of the order after the other
-  words-to : (place : ℕ) → place ≤ length part.order → (told : List (Option Word)) × (words : List (List Bool)) × AreToldWords (network_of netlist) input start cap (take place part.order) told words
+  words-to : (place : ℕ) → place ≤ length part.order → (told : List (Option Word)) × (words : List (List Bool)) × AreWordsSoFar (network_of netlist) input start cap (take place part.order) told words
   words-to zero within =
       let none : List (Option Word) = replicate (length (network_of netlist)) None in
       let empty = no-words netlist input start cap none (length-replicate (length (network_of netlist)) None) (λ i. none-at (length (network_of netlist)) i) in
@@ -177,7 +177,7 @@ module _ (netlist : Netlist) (circuit : IsCircuit netlist) (whole : IsWhole netl
       let are = so_far.2 in
       let next = next-word so_far.1 var (driver_at (network_of netlist) var) refl are.long
       (λ j reads. are.is_word j (is.after place j few reads)) in (
-        set so_far.0 var (Some (capped cap next.0)),
+        set so_far.0 var (Some (capped_word cap next.0)),
         set so_far.1 var next.0,
         rw add-one at (one-more netlist input start cap part is place few so_far.0 so_far.1 are next.0 next.1 next.2),
       )
@@ -187,7 +187,7 @@ module _ (netlist : Netlist) (circuit : IsCircuit netlist) (whole : IsWhole netl
       let all = words-to (length part.order) (omega arith) in (
         all.0,
         all-words netlist input start cap part is all.0 all.1
-            (subst (λ (placed : List ℕ). AreToldWords (network_of netlist) input start cap placed all.0 all.1) (take-length part.order) all.2),
+            (subst (λ (placed : List ℕ). AreWordsSoFar (network_of netlist) input start cap placed all.0 all.1) (take-length part.order) all.2),
       )
 
 pub words : WordsExist

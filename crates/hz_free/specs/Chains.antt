@@ -2,7 +2,7 @@
 use Rattle.std.specs.Prelude.{ℕ, List, [], ◌∷◌}
 use Rattle.hz_net.specs.Network.{Driver, driver_at}
 use Rattle.hz_net.specs.Reads.{Reads}
-use Rattle.hz_gmw.specs.Runs.{RepeatsNone}
+use Rattle.hz_gmw.specs.Runs.{IsRepeatFree}
 
 -- a chain backwards from a variable, from a reader to what it reads
 abbrev pub IsChain : List Driver → ℕ → List ℕ → Type 0
@@ -11,4 +11,4 @@ IsChain net i (next ∷ chain) = Reads (driver_at net i) next × IsChain net nex
 
 -- a variable is feedback-free if no chain backwards from it repeats a variable
 abbrev pub IsFeedbackFree : List Driver → ℕ → Type 0
-IsFeedbackFree net i = (chain : List ℕ) → IsChain net i chain → RepeatsNone (i ∷ chain)
+IsFeedbackFree net i = (chain : List ℕ) → IsChain net i chain → IsRepeatFree (i ∷ chain)

@@ -3,7 +3,7 @@
 use Rattle.std.specs.Prelude.{◌≡◌, ℕ, suc, ◌<◌, List, [], ◌∷◌, length, All, Contains, IsTrue, slice_index, slice_index_or}
 use Rattle.hz_net.specs.Network.{Driver, driver_at}
 use Rattle.hz_net.specs.Reads.{Reads}
-use Rattle.hz_gmw.specs.Runs.{is_listed, RepeatsNone}
+use Rattle.hz_gmw.specs.Runs.{is_listed, IsRepeatFree}
 use Rattle.hz_free.specs.Chains.{IsFeedbackFree}
 
 -- A variable chooses the first variable that it reads and that is not feedback-free: a wire its source, a gate the first of its
@@ -22,7 +22,7 @@ ComesAround net first last (next ∷ rest) = IsChoice net next last × ComesArou
 abbrev pub IsFeedbackCycle : List Driver → List ℕ → Type 0
 IsFeedbackCycle net [] = ⊥
 IsFeedbackCycle net (first ∷ rest) =
-    ComesAround net first first rest × RepeatsNone (first ∷ rest) × All (λ later. first < later) rest
+    ComesAround net first first rest × IsRepeatFree (first ∷ rest) × All (λ later. first < later) rest
 
 -- all feedback cycles, in the order of their least variables
 pub record AreFeedbackCycles (net : List Driver) (cycles : List (List ℕ)) : Type 0 where

@@ -3,7 +3,7 @@ use Rattle.std.specs.Prelude.{◌≡◌, ◌↔◌, ℕ, ◌<◌, Bool, false, O
 use Rattle.hz_core.specs.Netlist.{Netlist, IsCircuit}
 use Rattle.hz_net.specs.Network.{Driver, network_of, driver_at, bit_at}
 use Rattle.hz_net.specs.Reads.{Reads}
-use Rattle.hz_gmw.specs.Runs.{is_listed, RepeatsNone}
+use Rattle.hz_gmw.specs.Runs.{is_listed, IsRepeatFree}
 use Rattle.hz_free.specs.Chains.{IsFeedbackFree}
 use Rattle.hz_free.specs.Feedback.{AreFeedbackCycles, IsCore}
 
@@ -44,7 +44,7 @@ HaveCores free cycles cores = (i : ℕ) → i < length free → bit_at free i �
 pub record IsFreePart (netlist : Netlist) (part : FreePart) : Type 0 where
   pub marks : AreMarks (network_of netlist) part.free
   pub listed : (i : ℕ) → i < length (network_of netlist) → is_listed part.order i ≡ bit_at part.free i
-  pub once : RepeatsNone part.order
+  pub once : IsRepeatFree part.order
   pub inside : (i : ℕ) → IsTrue (is_listed part.order i) → i < length (network_of netlist)
   pub after : (at j : ℕ) → at < length part.order → Reads (driver_at (network_of netlist) (slice_index part.order at)) j → IsTrue (is_listed (take at part.order) j)
   pub feedback : AreFeedback (network_of netlist) part.cycles part.cores

@@ -15,7 +15,7 @@
 -- MarksExist, WordsExist: there always are such marks and words
 -- occurrences i list: how often a list has a number
 -- IsOrdering readers variables place left unread order: a topological order so far
--- AreToldWords net input start cap placed capped words: the words that were made so far
+-- AreWordsSoFar net input start cap placed capped words: the words that were made so far
 -- IsNextWord net input start cap capped i word: the word of variable i by those that it reads
 -- AreLinks links, LeadsTo links i next, IsPath links start path end: a list of links, and the paths along it
 -- AreChoices net choices, AreRooted choices choosers roots below: the choices as links, and where they end
@@ -25,6 +25,6 @@ pub mod Chains
 pub mod VariableWords
 pub mod Order
 pub mod FreePart
-pub mod Told
+pub mod CappedWords
 pub mod Feedback
 pub mod Paths

@@ -1,7 +1,7 @@
 -- Links from a variable to another one, and paths along them: what a search for feedback cycles finds of each variable.
 use Rattle.std.specs.Prelude.{◌≡◌, ℕ, suc, Bool, false, true, ◌<◌, ◌≤◌, ◌⊎◌, Option, Some, None, List, [], ◌∷◌, ◌++◌, length, MatchOption, IsTrue, slice_index, slice_index_or}
 use Rattle.hz_net.specs.Network.{Driver, bit_at}
-use Rattle.hz_gmw.specs.Runs.{is_listed, RepeatsNone}
+use Rattle.hz_gmw.specs.Runs.{is_listed, IsRepeatFree}
 use Rattle.hz_free.specs.Chains.{IsFeedbackFree}
 use Rattle.hz_free.specs.Feedback.{IsChoice, IsFeedbackCycle}
 
@@ -24,17 +24,17 @@ IsPath links start [] end = start ≡ end
 IsPath links start (i ∷ path) end = (start ≡ i) × (next : ℕ) × LeadsTo links start next × IsPath links next path end
 
 -- A path was followed so far: its variables had no mark, and have one now.
-pub record IsFollowing (links : List (Option ℕ)) (start mark : ℕ) (path : List ℕ) (end : ℕ) (marks marks' : List (Option ℕ)) : Type 0 where
+pub record IsPathSoFar (links : List (Option ℕ)) (start mark : ℕ) (path : List ℕ) (end : ℕ) (marks marks' : List (Option ℕ)) : Type 0 where
   pub is_path : IsPath links start path end
-  pub once : RepeatsNone path
+  pub once : IsRepeatFree path
   pub inside : (i : ℕ) → IsTrue (is_listed path i) → i < length links
   pub fresh : (i : ℕ) → IsTrue (is_listed path i) → slice_index_or marks i None ≡ None
   pub marked : (i : ℕ) → IsTrue (is_listed path i) → LeadsTo marks' i mark
   pub others : (i : ℕ) → is_listed path i ≡ false → slice_index_or marks' i None ≡ slice_index_or marks i None
 
 -- A path was followed up to a variable that has a mark.
-pub record IsFollowed (links : List (Option ℕ)) (start mark : ℕ) (path : List ℕ) (end : ℕ) (marks marks' : List (Option ℕ)) : Type 0 where
-  pub following : IsFollowing links start mark path end marks marks'
+pub record IsPathToMark (links : List (Option ℕ)) (start mark : ℕ) (path : List ℕ) (end : ℕ) (marks marks' : List (Option ℕ)) : Type 0 where
+  pub following : IsPathSoFar links start mark path end marks marks'
   pub ended : IsLink marks' end
 
 -- what each variable of a network chooses, and None for the feedback-free ones
@@ -104,10 +104,10 @@ HasRoot choices path end choosers choosers' roots root =
     ⊎ ((is_listed path end ≡ false) × (choosers' ≡ choosers) × (root ≡ slice_index_or roots end None))
 
 -- one cycle more is listed: the path along those that chose, which has its number now
-pub record IsListed (choosers : List (Option ℕ)) (first : ℕ) (numbers : List (Option ℕ)) (cycles : List (List ℕ)) (numbers' : List (Option ℕ)) (cycles' : List (List ℕ)) : Type 0 where
+pub record AddsCycle (choosers : List (Option ℕ)) (first : ℕ) (numbers : List (Option ℕ)) (cycles : List (List ℕ)) (numbers' : List (Option ℕ)) (cycles' : List (List ℕ)) : Type 0 where
   pub cycle : List ℕ
   pub end : ℕ
-  pub followed : IsFollowed choosers first (length cycles) cycle end numbers numbers'
+  pub followed : IsPathToMark choosers first (length cycles) cycle end numbers numbers'
   pub listed : cycles' ≡ cycles ++ cycle ∷ []
 
 -- a root is a variable

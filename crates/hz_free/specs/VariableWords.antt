@@ -7,7 +7,7 @@ use Rattle.hz_net.specs.Network.{Driver, network_of, External, Function, Source,
 use Rattle.hz_gmw.specs.Cycles.{states_of}
 use Rattle.hz_word.specs.declared.word.Word.{Word}
 use Rattle.hz_word.specs.Walk.{IsWordOf}
-use Rattle.hz_word.specs.Capped.{capped}
+use Rattle.hz_word.specs.Capped.{capped_word}
 use Rattle.hz_word.specs.Covers.{history_of}
 use Rattle.hz_free.specs.Chains.{IsFeedbackFree}
 
@@ -32,7 +32,7 @@ pub record AreCappedWords (net : List Driver) (input start : List Bool) (cap : �
   pub words : List (List Bool)
   pub are_words : AreVariableWords net input start words
   pub long : length told ≡ length net
-  pub free : (i : ℕ) → i < length net → IsFeedbackFree net i → slice_get told i ≡ Some (Some (capped cap (slice_index_or words i [])))
+  pub free : (i : ℕ) → i < length net → IsFeedbackFree net i → slice_get told i ≡ Some (Some (capped_word cap (slice_index_or words i [])))
   pub others : (i : ℕ) → i < length net → (IsFeedbackFree net i → ⊥) → slice_get told i ≡ Some None
 
 -- the history of a variable along a run

@@ -8,7 +8,7 @@ ghost use Rattle.hz_gmw.specs.Runs.{is_listed};
 ghost use Rattle.hz_free.specs.Chains.{IsFeedbackFree};
 ghost use Rattle.hz_free.specs.Feedback.{IsChoice};
 ghost use Rattle.hz_free.specs.FreePart.{AreMarks, AreFeedback};
-ghost use Rattle.hz_free.specs.Paths.{LeadsTo, IsLink, AreLinks, IsPath, IsFollowed, AreChoices, AreRooted, AreChoosers, AreNumbered, HasRoot, HaveValue, HaveChoosers, IsFeeding, HasNoLinks, IsInside, IsListed, core_by};
+ghost use Rattle.hz_free.specs.Paths.{LeadsTo, IsLink, AreLinks, IsPath, IsPathToMark, AreChoices, AreRooted, AreChoosers, AreNumbered, HasRoot, HaveValue, HaveChoosers, IsFeeding, HasNoLinks, IsInside, AddsCycle, core_by};
 
 use crate::cycles::Cycles;
 use hz_core::Memory;
@@ -135,7 +135,7 @@ fn follow(
     requires links { AreLinks links.now }
     requires start { IsLink links.now start }
     requires long { length marks.old ≡ length links.now }
-    ensures { IfOk result (λ path. IsFollowed links.now start mark path.variables.items path.end marks.old marks.new) }
+    ensures { IfOk result (λ path. IsPathToMark links.now start mark path.variables.items path.end marks.old marks.new) }
 {
     let mut variables = Vec::new(alloc);
     let mut var = start;
@@ -288,7 +288,7 @@ fn list_cycle(
     requires first { IsLink choosers.now first }
     requires long { length numbers.old ≡ length choosers.now }
     requires room { length cycles.old < 2 ^ 32 }
-    ensures { OnOk result (IsListed choosers.now first numbers.old cycles.old numbers.new cycles.new) }
+    ensures { OnOk result (AddsCycle choosers.now first numbers.old cycles.old numbers.new cycles.new) }
 {
     let path = follow(alloc, choosers, first, cycles.len() as u32, numbers)?;
     cycles.push(path.variables.as_slice())

@@ -7,7 +7,7 @@ ghost use Rattle.hz_free.specs.Chains.{IsFeedbackFree};
 ghost use Rattle.hz_free.specs.Feedback.{IsFeedbackCycle, IsCore};
 ghost use Rattle.hz_free.specs.Order.{AreReads};
 ghost use Rattle.hz_free.specs.FreePart.{IsFreePart};
-ghost use Rattle.hz_free.specs.Told.{IsReady, IsNextWord};
+ghost use Rattle.hz_free.specs.CappedWords.{IsReady, IsNextWord};
 ghost use Rattle.hz_free.specs.VariableWords.{AreCappedWords};
 
 use crate::feedback::{Feedback, find_feedback};

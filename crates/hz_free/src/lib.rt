@@ -19,7 +19,7 @@ ghost use Rattle.hz_net.specs.Passes.{algorithm_a, algorithm_b, IsResult};
 ghost use Rattle.hz_net.specs.Starts.{IsStableStart};
 ghost use Rattle.hz_gmw.specs.Runs.{IsRun};
 ghost use Rattle.hz_word.specs.Word.{first_letter, last_letter, change_count};
-ghost use Rattle.hz_word.specs.Capped.{capped};
+ghost use Rattle.hz_word.specs.Capped.{capped_word};
 ghost use Rattle.hz_word.specs.Covers.{Covers};
 ghost use Rattle.hz_free.specs.Chains.{IsFeedbackFree};
 ghost use Rattle.hz_free.specs.Feedback.{AreFeedbackCycles, IsCore};
@@ -38,7 +38,7 @@ pub use free::Free;
 
 /// Along every run from a stable start under the new input, the word of a feedback-free variable covers its history.
 pub fn words_cover()
-    ensures { (netlist : Netlist) (input start : List Bool) (words : List (List Bool)) (cap i : ℕ) (steps : List (List ℕ)) → IsCircuit netlist → IsWhole netlist → IsStableStart netlist start → AreVariableWords (network_of netlist) input start words → i < length (network_of netlist) → IsFeedbackFree (network_of netlist) i → IsRun (network_of netlist) input start steps → Covers (capped cap (slice_index_or words i [])) (variable_history start steps i) }
+    ensures { (netlist : Netlist) (input start : List Bool) (words : List (List Bool)) (cap i : ℕ) (steps : List (List ℕ)) → IsCircuit netlist → IsWhole netlist → IsStableStart netlist start → AreVariableWords (network_of netlist) input start words → i < length (network_of netlist) → IsFeedbackFree (network_of netlist) i → IsRun (network_of netlist) input start steps → Covers (capped_word cap (slice_index_or words i [])) (variable_history start steps i) }
 {}
 
 /// The word of a feedback-free variable begins with its value at the start.

@@ -2,7 +2,7 @@
 ghost use Rattle.std.specs.Prelude.{◌≡◌, ◌+◌, ◌<◌, ◌≤◌, [], length, IfOk, OnOk, slice_index};
 ghost use Rattle.hz_net.specs.Network.{network_of};
 ghost use Rattle.hz_net.specs.Reads.{readers_of};
-ghost use Rattle.hz_free.specs.Order.{IsOrdering, AreReads, IsTold};
+ghost use Rattle.hz_free.specs.Order.{IsOrdering, AreReads, ReducesReader};
 
 use hz_core::Memory;
 use hz_net::Net;
@@ -89,7 +89,7 @@ fn place_readers(
 fn tell(reader: u32, unread: &mut [u32], order: &mut Vec<u32>) -> Result<(), Memory>
     requires reader { reader < length unread.old }
     requires reads { 1 ≤ slice_index unread.old reader }
-    ensures { OnOk result (IsTold reader unread.old order.old.items unread.new order.new.items) }
+    ensures { OnOk result (ReducesReader reader unread.old order.old.items unread.new order.new.items) }
 {
     unread[reader as usize] -= 1;
     if unread[reader as usize] == 0 {

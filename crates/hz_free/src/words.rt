@@ -4,16 +4,16 @@ ghost use Rattle.hz_core.specs.Gate.{takes};
 ghost use Rattle.hz_net.specs.Network.{network_of, driver_at};
 ghost use Rattle.hz_net.specs.Reads.{Reads};
 ghost use Rattle.hz_gmw.specs.Runs.{is_listed};
-ghost use Rattle.hz_word.specs.Capped.{capped};
+ghost use Rattle.hz_word.specs.Capped.{capped_word};
 ghost use Rattle.hz_free.specs.VariableWords.{input_word};
-ghost use Rattle.hz_free.specs.Told.{AreToldWords, HasCounted, IsGateWord};
+ghost use Rattle.hz_free.specs.CappedWords.{AreWordsSoFar, HasCountedWord, IsGateWord};
 
 use hz_core::Kind;
 use hz_word::{Count, Word, fold};
 
 // The word of an input: its value at the start, and one change if the new input differs.
 pub(crate) fn input_word(old: bool, new: bool) -> Word
-    ensures { (cap : ℕ) → 1 ≤ cap → capped cap (input_word old new) ≡ result }
+    ensures { (cap : ℕ) → 1 ≤ cap → capped_word cap (input_word old new) ≡ result }
 {
     Word {
         first: old,
@@ -24,7 +24,7 @@ pub(crate) fn input_word(old: bool, new: bool) -> Word
 // The word of a gate, given those of its wires. The pins are room for them.
 pub(crate) fn gate_word(kind: Kind, wires: &[Option<Word>], cap: u64, pins: &mut [Word]) -> Word
     requires takes { IsTrue (takes kind (length wires.now)) }
-    requires counted { All (HasCounted cap) wires.now }
+    requires counted { All (HasCountedWord cap) wires.now }
     requires cap_low { 1 ≤ cap }
     requires cap_high { cap ≤ 1000000 }
     requires room { length wires.now ≤ length pins.old }
@@ -37,7 +37,7 @@ pub(crate) fn gate_word(kind: Kind, wires: &[Option<Word>], cap: u64, pins: &mut
 
 // The words of wires that all have one.
 fn gather(wires: &[Option<Word>], pins: &mut [Word], cap: u64)
-    requires counted { All (HasCounted cap) wires.now }
+    requires counted { All (HasCountedWord cap) wires.now }
     requires room { length pins.old ≡ length wires.now }
     ensures { map Some pins.new ≡ wires.now }
 {

@@ -11,12 +11,12 @@ use Rattle.hz_core.specs.Netlist.{Gate, Netlist, IsCircuit, IsGateNumber, gate_a
 use Rattle.hz_net.specs.Starts.{IsForced, IsLeastOpen, IsLeastUnstable}
 use Rattle.hz_net.proofs.Derivations.{forced-listed}
 use Rattle.hz_gen.specs.Demo.{IsDemoNumber, demo_netlist, demo_script}
-use Rattle.hz_gen.specs.Built.{buffer_gate, ring_gates, multiplexer_gates, last_gate, chain_netlist}
+use Rattle.hz_gen.specs.BuiltDemo.{buffer_gate, ring_gates, multiplexer_gates, last_gate, chain_netlist}
 use Rattle.hz_gen.specs.Starts.{DemoStarts}
 use Rattle.hz_gen.proofs.Counts.{length-chain_names, length-ring_gates}
 use Rattle.hz_gen.proofs.Numbers.{demo-built}
 use Rattle.hz_gen.proofs.Scripts.{start_of, script-built}
-use Rattle.hz_gen.proofs.Resting.{Rests, AreForcedTo, rest-gate, rest-listed, rest-input, rests-not-open, rests-not-unstable}
+use Rattle.hz_gen.proofs.RestingCircuits.{Rests, AreForcedTo, rest-gate, rest-listed, rest-input, rests-not-open, rests-not-unstable}
 
 -- one of three elements for each number of a range
 at-three : (f : ℕ → List Gate) (first count i j : ℕ) (d : Gate) → ((k : ℕ) → length (f k) ≡ 3) → i < count → j < 3 →

@@ -6,7 +6,7 @@ use Rattle.std.proofs.lemmas.List.Sums.{sum_by-append, sum_by-cons}
 use Rattle.hz_core.specs.declared.kind.Kind.TheVariants.{And, Or, Not}
 use Rattle.hz_core.specs.Netlist.{Gate, variable_count}
 use Rattle.hz_gen.specs.Demo.{r_name}
-use Rattle.hz_gen.specs.Built.{ring_names, ring_gates, ring_netlist, buffer_gate, multiplexer_names, multiplexer_gates, chain_netlist}
+use Rattle.hz_gen.specs.BuiltDemo.{ring_names, ring_gates, ring_netlist, buffer_gate, multiplexer_names, multiplexer_gates, chain_netlist}
 
 -- how many pins a gate has
 abbrev pins : Gate → ℕ

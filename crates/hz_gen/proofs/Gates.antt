@@ -6,13 +6,13 @@ use Rattle.std.proofs.lemmas.List.Sums.{sum_by_push}
 use Rattle.hz_core.specs.declared.kind.Kind.{Kind}
 use Rattle.hz_core.specs.declared.kind.Kind.TheVariants.{And}
 use Rattle.hz_core.specs.Netlist.{Gate, Netlist, IsGateNumber, gate_at, most_pins, variable_count, with_pin, with_source}
-use Rattle.hz_gen.specs.Built.{MayAdd, with_connected}
+use Rattle.hz_gen.specs.BuiltDemo.{MayAddWiredGate, with_wired_gate}
 
 module _ (netlist : Netlist) (name : List ℕ) (kind : Kind) (gate : ℕ) where
   -- the last gate is the one that was added
   last-added :
       (sources : List ℕ) → gate ≡ length netlist.names → length netlist.names ≡ netlist.inputs + length netlist.gates →
-      gate_at (with_connected netlist name kind sources) gate ≡ record { kind = kind; sources = sources }
+      gate_at (with_wired_gate netlist name kind sources) gate ≡ record { kind = kind; sources = sources }
   last-added sources is nodes =
       let one : Gate = record { kind = kind; sources = sources } in
       let place : gate - netlist.inputs ≡ length netlist.gates = omega arith in
@@ -23,13 +23,13 @@ module _ (netlist : Netlist) (name : List ℕ) (kind : Kind) (gate : ℕ) where
   pin-added :
       (sources : List ℕ) (source : ℕ) → gate ≡ length netlist.names →
       length netlist.names ≡ netlist.inputs + length netlist.gates →
-      with_pin (with_connected netlist name kind sources) gate source
-      ≡ with_connected netlist name kind (sources ++ source ∷ [])
+      with_pin (with_wired_gate netlist name kind sources) gate source
+      ≡ with_wired_gate netlist name kind (sources ++ source ∷ [])
   pin-added sources source is nodes =
       let one : Gate = record { kind = kind; sources = sources } in
       let more : Gate = record { kind = kind; sources = sources ++ source ∷ [] } in
       let place : gate - netlist.inputs ≡ length netlist.gates = omega arith in
-      let last = gate_at (with_connected netlist name kind sources) gate in
+      let last = gate_at (with_wired_gate netlist name kind sources) gate in
       let gates :
       set (netlist.gates ++ one ∷ []) (gate - netlist.inputs) (with_source last source) ≡ netlist.gates ++ more ∷ [] =
       rw (last-added sources is nodes, place) (set-append_seam netlist.gates one [] more) in
@@ -38,7 +38,7 @@ module _ (netlist : Netlist) (name : List ℕ) (kind : Kind) (gate : ℕ) where
   -- how many variables there are then
   pub count-added :
       (sources : List ℕ) →
-      variable_count (with_connected netlist name kind sources) ≡ variable_count netlist + 1 + length sources
+      variable_count (with_wired_gate netlist name kind sources) ≡ variable_count netlist + 1 + length sources
   count-added sources =
       omega (
         arith,
@@ -56,8 +56,8 @@ pub record MayConnect (netlist : Netlist) (gate source : ℕ) : Type 0 where
 -- the next pin may be added
 pub next-may :
     (netlist circuit : Netlist) (name : List ℕ) (kind : Kind) (sources : List ℕ) (i gate : ℕ) →
-    MayAdd netlist name kind sources →
-    gate ≡ length netlist.names → i < length sources → circuit ≡ with_connected netlist name kind (take i sources) →
+    MayAddWiredGate netlist name kind sources →
+    gate ≡ length netlist.names → i < length sources → circuit ≡ with_wired_gate netlist name kind (take i sources) →
     MayConnect circuit gate (get_or sources i 0)
 next-may netlist circuit name kind sources i gate may is below so_far =
     let taken : length (take i sources) ≡ i = length-take-le i sources (omega arith) in
@@ -74,10 +74,10 @@ next-may netlist circuit name kind sources i gate may is below so_far =
 -- the next pin is added
 pub next-added :
     (netlist circuit next : Netlist) (name : List ℕ) (kind : Kind) (sources : List ℕ) (i gate : ℕ) →
-    MayAdd netlist name kind sources →
-    gate ≡ length netlist.names → i < length sources → circuit ≡ with_connected netlist name kind (take i sources) →
-    next ≡ with_pin circuit gate (get_or sources i 0) → next ≡ with_connected netlist name kind (take (i + 1) sources)
+    MayAddWiredGate netlist name kind sources →
+    gate ≡ length netlist.names → i < length sources → circuit ≡ with_wired_gate netlist name kind (take i sources) →
+    next ≡ with_pin circuit gate (get_or sources i 0) → next ≡ with_wired_gate netlist name kind (take (i + 1) sources)
 next-added netlist circuit next name kind sources i gate may is below so_far step =
     step ∙ ap (λ circuit. with_pin circuit gate (get_or sources i 0)) so_far
     ∙ pin-added netlist name kind gate (take i sources) (get_or sources i 0) is may.nodes
-    ∙ ap (with_connected netlist name kind) (sym (take_more sources i 0 below))
+    ∙ ap (with_wired_gate netlist name kind) (sym (take_more sources i 0 below))

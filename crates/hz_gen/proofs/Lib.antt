@@ -1,10 +1,10 @@
 pub mod Gates
 pub mod Names
-pub mod Fresh
+pub mod FreshNames
 pub mod Numbers
 pub mod Counts
 pub mod Steps
 pub mod Scripts
 pub mod Laws
-pub mod Resting
+pub mod RestingCircuits
 pub mod AtRest

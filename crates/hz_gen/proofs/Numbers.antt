@@ -7,10 +7,10 @@ use Rattle.std.proofs.lemmas.List.FromFn.{length-map-range_with_len}
 use Rattle.std.proofs.lemmas.List.Folds.{list_any-append}
 use Rattle.std.proofs.lemmas.Grind.{flat_map-append}
 use Rattle.hz_core.specs.Netlist.{Gate, Netlist, empty_netlist}
-use Rattle.hz_gen.specs.Demo.{GateLine, r_name, a_name, b_name, m_name, buffer_line, multiplexer_lines, gate_lines, names_in, node_in, gate_in, demo_names, demo_netlist}
-use Rattle.hz_gen.specs.Built.{ring_names, buffer_gate, multiplexer_names, multiplexer_gates, last_gate, chain_netlist}
+use Rattle.hz_gen.specs.Demo.{GateLine, r_name, a_name, b_name, m_name, buffer_line, multiplexer_lines, demo_gate_lines, names_of_lines, node_in, gate_in, demo_names, demo_netlist}
+use Rattle.hz_gen.specs.BuiltDemo.{ring_names, buffer_gate, multiplexer_names, multiplexer_gates, last_gate, chain_netlist}
 use Rattle.hz_gen.proofs.Names.{earlier-differ}
-use Rattle.hz_gen.proofs.Fresh.{none_in-range, none_in-lists, place-after, place-of, range-split}
+use Rattle.hz_gen.proofs.FreshNames.{none_in-range, none_in-lists, place-after, place-of, range-split}
 use Rattle.hz_gen.proofs.Counts.{length-chain_names}
 
 none_of_three : (x y z : Bool) → x ≡ false → y ≡ false → z ≡ false → (x || (y || (z || false))) ≡ false
@@ -174,7 +174,7 @@ multiplexers_names [] = refl
 multiplexers_names (k ∷ ks) = ap (λ rest. a_name k ∷ b_name k ∷ m_name k ∷ rest) (multiplexers_names ks)
 
 -- the names of the circuit are those that are added
-names-added : (n : ℕ) → names_in (gate_lines n) ≡ chain_names n n
+names-added : (n : ℕ) → names_of_lines (demo_gate_lines n) ≡ chain_names n n
 names-added n =
     let name : GateLine → List ℕ = λ line. line.name in
     let ring = range_with_len 2 (n - 1) in
@@ -229,7 +229,7 @@ multiplexer_reads n k low within most =
     rw (m-node n (k - 1) (omega arith) most, a-node n k low within most, b-node n k low within most) refl
 
 gates-built :
-    (n : ℕ) → 1 ≤ n → n ≤ 18000 → map (gate_in (chain_names n n)) (gate_lines n) ≡ (chain_netlist n n).gates
+    (n : ℕ) → 1 ≤ n → n ≤ 18000 → map (gate_in (chain_names n n)) (demo_gate_lines n) ≡ (chain_netlist n n).gates
 gates-built n least most =
     let gate = gate_in (chain_names n n) in
     let ring = range_with_len 2 (n - 1) in
@@ -252,5 +252,5 @@ unfolding demo_netlist
 demo-built n least most =
     let with_lists : List (List ℕ) → List Gate → Netlist =
     λ names gates. record empty_netlist { names = names; inputs = 2; gates = gates } in
-    ap (λ names. with_lists names (map (gate_in names) (gate_lines n))) (names-built n)
+    ap (λ names. with_lists names (map (gate_in names) (demo_gate_lines n))) (names-built n)
     ∙ ap (with_lists (chain_names n n)) (gates-built n least most)

@@ -8,7 +8,7 @@ use Rattle.std.proofs.lemmas.List.Elements.{All-nil, All-cons}
 use Rattle.hz_text.specs.ScriptValue.{ScriptOf, IsChange}
 use Rattle.hz_text.specs.ScriptText.{IsScriptFor}
 use Rattle.hz_gen.specs.Demo.{r_name, node_in, with_listed, demo_script}
-use Rattle.hz_gen.specs.Built.{chain_netlist}
+use Rattle.hz_gen.specs.BuiltDemo.{chain_netlist}
 use Rattle.hz_gen.proofs.Counts.{length-chain_names}
 use Rattle.hz_gen.proofs.Numbers.{chain_names, names-built, r-node}
 

@@ -10,10 +10,10 @@ use Rattle.hz_core.specs.declared.kind.Kind.{Kind}
 use Rattle.hz_core.specs.declared.kind.Kind.TheVariants.{And, Or, Not, Buff}
 use Rattle.hz_core.specs.Netlist.{Gate, Netlist, variable_count, most_pins, empty_netlist}
 use Rattle.hz_gen.specs.Demo.{r_name, a_name, b_name, m_name}
-use Rattle.hz_gen.specs.Built.{MayAdd, with_connected, ring_names, ring_gates, ring_netlist, buffer_gate, multiplexer_names, multiplexer_gates, last_gate, chain_netlist}
+use Rattle.hz_gen.specs.BuiltDemo.{MayAddWiredGate, with_wired_gate, ring_names, ring_gates, ring_netlist, buffer_gate, multiplexer_names, multiplexer_gates, last_gate, chain_netlist}
 use Rattle.hz_gen.proofs.Gates.{count-added}
 use Rattle.hz_gen.proofs.Names.{numbered-IsName}
-use Rattle.hz_gen.proofs.Fresh.{range-split, unnamed}
+use Rattle.hz_gen.proofs.FreshNames.{range-split, unnamed}
 use Rattle.hz_gen.proofs.Counts.{nodes-ring, nodes-chain, length-ring_names, length-chain_names, count-ring, count-chain}
 use Rattle.hz_gen.proofs.Numbers.{chain_names, r-new, a-new, b-new, m-new}
 
@@ -32,7 +32,7 @@ two_below nodes first second below after =
 pub buffer-may :
     (circuit : Netlist) (number source : ℕ) (kind : Kind) → 1 ≤ most_pins kind → 2 ≤ number → number ≤ 18000 →
     circuit ≡ ring_netlist (3 ∷ []) (number - 2) → source ≡ number + 2 →
-    MayAdd circuit (114 ∷ decimal number) kind (source ∷ [])
+    MayAddWiredGate circuit (114 ∷ decimal number) kind (source ∷ [])
 buffer-may circuit number source kind takes some most so_far is =
     let buffers = number - 2 in
     rw so_far (record {
@@ -47,7 +47,7 @@ buffer-may circuit number source kind takes some most so_far is =
 -- the ring has one buffer more
 pub buffer-added :
     (circuit next : Netlist) (number source : ℕ) → 2 ≤ number → circuit ≡ ring_netlist (3 ∷ []) (number - 2) →
-    source ≡ number + 2 → next ≡ with_connected circuit (114 ∷ decimal number) Buff (source ∷ []) →
+    source ≡ number + 2 → next ≡ with_wired_gate circuit (114 ∷ decimal number) Buff (source ∷ []) →
     next ≡ ring_netlist (3 ∷ []) (number + 1 - 2)
 buffer-added circuit next number source some so_far is step =
     let buffers = number - 2 in
@@ -82,7 +82,7 @@ three-added front middle x y z =
 
 -- the first gate of the ring may be added
 pub ring-may :
-    MayAdd
+    MayAddWiredGate
     (record empty_netlist {
       names = codes "go" ∷ codes "x" ∷ codes "n" ∷ codes "p" ∷ [];
       inputs = 2;
@@ -108,7 +108,7 @@ module _ (n i : ℕ) (least : 1 ≤ n) (within : suc i ≤ n) (most : n ≤ 1800
   nodes = length-chain_names n i least
 
   -- the first gate of a multiplexer may be added
-  a-may : MayAdd (chain_netlist n i) (97 ∷ decimal (suc i)) And (0 ∷ last_gate n i ∷ [])
+  a-may : MayAddWiredGate (chain_netlist n i) (97 ∷ decimal (suc i)) And (0 ∷ last_gate n i ∷ [])
   a-may =
       let last : last_gate n i < length names = omega (arith, nodes, last_gate-below n i least) in
       record {
@@ -125,7 +125,7 @@ module _ (n i : ℕ) (least : 1 ≤ n) (within : suc i ≤ n) (most : n ≤ 1800
   a_gate = record { kind = And; sources = 0 ∷ last_gate n i ∷ [] }
 
   abbrev with_a : Netlist
-  with_a = with_connected (chain_netlist n i) (97 ∷ decimal (suc i)) And (0 ∷ last_gate n i ∷ [])
+  with_a = with_wired_gate (chain_netlist n i) (97 ∷ decimal (suc i)) And (0 ∷ last_gate n i ∷ [])
 
   -- one name and one gate more
   a-names : length (names ++ a_name (suc i) ∷ []) ≡ n + 3 * i + 5
@@ -149,7 +149,7 @@ module _ (n i : ℕ) (least : 1 ≤ n) (within : suc i ≤ n) (most : n ≤ 1800
       )
 
   -- the second gate may be added, whichever of the first nodes it reads
-  b-may : (select : ℕ) → select ≤ 3 → MayAdd with_a (98 ∷ decimal (suc i)) And (select ∷ last_gate n i ∷ [])
+  b-may : (select : ℕ) → select ≤ 3 → MayAddWiredGate with_a (98 ∷ decimal (suc i)) And (select ∷ last_gate n i ∷ [])
   b-may select first =
       let new : list_any (bytes_eq (b_name (suc i))) (names ++ a_name (suc i) ∷ []) ≡ false =
       list_any-append (bytes_eq (b_name (suc i))) names (a_name (suc i) ∷ []) ∙ rw (b-new n i (omega arith)) refl in
@@ -169,12 +169,12 @@ module _ (n i : ℕ) (least : 1 ≤ n) (within : suc i ≤ n) (most : n ≤ 1800
   b_gate select = record { kind = And; sources = select ∷ last_gate n i ∷ [] }
 
   abbrev with_b : ℕ → Netlist
-  with_b select = with_connected with_a (98 ∷ decimal (suc i)) And (select ∷ last_gate n i ∷ [])
+  with_b select = with_wired_gate with_a (98 ∷ decimal (suc i)) And (select ∷ last_gate n i ∷ [])
 
   -- the last gate may be added
   m-may :
       (select : ℕ) →
-      MayAdd (with_b select) (109 ∷ decimal (suc i)) Or ((n + 3 * suc i + 1) ∷ (n + 3 * suc i + 2) ∷ [])
+      MayAddWiredGate (with_b select) (109 ∷ decimal (suc i)) Or ((n + 3 * suc i + 1) ∷ (n + 3 * suc i + 2) ∷ [])
   m-may select =
       let before = names ++ a_name (suc i) ∷ [] in
       let all = before ++ b_name (suc i) ∷ [] in
@@ -200,7 +200,7 @@ module _ (n i : ℕ) (least : 1 ≤ n) (within : suc i ≤ n) (most : n ≤ 1800
 
   -- the chain has one multiplexer more
   m-added :
-      with_connected (with_b 2) (109 ∷ decimal (suc i)) Or ((n + 3 * suc i + 1) ∷ (n + 3 * suc i + 2) ∷ [])
+      with_wired_gate (with_b 2) (109 ∷ decimal (suc i)) Or ((n + 3 * suc i + 1) ∷ (n + 3 * suc i + 2) ∷ [])
       ≡ chain_netlist n (suc i)
   m-added =
       let m_gate : Gate = record { kind = Or; sources = (n + 3 * suc i + 1) ∷ (n + 3 * suc i + 2) ∷ [] } in
@@ -233,7 +233,7 @@ pub record IsNext (n number before : ℕ) (circuit : Netlist) : Type 0 where
 -- its first gate may be added
 pub first-may :
     (n number before : ℕ) (circuit : Netlist) → IsNext n number before circuit →
-    MayAdd circuit (97 ∷ decimal number) And (0 ∷ before ∷ [])
+    MayAddWiredGate circuit (97 ∷ decimal number) And (0 ∷ before ∷ [])
 first-may n zero before circuit next = absurd (omega (arith, next.some))
 first-may n (suc i) before circuit next =
     let back : suc i - 1 ≡ i = omega arith in
@@ -242,8 +242,8 @@ first-may n (suc i) before circuit next =
 -- its second gate may be added
 pub second-may :
     (n number before select : ℕ) (circuit second : Netlist) → IsNext n number before circuit → select ≤ 3 →
-    second ≡ with_connected circuit (97 ∷ decimal number) And (0 ∷ before ∷ []) →
-    MayAdd second (98 ∷ decimal number) And (select ∷ before ∷ [])
+    second ≡ with_wired_gate circuit (97 ∷ decimal number) And (0 ∷ before ∷ []) →
+    MayAddWiredGate second (98 ∷ decimal number) And (select ∷ before ∷ [])
 second-may n zero before select circuit second next first is = absurd (omega (arith, next.some))
 second-may n (suc i) before select circuit second next first is =
     let back : suc i - 1 ≡ i = omega arith in
@@ -260,9 +260,9 @@ first_number n i first circuit least so_far is =
 -- its last gate may be added
 pub third-may :
     (n number before select first : ℕ) (circuit second third : Netlist) → IsNext n number before circuit →
-    first ≡ length circuit.names → second ≡ with_connected circuit (97 ∷ decimal number) And (0 ∷ before ∷ []) →
-    third ≡ with_connected second (98 ∷ decimal number) And (select ∷ before ∷ []) →
-    MayAdd third (109 ∷ decimal number) Or (first ∷ (first + 1) ∷ [])
+    first ≡ length circuit.names → second ≡ with_wired_gate circuit (97 ∷ decimal number) And (0 ∷ before ∷ []) →
+    third ≡ with_wired_gate second (98 ∷ decimal number) And (select ∷ before ∷ []) →
+    MayAddWiredGate third (109 ∷ decimal number) Or (first ∷ (first + 1) ∷ [])
 third-may n zero before select first circuit second third next is e f = absurd (omega (arith, next.some))
 third-may n (suc i) before select first circuit second third next is e f =
     let back : suc i - 1 ≡ i = omega arith in
@@ -273,9 +273,9 @@ third-may n (suc i) before select first circuit second third next is e f =
 -- and the chain has one multiplexer more
 pub third-added :
     (n number before first : ℕ) (circuit second third fourth : Netlist) → IsNext n number before circuit →
-    first ≡ length circuit.names → second ≡ with_connected circuit (97 ∷ decimal number) And (0 ∷ before ∷ []) →
-    third ≡ with_connected second (98 ∷ decimal number) And (2 ∷ before ∷ []) →
-    fourth ≡ with_connected third (109 ∷ decimal number) Or (first ∷ (first + 1) ∷ []) →
+    first ≡ length circuit.names → second ≡ with_wired_gate circuit (97 ∷ decimal number) And (0 ∷ before ∷ []) →
+    third ≡ with_wired_gate second (98 ∷ decimal number) And (2 ∷ before ∷ []) →
+    fourth ≡ with_wired_gate third (109 ∷ decimal number) Or (first ∷ (first + 1) ∷ []) →
     (fourth ≡ chain_netlist n (number + 1 - 1)) × (first + 2 ≡ last_gate n (number + 1 - 1))
 third-added n zero before first circuit second third fourth next is e f g = absurd (omega (arith, next.some))
 third-added n (suc i) before first circuit second third fourth next is e f g =

@@ -60,12 +60,12 @@ multiplexer_lines i =
     ∷ []
 
 -- the gates: the pulse, the ring, and a multiplexer for each i from 1 to N
-abbrev pub gate_lines : ℕ → List GateLine
-gate_lines n = pulse_lines ++ ring_lines n ++ flat_map multiplexer_lines (range_with_len 1 n)
+abbrev pub demo_gate_lines : ℕ → List GateLine
+demo_gate_lines n = pulse_lines ++ ring_lines n ++ flat_map multiplexer_lines (range_with_len 1 n)
 
 -- the names of the nodes: the inputs `go` and `x`, then the gates
-abbrev pub names_in : List GateLine → List (List ℕ)
-names_in lines = codes "go" ∷ codes "x" ∷ map (λ line. line.name) lines
+abbrev pub names_of_lines : List GateLine → List (List ℕ)
+names_of_lines lines = codes "go" ∷ codes "x" ∷ map (λ line. line.name) lines
 
 -- the number of the node with a name
 abbrev pub node_in : List (List ℕ) → List ℕ → ℕ
@@ -77,7 +77,7 @@ gate_in names line = record { kind = line.kind; sources = map (node_in names) li
 
 -- the names of the nodes of the circuit of N
 unfoldable pub demo_names : ℕ → List (List ℕ)
-demo_names n = names_in (gate_lines n)
+demo_names n = names_of_lines (demo_gate_lines n)
 
 -- the circuit of N: its gates read nodes by their names; no node is an output
 unfoldable pub demo_netlist : ℕ → Netlist
@@ -85,7 +85,7 @@ demo_netlist n =
     record empty_netlist {
       names = demo_names n;
       inputs = 2;
-      gates = map (gate_in (demo_names n)) (gate_lines n);
+      gates = map (gate_in (demo_names n)) (demo_gate_lines n);
     }
 
 -- a start that lists the node with a name, too

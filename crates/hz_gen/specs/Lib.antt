@@ -3,13 +3,13 @@
 -- IsDemoNumber n: a number that has a circuit
 -- GateLine: the name of a gate, its kind, and the names that its pins read
 -- pulse_lines, ring_lines n, multiplexer_lines i: the gates of the three parts
--- gate_lines n: the gates of the circuit of a number
+-- demo_gate_lines n: the gates of the circuit of a number
 -- demo_netlist n: that circuit
 -- demo_script n: the script of a number: a start, and the change in which `go` rises
 -- DemoStarts: the start of every number is accepted
 -- ring_netlist sources n, chain_netlist n count: the circuit as it is built, part by part
--- MayAdd netlist name kind sources: a gate may be added
+-- MayAddWiredGate netlist name kind sources: a gate may be added
 
 pub mod Demo
-pub mod Built
+pub mod BuiltDemo
 pub mod Starts

@@ -1,7 +1,7 @@
 // Gates with their pins, one after the other.
 
 ghost use Rattle.std.specs.Prelude.{◌≡◌, ◌∷◌, OnOk, decimal};
-ghost use Rattle.hz_gen.specs.Built.{MayAdd, with_connected};
+ghost use Rattle.hz_gen.specs.BuiltDemo.{MayAddWiredGate, with_wired_gate};
 
 use hz_core::{Circuit, Kind, Memory};
 use itoa::Buffer;
@@ -16,8 +16,8 @@ pub(crate) fn add_connected(
     kind: Kind,
     sources: &[u32],
 ) -> Result<(), Memory>
-    requires { MayAdd circuit.old name.now kind sources.now }
-    ensures { OnOk result (circuit.new ≡ with_connected circuit.old name.now kind sources.now) }
+    requires { MayAddWiredGate circuit.old name.now kind sources.now }
+    ensures { OnOk result (circuit.new ≡ with_wired_gate circuit.old name.now kind sources.now) }
 {
     let gate = circuit.add_gate(name, kind)?;
     for source in sources {
@@ -34,8 +34,8 @@ pub(crate) fn add_numbered(
     kind: Kind,
     sources: &[u32],
 ) -> Result<(), Memory>
-    requires { MayAdd circuit.old (letter ∷ decimal number) kind sources.now }
-    ensures { OnOk result (circuit.new ≡ with_connected circuit.old (letter ∷ decimal number) kind sources.now) }
+    requires { MayAddWiredGate circuit.old (letter ∷ decimal number) kind sources.now }
+    ensures { OnOk result (circuit.new ≡ with_wired_gate circuit.old (letter ∷ decimal number) kind sources.now) }
 {
     let mut buffer = Buffer::new();
     let digits = buffer.format(number).as_bytes();

@@ -5,7 +5,7 @@ use Rattle.std.specs.List.{range_with_len}
 use Rattle.std.proofs.lemmas.Bool.{cases_eq, false≢true, eq-eqb, ne_eqb}
 use Rattle.std.proofs.lemmas.List.Elements.{All-head, All-tail}
 use Rattle.std.proofs.lemmas.List.Sums.{sum_by-cons}
-use Rattle.hz_gmw.specs.Runs.{is_listed, RepeatsNone}
+use Rattle.hz_gmw.specs.Runs.{is_listed, IsRepeatFree}
 use Rattle.hz_gmw.proofs.LeastLemmas.{listed-head, listed-tail, listed-cases, listed-other}
 
 -- 1 for a bit that is 1
@@ -46,7 +46,7 @@ list-same f g (x ∷ list) each =
     omega (arith, first, rest, sum_by-cons f x list, sum_by-cons g x list)
 
 -- and those that agree but at one member differ by that in their sums
-pub list-one : (f g : ℕ → ℕ) (list : List ℕ) (x : ℕ) → RepeatsNone list → is_listed list x ≡ true → ((i : ℕ) → is_listed list i ≡ true → i ≢ x → f i ≡ g i) → sum_by f list + g x ≡ sum_by g list + f x
+pub list-one : (f g : ℕ → ℕ) (list : List ℕ) (x : ℕ) → IsRepeatFree list → is_listed list x ≡ true → ((i : ℕ) → is_listed list i ≡ true → i ≢ x → f i ≡ g i) → sum_by f list + g x ≡ sum_by g list + f x
 list-one f g [] x once there each = absurd (false≢true there)
 list-one f g (y ∷ list) x once there each = elim (cases_eq y x) [
   | inl here ↦ (
@@ -72,7 +72,7 @@ list-turned f g (x ∷ list) each =
     omega (arith, first, rest, sum_by-cons f x list, sum_by-cons g x list)
 
 -- Functions that agree but at the members of a list differ by these in their sums.
-pub range-listed : (f g : ℕ → ℕ) (n : ℕ) (list : List ℕ) → RepeatsNone list → All (λ i. i < n) list → ((i : ℕ) → i < n → is_listed list i ≡ false → f i ≡ g i) → sum_by f (range_with_len 0 n) + sum_by g list ≡ sum_by g (range_with_len 0 n) + sum_by f list
+pub range-listed : (f g : ℕ → ℕ) (n : ℕ) (list : List ℕ) → IsRepeatFree list → All (λ i. i < n) list → ((i : ℕ) → i < n → is_listed list i ≡ false → f i ≡ g i) → sum_by f (range_with_len 0 n) + sum_by g list ≡ sum_by g (range_with_len 0 n) + sum_by f list
 range-listed f g n [] once inside each =
     let same = range-same f g 0 n (λ i from below. each i (omega (arith, below)) refl) in
     let left : sum_by f [] ≡ 0 = refl in

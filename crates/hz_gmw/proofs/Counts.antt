@@ -9,24 +9,24 @@ use Rattle.std.proofs.lemmas.List.FromFn.{length-range_with_len}
 use Rattle.std.proofs.lemmas.List.Sums.{sum_by-cons, count_by-le-length}
 use Rattle.hz_core.specs.declared.kind.Kind.{Kind}
 use Rattle.hz_core.specs.Netlist.{Netlist, IsCircuit}
-use Rattle.hz_net.specs.Network.{Driver, Function, Source, network_of, driver_at, driven, bit_at}
+use Rattle.hz_net.specs.Network.{Driver, Function, Source, network_of, driver_at, driver_value, bit_at}
 use Rattle.hz_net.specs.Variables.{fan_out_of}
 use Rattle.hz_net.specs.Reads.{IsWireInto, IsWired}
 use Rattle.hz_net.proofs.Places.{length-network_of, length-wires_of, first_wire-bound}
 use Rattle.hz_net.proofs.Wired.{is_gate_of, wired-network_of}
-use Rattle.hz_gmw.specs.Runs.{is_listed, RepeatsNone}
+use Rattle.hz_gmw.specs.Runs.{is_listed, IsRepeatFree}
 use Rattle.hz_gmw.specs.Instability.{is_unstable, unstable_count}
-use Rattle.hz_gmw.specs.Presents.{AreCounts, around}
+use Rattle.hz_gmw.specs.CurrentState.{AreCounts, with_readers}
 use Rattle.hz_gmw.proofs.GateOnes.{twice-not}
-use Rattle.hz_gmw.proofs.Flips.{flipped-one}
+use Rattle.hz_gmw.proofs.Flips.{state_after-one}
 use Rattle.hz_gmw.proofs.Counting.{weight, range-term, list-term, range-same, range-one, range-listed, list-same, list-one, list-turned, count-map}
-use Rattle.hz_gmw.proofs.Driven.{fan-driver, fan-above, fan-length, driver-fan, fan-once, around-once, around-inside}
-use Rattle.hz_gmw.proofs.Unchanged.{is_unstable-flipped, is_unstable-input}
+use Rattle.hz_gmw.proofs.DriverLemmas.{fan-driver, fan-above, fan-length, driver-fan, fan-once, around-once, around-inside}
+use Rattle.hz_gmw.proofs.Unchanged.{is_unstable-state_after, is_unstable-input}
 use Rattle.hz_gmw.proofs.SetLemmas.{unmarked}
 
 -- a wire is unstable where it differs from its source
 pub wire-unstable : (netlist : Netlist) (input state : List Bool) (wire source : ℕ) → driver_at (network_of netlist) wire ≡ Source source → is_unstable (network_of netlist) input state wire ≡ not (beq (bit_at state wire) (bit_at state source))
-wire-unstable netlist input state wire source e = ap (λ (d : Driver). not (beq (bit_at state wire) (driven input state d))) e
+wire-unstable netlist input state wire source e = ap (λ (d : Driver). not (beq (bit_at state wire) (driver_value input state d))) e
 
 -- one of two that differ
 turned-left : (a b : Bool) → not (beq (not a) b) ≡ not (not (beq a b))
@@ -200,7 +200,7 @@ zeros (x ∷ list) =
     omega (arith, rest, sum_by-cons nothing x list)
 
 -- how many of listed variables are unstable is no more than how many are unstable in all
-pub listed-bound : (netlist : Netlist) (input state : List Bool) (list : List ℕ) → RepeatsNone list → All (λ i. i < length (network_of netlist)) list → count_by (is_unstable (network_of netlist) input state) list ≤ unstable_count (network_of netlist) input state
+pub listed-bound : (netlist : Netlist) (input state : List Bool) (list : List ℕ) → IsRepeatFree list → All (λ i. i < length (network_of netlist)) list → count_by (is_unstable (network_of netlist) input state) list ≤ unstable_count (network_of netlist) input state
 listed-bound netlist input state list once inside =
     let f : ℕ → ℕ = λ i. weight (is_unstable (network_of netlist) input state i) in
     let g : ℕ → ℕ = λ i. cond (is_listed list i) 0 (f i) in
@@ -212,13 +212,13 @@ listed-bound netlist input state list once inside =
     none-left f whole list each = list-same (λ i. cond (is_listed whole i) 0 (f i)) nothing list (λ i there. ap (λ (b : Bool). cond b 0 (f i)) (each i there)) ∙ zeros list
 
 -- A variable changes: only what is around it becomes stable or unstable.
-pub unstable-flip : (netlist : Netlist) (input state : List Bool) (var : ℕ) → IsCircuit netlist → var < length (network_of netlist) → unstable_count (network_of netlist) input (set state var (not (bit_at state var))) + count_by (is_unstable (network_of netlist) input state) (around netlist var) ≡ unstable_count (network_of netlist) input state + count_by (is_unstable (network_of netlist) input (set state var (not (bit_at state var)))) (around netlist var)
+pub unstable-flip : (netlist : Netlist) (input state : List Bool) (var : ℕ) → IsCircuit netlist → var < length (network_of netlist) → unstable_count (network_of netlist) input (set state var (not (bit_at state var))) + count_by (is_unstable (network_of netlist) input state) (with_readers netlist var) ≡ unstable_count (network_of netlist) input state + count_by (is_unstable (network_of netlist) input (set state var (not (bit_at state var)))) (with_readers netlist var)
 unstable-flip netlist input state var circuit inside =
     let net = network_of netlist in
     let state' = set state var (not (bit_at state var)) in
-    let sums = range-listed (λ i. weight (is_unstable net input state i)) (λ i. weight (is_unstable net input state' i)) (length net) (around netlist var) (around-once netlist circuit var inside) (around-inside netlist circuit var inside) (λ i below apart.
-    let alone : is_listed (around netlist var ++ []) i ≡ false = ap (λ (list : List ℕ). is_listed list i) (append-nil (around netlist var)) ∙ apart in
-    ap weight (sym (is_unstable-flipped netlist input state (var ∷ []) i circuit alone) ∙ ap (λ (s : List Bool). is_unstable net input s i) (flipped-one var state))) in
+    let sums = range-listed (λ i. weight (is_unstable net input state i)) (λ i. weight (is_unstable net input state' i)) (length net) (with_readers netlist var) (around-once netlist circuit var inside) (around-inside netlist circuit var inside) (λ i below apart.
+    let alone : is_listed (with_readers netlist var ++ []) i ≡ false = ap (λ (list : List ℕ). is_listed list i) (append-nil (with_readers netlist var)) ∙ apart in
+    ap weight (sym (is_unstable-state_after netlist input state (var ∷ []) i circuit alone) ∙ ap (λ (s : List Bool). is_unstable net input s i) (state_after-one var state))) in
     omega (arith, sums, counted-unstable netlist input state, counted-unstable netlist input state')
 
 -- the bits and counts as they are read

@@ -4,33 +4,33 @@ use Rattle.std.specs.List.{AllByRecursion}
 use Rattle.hz_core.specs.declared.tri.Tri.{Tri}
 use Rattle.hz_core.specs.declared.tri.Tri.TheVariants.{Zero, One, Unknown}
 use Rattle.hz_core.specs.Ternary.{tri_of, admits, Refines}
-use Rattle.hz_net.specs.Network.{Driver, bit_at, driver_at, driven3, excitation, IsUnstable}
+use Rattle.hz_net.specs.Network.{Driver, bit_at, driver_at, driver_value3, excitation, IsUnstable}
 use Rattle.hz_net.specs.Passes.{excitations, algorithm_a, algorithm_b, AreRounds}
 use Rattle.hz_core.proofs.Refinements.{known-admits, Refines-get_or}
-use Rattle.hz_net.proofs.Excitations.{admits-driven, length-excitations, at-excitations}
-use Rattle.hz_gmw.specs.Runs.{is_listed, IsStep, flipped, IsRun, end_of, IsReachable}
+use Rattle.hz_net.proofs.Excitations.{admits-driver_value, length-excitations, at-excitations}
+use Rattle.hz_gmw.specs.Runs.{is_listed, IsStep, state_after, IsRun, end_of, IsReachable}
 use Rattle.hz_gmw.specs.Cycles.{states_of, IsNontransient, IsOutcome}
-use Rattle.hz_gmw.proofs.Flips.{length-flipped, at-flipped}
+use Rattle.hz_gmw.proofs.Flips.{length-state_after, at-state_after}
 use Rattle.hz_gmw.proofs.CoverA.{covers}
 use Rattle.hz_gmw.proofs.Paths.{end_of-append, IsRun-front, IsRun-rest, IsReachable-onward, IsCut, cut-member, value-somewhere}
 
 pub length-end_of : (state : List Bool) (steps : List (List ℕ)) → length (end_of state steps) ≡ length state
 length-end_of state [] = refl
-length-end_of state (flips ∷ steps) = length-end_of (flipped flips state) steps ∙ length-flipped flips state
+length-end_of state (flips ∷ steps) = length-end_of (state_after flips state) steps ∙ length-state_after flips state
 
 pub length-IsReachable : (net : List Driver) (input start state : List Bool) → IsReachable net input start state → length state ≡ length start
 length-IsReachable net input start state reach = ap (length {A = Bool}) (sym reach.2) ∙ length-end_of start reach.0
 
 -- one step further
-one-step : (net : List Driver) (input first now : List Bool) (flips : List ℕ) → IsReachable net input first now → IsStep net input now flips → IsReachable net input first (flipped flips now)
+one-step : (net : List Driver) (input first now : List Bool) (flips : List ℕ) → IsReachable net input first now → IsStep net input now flips → IsReachable net input first (state_after flips now)
 one-step net input first now flips reach step =
-    IsReachable-onward net input first now (flipped flips now) reach (flips ∷ [], (step, tt), refl)
+    IsReachable-onward net input first now (state_after flips now) reach (flips ∷ [], (step, tt), refl)
 
 -- each state of a run from a reachable state is reachable
 each-reachable : (net : List Driver) (input first now : List Bool) (steps : List (List ℕ)) → IsReachable net input first now → IsRun net input now steps → AllByRecursion (IsReachable net input first) (states_of now steps)
 each-reachable net input first now [] reach run = (reach, tt)
 each-reachable net input first now (flips ∷ steps) reach run =
-    (reach, each-reachable net input first (flipped flips now) steps (one-step net input first now flips reach run.0) run.1)
+    (reach, each-reachable net input first (state_after flips now) steps (one-step net input first now flips reach run.0) run.1)
 
 -- what excites variable i in each state that is reachable from `first` is this bit
 abbrev IsDriven : List Driver → List Bool → List Bool → ℕ → Bool → Type 0
@@ -45,9 +45,9 @@ kept true now excited bit unstable has driven = absurd (unstable refl (has ∙ s
 stays : (net : List Driver) (input first now : List Bool) (i : ℕ) (bit : Bool) (steps : List (List ℕ)) → IsDriven net input first i bit → IsReachable net input first now → IsRun net input now steps → i < length now → bit_at now i ≡ bit → bit_at (end_of now steps) i ≡ bit
 stays net input first now i bit [] driven reach run inside has = has
 stays net input first now i bit (flips ∷ steps) driven reach run inside has =
-    stays net input first (flipped flips now) i bit steps driven (one-step net input first now flips reach run.0) run.1
-    (subst (λ (n : ℕ). i < n) (sym (length-flipped flips now)) inside)
-    (at-flipped flips now i inside ∙ kept (is_listed flips i) (bit_at now i) (excitation net input now i) bit (run.0.unstable i) has (driven now reach))
+    stays net input first (state_after flips now) i bit steps driven (one-step net input first now flips reach run.0) run.1
+    (subst (λ (n : ℕ). i < n) (sym (length-state_after flips now)) inside)
+    (at-state_after flips now i inside ∙ kept (is_listed flips i) (bit_at now i) (excitation net input now i) bit (run.0.unstable i) has (driven now reach))
 
 not-itself : (bit : Bool) → not bit ≡ bit → ⊥
 not-itself false e = cc
@@ -92,8 +92,8 @@ one-round net input first steps values cycle long refined now reach =
     Refines-get_or now (excitations net input values) (now_long ∙ sym (length-excitations net input values)) (λ i inside.
     let here : i < length net = subst (λ (n : ℕ). i < n) now_long inside in
     subst (λ (v : Tri). IsTrue (admits v (bit_at now i))) (sym (at-excitations net input values i here))
-    (admits-by (driven3 input values (driver_at net i)) (bit_at now i) (λ bit known.
-    let driven : IsDriven net input first i bit = λ other there. known-admits bit _ (subst (λ (v : Tri). IsTrue (admits v (excitation net input other i))) known (admits-driven input other values (refined other there) (driver_at net i))) in
+    (admits-by (driver_value3 input values (driver_at net i)) (bit_at now i) (λ bit known.
+    let driven : IsDriven net input first i bit = λ other there. known-admits bit _ (subst (λ (v : Tri). IsTrue (admits v (excitation net input other i))) known (admits-driver_value input other values (refined other there) (driver_at net i))) in
     let began : bit_at first i ≡ bit = comes net input first steps i bit cycle driven here long in
     ap (λ (s : List Bool). bit_at s i) (sym reach.2)
     ∙ stays net input first first i bit reach.0 driven (itself net input first) reach.1 (subst (λ (n : ℕ). i < n) (sym long) here) began)))

@@ -6,9 +6,9 @@ use Rattle.std.proofs.lemmas.List.{append-nil, append_assoc, length-set, get_or-
 use Rattle.std.proofs.lemmas.List.Elements.{All-head, All-tail}
 use Rattle.std.proofs.lemmas.List.Sums.{sum_by-cons, sum_by_push}
 use Rattle.hz_net.specs.Network.{bit_at}
-use Rattle.hz_gmw.specs.Runs.{is_listed, RepeatsNone}
-use Rattle.hz_gmw.specs.Least.{IsLeast, IsLeastOf, lesser_of, least_from, least_again}
-use Rattle.hz_gmw.specs.ReplayFaults.{times}
+use Rattle.hz_gmw.specs.Runs.{is_listed, IsRepeatFree}
+use Rattle.hz_gmw.specs.Least.{IsLeast, IsLeastOf, min_with, least_from, least_repeat}
+use Rattle.hz_gmw.specs.ReplayFaults.{times_listed}
 
 pub listed-head : (i x : ℕ) (list : List ℕ) → i ≡ x → is_listed (x ∷ list) i ≡ true
 listed-head i x list same = or_left (nat_eq i x) (is_listed list i) (eq-eqb i x same)
@@ -59,7 +59,7 @@ IsLeastOf-same P Q None to back none = λ i q. none i (back i q)
 IsLeastOf-same P Q (Some i) to back is = record { here = to i is.here; least = λ j q. is.least j (back j q) }
 
 -- one number more
-IsLeastOf-lesser : (P : ℕ → Type 0) (found : Option ℕ) (x : ℕ) → IsLeastOf P found → IsLeastOf (λ i. P i ⊎ (i ≡ x)) (lesser_of found x)
+IsLeastOf-lesser : (P : ℕ → Type 0) (found : Option ℕ) (x : ℕ) → IsLeastOf P found → IsLeastOf (λ i. P i ⊎ (i ≡ x)) (min_with found x)
 IsLeastOf-lesser P None x none = record { here = inr refl; least = λ j h. elim h [ inl p ↦ absurd (none j p) | inr e ↦ omega (arith, e) ] }
 IsLeastOf-lesser P (Some least) x is = elim (cases_lt x least) [
   | inl lt ↦ (
@@ -102,8 +102,8 @@ among-rest P test x list fails i (inr h) = elim (listed-cases i x list h.0) [
 least-among : (P : ℕ → Type 0) (test : ℕ → Bool) (found : Option ℕ) (list : List ℕ) → IsLeastOf P found → IsLeastOf (Among P test list) (least_from found test list)
 least-among P test found [] is = IsLeastOf-same P (Among P test []) found (λ i p. inl p) (λ i h. elim h [ inl p ↦ p | inr none ↦ absurd (false≢true none.0) ]) is
 least-among P test found (x ∷ list) is = elim (cases_Bool (test x)) [
-  | inl passes ↦ subst (λ (f : Option ℕ). IsLeastOf (Among P test (x ∷ list)) (least_from f test list)) (sym (cond-true (test x) (lesser_of found x) found passes)) (IsLeastOf-same (Among (λ j. P j ⊎ (j ≡ x)) test list) (Among P test (x ∷ list)) (least_from (lesser_of found x) test list) (among-head P test x list passes) (among-split P test x list) (least-among (λ j. P j ⊎ (j ≡ x)) test (lesser_of found x) list (IsLeastOf-lesser P found x is)))
-  | inr fails ↦ subst (λ (f : Option ℕ). IsLeastOf (Among P test (x ∷ list)) (least_from f test list)) (sym (cond-false (test x) (lesser_of found x) found fails)) (IsLeastOf-same (Among P test list) (Among P test (x ∷ list)) (least_from found test list) (among-later P test x list) (among-rest P test x list fails) (least-among P test found list is))
+  | inl passes ↦ subst (λ (f : Option ℕ). IsLeastOf (Among P test (x ∷ list)) (least_from f test list)) (sym (cond-true (test x) (min_with found x) found passes)) (IsLeastOf-same (Among (λ j. P j ⊎ (j ≡ x)) test list) (Among P test (x ∷ list)) (least_from (min_with found x) test list) (among-head P test x list passes) (among-split P test x list) (least-among (λ j. P j ⊎ (j ≡ x)) test (min_with found x) list (IsLeastOf-lesser P found x is)))
+  | inr fails ↦ subst (λ (f : Option ℕ). IsLeastOf (Among P test (x ∷ list)) (least_from f test list)) (sym (cond-false (test x) (min_with found x) found fails)) (IsLeastOf-same (Among P test list) (Among P test (x ∷ list)) (least_from found test list) (among-later P test x list) (among-rest P test x list fails) (least-among P test found list is))
 ]
 
 -- the least listed number that passes
@@ -113,88 +113,88 @@ least-listed test list =
     (λ i h. elim h [ inl none ↦ absurd none | inr there ↦ there ]) (λ i h. inr h)
     (least-among (λ i. ⊥) test None list (λ i none. none))
 
-times-cons : (i x : ℕ) (list : List ℕ) → times (x ∷ list) i ≡ cond (nat_eq i x) 1 0 + times list i
-times-cons i x list = sum_by-cons (λ (y : ℕ). cond (nat_eq i y) 1 0) x list
+times_listed-cons : (i x : ℕ) (list : List ℕ) → times_listed (x ∷ list) i ≡ cond (nat_eq i x) 1 0 + times_listed list i
+times_listed-cons i x list = sum_by-cons (λ (y : ℕ). cond (nat_eq i y) 1 0) x list
 
-times-here : (i x : ℕ) (list : List ℕ) → i ≡ x → times (x ∷ list) i ≡ 1 + times list i
-times-here i x list same = times-cons i x list ∙ ap (λ (b : Bool). cond b 1 0 + times list i) (eq-eqb i x same)
+times_listed-here : (i x : ℕ) (list : List ℕ) → i ≡ x → times_listed (x ∷ list) i ≡ 1 + times_listed list i
+times_listed-here i x list same = times_listed-cons i x list ∙ ap (λ (b : Bool). cond b 1 0 + times_listed list i) (eq-eqb i x same)
 
-times-other : (i x : ℕ) (list : List ℕ) → i ≢ x → times (x ∷ list) i ≡ times list i
-times-other i x list differ = times-cons i x list ∙ (ap (λ (b : Bool). cond b 1 0 + times list i) (ne_eqb i x differ) ∙ omega arith)
+times_listed-other : (i x : ℕ) (list : List ℕ) → i ≢ x → times_listed (x ∷ list) i ≡ times_listed list i
+times_listed-other i x list differ = times_listed-cons i x list ∙ (ap (λ (b : Bool). cond b 1 0 + times_listed list i) (ne_eqb i x differ) ∙ omega arith)
 
-times-push : (i x : ℕ) (list : List ℕ) → times (list ++ x ∷ []) i ≡ times list i + cond (nat_eq i x) 1 0
-times-push i x list = sum_by_push (λ (y : ℕ). cond (nat_eq i y) 1 0) list x
+times_listed-push : (i x : ℕ) (list : List ℕ) → times_listed (list ++ x ∷ []) i ≡ times_listed list i + cond (nat_eq i x) 1 0
+times_listed-push i x list = sum_by_push (λ (y : ℕ). cond (nat_eq i y) 1 0) list x
 
-times-push-here : (i x : ℕ) (list : List ℕ) → i ≡ x → times (list ++ x ∷ []) i ≡ times list i + 1
-times-push-here i x list same = times-push i x list ∙ ap (λ (b : Bool). times list i + cond b 1 0) (eq-eqb i x same)
+times_listed-push-here : (i x : ℕ) (list : List ℕ) → i ≡ x → times_listed (list ++ x ∷ []) i ≡ times_listed list i + 1
+times_listed-push-here i x list same = times_listed-push i x list ∙ ap (λ (b : Bool). times_listed list i + cond b 1 0) (eq-eqb i x same)
 
-times-push-other : (i x : ℕ) (list : List ℕ) → i ≢ x → times (list ++ x ∷ []) i ≡ times list i
-times-push-other i x list differ = times-push i x list ∙ (ap (λ (b : Bool). times list i + cond b 1 0) (ne_eqb i x differ) ∙ omega arith)
+times_listed-push-other : (i x : ℕ) (list : List ℕ) → i ≢ x → times_listed (list ++ x ∷ []) i ≡ times_listed list i
+times_listed-push-other i x list differ = times_listed-push i x list ∙ (ap (λ (b : Bool). times_listed list i + cond b 1 0) (ne_eqb i x differ) ∙ omega arith)
 
-pub listed-times : (i : ℕ) (list : List ℕ) → is_listed list i ≡ true → 1 ≤ times list i
-listed-times i [] there = absurd (false≢true there)
-listed-times i (x ∷ list) there = elim (listed-cases i x list there) [
-  | inl same ↦ (let here = times-here i x list same in omega (arith, here))
-  | inr rest ↦ (let later = listed-times i list rest in omega (arith, later, times-cons i x list))
+pub listed-times_listed : (i : ℕ) (list : List ℕ) → is_listed list i ≡ true → 1 ≤ times_listed list i
+listed-times_listed i [] there = absurd (false≢true there)
+listed-times_listed i (x ∷ list) there = elim (listed-cases i x list there) [
+  | inl same ↦ (let here = times_listed-here i x list same in omega (arith, here))
+  | inr rest ↦ (let later = listed-times_listed i list rest in omega (arith, later, times_listed-cons i x list))
 ]
 
-pub times-listed : (i : ℕ) (list : List ℕ) → 1 ≤ times list i → is_listed list i ≡ true
-times-listed i [] some = absurd (omega (arith, some))
-times-listed i (x ∷ list) some = elim (cases_eq i x) [
+pub times_listed-listed : (i : ℕ) (list : List ℕ) → 1 ≤ times_listed list i → is_listed list i ≡ true
+times_listed-listed i [] some = absurd (omega (arith, some))
+times_listed-listed i (x ∷ list) some = elim (cases_eq i x) [
   | inl same ↦ listed-head i x list same
-  | inr differ ↦ (let other = times-other i x list differ in listed-tail i x list (times-listed i list (omega (arith, some, other))))
+  | inr differ ↦ (let other = times_listed-other i x list differ in listed-tail i x list (times_listed-listed i list (omega (arith, some, other))))
 ]
 
 -- a list that names nothing twice repeats none
-pub RepeatsNone-times : (list : List ℕ) → ((i : ℕ) → 2 ≤ times list i → ⊥) → RepeatsNone list
-RepeatsNone-times [] none = tt
-RepeatsNone-times (x ∷ list) none = (
+pub IsRepeatFree-times_listed : (list : List ℕ) → ((i : ℕ) → 2 ≤ times_listed list i → ⊥) → IsRepeatFree list
+IsRepeatFree-times_listed [] none = tt
+IsRepeatFree-times_listed (x ∷ list) none = (
   false_from_ne_true (is_listed list x) (λ there.
-      let later = listed-times x list there in
-      let here = times-here x x list refl in
+      let later = listed-times_listed x list there in
+      let here = times_listed-here x x list refl in
       none x (omega (arith, later, here))),
-  RepeatsNone-times list (λ i twice. none i (omega (arith, twice, times-cons i x list))),
+  IsRepeatFree-times_listed list (λ i twice. none i (omega (arith, twice, times_listed-cons i x list))),
 )
 
 -- and the other way round
-pub times-RepeatsNone : (list : List ℕ) → RepeatsNone list → (i : ℕ) → 2 ≤ times list i → ⊥
-times-RepeatsNone [] once i twice = omega (arith, twice)
-times-RepeatsNone (x ∷ list) once i twice = elim (cases_eq i x) [
+pub times_listed-IsRepeatFree : (list : List ℕ) → IsRepeatFree list → (i : ℕ) → 2 ≤ times_listed list i → ⊥
+times_listed-IsRepeatFree [] once i twice = omega (arith, twice)
+times_listed-IsRepeatFree (x ∷ list) once i twice = elim (cases_eq i x) [
   | inl same ↦ (
-      let here = times-here i x list same in
-      let listed : is_listed list i ≡ true = times-listed i list (omega (arith, twice, here)) in
+      let here = times_listed-here i x list same in
+      let listed : is_listed list i ≡ true = times_listed-listed i list (omega (arith, twice, here)) in
       false≢true (sym once.0 ∙ (ap (is_listed list) (sym same) ∙ listed))
       )
   | inr differ ↦ (
-      let other = times-other i x list differ in
-      times-RepeatsNone list once.1 i (omega (arith, twice, other))
+      let other = times_listed-other i x list differ in
+      times_listed-IsRepeatFree list once.1 i (omega (arith, twice, other))
       )
 ]
 
 -- a number that is named before is named twice now
-twice-more : (earlier : List ℕ) (x : ℕ) → is_listed earlier x ≡ true → (i : ℕ) → (2 ≤ times earlier i) ⊎ (i ≡ x) → 2 ≤ times (earlier ++ x ∷ []) i
-twice-more earlier x there i (inl twice) = omega (arith, twice, times-push i x earlier)
+twice-more : (earlier : List ℕ) (x : ℕ) → is_listed earlier x ≡ true → (i : ℕ) → (2 ≤ times_listed earlier i) ⊎ (i ≡ x) → 2 ≤ times_listed (earlier ++ x ∷ []) i
+twice-more earlier x there i (inl twice) = omega (arith, twice, times_listed-push i x earlier)
 twice-more earlier x there i (inr same) =
-    let once = listed-times x earlier there in
-    let here = times-push-here x x earlier refl in
-    let more : 2 ≤ times (earlier ++ x ∷ []) x = omega (arith, once, here) in
-    subst (λ (j : ℕ). 2 ≤ times (earlier ++ x ∷ []) j) (sym same) more
+    let once = listed-times_listed x earlier there in
+    let here = times_listed-push-here x x earlier refl in
+    let more : 2 ≤ times_listed (earlier ++ x ∷ []) x = omega (arith, once, here) in
+    subst (λ (j : ℕ). 2 ≤ times_listed (earlier ++ x ∷ []) j) (sym same) more
 
-twice-split : (earlier : List ℕ) (x i : ℕ) → 2 ≤ times (earlier ++ x ∷ []) i → (2 ≤ times earlier i) ⊎ (i ≡ x)
+twice-split : (earlier : List ℕ) (x i : ℕ) → 2 ≤ times_listed (earlier ++ x ∷ []) i → (2 ≤ times_listed earlier i) ⊎ (i ≡ x)
 twice-split earlier x i twice = elim (cases_eq i x) [
   | inl same ↦ inr same
-  | inr differ ↦ inl (let other = times-push-other i x earlier differ in omega (arith, twice, other))
+  | inr differ ↦ inl (let other = times_listed-push-other i x earlier differ in omega (arith, twice, other))
 ]
 
 -- one that is not is not
-twice-before : (earlier : List ℕ) (x : ℕ) → is_listed earlier x ≡ false → (i : ℕ) → 2 ≤ times (earlier ++ x ∷ []) i → 2 ≤ times earlier i
+twice-before : (earlier : List ℕ) (x : ℕ) → is_listed earlier x ≡ false → (i : ℕ) → 2 ≤ times_listed (earlier ++ x ∷ []) i → 2 ≤ times_listed earlier i
 twice-before earlier x missing i twice = elim (cases_eq i x) [
   | inl same ↦ (
-      let here = times-push-here i x earlier same in
-      let listed : is_listed earlier i ≡ true = times-listed i earlier (omega (arith, twice, here)) in
+      let here = times_listed-push-here i x earlier same in
+      let listed : is_listed earlier i ≡ true = times_listed-listed i earlier (omega (arith, twice, here)) in
       absurd (false≢true (sym missing ∙ (ap (is_listed earlier) (sym same) ∙ listed)))
       )
-  | inr differ ↦ (let other = times-push-other i x earlier differ in omega (arith, twice, other))
+  | inr differ ↦ (let other = times_listed-push-other i x earlier differ in omega (arith, twice, other))
 ]
 
 -- marks of what is named so far
@@ -214,31 +214,31 @@ named-more earlier named x within are i inside = elim (cases_eq i x) [
     or-false true = refl
     or-false false = refl
 
-again-among : (earlier list : List ℕ) (found : Option ℕ) (named : List Bool) → AreNamed earlier named → All (λ i. i < length named) list → IsLeastOf (λ i. 2 ≤ times earlier i) found → IsLeastOf (λ i. 2 ≤ times (earlier ++ list) i) (least_again found named list)
+again-among : (earlier list : List ℕ) (found : Option ℕ) (named : List Bool) → AreNamed earlier named → All (λ i. i < length named) list → IsLeastOf (λ i. 2 ≤ times_listed earlier i) found → IsLeastOf (λ i. 2 ≤ times_listed (earlier ++ list) i) (least_repeat found named list)
 again-among earlier [] found named are all is =
-    subst (λ (whole : List ℕ). IsLeastOf (λ i. 2 ≤ times whole i) found) (sym (append-nil earlier)) is
+    subst (λ (whole : List ℕ). IsLeastOf (λ i. 2 ≤ times_listed whole i) found) (sym (append-nil earlier)) is
 again-among earlier (x ∷ list) found named are all is =
     let within : x < length named = All-head (λ (i : ℕ). i < length named) x list all in
     let rest : All (λ (i : ℕ). i < length (set named x true)) list = subst (λ (n : ℕ). All (λ (i : ℕ). i < n) list) (sym (length-set named x true)) (All-tail (λ (i : ℕ). i < length named) x list all) in
     let next = earlier ++ x ∷ [] in
-    subst (λ (whole : List ℕ). IsLeastOf (λ i. 2 ≤ times whole i) (least_again found named (x ∷ list))) (append_assoc earlier (x ∷ []) list)
+    subst (λ (whole : List ℕ). IsLeastOf (λ i. 2 ≤ times_listed whole i) (least_repeat found named (x ∷ list))) (append_assoc earlier (x ∷ []) list)
     (elim (cases_Bool (bit_at named x)) [
       | inl again ↦ (
           let there : is_listed earlier x ≡ true = sym (are x within) ∙ again in
-          subst (λ (f : Option ℕ). IsLeastOf (λ i. 2 ≤ times (next ++ list) i) (least_again f (set named x true) list)) (sym (cond-true (bit_at named x) (lesser_of found x) found again))
-          (again-among next list (lesser_of found x) (set named x true) (named-more earlier named x within are) rest
-          (IsLeastOf-same (λ i. (2 ≤ times earlier i) ⊎ (i ≡ x)) (λ i. 2 ≤ times next i) (lesser_of found x) (twice-more earlier x there) (twice-split earlier x) (IsLeastOf-lesser (λ i. 2 ≤ times earlier i) found x is)))
+          subst (λ (f : Option ℕ). IsLeastOf (λ i. 2 ≤ times_listed (next ++ list) i) (least_repeat f (set named x true) list)) (sym (cond-true (bit_at named x) (min_with found x) found again))
+          (again-among next list (min_with found x) (set named x true) (named-more earlier named x within are) rest
+          (IsLeastOf-same (λ i. (2 ≤ times_listed earlier i) ⊎ (i ≡ x)) (λ i. 2 ≤ times_listed next i) (min_with found x) (twice-more earlier x there) (twice-split earlier x) (IsLeastOf-lesser (λ i. 2 ≤ times_listed earlier i) found x is)))
           )
       | inr fresh ↦ (
           let missing : is_listed earlier x ≡ false = sym (are x within) ∙ fresh in
-          subst (λ (f : Option ℕ). IsLeastOf (λ i. 2 ≤ times (next ++ list) i) (least_again f (set named x true) list)) (sym (cond-false (bit_at named x) (lesser_of found x) found fresh))
+          subst (λ (f : Option ℕ). IsLeastOf (λ i. 2 ≤ times_listed (next ++ list) i) (least_repeat f (set named x true) list)) (sym (cond-false (bit_at named x) (min_with found x) found fresh))
           (again-among next list found (set named x true) (named-more earlier named x within are) rest
-          (IsLeastOf-same (λ i. 2 ≤ times earlier i) (λ i. 2 ≤ times next i) found (λ i twice. omega (arith, twice, times-push i x earlier)) (twice-before earlier x missing) is))
+          (IsLeastOf-same (λ i. 2 ≤ times_listed earlier i) (λ i. 2 ≤ times_listed next i) found (λ i twice. omega (arith, twice, times_listed-push i x earlier)) (twice-before earlier x missing) is))
           )
     ])
 
 -- the least number that is listed twice
-pub least-repeated : (list : List ℕ) (named : List Bool) → ((i : ℕ) → i < length named → bit_at named i ≡ false) → All (λ i. i < length named) list → IsLeastOf (λ i. 2 ≤ times list i) (least_again None named list)
+pub least-repeated : (list : List ℕ) (named : List Bool) → ((i : ℕ) → i < length named → bit_at named i ≡ false) → All (λ i. i < length named) list → IsLeastOf (λ i. 2 ≤ times_listed list i) (least_repeat None named list)
 least-repeated list named none all = again-among [] list None named none all (λ i twice. omega (arith, twice))
 
 -- a scan: the first number that passes a test is the least

@@ -8,10 +8,10 @@ pub mod LeastLemmas
 pub mod Counting
 pub mod Marks
 pub mod GateOnes
-pub mod Driven
+pub mod DriverLemmas
 pub mod Unchanged
 pub mod Counts
-pub mod PresentLemmas
+pub mod CurrentStateLemmas
 pub mod WatchLemmas
 pub mod ReplayLemmas
 pub mod RunLemmas

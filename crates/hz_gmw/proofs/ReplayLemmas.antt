@@ -6,26 +6,26 @@ use Rattle.std.proofs.lemmas.List.{ext_get_or, length-set, length-replicate, get
 use Rattle.std.proofs.lemmas.List.FromFn.{get_or-map-range_with_len, fill_by_all}
 use Rattle.hz_net.specs.Network.{Driver, network_of, bit_at, excitation, IsUnstable}
 use Rattle.hz_core.specs.Netlist.{Netlist}
-use Rattle.hz_gmw.specs.Runs.{is_listed, IsStep, flipped, end_of}
+use Rattle.hz_gmw.specs.Runs.{is_listed, IsStep, state_after, end_of}
 use Rattle.hz_gmw.specs.Cycles.{WaitsAt, IsNontransient}
 use Rattle.hz_gmw.specs.Instability.{is_unstable, unstable_variables, unstable_count}
 use Rattle.hz_gmw.specs.Least.{IsLeast, IsLeastOf, least_from}
-use Rattle.hz_gmw.specs.Replayed.{Replayed, StandsFor, replayed_at, still_watched, stepped_by}
-use Rattle.hz_gmw.specs.ReplayFaults.{times, IsStepFault, IsCycleFault}
+use Rattle.hz_gmw.specs.Replayer.{Replayer, StandsFor, replayer_at, watched_after, replayer_after}
+use Rattle.hz_gmw.specs.ReplayFaults.{times_listed, IsStepFault, IsCycleFault}
 use Rattle.hz_gmw.specs.declared.replay_fault.StepFault.{StepFault}
 use Rattle.hz_gmw.specs.declared.replay_fault.StepFault.TheVariants.{Empty, Repeated, Stable}
 use Rattle.hz_gmw.specs.declared.replay_fault.CycleFault.{CycleFault}
 use Rattle.hz_gmw.specs.declared.replay_fault.CycleFault.TheVariants.{Differs, NotStable, Transient}
 use Rattle.hz_gmw.specs.VariableSets.{AreMembers}
-use Rattle.hz_gmw.specs.Presents.{marked_with, taken_over}
-use Rattle.hz_gmw.proofs.Flips.{length-flipped, at-flipped}
+use Rattle.hz_gmw.specs.CurrentState.{with_marks, with_bits_of}
+use Rattle.hz_gmw.proofs.Flips.{length-state_after, at-state_after}
 use Rattle.hz_gmw.proofs.Paths.{end_of-append, IsRun-append}
 use Rattle.hz_gmw.proofs.CoverB.{length-end_of}
-use Rattle.hz_gmw.proofs.LeastLemmas.{listed-other, All-listed, IsLeastOf-same, least-listed, RepeatsNone-times, times-RepeatsNone}
+use Rattle.hz_gmw.proofs.LeastLemmas.{listed-other, All-listed, IsLeastOf-same, least-listed, IsRepeatFree-times_listed, times_listed-IsRepeatFree}
 use Rattle.hz_gmw.proofs.Bits.{beq-same, beq-refl}
 use Rattle.hz_gmw.proofs.Counting.{weight}
 use Rattle.hz_gmw.proofs.Counts.{one-bound}
-use Rattle.hz_gmw.proofs.Marks.{at-marked_with}
+use Rattle.hz_gmw.proofs.Marks.{at-with_marks}
 
 -- the test says whether a variable is unstable
 pub unstable-true : (net : List Driver) (input state : List Bool) (i : ℕ) → is_unstable net input state i ≡ true → IsUnstable net input state i
@@ -48,7 +48,7 @@ pub unstable-list : (net : List Driver) (input state marks : List Bool) → leng
 unstable-list net input state marks long right = fill_by_all (is_unstable net input state) marks (length net) false long right
 
 -- a replayer whose state is marked stands for the run of this state alone
-pub stands-at : (circuit : Netlist) (input begun state : List Bool) → StandsFor (replayed_at circuit input begun state) []
+pub stands-at : (circuit : Netlist) (input begun state : List Bool) → StandsFor (replayer_at circuit input begun state) []
 stands-at circuit input begun state =
     let net = network_of circuit in
     record {
@@ -64,18 +64,18 @@ stands-at circuit input begun state =
 -- what waits along a run waits in its last state
 waits-end : (net : List Driver) (input state : List Bool) (steps : List (List ℕ)) (i : ℕ) (bit : Bool) → WaitsAt net input state steps i bit → (bit_at (end_of state steps) i ≡ bit) × IsUnstable net input (end_of state steps) i
 waits-end net input state [] i bit waits = waits.0
-waits-end net input state (flips ∷ steps) i bit waits = waits-end net input (flipped flips state) steps i bit waits.1
+waits-end net input state (flips ∷ steps) i bit waits = waits-end net input (state_after flips state) steps i bit waits.1
 
 -- and along its front
 waits-front : (net : List Driver) (input state : List Bool) (steps more : List (List ℕ)) (i : ℕ) (bit : Bool) → WaitsAt net input state (steps ++ more) i bit → WaitsAt net input state steps i bit
 waits-front net input state [] [] i bit waits = waits
 waits-front net input state [] (flips ∷ more) i bit waits = (waits.0, tt)
-waits-front net input state (flips ∷ steps) more i bit waits = (waits.0, waits-front net input (flipped flips state) steps more i bit waits.1)
+waits-front net input state (flips ∷ steps) more i bit waits = (waits.0, waits-front net input (state_after flips state) steps more i bit waits.1)
 
 -- and along a step more where it waits after it
-waits-push : (net : List Driver) (input state : List Bool) (steps : List (List ℕ)) (flips : List ℕ) (i : ℕ) (bit : Bool) → WaitsAt net input state steps i bit → (bit_at (flipped flips (end_of state steps)) i ≡ bit) × IsUnstable net input (flipped flips (end_of state steps)) i → WaitsAt net input state (steps ++ flips ∷ []) i bit
+waits-push : (net : List Driver) (input state : List Bool) (steps : List (List ℕ)) (flips : List ℕ) (i : ℕ) (bit : Bool) → WaitsAt net input state steps i bit → (bit_at (state_after flips (end_of state steps)) i ≡ bit) × IsUnstable net input (state_after flips (end_of state steps)) i → WaitsAt net input state (steps ++ flips ∷ []) i bit
 waits-push net input state [] flips i bit waits last = (waits.0, (last, tt))
-waits-push net input state (first ∷ steps) flips i bit waits last = (waits.0, waits-push net input (flipped first state) steps flips i bit waits.1 last)
+waits-push net input state (first ∷ steps) flips i bit waits last = (waits.0, waits-push net input (state_after first state) steps flips i bit waits.1 last)
 
 some-steps : (steps : List (List ℕ)) (flips : List ℕ) → (steps ++ flips ∷ []) ≢ []
 some-steps [] flips e = cc
@@ -86,17 +86,17 @@ not-same true e = false≢true e
 not-same false e = false≢true (sym e)
 
 -- a replayer stands for a run with a step more after this step
-pub stands-step : (now : Replayed) (flips : List ℕ) (steps : List (List ℕ)) → length now.state ≡ length (network_of now.circuit) → StandsFor now steps → IsStep (network_of now.circuit) now.input now.state flips → StandsFor (stepped_by now flips) (steps ++ flips ∷ [])
+pub stands-step : (now : Replayer) (flips : List ℕ) (steps : List (List ℕ)) → length now.state ≡ length (network_of now.circuit) → StandsFor now steps → IsStep (network_of now.circuit) now.input now.state flips → StandsFor (replayer_after now flips) (steps ++ flips ∷ [])
 stands-step now flips steps long stands step =
     let net = network_of now.circuit in
     let input = now.input in
     let marked = now.marked in
     let end = end_of marked steps in
-    let next = flipped flips now.state in
-    let here : flipped flips end ≡ next = ap (flipped flips) stands.ends in
+    let next = state_after flips now.state in
+    let here : state_after flips end ≡ next = ap (state_after flips) stands.ends in
     let kept : (i : ℕ) → i < length net → bit_at next i ≡ cond (is_listed flips i) (not (bit_at now.state i)) (bit_at now.state i) =
-    λ i inside. at-flipped flips now.state i (omega (arith, inside, long)) in
-    let watched : (i : ℕ) → i < length net → bit_at (still_watched now flips) i ≡ (bit_at now.watched i && not (is_listed flips i)) && is_unstable net input next i =
+    λ i inside. at-state_after flips now.state i (omega (arith, inside, long)) in
+    let watched : (i : ℕ) → i < length net → bit_at (watched_after now flips) i ≡ (bit_at now.watched i && not (is_listed flips i)) && is_unstable net input next i =
     λ i inside. get_or-map-range_with_len (λ (j : ℕ). (bit_at now.watched j && not (is_listed flips j)) && is_unstable net input next j) 0 (length net) i i false inside (omega arith) in
     record {
       run = IsRun-append net input marked steps (flips ∷ []) stands.run (subst (λ (s : List Bool). IsStep net input s flips) (sym stands.ends) step, tt);
@@ -136,7 +136,7 @@ stands-step now flips steps long stands step =
 -- a list with a fault is no step
 pub step-or-fault : (net : List Driver) (input state : List Bool) (flips : List ℕ) (fault : StepFault) → IsStepFault net input state flips fault → IsStep net input state flips → ⊥
 step-or-fault net input state flips Empty is step = step.some is
-step-or-fault net input state flips (Repeated var) is step = times-RepeatsNone flips step.once var is.here
+step-or-fault net input state flips (Repeated var) is step = times_listed-IsRepeatFree flips step.once var is.here
 step-or-fault net input state flips (Stable var) is step = step.unstable var is.1.here.0 is.1.here.1
 
 -- a run with a fault is no nontransient cycle
@@ -146,11 +146,11 @@ cycle-or-fault net input state steps (NotStable var) is cycle = is.1.here.1 (cyc
 cycle-or-fault net input state steps (Transient var) is cycle = cycle.lasts (var, is.2.here.0, is.2.here.1.0, is.2.here.1.1)
 
 -- a variable that moved
-pub differs-fault : (now : Replayed) (steps : List (List ℕ)) (var : ℕ) → StandsFor now steps → IsLeast (λ i. bit_at now.state i ≢ bit_at now.marked i) var → IsCycleFault (network_of now.circuit) now.input now.marked steps (Differs var)
+pub differs-fault : (now : Replayer) (steps : List (List ℕ)) (var : ℕ) → StandsFor now steps → IsLeast (λ i. bit_at now.state i ≢ bit_at now.marked i) var → IsCycleFault (network_of now.circuit) now.input now.marked steps (Differs var)
 differs-fault now steps var stands moved = subst (λ (s : List Bool). IsLeast (λ i. bit_at s i ≢ bit_at now.marked i) var) (sym stands.ends) moved
 
 -- where none moved, the run is closed
-pub closed-by : (now : Replayed) (steps : List (List ℕ)) → StandsFor now steps → ((i : ℕ) → bit_at now.state i ≢ bit_at now.marked i → ⊥) → now.state ≡ now.marked
+pub closed-by : (now : Replayer) (steps : List (List ℕ)) → StandsFor now steps → ((i : ℕ) → bit_at now.state i ≢ bit_at now.marked i → ⊥) → now.state ≡ now.marked
 closed-by now steps stands still =
     let long : length now.state ≡ length now.marked = ap (length {A = Bool}) (sym stands.ends) ∙ length-end_of now.marked steps in
     ext_get_or false now.state now.marked long (λ i inside. same-bit (bit_at now.state i) (bit_at now.marked i) (still i))
@@ -160,14 +160,14 @@ no-steps stepped [] iff e = refl
 no-steps stepped (flips ∷ steps) iff e = absurd (false≢true (sym e ∙ iff.1 (λ h. cc)))
 
 -- no step was made, and a variable is unstable
-pub not-stable-fault : (now : Replayed) (steps : List (List ℕ)) (var : ℕ) → StandsFor now steps → now.state ≡ now.marked → now.stepped ≡ false → IsLeast (λ i. (i < length (network_of now.circuit)) × IsUnstable (network_of now.circuit) now.input now.state i) var → IsCycleFault (network_of now.circuit) now.input now.marked steps (NotStable var)
+pub not-stable-fault : (now : Replayer) (steps : List (List ℕ)) (var : ℕ) → StandsFor now steps → now.state ≡ now.marked → now.stepped ≡ false → IsLeast (λ i. (i < length (network_of now.circuit)) × IsUnstable (network_of now.circuit) now.input now.state i) var → IsCycleFault (network_of now.circuit) now.input now.marked steps (NotStable var)
 not-stable-fault now steps var stands closed resting unstable = (
   no-steps now.stepped steps stands.stepped resting,
   subst (λ (s : List Bool). IsLeast (λ i. (i < length (network_of now.circuit)) × IsUnstable (network_of now.circuit) now.input s i) var) closed unstable,
 )
 
 -- no step was made, and no variable is unstable
-pub stable-cycle : (now : Replayed) (steps : List (List ℕ)) → StandsFor now steps → now.state ≡ now.marked → now.stepped ≡ false → ((i : ℕ) → (i < length (network_of now.circuit)) × IsUnstable (network_of now.circuit) now.input now.state i → ⊥) → IsNontransient (network_of now.circuit) now.input now.marked steps
+pub stable-cycle : (now : Replayer) (steps : List (List ℕ)) → StandsFor now steps → now.state ≡ now.marked → now.stepped ≡ false → ((i : ℕ) → (i < length (network_of now.circuit)) × IsUnstable (network_of now.circuit) now.input now.state i → ⊥) → IsNontransient (network_of now.circuit) now.input now.marked steps
 stable-cycle now steps stands closed resting stable =
     let net = network_of now.circuit in
     let none : steps ≡ [] = no-steps now.stepped steps stands.stepped resting in
@@ -185,7 +185,7 @@ stable-cycle now steps stands closed resting stable =
     }
 
 -- a step was made, and a variable waits all along
-pub transient-fault : (now : Replayed) (steps : List (List ℕ)) (var : ℕ) → StandsFor now steps → now.state ≡ now.marked → now.stepped ≡ true → IsLeast (λ i. (i < length (network_of now.circuit)) × IsTrue (bit_at now.watched i)) var → IsCycleFault (network_of now.circuit) now.input now.marked steps (Transient var)
+pub transient-fault : (now : Replayer) (steps : List (List ℕ)) (var : ℕ) → StandsFor now steps → now.state ≡ now.marked → now.stepped ≡ true → IsLeast (λ i. (i < length (network_of now.circuit)) × IsTrue (bit_at now.watched i)) var → IsCycleFault (network_of now.circuit) now.input now.marked steps (Transient var)
 transient-fault now steps var stands closed moving watched = (
   stands.ends ∙ closed,
   stands.stepped.0 moving,
@@ -196,7 +196,7 @@ transient-fault now steps var stands closed moving watched = (
 )
 
 -- a step was made, and no variable waits all along
-pub moving-cycle : (now : Replayed) (steps : List (List ℕ)) → StandsFor now steps → now.state ≡ now.marked → now.stepped ≡ true → ((i : ℕ) → (i < length (network_of now.circuit)) × IsTrue (bit_at now.watched i) → ⊥) → IsNontransient (network_of now.circuit) now.input now.marked steps
+pub moving-cycle : (now : Replayer) (steps : List (List ℕ)) → StandsFor now steps → now.state ≡ now.marked → now.stepped ≡ true → ((i : ℕ) → (i < length (network_of now.circuit)) × IsTrue (bit_at now.watched i) → ⊥) → IsNontransient (network_of now.circuit) now.input now.marked steps
 moving-cycle now steps stands closed moving unwatched = record {
   cycle = record {
     run = stands.run;
@@ -206,12 +206,12 @@ moving-cycle now steps stands closed moving unwatched = record {
   lasts = λ waits. unwatched waits.0 (waits.1, (stands.watched waits.0 waits.1).1 (waits.2, waits.3));
 }
 
-pub length-taken_over : (state marked : List Bool) (list : List ℕ) → length (taken_over state marked list) ≡ length marked
-length-taken_over state marked [] = refl
-length-taken_over state marked (x ∷ list) = length-taken_over state (set marked x (bit_at state x)) list ∙ length-set marked x (bit_at state x)
+pub length-with_bits_of : (state marked : List Bool) (list : List ℕ) → length (with_bits_of state marked list) ≡ length marked
+length-with_bits_of state marked [] = refl
+length-with_bits_of state marked (x ∷ list) = length-with_bits_of state (set marked x (bit_at state x)) list ∙ length-set marked x (bit_at state x)
 
 -- what is the same stays the same
-taken-same : (state marked : List Bool) (list : List ℕ) (i : ℕ) → i < length marked → bit_at marked i ≡ bit_at state i → bit_at (taken_over state marked list) i ≡ bit_at state i
+taken-same : (state marked : List Bool) (list : List ℕ) (i : ℕ) → i < length marked → bit_at marked i ≡ bit_at state i → bit_at (with_bits_of state marked list) i ≡ bit_at state i
 taken-same state marked [] i inside same = same
 taken-same state marked (x ∷ list) i inside same =
     taken-same state (set marked x (bit_at state x)) list i (omega (arith, inside, length-set marked x (bit_at state x))) (elim (cases_eq i x) [
@@ -223,7 +223,7 @@ taken-same state marked (x ∷ list) i inside same =
     ])
 
 -- and what is listed becomes so
-taken-listed : (state marked : List Bool) (list : List ℕ) (i : ℕ) → i < length marked → is_listed list i ≡ true → bit_at (taken_over state marked list) i ≡ bit_at state i
+taken-listed : (state marked : List Bool) (list : List ℕ) (i : ℕ) → i < length marked → is_listed list i ≡ true → bit_at (with_bits_of state marked list) i ≡ bit_at state i
 taken-listed state marked [] i inside there = absurd (false≢true there)
 taken-listed state marked (x ∷ list) i inside there = elim (cases_eq i x) [
   | inl here ↦ (
@@ -235,23 +235,23 @@ taken-listed state marked (x ∷ list) i inside there = elim (cases_eq i x) [
 ]
 
 -- what did not move before a step and is not changed by it has not moved after it
-pub back-step : (flips : List ℕ) (begun moved moved' state state' : List Bool) → length moved ≡ length state → state' ≡ flipped flips state → moved' ≡ marked_with moved flips → ((i : ℕ) → bit_at moved i ≡ false → bit_at begun i ≡ bit_at state i) → (i : ℕ) → bit_at moved' i ≡ false → bit_at begun i ≡ bit_at state' i
+pub back-step : (flips : List ℕ) (begun moved moved' state state' : List Bool) → length moved ≡ length state → state' ≡ state_after flips state → moved' ≡ with_marks moved flips → ((i : ℕ) → bit_at moved i ≡ false → bit_at begun i ≡ bit_at state i) → (i : ℕ) → bit_at moved' i ≡ false → bit_at begun i ≡ bit_at state' i
 back-step flips begun moved moved' state state' long state_is moved_is back i still =
     subst (λ (bits : List Bool). bit_at begun i ≡ bit_at bits i) (sym state_is) (elim (cases_lt i (length state)) [
       | inl inside ↦ (
-          let parts = or_parts (bit_at moved i) (is_listed flips i) (sym (at-marked_with moved flips i (omega (arith, inside, long))) ∙ (ap (λ (bits : List Bool). bit_at bits i) (sym moved_is) ∙ still)) in
-          back i parts.0 ∙ sym (at-flipped flips state i inside ∙ ap (λ (b : Bool). cond b (not (bit_at state i)) (bit_at state i)) parts.1)
+          let parts = or_parts (bit_at moved i) (is_listed flips i) (sym (at-with_marks moved flips i (omega (arith, inside, long))) ∙ (ap (λ (bits : List Bool). bit_at bits i) (sym moved_is) ∙ still)) in
+          back i parts.0 ∙ sym (at-state_after flips state i inside ∙ ap (λ (b : Bool). cond b (not (bit_at state i)) (bit_at state i)) parts.1)
           )
       | inr past ↦
           back i (get_or_past moved i false (omega (arith, past, long))) ∙
-          (get_or_past state i false past ∙ sym (get_or_past (flipped flips state) i false (omega (arith, past, length-flipped flips state))))
+          (get_or_past state i false past ∙ sym (get_or_past (state_after flips state) i false (omega (arith, past, length-state_after flips state))))
     ])
 
 -- all that was touched is taken over: the marked state is the present one
-pub taken-all : (state marked touched : List Bool) (list : List ℕ) → length marked ≡ length state → AreMembers touched list → ((i : ℕ) → bit_at touched i ≡ false → bit_at marked i ≡ bit_at state i) → taken_over state marked list ≡ state
+pub taken-all : (state marked touched : List Bool) (list : List ℕ) → length marked ≡ length state → AreMembers touched list → ((i : ℕ) → bit_at touched i ≡ false → bit_at marked i ≡ bit_at state i) → with_bits_of state marked list ≡ state
 taken-all state marked touched list long members same =
-    ext_get_or false (taken_over state marked list) state (length-taken_over state marked list ∙ long) (λ i inside.
-    let within : i < length marked = omega (arith, inside, length-taken_over state marked list) in
+    ext_get_or false (with_bits_of state marked list) state (length-with_bits_of state marked list ∙ long) (λ i inside.
+    let within : i < length marked = omega (arith, inside, length-with_bits_of state marked list) in
     elim (cases_Bool (bit_at touched i)) [
       | inl there ↦ taken-listed state marked list i within (members.every i there)
       | inr missing ↦ taken-same state marked list i within (same i missing)
@@ -270,10 +270,10 @@ least-moved state marked touched list members same =
     (least-listed test list)
 
 -- a list without a fault is a step
-pub step-by : (net : List Driver) (input state marks : List Bool) (flips : List ℕ) → All (λ var. var < length net) flips → ((i : ℕ) → i < length net → bit_at marks i ≡ is_unstable net input state i) → flips ≢ [] → ((i : ℕ) → 2 ≤ times flips i → ⊥) → ((i : ℕ) → IsTrue (is_listed flips i) × IsTrue (not (bit_at marks i)) → ⊥) → IsStep net input state flips
+pub step-by : (net : List Driver) (input state marks : List Bool) (flips : List ℕ) → All (λ var. var < length net) flips → ((i : ℕ) → i < length net → bit_at marks i ≡ is_unstable net input state i) → flips ≢ [] → ((i : ℕ) → 2 ≤ times_listed flips i → ⊥) → ((i : ℕ) → IsTrue (is_listed flips i) × IsTrue (not (bit_at marks i)) → ⊥) → IsStep net input state flips
 step-by net input state marks flips all right some once marked = record {
   some = some;
-  once = RepeatsNone-times flips once;
+  once = IsRepeatFree-times_listed flips once;
   inside = λ i there. All-listed (λ (var : ℕ). var < length net) flips i all there;
   unstable = λ i there.
       let inside : i < length net = All-listed (λ (var : ℕ). var < length net) flips i all there in
@@ -281,14 +281,14 @@ step-by net input state marks flips all right some once marked = record {
 }
 
 -- the least listed variable that is not marked is the least that is stable
-pub stable-fault : (net : List Driver) (input state marks : List Bool) (flips : List ℕ) (var : ℕ) → All (λ var. var < length net) flips → ((i : ℕ) → i < length net → bit_at marks i ≡ is_unstable net input state i) → ((i : ℕ) → 2 ≤ times flips i → ⊥) → IsLeast (λ i. IsTrue (is_listed flips i) × IsTrue (not (bit_at marks i))) var → IsStepFault net input state flips (Stable var)
+pub stable-fault : (net : List Driver) (input state marks : List Bool) (flips : List ℕ) (var : ℕ) → All (λ var. var < length net) flips → ((i : ℕ) → i < length net → bit_at marks i ≡ is_unstable net input state i) → ((i : ℕ) → 2 ≤ times_listed flips i → ⊥) → IsLeast (λ i. IsTrue (is_listed flips i) × IsTrue (not (bit_at marks i))) var → IsStepFault net input state flips (Stable var)
 stable-fault net input state marks flips var all right once found =
     let stable : (i : ℕ) → IsTrue (is_listed flips i) → bit_at marks i ≡ false → bit_at state i ≡ excitation net input state i =
     λ i there missing.
     let inside : i < length net = All-listed (λ (var : ℕ). var < length net) flips i all there in
     beq-same (bit_at state i) (excitation net input state i) (not-false (beq (bit_at state i) (excitation net input state i)) (sym (right i inside) ∙ missing))
     in (
-      RepeatsNone-times flips once,
+      IsRepeatFree-times_listed flips once,
       record {
         here = (found.here.0, stable var found.here.0 (not-true (bit_at marks var) found.here.1));
         least = λ j h.
@@ -298,9 +298,9 @@ stable-fault net input state marks flips var all right once found =
     )
 
 -- a replayer with these parts is at a marked state
-pub replayed-is : (circuit : Netlist) (input input' begun begun' state state' marked watched : List Bool) → input' ≡ input → begun' ≡ begun → state' ≡ state → marked ≡ state → watched ≡ unstable_variables (network_of circuit) input state → (let now : Replayed = record { circuit = circuit; input = input'; begun = begun'; state = state'; marked = marked; stepped = false; watched = watched } in now) ≡ replayed_at circuit input begun state
+pub replayed-is : (circuit : Netlist) (input input' begun begun' state state' marked watched : List Bool) → input' ≡ input → begun' ≡ begun → state' ≡ state → marked ≡ state → watched ≡ unstable_variables (network_of circuit) input state → (let now : Replayer = record { circuit = circuit; input = input'; begun = begun'; state = state'; marked = marked; stepped = false; watched = watched } in now) ≡ replayer_at circuit input begun state
 replayed-is circuit input input' begun begun' state state' marked watched input_is begun_is state_is marked_is watched_is =
-    let parts : List Bool → List Bool → List Bool → List Bool → List Bool → Replayed =
+    let parts : List Bool → List Bool → List Bool → List Bool → List Bool → Replayer =
     λ i b s m w. record { circuit = circuit; input = i; begun = b; state = s; marked = m; stepped = false; watched = w } in
     ap (λ (i : List Bool). parts i begun' state' marked watched) input_is ∙
     (ap (λ (b : List Bool). parts input b state' marked watched) begun_is ∙
@@ -309,13 +309,13 @@ replayed-is circuit input input' begun begun' state state' marked watched input_
     ap (λ (w : List Bool). parts input begun state state w) watched_is)))
 
 -- a replayer with these parts is a step further
-pub stepped-is : (now : Replayed) (flips : List ℕ) (input state watched : List Bool) → input ≡ now.input → state ≡ flipped flips now.state → watched ≡ still_watched now flips → (let next : Replayed = record { circuit = now.circuit; input = input; begun = now.begun; state = state; marked = now.marked; stepped = true; watched = watched } in next) ≡ stepped_by now flips
+pub stepped-is : (now : Replayer) (flips : List ℕ) (input state watched : List Bool) → input ≡ now.input → state ≡ state_after flips now.state → watched ≡ watched_after now flips → (let next : Replayer = record { circuit = now.circuit; input = input; begun = now.begun; state = state; marked = now.marked; stepped = true; watched = watched } in next) ≡ replayer_after now flips
 stepped-is now flips input state watched input_is state_is watched_is =
-    let parts : List Bool → List Bool → List Bool → Replayed =
+    let parts : List Bool → List Bool → List Bool → Replayer =
     λ i s w. record { circuit = now.circuit; input = i; begun = now.begun; state = s; marked = now.marked; stepped = true; watched = w } in
     ap (λ (i : List Bool). parts i state watched) input_is ∙
     (ap (λ (s : List Bool). parts now.input s watched) state_is ∙
-    ap (λ (w : List Bool). parts now.input (flipped flips now.state) w) watched_is)
+    ap (λ (w : List Bool). parts now.input (state_after flips now.state) w) watched_is)
 
 -- a fresh set marks nothing
 pub none-marked : (marks : List Bool) (count : ℕ) → marks ≡ replicate count false → (i : ℕ) → i < length marks → bit_at marks i ≡ false
@@ -333,10 +333,10 @@ stable-listed net input state flips all =
     (least-listed (λ var. not (is_unstable net input state var)) flips)
 
 -- what changed or moved is listed: all else has at the mark the value that it had at the begin
-pub restart-same : (changed changed' moved marked begun state : List Bool) (list : List ℕ) → changed' ≡ marked_with changed list → AreMembers moved list → length marked ≡ length changed → length begun ≡ length changed → ((i : ℕ) → bit_at changed i ≡ false → bit_at marked i ≡ bit_at state i) → ((i : ℕ) → bit_at moved i ≡ false → bit_at begun i ≡ bit_at state i) → (i : ℕ) → bit_at changed' i ≡ false → bit_at marked i ≡ bit_at begun i
+pub restart-same : (changed changed' moved marked begun state : List Bool) (list : List ℕ) → changed' ≡ with_marks changed list → AreMembers moved list → length marked ≡ length changed → length begun ≡ length changed → ((i : ℕ) → bit_at changed i ≡ false → bit_at marked i ≡ bit_at state i) → ((i : ℕ) → bit_at moved i ≡ false → bit_at begun i ≡ bit_at state i) → (i : ℕ) → bit_at changed' i ≡ false → bit_at marked i ≡ bit_at begun i
 restart-same changed changed' moved marked begun state list changed_is members marked_long begun_long same back i still = elim (cases_lt i (length changed)) [
   | inl inside ↦ (
-      let parts = or_parts (bit_at changed i) (is_listed list i) (sym (at-marked_with changed list i inside) ∙ (ap (λ (bits : List Bool). bit_at bits i) (sym changed_is) ∙ still)) in
+      let parts = or_parts (bit_at changed i) (is_listed list i) (sym (at-with_marks changed list i inside) ∙ (ap (λ (bits : List Bool). bit_at bits i) (sym changed_is) ∙ still)) in
       let rests : bit_at moved i ≡ false = false_from_ne_true (bit_at moved i) (λ there. false≢true (sym parts.1 ∙ members.every i there)) in
       same i parts.0 ∙ sym (back i rests)
       )

@@ -1,20 +1,20 @@
 -- What a run's fields hold: the vectors count it, and the step with a number stands where its ends say.
 use Rattle.std.proofs.Common.{◌≡◌, ◌∙◌, sym, ap, length, arith}
 use Rattle.std.specs.Vec.{vec_len}
-use Rattle.hz_gmw.specs.Recorded.{Recorded, flip_count}
-use Rattle.hz_gmw.specs.Inside.{recorded_of, HoldsRun}
+use Rattle.hz_gmw.specs.RunRecord.{RunRecord, flip_count}
+use Rattle.hz_gmw.specs.Inside.{run_record_of, HoldsRun}
 use Rattle.hz_gmw.specs.declared.run.Run.TheInside.{Inside}
 use Rattle.hz_net.proofs.PartLemmas.{length-parts_from, sum_by-parts_from}
 
-pub held_steps : (fields : Inside) (run : Recorded) → recorded_of fields ≡ run → vec_len fields.ends ≡ length run.steps
+pub held_steps : (fields : Inside) (run : RunRecord) → run_record_of fields ≡ run → vec_len fields.ends ≡ length run.steps
 held_steps fields run is =
-    fields.ends.ok.0 ∙ sym (length-parts_from 0 fields.ends.items fields.flips.items) ∙ ap (λ (run : Recorded). length run.steps) is
+    fields.ends.ok.0 ∙ sym (length-parts_from 0 fields.ends.items fields.flips.items) ∙ ap (λ (run : RunRecord). length run.steps) is
 
-pub held_flips : (fields : Inside) (run : Recorded) → recorded_of fields ≡ run → HoldsRun fields → vec_len fields.flips ≡ flip_count run.steps
+pub held_flips : (fields : Inside) (run : RunRecord) → run_record_of fields ≡ run → HoldsRun fields → vec_len fields.flips ≡ flip_count run.steps
 held_flips fields run is held =
     omega (
       arith,
       fields.flips.ok.0,
       sum_by-parts_from 0 fields.ends.items fields.flips.items held.cut,
-      ap (λ (run : Recorded). flip_count run.steps) is,
+      ap (λ (run : RunRecord). flip_count run.steps) is,
     )

@@ -6,7 +6,7 @@ use Rattle.std.proofs.lemmas.List.{length-set, length-replicate, length_push, ge
 use Rattle.std.proofs.lemmas.List.Elements.{All-nil, All-cons}
 use Rattle.std.proofs.lemmas.List.Sums.{sum_by-set, sum_by-cons, count_by-le-length}
 use Rattle.hz_net.specs.Network.{bit_at}
-use Rattle.hz_gmw.specs.Runs.{is_listed, RepeatsNone}
+use Rattle.hz_gmw.specs.Runs.{is_listed, IsRepeatFree}
 use Rattle.hz_gmw.specs.VariableSets.{AreMembers}
 use Rattle.hz_gmw.proofs.Counting.{weight}
 use Rattle.hz_gmw.proofs.LeastLemmas.{listed-head, listed-tail, listed-cases, listed-other, listed-append, All-listed}
@@ -31,7 +31,7 @@ pushed-last list x = listed-append list (x ∷ []) x ∙ or_right (is_listed lis
 pushed-front : (list : List ℕ) (x i : ℕ) → is_listed list i ≡ true → is_listed (list ++ x ∷ []) i ≡ true
 pushed-front list x i there = listed-append list (x ∷ []) i ∙ or_left (is_listed list i) (is_listed (x ∷ []) i) there
 
-once-pushed : (list : List ℕ) (x : ℕ) → RepeatsNone list → is_listed list x ≡ false → RepeatsNone (list ++ x ∷ [])
+once-pushed : (list : List ℕ) (x : ℕ) → IsRepeatFree list → is_listed list x ≡ false → IsRepeatFree (list ++ x ∷ [])
 once-pushed [] x once new = (refl, tt)
 once-pushed (y ∷ list) x once new =
     let differ : y ≢ x = λ same. false≢true (sym new ∙ listed-head x y list (sym same)) in
@@ -43,7 +43,7 @@ once-pushed (y ∷ list) x once new =
       once-pushed list x once.1 later,
     )
 
-once-front : (list : List ℕ) (x : ℕ) → RepeatsNone (list ++ x ∷ []) → RepeatsNone list × (is_listed list x ≡ false)
+once-front : (list : List ℕ) (x : ℕ) → IsRepeatFree (list ++ x ∷ []) → IsRepeatFree list × (is_listed list x ≡ false)
 once-front [] x once = (tt, refl)
 once-front (y ∷ list) x once =
     let rest = once-front list x once.1 in
@@ -115,7 +115,7 @@ room-left marks members var inside new counted =
 pub AreMembers-pop : (marks : List Bool) (members rest : List ℕ) (var : ℕ) → AreMembers marks members → members ≡ rest ++ var ∷ [] → AreMembers (set marks var false) rest
 AreMembers-pop marks members rest var are whole =
     let long = length-set marks var false in
-    let once = once-front rest var (subst RepeatsNone whole are.once) in
+    let once = once-front rest var (subst IsRepeatFree whole are.once) in
     let front : (i : ℕ) → is_listed rest i ≡ true → is_listed members i ≡ true =
     λ i there. ap (λ (list : List ℕ). is_listed list i) whole ∙ pushed-front rest var i there in
     record {

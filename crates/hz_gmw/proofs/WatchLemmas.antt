@@ -18,24 +18,24 @@ use Rattle.hz_net.specs.declared.variable.VarKind.TheVariants.{Input, Gate as Ga
 use Rattle.hz_net.proofs.Places.{length-network_of, driver_at-wire}
 use Rattle.hz_net.proofs.Wires.{IsWireFrom-node, IsWireFrom-driver_at}
 use Rattle.hz_net.proofs.Wired.{wired-network_of, is_gate_of}
-use Rattle.hz_gmw.specs.Runs.{is_listed, RepeatsNone, IsStep, flipped}
+use Rattle.hz_gmw.specs.Runs.{is_listed, IsRepeatFree, IsStep, state_after}
 use Rattle.hz_gmw.specs.Instability.{is_unstable, unstable_variables, unstable_count}
 use Rattle.hz_gmw.specs.VariableSets.{AreMembers}
-use Rattle.hz_gmw.specs.Presents.{IsKindAt, unstable_from, marked_with}
-use Rattle.hz_gmw.specs.Replayed.{Replayed, still_watched}
-use Rattle.hz_gmw.specs.Watches.{lapses, is_watched, watched_variables, unstable_unchanged, NotesStable}
+use Rattle.hz_gmw.specs.CurrentState.{IsKindAt, unstable_from, with_marks}
+use Rattle.hz_gmw.specs.Replayer.{Replayer, watched_after}
+use Rattle.hz_gmw.specs.Watches.{lapses, is_watched, watched_variables, unstable_unchanged, RecordsStable}
 use Rattle.hz_gmw.proofs.Bits.{beq-same}
-use Rattle.hz_gmw.proofs.Flips.{at-flipped}
-use Rattle.hz_gmw.proofs.Marks.{at-marked_with}
+use Rattle.hz_gmw.proofs.Flips.{at-state_after}
+use Rattle.hz_gmw.proofs.Marks.{at-with_marks}
 use Rattle.hz_gmw.proofs.LeastLemmas.{listed-head, listed-tail, listed-cases, listed-other, All-listed}
 use Rattle.hz_gmw.proofs.Counting.{weight, range-same, range-none, range-one, range-listed, list-same}
 use Rattle.hz_gmw.proofs.SetLemmas.{unmarked}
-use Rattle.hz_gmw.proofs.Driven.{fan-driver, driver-fan, node-once, node-inside}
+use Rattle.hz_gmw.proofs.DriverLemmas.{fan-driver, driver-fan, node-once, node-inside}
 use Rattle.hz_gmw.proofs.Counts.{zeros, nothing, counted-unstable, nodes-among, wire-unstable}
 use Rattle.hz_gmw.proofs.Unchanged.{some-read, is_unstable-unread}
 
 -- nothing is noted
-pub notes-none : (net : List Driver) (input state marks : List Bool) → NotesStable net input state [] marks marks
+pub notes-none : (net : List Driver) (input state marks : List Bool) → RecordsStable net input state [] marks marks
 notes-none net input state marks = record {
   long = refl;
   kept = λ i marked. marked;
@@ -44,7 +44,7 @@ notes-none net input state marks = record {
 }
 
 -- one variable is noted, then the others
-pub notes-then : (net : List Driver) (input state first now next : List Bool) (x : ℕ) (list : List ℕ) → NotesStable net input state (x ∷ []) first now → NotesStable net input state list now next → NotesStable net input state (x ∷ list) first next
+pub notes-then : (net : List Driver) (input state first now next : List Bool) (x : ℕ) (list : List ℕ) → RecordsStable net input state (x ∷ []) first now → RecordsStable net input state list now next → RecordsStable net input state (x ∷ list) first next
 notes-then net input state first now next x list one rest = record {
   long = rest.long ∙ one.long;
   kept = λ i marked. rest.kept i (one.kept i marked);
@@ -59,7 +59,7 @@ notes-then net input state first now next x list one rest = record {
 }
 
 -- a variable that goes into no gate
-pub notes-node : (net : List Driver) (input state marks : List Bool) (var : ℕ) → ((gate : ℕ) → IsWireInto net gate var → ⊥) → NotesStable net input state (var ∷ []) marks marks
+pub notes-node : (net : List Driver) (input state marks : List Bool) (var : ℕ) → ((gate : ℕ) → IsWireInto net gate var → ⊥) → RecordsStable net input state (var ∷ []) marks marks
 notes-node net input state marks var none = record {
   long = refl;
   kept = λ i marked. marked;
@@ -84,7 +84,7 @@ no-wire-into netlist var (GateVariable kind) circuit at other gate into = node-i
 no-wire-into netlist var (WireVariable named pin source) circuit at other gate into = other named pin source refl
 
 -- a wire whose gate is unstable
-pub notes-unstable : (netlist : Netlist) (input state marks : List Bool) (gate wire : ℕ) → IsCircuit netlist → IsWireInto (network_of netlist) gate wire → is_unstable (network_of netlist) input state gate ≡ true → NotesStable (network_of netlist) input state (wire ∷ []) marks marks
+pub notes-unstable : (netlist : Netlist) (input state marks : List Bool) (gate wire : ℕ) → IsCircuit netlist → IsWireInto (network_of netlist) gate wire → is_unstable (network_of netlist) input state gate ≡ true → RecordsStable (network_of netlist) input state (wire ∷ []) marks marks
 notes-unstable netlist input state marks gate wire circuit into unstable = record {
   long = refl;
   kept = λ i marked. marked;
@@ -100,7 +100,7 @@ notes-unstable netlist input state marks gate wire circuit into unstable = recor
 }
 
 -- and one whose gate is stable
-pub notes-stable : (netlist : Netlist) (input state marks : List Bool) (gate wire : ℕ) → IsCircuit netlist → IsWireInto (network_of netlist) gate wire → gate < length marks → is_unstable (network_of netlist) input state gate ≡ false → NotesStable (network_of netlist) input state (wire ∷ []) marks (set marks gate true)
+pub notes-stable : (netlist : Netlist) (input state marks : List Bool) (gate wire : ℕ) → IsCircuit netlist → IsWireInto (network_of netlist) gate wire → gate < length marks → is_unstable (network_of netlist) input state gate ≡ false → RecordsStable (network_of netlist) input state (wire ∷ []) marks (set marks gate true)
 notes-stable netlist input state marks gate wire circuit into inside stable = record {
   long = length-set marks gate true;
   kept = λ i marked. elim (cases_eq i gate) [
@@ -228,7 +228,7 @@ wire-apart netlist x list i circuit above below = by (driver_at (network_of netl
 
 module _ (netlist : Netlist) (circuit : IsCircuit netlist) (input state : List Bool) where
   -- Nodes that changed take themselves and the wires from them from the unstable variables, and what is left is watched.
-  pub nodes-lapse : (list : List ℕ) → RepeatsNone list → All (λ i. i < length (network_of netlist)) list → sum_by (unstable_from netlist input state) list + count_by (is_watched (network_of netlist) input state (is_listed list) never) (range_with_len 0 (length (network_of netlist))) ≡ count_by (is_unstable (network_of netlist) input state) (range_with_len 0 (length (network_of netlist)))
+  pub nodes-lapse : (list : List ℕ) → IsRepeatFree list → All (λ i. i < length (network_of netlist)) list → sum_by (unstable_from netlist input state) list + count_by (is_watched (network_of netlist) input state (is_listed list) never) (range_with_len 0 (length (network_of netlist))) ≡ count_by (is_unstable (network_of netlist) input state) (range_with_len 0 (length (network_of netlist)))
   nodes-lapse [] once inside =
       let none : sum_by (unstable_from netlist input state) [] ≡ 0 = refl in
       let same = range-same (λ i. weight (is_watched (network_of netlist) input state (is_listed []) never i)) (λ i. weight (is_unstable (network_of netlist) input state i)) 0 (length (network_of netlist)) (λ i from below.
@@ -287,7 +287,7 @@ module _ (netlist : Netlist) (circuit : IsCircuit netlist) (input state : List B
   stable-apart (Source node) changed x list i other = refl
 
   -- Nodes that were stable and did not change take themselves from what is left.
-  pub stable-lapses : (changed : ℕ → Bool) (list : List ℕ) → RepeatsNone list → All (λ i. i < length netlist.names) list → count_by (unstable_unchanged (network_of netlist) input state changed) list + count_by (is_watched (network_of netlist) input state changed (is_listed list)) (range_with_len 0 (length (network_of netlist))) ≡ count_by (is_watched (network_of netlist) input state changed never) (range_with_len 0 (length (network_of netlist)))
+  pub stable-lapses : (changed : ℕ → Bool) (list : List ℕ) → IsRepeatFree list → All (λ i. i < length netlist.names) list → count_by (unstable_unchanged (network_of netlist) input state changed) list + count_by (is_watched (network_of netlist) input state changed (is_listed list)) (range_with_len 0 (length (network_of netlist))) ≡ count_by (is_watched (network_of netlist) input state changed never) (range_with_len 0 (length (network_of netlist)))
   stable-lapses changed [] once inside =
       let none : count_by (unstable_unchanged (network_of netlist) input state changed) [] ≡ 0 = refl in
       omega (arith, none)
@@ -387,27 +387,27 @@ unstable-test : (net : List Driver) (input state : List Bool) (i : ℕ) → IsUn
 unstable-test net input state i unstable = true_from_ne_false (is_unstable net input state i) (λ stable. unstable (beq-same (bit_at state i) (excitation net input state i) (not-false (beq (bit_at state i) (excitation net input state i)) stable)))
 
 -- Which variables are watched after a step.
-pub watched-after : (netlist : Netlist) (input state : List Bool) (flips : List ℕ) (changed been_stable after : List Bool) (i : ℕ) → IsCircuit netlist → length state ≡ length (network_of netlist) → length changed ≡ length (network_of netlist) → IsStep (network_of netlist) input state flips → NotesStable (network_of netlist) input state flips been_stable after → i < length (network_of netlist) →
-    is_watched (network_of netlist) input (flipped flips state) (bit_at (marked_with changed flips)) (bit_at after) i
-    ≡ (is_watched (network_of netlist) input state (bit_at changed) (bit_at been_stable) i && not (is_listed flips i)) && is_unstable (network_of netlist) input (flipped flips state) i
+pub watched-after : (netlist : Netlist) (input state : List Bool) (flips : List ℕ) (changed been_stable after : List Bool) (i : ℕ) → IsCircuit netlist → length state ≡ length (network_of netlist) → length changed ≡ length (network_of netlist) → IsStep (network_of netlist) input state flips → RecordsStable (network_of netlist) input state flips been_stable after → i < length (network_of netlist) →
+    is_watched (network_of netlist) input (state_after flips state) (bit_at (with_marks changed flips)) (bit_at after) i
+    ≡ (is_watched (network_of netlist) input state (bit_at changed) (bit_at been_stable) i && not (is_listed flips i)) && is_unstable (network_of netlist) input (state_after flips state) i
 watched-after netlist input state flips changed been_stable after i circuit state_long changed_long step notes inside = by (driver_at (network_of netlist) i) refl
   where
-    now : (j : ℕ) → j < length (network_of netlist) → bit_at (marked_with changed flips) j ≡ (bit_at changed j || is_listed flips j)
-    now j below = at-marked_with changed flips j (omega (arith, below, changed_long))
+    now : (j : ℕ) → j < length (network_of netlist) → bit_at (with_marks changed flips) j ≡ (bit_at changed j || is_listed flips j)
+    now j below = at-with_marks changed flips j (omega (arith, below, changed_long))
 
-    bit : (j : ℕ) → j < length (network_of netlist) → bit_at (flipped flips state) j ≡ cond (is_listed flips j) (not (bit_at state j)) (bit_at state j)
-    bit j below = at-flipped flips state j (omega (arith, below, state_long))
+    bit : (j : ℕ) → j < length (network_of netlist) → bit_at (state_after flips state) j ≡ cond (is_listed flips j) (not (bit_at state j)) (bit_at state j)
+    bit j below = at-state_after flips state j (omega (arith, below, state_long))
 
-    node : ((j : ℕ) → is_listed flips j ≡ true → Reads (driver_at (network_of netlist) i) j → IsWireInto (network_of netlist) i j) → (is_unstable (network_of netlist) input (flipped flips state) i && not (bit_at (marked_with changed flips) i || bit_at after i)) ≡ ((is_unstable (network_of netlist) input state i && not (bit_at changed i || bit_at been_stable i)) && not (is_listed flips i)) && is_unstable (network_of netlist) input (flipped flips state) i
+    node : ((j : ℕ) → is_listed flips j ≡ true → Reads (driver_at (network_of netlist) i) j → IsWireInto (network_of netlist) i j) → (is_unstable (network_of netlist) input (state_after flips state) i && not (bit_at (with_marks changed flips) i || bit_at after i)) ≡ ((is_unstable (network_of netlist) input state i && not (bit_at changed i || bit_at been_stable i)) && not (is_listed flips i)) && is_unstable (network_of netlist) input (state_after flips state) i
     node into =
-        ap (λ (b : Bool). is_unstable (network_of netlist) input (flipped flips state) i && not (b || bit_at after i)) (now i inside) ∙
-        node-bits (is_unstable (network_of netlist) input state i) (is_unstable (network_of netlist) input (flipped flips state) i) (bit_at changed i) (is_listed flips i) (bit_at been_stable i) (bit_at after i) (notes.kept i) (notes.only i) (λ still stable turned.
+        ap (λ (b : Bool). is_unstable (network_of netlist) input (state_after flips state) i && not (b || bit_at after i)) (now i inside) ∙
+        node-bits (is_unstable (network_of netlist) input state i) (is_unstable (network_of netlist) input (state_after flips state) i) (bit_at changed i) (is_listed flips i) (bit_at been_stable i) (bit_at after i) (notes.kept i) (notes.only i) (λ still stable turned.
         elim (some-read (driver_at (network_of netlist) i) flips) [
           | inl none ↦ absurd (false≢true (sym stable ∙ (sym (is_unstable-unread (network_of netlist) input state flips i still none) ∙ turned)))
           | inr found ↦ notes.every i found.0 found.1 (into found.0 found.1 found.2) stable
         ])
 
-    by : (driver : Driver) → driver_at (network_of netlist) i ≡ driver → (is_unstable (network_of netlist) input (flipped flips state) i && not (lapses driver (bit_at (marked_with changed flips)) (bit_at after) i)) ≡ ((is_unstable (network_of netlist) input state i && not (lapses driver (bit_at changed) (bit_at been_stable) i)) && not (is_listed flips i)) && is_unstable (network_of netlist) input (flipped flips state) i
+    by : (driver : Driver) → driver_at (network_of netlist) i ≡ driver → (is_unstable (network_of netlist) input (state_after flips state) i && not (lapses driver (bit_at (with_marks changed flips)) (bit_at after) i)) ≡ ((is_unstable (network_of netlist) input state i && not (lapses driver (bit_at changed) (bit_at been_stable) i)) && not (is_listed flips i)) && is_unstable (network_of netlist) input (state_after flips state) i
     by (External place) e = node (λ j there reads. absurd (subst (λ (d : Driver). Reads d j) e reads))
     by (Function kind first pins) e = node (λ j there reads.
         let pin : (first ≤ j) × (j < first + pins) = subst (λ (d : Driver). Reads d j) e reads in
@@ -418,14 +418,14 @@ watched-after netlist input state flips changed been_stable after i circuit stat
         omega (arith, node, nodes-among netlist circuit)
         ) in
         let before = wire-unstable netlist input state i source e in
-        let later : is_unstable (network_of netlist) input (flipped flips state) i ≡ not (beq (is_unstable (network_of netlist) input state i) (not (beq (is_listed flips i) (is_listed flips source)))) =
-        wire-unstable netlist input (flipped flips state) i source e ∙
-        (ap (λ (b : Bool). not (beq b (bit_at (flipped flips state) source))) (bit i inside) ∙
+        let later : is_unstable (network_of netlist) input (state_after flips state) i ≡ not (beq (is_unstable (network_of netlist) input state i) (not (beq (is_listed flips i) (is_listed flips source)))) =
+        wire-unstable netlist input (state_after flips state) i source e ∙
+        (ap (λ (b : Bool). not (beq b (bit_at (state_after flips state) source))) (bit i inside) ∙
         (ap (λ (b : Bool). not (beq (cond (is_listed flips i) (not (bit_at state i)) (bit_at state i)) b)) (bit source low) ∙
         (xor-bits (bit_at state i) (bit_at state source) (is_listed flips i) (is_listed flips source) ∙
         ap (λ (b : Bool). not (beq b (not (beq (is_listed flips i) (is_listed flips source))))) (sym before)))) in
         let step_bits : is_listed flips i ≡ true → is_unstable (network_of netlist) input state i ≡ true = λ there. unstable-test (network_of netlist) input state i (step.unstable i there) in
-        ap (λ (b : Bool). is_unstable (network_of netlist) input (flipped flips state) i && not b) (now source low) ∙
+        ap (λ (b : Bool). is_unstable (network_of netlist) input (state_after flips state) i && not b) (now source low) ∙
         (ap (λ (b : Bool). b && not (bit_at changed source || is_listed flips source)) later ∙
         (wire-bits (is_unstable (network_of netlist) input state i) (bit_at changed source) (is_listed flips i) (is_listed flips source) step_bits ∙
         ap (λ (b : Bool). ((is_unstable (network_of netlist) input state i && not (bit_at changed source)) && not (is_listed flips i)) && b) (sym later)))
@@ -443,14 +443,14 @@ watched-fresh net input state changed been_stable count nodes none none_too =
     watched-none net input state (bit_at changed) (bit_at been_stable) i (λ j. ap (λ (marks : List Bool). bit_at marks j) none ∙ unmarked count j) (λ j. ap (λ (marks : List Bool). bit_at marks j) none_too ∙ unmarked nodes j))
 
 -- the watched variables after a step
-pub watched-step : (now : Replayed) (flips : List ℕ) (changed been_stable changed' been_stable' input' state' : List Bool) → IsCircuit now.circuit → length now.state ≡ length (network_of now.circuit) → length changed ≡ length (network_of now.circuit) → IsStep (network_of now.circuit) now.input now.state flips → now.watched ≡ watched_variables (network_of now.circuit) now.input now.state (bit_at changed) (bit_at been_stable) → NotesStable (network_of now.circuit) now.input now.state flips been_stable been_stable' → changed' ≡ marked_with changed flips → input' ≡ now.input → state' ≡ flipped flips now.state → watched_variables (network_of now.circuit) input' state' (bit_at changed') (bit_at been_stable') ≡ still_watched now flips
+pub watched-step : (now : Replayer) (flips : List ℕ) (changed been_stable changed' been_stable' input' state' : List Bool) → IsCircuit now.circuit → length now.state ≡ length (network_of now.circuit) → length changed ≡ length (network_of now.circuit) → IsStep (network_of now.circuit) now.input now.state flips → now.watched ≡ watched_variables (network_of now.circuit) now.input now.state (bit_at changed) (bit_at been_stable) → RecordsStable (network_of now.circuit) now.input now.state flips been_stable been_stable' → changed' ≡ with_marks changed flips → input' ≡ now.input → state' ≡ state_after flips now.state → watched_variables (network_of now.circuit) input' state' (bit_at changed') (bit_at been_stable') ≡ watched_after now flips
 watched-step now flips changed been_stable changed' been_stable' input' state' circuit long changed_long step watched notes changed_is input_is state_is =
     let net = network_of now.circuit in
-    let next = flipped flips now.state in
+    let next = state_after flips now.state in
     ap (λ (input : List Bool). watched_variables net input state' (bit_at changed') (bit_at been_stable')) input_is ∙
     (ap (λ (state : List Bool). watched_variables net now.input state (bit_at changed') (bit_at been_stable')) state_is ∙
     (ap (λ (marks : List Bool). watched_variables net now.input next (bit_at marks) (bit_at been_stable')) changed_is ∙
-    map-same (is_watched net now.input next (bit_at (marked_with changed flips)) (bit_at been_stable')) (λ i. (bit_at now.watched i && not (is_listed flips i)) && is_unstable net now.input next i) 0 (length net) (λ i from below.
+    map-same (is_watched net now.input next (bit_at (with_marks changed flips)) (bit_at been_stable')) (λ i. (bit_at now.watched i && not (is_listed flips i)) && is_unstable net now.input next i) 0 (length net) (λ i from below.
     let inside : i < length net = omega (arith, below) in
     watched-after now.circuit now.input now.state flips changed been_stable been_stable' i circuit long changed_long step notes inside ∙
     ap (λ (b : Bool). (b && not (is_listed flips i)) && is_unstable net now.input next i) (sym (ap (λ (bits : List Bool). bit_at bits i) watched ∙ at-watched_variables net now.input now.state (bit_at changed) (bit_at been_stable) i inside)))))

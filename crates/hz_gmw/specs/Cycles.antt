@@ -2,12 +2,12 @@
 use Rattle.std.specs.Prelude.{◌≡◌, ℕ, ◌<◌, Bool, List, [], ◌∷◌, length, Contains}
 use Rattle.std.specs.List.{AllByRecursion}
 use Rattle.hz_net.specs.Network.{Driver, bit_at, IsUnstable, IsStable}
-use Rattle.hz_gmw.specs.Runs.{flipped, IsRun, end_of, IsReachable}
+use Rattle.hz_gmw.specs.Runs.{state_after, IsRun, end_of, IsReachable}
 
 -- the states of a run, its first one included
 abbrev pub states_of : List Bool → List (List ℕ) → List (List Bool)
 states_of state [] = state ∷ []
-states_of state (flips ∷ steps) = state ∷ states_of (flipped flips state) steps
+states_of state (flips ∷ steps) = state ∷ states_of (state_after flips state) steps
 
 -- A cycle: a run with a step that ends where it began, or one stable state alone.
 pub record IsCycle (net : List Driver) (input state : List Bool) (steps : List (List ℕ)) : Type 0 where

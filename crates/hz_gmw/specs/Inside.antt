@@ -1,13 +1,13 @@
 -- What a run's fields stand for.
 use Rattle.std.specs.Prelude.{◌+◌, ◌≤◌, length}
 use Rattle.std.specs.Vec.{vec_len, vec_capacity}
-use Rattle.hz_gmw.specs.Recorded.{Recorded}
+use Rattle.hz_gmw.specs.RunRecord.{RunRecord}
 use Rattle.hz_net.specs.Parts.{parts_from, EndsAt}
 use Rattle.hz_gmw.specs.declared.run.Run.TheInside.{Inside}
 
 -- the run that the fields hold
-abbrev pub recorded_of : Inside → Recorded
-recorded_of fields =
+abbrev pub run_record_of : Inside → RunRecord
+run_record_of fields =
     record {
       steps = parts_from 0 fields.ends.items fields.flips.items;
       spare_flips = fields.spare_flips;

@@ -1,14 +1,14 @@
 -- What a replayer's fields stand for.
 use Rattle.std.specs.Prelude.{◌≡◌, ℕ, false, length, replicate}
 use Rattle.hz_net.specs.Network.{network_of, bit_at}
-use Rattle.hz_gmw.specs.Replayed.{Replayed}
-use Rattle.hz_gmw.specs.Presents.{IsExact}
+use Rattle.hz_gmw.specs.Replayer.{Replayer}
+use Rattle.hz_gmw.specs.CurrentState.{IsExact}
 use Rattle.hz_gmw.specs.Watches.{WatchFits, watched_variables}
 use Rattle.hz_gmw.specs.declared.replay.Replay.TheInside.{Inside}
 
 -- the replayer that the fields hold
-abbrev pub replayed_of : Inside → Replayed
-replayed_of fields = record {
+abbrev pub replayer_of : Inside → Replayer
+replayer_of fields = record {
   circuit = fields.net.now;
   input = fields.present.input.items;
   begun = fields.begun.items;

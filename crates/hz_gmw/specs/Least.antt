@@ -13,17 +13,17 @@ IsLeastOf holds None = (i : ℕ) → holds i → ⊥
 IsLeastOf holds (Some i) = IsLeast holds i
 
 -- the lesser of a number and one that was found before
-abbrev pub lesser_of : Option ℕ → ℕ → Option ℕ
-lesser_of None i = Some i
-lesser_of (Some least) i = Some (min least i)
+abbrev pub min_with : Option ℕ → ℕ → Option ℕ
+min_with None i = Some i
+min_with (Some least) i = Some (min least i)
 
 -- the least of what was found before and of the numbers in a list that pass a test
 abbrev pub least_from : Option ℕ → (ℕ → Bool) → List ℕ → Option ℕ
 least_from found test [] = found
-least_from found test (i ∷ list) = least_from (if test i then lesser_of found i else found) test list
+least_from found test (i ∷ list) = least_from (if test i then min_with found i else found) test list
 
 -- the least of what was found before and of the numbers that a list names and that are marked, or that it names twice
-abbrev pub least_again : Option ℕ → List Bool → List ℕ → Option ℕ
-least_again found named [] = found
-least_again found named (i ∷ list) =
-    least_again (if bit_at named i then lesser_of found i else found) (slice_set named i true) list
+abbrev pub least_repeat : Option ℕ → List Bool → List ℕ → Option ℕ
+least_repeat found named [] = found
+least_repeat found named (i ∷ list) =
+    least_repeat (if bit_at named i then min_with found i else found) (slice_set named i true) list

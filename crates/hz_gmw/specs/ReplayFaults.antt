@@ -1,7 +1,7 @@
 -- Why a list is no step, and why the states since a mark are no nontransient cycle.
 use Rattle.std.specs.Prelude.{◌≡◌, ◌≢◌, ℕ, ◌<◌, ◌≤◌, Bool, List, [], length, IsTrue, nat_eq, count_by}
 use Rattle.hz_net.specs.Network.{Driver, bit_at, excitation, IsUnstable}
-use Rattle.hz_gmw.specs.Runs.{is_listed, RepeatsNone, end_of}
+use Rattle.hz_gmw.specs.Runs.{is_listed, IsRepeatFree, end_of}
 use Rattle.hz_gmw.specs.Cycles.{WaitsAt}
 use Rattle.hz_gmw.specs.Least.{IsLeast}
 use Rattle.hz_gmw.specs.declared.replay_fault.StepFault.{StepFault}
@@ -10,16 +10,16 @@ use Rattle.hz_gmw.specs.declared.replay_fault.CycleFault.{CycleFault}
 use Rattle.hz_gmw.specs.declared.replay_fault.CycleFault.TheVariants.{Differs, NotStable, Transient}
 
 -- how often a list names a variable
-abbrev pub times : List ℕ → ℕ → ℕ
-times flips i = count_by (nat_eq i) flips
+abbrev pub times_listed : List ℕ → ℕ → ℕ
+times_listed flips i = count_by (nat_eq i) flips
 
 -- Why a list is no step: it is empty; it names a variable twice, and this is the least such; it repeats none, and this is
 -- the least variable in it that is stable.
 abbrev pub IsStepFault : List Driver → List Bool → List Bool → List ℕ → StepFault → Type 0
 IsStepFault net input state flips Empty = flips ≡ []
-IsStepFault net input state flips (Repeated var) = IsLeast (λ i. 2 ≤ times flips i) var
+IsStepFault net input state flips (Repeated var) = IsLeast (λ i. 2 ≤ times_listed flips i) var
 IsStepFault net input state flips (Stable var) =
-    RepeatsNone flips × IsLeast (λ i. IsTrue (is_listed flips i) × (bit_at state i ≡ excitation net input state i)) var
+    IsRepeatFree flips × IsLeast (λ i. IsTrue (is_listed flips i) × (bit_at state i ≡ excitation net input state i)) var
 
 -- Why a run is no nontransient cycle: it ends in another state than it began with, and this is the least variable that
 -- differs; it has no step, and this is the least variable that is unstable in its one state; it is a cycle with a step,

@@ -10,36 +10,36 @@ abbrev pub is_listed : List ℕ → ℕ → Bool
 is_listed flips i = list_any (nat_eq i) flips
 
 -- a list names no variable twice
-abbrev pub RepeatsNone : List ℕ → Type 0
-RepeatsNone [] = Unit {0}
-RepeatsNone (i ∷ flips) = (is_listed flips i ≡ false) × RepeatsNone flips
+abbrev pub IsRepeatFree : List ℕ → Type 0
+IsRepeatFree [] = Unit {0}
+IsRepeatFree (i ∷ flips) = (is_listed flips i ≡ false) × IsRepeatFree flips
 
 -- Some variables may change at once: at least one, each named once, and only variables that are unstable.
 pub record IsStep (net : List Driver) (input state : List Bool) (flips : List ℕ) : Type 0 where
   pub some : flips ≢ []
-  pub once : RepeatsNone flips
+  pub once : IsRepeatFree flips
   pub inside : (i : ℕ) → IsTrue (is_listed flips i) → i < length net
   pub unstable : (i : ℕ) → IsTrue (is_listed flips i) → IsUnstable net input state i
 
 -- the values from a place on, with those of the listed variables turned
-abbrev pub flipped_from : ℕ → List ℕ → List Bool → List Bool
-flipped_from place flips [] = []
-flipped_from place flips (bit ∷ bits) =
-    (if is_listed flips place then not bit else bit) ∷ flipped_from (suc place) flips bits
+abbrev pub bits_after_from : ℕ → List ℕ → List Bool → List Bool
+bits_after_from place flips [] = []
+bits_after_from place flips (bit ∷ bits) =
+    (if is_listed flips place then not bit else bit) ∷ bits_after_from (suc place) flips bits
 
 -- the state after a step: it differs from the one before at the listed variables and nowhere else
-abbrev pub flipped : List ℕ → List Bool → List Bool
-flipped flips state = flipped_from 0 flips state
+abbrev pub state_after : List ℕ → List Bool → List Bool
+state_after flips state = bits_after_from 0 flips state
 
 -- A run, by the lists of variables that its steps change: each is a step from the state that the earlier ones leave.
 abbrev pub IsRun : List Driver → List Bool → List Bool → List (List ℕ) → Type 0
 IsRun net input state [] = Unit {0}
-IsRun net input state (flips ∷ steps) = IsStep net input state flips × IsRun net input (flipped flips state) steps
+IsRun net input state (flips ∷ steps) = IsStep net input state flips × IsRun net input (state_after flips state) steps
 
 -- the state in which a run ends
 abbrev pub end_of : List Bool → List (List ℕ) → List Bool
 end_of state [] = state
-end_of state (flips ∷ steps) = end_of (flipped flips state) steps
+end_of state (flips ∷ steps) = end_of (state_after flips state) steps
 
 -- some run from the start ends in the state
 abbrev pub IsReachable : List Driver → List Bool → List Bool → List Bool → Type 0

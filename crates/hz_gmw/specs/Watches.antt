@@ -37,7 +37,7 @@ unstable_unchanged net input state changed i = is_unstable net input state i && 
 
 -- The gates that were known to have been stable, before the listed variables change, and those that are known now: the
 -- stable gates into which one of these variables goes are among them, and no unstable gate is new.
-pub record NotesStable (net : List Driver) (input state : List Bool) (flips : List ℕ) (before after : List Bool) : Type 0 where
+pub record RecordsStable (net : List Driver) (input state : List Bool) (flips : List ℕ) (before after : List Bool) : Type 0 where
   pub long : length after ≡ length before
   pub kept : (i : ℕ) → bit_at before i ≡ true → bit_at after i ≡ true
   pub only : (i : ℕ) → bit_at after i ≡ true → (bit_at before i ≡ true) ⊎ (is_unstable net input state i ≡ false)

@@ -2,13 +2,13 @@
 ghost use Rattle.std.specs.Prelude.{◌≡◌, ◌<◌, ℕ, Option, All, None, Bool, true, false, not, length, replicate};
 ghost use Rattle.std.specs.Bool.{beq};
 ghost use Rattle.hz_net.specs.Network.{bit_at};
-ghost use Rattle.hz_gmw.specs.Least.{lesser_of, least_from, least_again};
+ghost use Rattle.hz_gmw.specs.Least.{min_with, least_from, least_repeat};
 
 use crate::variable_set::VariableSet;
 
 // The lesser of a variable and one that was found before.
 pub(crate) fn lesser(found: Option<u32>, var: u32) -> Option<u32>
-    ensures { result ≡ lesser_of found var }
+    ensures { result ≡ min_with found var }
 {
     match found {
         Some(least) => Some(least.min(var)),
@@ -35,7 +35,7 @@ pub(crate) fn least_differing(list: &[u32], left: &[bool], right: &[bool]) -> Op
 pub(crate) fn least_repeated(list: &[u32], named: &mut VariableSet) -> Option<u32>
     requires inside { All (λ var. var < length named.old) list.now }
     requires none { named.old ≡ replicate (length named.old) false }
-    ensures least { result ≡ least_again None named.old list.now }
+    ensures least { result ≡ least_repeat None named.old list.now }
     ensures none { named.new ≡ replicate (length named.old) false }
 {
     let mut found = None;

@@ -15,10 +15,10 @@ ghost use Rattle.hz_core.specs.Netlist.{IsCircuit, IsWhole};
 ghost use Rattle.hz_net.specs.Network.{network_of, driver_at, excitation, Source, bit_at};
 ghost use Rattle.hz_net.specs.Reads.{IsWireInto};
 ghost use Rattle.hz_net.specs.Variables.{fan_out_of};
-ghost use Rattle.hz_gmw.specs.Runs.{is_listed, RepeatsNone, flipped};
+ghost use Rattle.hz_gmw.specs.Runs.{is_listed, IsRepeatFree, state_after};
 ghost use Rattle.hz_gmw.specs.Instability.{is_unstable, unstable_count};
 ghost use Rattle.hz_gmw.specs.Least.{least_from};
-ghost use Rattle.hz_gmw.specs.Presents.{IsKindAt};
+ghost use Rattle.hz_gmw.specs.CurrentState.{IsKindAt};
 
 use crate::least::lesser;
 use crate::ones::value_of_ones;
@@ -39,7 +39,7 @@ pub(crate) struct Present {
 }
 
 impl Present {
-    ghost use Rattle.hz_gmw.specs.Presents.{IsCounted, IsExact, around, taken_over, unstable_from};
+    ghost use Rattle.hz_gmw.specs.CurrentState.{IsCounted, IsExact, with_readers, with_bits_of, unstable_from};
 
     // Every input and every variable is 0.
     pub(crate) fn new(alloc: Global, net: &Net) -> Result<Present, Memory>
@@ -74,10 +74,10 @@ impl Present {
     pub(crate) fn advance(&mut self, net: &Net, flips: &[u32])
         requires exact { IsExact net.now self.old }
         requires inside { All (λ var. var < length (network_of net.now)) flips.now }
-        requires once { RepeatsNone flips.now }
+        requires once { IsRepeatFree flips.now }
         ensures exact { IsExact net.now self.new }
         ensures input { self.new.input.items ≡ self.old.input.items }
-        ensures state { self.new.state.items ≡ flipped flips.now self.old.state.items }
+        ensures state { self.new.state.items ≡ state_after flips.now self.old.state.items }
     {
         for var in flips {
             self.flip(net, *var);
@@ -104,7 +104,7 @@ impl Present {
         requires state { length state.now ≡ length (network_of net.now) }
         ensures exact { IsExact net.now self.new }
         ensures input { self.new.input.items ≡ self.old.input.items }
-        ensures state { self.new.state.items ≡ taken_over state.now self.old.state.items list.now }
+        ensures state { self.new.state.items ≡ with_bits_of state.now self.old.state.items list.now }
     {
         for var in list {
             self.turn(net, *var, state[*var as usize]);
@@ -276,7 +276,7 @@ impl Present {
     fn unstable_around(&self, net: &Net, var: u32) -> u32
         requires counted { IsCounted net.now self.now }
         requires var { var < length (network_of net.now) }
-        ensures { result ≡ count_by (is_unstable (network_of net.now) self.now.input.items self.now.state.items) (around net.now var) }
+        ensures { result ≡ count_by (is_unstable (network_of net.now) self.now.input.items self.now.state.items) (with_readers net.now var) }
     {
         match kind_at(net, var) {
             VarKind::Wire { gate, .. } => {

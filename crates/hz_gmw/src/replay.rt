@@ -5,9 +5,9 @@ ghost use Rattle.hz_gmw.specs.Runs.{IsStep};
 ghost use Rattle.hz_gmw.specs.Cycles.{IsNontransient};
 ghost use Rattle.hz_gmw.specs.Instability.{unstable_count};
 ghost use Rattle.hz_gmw.specs.Least.{IsLeastOf};
-ghost use Rattle.hz_gmw.specs.Replayed.{StandsFor, replayed_at, begun_at, stepped_by};
+ghost use Rattle.hz_gmw.specs.Replayer.{StandsFor, replayer_at, initial_replayer, replayer_after};
 ghost use Rattle.hz_gmw.specs.ReplayFaults.{IsStepFault, IsCycleFault};
-ghost use Rattle.hz_gmw.specs.Presents.{taken_over};
+ghost use Rattle.hz_gmw.specs.CurrentState.{with_bits_of};
 
 use crate::least::{least_differing, least_repeated};
 use crate::present::Present;
@@ -43,13 +43,13 @@ pub struct Replay<'n> {
 }
 
 impl<'n> Model for Replay<'n> {
-    ghost use Rattle.hz_gmw.specs.Replayed.{Replayed};
+    ghost use Rattle.hz_gmw.specs.Replayer.{Replayer};
 
-    ghost Value = { Replayed };
+    ghost Value = { Replayer };
 
-    ghost use Rattle.hz_gmw.specs.InsideReplay.{replayed_of, HoldsReplay};
+    ghost use Rattle.hz_gmw.specs.InsideReplay.{replayer_of, HoldsReplay};
 
-    ghost view = { replayed_of };
+    ghost view = { replayer_of };
 
     ghost invariant = { HoldsReplay };
 }
@@ -57,7 +57,7 @@ impl<'n> Model for Replay<'n> {
 impl<'n> Replay<'n> {
     /// The present state, in which every input and every variable is 0, is marked.
     pub fn new(alloc: Global, net: &'n Net) -> Result<Replay<'n>, Memory>
-        ensures at { IfOk result (λ replay. replay ≡ begun_at net.now (replicate net.now.inputs false) (replicate (length (network_of net.now)) false)) }
+        ensures at { IfOk result (λ replay. replay ≡ initial_replayer net.now (replicate net.now.inputs false) (replicate (length (network_of net.now)) false)) }
         ensures stands { IfOk result (λ replay. StandsFor replay []) }
     {
         let variables = net.len();
@@ -88,7 +88,7 @@ impl<'n> Replay<'n> {
     pub fn begin(&mut self, input: &[bool], state: &[bool])
         requires input { length input.now ≡ self.old.circuit.inputs }
         requires state { length state.now ≡ length (network_of self.old.circuit) }
-        ensures at { self.new ≡ begun_at self.old.circuit input.now state.now }
+        ensures at { self.new ≡ initial_replayer self.old.circuit input.now state.now }
         ensures stands { StandsFor self.new [] }
     {
         self.present.turn_input(self.net, input);
@@ -102,7 +102,7 @@ impl<'n> Replay<'n> {
     /// Goes back to the state in which it began last, and marks it, with no step since. It costs what the steps since then
     /// changed, not the whole network.
     pub fn restart(&mut self)
-        ensures at { self.new ≡ begun_at self.old.circuit self.old.input self.old.begun }
+        ensures at { self.new ≡ initial_replayer self.old.circuit self.old.input self.old.begun }
         ensures stands { StandsFor self.new [] }
     {
         self.present
@@ -114,7 +114,7 @@ impl<'n> Replay<'n> {
 
     /// Marks the present state, with no step since.
     pub fn mark(&mut self)
-        ensures at { self.new ≡ replayed_at self.old.circuit self.old.input self.old.begun self.old.state }
+        ensures at { self.new ≡ replayer_at self.old.circuit self.old.input self.old.begun self.old.state }
         ensures stands { StandsFor self.new [] }
     {
         take_over(
@@ -132,7 +132,7 @@ impl<'n> Replay<'n> {
         requires { All (λ var. var < length (network_of self.old.circuit)) flips.now }
         ensures exact { IsTrue (is_ok result) ↔ IsStep (network_of self.old.circuit) self.old.input self.old.state flips.now }
         ensures fault { IfErr result (IsStepFault (network_of self.old.circuit) self.old.input self.old.state flips.now) }
-        ensures after { self.new ≡ (if is_ok result then stepped_by self.old flips.now else self.old) }
+        ensures after { self.new ≡ (if is_ok result then replayer_after self.old flips.now else self.old) }
         ensures stands { OnOk result ((steps : List (List ℕ)) → StandsFor self.old steps → StandsFor self.new (steps ++ flips.now ∷ [])) }
     {
         if let Some(fault) = self.step_fault(flips) {
@@ -257,7 +257,7 @@ impl<'n> Replay<'n> {
 fn take_over(list: &[u32], state: &[bool], marked: &mut [bool])
     requires inside { All (λ var. var < length state.now) list.now }
     requires long { length marked.old ≡ length state.now }
-    ensures { marked.new ≡ taken_over state.now marked.old list.now }
+    ensures { marked.new ≡ with_bits_of state.now marked.old list.now }
 {
     for var in list {
         marked[*var as usize] = state[*var as usize];

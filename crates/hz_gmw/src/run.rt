@@ -1,7 +1,7 @@
 //! A run as it is written down: its steps, each the variables that change in it.
 ghost use Rattle.std.specs.Prelude.{◌≡◌, ◌+◌, ◌<◌, ◌≤◌, [], ◌∷◌, ◌++◌, length, slice_index_or, IfOk, OnOk, OnErr};
 ghost use Rattle.std.specs.Vec.{vec_len, vec_capacity};
-ghost use Rattle.hz_gmw.specs.Recorded.{flip_count, no_steps};
+ghost use Rattle.hz_gmw.specs.RunRecord.{flip_count, no_steps};
 
 use hz_core::Memory;
 use hz_net::part_at;
@@ -23,13 +23,13 @@ pub struct Run {
 }
 
 impl Model for Run {
-    ghost use Rattle.hz_gmw.specs.Recorded.{Recorded};
+    ghost use Rattle.hz_gmw.specs.RunRecord.{RunRecord};
 
-    ghost Value = { Recorded };
+    ghost Value = { RunRecord };
 
-    ghost use Rattle.hz_gmw.specs.Inside.{recorded_of, HoldsRun};
+    ghost use Rattle.hz_gmw.specs.Inside.{run_record_of, HoldsRun};
 
-    ghost view = { recorded_of };
+    ghost view = { run_record_of };
 
     ghost invariant = { HoldsRun };
 }

@@ -2,7 +2,7 @@
 ghost use Rattle.std.specs.Prelude.{◌≡◌, ◌<◌, Bool, true, false, length, replicate, slice_set, IfOk, All};
 ghost use Rattle.hz_net.specs.Network.{bit_at};
 ghost use Rattle.hz_gmw.specs.VariableSets.{AreMembers};
-ghost use Rattle.hz_gmw.specs.Presents.{marked_with};
+ghost use Rattle.hz_gmw.specs.CurrentState.{with_marks};
 
 use hz_core::Memory;
 use std::alloc::Global;
@@ -80,7 +80,7 @@ impl VariableSet {
 // Puts the listed variables into a set.
 pub(crate) fn insert_each(set: &mut VariableSet, list: &[u32])
     requires { All (λ var. var < length set.old) list.now }
-    ensures { set.new ≡ marked_with set.old list.now }
+    ensures { set.new ≡ with_marks set.old list.now }
 {
     for var in list {
         set.insert(*var);

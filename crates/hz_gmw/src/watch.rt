@@ -3,8 +3,8 @@ ghost use Rattle.std.specs.Prelude.{◌≡◌, ◌<◌, ◌-◌, false, [], ◌�
 ghost use Rattle.std.specs.List.{range_with_len};
 ghost use Rattle.hz_net.specs.Network.{network_of, driver_at, bit_at};
 ghost use Rattle.hz_gmw.specs.Least.{IsLeastOf};
-ghost use Rattle.hz_gmw.specs.Presents.{IsCounted, IsExact, marked_with};
-ghost use Rattle.hz_gmw.specs.Watches.{WatchFits, lapses, is_watched, watched_variables, unstable_unchanged, NotesStable};
+ghost use Rattle.hz_gmw.specs.CurrentState.{IsCounted, IsExact, with_marks};
+ghost use Rattle.hz_gmw.specs.Watches.{WatchFits, lapses, is_watched, watched_variables, unstable_unchanged, RecordsStable};
 
 use crate::present::{Present, kind_at, one_if};
 use crate::variable_set::{VariableSet, insert_each};
@@ -40,8 +40,8 @@ impl Watch {
         requires counted { IsCounted net.now present.now }
         requires fits { WatchFits net.now self.old }
         requires inside { All (λ var. var < length (network_of net.now)) flips.now }
-        ensures changed { self.new.changed ≡ marked_with self.old.changed flips.now }
-        ensures been_stable { NotesStable (network_of net.now) present.now.input.items present.now.state.items flips.now self.old.been_stable self.new.been_stable }
+        ensures changed { self.new.changed ≡ with_marks self.old.changed flips.now }
+        ensures been_stable { RecordsStable (network_of net.now) present.now.input.items present.now.state.items flips.now self.old.been_stable self.new.been_stable }
     {
         for var in flips {
             self.note_gate(net, present, *var);
@@ -130,7 +130,7 @@ impl Watch {
         requires fits { WatchFits net.now self.old }
         requires var { var < length (network_of net.now) }
         ensures changed { self.new.changed ≡ self.old.changed }
-        ensures been_stable { NotesStable (network_of net.now) present.now.input.items present.now.state.items (var ∷ []) self.old.been_stable self.new.been_stable }
+        ensures been_stable { RecordsStable (network_of net.now) present.now.input.items present.now.state.items (var ∷ []) self.old.been_stable self.new.been_stable }
     {
         if let VarKind::Wire { gate, .. } = kind_at(net, var) {
             if !present.is_unstable(net, gate) {

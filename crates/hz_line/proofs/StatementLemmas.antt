@@ -6,7 +6,7 @@ use Rattle.std.specs.Option.{option_map}
 use Rattle.std.proofs.lemmas.List.Elements.{Contains-append_right}
 use Rattle.hz_line.specs.Line.{lines_of}
 use Rattle.hz_line.specs.Token.{TokenOf, tokens_of}
-use Rattle.hz_line.specs.Statement.{Meaning, Nothing, Malformed, Means, meaning_by, meaning_of_tokens, meaning_of, meaning_at, Numbered, with_meaning, numbered_from, numbered_statements, PassesOn, first_line, malformed_before, first_malformed}
+use Rattle.hz_line.specs.Statement.{Meaning, Nothing, Malformed, Means, meaning_by, meaning_of_tokens, meaning_of, meaning_at, Numbered, with_meaning, numbered_from, numbered_statements, PassesOn, first_passing_line, malformed_before, first_malformed}
 
 -- the lines of statements ascend from a line on
 abbrev pub Ascends : {S : Type 0} → ℕ → List (Numbered S) → Type 0
@@ -39,34 +39,34 @@ pub record IsFirstLine {S : Type 0} (test : S → Bool) (statements : List (Numb
 true-false : true ≡ false → ⊥
 true-false e = cc
 
-first_line-at : {S : Type 0} (test : S → Bool) (first : Numbered S) (later : List (Numbered S)) (low line : ℕ) (b : Bool) → test first.statement ≡ b → Ascends low (first ∷ later) → first_line test (first ∷ later) ≡ Some line → (first_line test later ≡ Some line → IsFirstLine test later line) → IsFirstLine test (first ∷ later) line
-first_line-at test first later low line true t h e ih =
+first_passing_line-at : {S : Type 0} (test : S → Bool) (first : Numbered S) (later : List (Numbered S)) (low line : ℕ) (b : Bool) → test first.statement ≡ b → Ascends low (first ∷ later) → first_passing_line test (first ∷ later) ≡ Some line → (first_passing_line test later ≡ Some line → IsFirstLine test later line) → IsFirstLine test (first ∷ later) line
+first_passing_line-at test first later low line true t h e ih =
     let at : Some first.line ≡ Some line = rw t at e in
     let same : first.line ≡ line = cc in
     record {
       passes = inl (same, t);
       least = λ other p. elim p [ inl q ↦ omega (arith, same, q.0) | inr q ↦ omega (arith, same, PassesOn-above test later (suc first.line) other h.1 q) ];
     }
-first_line-at test first later low line false t h e ih =
+first_passing_line-at test first later low line false t h e ih =
     let rest = ih (rw t at e) in
     record {
       passes = inr rest.passes;
       least = λ other p. elim p [ inl q ↦ absurd (true-false (sym q.1 ∙ t)) | inr q ↦ rest.least other q ];
     }
 
-pub first_line-Some : {S : Type 0} (test : S → Bool) (statements : List (Numbered S)) (low line : ℕ) → Ascends low statements → first_line test statements ≡ Some line → IsFirstLine test statements line
-first_line-Some test [] low line h e = cc
-first_line-Some test (first ∷ later) low line h e =
-    first_line-at test first later low line (test first.statement) refl h e (first_line-Some test later (suc first.line) line h.1)
+pub first_passing_line-Some : {S : Type 0} (test : S → Bool) (statements : List (Numbered S)) (low line : ℕ) → Ascends low statements → first_passing_line test statements ≡ Some line → IsFirstLine test statements line
+first_passing_line-Some test [] low line h e = cc
+first_passing_line-Some test (first ∷ later) low line h e =
+    first_passing_line-at test first later low line (test first.statement) refl h e (first_passing_line-Some test later (suc first.line) line h.1)
 
-first_line-none_at : {S : Type 0} (test : S → Bool) (first : Numbered S) (later : List (Numbered S)) (line : ℕ) (b : Bool) → test first.statement ≡ b → first_line test (first ∷ later) ≡ None → (first_line test later ≡ None → PassesOn test later line → ⊥) → PassesOn test (first ∷ later) line → ⊥
-first_line-none_at test first later line true t e ih p = let at : Some first.line ≡ None = rw t at e in cc
-first_line-none_at test first later line false t e ih (inl q) = true-false (sym q.1 ∙ t)
-first_line-none_at test first later line false t e ih (inr q) = ih (rw t at e) q
+first_passing_line-none_at : {S : Type 0} (test : S → Bool) (first : Numbered S) (later : List (Numbered S)) (line : ℕ) (b : Bool) → test first.statement ≡ b → first_passing_line test (first ∷ later) ≡ None → (first_passing_line test later ≡ None → PassesOn test later line → ⊥) → PassesOn test (first ∷ later) line → ⊥
+first_passing_line-none_at test first later line true t e ih p = let at : Some first.line ≡ None = rw t at e in cc
+first_passing_line-none_at test first later line false t e ih (inl q) = true-false (sym q.1 ∙ t)
+first_passing_line-none_at test first later line false t e ih (inr q) = ih (rw t at e) q
 
-pub first_line-None : {S : Type 0} (test : S → Bool) (statements : List (Numbered S)) → first_line test statements ≡ None → (line : ℕ) → PassesOn test statements line → ⊥
-first_line-None test [] e line p = p
-first_line-None test (first ∷ later) e line p = first_line-none_at test first later line (test first.statement) refl e (λ f. first_line-None test later f line) p
+pub first_passing_line-None : {S : Type 0} (test : S → Bool) (statements : List (Numbered S)) → first_passing_line test statements ≡ None → (line : ℕ) → PassesOn test statements line → ⊥
+first_passing_line-None test [] e line p = p
+first_passing_line-None test (first ∷ later) e line p = first_passing_line-none_at test first later line (test first.statement) refl e (λ f. first_passing_line-None test later f line) p
 
 -- the line is malformed, and no earlier one is
 pub record IsFirstMalformed {S : Type 0} (grammar : List TokenOf → Option S) (lines : List (List ℕ)) (above : ℕ) : Type 0 where
@@ -282,15 +282,15 @@ stating grammar text zero statement is = cc
 stating grammar text (suc above) statement is = at-numbered grammar 1 (suc above) (lines_of text) above statement (omega arith) is
 
 -- the first line that passes is that of what is found
-pub first_line-found : {S : Type 0} (test : S → Bool) (statements : List (Numbered S)) (line : ℕ) → first_line test statements ≡ Some line → (found : Numbered S) × (find (λ numbered. test numbered.statement) statements ≡ Some found) × (found.line ≡ line)
-first_line-found {S} test statements line e = by_found (find (λ (numbered : Numbered S). test numbered.statement) statements) refl e
+pub first_passing_line-found : {S : Type 0} (test : S → Bool) (statements : List (Numbered S)) (line : ℕ) → first_passing_line test statements ≡ Some line → (found : Numbered S) × (find (λ numbered. test numbered.statement) statements ≡ Some found) × (found.line ≡ line)
+first_passing_line-found {S} test statements line e = by_found (find (λ (numbered : Numbered S). test numbered.statement) statements) refl e
   where
     by_found : (found : Option (Numbered S)) → find (λ numbered. test numbered.statement) statements ≡ found → option_map (λ numbered. numbered.line) found ≡ Some line → (found : Numbered S) × (find (λ numbered. test numbered.statement) statements ≡ Some found) × (found.line ≡ line)
     by_found None f e = cc
     by_found (Some found) f e = (found, f, cc)
 
-pub first_line-unfound : {S : Type 0} (test : S → Bool) (statements : List (Numbered S)) → first_line test statements ≡ None → find (λ numbered. test numbered.statement) statements ≡ None
-first_line-unfound {S} test statements e = by_found (find (λ (numbered : Numbered S). test numbered.statement) statements) refl e
+pub first_passing_line-unfound : {S : Type 0} (test : S → Bool) (statements : List (Numbered S)) → first_passing_line test statements ≡ None → find (λ numbered. test numbered.statement) statements ≡ None
+first_passing_line-unfound {S} test statements e = by_found (find (λ (numbered : Numbered S). test numbered.statement) statements) refl e
   where
     by_found : (found : Option (Numbered S)) → find (λ numbered. test numbered.statement) statements ≡ found → option_map (λ numbered. numbered.line) found ≡ None → find (λ numbered. test numbered.statement) statements ≡ None
     by_found None f e = f

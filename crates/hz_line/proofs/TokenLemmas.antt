@@ -7,9 +7,9 @@ use Rattle.std.proofs.lemmas.List.Folds.{list_all-append}
 use Rattle.std.proofs.lemmas.List.Sums.{take_while-cons}
 use Rattle.hz_line.specs.declared.bytes.Class.{Class as ClassHere}
 use Rattle.hz_line.specs.declared.bytes.Class.TheVariants as here
-use Rattle.hz_line.specs.Byte.{class_by, class_of, is_letter, is_letter_class, is_blank, is_blank_class, is_mark_class, Class, Blank, Hash, Sign, Letter, Forbidden}
+use Rattle.hz_line.specs.Byte.{class_by, class_of, is_word_byte, is_word_class, is_blank, is_blank_class, is_mark_class, Class, Blank, Hash, Sign, Letter, Forbidden}
 use Rattle.hz_line.specs.declared.bytes.Mark.{Mark}
-use Rattle.hz_line.specs.Token.{TokenOf, WordOf, MarkOf, tokens_of, tokens_with, with_token, lengthen, begins_in_word, begins_in_blank, begins_in_mark, is_bare, has_mark_first, IsWord, AreWords, PastBlanks, IsTokenAndRest, BeginsWithToken, BeginsWithTokens}
+use Rattle.hz_line.specs.Token.{TokenOf, WordOf, MarkOf, tokens_of, tokens_with, with_token, with_byte_first, begins_in_word, begins_in_blank, begins_in_mark, has_no_token, has_mark_first, IsWordToken, AreWordTokens, PastBlanks, IsTokenAndRest, BeginsWithToken, BeginsWithTokens}
 
 -- these tokens before others
 abbrev pub with_tokens : List TokenOf → Option (List TokenOf) → Option (List TokenOf)
@@ -28,11 +28,11 @@ pub with_tokens-end : (tokens : List TokenOf) → with_tokens tokens (Some []) �
 with_tokens-end [] = refl
 with_tokens-end (first ∷ tokens) = ap (with_token first) (with_tokens-end tokens)
 
-pub lengthen-with_token : (byte : ℕ) (word : List ℕ) (tokens : Option (List TokenOf)) → lengthen byte (with_token (WordOf word) tokens) ≡ with_token (WordOf (byte ∷ word)) tokens
+pub lengthen-with_token : (byte : ℕ) (word : List ℕ) (tokens : Option (List TokenOf)) → with_byte_first byte (with_token (WordOf word) tokens) ≡ with_token (WordOf (byte ∷ word)) tokens
 lengthen-with_token byte word None = refl
 lengthen-with_token byte word (Some tokens) = refl
 
-pub Letter-from_is_letter : (class : Class) → is_letter_class class ≡ true → class ≡ Letter
+pub Letter-from_is_letter : (class : Class) → is_word_class class ≡ true → class ≡ Letter
 Letter-from_is_letter Blank h = cc
 Letter-from_is_letter Hash h = cc
 Letter-from_is_letter (Sign mark) h = cc
@@ -41,20 +41,20 @@ Letter-from_is_letter Forbidden h = cc
 
 -- the line begins with its first word, and the tokens of what follows it come next
 abbrev pub BeginsWithItsWord : List ℕ → Type 0
-BeginsWithItsWord line = tokens_of line ≡ with_token (WordOf (take_while is_letter line)) (tokens_of (drop (prefix_len is_letter line) line))
+BeginsWithItsWord line = tokens_of line ≡ with_token (WordOf (take_while is_word_byte line)) (tokens_of (drop (prefix_len is_word_byte line) line))
 
-front : (byte : ℕ) (rest : List ℕ) → class_of byte ≡ Letter → take_while is_letter (byte ∷ rest) ≡ byte ∷ take_while is_letter rest
-front byte rest e = take_while-cons is_letter byte rest ∙ ap (λ (class : Class). cond (is_letter_class class) (byte ∷ take_while is_letter rest) []) e
+front : (byte : ℕ) (rest : List ℕ) → class_of byte ≡ Letter → take_while is_word_byte (byte ∷ rest) ≡ byte ∷ take_while is_word_byte rest
+front byte rest e = take_while-cons is_word_byte byte rest ∙ ap (λ (class : Class). cond (is_word_class class) (byte ∷ take_while is_word_byte rest) []) e
 
 drop-by_one : (n m byte : ℕ) (rest : List ℕ) → m ≡ suc n → drop m (byte ∷ rest) ≡ drop n rest
 drop-by_one n m byte rest e = rw e refl
 
-after : (byte : ℕ) (rest : List ℕ) → class_of byte ≡ Letter → drop (prefix_len is_letter (byte ∷ rest)) (byte ∷ rest) ≡ drop (prefix_len is_letter rest) rest
+after : (byte : ℕ) (rest : List ℕ) → class_of byte ≡ Letter → drop (prefix_len is_word_byte (byte ∷ rest)) (byte ∷ rest) ≡ drop (prefix_len is_word_byte rest) rest
 after byte rest e =
-    ap (λ (class : Class). drop (cond (is_letter_class class) (1 + prefix_len is_letter rest) 0) (byte ∷ rest)) e
-    ∙ drop-by_one (prefix_len is_letter rest) _ byte rest (omega arith)
+    ap (λ (class : Class). drop (cond (is_word_class class) (1 + prefix_len is_word_byte rest) 0) (byte ∷ rest)) e
+    ∙ drop-by_one (prefix_len is_word_byte rest) _ byte rest (omega arith)
 
-prefix_len-no_word : (rest : List ℕ) → begins_in_word rest ≡ false → prefix_len is_letter rest ≡ 0
+prefix_len-no_word : (rest : List ℕ) → begins_in_word rest ≡ false → prefix_len is_word_byte rest ≡ 0
 prefix_len-no_word [] h = refl
 prefix_len-no_word (byte ∷ rest) h = rw h refl
 
@@ -67,46 +67,46 @@ tokens_of-word [] h = cc
 tokens_of-word (byte ∷ rest) h = word_step byte rest (begins_in_word rest) (Letter-from_is_letter (class_of byte) h) refl (tokens_of-word rest)
 
 -- the same at a line that is not empty, with the word's length
-pub tokens_of-word_at : (line : List ℕ) → 0 < length line → class_of (get_or line 0 0) ≡ Letter → BeginsWithItsWord line × (0 < prefix_len is_letter line)
+pub tokens_of-word_at : (line : List ℕ) → 0 < length line → class_of (get_or line 0 0) ≡ Letter → BeginsWithItsWord line × (0 < prefix_len is_word_byte line)
 tokens_of-word_at [] more e = absurd (omega arith)
-tokens_of-word_at (byte ∷ rest) more e = (tokens_of-word (byte ∷ rest) (ap is_letter_class e), rw e (omega arith))
+tokens_of-word_at (byte ∷ rest) more e = (tokens_of-word (byte ∷ rest) (ap is_word_class e), rw e (omega arith))
 
-letters_at : (byte : ℕ) (rest : List ℕ) (letter : Bool) → is_letter byte ≡ letter → list_all is_letter (take_while is_letter rest) ≡ true → list_all is_letter (take_while is_letter (byte ∷ rest)) ≡ true
+letters_at : (byte : ℕ) (rest : List ℕ) (letter : Bool) → is_word_byte byte ≡ letter → list_all is_word_byte (take_while is_word_byte rest) ≡ true → list_all is_word_byte (take_while is_word_byte (byte ∷ rest)) ≡ true
 letters_at byte rest true e ih = rw (front byte rest (Letter-from_is_letter (class_of byte) e), e, ih) refl
 letters_at byte rest false e ih = rw (prefix_len-no_word (byte ∷ rest) e) refl
 
-letters : (line : List ℕ) → list_all is_letter (take_while is_letter line) ≡ true
+letters : (line : List ℕ) → list_all is_word_byte (take_while is_word_byte line) ≡ true
 letters [] = refl
-letters (byte ∷ rest) = letters_at byte rest (is_letter byte) refl (letters rest)
+letters (byte ∷ rest) = letters_at byte rest (is_word_byte byte) refl (letters rest)
 
-ends_at : (byte : ℕ) (rest : List ℕ) (letter : Bool) → is_letter byte ≡ letter → begins_in_word (drop (prefix_len is_letter rest) rest) ≡ false → begins_in_word (drop (prefix_len is_letter (byte ∷ rest)) (byte ∷ rest)) ≡ false
+ends_at : (byte : ℕ) (rest : List ℕ) (letter : Bool) → is_word_byte byte ≡ letter → begins_in_word (drop (prefix_len is_word_byte rest) rest) ≡ false → begins_in_word (drop (prefix_len is_word_byte (byte ∷ rest)) (byte ∷ rest)) ≡ false
 ends_at byte rest true e ih = ap begins_in_word (after byte rest (Letter-from_is_letter (class_of byte) e)) ∙ ih
 ends_at byte rest false e ih = rw (prefix_len-no_word (byte ∷ rest) e) e
 
-ends : (line : List ℕ) → begins_in_word (drop (prefix_len is_letter line) line) ≡ false
+ends : (line : List ℕ) → begins_in_word (drop (prefix_len is_word_byte line) line) ≡ false
 ends [] = refl
-ends (byte ∷ rest) = ends_at byte rest (is_letter byte) refl (ends rest)
+ends (byte ∷ rest) = ends_at byte rest (is_word_byte byte) refl (ends rest)
 
 -- a line that begins with a letter is its longest word and what comes after it
-pub IsTokenAndRest-word : (line : List ℕ) → 0 < length line → class_of (get_or line 0 0) ≡ Letter → IsTokenAndRest (WordOf (take_while is_letter line)) (drop (prefix_len is_letter line) line) line
+pub IsTokenAndRest-word : (line : List ℕ) → 0 < length line → class_of (get_or line 0 0) ≡ Letter → IsTokenAndRest (WordOf (take_while is_word_byte line)) (drop (prefix_len is_word_byte line) line) line
 IsTokenAndRest-word [] more e = absurd (omega arith)
 IsTokenAndRest-word (byte ∷ rest) more e =
-    let some : 0 < length (take_while is_letter (byte ∷ rest)) = rw (front byte rest e) (omega arith) in (
+    let some : 0 < length (take_while is_word_byte (byte ∷ rest)) = rw (front byte rest e) (omega arith) in (
       record { some = some; letters = letters (byte ∷ rest) },
-      sym (take-append-drop (prefix_len is_letter (byte ∷ rest)) (byte ∷ rest)),
+      sym (take-append-drop (prefix_len is_word_byte (byte ∷ rest)) (byte ∷ rest)),
       ends (byte ∷ rest),
     )
 
 -- a line of which some bytes are a word begins in a word
-prefix-at : (byte : ℕ) (rest : List ℕ) (letter : Bool) → is_letter byte ≡ letter → 0 < prefix_len is_letter (byte ∷ rest) → is_letter byte ≡ true
+prefix-at : (byte : ℕ) (rest : List ℕ) (letter : Bool) → is_word_byte byte ≡ letter → 0 < prefix_len is_word_byte (byte ∷ rest) → is_word_byte byte ≡ true
 prefix-at byte rest true e some = e
 prefix-at byte rest false e some = let none = prefix_len-no_word (byte ∷ rest) e in absurd (omega (arith, none, some))
 
-pub begins_in_word-prefix : (line : List ℕ) → 0 < prefix_len is_letter line → begins_in_word line ≡ true
+pub begins_in_word-prefix : (line : List ℕ) → 0 < prefix_len is_word_byte line → begins_in_word line ≡ true
 begins_in_word-prefix [] some = absurd (omega arith)
-begins_in_word-prefix (byte ∷ rest) some = prefix-at byte rest (is_letter byte) refl some
+begins_in_word-prefix (byte ∷ rest) some = prefix-at byte rest (is_word_byte byte) refl some
 
-pub IsTokenAndRest-begins_in_word : (line : List ℕ) → begins_in_word line ≡ true → IsTokenAndRest (WordOf (take_while is_letter line)) (drop (prefix_len is_letter line) line) line
+pub IsTokenAndRest-begins_in_word : (line : List ℕ) → begins_in_word line ≡ true → IsTokenAndRest (WordOf (take_while is_word_byte line)) (drop (prefix_len is_word_byte line) line) line
 IsTokenAndRest-begins_in_word [] h = cc
 IsTokenAndRest-begins_in_word (byte ∷ rest) h = IsTokenAndRest-word (byte ∷ rest) (omega arith) (Letter-from_is_letter (class_of byte) h)
 
@@ -131,7 +131,7 @@ mark_first-at : (byte : ℕ) (rest : List ℕ) (class : Class) → class_of byte
 mark_first-at byte rest Blank e blank mark = cc
 mark_first-at byte rest Hash e blank mark = rw e refl
 mark_first-at byte rest (Sign sign) e blank mark = cc
-mark_first-at byte rest Letter e blank mark = ap has_mark_first (tokens_of-word (byte ∷ rest) (ap is_letter_class e)) ∙ mark_first-word _ _
+mark_first-at byte rest Letter e blank mark = ap has_mark_first (tokens_of-word (byte ∷ rest) (ap is_word_class e)) ∙ mark_first-word _ _
 mark_first-at byte rest Forbidden e blank mark = rw e refl
 
 pub has_mark_first-no_mark : (line : List ℕ) → begins_in_blank line ≡ false → begins_in_mark line ≡ false → has_mark_first (tokens_of line) ≡ false
@@ -139,20 +139,20 @@ has_mark_first-no_mark [] blank mark = refl
 has_mark_first-no_mark (byte ∷ rest) blank mark = mark_first-at byte rest (class_of byte) refl blank mark
 
 -- a line whose first byte is no blank and no comment's has a token, or none for a forbidden byte
-bare-token : (token : TokenOf) (tokens : Option (List TokenOf)) → is_bare (with_token token tokens) ≡ false
+bare-token : (token : TokenOf) (tokens : Option (List TokenOf)) → has_no_token (with_token token tokens) ≡ false
 bare-token token None = refl
 bare-token token (Some tokens) = refl
 
-bare-at : (byte : ℕ) (rest : List ℕ) (class : Class) → class_of byte ≡ class → is_blank_class class ≡ false → (class ≡ Hash → ⊥) → is_bare (tokens_of (byte ∷ rest)) ≡ false
+bare-at : (byte : ℕ) (rest : List ℕ) (class : Class) → class_of byte ≡ class → is_blank_class class ≡ false → (class ≡ Hash → ⊥) → has_no_token (tokens_of (byte ∷ rest)) ≡ false
 bare-at byte rest Blank e blank hash = cc
 bare-at byte rest Hash e blank hash = absurd (hash refl)
 bare-at byte rest (Sign sign) e blank hash = rw e (bare-token (MarkOf sign) (tokens_of rest))
-bare-at byte rest Letter e blank hash = ap is_bare (tokens_of-word (byte ∷ rest) (ap is_letter_class e)) ∙ bare-token _ _
+bare-at byte rest Letter e blank hash = ap has_no_token (tokens_of-word (byte ∷ rest) (ap is_word_class e)) ∙ bare-token _ _
 bare-at byte rest Forbidden e blank hash = rw e refl
 
-pub is_bare-no_hash : (line : List ℕ) → 0 < length line → begins_in_blank line ≡ false → (class_of (get_or line 0 0) ≡ Hash → ⊥) → is_bare (tokens_of line) ≡ false
-is_bare-no_hash [] more blank hash = absurd (omega arith)
-is_bare-no_hash (byte ∷ rest) more blank hash = bare-at byte rest (class_of byte) refl blank hash
+pub has_no_token-no_hash : (line : List ℕ) → 0 < length line → begins_in_blank line ≡ false → (class_of (get_or line 0 0) ≡ Hash → ⊥) → has_no_token (tokens_of line) ≡ false
+has_no_token-no_hash [] more blank hash = absurd (omega arith)
+has_no_token-no_hash (byte ∷ rest) more blank hash = bare-at byte rest (class_of byte) refl blank hash
 
 -- one more blank
 pub PastBlanks-more : (line rest : List ℕ) → 0 < length rest → class_of (get_or rest 0 0) ≡ Blank → PastBlanks (λ after. after ≡ rest) line → PastBlanks (λ after. after ≡ drop 1 rest) line
@@ -176,46 +176,46 @@ pub BeginsWithTokens-push : (line : List ℕ) (tokens : List TokenOf) (token : T
 BeginsWithTokens-push line [] token middle rest h t = (rest, subst (λ front. BeginsWithToken front token rest) (sym h) t, refl)
 BeginsWithTokens-push line (first ∷ tokens) token middle rest h t = (h.0, h.1, BeginsWithTokens-push h.0 tokens token middle rest h.2 t)
 
-is_letter-Letter : (byte : ℕ) → class_of byte ≡ Letter → is_letter byte ≡ true
-is_letter-Letter byte e = ap is_letter_class e
+is_word_byte-Letter : (byte : ℕ) → class_of byte ≡ Letter → is_word_byte byte ≡ true
+is_word_byte-Letter byte e = ap is_word_class e
 
-one_letter : (byte : ℕ) → is_letter byte ≡ true → IsWord (byte ∷ [])
+one_letter : (byte : ℕ) → is_word_byte byte ≡ true → IsWordToken (byte ∷ [])
 one_letter byte h = record { some = lit< tt; letters = rw h refl }
 
-one_more : (byte : ℕ) (word : List ℕ) → is_letter byte ≡ true → IsWord word → IsWord (byte ∷ word)
+one_more : (byte : ℕ) (word : List ℕ) → is_word_byte byte ≡ true → IsWordToken word → IsWordToken (byte ∷ word)
 one_more byte word h rest = record { some = omega arith; letters = rw h rest.letters }
 
-with_token-AreWords : (token : TokenOf) (tokens : Option (List TokenOf)) → ((rest : List TokenOf) → AreWords rest → AreWords (token ∷ rest)) → IfSome tokens AreWords → IfSome (with_token token tokens) AreWords
-with_token-AreWords token None one h = h
-with_token-AreWords token (Some tokens) one h = one tokens h
+with_token-AreWordTokens : (token : TokenOf) (tokens : Option (List TokenOf)) → ((rest : List TokenOf) → AreWordTokens rest → AreWordTokens (token ∷ rest)) → IfSome tokens AreWordTokens → IfSome (with_token token tokens) AreWordTokens
+with_token-AreWordTokens token None one h = h
+with_token-AreWordTokens token (Some tokens) one h = one tokens h
 
-lengthen-AreWords : (byte : ℕ) (tokens : Option (List TokenOf)) → is_letter byte ≡ true → IfSome tokens AreWords → IfSome (lengthen byte tokens) AreWords
-lengthen-AreWords byte None e h = h
-lengthen-AreWords byte (Some []) e h = h
-lengthen-AreWords byte (Some (WordOf word ∷ tokens)) e h = (one_more byte word e h.0, h.1)
-lengthen-AreWords byte (Some (MarkOf mark ∷ tokens)) e h = h
+lengthen-AreWordTokens : (byte : ℕ) (tokens : Option (List TokenOf)) → is_word_byte byte ≡ true → IfSome tokens AreWordTokens → IfSome (with_byte_first byte tokens) AreWordTokens
+lengthen-AreWordTokens byte None e h = h
+lengthen-AreWordTokens byte (Some []) e h = h
+lengthen-AreWordTokens byte (Some (WordOf word ∷ tokens)) e h = (one_more byte word e h.0, h.1)
+lengthen-AreWordTokens byte (Some (MarkOf mark ∷ tokens)) e h = h
 
-letter-AreWords : (byte : ℕ) (more : Bool) (tokens : Option (List TokenOf)) → is_letter byte ≡ true → IfSome tokens AreWords → IfSome (cond more (lengthen byte tokens) (with_token (WordOf (byte ∷ [])) tokens)) AreWords
-letter-AreWords byte true tokens e h = lengthen-AreWords byte tokens e h
-letter-AreWords byte false tokens e h = with_token-AreWords (WordOf (byte ∷ [])) tokens (λ rest r. (one_letter byte e, r)) h
+letter-AreWordTokens : (byte : ℕ) (more : Bool) (tokens : Option (List TokenOf)) → is_word_byte byte ≡ true → IfSome tokens AreWordTokens → IfSome (cond more (with_byte_first byte tokens) (with_token (WordOf (byte ∷ [])) tokens)) AreWordTokens
+letter-AreWordTokens byte true tokens e h = lengthen-AreWordTokens byte tokens e h
+letter-AreWordTokens byte false tokens e h = with_token-AreWordTokens (WordOf (byte ∷ [])) tokens (λ rest r. (one_letter byte e, r)) h
 
-tokens_with-AreWords : (byte : ℕ) (class : Class) (rest : List ℕ) (tokens : Option (List TokenOf)) → class_of byte ≡ class → IfSome tokens AreWords → IfSome (tokens_with byte class rest tokens) AreWords
-tokens_with-AreWords byte Blank rest tokens e h = h
-tokens_with-AreWords byte Hash rest tokens e h = tt
-tokens_with-AreWords byte (Sign mark) rest tokens e h = with_token-AreWords (MarkOf mark) tokens (λ after r. r) h
-tokens_with-AreWords byte Letter rest tokens e h = letter-AreWords byte (begins_in_word rest) tokens (is_letter-Letter byte e) h
-tokens_with-AreWords byte Forbidden rest tokens e h = tt
+tokens_with-AreWordTokens : (byte : ℕ) (class : Class) (rest : List ℕ) (tokens : Option (List TokenOf)) → class_of byte ≡ class → IfSome tokens AreWordTokens → IfSome (tokens_with byte class rest tokens) AreWordTokens
+tokens_with-AreWordTokens byte Blank rest tokens e h = h
+tokens_with-AreWordTokens byte Hash rest tokens e h = tt
+tokens_with-AreWordTokens byte (Sign mark) rest tokens e h = with_token-AreWordTokens (MarkOf mark) tokens (λ after r. r) h
+tokens_with-AreWordTokens byte Letter rest tokens e h = letter-AreWordTokens byte (begins_in_word rest) tokens (is_word_byte-Letter byte e) h
+tokens_with-AreWordTokens byte Forbidden rest tokens e h = tt
 
 -- the words that a line has are words
-pub tokens_of-AreWords : (line : List ℕ) → IfSome (tokens_of line) AreWords
-tokens_of-AreWords [] = tt
-tokens_of-AreWords (byte ∷ rest) = tokens_with-AreWords byte (class_of byte) rest (tokens_of rest) refl (tokens_of-AreWords rest)
+pub tokens_of-AreWordTokens : (line : List ℕ) → IfSome (tokens_of line) AreWordTokens
+tokens_of-AreWordTokens [] = tt
+tokens_of-AreWordTokens (byte ∷ rest) = tokens_with-AreWordTokens byte (class_of byte) rest (tokens_of rest) refl (tokens_of-AreWordTokens rest)
 
 with_token-length : (token : TokenOf) (tokens : Option (List TokenOf)) (n : ℕ) → IfSome tokens (λ all. length all ≤ n) → IfSome (with_token token tokens) (λ all. length all ≤ suc n)
 with_token-length token None n h = tt
 with_token-length token (Some tokens) n h = omega arith
 
-lengthen-length : (byte : ℕ) (tokens : Option (List TokenOf)) (n : ℕ) → IfSome tokens (λ all. length all ≤ n) → IfSome (lengthen byte tokens) (λ all. length all ≤ suc n)
+lengthen-length : (byte : ℕ) (tokens : Option (List TokenOf)) (n : ℕ) → IfSome tokens (λ all. length all ≤ n) → IfSome (with_byte_first byte tokens) (λ all. length all ≤ suc n)
 lengthen-length byte None n h = tt
 lengthen-length byte (Some []) n h = omega arith
 lengthen-length byte (Some (WordOf word ∷ tokens)) n h = omega arith
@@ -225,7 +225,7 @@ more-length : (tokens : Option (List TokenOf)) (n : ℕ) → IfSome tokens (λ a
 more-length None n h = tt
 more-length (Some tokens) n h = omega arith
 
-letter-length : (byte : ℕ) (more : Bool) (tokens : Option (List TokenOf)) (n : ℕ) → IfSome tokens (λ all. length all ≤ n) → IfSome (cond more (lengthen byte tokens) (with_token (WordOf (byte ∷ [])) tokens)) (λ all. length all ≤ suc n)
+letter-length : (byte : ℕ) (more : Bool) (tokens : Option (List TokenOf)) (n : ℕ) → IfSome tokens (λ all. length all ≤ n) → IfSome (cond more (with_byte_first byte tokens) (with_token (WordOf (byte ∷ [])) tokens)) (λ all. length all ≤ suc n)
 letter-length byte true tokens n h = lengthen-length byte tokens n h
 letter-length byte false tokens n h = with_token-length (WordOf (byte ∷ [])) tokens n h
 

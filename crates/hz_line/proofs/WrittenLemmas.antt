@@ -3,9 +3,9 @@ use Rattle.std.proofs.Common.{◌≡◌, ◌∙◌, ℕ, ◌-◌, ◌<◌, List,
 use Rattle.std.specs.List.{list_all, slice_split}
 use Rattle.std.proofs.lemmas.Bool.Decides.{nat_tests}
 use Rattle.hz_line.specs.declared.bytes.Mark.TheVariants.{Open, Close, Comma, Equals}
-use Rattle.hz_line.specs.Byte.{class_of, is_letter}
+use Rattle.hz_line.specs.Byte.{class_of, is_word_byte}
 use Rattle.hz_line.specs.Line.{lines_of, is_line_feed}
-use Rattle.hz_line.specs.Token.{WordOf, MarkOf, tokens_of, with_token, lengthen, begins_in_word}
+use Rattle.hz_line.specs.Token.{WordOf, MarkOf, tokens_of, with_token, with_byte_first, begins_in_word}
 use Rattle.hz_line.proofs.TokenLemmas.{Letter-from_is_letter, lengthen-with_token}
 
 pub tokens_of-open : (rest : List ℕ) → tokens_of (40 ∷ rest) ≡ with_token (MarkOf Open) (tokens_of rest)
@@ -29,33 +29,33 @@ unfolding class_of
 tokens_of-space rest = refl
 
 -- no letter: a space and each mark
-pub is_letter-separators : (is_letter 32 ≡ false) × (is_letter 40 ≡ false) × (is_letter 41 ≡ false) × (is_letter 44 ≡ false) × (is_letter 61 ≡ false)
+pub is_word_byte-separators : (is_word_byte 32 ≡ false) × (is_word_byte 40 ≡ false) × (is_word_byte 41 ≡ false) × (is_word_byte 44 ≡ false) × (is_word_byte 61 ≡ false)
 unfolding class_of
-is_letter-separators = (refl, refl, refl, refl, refl)
+is_word_byte-separators = (refl, refl, refl, refl, refl)
 
 pub both : (a b : Bool) → (a && b) ≡ true → (a ≡ true) × (b ≡ true)
 both true b h = (refl, h)
 both false b h = cc
 
 -- a word that no letter follows is a token by itself
-pub tokens_of-word_before : (word rest : List ℕ) → 0 < length word → list_all is_letter word ≡ true → begins_in_word rest ≡ false → tokens_of (word ++ rest) ≡ with_token (WordOf word) (tokens_of rest)
+pub tokens_of-word_before : (word rest : List ℕ) → 0 < length word → list_all is_word_byte word ≡ true → begins_in_word rest ≡ false → tokens_of (word ++ rest) ≡ with_token (WordOf word) (tokens_of rest)
 tokens_of-word_before [] rest some letters ends = absurd (omega arith)
 tokens_of-word_before (byte ∷ []) rest some letters ends =
-    let e = Letter-from_is_letter (class_of byte) (both (is_letter byte) _ letters).0 in rw (e, ends) refl
+    let e = Letter-from_is_letter (class_of byte) (both (is_word_byte byte) _ letters).0 in rw (e, ends) refl
 tokens_of-word_before (byte ∷ next ∷ word) rest some letters ends =
-    let parts = both (is_letter byte) _ letters in
+    let parts = both (is_word_byte byte) _ letters in
     let e = Letter-from_is_letter (class_of byte) parts.0 in
-    let more : is_letter next ≡ true = (both (is_letter next) _ parts.1).0 in
+    let more : is_word_byte next ≡ true = (both (is_word_byte next) _ parts.1).0 in
     let ih = tokens_of-word_before (next ∷ word) rest (omega arith) parts.1 ends in
-    rw (e, more) (ap (lengthen byte) ih ∙ lengthen-with_token byte (next ∷ word) (tokens_of rest))
+    rw (e, more) (ap (with_byte_first byte) ih ∙ lengthen-with_token byte (next ∷ word) (tokens_of rest))
 
 -- the byte ends no line: it is no line feed and no carriage return
 abbrev pub is_inline : ℕ → Bool
 is_inline byte = not (byte == 10 || byte == 13)
 
 -- the byte is from 0x21 to 0x7E, and none of the signs ( ) , = #
-abbrev pub is_word_byte : ℕ → Bool
-is_word_byte byte = nat_le 33 byte && nat_le byte 126 && not (byte == 40 || byte == 41 || byte == 44 || byte == 61 || byte == 35)
+abbrev pub is_printed_byte : ℕ → Bool
+is_printed_byte byte = nat_le 33 byte && nat_le byte 126 && not (byte == 40 || byte == 41 || byte == 44 || byte == 61 || byte == 35)
 
 neither : (a b : Bool) → not (a || b) ≡ true → (not a ≡ true) × (b ≡ false)
 neither true b h = cc
@@ -70,7 +70,7 @@ far : (byte at : ℕ) → nat_le 33 byte ≡ true → nat_le at 32 ≡ true → 
 far byte at h l = grind (arith, nat_tests, h, l)
 
 -- such a byte is a letter, and ends no line
-pub word_byte : (byte : ℕ) → is_word_byte byte ≡ true → (is_letter byte ≡ true) × (is_inline byte ≡ true)
+pub word_byte : (byte : ℕ) → is_printed_byte byte ≡ true → (is_word_byte byte ≡ true) × (is_inline byte ≡ true)
 unfolding class_of
 word_byte byte h =
     let parts = both (nat_le 33 byte && nat_le byte 126) _ h in
@@ -86,10 +86,10 @@ word_byte byte h =
     let back = far byte 13 range.0 refl in
     (rw (space, tab, hash.1, opening, closing.1, comma.1, equals.1, range.0, range.1) refl, rw (feed, back) refl)
 
-pub word_bytes : (word : List ℕ) → list_all is_word_byte word ≡ true → (list_all is_letter word ≡ true) × (list_all is_inline word ≡ true)
+pub word_bytes : (word : List ℕ) → list_all is_printed_byte word ≡ true → (list_all is_word_byte word ≡ true) × (list_all is_inline word ≡ true)
 word_bytes [] h = (refl, refl)
 word_bytes (byte ∷ word) h =
-    let parts = both (is_word_byte byte) _ h in
+    let parts = both (is_printed_byte byte) _ h in
     let this = word_byte byte parts.0 in
     let rest = word_bytes word parts.1 in
     (rw (this.0, rest.0) refl, rw (this.1, rest.1) refl)

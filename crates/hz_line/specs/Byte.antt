@@ -26,16 +26,16 @@ class_of byte =
     else (if nat_le 0x21 byte && nat_le byte 0x7e then Letter else Forbidden))))))
 
 -- the class is that of letters
-abbrev pub is_letter_class : Class → Bool
-is_letter_class Blank = false
-is_letter_class Hash = false
-is_letter_class (Sign mark) = false
-is_letter_class Letter = true
-is_letter_class Forbidden = false
+abbrev pub is_word_class : Class → Bool
+is_word_class Blank = false
+is_word_class Hash = false
+is_word_class (Sign mark) = false
+is_word_class Letter = true
+is_word_class Forbidden = false
 
 -- the byte may stand in a word
-abbrev pub is_letter : ℕ → Bool
-is_letter byte = is_letter_class (class_of byte)
+abbrev pub is_word_byte : ℕ → Bool
+is_word_byte byte = is_word_class (class_of byte)
 
 -- the class is that of blanks
 abbrev pub is_blank_class : Class → Bool

@@ -14,8 +14,8 @@ use Rattle.hz_line.specs.declared.tokens.LineFault.{LineFault}
 use Rattle.hz_line.specs.declared.tokens.LineFault.TheVariants as fault
 
 -- the statement that something held stands for, with its line
-abbrev pub entered_by : {H S : Type 0} → (H → S) → Entered H → Numbered S
-entered_by stated entry = record { line = entry.line; statement = stated entry.held }
+abbrev pub numbered_by : {H S : Type 0} → (H → S) → Entered H → Numbered S
+numbered_by stated entry = record { line = entry.line; statement = stated entry.held }
 
 -- what a line is, by what was read of it, and the statement that this stands for
 abbrev pub meaning_read : {H S : Type 0} → (H → S) → Option H → Meaning S
@@ -36,7 +36,7 @@ abbrev pub IsUnreadLine : {S : Type 0} → Meaning S → Unread → Type 0
 IsUnreadLine meaning why = OrThat unread.Memory (λ _. meaning ≡ Malformed) why
 
 -- these are the statements of the text, and no line is malformed
-pub record IsRead {S : Type 0} (grammar : List TokenOf → Option S) (text : List ℕ) (read : List (Numbered S)) : Type 0 where
+pub record AreStatementsOf {S : Type 0} (grammar : List TokenOf → Option S) (text : List ℕ) (read : List (Numbered S)) : Type 0 where
   pub statements : numbered_statements grammar text ≡ read
   pub formed : first_malformed grammar 1 (lines_of text) ≡ None
 

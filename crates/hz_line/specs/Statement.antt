@@ -57,8 +57,8 @@ PassesOn test [] line = ⊥
 PassesOn test (first ∷ later) line = ((first.line ≡ line) × (test first.statement ≡ true)) ⊎ PassesOn test later line
 
 -- the line of the first statement that passes the test, if one does
-abbrev pub first_line : {S : Type 0} → (S → Bool) → List (Numbered S) → Option ℕ
-first_line test statements = option_map (λ numbered. numbered.line) (find (λ numbered. test numbered.statement) statements)
+abbrev pub first_passing_line : {S : Type 0} → (S → Bool) → List (Numbered S) → Option ℕ
+first_passing_line test statements = option_map (λ numbered. numbered.line) (find (λ numbered. test numbered.statement) statements)
 
 -- the first malformed line, where the line with this number means this, and later ones have this first one
 abbrev pub malformed_before : {S : Type 0} → ℕ → Meaning S → Option ℕ → Option ℕ

@@ -3,7 +3,7 @@ use Rattle.std.specs.Prelude.{◌≡◌, ◌<◌, ℕ, length, Bool, true, false
 use Rattle.std.specs.Borrow.{Bor}
 use Rattle.std.specs.List.{list_all}
 use Rattle.hz_line.specs.OrThat.{OrThat}
-use Rattle.hz_line.specs.Byte.{class_of, is_letter, is_blank, is_mark, Class, Blank, Hash, Sign, Letter, Forbidden}
+use Rattle.hz_line.specs.Byte.{class_of, is_word_byte, is_blank, is_mark, Class, Blank, Hash, Sign, Letter, Forbidden}
 use Rattle.hz_line.specs.declared.bytes.Mark.{Mark}
 use Rattle.hz_line.specs.declared.tokens.Token.{Token}
 use Rattle.hz_line.specs.declared.tokens.Token.TheVariants as token
@@ -23,16 +23,16 @@ with_token token None = None
 with_token token (Some tokens) = Some (token ∷ tokens)
 
 -- the word at the front, lengthened by a byte before it
-abbrev pub lengthen : ℕ → Option (List TokenOf) → Option (List TokenOf)
-lengthen byte None = None
-lengthen byte (Some []) = Some []
-lengthen byte (Some (WordOf word ∷ tokens)) = Some (WordOf (byte ∷ word) ∷ tokens)
-lengthen byte (Some (MarkOf mark ∷ tokens)) = Some (MarkOf mark ∷ tokens)
+abbrev pub with_byte_first : ℕ → Option (List TokenOf) → Option (List TokenOf)
+with_byte_first byte None = None
+with_byte_first byte (Some []) = Some []
+with_byte_first byte (Some (WordOf word ∷ tokens)) = Some (WordOf (byte ∷ word) ∷ tokens)
+with_byte_first byte (Some (MarkOf mark ∷ tokens)) = Some (MarkOf mark ∷ tokens)
 
 -- the line begins with a letter
 abbrev pub begins_in_word : List ℕ → Bool
 begins_in_word [] = false
-begins_in_word (byte ∷ rest) = is_letter byte
+begins_in_word (byte ∷ rest) = is_word_byte byte
 
 -- the line begins with a blank
 abbrev pub begins_in_blank : List ℕ → Bool
@@ -50,7 +50,7 @@ abbrev pub tokens_with : ℕ → Class → List ℕ → Option (List TokenOf) �
 tokens_with byte Blank rest tokens = tokens
 tokens_with byte Hash rest tokens = Some []
 tokens_with byte (Sign mark) rest tokens = with_token (MarkOf mark) tokens
-tokens_with byte Letter rest tokens = if begins_in_word rest then lengthen byte tokens else with_token (WordOf (byte ∷ [])) tokens
+tokens_with byte Letter rest tokens = if begins_in_word rest then with_byte_first byte tokens else with_token (WordOf (byte ∷ [])) tokens
 tokens_with byte Forbidden rest tokens = None
 
 -- the tokens of a line, or none where a forbidden byte stands before its comment
@@ -70,10 +70,10 @@ IsNext line next.Forbidden = tokens_of line ≡ None
 IsNext line (next.Token token rest) = (tokens_of line ≡ with_token (token_of token) (tokens_of rest.now)) × (length rest.now < length line)
 
 -- a line has a list of tokens, and it is empty
-abbrev pub is_bare : Option (List TokenOf) → Bool
-is_bare None = false
-is_bare (Some []) = true
-is_bare (Some (token ∷ tokens)) = false
+abbrev pub has_no_token : Option (List TokenOf) → Bool
+has_no_token None = false
+has_no_token (Some []) = true
+has_no_token (Some (token ∷ tokens)) = false
 
 -- the first token is a word
 abbrev pub has_word_first : Option (List TokenOf) → Bool
@@ -100,19 +100,19 @@ IsMarkFirst line None = has_mark_first (tokens_of line) ≡ false
 IsMarkFirst line (Some found) = (tokens_of line ≡ with_token (MarkOf found.0) (tokens_of found.1.now)) × (length found.1.now < length line)
 
 -- why a line has no tokens: a forbidden byte stands before its comment; memory may always run out
-abbrev pub StandsInLine : List ℕ → LineFault → Type 0
-StandsInLine line why = OrThat fault.Memory (λ _. tokens_of line ≡ None) why
+abbrev pub HasLineFault : List ℕ → LineFault → Type 0
+HasLineFault line why = OrThat fault.Memory (λ _. tokens_of line ≡ None) why
 
 -- a word: at least one letter, and letters alone
-pub record IsWord (word : List ℕ) : Type 0 where
+pub record IsWordToken (word : List ℕ) : Type 0 where
   pub some : 0 < length word
-  pub letters : list_all is_letter word ≡ true
+  pub letters : list_all is_word_byte word ≡ true
 
 -- each word among the tokens is one
-abbrev pub AreWords : List TokenOf → Type 0
-AreWords [] = Unit {0}
-AreWords (WordOf word ∷ tokens) = IsWord word × AreWords tokens
-AreWords (MarkOf mark ∷ tokens) = AreWords tokens
+abbrev pub AreWordTokens : List TokenOf → Type 0
+AreWordTokens [] = Unit {0}
+AreWordTokens (WordOf word ∷ tokens) = IsWordToken word × AreWordTokens tokens
+AreWordTokens (MarkOf mark ∷ tokens) = AreWordTokens tokens
 
 -- behind the blanks at its front the line is so
 pub record PastBlanks (is : List ℕ → Type 0) (line : List ℕ) : Type 0 where
@@ -134,7 +134,7 @@ BeginsForbidden (byte ∷ rest) = class_of byte ≡ Forbidden
 
 -- the line is the token and then this rest: a word has all the letters that stand there, a mark is one byte
 abbrev pub IsTokenAndRest : TokenOf → List ℕ → List ℕ → Type 0
-IsTokenAndRest (WordOf word) rest line = IsWord word × (line ≡ word ++ rest) × (begins_in_word rest ≡ false)
+IsTokenAndRest (WordOf word) rest line = IsWordToken word × (line ≡ word ++ rest) × (begins_in_word rest ≡ false)
 IsTokenAndRest (MarkOf mark) rest line = (byte : ℕ) × (class_of byte ≡ Sign mark) × (line ≡ byte ∷ rest)
 
 -- the line begins with the token, and this rest comes after it
@@ -148,7 +148,7 @@ BeginsWith line next.Forbidden = PastBlanks BeginsForbidden line
 BeginsWith line (next.Token token rest) = BeginsWithToken line (token_of token) rest.now
 
 -- the line begins with no blank and no letter
-pub record NeitherBlankNorLetter (line : List ℕ) : Type 0 where
+pub record NeitherBlankNorWordByte (line : List ℕ) : Type 0 where
   pub no_blank : begins_in_blank line ≡ false
   pub no_letter : begins_in_word line ≡ false
 
@@ -159,7 +159,7 @@ pub record NeitherBlankNorMark (line : List ℕ) : Type 0 where
 
 -- the line begins with this word, and this rest comes after it; or past its blanks no letter stands
 abbrev pub BeginsWithWord : List ℕ → Option (Bor (List ℕ) × Bor (List ℕ)) → Type 0
-BeginsWithWord line None = PastBlanks NeitherBlankNorLetter line
+BeginsWithWord line None = PastBlanks NeitherBlankNorWordByte line
 BeginsWithWord line (Some found) = BeginsWithToken line (WordOf found.0.now) found.1.now
 
 -- the line begins with this mark, and this rest comes after it; or past its blanks no mark stands
@@ -173,6 +173,6 @@ BeginsWithTokens line [] rest = line ≡ rest
 BeginsWithTokens line (token ∷ tokens) rest = (after : List ℕ) × BeginsWithToken line token after × BeginsWithTokens after tokens rest
 
 -- these tokens stand before the fault: all of those before the forbidden byte, or some where memory ran out
-abbrev pub StandBefore : LineFault → List TokenOf → List ℕ → Type 0
-StandBefore fault.Forbidden tokens line = (rest : List ℕ) × BeginsWithTokens line tokens rest × PastBlanks BeginsForbidden rest
-StandBefore fault.Memory tokens line = (rest : List ℕ) × BeginsWithTokens line tokens rest
+abbrev pub AreTokensBeforeFault : LineFault → List TokenOf → List ℕ → Type 0
+AreTokensBeforeFault fault.Forbidden tokens line = (rest : List ℕ) × BeginsWithTokens line tokens rest × PastBlanks BeginsForbidden rest
+AreTokensBeforeFault fault.Memory tokens line = (rest : List ℕ) × BeginsWithTokens line tokens rest

@@ -1,7 +1,7 @@
 // The class of a byte in a line.
 
 ghost use Rattle.std.specs.Prelude.{◌≡◌};
-ghost use Rattle.hz_line.specs.Byte.{class_by, class_of, is_letter};
+ghost use Rattle.hz_line.specs.Byte.{class_by, class_of, is_word_byte};
 
 /// The marks, each a token by itself.
 #[derive(Clone, Copy, Debug, PartialEq, Eq)]
@@ -52,7 +52,7 @@ pub(crate) fn class_of(byte: u8) -> Class
 // Whether the byte is a part of a word. Every byte of every word is asked, so a table answers.
 #[inline]
 pub(crate) fn is_letter(byte: u8) -> bool
-    ensures { result ≡ is_letter byte }
+    ensures { result ≡ is_word_byte byte }
 {
     LETTERS[byte as usize]
 }

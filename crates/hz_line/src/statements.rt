@@ -3,7 +3,7 @@
 ghost use Rattle.std.specs.Prelude.{◌≡◌, ◌≤◌, length, map, All, Some, IfOk, IfSome, MatchResult};
 ghost use Rattle.hz_line.specs.Statement.{meaning_of};
 ghost use Rattle.hz_line.specs.Token.{token_of};
-ghost use Rattle.hz_line.specs.Reading.{entered_by, meaning_read, IsRead, IsUnread, IsUnreadLine, IsUnreadText};
+ghost use Rattle.hz_line.specs.Reading.{numbered_by, meaning_read, AreStatementsOf, IsUnread, IsUnreadLine, IsUnreadText};
 
 use crate::lines::cut_line;
 use crate::tokens::{LineFault, Token, read_tokens};
@@ -113,7 +113,7 @@ pub fn read_statements<'t, G: Grammar<'t>>(
 ) -> Result<Vec<Numbered<G::Held>>, UnreadText>
     requires { length text.now ≤ 4294967294 }
     ensures read { MatchResult result
-        (λ read. IsRead (G.grammar (G.context grammar.old)) text.now (map (entered_by G.stated) read.items))
+        (λ read. AreStatementsOf (G.grammar (G.context grammar.old)) text.now (map (numbered_by G.stated) read.items))
         (λ why. IsUnreadText (G.grammar (G.context grammar.old)) text.now why) }
     ensures sound { IfOk result (λ read. All (λ entry. G.IsSound (G.context grammar.old) entry.held) read.items) }
     ensures same { G.context grammar.new ≡ G.context grammar.old }

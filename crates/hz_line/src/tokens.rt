@@ -2,8 +2,8 @@
 
 ghost use Rattle.std.specs.Prelude.{◌≡◌, ◌≤◌, false, length, IfErr, MatchResult, map, Some};
 ghost use Rattle.std.specs.List.{prefix_len};
-ghost use Rattle.hz_line.specs.Byte.{is_letter};
-ghost use Rattle.hz_line.specs.Token.{token_of, tokens_of, begins_in_blank, is_bare, BeginsWith, BeginsWithMark, BeginsWithWord, IsMarkFirst, IsNext, IsWordFirst, PastBlanks, StandBefore, StandsInLine};
+ghost use Rattle.hz_line.specs.Byte.{is_word_byte};
+ghost use Rattle.hz_line.specs.Token.{token_of, tokens_of, begins_in_blank, has_no_token, BeginsWith, BeginsWithMark, BeginsWithWord, IsMarkFirst, IsNext, IsWordFirst, PastBlanks, AreTokensBeforeFault, HasLineFault};
 
 use crate::bytes::{Class, Mark, class_of, is_letter};
 use std::alloc::AllocFailed;
@@ -54,8 +54,8 @@ pub enum Next<'a> {
 pub fn read_tokens<'a>(line: &'a [u8], tokens: &mut Vec<Token<'a>>) -> Result<(), LineFault>
     ensures value { MatchResult result
         (λ _. tokens_of line.now ≡ Some (map token_of tokens.new.items))
-        (λ fault. StandsInLine line.now fault) }
-    ensures before { IfErr result (λ fault. StandBefore fault (map token_of tokens.new.items) line.now) }
+        (λ fault. HasLineFault line.now fault) }
+    ensures before { IfErr result (λ fault. AreTokensBeforeFault fault (map token_of tokens.new.items) line.now) }
 {
     tokens.clear();
     let mut rest = line;
@@ -128,7 +128,7 @@ pub fn first_mark<'a>(line: &'a [u8]) -> Option<(Mark, &'a [u8])>
 /// Whether a line has no tokens: it is empty, or has blanks and a comment alone.
 #[inline]
 pub fn is_bare(line: &[u8]) -> bool
-    ensures { result ≡ is_bare (tokens_of line.now) }
+    ensures { result ≡ has_no_token (tokens_of line.now) }
 {
     let [first, ..] = past_blanks(line) else {
         return true;
@@ -160,7 +160,7 @@ fn past_blanks<'a>(line: &'a [u8]) -> &'a [u8]
 // How many letters a line begins with.
 #[inline]
 fn word_len(line: &[u8]) -> usize
-    ensures value { result ≡ prefix_len is_letter line.now }
+    ensures value { result ≡ prefix_len is_word_byte line.now }
     ensures within { result ≤ length line.now }
 {
     for (index, byte) in line.iter().enumerate() {

@@ -6,35 +6,35 @@ use Rattle.hz_core.specs.declared.tri.Tri.TheVariants.{Zero}
 use Rattle.hz_core.specs.Ternary.{tri_of, admits, is_below, join_of, AllBelow, Refines}
 use Rattle.hz_core.proofs.Refinements.{admits-tri_of, is_below-same, get_or-Refines, Refines-slice_range, get_or-AllBelow, AllBelow-slice_range}
 use Rattle.hz_core.proofs.Extensions.{admits-extension, is_below-extension}
-use Rattle.hz_net.specs.Network.{Driver, External, Function, Source, bit_at, value_at, driver_at, driven, driven3}
+use Rattle.hz_net.specs.Network.{Driver, External, Function, Source, bit_at, value_at, driver_at, driver_value, driver_value3}
 use Rattle.hz_net.specs.Passes.{excitations, join_each}
 
 -- what drives a variable in a state refines what drives it in a ternary state that the state refines
-pub admits-driven : (input state : List Bool) (values : List Tri) → Refines state values → (driver : Driver) → IsTrue (admits (driven3 input values driver) (driven input state driver))
-admits-driven input state values h (External place) = admits-tri_of (bit_at input place)
-admits-driven input state values h (Function kind first pins) =
+pub admits-driver_value : (input state : List Bool) (values : List Tri) → Refines state values → (driver : Driver) → IsTrue (admits (driver_value3 input values driver) (driver_value input state driver))
+admits-driver_value input state values h (External place) = admits-tri_of (bit_at input place)
+admits-driver_value input state values h (Function kind first pins) =
     admits-extension kind _ _ (Refines-slice_range state values first (first + pins) h)
-admits-driven input state values h (Source node) = get_or-Refines state values h node
+admits-driver_value input state values h (Source node) = get_or-Refines state values h node
 
 -- in a lower ternary state what drives a variable is lower
-pub is_below-driven3 : (input : List Bool) (small large : List Tri) → AllBelow small large → (driver : Driver) → IsTrue (is_below (driven3 input small driver) (driven3 input large driver))
-is_below-driven3 input small large h (External place) = is_below-same (tri_of (bit_at input place))
-is_below-driven3 input small large h (Function kind first pins) =
+pub is_below-driver_value3 : (input : List Bool) (small large : List Tri) → AllBelow small large → (driver : Driver) → IsTrue (is_below (driver_value3 input small driver) (driver_value3 input large driver))
+is_below-driver_value3 input small large h (External place) = is_below-same (tri_of (bit_at input place))
+is_below-driver_value3 input small large h (Function kind first pins) =
     is_below-extension kind _ _ (AllBelow-slice_range small large first (first + pins) h)
-is_below-driven3 input small large h (Source node) = get_or-AllBelow small large h node
+is_below-driver_value3 input small large h (Source node) = get_or-AllBelow small large h node
 
 pub length-excitations : (net : List Driver) (input : List Bool) (values : List Tri) → length (excitations net input values) ≡ length net
-length-excitations net input values = length-map net (driven3 input values)
+length-excitations net input values = length-map net (driver_value3 input values)
 
 -- the ternary excitation of a variable stands at its place among the excitations of all
-pub at-excitations : (net : List Driver) (input : List Bool) (values : List Tri) (i : ℕ) → i < length net → value_at (excitations net input values) i ≡ driven3 input values (driver_at net i)
-at-excitations net input values i inside = get_or-map (driven3 input values) net i (External 0) Zero inside
+pub at-excitations : (net : List Driver) (input : List Bool) (values : List Tri) (i : ℕ) → i < length net → value_at (excitations net input values) i ≡ driver_value3 input values (driver_at net i)
+at-excitations net input values i inside = get_or-map (driver_value3 input values) net i (External 0) Zero inside
 
 -- excitations are monotone
 pub AllBelow-excitations : (net : List Driver) (input : List Bool) (small large : List Tri) → AllBelow small large → AllBelow (excitations net input small) (excitations net input large)
 AllBelow-excitations [] input small large h = tt
 AllBelow-excitations (driver ∷ net) input small large h =
-    (is_below-driven3 input small large h driver, AllBelow-excitations net input small large h)
+    (is_below-driver_value3 input small large h driver, AllBelow-excitations net input small large h)
 
 pub length-join_each : (values others : List Tri) → length values ≡ length others → length (join_each values others) ≡ length values
 length-join_each [] others same = refl

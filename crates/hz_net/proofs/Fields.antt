@@ -3,13 +3,13 @@ use Rattle.std.proofs.Common.{◌≡◌, ◌∙◌, sym, ap, ℕ, ◌+◌, suc, 
 use Rattle.std.proofs.lemmas.List.{get_or_default}
 use Rattle.hz_core.specs.Netlist.{Netlist, IsCircuit, IsWhole, variable_count}
 use Rattle.hz_net.specs.Network.{network_of, driver_at}
-use Rattle.hz_net.specs.Variables.{variables_of, fan_out_of}
-use Rattle.hz_net.specs.Entries.{driver_of, seen_as, entries_of, IsEntryAt}
+use Rattle.hz_net.specs.Variables.{variable_kinds, fan_out_of}
+use Rattle.hz_net.specs.Entries.{driver_of, entry_kind, entries_of, IsEntryAt}
 use Rattle.hz_net.specs.FanOuts.{IsSplit, readers_by_node}
 use Rattle.hz_net.specs.Inside.{HoldsNetwork}
 use Rattle.hz_net.specs.declared.net.Net.TheInside.{Inside}
 use Rattle.hz_net.specs.declared.entry.Entry.{Entry}
-use Rattle.hz_net.proofs.Places.{length-entries_of, length-network_of, driver_at-entry, variables_of-entry, IsEntryAt-entries_of}
+use Rattle.hz_net.proofs.Places.{length-entries_of, length-network_of, driver_at-entry, variable_kinds-entry, IsEntryAt-entries_of}
 use Rattle.hz_net.proofs.PartLemmas.{length-parts_from, IsPart, is_part}
 use Rattle.hz_net.proofs.FanOutLemmas.{length-readers_by_node, at-readers_by_node}
 
@@ -57,9 +57,9 @@ driver_is fields netlist same holds var entry within read =
 pub seen_is :
     (fields : Inside) (netlist : Netlist) → fields.circuit ≡ netlist → HoldsNetwork fields → (var : ℕ) (entry : Entry) →
     var < variable_count netlist → entry ≡ get_or fields.entries.items var entry →
-    slice_get (variables_of netlist) var ≡ Some (seen_as entry)
+    slice_get (variable_kinds netlist) var ≡ Some (entry_kind entry)
 seen_is fields netlist same holds var entry within read =
-    variables_of-entry netlist var entry (circuit_of fields netlist same holds) within (read_is fields netlist same holds var entry read)
+    variable_kinds-entry netlist var entry (circuit_of fields netlist same holds) within (read_is fields netlist same holds var entry read)
 
 pub place_is :
     (fields : Inside) (netlist : Netlist) → fields.circuit ≡ netlist → HoldsNetwork fields → (var : ℕ) (entry : Entry) →

@@ -4,7 +4,7 @@ use Rattle.std.specs.List.{slice_range}
 use Rattle.std.specs.Prelude.{sum_by, slice_get}
 use Rattle.std.proofs.lemmas.List.{take-append-le, drop-append-le, drop_at, take_all, ext_get_or, get_or-take, get_or-drop, length-drop, length-take}
 use Rattle.std.proofs.lemmas.List.Sums.{sum_by-cons}
-use Rattle.hz_net.specs.Parts.{parts_from, EndsAt, start_of}
+use Rattle.hz_net.specs.Parts.{parts_from, EndsAt, part_start}
 
 -- a part of a list has as many elements as its places, if all of these are in the list
 pub length-part :
@@ -96,7 +96,7 @@ pub record IsPart {X : Type 0} (list part : List X) (begin end : ℕ) : Type 0 w
 -- the part with a number
 pub is_part :
     {X : Type 0} (start : ℕ) (ends : List ℕ) (list : List X) (number : ℕ) → EndsAt start ends (length list) → number < length ends →
-    IsPart list (get_or (parts_from start ends list) number []) (start_of start ends number) (get_or ends number 0)
+    IsPart list (get_or (parts_from start ends list) number []) (part_start start ends number) (get_or ends number 0)
 is_part start [] list number cut within = absurd (omega (arith, within))
 is_part start (end ∷ ends) list zero cut within = record { ordered = cut.0; inside = EndsAt-within end ends (length list) cut.1; same = refl }
 is_part start (end ∷ ends) list (suc number) cut within = is_part end ends list number cut.1 (omega (arith, within))

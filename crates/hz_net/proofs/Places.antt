@@ -12,8 +12,8 @@ use Rattle.hz_core.specs.declared.kind.Kind.TheVariants.{And}
 use Rattle.hz_core.specs.Netlist.{Gate, Netlist, IsCircuit, IsWhole, IsGateAmong, IsGateNumber, gate_at, pin_count, variable_count}
 use Rattle.hz_core.proofs.CircuitLemmas.{takes-at_gate}
 use Rattle.hz_net.specs.Network.{Wire, gate_wires, wires_from, wires_of, External, Function, Source, gate_drivers, network_of, driver_at, bit_at}
-use Rattle.hz_net.specs.Variables.{variables_of, first_wire, expanded}
-use Rattle.hz_net.specs.Entries.{driver_of, seen_as, gate_entries, wire_entry, entries_of, IsEntryAt}
+use Rattle.hz_net.specs.Variables.{variable_kinds, first_wire, expansion_of}
+use Rattle.hz_net.specs.Entries.{driver_of, entry_kind, gate_entries, wire_entry, entries_of, IsEntryAt}
 use Rattle.hz_net.specs.declared.variable.VarKind.TheVariants.{Gate as GateKind}
 use Rattle.hz_net.specs.declared.entry.Entry.{Entry}
 use Rattle.hz_net.specs.declared.entry.Entry.TheVariants.{Input as InputEntry, Gate as GateEntry, Wire as WireEntry}
@@ -73,7 +73,7 @@ map-gate_entries first [] = refl
 map-gate_entries first (gate ∷ gates) =
     ap (λ rest. Function gate.kind first (length gate.sources) ∷ rest) (map-gate_entries (first + length gate.sources) gates)
 
-seen-gate_entries : (first : ℕ) (gates : List Gate) → map seen_as (gate_entries first gates) ≡ map (λ gate. GateKind gate.kind) gates
+seen-gate_entries : (first : ℕ) (gates : List Gate) → map entry_kind (gate_entries first gates) ≡ map (λ gate. GateKind gate.kind) gates
 seen-gate_entries first [] = refl
 seen-gate_entries first (gate ∷ gates) =
     ap (λ rest. GateKind gate.kind ∷ rest) (seen-gate_entries (first + length gate.sources) gates)
@@ -84,9 +84,9 @@ unfolding network_of entries_of
 network_of-entries netlist = simp (map-append, map-map, map-gate_entries)
 
 -- the variables are what each entry is
-pub variables_of-entries : (netlist : Netlist) → map seen_as (entries_of netlist) ≡ variables_of netlist
+pub variable_kinds-entries : (netlist : Netlist) → map entry_kind (entries_of netlist) ≡ variable_kinds netlist
 unfolding entries_of
-variables_of-entries netlist = simp (map-append, map-map, seen-gate_entries)
+variable_kinds-entries netlist = simp (map-append, map-map, seen-gate_entries)
 
 -- the network has a driver for each variable
 pub length-network_of : (netlist : Netlist) → IsCircuit netlist → length (network_of netlist) ≡ variable_count netlist
@@ -103,15 +103,15 @@ driver_at-entry netlist var entry circuit within read =
     get_or-map driver_of (entries_of netlist) var entry (External 0) inside ∙ ap driver_of (sym read)
 
 -- what a variable is, is told by its entry
-pub variables_of-entry :
+pub variable_kinds-entry :
     (netlist : Netlist) (var : ℕ) (entry : Entry) → IsCircuit netlist → var < variable_count netlist →
-    entry ≡ get_or (entries_of netlist) var entry → slice_get (variables_of netlist) var ≡ Some (seen_as entry)
-variables_of-entry netlist var entry circuit within read =
+    entry ≡ get_or (entries_of netlist) var entry → slice_get (variable_kinds netlist) var ≡ Some (entry_kind entry)
+variable_kinds-entry netlist var entry circuit within read =
     let inside : var < length (entries_of netlist) = omega (arith, length-entries_of netlist circuit) in
-    let inside_map : var < length (map seen_as (entries_of netlist)) = omega (arith, length-map (entries_of netlist) seen_as) in
-    ap (λ kinds. slice_get kinds var) (sym (variables_of-entries netlist)) ∙
-    slice_get-get_or (map seen_as (entries_of netlist)) var (seen_as entry) inside_map ∙
-    ap Some (get_or-map seen_as (entries_of netlist) var entry (seen_as entry) inside ∙ ap seen_as (sym read))
+    let inside_map : var < length (map entry_kind (entries_of netlist)) = omega (arith, length-map (entries_of netlist) entry_kind) in
+    ap (λ kinds. slice_get kinds var) (sym (variable_kinds-entries netlist)) ∙
+    slice_get-get_or (map entry_kind (entries_of netlist)) var (entry_kind entry) inside_map ∙
+    ap Some (get_or-map entry_kind (entries_of netlist) var entry (entry_kind entry) inside ∙ ap entry_kind (sym read))
 
 -- the entry of the k-th gate
 at-gate_entries :
@@ -333,10 +333,10 @@ driver_at-pin netlist node pin circuit is_gate within =
     driver_at-wire netlist (first_wire netlist node + pin) circuit (omega arith) (omega (arith, first_wire-bound netlist node circuit is_gate)) ∙
     ap (λ wire. Source wire.source) (wire_at-pin netlist node pin circuit is_gate within)
 
-pub length-expanded :
+pub length-expansion_of :
     (netlist : Netlist) (nodes : List Bool) → IsCircuit netlist → length nodes ≡ length netlist.names →
-    length (expanded netlist nodes) ≡ length (network_of netlist)
-length-expanded netlist nodes circuit same =
+    length (expansion_of netlist nodes) ≡ length (network_of netlist)
+length-expansion_of netlist nodes circuit same =
     omega (
       arith,
       length-append nodes (map (λ wire. bit_at nodes wire.source) (wires_of netlist)),
@@ -346,28 +346,28 @@ length-expanded netlist nodes circuit same =
     )
 
 -- a node has its given value
-pub bit_at-expanded-node :
+pub bit_at-expansion_of-node :
     (netlist : Netlist) (nodes : List Bool) (var : ℕ) → length nodes ≡ length netlist.names → var < length netlist.names →
-    bit_at (expanded netlist nodes) var ≡ bit_at nodes var
-bit_at-expanded-node netlist nodes var same within =
+    bit_at (expansion_of netlist nodes) var ≡ bit_at nodes var
+bit_at-expansion_of-node netlist nodes var same within =
     get_or_append_left nodes (map (λ wire. bit_at nodes wire.source) (wires_of netlist)) false var (omega arith)
 
 -- a wire has the value of its source
-pub bit_at-expanded-wire :
+pub bit_at-expansion_of-wire :
     (netlist : Netlist) (nodes : List Bool) (var : ℕ) → length nodes ≡ length netlist.names → length netlist.names ≤ var →
     var < variable_count netlist →
-    bit_at (expanded netlist nodes) var ≡ bit_at nodes (get_or (wires_of netlist) (var - length netlist.names) no_wire).source
-bit_at-expanded-wire netlist nodes var same from within =
+    bit_at (expansion_of netlist nodes) var ≡ bit_at nodes (get_or (wires_of netlist) (var - length netlist.names) no_wire).source
+bit_at-expansion_of-wire netlist nodes var same from within =
     get_or-append_right nodes (map (λ wire. bit_at nodes wire.source) (wires_of netlist)) (length netlist.names) var false same from ∙
     get_or-map (λ wire. bit_at nodes wire.source) (wires_of netlist) (var - length netlist.names) no_wire false (omega (arith, length-wires_of netlist))
 
 -- the same by the entry of the variable
-pub bit_at-expanded-entry :
+pub bit_at-expansion_of-entry :
     (netlist : Netlist) (nodes : List Bool) (var gate pin source : ℕ) → length nodes ≡ length netlist.names →
-    IsEntryAt netlist var (WireEntry gate pin source) → bit_at (expanded netlist nodes) var ≡ bit_at nodes source
-bit_at-expanded-entry netlist nodes var gate pin source same entry =
+    IsEntryAt netlist var (WireEntry gate pin source) → bit_at (expansion_of netlist nodes) var ≡ bit_at nodes source
+bit_at-expansion_of-entry netlist nodes var gate pin source same entry =
     let k = var - length netlist.names in
     let wire : Wire = record { gate = gate; pin = pin; source = source } in
     let inside : k < length (wires_of netlist) = slice_get_within (wires_of netlist) k wire entry.2 in
-    bit_at-expanded-wire netlist nodes var same entry.0 (omega (arith, length-wires_of netlist)) ∙
+    bit_at-expansion_of-wire netlist nodes var same entry.0 (omega (arith, length-wires_of netlist)) ∙
     ap (λ wire. bit_at nodes wire.source) (get_or_from_slice_get (wires_of netlist) k wire no_wire entry.2)

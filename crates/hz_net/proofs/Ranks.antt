@@ -4,7 +4,7 @@ use Rattle.hz_core.specs.declared.tri.Tri.{Tri}
 use Rattle.hz_core.specs.declared.tri.Tri.TheVariants.{Zero, One, Unknown}
 use Rattle.hz_core.specs.Ternary.{tri_of, admits, is_below, join_of, AllBelow}
 use Rattle.hz_core.proofs.Refinements.{get_or-AllBelow, get_or-Refines, AllBelow-same, AllBelow-through}
-use Rattle.hz_net.specs.Network.{Driver, bit_at, value_at, driver_at, driven3}
+use Rattle.hz_net.specs.Network.{Driver, bit_at, value_at, driver_at, driver_value3}
 use Rattle.hz_net.specs.Passes.{excitations, algorithm_a, IsFirstRound, IsUnknown}
 use Rattle.hz_net.proofs.Excitations.{length-excitations, at-excitations, at-join_each}
 use Rattle.hz_net.proofs.Sequences.{length-algorithm_a, AllBelow-algorithm_a, start-refines}
@@ -48,7 +48,7 @@ module _ (net : List Driver) (input start : List Bool) (long : length start ≡ 
   unknown-or-start i round = unknown-or _ _ (get_or-Refines start _ (start-refines net input start long round) i)
 
   -- the value of one round is the join of the value before with what drives the variable
-  pub one-round : (i round : ℕ) → i < length net → value_at (algorithm_a net input start (suc round)) i ≡ join_of (value_at (algorithm_a net input start round) i) (driven3 input (algorithm_a net input start round) (driver_at net i))
+  pub one-round : (i round : ℕ) → i < length net → value_at (algorithm_a net input start (suc round)) i ≡ join_of (value_at (algorithm_a net input start round) i) (driver_value3 input (algorithm_a net input start round) (driver_at net i))
   one-round i round inside =
       at-join_each _ (excitations net input (algorithm_a net input start round)) (length-algorithm_a net input start long round ∙ sym (length-excitations net input (algorithm_a net input start round))) i
       ∙ ap (join_of (value_at (algorithm_a net input start round) i)) (at-excitations net input (algorithm_a net input start round) i inside)
@@ -75,7 +75,7 @@ at-tri_of (bit ∷ bits) (suc i) = at-tri_of bits i
 -- What a first X says: the round before, the variable had its start value and what drove it admitted the other one.
 pub record TurnsAt (net : List Driver) (input start : List Bool) (i round : ℕ) : Type 0 where
   pub before : value_at (algorithm_a net input start round) i ≡ tri_of (bit_at start i)
-  pub drives : IsTrue (admits (driven3 input (algorithm_a net input start round) (driver_at net i)) (not (bit_at start i)))
+  pub drives : IsTrue (admits (driver_value3 input (algorithm_a net input start round) (driver_at net i)) (not (bit_at start i)))
 
 -- the rank of an X is one more than such a round
 pub turns-before-rank : (net : List Driver) (input start : List Bool) (i rank : ℕ) → length start ≡ length net → i < length net → IsFirstRound (algorithm_a net input start) i IsUnknown rank → (round : ℕ) × (rank ≡ suc round) × TurnsAt net input start i round
@@ -84,6 +84,6 @@ turns-before-rank net input start i zero long inside first =
 turns-before-rank net input start i (suc round) long inside first =
     let before : value_at (algorithm_a net input start round) i ≡ tri_of (bit_at start i) =
     elim (unknown-or-start net input start long i round) [ inl e ↦ absurd (first.least round (omega arith) e) | inr e ↦ e ] in
-    let joined : join_of (tri_of (bit_at start i)) (driven3 input (algorithm_a net input start round) (driver_at net i)) ≡ Unknown =
-    ap (λ (v : Tri). join_of v (driven3 input (algorithm_a net input start round) (driver_at net i))) (sym before) ∙ (sym (one-round net input start long i round inside) ∙ first.there) in
+    let joined : join_of (tri_of (bit_at start i)) (driver_value3 input (algorithm_a net input start round) (driver_at net i)) ≡ Unknown =
+    ap (λ (v : Tri). join_of v (driver_value3 input (algorithm_a net input start round) (driver_at net i))) (sym before) ∙ (sym (one-round net input start long i round inside) ∙ first.there) in
     (round, refl, record { before = before; drives = turned-by (bit_at start i) _ joined })

@@ -10,17 +10,17 @@ use Rattle.hz_core.specs.declared.tri.Tri.TheVariants.{Zero}
 use Rattle.hz_core.specs.Netlist.{Netlist, IsCircuit, IsGateNumber, gate_at, variable_count}
 use Rattle.hz_core.specs.Gate.{gate_value}
 use Rattle.hz_core.specs.Extension.{extension}
-use Rattle.hz_net.specs.Network.{Driver, External, Function, Source, network_of, wires_of, driver_at, driven, driven3, bit_at, value_at}
-use Rattle.hz_net.specs.Variables.{variables_of, first_wire, fan_out_of}
+use Rattle.hz_net.specs.Network.{Driver, External, Function, Source, network_of, wires_of, driver_at, driver_value, driver_value3, bit_at, value_at}
+use Rattle.hz_net.specs.Variables.{variable_kinds, first_wire, fan_out_of}
 use Rattle.hz_net.specs.Reads.{Reads, AreReaders, readers_by, readers_of, IsWireInto}
 use Rattle.hz_net.specs.declared.variable.VarKind.{VarKind}
 use Rattle.hz_net.specs.declared.variable.VarKind.TheVariants.{Input as InputKind, Gate as GateKind, Wire as WireKind}
-use Rattle.hz_net.specs.Entries.{seen_as, IsEntryAt}
+use Rattle.hz_net.specs.Entries.{entry_kind, IsEntryAt}
 use Rattle.hz_net.specs.declared.entry.Entry.{Entry}
 use Rattle.hz_net.specs.declared.entry.Entry.TheVariants.{Input as InputEntry, Gate as GateEntry, Wire as WireEntry}
 use Rattle.hz_net.proofs.PartLemmas.{same-parts}
-use Rattle.hz_net.proofs.Places.{no_wire, length-network_of, driver_at-input, driver_at-gate, driver_at-wire, first_wire-bound, at-entries_of-input, at-entries_of-gate, at-entries_of-wire, variables_of-entry}
-use Rattle.hz_net.proofs.Wires.{IsWireFrom, IsWireFrom-node, IsWireFrom-fan_out_of, Contains-fan_out_of, driver_at-IsWireFrom, variables_of-wire}
+use Rattle.hz_net.proofs.Places.{no_wire, length-network_of, driver_at-input, driver_at-gate, driver_at-wire, first_wire-bound, at-entries_of-input, at-entries_of-gate, at-entries_of-wire, variable_kinds-entry}
+use Rattle.hz_net.proofs.Wires.{IsWireFrom, IsWireFrom-node, IsWireFrom-fan_out_of, Contains-fan_out_of, driver_at-IsWireFrom, variable_kinds-wire}
 use Rattle.hz_net.specs.Inside.{HoldsNetwork}
 use Rattle.hz_net.specs.declared.net.Net.TheInside.{Inside}
 use Rattle.hz_net.proofs.Fields.{circuit_of, network_length_is, seen_is, place_is}
@@ -39,37 +39,37 @@ reads-or-not (Function kind first pins) i = elim (cases_lt i first) [
 reads-or-not (Source node) i = cases_eq node i
 
 -- what drives a variable is the same in two states that agree at what it reads
-pub driven-same :
+pub driver_value-same :
     (input left right : List Bool) (driver : Driver) → length left ≡ length right →
-    ((i : ℕ) → Reads driver i → bit_at left i ≡ bit_at right i) → driven input left driver ≡ driven input right driver
-driven-same input left right (External place) long each = refl
-driven-same input left right (Function kind first pins) long each =
+    ((i : ℕ) → Reads driver i → bit_at left i ≡ bit_at right i) → driver_value input left driver ≡ driver_value input right driver
+driver_value-same input left right (External place) long each = refl
+driver_value-same input left right (Function kind first pins) long each =
     ap (gate_value kind) (same-parts false left right first pins long (λ k few. each (first + k) (omega arith, omega (arith, few))))
-driven-same input left right (Source node) long each = each node refl
+driver_value-same input left right (Source node) long each = each node refl
 
 -- and so it is in two ternary states
-pub driven3-same :
+pub driver_value3-same :
     (input : List Bool) (left right : List Tri) (driver : Driver) → length left ≡ length right →
-    ((i : ℕ) → Reads driver i → value_at left i ≡ value_at right i) → driven3 input left driver ≡ driven3 input right driver
-driven3-same input left right (External place) long each = refl
-driven3-same input left right (Function kind first pins) long each =
+    ((i : ℕ) → Reads driver i → value_at left i ≡ value_at right i) → driver_value3 input left driver ≡ driver_value3 input right driver
+driver_value3-same input left right (External place) long each = refl
+driver_value3-same input left right (Function kind first pins) long each =
     ap (extension kind) (same-parts Zero left right first pins long (λ k few. each (first + k) (omega arith, omega (arith, few))))
-driven3-same input left right (Source node) long each = each node refl
+driver_value3-same input left right (Source node) long each = each node refl
 
 module _ (netlist : Netlist) (circuit : IsCircuit netlist) where
   -- the readers of a node are the wires from it
   pub node-readers : (node : ℕ) → node < length netlist.names → readers_of netlist node ≡ fan_out_of netlist node
   node-readers node inside = elim (cases_lt node netlist.inputs) [
-    | inl input ↦ ap (readers_by netlist node) (variables_of-entry netlist node (InputEntry node) circuit (omega arith) (sym (at-entries_of-input netlist node (InputEntry node) input)))
+    | inl input ↦ ap (readers_by netlist node) (variable_kinds-entry netlist node (InputEntry node) circuit (omega arith) (sym (at-entries_of-input netlist node (InputEntry node) input)))
     | inr beyond ↦ (
         let entry = GateEntry (gate_at netlist node).kind (first_wire netlist node) (length (gate_at netlist node).sources) in
-        ap (readers_by netlist node) (variables_of-entry netlist node entry circuit (omega arith) (sym (at-entries_of-gate netlist node entry circuit (beyond, inside))))
+        ap (readers_by netlist node) (variable_kinds-entry netlist node entry circuit (omega arith) (sym (at-entries_of-gate netlist node entry circuit (beyond, inside))))
         )
   ]
 
   -- the reader of a wire is its gate
   pub wire-readers : (wire : ℕ) → length netlist.names ≤ wire → wire < variable_count netlist → readers_of netlist wire ≡ (get_or (wires_of netlist) (wire - length netlist.names) no_wire).gate ∷ []
-  wire-readers wire above below = ap (readers_by netlist wire) (variables_of-wire netlist wire circuit above below)
+  wire-readers wire above below = ap (readers_by netlist wire) (variable_kinds-wire netlist wire circuit above below)
 
   one-reader : (gate reader : ℕ) → Contains (gate ∷ []) reader → reader ≡ gate
   one-reader gate reader (zero, few, e) = sym e
@@ -84,7 +84,7 @@ module _ (netlist : Netlist) (circuit : IsCircuit netlist) where
     | inr above ↦ (
         let wire = get_or (wires_of netlist) (i - length netlist.names) no_wire in
         let same : reader ≡ wire.gate = one-reader wire.gate reader (subst (λ (list : List ℕ). Contains list reader) (wire-readers i above inside) there) in
-        let into = named-into netlist circuit i wire.gate wire.pin wire.source above inside (variables_of-wire netlist i circuit above inside) in
+        let into = named-into netlist circuit i wire.gate wire.pin wire.source above inside (variable_kinds-wire netlist i circuit above inside) in
         subst (λ (g : ℕ). Reads (driver_at (network_of netlist) g) i) (sym same)
         (subst (λ (d : Driver). Reads d i) (sym into.driven) (into.above, into.below))
         )
@@ -147,8 +147,8 @@ module _ (netlist : Netlist) (circuit : IsCircuit netlist) where
 -- what the fields of a network tell of the readers of a variable
 pub record AreReadersBy (netlist : Netlist) (var : ℕ) (entry : Entry) : Type 0 where
   pub place : IsEntryAt netlist var entry
-  pub readers : readers_of netlist var ≡ readers_by netlist var (Some (seen_as entry))
-  pub inside : All (λ reader. reader < length (network_of netlist)) (readers_by netlist var (Some (seen_as entry)))
+  pub readers : readers_of netlist var ≡ readers_by netlist var (Some (entry_kind entry))
+  pub inside : All (λ reader. reader < length (network_of netlist)) (readers_by netlist var (Some (entry_kind entry)))
 
 pub readers_are :
     (fields : Inside) (netlist : Netlist) → fields.circuit ≡ netlist → HoldsNetwork fields → (var : ℕ) (read entry : Entry) →
@@ -156,7 +156,7 @@ pub readers_are :
 readers_are fields netlist same holds var read entry few at is =
     let within : var < variable_count netlist = omega (arith, few, network_length_is fields netlist same holds) in
     let circuit : IsCircuit netlist = circuit_of fields netlist same holds in
-    let told = ap (readers_by netlist var) (seen_is fields netlist same holds var read within at) ∙ ap (λ (e : Entry). readers_by netlist var (Some (seen_as e))) is in
+    let told = ap (readers_by netlist var) (seen_is fields netlist same holds var read within at) ∙ ap (λ (e : Entry). readers_by netlist var (Some (entry_kind e))) is in
     record {
       place = subst (IsEntryAt netlist var) is (place_is fields netlist same holds var read within at);
       readers = told;

@@ -3,7 +3,7 @@ use Rattle.std.proofs.Common.{◌≡◌, ℕ, suc, ◌<◌, min, Bool, false, Op
 use Rattle.std.proofs.lemmas.List.{length-take, get_or-take}
 use Rattle.hz_core.specs.Netlist.{Netlist, IsCircuit}
 use Rattle.hz_net.specs.Network.{network_of, bit_at, IsUnstable}
-use Rattle.hz_net.specs.Variables.{expanded}
+use Rattle.hz_net.specs.Variables.{expansion_of}
 use Rattle.hz_net.specs.Starts.{IsCompletedStart, IsAcceptedStart, IsLeastOpen, IsLeastUnstable}
 use Rattle.hz_net.proofs.Places.{length-network_of}
 use Rattle.hz_net.proofs.Derivations.{forced_once}
@@ -33,7 +33,7 @@ completed_once netlist listed state other here there =
     (λ k few.
     let inside : k < nodes = omega (arith, few, length-take nodes state) in
     get_or-take nodes state k false inside ∙ (forced_once netlist listed k (bit_at state k) (bit_at other k) (here.forced k inside) (there.forced k inside) ∙ sym (get_or-take nodes other k false inside))) in
-    here.wires ∙ (ap (expanded netlist) fronts ∙ sym there.wires)
+    here.wires ∙ (ap (expansion_of netlist) fronts ∙ sym there.wires)
 
 -- an accepted start has no unstable gate
 pub accepted-not-unstable : (netlist : Netlist) (listed : List (Option Bool)) (state : List Bool) (gate : ℕ) → IsCircuit netlist → IsAcceptedStart netlist listed state → IsLeastUnstable netlist listed gate → ⊥

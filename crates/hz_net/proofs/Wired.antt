@@ -7,11 +7,11 @@ use Rattle.std.proofs.lemmas.List.Sums.{sum_by-cons}
 use Rattle.hz_core.specs.declared.kind.Kind.{Kind}
 use Rattle.hz_core.specs.Netlist.{Gate, Netlist, IsCircuit, IsGateNumber, gate_at, variable_count, pin_count}
 use Rattle.hz_net.specs.Network.{Wire, wires_of, External, Function, Source, network_of, driver_at}
-use Rattle.hz_net.specs.Variables.{variables_of, first_wire}
+use Rattle.hz_net.specs.Variables.{variable_kinds, first_wire}
 use Rattle.hz_net.specs.Reads.{IsWireInto, IsWired}
 use Rattle.hz_net.specs.declared.variable.VarKind.TheVariants.{Wire as WireKind}
 use Rattle.hz_net.proofs.Places.{no_gate, no_wire, pins_of, length-network_of, length-wires_of, driver_at-input, driver_at-gate, driver_at-wire, driver_at-pin, wire_at-pin}
-use Rattle.hz_net.proofs.Wires.{IsWireFrom, IsWireFrom-driver_at, IsWireFrom-node, variables_of-wire}
+use Rattle.hz_net.proofs.Wires.{IsWireFrom, IsWireFrom-driver_at, IsWireFrom-node, variable_kinds-wire}
 
 -- what drives a gate is its gate function, of the wires that its place gives it
 pub record IsGateOf (netlist : Netlist) (gate : ℕ) (kind : Kind) (first pins : ℕ) : Type 0 where
@@ -130,10 +130,10 @@ module _ (netlist : Netlist) (circuit : IsCircuit netlist) where
       (gate, pin-into gate at.pin wire is_gate few_pins (omega (arith, stands, sum, above)))
 
   -- and into the gate that it names
-  pub named-into : (wire gate pin source : ℕ) → length netlist.names ≤ wire → wire < variable_count netlist → slice_get (variables_of netlist) wire ≡ Some (WireKind gate pin source) → IsWireInto (network_of netlist) gate wire
+  pub named-into : (wire gate pin source : ℕ) → length netlist.names ≤ wire → wire < variable_count netlist → slice_get (variable_kinds netlist) wire ≡ Some (WireKind gate pin source) → IsWireInto (network_of netlist) gate wire
   named-into wire gate pin source above below is =
       let into = wire-into wire above below in
-      let other = variables_of-wire netlist wire circuit above below in
+      let other = variable_kinds-wire netlist wire circuit above below in
       let named : (get_or (wires_of netlist) (wire - length netlist.names) no_wire).gate ≡ gate = cc in
       subst (λ (g : ℕ). IsWireInto (network_of netlist) g wire) (sym (gate-named into.0 wire into.1) ∙ named) into.1
 

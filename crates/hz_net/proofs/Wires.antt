@@ -7,10 +7,10 @@ use Rattle.std.proofs.lemmas.List.{get_or_past}
 use Rattle.std.proofs.lemmas.List.Elements.{All-nil, All-cons, All-append}
 use Rattle.hz_core.specs.Netlist.{Gate, Netlist, IsCircuit, IsGateNumber, gate_at, variable_count}
 use Rattle.hz_net.specs.Network.{Wire, gate_wires, wires_from, wires_of, External, Source, network_of, driver_at}
-use Rattle.hz_net.specs.Variables.{variables_of, first_wire, at_wires, readers_from, fan_out_of}
+use Rattle.hz_net.specs.Variables.{variable_kinds, first_wire, at_wires, readers_from, fan_out_of}
 use Rattle.hz_net.specs.declared.variable.VarKind.TheVariants.{Wire as WireKind}
 use Rattle.hz_net.specs.Entries.{wire_entry}
-use Rattle.hz_net.proofs.Places.{no_wire, All-wires_of, length-network_of, length-wires_of, driver_at-input, driver_at-gate, driver_at-wire, wire_at-pin, at-entries_of-wire, variables_of-entry, first_wire-bound}
+use Rattle.hz_net.proofs.Places.{no_wire, All-wires_of, length-network_of, length-wires_of, driver_at-input, driver_at-gate, driver_at-wire, wire_at-pin, at-entries_of-wire, variable_kinds-entry, first_wire-bound}
 use Rattle.hz_net.proofs.PartLemmas.{length-part, at-part}
 
 -- a variable is a wire from a node
@@ -127,10 +127,10 @@ IsWireFrom-fan_out_of netlist wire node there =
     }
 
 -- what a variable is, is told by its wire
-pub variables_of-wire : (netlist : Netlist) (var : ℕ) → IsCircuit netlist → length netlist.names ≤ var → var < variable_count netlist → slice_get (variables_of netlist) var ≡ Some (WireKind (get_or (wires_of netlist) (var - length netlist.names) no_wire).gate (get_or (wires_of netlist) (var - length netlist.names) no_wire).pin (get_or (wires_of netlist) (var - length netlist.names) no_wire).source)
-variables_of-wire netlist var circuit above below =
+pub variable_kinds-wire : (netlist : Netlist) (var : ℕ) → IsCircuit netlist → length netlist.names ≤ var → var < variable_count netlist → slice_get (variable_kinds netlist) var ≡ Some (WireKind (get_or (wires_of netlist) (var - length netlist.names) no_wire).gate (get_or (wires_of netlist) (var - length netlist.names) no_wire).pin (get_or (wires_of netlist) (var - length netlist.names) no_wire).source)
+variable_kinds-wire netlist var circuit above below =
     let entry = wire_entry (get_or (wires_of netlist) (var - length netlist.names) no_wire) in
-    variables_of-entry netlist var entry circuit below (sym (at-entries_of-wire netlist var entry circuit above below))
+    variable_kinds-entry netlist var entry circuit below (sym (at-entries_of-wire netlist var entry circuit above below))
 
 -- a gate's wires have one element for each pin
 pub length-at_wires :

@@ -17,10 +17,10 @@ driver_of (GateEntry kind first pins) = Function kind first pins
 driver_of (WireEntry gate pin source) = Source source
 
 -- what a variable is
-abbrev pub seen_as : Entry → VarKind
-seen_as (InputEntry number) = InputKind number
-seen_as (GateEntry kind first pins) = GateKind kind
-seen_as (WireEntry gate pin source) = WireKind gate pin source
+abbrev pub entry_kind : Entry → VarKind
+entry_kind (InputEntry number) = InputKind number
+entry_kind (GateEntry kind first pins) = GateKind kind
+entry_kind (WireEntry gate pin source) = WireKind gate pin source
 
 -- the entries of gates, the wires of the first of which begin at a variable
 abbrev pub gate_entries : ℕ → List Gate → List Entry

@@ -4,11 +4,11 @@
 -- network_of netlist: the complete network: a driver for each variable, inputs and gates first, then the wires
 -- driver_at net i: what drives variable i
 -- bit_at state i, value_at values i: the value of variable i in a state, and in a ternary state
--- driven input state driver: what a driver asks for
+-- driver_value input state driver: what a driver asks for
 -- excitation net input state i: the excitation of variable i
 -- IsUnstable net input state i: its value differs from its excitation
 -- IsStable net input state: no variable is unstable
--- driven3 input state driver, excitation3 net input state i: the same in ternary states
+-- driver_value3 input state driver, excitation3 net input state i: the same in ternary states
 -- algorithm_a net input start round, algorithm_b net input first round: the ternary states of both algorithms
 -- AreRounds sequence rounds: the sequence comes to rest in this round
 -- IsResult sequence result: its state then

@@ -62,24 +62,24 @@ abbrev pub value_at : List Tri → ℕ → Tri
 value_at state i = slice_index_or state i Zero
 
 -- what a driver asks for, under an external input, in a state
-abbrev pub driven : List Bool → List Bool → Driver → Bool
-driven input state (External place) = bit_at input place
-driven input state (Function kind first pins) = gate_value kind (slice_range state first (first + pins))
-driven input state (Source node) = bit_at state node
+abbrev pub driver_value : List Bool → List Bool → Driver → Bool
+driver_value input state (External place) = bit_at input place
+driver_value input state (Function kind first pins) = gate_value kind (slice_range state first (first + pins))
+driver_value input state (Source node) = bit_at state node
 
 -- the same in a ternary state, by the ternary extension of the gate function
-abbrev pub driven3 : List Bool → List Tri → Driver → Tri
-driven3 input state (External place) = tri_of (bit_at input place)
-driven3 input state (Function kind first pins) = extension kind (slice_range state first (first + pins))
-driven3 input state (Source node) = value_at state node
+abbrev pub driver_value3 : List Bool → List Tri → Driver → Tri
+driver_value3 input state (External place) = tri_of (bit_at input place)
+driver_value3 input state (Function kind first pins) = extension kind (slice_range state first (first + pins))
+driver_value3 input state (Source node) = value_at state node
 
 -- the excitation of variable i
 abbrev pub excitation : List Driver → List Bool → List Bool → ℕ → Bool
-excitation net input state i = driven input state (driver_at net i)
+excitation net input state i = driver_value input state (driver_at net i)
 
 -- the ternary excitation of variable i
 abbrev pub excitation3 : List Driver → List Bool → List Tri → ℕ → Tri
-excitation3 net input state i = driven3 input state (driver_at net i)
+excitation3 net input state i = driver_value3 input state (driver_at net i)
 
 -- a variable is unstable where its value differs from its excitation
 abbrev pub IsUnstable : List Driver → List Bool → List Bool → ℕ → Type 0

@@ -13,5 +13,5 @@ EndsAt start [] last = start ≡ last
 EndsAt start (end ∷ ends) last = (start ≤ end) × EndsAt end ends last
 
 -- where the part with a number begins, when the first one begins at a start
-abbrev pub start_of : ℕ → List ℕ → ℕ → ℕ
-start_of start ends number = slice_index (start ∷ ends) number
+abbrev pub part_start : ℕ → List ℕ → ℕ → ℕ
+part_start start ends number = slice_index (start ∷ ends) number

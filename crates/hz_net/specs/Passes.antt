@@ -3,11 +3,11 @@ use Rattle.std.specs.Prelude.{◌≡◌, ◌≢◌, ℕ, zero, suc, ◌-◌, ◌
 use Rattle.hz_core.specs.declared.tri.Tri.{Tri}
 use Rattle.hz_core.specs.declared.tri.Tri.TheVariants.{Zero, One, Unknown}
 use Rattle.hz_core.specs.Ternary.{tri_of, join_of}
-use Rattle.hz_net.specs.Network.{Driver, driven3, value_at}
+use Rattle.hz_net.specs.Network.{Driver, driver_value3, value_at}
 
 -- the ternary excitations of all variables
 abbrev pub excitations : List Driver → List Bool → List Tri → List Tri
-excitations net input state = map (driven3 input state) net
+excitations net input state = map (driver_value3 input state) net
 
 -- the join of two ternary states, variable by variable
 abbrev pub join_each : List Tri → List Tri → List Tri

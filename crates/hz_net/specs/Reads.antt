@@ -3,7 +3,7 @@ use Rattle.std.specs.Prelude.{◌≡◌, ◌≢◌, ℕ, ◌+◌, ◌<◌, ◌�
 use Rattle.hz_core.specs.declared.kind.Kind.{Kind}
 use Rattle.hz_core.specs.Netlist.{Netlist}
 use Rattle.hz_net.specs.Network.{Driver, External, Function, Source, driver_at}
-use Rattle.hz_net.specs.Variables.{variables_of, fan_out_of}
+use Rattle.hz_net.specs.Variables.{variable_kinds, fan_out_of}
 use Rattle.hz_net.specs.declared.variable.VarKind.{VarKind}
 use Rattle.hz_net.specs.declared.variable.VarKind.TheVariants.{Input, Gate as GateVariable, Wire as WireVariable}
 
@@ -27,7 +27,7 @@ readers_by netlist i (Some (WireVariable gate pin source)) = gate ∷ []
 
 -- the readers of variable i of a circuit's network
 abbrev pub readers_of : Netlist → ℕ → List ℕ
-readers_of netlist i = readers_by netlist i (slice_get (variables_of netlist) i)
+readers_of netlist i = readers_by netlist i (slice_get (variable_kinds netlist) i)
 
 -- a wire goes into a gate: it is one of the variables of which the gate's function is taken
 pub record IsWireInto (net : List Driver) (gate wire : ℕ) : Type 0 where

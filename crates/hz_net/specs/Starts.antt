@@ -3,7 +3,7 @@ use Rattle.std.specs.Prelude.{◌≡◌, ℕ, ◌<◌, ◌≤◌, ◌⊎◌, Boo
 use Rattle.hz_core.specs.Gate.{gate_value}
 use Rattle.hz_core.specs.Netlist.{Netlist, IsCutNumber, IsGateNumber, IsPrimaryInput, data_of, gate_at}
 use Rattle.hz_net.specs.Network.{bit_at, network_of, excitation, IsUnstable, IsStable}
-use Rattle.hz_net.specs.Variables.{expanded}
+use Rattle.hz_net.specs.Variables.{expansion_of}
 
 -- bits for a gate's pins that agree with pairs of a node and its bit: at a source that a pair names, the bit is the pair's
 abbrev pub AgreeWith : List (ℕ × Bool) → List ℕ → List Bool → Type 0
@@ -57,7 +57,7 @@ ListsInputs netlist listed =
 pub record IsCompletedStart (netlist : Netlist) (listed : List (Option Bool)) (state : List Bool) : Type 0 where
   pub long : length state ≡ length (network_of netlist)
   pub forced : (node : ℕ) → node < length netlist.names → IsForced netlist listed node (bit_at state node)
-  pub wires : state ≡ expanded netlist (take (length netlist.names) state)
+  pub wires : state ≡ expansion_of netlist (take (length netlist.names) state)
 
 -- a state of the network that is stable under its own inputs: a change may start from it
 pub record IsStableStart (netlist : Netlist) (state : List Bool) : Type 0 where

@@ -7,8 +7,8 @@ use Rattle.hz_net.specs.declared.variable.VarKind.{VarKind}
 use Rattle.hz_net.specs.declared.variable.VarKind.TheVariants.{Input, Gate as GateVariable, Wire as WireVariable}
 
 -- what each variable is: inputs, then gates, then wires by gate and pin
-abbrev pub variables_of : Netlist → List VarKind
-variables_of netlist =
+abbrev pub variable_kinds : Netlist → List VarKind
+variable_kinds netlist =
     map Input (range_with_len 0 netlist.inputs) ++ map (λ gate. GateVariable gate.kind) netlist.gates
     ++ map (λ wire. WireVariable wire.gate wire.pin wire.source) (wires_of netlist)
 
@@ -33,5 +33,5 @@ abbrev pub fan_out_of : Netlist → ℕ → List ℕ
 fan_out_of netlist node = readers_from (length netlist.names) (wires_of netlist) node
 
 -- the state in which each node has a given value and each wire its source's
-abbrev pub expanded : Netlist → List Bool → List Bool
-expanded netlist nodes = nodes ++ map (λ wire. bit_at nodes wire.source) (wires_of netlist)
+abbrev pub expansion_of : Netlist → List Bool → List Bool
+expansion_of netlist nodes = nodes ++ map (λ wire. bit_at nodes wire.source) (wires_of netlist)

@@ -2,9 +2,9 @@
 ghost use Rattle.std.specs.Prelude.{◌≡◌, ◌+◌, ◌<◌, ◌≤◌, ◌↔◌, length, slice_get, slice_range, Some, All, IfOk, IsTrue};
 ghost use Rattle.hz_core.specs.Netlist.{IsCircuit, IsWhole, IsGateNumber, variable_count, gate_at};
 ghost use Rattle.hz_net.specs.Network.{network_of, driver_at, bit_at, excitation, excitation3, IsStable};
-ghost use Rattle.hz_net.specs.Variables.{variables_of, first_wire, fan_out_of, expanded};
+ghost use Rattle.hz_net.specs.Variables.{variable_kinds, first_wire, fan_out_of, expansion_of};
 ghost use Rattle.hz_net.specs.Reads.{readers_of};
-ghost use Rattle.hz_net.specs.Entries.{driver_of, seen_as, IsEntryAt};
+ghost use Rattle.hz_net.specs.Entries.{driver_of, entry_kind, IsEntryAt};
 
 use crate::VarKind;
 use crate::entry::{Entry, list_entries};
@@ -79,7 +79,7 @@ impl Net {
     /// What a variable is.
     pub fn kind_of(&self, var: u32) -> VarKind
         requires { var < length (network_of self.now) }
-        ensures { slice_get (variables_of self.now) var ≡ Some result }
+        ensures { slice_get (variable_kinds self.now) var ≡ Some result }
     {
         match self.entry(var) {
             Entry::Input { number } => VarKind::Input { number },
@@ -170,7 +170,7 @@ impl Net {
     pub fn expand(&self, nodes: &[bool], state: &mut [bool])
         requires nodes { length nodes.now ≡ length self.now.names }
         requires state { length state.old ≡ length (network_of self.now) }
-        ensures { state.new ≡ expanded self.now nodes.now }
+        ensures { state.new ≡ expansion_of self.now nodes.now }
     {
         for var in 0..self.len() {
             state[var as usize] = self.expanded_value(nodes, var);
@@ -195,7 +195,7 @@ impl Net {
     fn expanded_value(&self, nodes: &[bool], var: u32) -> bool
         requires var { var < length (network_of self.now) }
         requires nodes { length nodes.now ≡ length self.now.names }
-        ensures { result ≡ bit_at (expanded self.now nodes.now) var }
+        ensures { result ≡ bit_at (expansion_of self.now nodes.now) var }
     {
         match self.entry(var) {
             Entry::Input { .. } => nodes[var as usize],
@@ -208,7 +208,7 @@ impl Net {
     fn entry(&self, var: u32) -> Entry
         requires { var < length (network_of self.now) }
         ensures driver { driver_at (network_of self.now) var ≡ driver_of result }
-        ensures seen { slice_get (variables_of self.now) var ≡ Some (seen_as result) }
+        ensures seen { slice_get (variable_kinds self.now) var ≡ Some (entry_kind result) }
         ensures place { IsEntryAt self.now var result }
         ensures bound { length (network_of self.now) ≤ 200000 }
         ensures circuit { IsCircuit self.now }

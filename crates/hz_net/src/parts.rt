@@ -1,7 +1,7 @@
 //! Lists that are cut into parts, as many lists are laid into one.
 ghost use Rattle.std.specs.Prelude.{◌≡◌, ◌<◌, ◌≤◌, Some, length, slice_get};
 ghost use Rattle.std.specs.List.{slice_range};
-ghost use Rattle.hz_net.specs.Parts.{parts_from, start_of, EndsAt};
+ghost use Rattle.hz_net.specs.Parts.{parts_from, part_start, EndsAt};
 
 /// The part with a number of a list that is cut at these ends. Parts are numbered from 0, and the first begins at 0.
 pub fn part_at<'a, T>(list: &'a [T], ends: &[usize], number: usize) -> &'a [T]
@@ -17,7 +17,7 @@ pub fn part_at<'a, T>(list: &'a [T], ends: &[usize], number: usize) -> &'a [T]
 // Where a part begins: where the one before it ends.
 fn start_at(ends: &[usize], number: usize) -> usize
     requires { number < length ends.now }
-    ensures { result ≡ start_of 0 ends.now number }
+    ensures { result ≡ part_start 0 ends.now number }
 {
     if number == 0 { 0 } else { ends[number - 1] }
 }

@@ -10,5 +10,5 @@ abbrev pub Rose : ℕ → ℕ → Type 0
 Rose before after = (before < after) ⊎ (last_count ≤ after)
 
 -- a count raised by one, which stays from its last value on
-abbrev pub raised : ℕ → ℕ
-raised count = max count (min (count + 1) last_count)
+abbrev pub count_after : ℕ → ℕ
+count_after count = max count (min (count + 1) last_count)

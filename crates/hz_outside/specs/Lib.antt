@@ -1,22 +1,22 @@
 -- Words, with their arguments, in the order in which one needs them.
 --
--- grown text more: a text that may be known, with more bytes after it
--- GrewByFront was piece now: a prefix of the piece was written, and nothing else
+-- extended_text text more: a text that may be known, with more bytes after it
+-- GrewByPrefix was piece now: a prefix of the piece was written, and nothing else
 -- Rose was now: a count rose, or is at its last value
--- Counts, count_at counts place: a count for each place, which is the first file or the second
--- raised_at counts place: the counts after one more at a place
--- HeldFile, held_in files name: files in memory, and the bytes under a name
+-- Counts, count_for counts place: a count for each place, which is the first file or the second
+-- counts_after counts place: the counts after one more at a place
+-- NamedBytes, contents_of files name: files in memory, and the bytes under a name
 -- MemState, fails_next state: files in memory some of whose loads fail
 -- GivesFile old name most bytes new: a load gave these bytes
 -- GivesNoFile old place name most fault new: a load gave no file
 -- PlainState, GivesPlain, GivesNoPlain: the same for files no load of which fails
--- DiskState, counted state place fault: what is counted of the file system
+-- DiskState, disk_after_fault state place fault: what is counted of the file system
 -- SinkState, put_by state bytes: a sink in memory, some of whose puts fail
 -- PutsLess old bytes fault new: a put that did not write its whole piece
 
 pub mod Counts
 pub mod Places
-pub mod Written
+pub mod WrittenText
 pub mod Shelf
 pub mod MemFiles
 pub mod PlainFiles

@@ -1,6 +1,6 @@
 -- What a sink in memory answers, with puts that fail by number.
 use Rattle.std.specs.Prelude.{◌≡◌, ℕ, ◌==◌, List, [], ◌∷◌, ◌++◌, take, Option, Some, None, IsSomeAnd, if◌then◌else◌}
-use Rattle.hz_outside.specs.Counts.{raised}
+use Rattle.hz_outside.specs.Counts.{count_after}
 use Rattle.hz_outside.specs.declared.fault.PutFault.{PutFault}
 use Rattle.hz_outside.specs.declared.fault.PutFault.TheVariants.{Failed, Memory}
 
@@ -27,14 +27,14 @@ taken_at (put ∷ puts) call = if put.call == call then Some put.taken else take
 
 -- what the next call takes, where it is one that fails
 abbrev pub taken_next : SinkState → Option ℕ
-taken_next state = taken_at state.failing (raised state.calls)
+taken_next state = taken_at state.failing (count_after state.calls)
 
 -- one more call, by which these bytes were written
 abbrev pub put_by : SinkState → List ℕ → SinkState
-put_by state more = record state { bytes = state.bytes ++ more; calls = raised state.calls }
+put_by state more = record state { bytes = state.bytes ++ more; calls = count_after state.calls }
 
 -- a put that gave no success: the listed calls fail after what they take, and want of memory is free
 abbrev pub PutsLess : SinkState → List ℕ → PutFault → SinkState → Type 0
 PutsLess old piece Failed new =
-    IsSomeAnd (taken_next old) (λ taken. new ≡ record (put_by old (take taken piece)) { faults = raised old.faults })
-PutsLess old piece Memory new = new ≡ record old { calls = raised old.calls }
+    IsSomeAnd (taken_next old) (λ taken. new ≡ record (put_by old (take taken piece)) { faults = count_after old.faults })
+PutsLess old piece Memory new = new ≡ record old { calls = count_after old.calls }

@@ -1,6 +1,6 @@
 -- The two places of a load, and a count for each.
 use Rattle.std.specs.Prelude.{ℕ}
-use Rattle.hz_outside.specs.Counts.{raised}
+use Rattle.hz_outside.specs.Counts.{count_after}
 use Rattle.hz_outside.specs.declared.fault.Place.{Place}
 use Rattle.hz_outside.specs.declared.fault.Place.TheVariants.{First, Second}
 
@@ -19,11 +19,11 @@ abbrev pub no_counts : Counts
 no_counts = record { first = 0; second = 0 }
 
 -- the count of a place
-abbrev pub count_at : Counts → Place → ℕ
-count_at counts First = counts.first
-count_at counts Second = counts.second
+abbrev pub count_for : Counts → Place → ℕ
+count_for counts First = counts.first
+count_for counts Second = counts.second
 
 -- the counts after one more at a place
-abbrev pub raised_at : Counts → Place → Counts
-raised_at counts First = record counts { first = raised counts.first }
-raised_at counts Second = record counts { second = raised counts.second }
+abbrev pub counts_after : Counts → Place → Counts
+counts_after counts First = record counts { first = count_after counts.first }
+counts_after counts Second = record counts { second = count_after counts.second }

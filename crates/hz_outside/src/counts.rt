@@ -1,6 +1,6 @@
 //! Counts of faults for each place.
 ghost use Rattle.std.specs.Prelude.{◌≡◌};
-ghost use Rattle.hz_outside.specs.Places.{no_counts, raised_at};
+ghost use Rattle.hz_outside.specs.Places.{no_counts, counts_after};
 
 use super::fault::Place;
 use std::marker::Model;
@@ -32,7 +32,7 @@ impl PlaceCounts {
 
     /// Counts one more at a place.
     pub(crate) fn raise(&mut self, place: Place)
-        ensures { self.new ≡ raised_at self.old place }
+        ensures { self.new ≡ counts_after self.old place }
     {
         match place {
             Place::First => self.first = self.first.saturating_add(1),

@@ -1,6 +1,6 @@
 //! Files of the file system: the trusted edge.
 ghost use Rattle.std.specs.Prelude.{◌≡◌, ◌<◌, ◌≤◌, length, vec_len, IfOk, IfSome, MatchResult};
-ghost use Rattle.hz_outside.specs.DiskFiles.{empty_disk, counted};
+ghost use Rattle.hz_outside.specs.DiskFiles.{empty_disk, disk_after_fault};
 
 use super::counts::PlaceCounts;
 use super::fault::{LoadFault, Place};
@@ -43,7 +43,7 @@ impl<'r, R: rt::Files> DiskFiles<'r, R> {
 
     /// Counts a fault at a place.
     fn count(&mut self, place: Place, fault: LoadFault)
-        ensures { self.new ≡ counted self.old place fault }
+        ensures { self.new ≡ disk_after_fault self.old place fault }
     {
         match fault {
             LoadFault::Failed => self.faults.raise(place),
@@ -55,15 +55,15 @@ impl<'r, R: rt::Files> DiskFiles<'r, R> {
 
 impl<'r, R: rt::Files> Files for DiskFiles<'r, R> {
     ghost use Rattle.std.specs.Prelude.{⊤, None};
-    ghost use Rattle.hz_outside.specs.Places.{count_at};
+    ghost use Rattle.hz_outside.specs.Places.{count_for};
 
     ghost held = { λ _. None };
 
     ghost granted = { λ _ _ _ _. ⊤ };
 
-    ghost faults = { λ files place. count_at files.faults place };
+    ghost faults = { λ files place. count_for files.faults place };
 
-    ghost longs = { λ files place. count_at files.longs place };
+    ghost longs = { λ files place. count_for files.longs place };
 
     /// The bytes of the file, read until a read gives nothing or more than `most` bytes came.
     ///
@@ -77,7 +77,7 @@ impl<'r, R: rt::Files> Files for DiskFiles<'r, R> {
         most: usize,
     ) -> Result<Vec<u8>, LoadFault>
         ensures short { IfOk result (λ file. vec_len file ≤ most) }
-        ensures counts { MatchResult result (λ _. self.new ≡ self.old) (λ fault. self.new ≡ counted self.old place fault) }
+        ensures counts { MatchResult result (λ _. self.new ≡ self.old) (λ fault. self.new ≡ disk_after_fault self.old place fault) }
     {
         let loaded = match fs::open(self.rt, name) {
             Ok(mut file) => read_up_to(alloc, &mut file, most),

@@ -48,16 +48,16 @@ impl PlainFiles {
 
 impl Files for PlainFiles {
     ghost use Rattle.std.specs.Prelude.{⊤, Some};
-    ghost use Rattle.hz_outside.specs.Places.{count_at};
-    ghost use Rattle.hz_outside.specs.Shelf.{held_in};
+    ghost use Rattle.hz_outside.specs.Places.{count_for};
+    ghost use Rattle.hz_outside.specs.Shelf.{contents_of};
 
-    ghost held = { λ files. Some (held_in files.files) };
+    ghost held = { λ files. Some (contents_of files.files) };
 
     ghost granted = { λ _ _ _ _. ⊤ };
 
     ghost faults = { λ _ _. 0 };
 
-    ghost longs = { λ files place. count_at files.longs place };
+    ghost longs = { λ files place. count_for files.longs place };
 
     fn load(
         &mut self,

@@ -1,6 +1,6 @@
 //! Named files in memory.
 ghost use Rattle.std.specs.Prelude.{◌≡◌, [], ◌∷◌, ◌++◌, OnOk, OnErr};
-ghost use Rattle.hz_outside.specs.Shelf.{held_in};
+ghost use Rattle.hz_outside.specs.Shelf.{contents_of};
 
 use super::fault::Memory;
 use std::alloc::Global;
@@ -15,9 +15,9 @@ struct NamedFile {
 
 impl Model for NamedFile {
     ghost use Rattle.std.specs.Prelude.{string_bytes};
-    ghost use Rattle.hz_outside.specs.Shelf.{HeldFile};
+    ghost use Rattle.hz_outside.specs.Shelf.{NamedBytes};
 
-    ghost Value = { HeldFile };
+    ghost Value = { NamedBytes };
 
     ghost view = { λ file. record { name = string_bytes file.name; bytes = file.bytes.items } };
 }
@@ -31,9 +31,9 @@ pub(crate) struct Shelf {
 
 impl Model for Shelf {
     ghost use Rattle.std.specs.Prelude.{List};
-    ghost use Rattle.hz_outside.specs.Shelf.{HeldFile};
+    ghost use Rattle.hz_outside.specs.Shelf.{NamedBytes};
 
-    ghost Value = { List HeldFile };
+    ghost Value = { List NamedBytes };
 
     ghost view = { λ shelf. shelf.files.items };
 }
@@ -67,7 +67,7 @@ impl Shelf {
 
     /// The bytes under a name, none where no file has it.
     pub(crate) fn find(&self, name: &str) -> &[u8]
-        ensures { result.now ≡ held_in self.now name.now }
+        ensures { result.now ≡ contents_of self.now name.now }
     {
         find_in(self.files.as_slice(), name)
     }
@@ -75,7 +75,7 @@ impl Shelf {
 
 /// The bytes of the first file of this name, none where no file has it.
 fn find_in<'a>(files: &'a [NamedFile], name: &str) -> &'a [u8]
-    ensures { result.now ≡ held_in files.now name.now }
+    ensures { result.now ≡ contents_of files.now name.now }
 {
     for file in files {
         if file.name.as_str() == name {

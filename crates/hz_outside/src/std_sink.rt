@@ -1,6 +1,6 @@
 //! Standard output: the trusted edge.
 ghost use Rattle.std.specs.Prelude.{◌≡◌, ◌+◌, ◌≤◌, length, MatchResult};
-ghost use Rattle.hz_outside.specs.Counts.{raised};
+ghost use Rattle.hz_outside.specs.Counts.{count_after};
 
 use super::fault::PutFault;
 use super::sink::Sink;
@@ -52,7 +52,7 @@ impl<'r, R: Print> StdSink<'r, R> {
     pub fn flush(&mut self) -> Result<(), PutFault>
         ensures counts { MatchResult result
             (λ _. self.new ≡ self.old)
-            (λ fault. (fault ≡ PutFault.Failed) × (self.new ≡ raised self.old)) }
+            (λ fault. (fault ≡ PutFault.Failed) × (self.new ≡ count_after self.old)) }
     {
         let written = write_all(self.rt, &self.buffer[..self.held]);
         self.held = 0;
@@ -63,7 +63,7 @@ impl<'r, R: Print> StdSink<'r, R> {
     fn write(&mut self, piece: &[u8]) -> Result<(), PutFault>
         ensures counts { MatchResult result
             (λ _. self.new ≡ self.old)
-            (λ fault. (fault ≡ PutFault.Failed) × (self.new ≡ raised self.old)) }
+            (λ fault. (fault ≡ PutFault.Failed) × (self.new ≡ count_after self.old)) }
     {
         let written = write_all(self.rt, piece);
         self.note(written)
@@ -73,7 +73,7 @@ impl<'r, R: Print> StdSink<'r, R> {
     fn note(&mut self, written: bool) -> Result<(), PutFault>
         ensures counts { MatchResult result
             (λ _. self.new ≡ self.old)
-            (λ fault. (fault ≡ PutFault.Failed) × (self.new ≡ raised self.old)) }
+            (λ fault. (fault ≡ PutFault.Failed) × (self.new ≡ count_after self.old)) }
     {
         if written {
             return Ok(());
@@ -95,7 +95,7 @@ impl<'r, R: Print> Sink for StdSink<'r, R> {
     fn put(&mut self, piece: &[u8]) -> Result<(), PutFault>
         ensures counts { MatchResult result
             (λ _. self.new ≡ self.old)
-            (λ fault. (fault ≡ PutFault.Failed) × (self.new ≡ raised self.old)) }
+            (λ fault. (fault ≡ PutFault.Failed) × (self.new ≡ count_after self.old)) }
     {
         if piece.len() > GATHERED - self.held {
             self.flush()?;

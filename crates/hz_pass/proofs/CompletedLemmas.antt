@@ -6,10 +6,10 @@ use Rattle.hz_core.specs.declared.tri.Tri.{Tri}
 use Rattle.hz_core.specs.declared.tri.Tri.TheVariants.{Zero, One, Unknown}
 use Rattle.hz_core.specs.Ternary.{tri_of}
 use Rattle.hz_core.specs.Netlist.{Netlist, IsCircuit, IsGateNumber, primary_inputs, variable_count}
-use Rattle.hz_net.specs.Network.{network_of, wires_of, value_at, bit_at, excitation, driven}
-use Rattle.hz_net.specs.Variables.{expanded}
+use Rattle.hz_net.specs.Network.{network_of, wires_of, value_at, bit_at, excitation, driver_value}
+use Rattle.hz_net.specs.Variables.{expansion_of}
 use Rattle.hz_net.specs.Starts.{IsForced, ListsInputs, IsCompletedStart, IsAcceptedStart, IsLeastOpen, IsLeastUnstable}
-use Rattle.hz_net.proofs.Places.{no_wire, length-network_of, length-expanded, bit_at-expanded-node, bit_at-expanded-wire, driver_at-input, driver_at-wire}
+use Rattle.hz_net.proofs.Places.{no_wire, length-network_of, length-expansion_of, bit_at-expansion_of-node, bit_at-expansion_of-wire, driver_at-input, driver_at-wire}
 use Rattle.hz_net.proofs.Derivations.{forced-listed}
 use Rattle.hz_net.proofs.Wires.{IsWireFrom-node}
 use Rattle.hz_pass.specs.Forcing.{AreForcedValues}
@@ -56,7 +56,7 @@ module _ (netlist : Netlist) (listed : List (Option Bool)) (values : List Tri) (
       }
 
   -- where no node is X, each node's bit and each wire's source make the completed start
-  pub completed-start : (state : List Bool) → ((node : ℕ) → primary_inputs netlist ≤ node → node < length netlist.names → value_at values node ≢ Unknown) → state ≡ expanded netlist (map bit_or_zero (take (length netlist.names) values)) → IsCompletedStart netlist listed state
+  pub completed-start : (state : List Bool) → ((node : ℕ) → primary_inputs netlist ≤ node → node < length netlist.names → value_at values node ≢ Unknown) → state ≡ expansion_of netlist (map bit_or_zero (take (length netlist.names) values)) → IsCompletedStart netlist listed state
   completed-start state known made =
       let names = length netlist.names in
       let nodes = map bit_or_zero (take names values) in
@@ -65,18 +65,18 @@ module _ (netlist : Netlist) (listed : List (Option Bool)) (values : List Tri) (
       length-map (take names values) bit_or_zero ∙ (length-take names values ∙ omega (arith, values_long, length-network_of netlist circuit)) in
       let front : take names state ≡ nodes = ap (take names) made ∙ take_at nodes (map (λ wire. bit_at nodes wire.source) (wires_of netlist)) names nodes_long in
       record {
-        long = ap length made ∙ length-expanded netlist nodes circuit nodes_long;
+        long = ap length made ∙ length-expansion_of netlist nodes circuit nodes_long;
         forced = λ node few.
             let bit : bit_at state node ≡ bit_or_zero (value_at values node) =
             ap (λ (s : List Bool). bit_at s node) made ∙
-            (bit_at-expanded-node netlist nodes node nodes_long few ∙
+            (bit_at-expansion_of-node netlist nodes node nodes_long few ∙
             (get_or-map bit_or_zero (take names values) node Zero false (omega (arith, few, nodes_long, length-map (take names values) bit_or_zero)) ∙
             ap bit_or_zero (get_or-take names values node Zero few))) in
             subst (IsForced netlist listed node) (sym bit) (node-forced node few (elim (cases_lt node (primary_inputs netlist)) [
               | inl input ↦ input-known node input
               | inr beyond ↦ known node beyond few
             ]));
-        wires = made ∙ ap (expanded netlist) (sym front);
+        wires = made ∙ ap (expansion_of netlist) (sym front);
       }
 
 -- a completed start in which each gate is stable is accepted
@@ -89,7 +89,7 @@ accepted-start netlist listed state circuit completed gates =
     record {
       completed = completed;
       stable = λ i inside. elim (cases_lt i netlist.inputs) [
-        | inl input ↦ sym (ap (driven (take netlist.inputs state) state) (driver_at-input netlist i circuit input) ∙ get_or-take netlist.inputs state i false input)
+        | inl input ↦ sym (ap (driver_value (take netlist.inputs state) state) (driver_at-input netlist i circuit input) ∙ get_or-take netlist.inputs state i false input)
         | inr beyond ↦ elim (cases_lt i names) [
           | inl node ↦ gates i (beyond, node)
           | inr wire ↦ (
@@ -97,9 +97,9 @@ accepted-start netlist listed state circuit completed gates =
               let source = (get_or (wires_of netlist) (i - names) no_wire).source in
               let is_node : source < names = IsWireFrom-node netlist i source circuit (record { above = wire; below = below; source = refl }) in
               ap (λ (s : List Bool). bit_at s i) completed.wires ∙
-              (bit_at-expanded-wire netlist nodes i nodes_long wire below ∙
+              (bit_at-expansion_of-wire netlist nodes i nodes_long wire below ∙
               (get_or-take names state source false is_node ∙
-              sym (ap (driven (take netlist.inputs state) state) (driver_at-wire netlist i circuit wire below))))
+              sym (ap (driver_value (take netlist.inputs state) state) (driver_at-wire netlist i circuit wire below))))
               )
         ]
       ];

@@ -6,7 +6,7 @@ use Rattle.std.proofs.lemmas.List.{take_all, drop_all, append-nil, map-set, get_
 use Rattle.std.proofs.lemmas.List.Elements.{All-nil, All-push, Contains-append_left, Contains-push}
 use Rattle.hz_core.specs.Netlist.{Netlist, IsCircuit, IsCutNumber, primary_inputs, data_of}
 use Rattle.hz_core.proofs.CircuitLemmas.{data_of-node}
-use Rattle.hz_pass.specs.CutLists.{cuts_at, IsDataOf, AreFiled, AreByData}
+use Rattle.hz_pass.specs.CutLists.{cuts_at, IsDataOf, AreDataCutsBelow, AreByData}
 
 -- what a push into one list makes of all
 pub filed-push :
@@ -25,7 +25,7 @@ none_at zero node = refl
 none_at (suc count) zero = refl
 none_at (suc count) (suc node) = none_at count node
 
-pub filed-begin : (netlist : Netlist) (lists : List (List ℕ)) (first : ℕ) → lists ≡ replicate (length netlist.names) [] → first ≡ primary_inputs netlist → AreFiled netlist lists first
+pub filed-begin : (netlist : Netlist) (lists : List (List ℕ)) (first : ℕ) → lists ≡ replicate (length netlist.names) [] → first ≡ primary_inputs netlist → AreDataCutsBelow netlist lists first
 filed-begin netlist lists first empty is =
     let none : (node : ℕ) → cuts_at lists node ≡ [] = λ node. ap (λ all. cuts_at all node) empty ∙ none_at (length netlist.names) node in
     record {
@@ -35,7 +35,7 @@ filed-begin netlist lists first empty is =
     }
 
 -- a cut without a data node is in no list
-pub filed-none : (netlist : Netlist) (lists : List (List ℕ)) (cut : ℕ) → data_of netlist cut ≡ None → AreFiled netlist lists cut → AreFiled netlist lists (cut + 1)
+pub filed-none : (netlist : Netlist) (lists : List (List ℕ)) (cut : ℕ) → data_of netlist cut ≡ None → AreDataCutsBelow netlist lists cut → AreDataCutsBelow netlist lists (cut + 1)
 filed-none netlist lists cut none was =
     record {
       long = was.long;
@@ -47,7 +47,7 @@ filed-none netlist lists cut none was =
     }
 
 -- the next cut goes into the list of its data node
-pub filed-more : (netlist : Netlist) (lists new : List (List ℕ)) (node cut : ℕ) → IsDataOf netlist node cut → node < length lists → new ≡ set lists node (cuts_at lists node ++ cut ∷ []) → AreFiled netlist lists cut → AreFiled netlist new (cut + 1)
+pub filed-more : (netlist : Netlist) (lists new : List (List ℕ)) (node cut : ℕ) → IsDataOf netlist node cut → node < length lists → new ≡ set lists node (cuts_at lists node ++ cut ∷ []) → AreDataCutsBelow netlist lists cut → AreDataCutsBelow netlist new (cut + 1)
 filed-more netlist lists new node cut is inside made was =
     let list = cuts_at lists node ++ cut ∷ [] in
     let here : cuts_at new node ≡ list = ap (λ all. cuts_at all node) made ∙ get_or-set_same lists node list [] inside in
@@ -73,7 +73,7 @@ filed-more netlist lists new node cut is inside made was =
     }
 
 -- where all cuts were filed, they are by their data nodes
-pub by_data-filed : (netlist : Netlist) (listed : List (Option Bool)) (lists : List (List ℕ)) → AreFiled netlist lists netlist.inputs → AreByData netlist listed lists
+pub by_data-filed : (netlist : Netlist) (listed : List (Option Bool)) (lists : List (List ℕ)) → AreDataCutsBelow netlist lists netlist.inputs → AreByData netlist listed lists
 by_data-filed netlist listed lists filed =
     record { sound = filed.sound; complete = λ node cut is unlisted. filed.complete node cut is is.is_cut.1 }
 

@@ -22,7 +22,7 @@ use Rattle.hz_net.proofs.Derivations.{AreForced, IsClosed, forced_once, forced-l
 use Rattle.hz_net.proofs.Wires.{IsWireFrom, IsWireFrom-driver_at, IsWireFrom-node, Contains-fan_out_of, length-at_wires, get_or-at_wires}
 use Rattle.hz_core.proofs.CircuitLemmas.{data_of-node}
 use Rattle.hz_pass.specs.CutLists.{IsDataOf}
-use Rattle.hz_pass.specs.Forcing.{listed_value, IsListed, gate_extension, SetsNode, ForcedSoFar, AreForcedValues}
+use Rattle.hz_pass.specs.Forcing.{listed_value, HasListedValues, gate_extension, SetsNode, ForcedSoFar, AreForcedValues}
 use Rattle.hz_pass.proofs.Places.{same-values}
 use Rattle.hz_pass.proofs.AllOpen.{extension-unknown}
 
@@ -74,7 +74,7 @@ module _ (netlist : Netlist) (listed : List (Option Bool)) (circuit : IsCircuit 
   listed-node node entry e = let inside : node < length listed = slice_get_within listed node entry e in omega arith
 
   -- before any value is carried on: the listed values are set, and their nodes wait
-  pub forced-begin : (values : List Tri) (waiting : List ℕ) → IsWhole netlist → length values ≡ length (network_of netlist) → IsListed listed values waiting → ForcedSoFar netlist listed values waiting [] [] []
+  pub forced-begin : (values : List Tri) (waiting : List ℕ) → IsWhole netlist → length values ≡ length (network_of netlist) → HasListedValues listed values waiting → ForcedSoFar netlist listed values waiting [] [] []
   forced-begin values waiting whole long set_values =
       let inside : (node : ℕ) → node < length netlist.names → node < length values = λ node few. omega (arith, few, long, length-network_of netlist circuit) in
       let given : (node : ℕ) (bit : Bool) → slice_get listed node ≡ Some (Some bit) → value_at values node ≡ tri_of bit =

@@ -3,7 +3,7 @@ pub mod Values
 pub mod Evaluations
 pub mod WholeRounds
 pub mod PassLoop
-pub mod TakenOver
+pub mod ChangedValues
 pub mod StepCounts
 pub mod PassResults
 pub mod ForcingLoop

@@ -8,7 +8,7 @@ use Rattle.std.proofs.lemmas.List.Elements.{All-nil, All-push, Contains-append_l
 use Rattle.hz_core.specs.declared.tri.Tri.{Tri}
 use Rattle.hz_core.specs.declared.tri.Tri.TheVariants.{Zero, Unknown}
 use Rattle.hz_core.specs.Ternary.{tri_of}
-use Rattle.hz_pass.specs.Forcing.{listed_value, IsListed}
+use Rattle.hz_pass.specs.Forcing.{listed_value, HasListedValues}
 use Rattle.hz_net.specs.Network.{value_at}
 
 -- what is known after the first nodes
@@ -81,7 +81,7 @@ listed-some listed values waiting count bit so_far entry =
       are_listed = All-push (λ (node : ℕ). (b : Bool) × (slice_get listed node ≡ Some (Some b))) waiting count so_far.are_listed (bit, entry);
     }
 
-pub listed-end : (listed : List (Option Bool)) (values : List Tri) (waiting : List ℕ) (count : ℕ) → ListedSoFar listed values waiting count → length listed ≤ count → IsListed listed values waiting
+pub listed-end : (listed : List (Option Bool)) (values : List Tri) (waiting : List ℕ) (count : ℕ) → ListedSoFar listed values waiting count → length listed ≤ count → HasListedValues listed values waiting
 listed-end listed values waiting count so_far end =
     record {
       values_are = λ var inside. elim (cases_lt var count) [

@@ -5,7 +5,7 @@ use Rattle.hz_core.specs.declared.tri.Tri.{Tri}
 use Rattle.hz_net.specs.Network.{Driver, value_at, excitation3}
 use Rattle.hz_net.specs.Passes.{AreRounds, IsFirstRound}
 use Rattle.hz_pass.specs.declared.round.Rule.{Rule}
-use Rattle.hz_pass.specs.Frontier.{next_value, next_state, states_of, AreFirstRounds, Falls, is_open, open_weight, IsRound}
+use Rattle.hz_pass.specs.Frontier.{next_value, next_state, round_states, AreFirstRounds, Falls, is_open, open_weight, IsRound}
 use Rattle.hz_pass.proofs.Values.{same-or-differ, falls-at, falls-after, length-next_state, at-next_state, closes, open_weight-ones, sum_by-ones}
 
 -- what a round leaves noted of variable i: its number where it changed the variable, else what was noted
@@ -16,30 +16,30 @@ pub record IsNotedAfter (number : ℕ) (state next : List Tri) (i before after :
 -- what is known after some rounds, each of which changed something
 pub record PassSoFar
     (rule : Rule) (net : List Driver) (input : List Bool) (first : List Tri) (round : ℕ) (state : List Tri) (noted : List ℕ) : Type 0 where
-  pub now : state ≡ states_of rule net input first round
-  pub least : (k : ℕ) → 1 ≤ k → k ≤ round → states_of rule net input first k ≢ states_of rule net input first (k - 1)
+  pub now : state ≡ round_states rule net input first round
+  pub least : (k : ℕ) → 1 ≤ k → k ≤ round → round_states rule net input first k ≢ round_states rule net input first (k - 1)
   pub few : round + open_weight rule (λ i. 1) state ≤ length net
-  pub firsts : AreFirstRounds (states_of rule net input first) state noted
+  pub firsts : AreFirstRounds (round_states rule net input first) state noted
 
 module _
     (rule : Rule) (net : List Driver) (input : List Bool) (first : List Tri) (long : length first ≡ length net)
     (falls : Falls rule net input first) where
-  pub length-states : (round : ℕ) → length (states_of rule net input first round) ≡ length net
+  pub length-states : (round : ℕ) → length (round_states rule net input first round) ≡ length net
   length-states zero = long
-  length-states (suc round) = length-next_state rule net input (states_of rule net input first round) (length-states round)
+  length-states (suc round) = length-next_state rule net input (round_states rule net input first round) (length-states round)
 
-  falls-states : (round : ℕ) → Falls rule net input (states_of rule net input first round)
+  falls-states : (round : ℕ) → Falls rule net input (round_states rule net input first round)
   falls-states zero = falls
   falls-states (suc round) =
-      falls-after rule net input (states_of rule net input first round) (states_of rule net input first (suc round)) refl (falls-states round)
+      falls-after rule net input (round_states rule net input first round) (round_states rule net input first (suc round)) refl (falls-states round)
 
   -- a variable that can't change keeps its value
   closed-next :
-      (i round : ℕ) → i < length net → is_open rule (value_at (states_of rule net input first round) i) ≡ false →
-      value_at (states_of rule net input first (suc round)) i ≡ value_at (states_of rule net input first round) i
+      (i round : ℕ) → i < length net → is_open rule (value_at (round_states rule net input first round) i) ≡ false →
+      value_at (round_states rule net input first (suc round)) i ≡ value_at (round_states rule net input first round) i
   closed-next i round inside closed =
-      let state = states_of rule net input first round in
-      elim (same-or-differ (value_at (states_of rule net input first (suc round)) i) (value_at state i)) [
+      let state = round_states rule net input first round in
+      elim (same-or-differ (value_at (round_states rule net input first (suc round)) i) (value_at state i)) [
         | inl e ↦ e
         | inr differ ↦ (
             let changes : next_value rule (value_at state i) (excitation3 net input state i) ≢ value_at state i =
@@ -49,21 +49,21 @@ module _
       ]
 
   closed-on :
-      (i round more : ℕ) → i < length net → is_open rule (value_at (states_of rule net input first round) i) ≡ false →
-      value_at (states_of rule net input first (more + round)) i ≡ value_at (states_of rule net input first round) i
+      (i round more : ℕ) → i < length net → is_open rule (value_at (round_states rule net input first round) i) ≡ false →
+      value_at (round_states rule net input first (more + round)) i ≡ value_at (round_states rule net input first round) i
   closed-on i round zero inside closed =
-      ap (λ (n : ℕ). value_at (states_of rule net input first n) i) (let same : zero + round ≡ round = omega arith in same)
+      ap (λ (n : ℕ). value_at (round_states rule net input first n) i) (let same : zero + round ≡ round = omega arith in same)
   closed-on i round (suc more) inside closed =
       let earlier = closed-on i round more inside closed in
-      ap (λ (n : ℕ). value_at (states_of rule net input first n) i) (let same : suc more + round ≡ suc (more + round) = omega arith in same)
+      ap (λ (n : ℕ). value_at (round_states rule net input first n) i) (let same : suc more + round ≡ suc (more + round) = omega arith in same)
       ∙ (closed-next i (more + round) inside (ap (is_open rule) earlier ∙ closed) ∙ earlier)
 
   pub closed-later :
       (i round later : ℕ) → i < length net → round ≤ later →
-      is_open rule (value_at (states_of rule net input first round) i) ≡ false →
-      value_at (states_of rule net input first later) i ≡ value_at (states_of rule net input first round) i
+      is_open rule (value_at (round_states rule net input first round) i) ≡ false →
+      value_at (round_states rule net input first later) i ≡ value_at (round_states rule net input first round) i
   closed-later i round later inside order closed =
-      ap (λ (n : ℕ). value_at (states_of rule net input first n) i) (let sum : later ≡ (later - round) + round = omega (arith, order) in sum)
+      ap (λ (n : ℕ). value_at (round_states rule net input first n) i) (let sum : later ≡ (later - round) + round = omega (arith, order) in sum)
       ∙ closed-on i round (later - round) inside closed
 
 module _
@@ -94,16 +94,16 @@ module _
     few = omega (arith, open_weight-ones rule 0 first, long);
     firsts = record {
       long = noted_long ∙ sym long;
-      each = λ i inside. subst (λ (n : ℕ). IsFirstRound (states_of rule net input first) i (λ value. value ≡ value_at first i) n) (sym (none i))
+      each = λ i inside. subst (λ (n : ℕ). IsFirstRound (round_states rule net input first) i (λ value. value ≡ value_at first i) n) (sym (none i))
           (record { there = refl; least = λ k early e. absurd (omega (arith, early)) });
     };
   }
 
   -- the round that changes a variable is the first with its new value
   first-changed :
-      (i round : ℕ) (state next : List Tri) (changed : List ℕ) → i < length net → state ≡ states_of rule net input first round →
+      (i round : ℕ) (state next : List Tri) (changed : List ℕ) → i < length net → state ≡ round_states rule net input first round →
       IsRound rule net input state next changed → value_at next i ≢ value_at state i →
-      IsFirstRound (states_of rule net input first) i (λ value. value ≡ value_at next i) (suc round)
+      IsFirstRound (round_states rule net input first) i (λ value. value ≡ value_at next i) (suc round)
   first-changed i round state next changed inside now made differ =
       let state_long : length state ≡ length net = ap (length {A = Tri}) now ∙ length-states rule net input first long falls round in
       let is : value_at next i ≡ next_value rule (value_at state i) (excitation3 net input state i) =
@@ -125,7 +125,7 @@ module _
       ((i : ℕ) → i < length net → IsNotedAfter (suc round) state next i (slice_index noted i) (slice_index after i)) →
       PassSoFar rule net input first (suc round) next after
   pass-step round state next changed noted after so_far made differ some after_long each =
-      let now : next ≡ states_of rule net input first (suc round) = made.made ∙ ap (next_state rule net input) so_far.now in
+      let now : next ≡ round_states rule net input first (suc round) = made.made ∙ ap (next_state rule net input) so_far.now in
       let state_long : length state ≡ length net = pass-long so_far in
       let next_long : length next ≡ length net = ap (length {A = Tri}) now ∙ length-states rule net input first long falls (suc round) in
       record {
@@ -133,9 +133,9 @@ module _
         least = λ k once few. elim (cases_lt round k) [
           | inl last ↦ (λ e. differ (
               so_far.now ∙
-              (ap (states_of rule net input first) (let same : round ≡ k - 1 = omega (arith, last, few) in same) ∙
+              (ap (round_states rule net input first) (let same : round ≡ k - 1 = omega (arith, last, few) in same) ∙
               (sym e ∙
-              (ap (states_of rule net input first) (let same : k ≡ suc round = omega (arith, last, few) in same) ∙ sym now)))
+              (ap (round_states rule net input first) (let same : k ≡ suc round = omega (arith, last, few) in same) ∙ sym now)))
               ))
           | inr early ↦ so_far.least k once early
         ];
@@ -146,9 +146,9 @@ module _
               let inside : i < length net = omega (arith, few, next_long) in
               let here : i < length state = omega (arith, inside, state_long) in
               elim (same-or-differ (value_at next i) (value_at state i)) [
-                | inl same ↦ subst (λ (n : ℕ). IsFirstRound (states_of rule net input first) i (λ value. value ≡ value_at next i) n) (sym ((each i inside).same same))
-                    (subst (λ (v : Tri). IsFirstRound (states_of rule net input first) i (λ value. value ≡ v) (slice_index noted i)) (sym same) (so_far.firsts.each i here))
-                | inr other ↦ subst (λ (n : ℕ). IsFirstRound (states_of rule net input first) i (λ value. value ≡ value_at next i) n) (sym ((each i inside).changed other))
+                | inl same ↦ subst (λ (n : ℕ). IsFirstRound (round_states rule net input first) i (λ value. value ≡ value_at next i) n) (sym ((each i inside).same same))
+                    (subst (λ (v : Tri). IsFirstRound (round_states rule net input first) i (λ value. value ≡ v) (slice_index noted i)) (sym same) (so_far.firsts.each i here))
+                | inr other ↦ subst (λ (n : ℕ). IsFirstRound (round_states rule net input first) i (λ value. value ≡ value_at next i) n) (sym ((each i inside).changed other))
                     (first-changed i round state next changed inside so_far.now made other)
               ];
         };
@@ -173,13 +173,13 @@ module _
   pub pass-done :
       {number : ℕ} {state next : List Tri} {changed noted : List ℕ} → 1 ≤ number →
       PassSoFar rule net input first (number - 1) state noted → IsRound rule net input state next changed → state ≡ next →
-      AreRounds (states_of rule net input first) number × (state ≡ states_of rule net input first number) ×
+      AreRounds (round_states rule net input first) number × (state ≡ round_states rule net input first number) ×
       (number ≤ length net + 1)
   pass-done {number} {state} {next} one so_far made same =
       let round = number - 1 in
       let last : number ≡ suc round = omega (arith, one) in
-      let now : next ≡ states_of rule net input first number =
-      made.made ∙ (ap (next_state rule net input) so_far.now ∙ ap (states_of rule net input first) (sym last)) in (
+      let now : next ≡ round_states rule net input first number =
+      made.made ∙ (ap (next_state rule net input) so_far.now ∙ ap (round_states rule net input first) (sym last)) in (
         record {
           some = one;
           settled = sym now ∙ (sym same ∙ so_far.now);

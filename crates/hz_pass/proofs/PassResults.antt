@@ -8,7 +8,7 @@ use Rattle.hz_net.specs.Network.{Driver, value_at}
 use Rattle.hz_net.specs.Passes.{excitations, algorithm_a, algorithm_b, AreRounds, IsFirstRound, IsKnown, IsRank, IsSettlingRound, AreRanks, AreSettlingRounds}
 use Rattle.hz_net.proofs.Ranks.{unknown-or-start, at-tri_of}
 use Rattle.hz_pass.specs.declared.round.Rule.TheVariants.{Join, Replace}
-use Rattle.hz_pass.specs.Frontier.{next_state, states_of, AreFirstRounds, is_open}
+use Rattle.hz_pass.specs.Frontier.{next_state, round_states, AreFirstRounds, is_open}
 use Rattle.hz_pass.proofs.PassLoop.{length-states, closed-later}
 
 -- sequences with the same states have the same rounds
@@ -42,21 +42,21 @@ first-zero {first = first} begins is = elim (cases_lt 0 first) [
 
 states-a :
     (net : List Driver) (input start : List Bool) (round : ℕ) →
-    states_of Join net input (map tri_of start) round ≡ algorithm_a net input start round
+    round_states Join net input (map tri_of start) round ≡ algorithm_a net input start round
 states-a net input start zero = refl
 states-a net input start (suc round) = ap (next_state Join net input) (states-a net input start round)
 
 pub rounds-a :
     (net : List Driver) (input start : List Bool) (first : List Tri) (rounds : ℕ) → first ≡ map tri_of start →
-    AreRounds (states_of Join net input first) rounds → AreRounds (algorithm_a net input start) rounds
+    AreRounds (round_states Join net input first) rounds → AreRounds (algorithm_a net input start) rounds
 rounds-a net input start first rounds begun are =
-    rounds-same (states-a net input start) (subst (λ (values : List Tri). AreRounds (states_of Join net input values) rounds) begun are)
+    rounds-same (states-a net input start) (subst (λ (values : List Tri). AreRounds (round_states Join net input values) rounds) begun are)
 
 pub result-a :
     (net : List Driver) (input start : List Bool) (first result : List Tri) (rounds : ℕ) → first ≡ map tri_of start →
-    result ≡ states_of Join net input first rounds → result ≡ algorithm_a net input start rounds
+    result ≡ round_states Join net input first rounds → result ≡ algorithm_a net input start rounds
 result-a net input start first result rounds begun is =
-    is ∙ (ap (λ (values : List Tri). states_of Join net input values rounds) begun ∙ states-a net input start rounds)
+    is ∙ (ap (λ (values : List Tri). round_states Join net input values rounds) begun ∙ states-a net input start rounds)
 
 module _ (net : List Driver) (input start : List Bool) (long : length start ≡ length net) where
   -- what is known in a state is known from the beginning
@@ -77,12 +77,12 @@ module _ (net : List Driver) (input start : List Bool) (long : length start ≡ 
   rank-is i rounds rank Unknown is first = first
 
   pub ranks-a :
-      (first result : List Tri) (ranks : List ℕ) (rounds : ℕ) → first ≡ map tri_of start → result ≡ states_of Join net input first rounds →
-      AreFirstRounds (states_of Join net input first) result ranks → AreRanks (algorithm_a net input start) result ranks
+      (first result : List Tri) (ranks : List ℕ) (rounds : ℕ) → first ≡ map tri_of start → result ≡ round_states Join net input first rounds →
+      AreFirstRounds (round_states Join net input first) result ranks → AreRanks (algorithm_a net input start) result ranks
   ranks-a first result ranks rounds begun is are =
       let now = result-a net input start first result rounds begun is in
-      let firsts : AreFirstRounds (states_of Join net input (map tri_of start)) result ranks =
-      subst (λ (values : List Tri). AreFirstRounds (states_of Join net input values) result ranks) begun are in
+      let firsts : AreFirstRounds (round_states Join net input (map tri_of start)) result ranks =
+      subst (λ (values : List Tri). AreFirstRounds (round_states Join net input values) result ranks) begun are in
       record {
         long = firsts.long;
         each = λ i inside.
@@ -94,18 +94,18 @@ module _ (net : List Driver) (input start : List Bool) (long : length start ≡ 
 
 states-b :
     (net : List Driver) (input : List Bool) (first : List Tri) (round : ℕ) →
-    states_of Replace net input first round ≡ algorithm_b net input first round
+    round_states Replace net input first round ≡ algorithm_b net input first round
 states-b net input first zero = refl
 states-b net input first (suc round) = ap (excitations net input) (states-b net input first round)
 
 pub rounds-b :
     (net : List Driver) (input : List Bool) (first : List Tri) (rounds : ℕ) →
-    AreRounds (states_of Replace net input first) rounds → AreRounds (algorithm_b net input first) rounds
+    AreRounds (round_states Replace net input first) rounds → AreRounds (algorithm_b net input first) rounds
 rounds-b net input first rounds are = rounds-same (states-b net input first) are
 
 pub result-b :
     (net : List Driver) (input : List Bool) (first result : List Tri) (rounds : ℕ) →
-    result ≡ states_of Replace net input first rounds → result ≡ algorithm_b net input first rounds
+    result ≡ round_states Replace net input first rounds → result ≡ algorithm_b net input first rounds
 result-b net input first result rounds is = is ∙ states-b net input first rounds
 
 module _
@@ -113,16 +113,16 @@ module _
     (below : AllBelow (excitations net input first) first) (i rounds : ℕ) (inside : i < length net) where
   -- a variable that is known in some round keeps its value
   known-stays :
-      (k : ℕ) (value : Tri) → value_at (states_of Replace net input first k) i ≡ value → k ≤ rounds →
-      is_open Replace value ≡ false → value_at (states_of Replace net input first rounds) i ≡ value
+      (k : ℕ) (value : Tri) → value_at (round_states Replace net input first k) i ≡ value → k ≤ rounds →
+      is_open Replace value ≡ false → value_at (round_states Replace net input first rounds) i ≡ value
   known-stays k value is order closed =
       closed-later Replace net input first long below i k rounds inside order (ap (is_open Replace) is ∙ closed) ∙ is
 
   -- the first round with a known value is the first in which the variable is known
   first-known :
-      (value : Tri) (round : ℕ) → value_at (states_of Replace net input first rounds) i ≡ value →
-      is_open Replace value ≡ false → IsFirstRound (states_of Replace net input first) i (λ v. v ≡ value) round →
-      IsFirstRound (states_of Replace net input first) i IsKnown round
+      (value : Tri) (round : ℕ) → value_at (round_states Replace net input first rounds) i ≡ value →
+      is_open Replace value ≡ false → IsFirstRound (round_states Replace net input first) i (λ v. v ≡ value) round →
+      IsFirstRound (round_states Replace net input first) i IsKnown round
   first-known value round is closed firsts = record {
     there = λ unknown. known value closed (sym firsts.there ∙ unknown);
     least = λ k early known_then.
@@ -130,7 +130,7 @@ module _
           | inl late ↦ absurd (firsts.least rounds late is)
           | inr early_enough ↦ omega (arith, early, early_enough)
         ] in
-        let then = value_at (states_of Replace net input first k) i in
+        let then = value_at (round_states Replace net input first k) i in
         firsts.least k early (sym (known-stays k then refl order (closed-known then known_then)) ∙ is);
   }
     where
@@ -146,9 +146,9 @@ module _
 
   settling-is :
       (begun value : Tri) (round : ℕ) → value_at first i ≡ begun →
-      value_at (states_of Replace net input first rounds) i ≡ value →
-      IsFirstRound (states_of Replace net input first) i (λ v. v ≡ value) round →
-      IsSettlingRound (states_of Replace net input first) i begun value round
+      value_at (round_states Replace net input first rounds) i ≡ value →
+      IsFirstRound (round_states Replace net input first) i (λ v. v ≡ value) round →
+      IsSettlingRound (round_states Replace net input first) i begun value round
   settling-is Unknown Zero round begins is firsts = first-known Zero round is refl firsts
   settling-is Unknown One round begins is firsts = first-known One round is refl firsts
   settling-is Unknown Unknown round begins is firsts = first-zero begins firsts
@@ -166,8 +166,8 @@ settling-same i One value round same is = is
 
 pub settling-b :
     (net : List Driver) (input : List Bool) (first result : List Tri) (noted : List ℕ) (rounds : ℕ) → length first ≡ length net →
-    AllBelow (excitations net input first) first → result ≡ states_of Replace net input first rounds →
-    AreFirstRounds (states_of Replace net input first) result noted → AreSettlingRounds (algorithm_b net input first) first result noted
+    AllBelow (excitations net input first) first → result ≡ round_states Replace net input first rounds →
+    AreFirstRounds (round_states Replace net input first) result noted → AreSettlingRounds (algorithm_b net input first) first result noted
 settling-b net input first result noted rounds long below is are =
     let result_long : length result ≡ length net = ap (length {A = Tri}) is ∙ length-states Replace net input first long below rounds in
     record {

@@ -10,7 +10,7 @@ use Rattle.hz_net.specs.Variables.{readers_from, fan_out_of}
 use Rattle.hz_net.proofs.Places.{length-network_of, length-wires_of}
 use Rattle.hz_net.proofs.Readers.{node-readers, wire-readers}
 use Rattle.hz_pass.specs.declared.round.Rule.{Rule}
-use Rattle.hz_pass.specs.Changes.{is_change, change_count}
+use Rattle.hz_pass.specs.Changes.{is_change, differing_count}
 use Rattle.hz_pass.specs.Frontier.{is_open, open_weight_from, open_weight, reader_count, IsRound}
 
 -- the sum of a function over so many numbers from one on
@@ -176,10 +176,10 @@ module _
   }
 
 -- no more variables change than there are
-pub change_count-le : (values others : List Tri) → change_count values others ≤ length values
-change_count-le [] others = omega arith
-change_count-le (value ∷ values) [] = omega arith
-change_count-le (value ∷ values) (other ∷ others) = omega (arith, at-most (is_change value other), change_count-le values others)
+pub differing_count-le : (values others : List Tri) → differing_count values others ≤ length values
+differing_count-le [] others = omega arith
+differing_count-le (value ∷ values) [] = omega arith
+differing_count-le (value ∷ values) (other ∷ others) = omega (arith, at-most (is_change value other), differing_count-le values others)
   where
     at-most : (b : Bool) → cond b 1 0 ≤ 1
     at-most true = omega arith

@@ -5,7 +5,7 @@ use Rattle.hz_core.specs.declared.tri.Tri.{Tri}
 use Rattle.hz_core.specs.Netlist.{Netlist, IsCircuit}
 use Rattle.hz_net.specs.Network.{Driver, network_of, driver_at, value_at, excitation3}
 use Rattle.hz_net.specs.Reads.{readers_of}
-use Rattle.hz_net.proofs.Readers.{driven3-same, reads-reader}
+use Rattle.hz_net.proofs.Readers.{driver_value3-same, reads-reader}
 use Rattle.hz_pass.specs.declared.round.Rule.{Rule}
 use Rattle.hz_pass.specs.Frontier.{next_value, next_state, IsMade, IsQuiet, IsRoundSoFar, IsRound}
 use Rattle.hz_pass.proofs.Places.{same-values}
@@ -33,7 +33,7 @@ quiet-after {rule} {net} {input} {state} {next} {changed} long round =
     λ i inside none.
     let next_long : length next ≡ length state = ap (length {A = Tri}) round.made ∙ (length-next_state rule net input state long ∙ sym long) in
     let same : excitation3 net input next i ≡ excitation3 net input state i =
-    driven3-same input next state (driver_at net i) next_long (λ source reads. elim (same-or-differ (value_at next source) (value_at state source)) [
+    driver_value3-same input next state (driver_at net i) next_long (λ source reads. elim (same-or-differ (value_at next source) (value_at state source)) [
       | inl e ↦ e
       | inr differ ↦ absurd (none source (round.lists.every source differ) reads)
     ]) in

@@ -16,7 +16,7 @@ is_change Unknown One = true
 is_change Unknown Unknown = false
 
 -- the number of variables whose values in two states differ
-abbrev pub change_count : List Tri → List Tri → ℕ
-change_count [] others = 0
-change_count (value ∷ values) [] = 0
-change_count (value ∷ values) (other ∷ others) = (if is_change value other then 1 else 0) + change_count values others
+abbrev pub differing_count : List Tri → List Tri → ℕ
+differing_count [] others = 0
+differing_count (value ∷ values) [] = 0
+differing_count (value ∷ values) (other ∷ others) = (if is_change value other then 1 else 0) + differing_count values others

@@ -13,7 +13,7 @@ pub record IsDataOf (netlist : Netlist) (node cut : ℕ) : Type 0 where
   pub is_data : data_of netlist cut ≡ Some node
 
 -- the cuts below a number stand in the lists of their data nodes, and nothing else does
-pub record AreFiled (netlist : Netlist) (lists : List (List ℕ)) (end : ℕ) : Type 0 where
+pub record AreDataCutsBelow (netlist : Netlist) (lists : List (List ℕ)) (end : ℕ) : Type 0 where
   pub long : length lists ≡ length netlist.names
   pub sound : (node : ℕ) → All (IsDataOf netlist node) (cuts_at lists node)
   pub complete : (node cut : ℕ) → IsDataOf netlist node cut → cut < end → Contains (cuts_at lists node) cut

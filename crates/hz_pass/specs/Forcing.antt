@@ -17,7 +17,7 @@ listed_value (Some None) = Unknown
 listed_value (Some (Some bit)) = tri_of bit
 
 -- the listed values are set, and the nodes that they are given to wait
-pub record IsListed (listed : List (Option Bool)) (values : List Tri) (waiting : List ℕ) : Type 0 where
+pub record HasListedValues (listed : List (Option Bool)) (values : List Tri) (waiting : List ℕ) : Type 0 where
   pub values_are : (var : ℕ) → var < length values → value_at values var ≡ listed_value (slice_get listed var)
   pub wait : (node : ℕ) (bit : Bool) → slice_get listed node ≡ Some (Some bit) → Contains waiting node
   pub are_listed : All (λ node. (bit : Bool) × (slice_get listed node ≡ Some (Some bit))) waiting

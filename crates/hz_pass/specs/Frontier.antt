@@ -21,9 +21,9 @@ next_state Join net input state = join_each state (excitations net input state)
 next_state Replace net input state = excitations net input state
 
 -- the states that rounds make from a first one
-abbrev pub states_of : Rule → List Driver → List Bool → List Tri → ℕ → List Tri
-states_of rule net input first zero = first
-states_of rule net input first (suc round) = next_state rule net input (states_of rule net input first round)
+abbrev pub round_states : Rule → List Driver → List Bool → List Tri → ℕ → List Tri
+round_states rule net input first zero = first
+round_states rule net input first (suc round) = next_state rule net input (round_states rule net input first round)
 
 -- each number is the first round in which a variable has the value that it has in a state
 pub record AreFirstRounds (sequence : ℕ → List Tri) (state : List Tri) (rounds : List ℕ) : Type 0 where
@@ -87,5 +87,5 @@ abbrev pub reader_count : Netlist → ℕ → ℕ
 reader_count netlist i = length (readers_of netlist i)
 
 -- a state in which listed variables have the values that they have in another
-abbrev pub taken_over : List Tri → List Tri → List ℕ → List Tri
-taken_over next state list = fold (λ state i. slice_set state i (value_at next i)) state list
+abbrev pub with_values_of : List Tri → List Tri → List ℕ → List Tri
+with_values_of next state list = fold (λ state i. slice_set state i (value_at next i)) state list

@@ -3,7 +3,7 @@ ghost use Rattle.std.specs.Prelude.{◌≡◌, ◌+◌, ◌*◌, ◌≤◌, leng
 ghost use Rattle.hz_core.specs.Ternary.{tri_of};
 ghost use Rattle.hz_net.specs.Network.{network_of, wires_of};
 ghost use Rattle.hz_net.specs.Passes.{algorithm_a, AreRounds, AreRanks};
-ghost use Rattle.hz_pass.specs.Changes.{change_count};
+ghost use Rattle.hz_pass.specs.Changes.{differing_count};
 
 use crate::front::Front;
 use crate::round::Rule;
@@ -41,7 +41,7 @@ pub fn spread<L: Ledger>(
     ensures rank { AreRanks (algorithm_a (network_of net.now) input.now start.now) out.new rank.new }
     ensures bound { result ≤ length (network_of net.now) + 1 }
     ensures front { front.new ≡ front.old }
-    ensures least_steps { steps.old + change_count (map tri_of start.now) out.new ≤ steps.new }
+    ensures least_steps { steps.old + differing_count (map tri_of start.now) out.new ≤ steps.new }
     ensures most_steps { steps.new ≤ steps.old + (length (network_of net.now) + 2 * length (wires_of net.now)) }
 {
     let _variables = net.len();

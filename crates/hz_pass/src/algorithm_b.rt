@@ -3,7 +3,7 @@ ghost use Rattle.std.specs.Prelude.{◌≡◌, ◌+◌, ◌*◌, ◌≤◌, leng
 ghost use Rattle.hz_core.specs.Ternary.{AllBelow};
 ghost use Rattle.hz_net.specs.Network.{network_of, wires_of};
 ghost use Rattle.hz_net.specs.Passes.{excitations, algorithm_b, AreRounds, AreSettlingRounds};
-ghost use Rattle.hz_pass.specs.Changes.{change_count};
+ghost use Rattle.hz_pass.specs.Changes.{differing_count};
 
 use crate::front::Front;
 use crate::round::Rule;
@@ -42,7 +42,7 @@ pub fn settle<L: Ledger>(
     ensures when { AreSettlingRounds (algorithm_b (network_of net.now) input.now state.old) state.old state.new when.new }
     ensures bound { result ≤ length (network_of net.now) + 1 }
     ensures front { front.new ≡ front.old }
-    ensures least_steps { steps.old + change_count state.old state.new ≤ steps.new }
+    ensures least_steps { steps.old + differing_count state.old state.new ≤ steps.new }
     ensures most_steps { steps.new ≤ steps.old + (length (network_of net.now) + 2 * length (wires_of net.now)) }
 {
     let _variables = net.len();

@@ -3,7 +3,7 @@ ghost use Rattle.std.specs.Prelude.{◌≡◌, ◌≢◌, ℕ, ◌<◌, ◌≤�
 ghost use Rattle.hz_core.specs.declared.tri.Tri.TheVariants.{Unknown};
 ghost use Rattle.hz_core.specs.Netlist.{IsCircuit, IsGateNumber, primary_inputs};
 ghost use Rattle.hz_net.specs.Network.{network_of, value_at, bit_at, excitation, IsUnstable};
-ghost use Rattle.hz_net.specs.Variables.{expanded};
+ghost use Rattle.hz_net.specs.Variables.{expansion_of};
 ghost use Rattle.hz_net.specs.Starts.{ListsInputs, IsAcceptedStart};
 ghost use Rattle.hz_pass.specs.Completed.{IsStartFault, bit_or_zero, IsLeastUnknown, IsLeastUnstableIn};
 
@@ -73,7 +73,7 @@ fn least_open(net: &Net, values: &[Tri]) -> Option<u32>
 fn state_of(alloc: Global, net: &Net, values: &[Tri]) -> Result<Vec<bool>, Memory>
     requires circuit { IsCircuit net.now }
     requires values { length values.now ≡ length (network_of net.now) }
-    ensures { IfOk result (λ state. state.items ≡ expanded net.now (map bit_or_zero (take (length net.now.names) values.now))) }
+    ensures { IfOk result (λ state. state.items ≡ expansion_of net.now (map bit_or_zero (take (length net.now.names) values.now))) }
 {
     let nodes = bits_of(alloc, &values[..net.circuit().nodes() as usize])?;
     let Ok(mut state) = vec![in alloc; false; net.len() as usize] else {

@@ -1,7 +1,7 @@
 //! The cuts of a circuit by their data nodes.
 ghost use Rattle.std.specs.Prelude.{◌≡◌, ◌≢◌, ◌++◌, ◌∷◌, ◌<◌, ◌≤◌, [], ℕ, None, Some, IfOk, IsTrue, OnOk, length, map, replicate, slice_get, slice_set};
 ghost use Rattle.hz_core.specs.Netlist.{IsCutNumber};
-ghost use Rattle.hz_pass.specs.CutLists.{cuts_at, AreByData, AreFiled};
+ghost use Rattle.hz_pass.specs.CutLists.{cuts_at, AreByData, AreDataCutsBelow};
 
 use hz_core::{Circuit, Memory};
 use std::alloc::Global;
@@ -54,7 +54,7 @@ fn empty_lists(alloc: Global, count: u32) -> Result<Vec<Vec<u32>>, Memory>
 // Puts each cut into the list of its data node.
 fn file_cuts(circuit: &Circuit, lists: &mut [Vec<u32>]) -> Result<(), Memory>
     requires { map (λ list. list.items) lists.old ≡ replicate (length circuit.now.names) [] }
-    ensures { OnOk result (AreFiled circuit.now (map (λ list. list.items) lists.new) circuit.now.inputs) }
+    ensures { OnOk result (AreDataCutsBelow circuit.now (map (λ list. list.items) lists.new) circuit.now.inputs) }
 {
     for cut in circuit.primary_inputs()..circuit.inputs() {
         if let Some(node) = circuit.data_of(cut) {

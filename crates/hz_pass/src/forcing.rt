@@ -19,7 +19,7 @@ ghost use Rattle.hz_net.specs.Network.{network_of, value_at};
 ghost use Rattle.hz_net.specs.Variables.{fan_out_of};
 ghost use Rattle.hz_net.specs.Reads.{IsWireInto};
 ghost use Rattle.hz_pass.specs.CutLists.{IsDataOf};
-ghost use Rattle.hz_pass.specs.Forcing.{IsListed, IsTaken, gate_extension, SetsNode, ForcedSoFar, AreForcedValues};
+ghost use Rattle.hz_pass.specs.Forcing.{HasListedValues, IsTaken, gate_extension, SetsNode, ForcedSoFar, AreForcedValues};
 
 use crate::cuts::{cuts_at, cuts_by_data};
 use hz_core::{Memory, Tri};
@@ -60,7 +60,7 @@ fn set_listed(
     requires long { length listed.now ≤ length values.old }
     requires values { values.old ≡ replicate (length values.old) Unknown }
     requires waiting { waiting.old.items ≡ [] }
-    ensures { OnOk result (IsListed listed.now values.new waiting.new.items) }
+    ensures { OnOk result (HasListedValues listed.now values.new waiting.new.items) }
 {
     for node in 0..listed.len() {
         if let Some(bit) = listed[node] {

@@ -2,7 +2,7 @@
 ghost use Rattle.std.specs.Prelude.{◌≡◌, ◌+◌, ◌<◌, ◌≤◌, ℕ, [], length, fold, slice_set, sum_by, vec_capacity, All};
 ghost use Rattle.hz_core.specs.Netlist.{IsCircuit};
 ghost use Rattle.hz_net.specs.Network.{network_of, value_at};
-ghost use Rattle.hz_pass.specs.Frontier.{next_value, Falls, IsMade, IsQuiet, IsRoundSoFar, IsRound, reader_count, taken_over};
+ghost use Rattle.hz_pass.specs.Frontier.{next_value, Falls, IsMade, IsQuiet, IsRoundSoFar, IsRound, reader_count, with_values_of};
 
 use hz_core::Tri;
 use hz_net::Net;
@@ -154,7 +154,7 @@ pub(crate) fn take_over(
     requires inside { All (λ var. var < length next.now) changed.now }
     requires state { length state.old ≡ length next.now }
     requires noted { length noted.old ≡ length next.now }
-    ensures state { state.new ≡ taken_over next.now state.old changed.now }
+    ensures state { state.new ≡ with_values_of next.now state.old changed.now }
     ensures noted { noted.new ≡ fold (λ noted var. slice_set noted var round) noted.old changed.now }
 {
     for var in changed {

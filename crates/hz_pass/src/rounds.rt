@@ -2,8 +2,8 @@
 ghost use Rattle.std.specs.Prelude.{◌≡◌, ◌+◌, ◌*◌, ◌≤◌, length};
 ghost use Rattle.hz_net.specs.Network.{network_of, wires_of};
 ghost use Rattle.hz_net.specs.Passes.{AreRounds};
-ghost use Rattle.hz_pass.specs.Changes.{change_count};
-ghost use Rattle.hz_pass.specs.Frontier.{Falls, states_of, AreFirstRounds};
+ghost use Rattle.hz_pass.specs.Changes.{differing_count};
+ghost use Rattle.hz_pass.specs.Frontier.{Falls, round_states, AreFirstRounds};
 
 use crate::front::Front;
 use crate::round::{Round, Rule, take_over};
@@ -32,12 +32,12 @@ pub(crate) fn make_rounds<L: Ledger>(
     requires work { length work.old ≡ length (network_of net.now) }
     requires front { front.old ≡ length (network_of net.now) }
     requires falls { Falls rule (network_of net.now) input.now state.old }
-    ensures rounds { AreRounds (states_of rule (network_of net.now) input.now state.old) result }
-    ensures state { state.new ≡ states_of rule (network_of net.now) input.now state.old result }
-    ensures noted { AreFirstRounds (states_of rule (network_of net.now) input.now state.old) state.new noted.new }
+    ensures rounds { AreRounds (round_states rule (network_of net.now) input.now state.old) result }
+    ensures state { state.new ≡ round_states rule (network_of net.now) input.now state.old result }
+    ensures noted { AreFirstRounds (round_states rule (network_of net.now) input.now state.old) state.new noted.new }
     ensures bound { result ≤ length (network_of net.now) + 1 }
     ensures front { front.new ≡ front.old }
-    ensures least_steps { steps.old + change_count state.old state.new ≤ steps.new }
+    ensures least_steps { steps.old + differing_count state.old state.new ≤ steps.new }
     ensures most_steps { steps.new ≤ steps.old + (length (network_of net.now) + 2 * length (wires_of net.now)) }
 {
     let _variables = net.len();

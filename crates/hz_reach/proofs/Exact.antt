@@ -14,15 +14,15 @@ use Rattle.hz_net.specs.Passes.{algorithm_a, AreRounds, AreRanks}
 use Rattle.hz_gmw.specs.Runs.{is_listed, end_of, IsReachable, JoinsTo}
 use Rattle.hz_reach.specs.Order.{key_at}
 use Rattle.hz_core.specs.Pattern.{differs}
-use Rattle.hz_reach.specs.Picked.{picked}
-use Rattle.hz_reach.specs.Room.{after}
-use Rattle.hz_reach.proofs.PickedLemmas.{picked-is, is-picked, picked-once, differs-true, true-differs}
-use Rattle.hz_reach.proofs.Turns.{AreTurns}
-use Rattle.hz_reach.proofs.Turning.{changed, bit-changed, HadTurns, Also, changed-inputs, changed-same, changed-gate}
-use Rattle.hz_reach.proofs.RankedTurns.{rank-late, ranked-unknown, ranked-turns}
+use Rattle.hz_reach.specs.FilteredRange.{filtered_range}
+use Rattle.hz_reach.specs.Room.{with_step_if_any}
+use Rattle.hz_reach.proofs.FilteredRangeLemmas.{filtered_range-is, is-filtered_range, filtered_range-once, differs-true, true-differs}
+use Rattle.hz_reach.proofs.TurnsByRank.{AreTurns}
+use Rattle.hz_reach.proofs.SpreadLoop.{changed, bit-changed, HadTurns, Also, changed-inputs, changed-same, changed-gate}
+use Rattle.hz_reach.proofs.RanksOrderGates.{rank-late, ranked-unknown, ranked-turns}
 use Rattle.hz_net.proofs.Wired.{wired-network_of}
-use Rattle.hz_reach.proofs.Ended.{HasSpread, spread-rest}
-use Rattle.hz_reach.proofs.Rests.{ranks_of, ranks-exist}
+use Rattle.hz_reach.proofs.SpreadEnds.{HasSpread, spread-rest}
+use Rattle.hz_reach.proofs.RestRounds.{ranks_of, ranks-exist}
 
 -- The run
 
@@ -63,19 +63,19 @@ module _ (net : List Driver) (input start : List Bool) (ranks : List ℕ) (wired
   until-inputs : Until 0 0
   unfolding Until input_turns is_input
   until-inputs =
-      let flips = picked input_turns 0 (length net) in (
-        after [] flips,
-        changed-same net input start ranks wired turns (λ i. ⊥) (λ i. ⊥) (IsBefore ranks 0 0) (after [] flips)
-            (changed-inputs net input start ranks wired turns flips (picked-once input_turns 0 (length net))
+      let flips = filtered_range input_turns 0 (length net) in (
+        with_step_if_any [] flips,
+        changed-same net input start ranks wired turns (λ i. ⊥) (λ i. ⊥) (IsBefore ranks 0 0) (with_step_if_any [] flips)
+            (changed-inputs net input start ranks wired turns flips (filtered_range-once input_turns 0 (length net))
             (λ i there.
-            let passes = and_parts _ _ (picked-is input_turns 0 (length net) i there).passes in
+            let passes = and_parts _ _ (filtered_range-is input_turns 0 (length net) i there).passes in
             let is = input-is (driver_at net i) passes.0 in
             (is.0, is.1, eqb-false (key_at ranks i) 0 (not-true _ passes.1)))
             (λ i place e some.
             let inside : i < length net = turns.inside i some in
             let zero_more : 0 + i ≡ i = omega arith in
             subst (λ (n : ℕ). is_listed flips n ≡ true) zero_more
-            (is-picked input_turns 0 (length net) i inside (subst (λ (n : ℕ). input_turns n ≡ true) (sym zero_more)
+            (is-filtered_range input_turns 0 (length net) i inside (subst (λ (n : ℕ). input_turns n ≡ true) (sym zero_more)
             (and_from (is_input (driver_at net i)) (not (eqb (key_at ranks i) 0)) (ap is_input e) (not_from_false _ (ne_eqb (key_at ranks i) 0 some)))))))
             (λ i kind first pins e some none. absurd none)
             (λ i kind first pins e some none. absurd none)
@@ -88,24 +88,24 @@ module _ (net : List Driver) (input start : List Bool) (ranks : List ℕ) (wired
   until-turn gate kind first pins drives some (steps, so_far) =
       let turn = turns.gates gate kind first pins drives some in
       let test : ℕ → Bool = λ i. differs (bit_at turn.0 (i - first)) (bit_at start i) in
-      let flips = picked test first pins in
+      let flips = filtered_range test first pins in
       let rank = key_at ranks gate in
       let Done : ℕ → Type 0 = IsBefore ranks rank gate in
       let after_turn = changed-gate net input start ranks wired turns Done steps so_far gate kind first pins drives some
       (λ before. elim before [ inl less ↦ omega (arith, less) | inr same ↦ omega (arith, same.1) ])
       (λ i ranked less. inl less)
-      turn.0 turn.1 flips (picked-once test first pins)
+      turn.0 turn.1 flips (filtered_range-once test first pins)
       (λ i there.
-      let is = picked-is test first pins i there in
+      let is = filtered_range-is test first pins i there in
       let here : i ≡ first + is.place = is.is in
       let place : i - first ≡ is.place = omega arith in
       let differ : bit_at turn.0 (i - first) ≢ bit_at start i = differs-true (bit_at turn.0 (i - first)) (bit_at start i) is.passes in
       (is.place, is.few, here, subst (λ (n : ℕ). bit_at turn.0 is.place ≢ bit_at start n) here (subst (λ (n : ℕ). bit_at turn.0 n ≢ bit_at start i) place differ)))
       (λ pin few differ.
       let place : first + pin - first ≡ pin = omega arith in
-      is-picked test first pins pin few (subst (λ (n : ℕ). differs (bit_at turn.0 n) (bit_at start (first + pin)) ≡ true) (sym place) (true-differs (bit_at turn.0 pin) (bit_at start (first + pin)) differ))) in (
-        after (after steps flips) (gate ∷ []),
-        changed-same net input start ranks wired turns (Also Done gate) (Also Done gate) (IsBefore ranks rank (suc gate)) (after (after steps flips) (gate ∷ [])) after_turn
+      is-filtered_range test first pins pin few (subst (λ (n : ℕ). differs (bit_at turn.0 n) (bit_at start (first + pin)) ≡ true) (sym place) (true-differs (bit_at turn.0 pin) (bit_at start (first + pin)) differ))) in (
+        with_step_if_any (with_step_if_any steps flips) (gate ∷ []),
+        changed-same net input start ranks wired turns (Also Done gate) (Also Done gate) (IsBefore ranks rank (suc gate)) (with_step_if_any (with_step_if_any steps flips) (gate ∷ [])) after_turn
             (λ i kind first pins e ranked done. further i done)
             (λ i kind first pins e ranked done. further i done)
             (λ i kind first pins e ranked before. elim before [
@@ -181,13 +181,13 @@ module _ (net : List Driver) (input start : List Bool) (ranks : List ℕ) (wired
   spread-exists limit bound =
       let until = until-rank (suc limit) in
       let test : ℕ → Bool = λ i. is_wire (driver_at net i) && (not (eqb (key_at ranks i) 0) && not (is_listed (changed until.0) i)) in
-      let flips = picked test 0 (length net) in (
-        after until.0 flips,
+      let flips = filtered_range test 0 (length net) in (
+        with_step_if_any until.0 flips,
         spread-rest net input start ranks (IsBefore ranks (suc limit) 0) until.0 flips wired turns until.1
             (λ i some. inl (omega (arith, bound i some)))
-            (picked-once test 0 (length net))
+            (filtered_range-once test 0 (length net))
             (λ i there.
-            let passes = and_parts _ _ (picked-is test 0 (length net) i there).passes in
+            let passes = and_parts _ _ (filtered_range-is test 0 (length net) i there).passes in
             let more = and_parts _ _ passes.1 in
             let is = wire-is (driver_at net i) passes.0 in
             (is.0, is.1, eqb-false (key_at ranks i) 0 (not-true _ more.0), not-true _ more.1))
@@ -195,7 +195,7 @@ module _ (net : List Driver) (input start : List Bool) (ranks : List ℕ) (wired
             let inside : i < length net = turns.inside i some in
             let zero_more : 0 + i ≡ i = omega arith in
             subst (λ (n : ℕ). is_listed flips n ≡ true) zero_more
-            (is-picked test 0 (length net) i inside (subst (λ (n : ℕ). test n ≡ true) (sym zero_more)
+            (is-filtered_range test 0 (length net) i inside (subst (λ (n : ℕ). test n ≡ true) (sym zero_more)
             (and_from (is_wire (driver_at net i)) (not (eqb (key_at ranks i) 0) && not (is_listed (changed until.0) i)) (ap is_wire e)
             (and_from (not (eqb (key_at ranks i) 0)) (not (is_listed (changed until.0) i)) (not_from_false _ (ne_eqb (key_at ranks i) 0 some)) (not_from_false _ out)))))),
       )

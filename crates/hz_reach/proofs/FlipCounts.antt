@@ -10,8 +10,8 @@ use Rattle.hz_core.specs.declared.tri.Tri.TheVariants.{Zero, One, Unknown}
 use Rattle.hz_core.specs.Ternary.{is_unknown, unknown_count}
 use Rattle.hz_net.specs.Network.{bit_at, value_at}
 use Rattle.hz_net.specs.Passes.{IsKnown, IsUnknown}
-use Rattle.hz_gmw.specs.Runs.{is_listed, RepeatsNone, flipped}
-use Rattle.hz_gmw.proofs.Flips.{length-flipped, at-flipped}
+use Rattle.hz_gmw.specs.Runs.{is_listed, IsRepeatFree, state_after}
+use Rattle.hz_gmw.proofs.Flips.{length-state_after, at-state_after}
 use Rattle.hz_reach.specs.Spread.{changes_in}
 use Rattle.hz_reach.specs.Counts.{FlipsAreChanges, StepsAreNoMoreThanFlips, FlipsPerVariable, FlipsPerUnknown, FlipsOfSpreadRun, EndsByChanges}
 
@@ -91,7 +91,7 @@ listed-more x flips i out =
       | inr other ↦ rw other (omega arith)
     ]
 
-length-listed : (flips : List ℕ) (n : ℕ) → RepeatsNone flips → ((i : ℕ) → is_listed flips i ≡ true → i < n) → length flips ≡ sum_by (listed flips) (range_with_len 0 n)
+length-listed : (flips : List ℕ) (n : ℕ) → IsRepeatFree flips → ((i : ℕ) → is_listed flips i ≡ true → i < n) → length flips ≡ sum_by (listed flips) (range_with_len 0 n)
 unfolding listed
 length-listed [] n once inside = sym (sum-none (listed []) (range_with_len 0 n) (λ i. refl))
 length-listed (x ∷ flips) n once inside =
@@ -117,13 +117,13 @@ flips_are_changes net input start (flips ∷ steps) run =
       length-listed flips (length net) run.0.once run.0.inside,
       sum-same (changes_in (flips ∷ steps)) (λ i. listed flips i + changes_in steps i) (range_with_len 0 (length net)) (changes-more flips steps),
       sum-sum (listed flips) (changes_in steps) (range_with_len 0 (length net)),
-      flips_are_changes net input (flipped flips start) steps run.1,
+      flips_are_changes net input (state_after flips start) steps run.1,
     )
 
 pub steps_below_flips : StepsAreNoMoreThanFlips
 steps_below_flips net input start [] run = omega arith
 steps_below_flips net input start (flips ∷ steps) run =
-    omega (arith, sum_by-cons (λ (list : List ℕ). length list) flips steps, not-empty flips run.0.some, steps_below_flips net input (flipped flips start) steps run.1)
+    omega (arith, sum_by-cons (λ (list : List ℕ). length list) flips steps, not-empty flips run.0.some, steps_below_flips net input (state_after flips start) steps run.1)
   where
     not-empty : (list : List ℕ) → list ≢ [] → 1 ≤ length list
     not-empty [] some = absurd (some refl)
@@ -216,8 +216,8 @@ pub ends_by_changes : EndsByChanges
 unfolding listed
 ends_by_changes start [] i inside = refl
 ends_by_changes start (flips ∷ steps) i inside =
-    let later = ends_by_changes (flipped flips start) steps i (subst (λ (n : ℕ). i < n) (sym (length-flipped flips start)) inside) in
+    let later = ends_by_changes (state_after flips start) steps i (subst (λ (n : ℕ). i < n) (sym (length-state_after flips start)) inside) in
     later
-    ∙ (ap (λ (b : Bool). cond (eqb (changes_in steps i % 2) 1) (not b) b) (at-flipped flips start i inside)
+    ∙ (ap (λ (b : Bool). cond (eqb (changes_in steps i % 2) 1) (not b) b) (at-state_after flips start i inside)
     ∙ (turn-odd (is_listed flips i) (changes_in steps i) (bit_at start i)
     ∙ ap (λ (n : ℕ). cond (eqb (n % 2) 1) (not (bit_at start i)) (bit_at start i)) (sym (changes-more flips steps i))))

@@ -3,10 +3,10 @@ use Rattle.std.proofs.Common.{◌≡◌, ◌≢◌, ℕ, ◌+◌, ◌<◌, ◌�
 use Rattle.std.proofs.lemmas.Bool.{cases_order}
 use Rattle.std.proofs.lemmas.List.{take_more, take_all, length-take, get_or-take}
 use Rattle.hz_gmw.specs.Runs.{is_listed}
-use Rattle.hz_reach.specs.Order.{key_at, IsEarlier, AreByKey}
-use Rattle.hz_reach.proofs.Listed.{listed-cases, listed-left, listed-right}
-use Rattle.hz_reach.proofs.PickedLemmas.{only-one, is-one}
-use Rattle.hz_reach.proofs.Places.{listed-at, listed-place}
+use Rattle.hz_reach.specs.Order.{key_at, IsEarlier, IsInKeyOrder}
+use Rattle.hz_reach.proofs.DistinctLists.{listed-cases, listed-left, listed-right}
+use Rattle.hz_reach.proofs.FilteredRangeLemmas.{only-one, is-one}
+use Rattle.hz_reach.proofs.ListPlaces.{listed-at, listed-place}
 
 -- a variable stands before a place
 abbrev pub Among : ℕ → List ℕ → ℕ → Type 0
@@ -22,7 +22,7 @@ not-earlier keys i (inl less) = omega (arith, less)
 not-earlier keys i (inr same) = omega (arith, same.1)
 
 -- the variable at a place is not before it
-pub not-among : (keys list : List ℕ) (place : ℕ) → AreByKey keys list → place < length list → Among place list (get_or list place 0) → ⊥
+pub not-among : (keys list : List ℕ) (place : ℕ) → IsInKeyOrder keys list → place < length list → Among place list (get_or list place 0) → ⊥
 not-among keys list place by_key inside among =
     let at = listed-place (take place list) (get_or list place 0) among in
     let before : at.0 < place = omega (arith, at.1, length-take place list) in
@@ -30,7 +30,7 @@ not-among keys list place by_key inside among =
     not-earlier keys (get_or list place 0) (subst (λ (n : ℕ). IsEarlier keys n (get_or list place 0)) same (by_key.ordered at.0 place before inside))
 
 -- what has a lesser key than the variable at a place is before it
-pub among-earlier : (keys list : List ℕ) (place i : ℕ) → AreByKey keys list → place < length list → key_at keys i ≢ 0 → key_at keys i < key_at keys (get_or list place 0) → Among place list i
+pub among-earlier : (keys list : List ℕ) (place i : ℕ) → IsInKeyOrder keys list → place < length list → key_at keys i ≢ 0 → key_at keys i < key_at keys (get_or list place 0) → Among place list i
 among-earlier keys list place i by_key inside some less =
     let at = listed-place list i ((by_key.keyed i).1 some) in
     elim (cases_order at.0 place) [
@@ -63,6 +63,6 @@ next-here list place i inside same =
     ap (λ (part : List ℕ). is_listed part i) (take_more list place 0 inside) ∙ listed-right (take place list) (get_or list place 0 ∷ []) i (only-one (get_or list place 0) i same)
 
 -- at the end all that have a key are before
-pub among-all : (keys list : List ℕ) (place i : ℕ) → AreByKey keys list → length list ≤ place → key_at keys i ≢ 0 → Among place list i
+pub among-all : (keys list : List ℕ) (place i : ℕ) → IsInKeyOrder keys list → length list ≤ place → key_at keys i ≢ 0 → Among place list i
 among-all keys list place i by_key end some =
     ap (λ (part : List ℕ). is_listed part i) (take_all place list end) ∙ (by_key.keyed i).1 some

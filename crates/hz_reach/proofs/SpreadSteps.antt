@@ -9,29 +9,29 @@ use Rattle.hz_core.specs.Pattern.{differs}
 use Rattle.hz_net.specs.Network.{network_of, bit_at, value_at}
 use Rattle.hz_net.proofs.Places.{length-network_of, driver_at-wire}
 use Rattle.hz_net.proofs.Wires.{IsWireFrom-driver_at}
-use Rattle.hz_gmw.specs.Runs.{is_listed, flipped, end_of}
-use Rattle.hz_gmw.specs.Recorded.{Recorded}
+use Rattle.hz_gmw.specs.Runs.{is_listed, state_after, end_of}
+use Rattle.hz_gmw.specs.RunRecord.{RunRecord}
 use Rattle.hz_gmw.proofs.CoverB.{length-end_of}
-use Rattle.hz_reach.specs.Order.{key_at, AreByKey}
-use Rattle.hz_reach.specs.Room.{after, Spends}
-use Rattle.hz_reach.specs.Scratched.{Scratched}
+use Rattle.hz_reach.specs.Order.{key_at, IsInKeyOrder}
+use Rattle.hz_reach.specs.Room.{with_step_if_any, Spends}
+use Rattle.hz_reach.specs.ScratchState.{ScratchState}
 use Rattle.hz_reach.specs.Spread.{IsSpreadRun, IsSparingRun}
 use Rattle.hz_reach.specs.Turn.{changed_inputs, AreChangedWires, unchanged_wires}
-use Rattle.hz_reach.proofs.PickedLemmas.{picked-is, is-picked, picked-once}
-use Rattle.hz_reach.proofs.Turns.{AreTurns}
+use Rattle.hz_reach.proofs.FilteredRangeLemmas.{filtered_range-is, is-filtered_range, filtered_range-once}
+use Rattle.hz_reach.proofs.TurnsByRank.{AreTurns}
 use Rattle.hz_net.proofs.Wired.{wired-network_of}
-use Rattle.hz_reach.proofs.Turning.{IsOnce, bit-changed, bit-unchanged, HadTurns, changed-same, not-itself}
-use Rattle.hz_reach.proofs.Ended.{HasSpread, spread-rest}
-use Rattle.hz_reach.proofs.Asked.{IsAsked, asked-turns, asked-ranks, asked-unknown, asked-ranked, asked-spread, asked-sparing}
+use Rattle.hz_reach.proofs.SpreadLoop.{IsOnce, bit-changed, bit-unchanged, HadTurns, changed-same, not-itself}
+use Rattle.hz_reach.proofs.SpreadEnds.{HasSpread, spread-rest}
+use Rattle.hz_reach.proofs.SpreadArguments.{IsAsked, asked-turns, asked-ranks, asked-unknown, asked-ranked, asked-spread, asked-sparing}
 use Rattle.hz_reach.proofs.Order.{Among, among-all}
-use Rattle.hz_reach.proofs.Rooms.{room-flips, room-steps, spends-none, end_of-after}
-use Rattle.hz_reach.proofs.Underway.{IsUnderway, inputs-changed, wires-changed, gate-changed}
+use Rattle.hz_reach.proofs.SpreadRoom.{room-flips, room-steps, spends-none, end_of-after}
+use Rattle.hz_reach.proofs.GateLoop.{IsUnderway, inputs-changed, wires-changed, gate-changed}
 
 -- The first step.
-module _ (netlist : Netlist) (input start : List Bool) (a : List Tri) (ranks : List ℕ) (first : Recorded) (asked : IsAsked netlist input start a ranks first) where
-  inputs-once : IsOnce (network_of netlist) input start (after first.steps (changed_inputs netlist start input))
+module _ (netlist : Netlist) (input start : List Bool) (a : List Tri) (ranks : List ℕ) (first : RunRecord) (asked : IsAsked netlist input start a ranks first) where
+  inputs-once : IsOnce (network_of netlist) input start (with_step_if_any first.steps (changed_inputs netlist start input))
   inputs-once =
-      subst (λ (steps : List (List ℕ)). IsOnce (network_of netlist) input start (after steps (changed_inputs netlist start input))) (sym asked.empty)
+      subst (λ (steps : List (List ℕ)). IsOnce (network_of netlist) input start (with_step_if_any steps (changed_inputs netlist start input))) (sym asked.empty)
       (inputs-changed netlist asked.circuit input start ranks (asked-ranks netlist input start a ranks first asked) (asked-turns netlist input start a ranks first asked)).once
 
   none-once : IsOnce (network_of netlist) input start first.steps
@@ -44,13 +44,13 @@ module _ (netlist : Netlist) (input start : List Bool) (a : List Tri) (ranks : L
   inputs-steps some = room-steps (network_of netlist) input start first first asked.empty (spends-none first) (changed_inputs netlist start input) none-once inputs-once asked.steps some
 
   pub underway-begin :
-      (scratch : Scratched) (now : Recorded) → AreByKey ranks scratch.sorted → scratch.marked ≡ [] →
-      scratch.state ≡ flipped (changed_inputs netlist start input) start → now.steps ≡ after first.steps (changed_inputs netlist start input) →
+      (scratch : ScratchState) (now : RunRecord) → IsInKeyOrder ranks scratch.sorted → scratch.marked ≡ [] →
+      scratch.state ≡ state_after (changed_inputs netlist start input) start → now.steps ≡ with_step_if_any first.steps (changed_inputs netlist start input) →
       Spends first now → IsUnderway netlist input start a ranks 0 scratch first now
   underway-begin scratch now sorted marked state steps spent =
       let turns = asked-turns netlist input start a ranks first asked in
       let flips = changed_inputs netlist start input in
-      let begun : now.steps ≡ after [] flips = steps ∙ ap (λ (list : List (List ℕ)). after list flips) asked.empty in
+      let begun : now.steps ≡ with_step_if_any [] flips = steps ∙ ap (λ (list : List (List ℕ)). with_step_if_any list flips) asked.empty in
       record {
         asked = asked;
         sorted = sorted;
@@ -58,7 +58,7 @@ module _ (netlist : Netlist) (input start : List Bool) (a : List Tri) (ranks : L
         state = state ∙ (sym (end_of-after start [] flips) ∙ ap (end_of start) (sym begun));
         had_turns =
             subst (HadTurns (network_of netlist) input start ranks (Among 0 scratch.sorted) (Among 0 scratch.sorted)) (sym begun)
-            (changed-same (network_of netlist) input start ranks (wired-network_of netlist asked.circuit) turns (λ i. ⊥) (λ i. ⊥) (Among 0 scratch.sorted) (after [] flips)
+            (changed-same (network_of netlist) input start ranks (wired-network_of netlist asked.circuit) turns (λ i. ⊥) (λ i. ⊥) (Among 0 scratch.sorted) (with_step_if_any [] flips)
             (inputs-changed netlist asked.circuit input start ranks (asked-ranks netlist input start a ranks first asked) turns)
             (λ i kind from pins e some none. absurd none)
             (λ i kind from pins e some none. absurd none)
@@ -67,7 +67,7 @@ module _ (netlist : Netlist) (input start : List Bool) (a : List Tri) (ranks : L
       }
 
 -- A gate's turn.
-module _ (netlist : Netlist) (input start : List Bool) (a : List Tri) (ranks : List ℕ) (place : ℕ) (scratch : Scratched) (first now : Recorded) (underway : IsUnderway netlist input start a ranks place scratch first now) where
+module _ (netlist : Netlist) (input start : List Bool) (a : List Tri) (ranks : List ℕ) (place : ℕ) (scratch : ScratchState) (first now : RunRecord) (underway : IsUnderway netlist input start a ranks place scratch first now) where
   long_ranks : length ranks ≡ length (network_of netlist)
   long_ranks = asked-ranks netlist input start a ranks first underway.asked
 
@@ -78,10 +78,10 @@ module _ (netlist : Netlist) (input start : List Bool) (a : List Tri) (ranks : L
   length-state = ap (length {A = Bool}) underway.state ∙ (length-end_of start now.steps ∙ underway.asked.begins.long)
 
   module _ (inside : place < length scratch.sorted) (is_gate : IsGateNumber netlist (get_or scratch.sorted place 0)) (flips : List ℕ) (wires : AreChangedWires netlist start ranks (get_or scratch.sorted place 0) flips) where
-    wires-once : IsOnce (network_of netlist) input start (after now.steps flips)
+    wires-once : IsOnce (network_of netlist) input start (with_step_if_any now.steps flips)
     wires-once = (wires-changed netlist underway.asked.circuit input start ranks long_ranks turns a place scratch first now underway inside is_gate flips wires).once
 
-    gate-once : IsOnce (network_of netlist) input start (after (after now.steps flips) (get_or scratch.sorted place 0 ∷ []))
+    gate-once : IsOnce (network_of netlist) input start (with_step_if_any (with_step_if_any now.steps flips) (get_or scratch.sorted place 0 ∷ []))
     gate-once = (gate-changed netlist underway.asked.circuit input start ranks long_ranks turns a place scratch first now underway inside is_gate flips wires).once
 
     pub wires-flips : length flips ≤ now.spare_flips
@@ -90,12 +90,12 @@ module _ (netlist : Netlist) (input start : List Bool) (a : List Tri) (ranks : L
     pub wires-steps : flips ≢ [] → 1 ≤ now.spare_steps
     wires-steps some = room-steps (network_of netlist) input start first now underway.asked.empty underway.spent flips underway.had_turns.once wires-once underway.asked.steps some
 
-    module _ (then : Recorded) (steps : then.steps ≡ after now.steps flips) (spent : Spends first then) where
+    module _ (then : RunRecord) (steps : then.steps ≡ with_step_if_any now.steps flips) (spent : Spends first then) where
       then-once : IsOnce (network_of netlist) input start then.steps
       then-once = subst (IsOnce (network_of netlist) input start) (sym steps) wires-once
 
-      next-once : IsOnce (network_of netlist) input start (after then.steps (get_or scratch.sorted place 0 ∷ []))
-      next-once = subst (λ (list : List (List ℕ)). IsOnce (network_of netlist) input start (after list (get_or scratch.sorted place 0 ∷ []))) (sym steps) gate-once
+      next-once : IsOnce (network_of netlist) input start (with_step_if_any then.steps (get_or scratch.sorted place 0 ∷ []))
+      next-once = subst (λ (list : List (List ℕ)). IsOnce (network_of netlist) input start (with_step_if_any list (get_or scratch.sorted place 0 ∷ []))) (sym steps) gate-once
 
       pub gate-flips : 1 ≤ then.spare_flips
       gate-flips = room-flips (network_of netlist) input start first then underway.asked.empty spent (get_or scratch.sorted place 0 ∷ []) then-once next-once underway.asked.flips
@@ -131,16 +131,16 @@ module _ (netlist : Netlist) (input start : List Bool) (a : List Tri) (ranks : L
     rest-test : ℕ → Bool
     rest-test i = is_unknown (value_at a i) && not (differs (bit_at start i) (bit_at scratch.state i))
 
-    rest : HasSpread (network_of netlist) input start ranks (after now.steps (unchanged_wires netlist a start scratch.state))
+    rest : HasSpread (network_of netlist) input start ranks (with_step_if_any now.steps (unchanged_wires netlist a start scratch.state))
     unfolding rest-test
     rest =
         let names = length netlist.names in
         let count = length (network_of netlist) - names in
         let variables = length-network_of netlist underway.asked.circuit in
         spread-rest (network_of netlist) input start ranks (Among place scratch.sorted) now.steps (unchanged_wires netlist a start scratch.state) (wired-network_of netlist underway.asked.circuit) turns underway.had_turns each
-        (picked-once rest-test names count)
+        (filtered_range-once rest-test names count)
         (λ i there.
-        let is = picked-is rest-test names count i there in
+        let is = filtered_range-is rest-test names count i there in
         let here : i ≡ names + is.place = is.is in
         let few : is.place < count = is.few in
         let parts = and_parts _ _ is.passes in
@@ -158,7 +158,7 @@ module _ (netlist : Netlist) (input start : List Bool) (a : List Tri) (ranks : L
         let same : bit_at start i ≡ bit_at scratch.state i =
         sym (ap (λ (s : List Bool). bit_at s i) underway.state ∙ bit-unchanged (network_of netlist) input start now.steps i underway.had_turns.once (omega (arith, inside, underway.asked.begins.long)) out) in
         subst (λ (n : ℕ). is_listed (unchanged_wires netlist a start scratch.state) n ≡ true) here
-        (is-picked rest-test names count (i - names) (omega (arith, above, inside))
+        (is-filtered_range rest-test names count (i - names) (omega (arith, above, inside))
         (subst (λ (n : ℕ). rest-test n ≡ true) (sym here)
         (and_from (is_unknown (value_at a i)) (not (differs (bit_at start i) (bit_at scratch.state i))) (ap is_unknown (asked-unknown netlist input start a ranks first underway.asked i some)) (not_from_false _ (differs-same _ _ same))))))
 
@@ -168,5 +168,5 @@ module _ (netlist : Netlist) (input start : List Bool) (a : List Tri) (ranks : L
     pub rest-steps : unchanged_wires netlist a start scratch.state ≢ [] → 1 ≤ now.spare_steps
     rest-steps some = room-steps (network_of netlist) input start first now underway.asked.empty underway.spent (unchanged_wires netlist a start scratch.state) underway.had_turns.once rest.once underway.asked.steps some
 
-    pub run-whole : (steps : List (List ℕ)) → steps ≡ after now.steps (unchanged_wires netlist a start scratch.state) → IsSpreadRun (network_of netlist) input start a steps
-    run-whole steps same = subst (IsSpreadRun (network_of netlist) input start a) (sym same) (asked-spread netlist input start a ranks first underway.asked (after now.steps (unchanged_wires netlist a start scratch.state)) rest)
+    pub run-whole : (steps : List (List ℕ)) → steps ≡ with_step_if_any now.steps (unchanged_wires netlist a start scratch.state) → IsSpreadRun (network_of netlist) input start a steps
+    run-whole steps same = subst (IsSpreadRun (network_of netlist) input start a) (sym same) (asked-spread netlist input start a ranks first underway.asked (with_step_if_any now.steps (unchanged_wires netlist a start scratch.state)) rest)

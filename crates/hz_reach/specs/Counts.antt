@@ -6,7 +6,7 @@ use Rattle.hz_core.specs.Ternary.{unknown_count}
 use Rattle.hz_net.specs.Network.{Driver, bit_at, value_at}
 use Rattle.hz_net.specs.Passes.{IsKnown}
 use Rattle.hz_gmw.specs.Runs.{IsRun, end_of}
-use Rattle.hz_gmw.specs.Recorded.{flip_count}
+use Rattle.hz_gmw.specs.RunRecord.{flip_count}
 use Rattle.hz_reach.specs.Spread.{changes_in, IsSpreadRun}
 
 -- a run has as many flips as its variables have changes

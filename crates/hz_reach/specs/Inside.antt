@@ -1,12 +1,12 @@
 -- What a scratch's fields stand for.
 use Rattle.std.specs.Prelude.{ℕ, ◌≡◌, ◌+◌, ◌<◌, ◌≤◌, ◌^◌, IsTrue, length}
 use Rattle.std.specs.Vec.{vec_capacity}
-use Rattle.hz_gmw.specs.Runs.{is_listed, RepeatsNone}
-use Rattle.hz_reach.specs.Scratched.{Scratched}
+use Rattle.hz_gmw.specs.Runs.{is_listed, IsRepeatFree}
+use Rattle.hz_reach.specs.ScratchState.{ScratchState}
 use Rattle.hz_reach.specs.declared.scratch.Scratch.TheInside.{Inside}
 
-abbrev pub scratched_of : Inside → Scratched
-scratched_of fields =
+abbrev pub scratch_state_of : Inside → ScratchState
+scratch_state_of fields =
     record {
       state = fields.state.items;
       sorted = fields.sorted.items;
@@ -21,5 +21,5 @@ pub record HoldsScratch (fields : Inside) : Type 0 where
   pub keyed_fit : length fields.state.items ≤ vec_capacity fields.keyed
   pub sorted_fit : length fields.state.items ≤ vec_capacity fields.sorted
   pub marked_fit : length fields.state.items ≤ vec_capacity fields.marked
-  pub once : RepeatsNone fields.marked.items
+  pub once : IsRepeatFree fields.marked.items
   pub inside : (i : ℕ) → IsTrue (is_listed fields.marked.items i) → i < length fields.state.items

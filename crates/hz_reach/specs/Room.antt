@@ -1,13 +1,13 @@
 -- One more step of a run, and the room that steps take.
 use Rattle.std.specs.Prelude.{◌≡◌, ℕ, ◌+◌, List, [], ◌∷◌, ◌++◌, length}
-use Rattle.hz_gmw.specs.Recorded.{Recorded, flip_count}
+use Rattle.hz_gmw.specs.RunRecord.{RunRecord, flip_count}
 
 -- the steps of a run after one more, which is not made where it would change nothing
-abbrev pub after : List (List ℕ) → List ℕ → List (List ℕ)
-after steps [] = steps
-after steps (i ∷ flips) = steps ++ (i ∷ flips) ∷ []
+abbrev pub with_step_if_any : List (List ℕ) → List ℕ → List (List ℕ)
+with_step_if_any steps [] = steps
+with_step_if_any steps (i ∷ flips) = steps ++ (i ∷ flips) ∷ []
 
 -- a run takes from its room just the flips and the steps that it has more
-pub record Spends (old new : Recorded) : Type 0 where
+pub record Spends (old new : RunRecord) : Type 0 where
   pub flips : new.spare_flips + flip_count new.steps ≡ old.spare_flips + flip_count old.steps
   pub steps : new.spare_steps + length new.steps ≡ old.spare_steps + length old.steps

@@ -7,11 +7,11 @@ use Rattle.hz_core.specs.Pattern.{differs, IsPattern}
 use Rattle.hz_net.specs.Network.{bit_at, value_at, network_of}
 use Rattle.hz_net.specs.Variables.{first_wire, at_wires}
 use Rattle.hz_reach.specs.Order.{key_at}
-use Rattle.hz_reach.specs.Picked.{picked}
+use Rattle.hz_reach.specs.FilteredRange.{filtered_range}
 
 -- the inputs that differ from the new input
 abbrev pub changed_inputs : Netlist → List Bool → List Bool → List ℕ
-changed_inputs netlist start input = picked (λ i. differs (bit_at start i) (bit_at input i)) 0 netlist.inputs
+changed_inputs netlist start input = filtered_range (λ i. differs (bit_at start i) (bit_at input i)) 0 netlist.inputs
 
 -- of the ranks of a gate's wires, which are not 0 and below the gate's own: these pins are free
 abbrev pub free_pins : ℕ → List ℕ → List Bool
@@ -20,7 +20,7 @@ free_pins own ranks = map (λ rank. not (rank == 0) && nat_lt rank own) ranks
 -- of wires from a first one on, those whose bit differs from a pattern's
 abbrev pub changed_wires : ℕ → List Bool → List Bool → List ℕ
 changed_wires first now pattern =
-    picked (λ i. differs (bit_at now (i - first)) (bit_at pattern (i - first))) first (length now)
+    filtered_range (λ i. differs (bit_at now (i - first)) (bit_at pattern (i - first))) first (length now)
 
 -- The wires that change when a gate's turn comes: those that differ from the canonical pattern which gives the gate the
 -- complement of its bit at the start.
@@ -34,5 +34,5 @@ pub record AreChangedWires (netlist : Netlist) (start : List Bool) (ranks : List
 -- the wires that are X in the result of Algorithm A and have not changed
 abbrev pub unchanged_wires : Netlist → List Tri → List Bool → List Bool → List ℕ
 unchanged_wires netlist a start state =
-    picked (λ i. is_unknown (value_at a i) && not (differs (bit_at start i) (bit_at state i))) (length netlist.names)
+    filtered_range (λ i. is_unknown (value_at a i) && not (differs (bit_at start i) (bit_at state i))) (length netlist.names)
     (length (network_of netlist) - length netlist.names)

@@ -3,7 +3,7 @@ ghost use Rattle.hz_reach.specs.Existence.{ResultOfAExists, ResultOfBExists, Rou
 
 /// Both algorithms come to rest on every change, after at most one round more than there are variables: there are their
 /// results, and with them the ranks of Algorithm A and the settling rounds of Algorithm B.
-#[tactic(auto, using(crate::proofs::Rests::ranks_of_result, crate::proofs::Rests::settling_of_result))]
+#[tactic(auto, using(crate::proofs::RestRounds::ranks_of_result, crate::proofs::RestRounds::settling_of_result))]
 pub fn passes_end()
     ensures a { ResultOfAExists }
     ensures b { ResultOfBExists }
@@ -15,7 +15,7 @@ pub fn passes_end()
 
 /// Every stable start has a spread run under every input, and one in which the wires stay that it does not need: the runs
 /// that `spread_run` makes.
-#[tactic(auto, using(crate::proofs::SpreadRuns::spread_run_exists, crate::proofs::SpreadRuns::sparing_run_exists))]
+#[tactic(auto, using(crate::proofs::SpreadExists::spread_run_exists, crate::proofs::SpreadExists::sparing_run_exists))]
 pub fn spread_runs_exist()
     ensures spread { SpreadRunExists }
     ensures sparing { SparingRunExists }

@@ -4,7 +4,7 @@ use Rattle.std.specs.List.{flat_map}
 use Rattle.hz_write.specs.Writes.{newline}
 use Rattle.hz_core.specs.Netlist.{Netlist, pin_count, variable_count}
 use Rattle.hz_net.specs.Network.{network_of}
-use Rattle.hz_gmw.specs.Recorded.{flip_count}
+use Rattle.hz_gmw.specs.RunRecord.{flip_count}
 use Rattle.hz_word.specs.declared.count.Count.{Count}
 use Rattle.hz_word.specs.declared.count.Count.TheVariants.{Exact, Many}
 use Rattle.hz_text.specs.Printed.{letter_of, statement_text}

@@ -10,7 +10,7 @@ use Rattle.hz_net.specs.Passes.{IsUnknown}
 use Rattle.hz_net.specs.Starts.{IsStableStart}
 use Rattle.hz_desk.specs.Finding.{FindingOf, values_b}
 use Rattle.hz_desk.specs.RightFinding.{IsRightFinding}
-use Rattle.hz_seq.specs.Sequence.{Sequenced, changed_input, IsSettledAt, IsFirstUnknown}
+use Rattle.hz_seq.specs.Sequence.{SequenceState, changed_input, IsSettledAt, IsFirstUnknown}
 use Rattle.hz_seq.specs.Analyses.{Analysis, Found, Stopped, AreAnalyses, all_stopped}
 use Rattle.hz_seq.proofs.NextStart.{next-start}
 use Rattle.hz_seq.proofs.FirstAnalyses.{AreFirstAnalyses, AreLaterAnalyses, input-long}
@@ -62,7 +62,7 @@ module _ (netlist : Netlist) (cap : ℕ) (circuit : IsCircuit netlist) (has : Ha
   later-exist later start (Some var) stable = (all_stopped var later, refl)
 
   -- the analyses of the first changes are the beginning of analyses of all
-  pub with-later : (start : List Bool) (changes later : List (List (ℕ × Bool))) (analyses : List Analysis) (now : Sequenced) → AreFirstAnalyses netlist cap start changes analyses now → (more : List Analysis) × AreAnalyses netlist cap start (changes ++ later) (analyses ++ more)
+  pub with-later : (start : List Bool) (changes later : List (List (ℕ × Bool))) (analyses : List Analysis) (now : SequenceState) → AreFirstAnalyses netlist cap start changes analyses now → (more : List Analysis) × AreAnalyses netlist cap start (changes ++ later) (analyses ++ more)
   with-later start changes later analyses now first =
       let rest = later-exist later now.start now.stopped first.stable in
       (rest.0, first.with_later later rest.0 rest.1)

@@ -5,7 +5,7 @@ use Rattle.hz_core.specs.Netlist.{Netlist, IsCircuit}
 use Rattle.hz_net.proofs.Places.{length-network_of}
 use Rattle.hz_net.specs.Starts.{IsStableStart}
 use Rattle.hz_desk.specs.Finding.{FindingOf}
-use Rattle.hz_seq.specs.Sequence.{Sequenced, changed_input, IsFindingOfChange, IsLeftBy}
+use Rattle.hz_seq.specs.Sequence.{SequenceState, changed_input, IsFindingOfChange, IsLeftBy}
 use Rattle.hz_seq.specs.Analyses.{Analysis, Found, Stopped, AreAnalyses, all_stopped}
 use Rattle.hz_seq.proofs.NextStart.{next-start}
 
@@ -16,13 +16,13 @@ AreLaterAnalyses netlist cap start (Some var) changes analyses = analyses ≡ al
 
 -- From a start, these are the analyses of these changes, and the sequence stands here after them. With what any further changes
 -- come to from here, they are the analyses of all.
-pub record AreFirstAnalyses (netlist : Netlist) (cap : ℕ) (start : List Bool) (changes : List (List (ℕ × Bool))) (analyses : List Analysis) (now : Sequenced) : Type 0 where
+pub record AreFirstAnalyses (netlist : Netlist) (cap : ℕ) (start : List Bool) (changes : List (List (ℕ × Bool))) (analyses : List Analysis) (now : SequenceState) : Type 0 where
   pub same : now.desk.netlist ≡ netlist
   pub stable : now.stopped ≡ None → IsStableStart netlist now.start
   pub with_later : (later : List (List (ℕ × Bool))) (more : List Analysis) → AreLaterAnalyses netlist cap now.start now.stopped later more → AreAnalyses netlist cap start (changes ++ later) (analyses ++ more)
 
 -- before the first change
-pub no-changes : (netlist : Netlist) (cap : ℕ) (now : Sequenced) → now.desk.netlist ≡ netlist → now.stopped ≡ None → IsStableStart netlist now.start → AreFirstAnalyses netlist cap now.start [] [] now
+pub no-changes : (netlist : Netlist) (cap : ℕ) (now : SequenceState) → now.desk.netlist ≡ netlist → now.stopped ≡ None → IsStableStart netlist now.start → AreFirstAnalyses netlist cap now.start [] [] now
 no-changes netlist cap now same going stable =
     record {
       same = same;
@@ -42,7 +42,7 @@ input-long netlist start change circuit stable =
     length-changed_input (take netlist.inputs start) change
     ∙ length-take-le netlist.inputs start (omega (arith, stable.long, length-network_of netlist circuit, circuit.nodes))
 
-module _ (netlist : Netlist) (cap : ℕ) (start : List Bool) (changes : List (List (ℕ × Bool))) (analyses : List Analysis) (was : Sequenced) (first : AreFirstAnalyses netlist cap start changes analyses was) (change : List (ℕ × Bool)) where
+module _ (netlist : Netlist) (cap : ℕ) (start : List Bool) (changes : List (List (ℕ × Bool))) (analyses : List Analysis) (was : SequenceState) (first : AreFirstAnalyses netlist cap start changes analyses was) (change : List (ℕ × Bool)) where
   -- one change more, at the end of both lists
   at-end : (analysis : Analysis) (later : List (List (ℕ × Bool))) (more : List Analysis) → AreLaterAnalyses netlist cap was.start was.stopped (change ∷ later) (analysis ∷ more) → AreAnalyses netlist cap start ((changes ++ change ∷ []) ++ later) ((analyses ++ analysis ∷ []) ++ more)
   at-end analysis later more are =
@@ -51,7 +51,7 @@ module _ (netlist : Netlist) (cap : ℕ) (start : List Bool) (changes : List (Li
       (first.with_later (change ∷ later) (analysis ∷ more) are))
 
   -- a change that was made
-  pub one-found : (finding : FindingOf) (now : Sequenced) → IsCircuit netlist → was.stopped ≡ None → IsFindingOfChange was.desk.netlist cap was.start change finding → IsLeftBy finding was now → AreFirstAnalyses netlist cap start (changes ++ change ∷ []) (analyses ++ Found finding ∷ []) now
+  pub one-found : (finding : FindingOf) (now : SequenceState) → IsCircuit netlist → was.stopped ≡ None → IsFindingOfChange was.desk.netlist cap was.start change finding → IsLeftBy finding was now → AreFirstAnalyses netlist cap start (changes ++ change ∷ []) (analyses ++ Found finding ∷ []) now
   one-found finding now circuit going found left =
       let right : IsFindingOfChange netlist cap was.start change finding =
       subst (λ (n : Netlist). IsFindingOfChange n cap was.start change finding) first.same found in
@@ -74,7 +74,7 @@ module _ (netlist : Netlist) (cap : ℕ) (start : List Bool) (changes : List (Li
       }
 
   -- a change that was not made
-  pub one-stopped : (var : ℕ) (now : Sequenced) → was.stopped ≡ Some var → now ≡ was → AreFirstAnalyses netlist cap start (changes ++ change ∷ []) (analyses ++ Stopped var ∷ []) now
+  pub one-stopped : (var : ℕ) (now : SequenceState) → was.stopped ≡ Some var → now ≡ was → AreFirstAnalyses netlist cap start (changes ++ change ∷ []) (analyses ++ Stopped var ∷ []) now
   one-stopped var now stopped stays =
       subst (AreFirstAnalyses netlist cap start (changes ++ change ∷ []) (analyses ++ Stopped var ∷ [])) (sym stays)
       (record {
@@ -91,7 +91,7 @@ no-later netlist cap start None = tt
 no-later netlist cap start (Some var) = refl
 
 -- after the last change they are the analyses of all
-pub all-analyses : (netlist : Netlist) (cap : ℕ) (start : List Bool) (changes : List (List (ℕ × Bool))) (analyses : List Analysis) (now : Sequenced) → AreFirstAnalyses netlist cap start changes analyses now → AreAnalyses netlist cap start changes analyses
+pub all-analyses : (netlist : Netlist) (cap : ℕ) (start : List Bool) (changes : List (List (ℕ × Bool))) (analyses : List Analysis) (now : SequenceState) → AreFirstAnalyses netlist cap start changes analyses now → AreAnalyses netlist cap start changes analyses
 all-analyses netlist cap start changes analyses now first =
     subst (λ (list : List (List (ℕ × Bool))). AreAnalyses netlist cap start list analyses) (append-nil changes)
     (subst (λ (list : List Analysis). AreAnalyses netlist cap start (changes ++ []) list) (append-nil analyses)

@@ -1,5 +1,5 @@
 pub mod NextStart
 pub mod Settling
-pub mod Left
+pub mod FindingEffects
 pub mod FirstAnalyses
 pub mod Existence

@@ -5,10 +5,10 @@ use Rattle.hz_core.specs.declared.tri.Tri.{Tri}
 use Rattle.hz_core.specs.Ternary.{tri_of, admits}
 use Rattle.hz_core.specs.Netlist.{Netlist, IsCircuit}
 use Rattle.hz_core.proofs.Refinements.{Refines-map, known-admits}
-use Rattle.hz_net.specs.Network.{Driver, driver_at, bit_at, value_at, driven, driven3, excitation, network_of, IsStable}
+use Rattle.hz_net.specs.Network.{Driver, driver_at, bit_at, value_at, driver_value, driver_value3, excitation, network_of, IsStable}
 use Rattle.hz_net.specs.Passes.{excitations, algorithm_b, AreRounds}
 use Rattle.hz_net.specs.Starts.{IsStableStart}
-use Rattle.hz_net.proofs.Excitations.{admits-driven, at-excitations, length-excitations}
+use Rattle.hz_net.proofs.Excitations.{admits-driver_value, at-excitations, length-excitations}
 use Rattle.hz_net.proofs.Places.{driver_at-input, length-network_of}
 use Rattle.hz_net.proofs.Ranks.{at-tri_of}
 use Rattle.hz_desk.specs.Finding.{FindingOf, values_a, values_b}
@@ -36,12 +36,12 @@ at-rest net input state first (suc round) are settled =
 -- such a state is stable
 rest-stable : (net : List Driver) (input state : List Bool) → IsAtRest net input state → IsStable net input state
 rest-stable net input state rest i inside =
-    let asked : tri_of (bit_at state i) ≡ driven3 input (map tri_of state) (driver_at net i) =
+    let asked : tri_of (bit_at state i) ≡ driver_value3 input (map tri_of state) (driver_at net i) =
     sym (at-tri_of state i)
     ∙ (ap (λ (values : List Tri). value_at values i) rest.same ∙ at-excitations net input (map tri_of state) i inside) in
     sym (known-admits (bit_at state i) (excitation net input state i)
     (subst (λ (value : Tri). IsTrue (admits value (excitation net input state i))) (sym asked)
-    (admits-driven input state (map tri_of state) (Refines-map state) (driver_at net i))))
+    (admits-driver_value input state (map tri_of state) (Refines-map state) (driver_at net i))))
 
 -- and its inputs are the external input
 rest-input : (netlist : Netlist) (input state : List Bool) → IsCircuit netlist → length input ≡ netlist.inputs → IsAtRest (network_of netlist) input state → take netlist.inputs state ≡ input
@@ -52,7 +52,7 @@ rest-input netlist input state circuit given rest =
     let below : i < netlist.inputs = subst (λ (n : ℕ). i < n) long inside in
     get_or-take netlist.inputs state i false below
     ∙ (rest-stable (network_of netlist) input state rest i (omega (arith, below, few, rest.long))
-    ∙ ap (driven input state) (driver_at-input netlist i circuit below)))
+    ∙ ap (driver_value input state) (driver_at-input netlist i circuit below)))
 
 -- so the next change may start there
 pub next-start : (netlist : Netlist) (input start next : List Bool) (cap : ℕ) (finding : FindingOf) → IsCircuit netlist → length input ≡ netlist.inputs → IsRightFinding (network_of netlist) input start cap finding → IsSettledAt (values_b finding.rows) next → IsStableStart netlist next

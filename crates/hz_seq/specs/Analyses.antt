@@ -2,7 +2,7 @@
 use Rattle.std.specs.Prelude.{◌≡◌, ℕ, ◌⊎◌, Bool, Some, None, List, [], ◌∷◌, map}
 use Rattle.hz_core.specs.Netlist.{Netlist}
 use Rattle.hz_desk.specs.Finding.{FindingOf, values_b}
-use Rattle.hz_seq.specs.Sequence.{Sequenced, IsFindingOfChange, IsFirstUnknown, IsLeftBy, IsSettledAt}
+use Rattle.hz_seq.specs.Sequence.{SequenceState, IsFindingOfChange, IsFirstUnknown, IsLeftBy, IsSettledAt}
 
 -- a change was made, and this was found; or it was stopped by a variable
 pub data Analysis : Type 0 where
@@ -26,7 +26,7 @@ AreAnalyses netlist cap start (change ∷ changes) (Found finding ∷ analyses) 
     ⊎ ((var : ℕ) × IsFirstUnknown (values_b finding.rows) var × (analyses ≡ all_stopped var changes)))
 
 -- A sequence goes on by a change: the change is made, or the variable that stops it leaves all as it is.
-abbrev pub GoesOn : ℕ → List (ℕ × Bool) → Analysis → Sequenced → Sequenced → Type 0
+abbrev pub GoesOn : ℕ → List (ℕ × Bool) → Analysis → SequenceState → SequenceState → Type 0
 GoesOn cap change (Found finding) was now =
     (was.stopped ≡ None) × IsFindingOfChange was.desk.netlist cap was.start change finding × IsLeftBy finding was now
 GoesOn cap change (Stopped var) was now = (was.stopped ≡ Some var) × (now ≡ was)

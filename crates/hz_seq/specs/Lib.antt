@@ -6,7 +6,7 @@
 -- IsSettledAt b state: the state in which a change settles, if it leaves no X
 -- Analysis: a change was made, with its finding, or it was stopped by a variable
 -- AreAnalyses netlist cap start changes analyses: those of changes, one after the other
--- Sequenced: a desk, the start of the next change, and the variable that stops
+-- SequenceState: a desk, the start of the next change, and the variable that stops
 -- IsLeftBy finding old new: what a change leaves
 -- GoesOn cap change analysis old new: a sequence goes on by a change
 -- HoldsSequence fields, LeavesSequence: what the code's Sequence holds

@@ -11,7 +11,7 @@ use Rattle.hz_desk.specs.Finding.{FindingOf, values_b}
 use Rattle.hz_desk.specs.RightFinding.{IsRightFinding}
 
 -- A desk, the start of the next change, and the variable that stops every later change, if there is one.
-pub record Sequenced : Type 0 where
+pub record SequenceState : Type 0 where
   pub desk : DeskOf
   pub start : List Bool
   pub stopped : Option ℕ
@@ -35,7 +35,7 @@ IsSettledAt values state = values ≡ map tri_of state
 
 -- What a finding leaves of a sequence, whose desk then holds it: if its B has no X, the next change starts at B. Otherwise the
 -- first variable that is X in B stops every later change.
-abbrev pub IsLeftBy : FindingOf → Sequenced → Sequenced → Type 0
+abbrev pub IsLeftBy : FindingOf → SequenceState → SequenceState → Type 0
 IsLeftBy finding was now =
     (now.desk.netlist ≡ was.desk.netlist) × (now.desk.finding ≡ finding)
     × (((now.stopped ≡ None) × IsSettledAt (values_b finding.rows) now.start)

@@ -34,10 +34,10 @@ pub struct Sequence<'n> {
 }
 
 impl<'n> Model for Sequence<'n> {
-    ghost use Rattle.hz_seq.specs.Sequence.{Sequenced};
+    ghost use Rattle.hz_seq.specs.Sequence.{SequenceState};
     ghost use Rattle.hz_seq.specs.Inside.{HoldsSequence};
 
-    ghost Value = { Sequenced };
+    ghost Value = { SequenceState };
 
     ghost view = { λ fields. record { desk = fields.desk; start = fields.start.items; stopped = fields.stopped } };
 

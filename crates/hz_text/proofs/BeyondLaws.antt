@@ -6,38 +6,38 @@ use Rattle.std.proofs.lemmas.List.Sums.{sum_by-cons}
 use Rattle.std.proofs.lemmas.Option.{same_Some, none-some}
 use Rattle.hz_gmw.specs.Least.{IsLeastOf}
 use Rattle.hz_line.specs.Statement.{Numbered}
-use Rattle.hz_text.specs.RunLookup.{LookedRun}
-use Rattle.hz_text.specs.RunFault.{variables_in, steps_in, step_count, named_count, IsBeyond}
+use Rattle.hz_text.specs.RunResolution.{ResolvedRunStatement}
+use Rattle.hz_text.specs.RunFault.{variables_in, steps_in, statement_step_count, named_count, IsBeyond}
 use Rattle.hz_text.specs.RunRules.{beyond_from}
 
 -- how many steps a numbered statement is, and how many variables it names
-abbrev steps_at : Numbered LookedRun → ℕ
+abbrev steps_at : Numbered ResolvedRunStatement → ℕ
 steps_at numbered = steps_in numbered.statement
 
-abbrev names_at : Numbered LookedRun → ℕ
+abbrev names_at : Numbered ResolvedRunStatement → ℕ
 names_at numbered = length (variables_in numbered.statement)
 
 -- too many, where there were so many before
-abbrev AreTooManyFrom : ℕ → ℕ → List (Numbered LookedRun) → Type 0
-AreTooManyFrom steps names statements = (2000000 < steps + step_count statements) ⊎ (2000000 < names + named_count statements)
+abbrev AreTooManyFrom : ℕ → ℕ → List (Numbered ResolvedRunStatement) → Type 0
+AreTooManyFrom steps names statements = (2000000 < steps + statement_step_count statements) ⊎ (2000000 < names + named_count statements)
 
-record IsBeyondFrom (steps names : ℕ) (statements : List (Numbered LookedRun)) (line : ℕ) : Type 0 where
-  before : List (Numbered LookedRun)
-  last : Numbered LookedRun
-  after : List (Numbered LookedRun)
+record IsBeyondFrom (steps names : ℕ) (statements : List (Numbered ResolvedRunStatement)) (line : ℕ) : Type 0 where
+  before : List (Numbered ResolvedRunStatement)
+  last : Numbered ResolvedRunStatement
+  after : List (Numbered ResolvedRunStatement)
   are : statements ≡ before ++ last ∷ after
   here : last.line ≡ line
   beyond : AreTooManyFrom steps names (before ++ last ∷ [])
   within : ¬ AreTooManyFrom steps names before
 
 -- one statement more before the others
-more : (steps names : ℕ) (first : Numbered LookedRun) (later : List (Numbered LookedRun)) → AreTooManyFrom (steps + steps_at first) (names + names_at first) later → AreTooManyFrom steps names (first ∷ later)
+more : (steps names : ℕ) (first : Numbered ResolvedRunStatement) (later : List (Numbered ResolvedRunStatement)) → AreTooManyFrom (steps + steps_at first) (names + names_at first) later → AreTooManyFrom steps names (first ∷ later)
 more steps names first later h = elim h [
   | inl l ↦ inl (omega (arith, l, sum_by-cons steps_at first later))
   | inr r ↦ inr (omega (arith, r, sum_by-cons names_at first later))
 ]
 
-less : (steps names : ℕ) (first : Numbered LookedRun) (later : List (Numbered LookedRun)) → AreTooManyFrom steps names (first ∷ later) → AreTooManyFrom (steps + steps_at first) (names + names_at first) later
+less : (steps names : ℕ) (first : Numbered ResolvedRunStatement) (later : List (Numbered ResolvedRunStatement)) → AreTooManyFrom steps names (first ∷ later) → AreTooManyFrom (steps + steps_at first) (names + names_at first) later
 less steps names first later h = elim h [
   | inl l ↦ inl (omega (arith, l, sum_by-cons steps_at first later))
   | inr r ↦ inr (omega (arith, r, sum_by-cons names_at first later))
@@ -62,7 +62,7 @@ under-parts steps names t = by_test (nat_lt 2000000 steps) refl t
     by_test false s w = (grind (arith, nat_tests, s), grind (arith, nat_tests, w))
 
 -- a line that is found is the first beyond the limits
-found : (steps names line : ℕ) (statements : List (Numbered LookedRun)) → steps ≤ 2000000 → names ≤ 2000000 → beyond_from steps names statements ≡ Some line → IsBeyondFrom steps names statements line
+found : (steps names line : ℕ) (statements : List (Numbered ResolvedRunStatement)) → steps ≤ 2000000 → names ≤ 2000000 → beyond_from steps names statements ≡ Some line → IsBeyondFrom steps names statements line
 found steps names line [] s n e = cc
 found steps names line (first ∷ later) s n e =
     by_test (is_over (steps + steps_at first) (names + names_at first)) refl e (found (steps + steps_at first) (names + names_at first) line later)
@@ -99,7 +99,7 @@ found steps names line (first ∷ later) s n e =
 
 -- the first line beyond the limits is found
 finds :
-    (steps names : ℕ) (before : List (Numbered LookedRun)) (last : Numbered LookedRun) (after : List (Numbered LookedRun)) →
+    (steps names : ℕ) (before : List (Numbered ResolvedRunStatement)) (last : Numbered ResolvedRunStatement) (after : List (Numbered ResolvedRunStatement)) →
     AreTooManyFrom steps names (before ++ last ∷ []) → (AreTooManyFrom steps names before → ⊥) → beyond_from steps names (before ++ last ∷ after) ≡ Some last.line
 finds steps names [] last after h none = by_test (is_over (steps + steps_at last) (names + names_at last)) refl
   where
@@ -122,7 +122,7 @@ finds steps names (first ∷ before) last after h none =
     ])))
     by_test false t ih = ih
 
-beyond-found : (statements : List (Numbered LookedRun)) (line : ℕ) → beyond_from 0 0 statements ≡ Some line → IsBeyond statements line
+beyond-found : (statements : List (Numbered ResolvedRunStatement)) (line : ℕ) → beyond_from 0 0 statements ≡ Some line → IsBeyond statements line
 beyond-found statements line e =
     let is = found 0 0 line statements (omega arith) (omega arith) e in
     record {
@@ -135,7 +135,7 @@ beyond-found statements line e =
       within = λ h. is.within (elim h [ inl l ↦ inl (omega (arith, l)) | inr r ↦ inr (omega (arith, r)) ]);
     }
 
-beyond-finds : (statements : List (Numbered LookedRun)) (line : ℕ) → IsBeyond statements line → beyond_from 0 0 statements ≡ Some line
+beyond-finds : (statements : List (Numbered ResolvedRunStatement)) (line : ℕ) → IsBeyond statements line → beyond_from 0 0 statements ≡ Some line
 beyond-finds statements line is =
     ap (beyond_from 0 0) is.are
     ∙ finds 0 0 is.before is.last is.after
@@ -144,7 +144,7 @@ beyond-finds statements line is =
     ∙ ap Some is.here
 
 -- the count answers the first line beyond the limits
-pub answers_beyond : (statements : List (Numbered LookedRun)) (answer : Option ℕ) → beyond_from 0 0 statements ≡ answer → IsLeastOf (IsBeyond statements) answer
+pub answers_beyond : (statements : List (Numbered ResolvedRunStatement)) (answer : Option ℕ) → beyond_from 0 0 statements ≡ answer → IsLeastOf (IsBeyond statements) answer
 answers_beyond statements None e = λ line is. none-some line (sym e ∙ beyond-finds statements line is)
 answers_beyond statements (Some least) e =
     record { here = beyond-found statements least e; least = λ line is. omega (arith, same_Some least line (sym e ∙ beyond-finds statements line is)) }

@@ -7,13 +7,13 @@ use Rattle.std.proofs.lemmas.Bool.Decides.{nat_tests}
 use Rattle.std.proofs.lemmas.List.{same_lists, get_or-set_same, get_or-set_other, length-set, length-map, length-replicate, get_or-replicate, take_more, map-append, length-take-le, take_all}
 use Rattle.std.proofs.lemmas.List.Elements.{filter_map-append, All-head, All-tail, All-cons, All-nil}
 use Rattle.std.proofs.lemmas.List.FromFn.{get_or-map-range_with_len, length-range_with_len}
-use Rattle.hz_text.specs.Assignment.{Assigned, has_repeat, bit_at, assignment_to}
+use Rattle.hz_text.specs.Assignment.{Assigned, has_repeat, assigned_bit, assignment_to}
 use Rattle.hz_line.specs.Statement.{Numbered}
-use Rattle.hz_text.specs.Lookup.{Entry, Looked, held_by, entered}
+use Rattle.hz_text.specs.Resolution.{ScriptEntry, ResolvedStatement, resolution_of, numbered_resolution}
 use Rattle.hz_text.specs.ScriptValue.{IsChange, ScriptOf}
-use Rattle.hz_text.specs.Bits.{ArePairs, bits_at, IsPair, pair_of}
+use Rattle.hz_text.specs.Bits.{ArePairs, assigned_bits, IsPair, pair_of}
 use Rattle.hz_text.specs.ScriptText.{IsScriptBy, IsScriptOf}
-use Rattle.hz_text.specs.Rules.{nodes_of}
+use Rattle.hz_text.specs.Rules.{assigned_nodes}
 use Rattle.hz_text.specs.ScriptReading.{IsSound}
 use Rattle.hz_text.proofs.NodeLemmas.{has_repeat-push, has_repeat-append}
 
@@ -45,9 +45,9 @@ pairs_below nodes (first ∷ later) h = step (pair_at nodes first (All-head (IsP
     step : (pair : ℕ × Bool) × IsPairOf nodes first pair → All (λ pair. pair.0 < nodes) (filter_map pair_of later) → All (λ pair. pair.0 < nodes) (filter_map pair_of (first ∷ later))
     step (pair, is) ih = rw is.pairs (All-cons (λ (pair : ℕ × Bool). pair.0 < nodes) pair _ is.below ih)
 
-pub nodes_of-pairs : (pairs : List (ℕ × Bool)) → nodes_of (map assignment_to pairs) ≡ map (λ pair. pair.0) pairs
-nodes_of-pairs [] = refl
-nodes_of-pairs (pair ∷ pairs) = ap (λ rest. pair.0 ∷ rest) (nodes_of-pairs pairs)
+pub assigned_nodes-pairs : (pairs : List (ℕ × Bool)) → assigned_nodes (map assignment_to pairs) ≡ map (λ pair. pair.0) pairs
+assigned_nodes-pairs [] = refl
+assigned_nodes-pairs (pair ∷ pairs) = ap (λ rest. pair.0 ∷ rest) (assigned_nodes-pairs pairs)
 
 pub or_parts : (a b : Bool) → (a || b) ≡ false → (a ≡ false) × (b ≡ false)
 or_parts true b h = cc
@@ -75,40 +75,40 @@ repeat_from_IsDistinct (x ∷ xs) h = rw (repeat_from_none x xs h.0, repeat_from
 pub change_of : (nodes : ℕ) (all : List Assigned) → ArePairs nodes all → IsChange nodes (filter_map pair_of all)
 change_of nodes all h = record {
   below = pairs_below nodes all h.pairs;
-  distinct = IsDistinct-from_repeat _ (ap (has_repeat nat_eq) (sym (nodes_of-pairs (filter_map pair_of all)) ∙ ap nodes_of (pairs_back nodes all h.pairs)) ∙ h.fresh);
+  distinct = IsDistinct-from_repeat _ (ap (has_repeat nat_eq) (sym (assigned_nodes-pairs (filter_map pair_of all)) ∙ ap assigned_nodes (pairs_back nodes all h.pairs)) ∙ h.fresh);
 }
 
-bit_at-push_other : (pairs : List (ℕ × Bool)) (node i : ℕ) (bit : Bool) → i ≢ node → bit_at (map assignment_to (pairs ++ (node, bit) ∷ [])) i ≡ bit_at (map assignment_to pairs) i
-bit_at-push_other [] node i bit ne = let off : nat_eq i node ≡ false = grind (arith, nat_tests, ne) in rw off refl
-bit_at-push_other (pair ∷ pairs) node i bit ne = ap (λ rest. cond (nat_eq i pair.0) (Some pair.1) rest) (bit_at-push_other pairs node i bit ne)
+assigned_bit-push_other : (pairs : List (ℕ × Bool)) (node i : ℕ) (bit : Bool) → i ≢ node → assigned_bit (map assignment_to (pairs ++ (node, bit) ∷ [])) i ≡ assigned_bit (map assignment_to pairs) i
+assigned_bit-push_other [] node i bit ne = let off : nat_eq i node ≡ false = grind (arith, nat_tests, ne) in rw off refl
+assigned_bit-push_other (pair ∷ pairs) node i bit ne = ap (λ rest. cond (nat_eq i pair.0) (Some pair.1) rest) (assigned_bit-push_other pairs node i bit ne)
 
-bit_at-push_same : (pairs : List (ℕ × Bool)) (node : ℕ) (bit : Bool) → list_any (nat_eq node) (map (λ pair. pair.0) pairs) ≡ false → bit_at (map assignment_to (pairs ++ (node, bit) ∷ [])) node ≡ Some bit
-bit_at-push_same [] node bit h = let on : nat_eq node node ≡ true = grind (arith, nat_tests) in rw on refl
-bit_at-push_same (pair ∷ pairs) node bit h =
-    let parts = or_parts (nat_eq node pair.0) _ h in rw parts.0 (bit_at-push_same pairs node bit parts.1)
+assigned_bit-push_same : (pairs : List (ℕ × Bool)) (node : ℕ) (bit : Bool) → list_any (nat_eq node) (map (λ pair. pair.0) pairs) ≡ false → assigned_bit (map assignment_to (pairs ++ (node, bit) ∷ [])) node ≡ Some bit
+assigned_bit-push_same [] node bit h = let on : nat_eq node node ≡ true = grind (arith, nat_tests) in rw on refl
+assigned_bit-push_same (pair ∷ pairs) node bit h =
+    let parts = or_parts (nat_eq node pair.0) _ h in rw parts.0 (assigned_bit-push_same pairs node bit parts.1)
 
-pub length-bits : (pairs : List (ℕ × Bool)) (nodes : ℕ) → length (bits_at pairs nodes) ≡ nodes
-length-bits pairs nodes = length-map (range_with_len 0 nodes) (bit_at (map assignment_to pairs)) ∙ length-range_with_len 0 nodes
+pub length-bits : (pairs : List (ℕ × Bool)) (nodes : ℕ) → length (assigned_bits pairs nodes) ≡ nodes
+length-bits pairs nodes = length-map (range_with_len 0 nodes) (assigned_bit (map assignment_to pairs)) ∙ length-range_with_len 0 nodes
 
-pub get_or-bits : (pairs : List (ℕ × Bool)) (nodes i : ℕ) (d : Option Bool) → i < nodes → get_or (bits_at pairs nodes) i d ≡ bit_at (map assignment_to pairs) i
-get_or-bits pairs nodes i d h = get_or-map-range_with_len (bit_at (map assignment_to pairs)) 0 nodes i i d h (zero-add i)
+pub get_or-bits : (pairs : List (ℕ × Bool)) (nodes i : ℕ) (d : Option Bool) → i < nodes → get_or (assigned_bits pairs nodes) i d ≡ assigned_bit (map assignment_to pairs) i
+get_or-bits pairs nodes i d h = get_or-map-range_with_len (assigned_bit (map assignment_to pairs)) 0 nodes i i d h (zero-add i)
 
-pub bits_at-none : (nodes : ℕ) → replicate nodes None ≡ bits_at [] nodes
-bits_at-none nodes =
+pub assigned_bits-none : (nodes : ℕ) → replicate nodes None ≡ assigned_bits [] nodes
+assigned_bits-none nodes =
     same_lists _ _ (length-replicate nodes None ∙ sym (length-bits [] nodes))
     (λ i d h. let l : i < nodes = omega (arith, h, length-replicate {A = Option Bool} nodes None) in get_or-replicate nodes i None d l ∙ sym (get_or-bits [] nodes i d l))
 
 -- one node more is listed
-pub bits_at-push : (pairs : List (ℕ × Bool)) (nodes node : ℕ) (bit : Bool) → node < nodes → list_any (nat_eq node) (map (λ pair. pair.0) pairs) ≡ false → set (bits_at pairs nodes) node (Some bit) ≡ bits_at (pairs ++ (node, bit) ∷ []) nodes
-bits_at-push pairs nodes node bit within new =
-    same_lists _ _ (length-set (bits_at pairs nodes) node (Some bit) ∙ length-bits pairs nodes ∙ sym (length-bits (pairs ++ (node, bit) ∷ []) nodes))
+pub assigned_bits-push : (pairs : List (ℕ × Bool)) (nodes node : ℕ) (bit : Bool) → node < nodes → list_any (nat_eq node) (map (λ pair. pair.0) pairs) ≡ false → set (assigned_bits pairs nodes) node (Some bit) ≡ assigned_bits (pairs ++ (node, bit) ∷ []) nodes
+assigned_bits-push pairs nodes node bit within new =
+    same_lists _ _ (length-set (assigned_bits pairs nodes) node (Some bit) ∙ length-bits pairs nodes ∙ sym (length-bits (pairs ++ (node, bit) ∷ []) nodes))
     (λ i d h.
-    let l : i < nodes = omega (arith, h, length-set (bits_at pairs nodes) node (Some bit), length-bits pairs nodes) in
+    let l : i < nodes = omega (arith, h, length-set (assigned_bits pairs nodes) node (Some bit), length-bits pairs nodes) in
     elim (cases_eq i node) [
       | inl same ↦
-          rw same (get_or-set_same (bits_at pairs nodes) node (Some bit) d (omega (arith, length-bits pairs nodes)) ∙ sym (bit_at-push_same pairs node bit new) ∙ sym (get_or-bits (pairs ++ (node, bit) ∷ []) nodes node d within))
+          rw same (get_or-set_same (assigned_bits pairs nodes) node (Some bit) d (omega (arith, length-bits pairs nodes)) ∙ sym (assigned_bit-push_same pairs node bit new) ∙ sym (get_or-bits (pairs ++ (node, bit) ∷ []) nodes node d within))
       | inr ne ↦
-          get_or-set_other (bits_at pairs nodes) node i (Some bit) d ne ∙ get_or-bits pairs nodes i d l ∙ sym (bit_at-push_other pairs node i bit ne) ∙ sym (get_or-bits (pairs ++ (node, bit) ∷ []) nodes i d l)
+          get_or-set_other (assigned_bits pairs nodes) node i (Some bit) d ne ∙ get_or-bits pairs nodes i d l ∙ sym (assigned_bit-push_other pairs node i bit ne) ∙ sym (get_or-bits (pairs ++ (node, bit) ∷ []) nodes i d l)
     ])
 
 -- no node of a front is that of the pair after it
@@ -134,31 +134,31 @@ pairs-push all one = ap (λ rest. filter_map pair_of all ++ rest) (by_cases (pai
     by_cases (Some pair) = refl
 
 -- the assignments of a statement with its line
-abbrev pub assigned_in : Numbered Looked → List Assigned
+abbrev pub assigned_in : Numbered ResolvedStatement → List Assigned
 assigned_in numbered = numbered.statement.assigned
 
-pub entry_sound : (nodes : ℕ) (entries : List Entry) (i : ℕ) (entry : Entry) → i < length entries → entry ≡ get_or entries i entry → All (λ entry. IsSound nodes (held_by entry.held)) entries → IsSound nodes (held_by entry.held)
-entry_sound nodes entries i entry l is h = let P : Entry → Type 0 = λ entry. IsSound nodes (held_by entry.held) in subst P (sym is) (h i entry l)
+pub entry_sound : (nodes : ℕ) (entries : List ScriptEntry) (i : ℕ) (entry : ScriptEntry) → i < length entries → entry ≡ get_or entries i entry → All (λ entry. IsSound nodes (resolution_of entry.held)) entries → IsSound nodes (resolution_of entry.held)
+entry_sound nodes entries i entry l is h = let P : ScriptEntry → Type 0 = λ entry. IsSound nodes (resolution_of entry.held) in subst P (sym is) (h i entry l)
 
-pub changes_step : (entries : List Entry) (i : ℕ) (entry : Entry) (old new : List (List (ℕ × Bool))) (pairs : List (ℕ × Bool)) → i < length entries → entry ≡ get_or entries i entry → new ≡ old ++ pairs ∷ [] → map (map assignment_to) old ≡ map assigned_in (map entered (take i entries)) → map assignment_to pairs ≡ entry.held.assigned.items → map (map assignment_to) new ≡ map assigned_in (map entered (take (i + 1) entries))
+pub changes_step : (entries : List ScriptEntry) (i : ℕ) (entry : ScriptEntry) (old new : List (List (ℕ × Bool))) (pairs : List (ℕ × Bool)) → i < length entries → entry ≡ get_or entries i entry → new ≡ old ++ pairs ∷ [] → map (map assignment_to) old ≡ map assigned_in (map numbered_resolution (take i entries)) → map assignment_to pairs ≡ entry.held.assigned.items → map (map assignment_to) new ≡ map assigned_in (map numbered_resolution (take (i + 1) entries))
 changes_step entries i entry old new pairs l is e inv one =
-    let F : Entry → List Assigned = λ entry. entry.held.assigned.items in
+    let F : ScriptEntry → List Assigned = λ entry. entry.held.assigned.items in
     ap (map (map assignment_to)) e
     ∙ map-append (map assignment_to) old (pairs ∷ [])
     ∙ ap (λ front. front ++ map assignment_to pairs ∷ []) inv
-    ∙ ap (λ last. map assigned_in (map entered (take i entries)) ++ last ∷ []) (one ∙ ap F is)
-    ∙ sym (ap (λ xs. map assigned_in (map entered xs)) (take_more entries i entry l)
-    ∙ ap (map assigned_in) (map-append entered (take i entries) (get_or entries i entry ∷ []))
-    ∙ map-append assigned_in (map entered (take i entries)) (entered (get_or entries i entry) ∷ []))
+    ∙ ap (λ last. map assigned_in (map numbered_resolution (take i entries)) ++ last ∷ []) (one ∙ ap F is)
+    ∙ sym (ap (λ xs. map assigned_in (map numbered_resolution xs)) (take_more entries i entry l)
+    ∙ ap (map assigned_in) (map-append numbered_resolution (take i entries) (get_or entries i entry ∷ []))
+    ∙ map-append assigned_in (map numbered_resolution (take i entries)) (numbered_resolution (get_or entries i entry) ∷ []))
 
-pub changes_counted : (entries : List Entry) (i : ℕ) (old : List (List (ℕ × Bool))) → i < length entries → map (map assignment_to) old ≡ map assigned_in (map entered (take i entries)) → length old ≡ i
+pub changes_counted : (entries : List ScriptEntry) (i : ℕ) (old : List (List (ℕ × Bool))) → i < length entries → map (map assignment_to) old ≡ map assigned_in (map numbered_resolution (take i entries)) → length old ≡ i
 changes_counted entries i old l inv =
-    let e : length (map (map assignment_to) old) ≡ length (map assigned_in (map entered (take i entries))) = ap length inv in
-    omega (arith, e, length-map old (map assignment_to), length-map (map entered (take i entries)) assigned_in, length-map (take i entries) entered, length-take-le i entries (omega arith))
+    let e : length (map (map assignment_to) old) ≡ length (map assigned_in (map numbered_resolution (take i entries))) = ap length inv in
+    omega (arith, e, length-map old (map assignment_to), length-map (map numbered_resolution (take i entries)) assigned_in, length-map (take i entries) numbered_resolution, length-take-le i entries (omega arith))
 
-pub whole_script : (nodes : ℕ) (entries : List Entry) (entry : Entry) (script : ScriptOf) → 0 < length entries → entry ≡ get_or entries 0 entry → IsScriptBy nodes (held_by entry.held) (map entered (take (length entries - 1) (drop 1 entries))) script → IsScriptOf nodes (map entered entries) script
+pub whole_script : (nodes : ℕ) (entries : List ScriptEntry) (entry : ScriptEntry) (script : ScriptOf) → 0 < length entries → entry ≡ get_or entries 0 entry → IsScriptBy nodes (resolution_of entry.held) (map numbered_resolution (take (length entries - 1) (drop 1 entries))) script → IsScriptOf nodes (map numbered_resolution entries) script
 whole_script nodes [] entry script l is h = absurd (omega arith)
 whole_script nodes (first ∷ later) entry script l is h =
     let all : take (length (first ∷ later) - 1) later ≡ later = take_all (length (first ∷ later) - 1) later (omega arith) in
-    let P : Entry → Type 0 = λ entry. IsScriptBy nodes (held_by entry.held) (map entered later) script in
+    let P : ScriptEntry → Type 0 = λ entry. IsScriptBy nodes (resolution_of entry.held) (map numbered_resolution later) script in
     subst P is (rw all at h)

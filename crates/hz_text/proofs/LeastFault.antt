@@ -6,20 +6,20 @@ use Rattle.std.proofs.lemmas.Bool.{cases_lt, cases_eq}
 use Rattle.std.proofs.lemmas.Bool.Decides.{nat_tests}
 use Rattle.std.proofs.lemmas.Option.{same_Some, none-some}
 use Rattle.hz_gmw.specs.Least.{IsLeastOf}
-use Rattle.hz_line.specs.Reading.{IsRead}
+use Rattle.hz_line.specs.Reading.{AreStatementsOf}
 use Rattle.hz_line.specs.Token.{TokenOf}
-use Rattle.hz_line.specs.Statement.{Numbered, PassesOn, first_line}
-use Rattle.hz_line.proofs.StatementLemmas.{Ascends, first_line-Some, first_line-None}
+use Rattle.hz_line.specs.Statement.{Numbered, PassesOn, first_passing_line}
+use Rattle.hz_line.proofs.StatementLemmas.{Ascends, first_passing_line-Some, first_passing_line-None}
 use Rattle.hz_text.specs.declared.fault.TextFault.{TextFault}
 use Rattle.hz_text.specs.declared.fault.TextFault.TheVariants.{Form, Unknown, Twice, Missing, Bit, Order, TooMany, Memory, Mismatch}
 use Rattle.hz_text.specs.declared.fault.Mismatch.{Mismatch as Wrong}
-use Rattle.hz_text.specs.Fault.{number_of, place_of, ComesFirst, IsLeastFaultOf, IsLeastFaultOrMemory}
-use Rattle.hz_text.specs.Rules.{Rules, mismatch_at, first_fault_in, first_fault_of, IsAnswer, IsChecked}
-use Rattle.hz_text.specs.RunRules.{lesser}
+use Rattle.hz_text.specs.Fault.{fault_number, place_of, ComesFirst, IsLeastFaultOf, IsLeastFaultOrMemory}
+use Rattle.hz_text.specs.Rules.{Rules, mismatch_at, first_fault_in, first_fault_of, IsFaultOrMemory, IsChecked}
+use Rattle.hz_text.specs.RunRules.{option_min}
 
 -- no fault with a number below this one stands
 abbrev pub NoneBelow : (TextFault → Type 0) → ℕ → Type 0
-NoneBelow stands number = (fault : TextFault) → stands fault → number ≤ number_of fault
+NoneBelow stands number = (fault : TextFault) → stands fault → number ≤ fault_number fault
 
 -- what an answer says: no fault stands, or this one is the least
 abbrev pub Outcome : (TextFault → Type 0) → Option TextFault → Type 0
@@ -47,7 +47,7 @@ fault_of number place told real =
     else (if number == 7 then TooMany place
     else (if number == 9 then Mismatch place told real else Memory)))))))
 
-pub fault_of-back : (fault : TextFault) → fault_of (number_of fault) (place_of fault) (told_of fault) (real_of fault) ≡ fault
+pub fault_of-back : (fault : TextFault) → fault_of (fault_number fault) (place_of fault) (told_of fault) (real_of fault) ≡ fault
 fault_of-back (Form line) = refl
 fault_of-back (Unknown line) = refl
 fault_of-back (Twice line) = refl
@@ -58,20 +58,20 @@ fault_of-back (TooMany line) = refl
 fault_of-back Memory = refl
 fault_of-back (Mismatch line told real) = refl
 
-pub both-first : (fault other : TextFault) → ComesFirst fault other → ComesFirst other fault → (number_of fault ≡ number_of other) × (place_of fault ≡ place_of other)
+pub both-first : (fault other : TextFault) → ComesFirst fault other → ComesFirst other fault → (fault_number fault ≡ fault_number other) × (place_of fault ≡ place_of other)
 both-first fault other (inl a) (inl b) = absurd (omega (arith, a, b))
 both-first fault other (inl a) (inr b) = absurd (omega (arith, a, b.0))
 both-first fault other (inr a) (inl b) = absurd (omega (arith, a.0, b))
 both-first fault other (inr a) (inr b) = (a.0, omega (arith, a.1, b.1))
 
 -- a fault by its number
-same_fault : (fault : TextFault) (number : ℕ) → number_of fault ≡ number → fault ≡ fault_of number (place_of fault) (told_of fault) (real_of fault)
+same_fault : (fault : TextFault) (number : ℕ) → fault_number fault ≡ number → fault ≡ fault_of number (place_of fault) (told_of fault) (real_of fault)
 same_fault fault number e = sym (fault_of-back fault) ∙ ap (λ n. fault_of n (place_of fault) (told_of fault) (real_of fault)) e
 
 -- a kind of fault that carries a place alone
 abbrev pub IsKind : (ℕ → TextFault) → ℕ → Type 0
 IsKind kind number =
-    (place told real : ℕ) → (number_of (kind place) ≡ number) × (place_of (kind place) ≡ place) × (kind place ≡ fault_of number place told real)
+    (place told real : ℕ) → (fault_number (kind place) ≡ number) × (place_of (kind place) ≡ place) × (kind place ≡ fault_of number place told real)
 
 -- the pass for one kind, where no fault with a lesser number stands
 pub outcome-step :
@@ -79,23 +79,23 @@ pub outcome-step :
     NoneBelow stands number → IsLeastOf (λ place. stands (kind place)) answer →
     (answer ≡ None → NoneBelow stands (number + 1) → Outcome stands rest) → Outcome stands (option_or (option_map kind answer) rest)
 outcome-step stands kind number None rest is below none next =
-    next refl (λ fault s. elim (cases_eq (number_of fault) number) [
+    next refl (λ fault s. elim (cases_eq (fault_number fault) number) [
       | inl same ↦ absurd (none (place_of fault) (subst stands (same_fault fault number same ∙ sym (is (place_of fault) (told_of fault) (real_of fault)).2) s))
       | inr other ↦ above fault (below fault s) other
     ])
   where
-    above : (fault : TextFault) → number ≤ number_of fault → (number_of fault ≡ number → ⊥) → number + 1 ≤ number_of fault
-    above fault low other = elim (cases_lt number (number_of fault)) [
+    above : (fault : TextFault) → number ≤ fault_number fault → (fault_number fault ≡ number → ⊥) → number + 1 ≤ fault_number fault
+    above fault low other = elim (cases_lt number (fault_number fault)) [
       | inl l ↦ omega (arith, l)
       | inr l ↦ absurd (other (omega (arith, l, low)))
     ]
 outcome-step stands kind number (Some place) rest is below least next =
     record {
       stands = least.here;
-      first = λ other s. elim (cases_lt number (number_of other)) [
+      first = λ other s. elim (cases_lt number (fault_number other)) [
         | inl l ↦ inl (omega (arith, l, (is place 0 0).0))
         | inr l ↦ (
-            let same : number_of other ≡ number = omega (arith, l, below other s) in
+            let same : fault_number other ≡ number = omega (arith, l, below other s) in
             let at = least.least (place_of other) (subst stands (same_fault other number same ∙ sym (is (place_of other) (told_of other) (real_of other)).2) s) in
             inr (((is place 0 0).0 ∙ sym same), omega (arith, at, (is place 0 0).1))
             )
@@ -156,9 +156,9 @@ outcome-mismatch stands (Some wrong) one never below here = record { stands = he
     first (TooMany line) s = absurd (omega (arith, below (TooMany line) s))
 
 -- the first statement that passes a test is the least line of those that do
-pub answers_first : {S : Type 0} (test : S → Bool) (statements : List (Numbered S)) (answer : Option ℕ) → Ascends 1 statements → first_line test statements ≡ answer → IsLeastOf (PassesOn test statements) answer
-answers_first test statements None up e = first_line-None test statements e
-answers_first test statements (Some line) up e = let is = first_line-Some test statements 1 line up e in record { here = is.passes; least = is.least }
+pub answers_first : {S : Type 0} (test : S → Bool) (statements : List (Numbered S)) (answer : Option ℕ) → Ascends 1 statements → first_passing_line test statements ≡ answer → IsLeastOf (PassesOn test statements) answer
+answers_first test statements None up e = first_passing_line-None test statements e
+answers_first test statements (Some line) up e = let is = first_passing_line-Some test statements 1 line up e in record { here = is.passes; least = is.least }
 
 -- an equation has its own answer
 pub answers_itself : (answer : Option ℕ) → IsLeastOf (λ place. answer ≡ Some place) answer
@@ -166,7 +166,7 @@ answers_itself None = λ place e. none-some place e
 answers_itself (Some least) = record { here = refl; least = λ place e. omega (arith, same_Some least place e) }
 
 -- the lesser of two answers
-pub answers_either : (first second : ℕ → Type 0) (a b : Option ℕ) → IsLeastOf first a → IsLeastOf second b → IsLeastOf (λ place. first place ⊎ second place) (lesser a b)
+pub answers_either : (first second : ℕ → Type 0) (a b : Option ℕ) → IsLeastOf first a → IsLeastOf second b → IsLeastOf (λ place. first place ⊎ second place) (option_min a b)
 answers_either first second None None p q = λ place h. elim h [ inl l ↦ p place l | inr r ↦ q place r ]
 answers_either first second None (Some b) p q = record { here = inr q.here; least = λ place h. elim h [ inl l ↦ absurd (p place l) | inr r ↦ q.least place r ] }
 answers_either first second (Some a) None p q = record { here = inl p.here; least = λ place h. elim h [ inl l ↦ p.least place l | inr r ↦ absurd (q place r) ] }
@@ -181,11 +181,11 @@ answers_either first second (Some a) (Some b) p q = by_test (nat_le a b) refl
         record { here = inr q.here; least = λ place h. elim h [ inl l ↦ omega (arith, low, p.least place l) | inr r ↦ q.least place r ] }
 
 -- a fault by the number of those that carry counts
-is_mismatch : (fault : TextFault) → number_of fault ≡ 9 → fault ≡ Mismatch (place_of fault) (told_of fault) (real_of fault)
+is_mismatch : (fault : TextFault) → fault_number fault ≡ 9 → fault ≡ Mismatch (place_of fault) (told_of fault) (real_of fault)
 is_mismatch fault e = same_fault fault 9 e
 
 -- the other faults carry no counts
-no_counts : (fault : TextFault) → ¬ (number_of fault ≡ 9) → (told_of fault ≡ 0) × (real_of fault ≡ 0)
+no_counts : (fault : TextFault) → ¬ (fault_number fault ≡ 9) → (told_of fault ≡ 0) × (real_of fault ≡ 0)
 no_counts (Form line) n = (refl, refl)
 no_counts (Unknown line) n = (refl, refl)
 no_counts (Twice line) n = (refl, refl)
@@ -200,7 +200,7 @@ no_counts (Mismatch line told real) n = absurd (n refl)
 pub least-unique : (stands : TextFault → Type 0) (fault other : TextFault) → OneMismatch stands → IsLeastFaultOf stands fault → IsLeastFaultOf stands other → fault ≡ other
 least-unique stands fault other one a b =
     let same = both-first fault other (a.first other b.stands) (b.first fault a.stands) in
-    elim (cases_eq (number_of fault) 9) [
+    elim (cases_eq (fault_number fault) 9) [
       | inl nine ↦ (
           let left = is_mismatch fault nine in
           let right = is_mismatch other (sym same.0 ∙ nine) in
@@ -211,9 +211,9 @@ least-unique stands fault other one a b =
           let right = no_counts other (λ e. none (same.0 ∙ e)) in
           sym (fault_of-back fault)
           ∙ ap (λ number. fault_of number (place_of fault) (told_of fault) (real_of fault)) same.0
-          ∙ ap (λ place. fault_of (number_of other) place (told_of fault) (real_of fault)) same.1
-          ∙ ap (λ told. fault_of (number_of other) (place_of other) told (real_of fault)) (left.0 ∙ sym right.0)
-          ∙ ap (λ real. fault_of (number_of other) (place_of other) (told_of other) real) (left.1 ∙ sym right.1)
+          ∙ ap (λ place. fault_of (fault_number other) place (told_of fault) (real_of fault)) same.1
+          ∙ ap (λ told. fault_of (fault_number other) (place_of other) told (real_of fault)) (left.0 ∙ sym right.0)
+          ∙ ap (λ real. fault_of (fault_number other) (place_of other) (told_of other) real) (left.1 ∙ sym right.1)
           ∙ fault_of-back other
           )
     ]
@@ -224,7 +224,7 @@ exact stands fault other one (inl memory) least = inr memory
 exact stands fault other one (inr h) least = inl (least-unique stands fault other one h least)
 
 -- what an answer of the passes says of the fault that it gives
-pub answered : (stands : TextFault → Type 0) (answer : Option TextFault) (fault : TextFault) → Outcome stands answer → IsAnswer answer fault → IsLeastFaultOrMemory stands fault
+pub answered : (stands : TextFault → Type 0) (answer : Option TextFault) (fault : TextFault) → Outcome stands answer → IsFaultOrMemory answer fault → IsLeastFaultOrMemory stands fault
 answered stands answer fault outcome (inl memory) = inl memory
 answered stands answer fault outcome (inr found) = let P : Option TextFault → Type 0 = Outcome stands in inr (subst P found outcome)
 
@@ -239,8 +239,8 @@ checked-none grammar rules text statements h = rw (h.read.formed, h.read.stateme
 
 -- what the passes answer is the first that the text has, where no line is malformed
 pub answered_first :
-    {S : Type 0} (grammar : List TokenOf → Option S) (rules : Rules S) (text : List ℕ) (statements : List (Numbered S)) (fault : TextFault) → IsRead grammar text statements →
-    IsAnswer (first_fault_in rules statements) fault → IsAnswer (first_fault_of grammar rules text) fault
+    {S : Type 0} (grammar : List TokenOf → Option S) (rules : Rules S) (text : List ℕ) (statements : List (Numbered S)) (fault : TextFault) → AreStatementsOf grammar text statements →
+    IsFaultOrMemory (first_fault_in rules statements) fault → IsFaultOrMemory (first_fault_of grammar rules text) fault
 answered_first grammar rules text statements fault read (inl memory) = inl memory
 answered_first grammar rules text statements fault read (inr found) = inr (rw (read.formed, read.statements) found)
 

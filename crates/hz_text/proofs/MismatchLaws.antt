@@ -9,7 +9,7 @@ use Rattle.hz_line.specs.Statement.{Numbered}
 use Rattle.hz_text.specs.declared.fault.Mismatch.{Mismatch as Wrong}
 use Rattle.hz_text.specs.declared.fault.TextFault.TheVariants.{Mismatch}
 use Rattle.hz_text.specs.declared.run.size.Size.{Size}
-use Rattle.hz_text.specs.RunLookup.{LookedRun}
+use Rattle.hz_text.specs.RunResolution.{ResolvedRunStatement}
 use Rattle.hz_text.specs.RunSize.{size_of, counts_of, DifferFirst, difference}
 use Rattle.hz_text.specs.RunFault.{is_second, first_size, IsMismatch}
 use Rattle.hz_text.specs.RunRules.{mismatch_with, first_mismatch}
@@ -42,7 +42,7 @@ no-difference list other told real e h = h.differ (same-cut h.front h.after h.ot
 
 -- one count is told wrongly
 pub mismatch-once :
-    (netlist : Netlist) (statements : List (Numbered LookedRun)) (line told real line' told' real' : ℕ) → IsMismatch netlist statements line told real →
+    (netlist : Netlist) (statements : List (Numbered ResolvedRunStatement)) (line told real line' told' real' : ℕ) → IsMismatch netlist statements line told real →
     IsMismatch netlist statements line' told' real' → Mismatch line told real ≡ Mismatch line' told' real'
 mismatch-once netlist statements line told real line' told' real' a b =
     let told_once = some_pair_parts line line' a.size b.size (sym a.tells ∙ b.tells) in
@@ -104,11 +104,11 @@ same_size size =
     rw (a, b, c) refl
 
 -- what the pass answers: no count is told wrongly, or this one is
-abbrev pub FindsMismatch : Netlist → List (Numbered LookedRun) → Option Wrong → Type 0
+abbrev pub FindsMismatch : Netlist → List (Numbered ResolvedRunStatement) → Option Wrong → Type 0
 FindsMismatch netlist statements None = (line told real : ℕ) → ¬ IsMismatch netlist statements line told real
 FindsMismatch netlist statements (Some wrong) = IsMismatch netlist statements wrong.line wrong.told wrong.real
 
-pub answers_mismatch : (netlist : Netlist) (statements : List (Numbered LookedRun)) → FindsMismatch netlist statements (first_mismatch (size_of netlist) statements)
+pub answers_mismatch : (netlist : Netlist) (statements : List (Numbered ResolvedRunStatement)) → FindsMismatch netlist statements (first_mismatch (size_of netlist) statements)
 answers_mismatch netlist [] = λ line told real h. h.version
 answers_mismatch netlist (first ∷ later) = by_version (is_second first.statement) refl
   where

@@ -7,8 +7,8 @@ use Rattle.std.proofs.lemmas.List.{same_lists, get_or-set_same, get_or-set_other
 use Rattle.std.proofs.lemmas.List.Elements.{filter_map-append}
 use Rattle.std.proofs.lemmas.List.Folds.{list_any-append}
 use Rattle.std.proofs.lemmas.List.FromFn.{get_or-map-range_with_len, length-range_with_len}
-use Rattle.hz_text.specs.Assignment.{Assigned, has_repeat, assigns, is_node}
-use Rattle.hz_text.specs.Rules.{nodes_of, marked}
+use Rattle.hz_text.specs.Assignment.{Assigned, has_repeat, assigns, is_same_node}
+use Rattle.hz_text.specs.Rules.{assigned_nodes, with_node_marked}
 
 or-false : (a : Bool) → (a || false) ≡ a
 or-false true = refl
@@ -18,13 +18,13 @@ or-true : (a : Bool) → (a || true) ≡ true
 or-true true = refl
 or-true false = refl
 
-assigns-push : (all : List Assigned) (one : Assigned) (node : ℕ) → assigns (all ++ one ∷ []) node ≡ (assigns all node || is_node node one.node)
-assigns-push all one node = list_any-append (λ assigned. is_node node assigned.node) all (one ∷ []) ∙ ap (λ b. assigns all node || b) (or-false (is_node node one.node))
+assigns-push : (all : List Assigned) (one : Assigned) (node : ℕ) → assigns (all ++ one ∷ []) node ≡ (assigns all node || is_same_node node one.node)
+assigns-push all one node = list_any-append (λ assigned. is_same_node node assigned.node) all (one ∷ []) ∙ ap (λ b. assigns all node || b) (or-false (is_same_node node one.node))
 
-assigns-push_none : (all : List Assigned) (one : Assigned) (node : ℕ) → is_node node one.node ≡ false → assigns (all ++ one ∷ []) node ≡ assigns all node
+assigns-push_none : (all : List Assigned) (one : Assigned) (node : ℕ) → is_same_node node one.node ≡ false → assigns (all ++ one ∷ []) node ≡ assigns all node
 assigns-push_none all one node h = assigns-push all one node ∙ ap (λ b. assigns all node || b) h ∙ or-false (assigns all node)
 
-assigns-push_this : (all : List Assigned) (one : Assigned) (node : ℕ) → is_node node one.node ≡ true → assigns (all ++ one ∷ []) node ≡ true
+assigns-push_this : (all : List Assigned) (one : Assigned) (node : ℕ) → is_same_node node one.node ≡ true → assigns (all ++ one ∷ []) node ≡ true
 assigns-push_this all one node h = assigns-push all one node ∙ ap (λ b. assigns all node || b) h ∙ or-true (assigns all node)
 
 -- for each of so many nodes, whether it is assigned
@@ -42,19 +42,19 @@ marks_of-none nodes =
     same_lists _ _ (length-replicate nodes false ∙ sym (length-marks [] nodes))
     (λ i d h. let l : i < nodes = omega (arith, h, length-replicate nodes false) in get_or-replicate nodes i false d l ∙ sym (get_or-marks [] nodes i d l))
 
-same-marks : (all : List Assigned) (one : Assigned) (nodes i : ℕ) (d : Bool) → i < nodes → is_node i one.node ≡ false → get_or (marks_of all nodes) i d ≡ get_or (marks_of (all ++ one ∷ []) nodes) i d
+same-marks : (all : List Assigned) (one : Assigned) (nodes i : ℕ) (d : Bool) → i < nodes → is_same_node i one.node ≡ false → get_or (marks_of all nodes) i d ≡ get_or (marks_of (all ++ one ∷ []) nodes) i d
 same-marks all one nodes i d l h = get_or-marks all nodes i d l ∙ sym (assigns-push_none all one i h) ∙ sym (get_or-marks (all ++ one ∷ []) nodes i d l)
 
 -- an assignment to no node, or to none of these
-pub marks_of-same : (all : List Assigned) (one : Assigned) (nodes : ℕ) → ((i : ℕ) → i < nodes → is_node i one.node ≡ false) → marks_of all nodes ≡ marks_of (all ++ one ∷ []) nodes
+pub marks_of-same : (all : List Assigned) (one : Assigned) (nodes : ℕ) → ((i : ℕ) → i < nodes → is_same_node i one.node ≡ false) → marks_of all nodes ≡ marks_of (all ++ one ∷ []) nodes
 marks_of-same all one nodes other =
     same_lists _ _ (length-marks all nodes ∙ sym (length-marks (all ++ one ∷ []) nodes))
     (λ i d h. let l : i < nodes = omega (arith, h, length-marks all nodes) in same-marks all one nodes i d l (other i l))
 
-other-node : (i node : ℕ) (o : Option ℕ) → o ≡ Some node → i ≢ node → is_node i o ≡ false
+other-node : (i node : ℕ) (o : Option ℕ) → o ≡ Some node → i ≢ node → is_same_node i o ≡ false
 other-node i node o e ne = rw e (grind (arith, nat_tests, ne))
 
-this-node : (node : ℕ) (o : Option ℕ) → o ≡ Some node → is_node node o ≡ true
+this-node : (node : ℕ) (o : Option ℕ) → o ≡ Some node → is_same_node node o ≡ true
 this-node node o e = rw e (grind (arith, nat_tests))
 
 marks_of-set : (all : List Assigned) (one : Assigned) (nodes node : ℕ) → one.node ≡ Some node → node < nodes → set (marks_of all nodes) node true ≡ marks_of (all ++ one ∷ []) nodes
@@ -68,7 +68,7 @@ marks_of-set all one nodes node e within =
       | inr ne ↦ get_or-set_other (marks_of all nodes) node i true d ne ∙ same-marks all one nodes i d l (other-node i node one.node e ne)
     ])
 
-marked_at : (all : List Assigned) (one : Assigned) (nodes : ℕ) (o : Option ℕ) → one.node ≡ o → marked (marks_of all nodes) o ≡ marks_of (all ++ one ∷ []) nodes
+marked_at : (all : List Assigned) (one : Assigned) (nodes : ℕ) (o : Option ℕ) → one.node ≡ o → with_node_marked (marks_of all nodes) o ≡ marks_of (all ++ one ∷ []) nodes
 marked_at all one nodes None e = marks_of-same all one nodes (λ i h. rw e refl)
 marked_at all one nodes (Some node) e =
     elim (cases_lt node nodes) [
@@ -79,15 +79,15 @@ marked_at all one nodes (Some node) e =
     ]
 
 -- one assignment more
-pub marks_of-push : (all : List Assigned) (one : Assigned) (nodes : ℕ) → marked (marks_of all nodes) one.node ≡ marks_of (all ++ one ∷ []) nodes
+pub marks_of-push : (all : List Assigned) (one : Assigned) (nodes : ℕ) → with_node_marked (marks_of all nodes) one.node ≡ marks_of (all ++ one ∷ []) nodes
 marks_of-push all one nodes = marked_at all one nodes one.node refl
 
 -- a node that is assigned, after those before it
-pub nodes_of-push : (all : List Assigned) (one : Assigned) (node : ℕ) → one.node ≡ Some node → nodes_of (all ++ one ∷ []) ≡ nodes_of all ++ node ∷ []
-nodes_of-push all one node e = filter_map-append (λ (assigned : Assigned). assigned.node) all (one ∷ []) ∙ rw e refl
+pub assigned_nodes-push : (all : List Assigned) (one : Assigned) (node : ℕ) → one.node ≡ Some node → assigned_nodes (all ++ one ∷ []) ≡ assigned_nodes all ++ node ∷ []
+assigned_nodes-push all one node e = filter_map-append (λ (assigned : Assigned). assigned.node) all (one ∷ []) ∙ rw e refl
 
-pub nodes_of-push_none : (all : List Assigned) (one : Assigned) → one.node ≡ None → nodes_of (all ++ one ∷ []) ≡ nodes_of all ++ []
-nodes_of-push_none all one e = filter_map-append (λ (assigned : Assigned). assigned.node) all (one ∷ []) ∙ rw e refl
+pub assigned_nodes-push_none : (all : List Assigned) (one : Assigned) → one.node ≡ None → assigned_nodes (all ++ one ∷ []) ≡ assigned_nodes all ++ []
+assigned_nodes-push_none all one e = filter_map-append (λ (assigned : Assigned). assigned.node) all (one ∷ []) ∙ rw e refl
 
 list_any_nat_eq-sym : (x y : ℕ) → nat_eq x y ≡ nat_eq y x
 list_any_nat_eq-sym x y = grind (arith, nat_tests)
@@ -120,8 +120,8 @@ has_repeat-append (x ∷ xs) ys h =
 
 -- the nodes assigned so far differ, these and no others have the mark, and no mark is above it
 pub record AreMarked (all : List Assigned) (marks : List ℕ) (mark : ℕ) : Type 0 where
-  pub fresh : has_repeat nat_eq (nodes_of all) ≡ false
-  pub marked : (k : ℕ) → k < length marks → list_any (nat_eq k) (nodes_of all) ≡ nat_eq (get_or marks k 0) mark
+  pub fresh : has_repeat nat_eq (assigned_nodes all) ≡ false
+  pub marked : (k : ℕ) → k < length marks → list_any (nat_eq k) (assigned_nodes all) ≡ nat_eq (get_or marks k 0) mark
   pub above : (k : ℕ) → k < length marks → get_or marks k 0 ≤ mark
 
 pub AreMarked-none : (marks : List ℕ) (mark : ℕ) → ((k : ℕ) → k < length marks → get_or marks k 0 < mark) → AreMarked [] marks mark
@@ -133,21 +133,21 @@ AreMarked-none marks mark h = record {
 
 pub AreMarked-push_none : (all : List Assigned) (one : Assigned) (marks : List ℕ) (mark : ℕ) → one.node ≡ None → AreMarked all marks mark → AreMarked (all ++ one ∷ []) marks mark
 AreMarked-push_none all one marks mark e h =
-    let same : nodes_of (all ++ one ∷ []) ≡ nodes_of all = nodes_of-push_none all one e ∙ append-nil (nodes_of all) in
+    let same : assigned_nodes (all ++ one ∷ []) ≡ assigned_nodes all = assigned_nodes-push_none all one e ∙ append-nil (assigned_nodes all) in
     record { fresh = rw same h.fresh; marked = λ k l. rw same (h.marked k l); above = h.above }
 
 pub AreMarked-push : (all : List Assigned) (one : Assigned) (marks : List ℕ) (mark node : ℕ) → one.node ≡ Some node → node < length marks → get_or marks node 0 ≢ mark → AreMarked all marks mark → AreMarked (all ++ one ∷ []) (set marks node mark) mark
 AreMarked-push all one marks mark node e within ne h =
-    let same = nodes_of-push all one node e in
-    let new : list_any (nat_eq node) (nodes_of all) ≡ false = h.marked node within ∙ grind (arith, nat_tests, ne) in
+    let same = assigned_nodes-push all one node e in
+    let new : list_any (nat_eq node) (assigned_nodes all) ≡ false = h.marked node within ∙ grind (arith, nat_tests, ne) in
     record {
-      fresh = rw (same, has_repeat-push (nodes_of all) node, h.fresh, new) refl;
+      fresh = rw (same, has_repeat-push (assigned_nodes all) node, h.fresh, new) refl;
       marked = λ k l.
           let inside : k < length marks = omega (arith, l, length-set marks node mark) in
-          rw (same, list_any-append (nat_eq k) (nodes_of all) (node ∷ [])) (
+          rw (same, list_any-append (nat_eq k) (assigned_nodes all) (node ∷ [])) (
           elim (cases_eq k node) [
-            | inl at ↦ rw (at, get_or-set_same marks node mark 0 within) (or-last (list_any (nat_eq node) (nodes_of all)) (nat_eq node node) (nat_eq mark mark) (grind (arith, nat_tests)) (grind (arith, nat_tests)))
-            | inr off ↦ rw (get_or-set_other marks node k mark 0 off) (or-first (list_any (nat_eq k) (nodes_of all)) (nat_eq k node) (grind (arith, nat_tests, off)) ∙ h.marked k inside)
+            | inl at ↦ rw (at, get_or-set_same marks node mark 0 within) (or-last (list_any (nat_eq node) (assigned_nodes all)) (nat_eq node node) (nat_eq mark mark) (grind (arith, nat_tests)) (grind (arith, nat_tests)))
+            | inr off ↦ rw (get_or-set_other marks node k mark 0 off) (or-first (list_any (nat_eq k) (assigned_nodes all)) (nat_eq k node) (grind (arith, nat_tests, off)) ∙ h.marked k inside)
           ]);
       above = λ k l.
           let inside : k < length marks = omega (arith, l, length-set marks node mark) in
@@ -165,11 +165,11 @@ AreMarked-push all one marks mark node e within ne h =
     or-first true b p = refl
     or-first false b p = or-false b ∙ p
 
-pub has_repeat-marked : (all rest : List Assigned) (one : Assigned) (marks : List ℕ) (mark node : ℕ) → one.node ≡ Some node → node < length marks → get_or marks node 0 ≡ mark → AreMarked all marks mark → has_repeat nat_eq (nodes_of ((all ++ one ∷ []) ++ rest)) ≡ true
+pub has_repeat-marked : (all rest : List Assigned) (one : Assigned) (marks : List ℕ) (mark node : ℕ) → one.node ≡ Some node → node < length marks → get_or marks node 0 ≡ mark → AreMarked all marks mark → has_repeat nat_eq (assigned_nodes ((all ++ one ∷ []) ++ rest)) ≡ true
 has_repeat-marked all rest one marks mark node e within at h =
-    let found : list_any (nat_eq node) (nodes_of all) ≡ true = h.marked node within ∙ grind (arith, nat_tests, at) in
+    let found : list_any (nat_eq node) (assigned_nodes all) ≡ true = h.marked node within ∙ grind (arith, nat_tests, at) in
     rw (filter_map-append (λ (assigned : Assigned). assigned.node) (all ++ one ∷ []) rest)
-    (has_repeat-append (nodes_of (all ++ one ∷ [])) (nodes_of rest) (rw (nodes_of-push all one node e, has_repeat-push (nodes_of all) node, found) (or-true (has_repeat nat_eq (nodes_of all)))))
+    (has_repeat-append (assigned_nodes (all ++ one ∷ [])) (assigned_nodes rest) (rw (assigned_nodes-push all one node e, has_repeat-push (assigned_nodes all) node, found) (or-true (has_repeat nat_eq (assigned_nodes all)))))
 
 -- a list that was written as a whole
 pub written_whole : {X : Type 0} (xs ys : List X) (n : ℕ) → length xs ≡ n → length ys ≡ n → take n (xs ++ drop (length xs) ys) ≡ xs

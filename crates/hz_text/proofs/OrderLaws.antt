@@ -13,11 +13,11 @@ use Rattle.hz_text.specs.declared.run.version.Version.{Version}
 use Rattle.hz_text.specs.declared.run.version.Version.TheVariants.{One, Two}
 use Rattle.hz_text.specs.Assignment.{Assigned}
 use Rattle.hz_text.specs.RunStatement.{Header, Net, Start, Input, Run, Step, Cycle, End}
-use Rattle.hz_text.specs.RunLookup.{LookedRun}
+use Rattle.hz_text.specs.RunResolution.{ResolvedRunStatement}
 use Rattle.hz_text.specs.RunFault.{assignments_in, version_in, is_start_line, is_input_line}
 use Rattle.hz_text.specs.OrderPass.{is_net_line, is_end}
-use Rattle.hz_text.specs.RunOrder.{header_lines, cycle_lines, RunShape, shape_lines, IsOrdered, MayGoOn, unnumbered, IsOutOfPlace, BreaksOrder}
-use Rattle.hz_text.specs.OrderPass.{place_after, end_out_of_order, runs_out_of_order, out_of_order_with, input_out_of_order, start_out_of_order, version_out_of_order, run_out_of_order}
+use Rattle.hz_text.specs.RunOrder.{header_lines, cycle_lines, RunShape, shape_lines, IsOrdered, MayGoOn, statements_without_lines, IsOutOfPlace, BreaksOrder}
+use Rattle.hz_text.specs.OrderPass.{place_after, end_out_of_order, runs_out_of_order, out_of_order_with, input_out_of_order, start_out_of_order, version_out_of_order, first_misplaced}
 
 -- what statements are: they may not go on, they may and are not whole, or they are whole
 data Verdict : Type 0 where
@@ -25,29 +25,29 @@ data Verdict : Type 0 where
   Open : Verdict
   Whole : Verdict
 
-abbrev end_verdict : List LookedRun → Verdict
+abbrev end_verdict : List ResolvedRunStatement → Verdict
 end_verdict [] = Whole
 end_verdict (first ∷ later) = Broken
 
-abbrev runs_verdict : Place → List LookedRun → Verdict
+abbrev runs_verdict : Place → List ResolvedRunStatement → Verdict
 runs_verdict here [] = Open
 runs_verdict here (first ∷ later) = cond (is_end first) (end_verdict later) (option_map_or (λ next. runs_verdict next later) (place_after here first) Broken)
 
-abbrev verdict_with : (LookedRun → Bool) → (List LookedRun → Verdict) → List LookedRun → Verdict
+abbrev verdict_with : (ResolvedRunStatement → Bool) → (List ResolvedRunStatement → Verdict) → List ResolvedRunStatement → Verdict
 verdict_with test after [] = Open
 verdict_with test after (first ∷ later) = cond (test first) (after later) Broken
 
-abbrev input_verdict : List LookedRun → Verdict
+abbrev input_verdict : List ResolvedRunStatement → Verdict
 input_verdict statements = verdict_with is_input_line (runs_verdict place.Between) statements
 
-abbrev start_verdict : List LookedRun → Verdict
+abbrev start_verdict : List ResolvedRunStatement → Verdict
 start_verdict statements = verdict_with is_start_line input_verdict statements
 
-abbrev version_verdict : Version → List LookedRun → Verdict
+abbrev version_verdict : Version → List ResolvedRunStatement → Verdict
 version_verdict One statements = start_verdict statements
 version_verdict Two statements = verdict_with is_net_line start_verdict statements
 
-abbrev verdict : List LookedRun → Verdict
+abbrev verdict : List ResolvedRunStatement → Verdict
 verdict [] = Open
 verdict (first ∷ later) = option_map_or (λ version. version_verdict version later) (version_in first) Broken
 
@@ -58,24 +58,24 @@ broken-whole : Broken ≡ Whole → ⊥
 broken-whole e = cc
 
 -- The pass answers where statements stop: before some statement they may go on, with it no longer.
-record Stops (judge : List LookedRun → Verdict) (statements : List (Numbered LookedRun)) (line : ℕ) : Type 0 where
-  before : List (Numbered LookedRun)
-  last : Numbered LookedRun
-  after : List (Numbered LookedRun)
+record Stops (judge : List ResolvedRunStatement → Verdict) (statements : List (Numbered ResolvedRunStatement)) (line : ℕ) : Type 0 where
+  before : List (Numbered ResolvedRunStatement)
+  last : Numbered ResolvedRunStatement
+  after : List (Numbered ResolvedRunStatement)
   are : statements ≡ before ++ last ∷ after
   here : last.line ≡ line
-  goes_on : judge (unnumbered before) ≡ Broken → ⊥
-  broken : judge (unnumbered (before ++ last ∷ [])) ≡ Broken
+  goes_on : judge (statements_without_lines before) ≡ Broken → ⊥
+  broken : judge (statements_without_lines (before ++ last ∷ [])) ≡ Broken
 
 -- what an answer of the pass says
-abbrev Found : (List LookedRun → Verdict) → List (Numbered LookedRun) → Option ℕ → Type 0
-Found judge statements None = judge (unnumbered statements) ≡ Whole
-Found judge statements (Some line) = Stops judge statements line ⊎ ((line ≡ 0) × (judge (unnumbered statements) ≡ Open))
+abbrev Found : (List ResolvedRunStatement → Verdict) → List (Numbered ResolvedRunStatement) → Option ℕ → Type 0
+Found judge statements None = judge (statements_without_lines statements) ≡ Whole
+Found judge statements (Some line) = Stops judge statements line ⊎ ((line ≡ 0) × (judge (statements_without_lines statements) ≡ Open))
 
 found-cons :
-    (judge after : List LookedRun → Verdict) (first : Numbered LookedRun) (later : List (Numbered LookedRun)) (answer : Option ℕ) →
-    ((rest : List LookedRun) → judge (first.statement ∷ rest) ≡ after rest) → Found after later answer → Found judge (first ∷ later) answer
-found-cons judge after first later None on h = on (unnumbered later) ∙ h
+    (judge after : List ResolvedRunStatement → Verdict) (first : Numbered ResolvedRunStatement) (later : List (Numbered ResolvedRunStatement)) (answer : Option ℕ) →
+    ((rest : List ResolvedRunStatement) → judge (first.statement ∷ rest) ≡ after rest) → Found after later answer → Found judge (first ∷ later) answer
+found-cons judge after first later None on h = on (statements_without_lines later) ∙ h
 found-cons judge after first later (Some line) on (inl stops) =
     inl (record {
       before = first ∷ stops.before;
@@ -83,22 +83,22 @@ found-cons judge after first later (Some line) on (inl stops) =
       after = stops.after;
       are = ap (λ rest. first ∷ rest) stops.are;
       here = stops.here;
-      goes_on = λ e. stops.goes_on (sym (on (unnumbered stops.before)) ∙ e);
-      broken = on (unnumbered (stops.before ++ stops.last ∷ [])) ∙ stops.broken;
+      goes_on = λ e. stops.goes_on (sym (on (statements_without_lines stops.before)) ∙ e);
+      broken = on (statements_without_lines (stops.before ++ stops.last ∷ [])) ∙ stops.broken;
     })
-found-cons judge after first later (Some line) on (inr stopped) = inr (stopped.0, on (unnumbered later) ∙ stopped.1)
+found-cons judge after first later (Some line) on (inr stopped) = inr (stopped.0, on (statements_without_lines later) ∙ stopped.1)
 
 found-broken :
-    (judge : List LookedRun → Verdict) (first : Numbered LookedRun) (later : List (Numbered LookedRun)) → (judge [] ≡ Broken → ⊥) → (judge (first.statement ∷ []) ≡ Broken) →
+    (judge : List ResolvedRunStatement → Verdict) (first : Numbered ResolvedRunStatement) (later : List (Numbered ResolvedRunStatement)) → (judge [] ≡ Broken → ⊥) → (judge (first.statement ∷ []) ≡ Broken) →
     Found judge (first ∷ later) (Some first.line)
 found-broken judge first later starts broken =
     inl (record { before = []; last = first; after = later; are = refl; here = refl; goes_on = starts; broken = broken })
 
-found_end : (statements : List (Numbered LookedRun)) → Found end_verdict statements (end_out_of_order statements)
+found_end : (statements : List (Numbered ResolvedRunStatement)) → Found end_verdict statements (end_out_of_order statements)
 found_end [] = refl
 found_end (first ∷ later) = found-broken end_verdict first later (λ e. broken-whole (sym e)) refl
 
-found_runs : (here : Place) (statements : List (Numbered LookedRun)) → Found (runs_verdict here) statements (runs_out_of_order here statements)
+found_runs : (here : Place) (statements : List (Numbered ResolvedRunStatement)) → Found (runs_verdict here) statements (runs_out_of_order here statements)
 found_runs here [] = inr (refl, refl)
 found_runs here (first ∷ later) = by_end (is_end first.statement) refl (λ next. found_runs next later)
   where
@@ -115,40 +115,40 @@ found_runs here (first ∷ later) = by_end (is_end first.statement) refl (λ nex
     by_end false t ih = by_place (place_after here first.statement) t refl ih
 
 -- what is so of an order that goes on behind a statement, is so with that statement
-record Judges (answer : List (Numbered LookedRun) → Option ℕ) (judge : List LookedRun → Verdict) : Type 0 where
+record Judges (answer : List (Numbered ResolvedRunStatement) → Option ℕ) (judge : List ResolvedRunStatement → Verdict) : Type 0 where
   starts : judge [] ≡ Broken → ⊥
-  finds : (statements : List (Numbered LookedRun)) → Found judge statements (answer statements)
-  can_end : (statements : List LookedRun) → (judge statements ≡ Broken → ⊥) → (more : List LookedRun) × (judge (statements ++ more) ≡ Whole)
-  stays : (statements more : List LookedRun) → judge statements ≡ Broken → judge (statements ++ more) ≡ Broken
+  finds : (statements : List (Numbered ResolvedRunStatement)) → Found judge statements (answer statements)
+  can_end : (statements : List ResolvedRunStatement) → (judge statements ≡ Broken → ⊥) → (more : List ResolvedRunStatement) × (judge (statements ++ more) ≡ Whole)
+  stays : (statements more : List ResolvedRunStatement) → judge statements ≡ Broken → judge (statements ++ more) ≡ Broken
 
-end_can_end : (statements : List LookedRun) → (end_verdict statements ≡ Broken → ⊥) → (more : List LookedRun) × (end_verdict (statements ++ more) ≡ Whole)
+end_can_end : (statements : List ResolvedRunStatement) → (end_verdict statements ≡ Broken → ⊥) → (more : List ResolvedRunStatement) × (end_verdict (statements ++ more) ≡ Whole)
 end_can_end [] h = ([], refl)
 end_can_end (first ∷ later) h = absurd (h refl)
 
-end_stays : (statements more : List LookedRun) → end_verdict statements ≡ Broken → end_verdict (statements ++ more) ≡ Broken
+end_stays : (statements more : List ResolvedRunStatement) → end_verdict statements ≡ Broken → end_verdict (statements ++ more) ≡ Broken
 end_stays [] more e = absurd (broken-whole (sym e))
 end_stays (first ∷ later) more e = refl
 
-runs_can_end : (here : Place) (statements : List LookedRun) → (runs_verdict here statements ≡ Broken → ⊥) → (more : List LookedRun) × (runs_verdict here (statements ++ more) ≡ Whole)
+runs_can_end : (here : Place) (statements : List ResolvedRunStatement) → (runs_verdict here statements ≡ Broken → ⊥) → (more : List ResolvedRunStatement) × (runs_verdict here (statements ++ more) ≡ Whole)
 runs_can_end here [] h = (End ∷ [], refl)
 runs_can_end here (first ∷ later) h = by_end (is_end first) refl (λ next. runs_can_end next later)
   where
     by_place :
         (next : Option Place) → is_end first ≡ false → place_after here first ≡ next →
-        ((next : Place) → (runs_verdict next later ≡ Broken → ⊥) → (more : List LookedRun) × (runs_verdict next (later ++ more) ≡ Whole)) →
-        (more : List LookedRun) × (runs_verdict here (first ∷ later ++ more) ≡ Whole)
+        ((next : Place) → (runs_verdict next later ≡ Broken → ⊥) → (more : List ResolvedRunStatement) × (runs_verdict next (later ++ more) ≡ Whole)) →
+        (more : List ResolvedRunStatement) × (runs_verdict here (first ∷ later ++ more) ≡ Whole)
     by_place None t p ih = absurd (h (rw (t, p) refl))
     by_place (Some next) t p ih =
-        let same : (rest : List LookedRun) → runs_verdict here (first ∷ rest) ≡ runs_verdict next rest = λ rest. rw (t, p) refl in
+        let same : (rest : List ResolvedRunStatement) → runs_verdict here (first ∷ rest) ≡ runs_verdict next rest = λ rest. rw (t, p) refl in
         let rest = ih next (λ e. h (same later ∙ e)) in (rest.0, same (later ++ rest.0) ∙ rest.1)
 
     by_end :
-        (b : Bool) → is_end first ≡ b → ((next : Place) → (runs_verdict next later ≡ Broken → ⊥) → (more : List LookedRun) × (runs_verdict next (later ++ more) ≡ Whole)) →
-        (more : List LookedRun) × (runs_verdict here (first ∷ later ++ more) ≡ Whole)
+        (b : Bool) → is_end first ≡ b → ((next : Place) → (runs_verdict next later ≡ Broken → ⊥) → (more : List ResolvedRunStatement) × (runs_verdict next (later ++ more) ≡ Whole)) →
+        (more : List ResolvedRunStatement) × (runs_verdict here (first ∷ later ++ more) ≡ Whole)
     by_end true t ih = let rest = end_can_end later (λ e. h (rw t e)) in (rest.0, rw t rest.1)
     by_end false t ih = by_place (place_after here first) t refl ih
 
-runs_stays : (here : Place) (statements more : List LookedRun) → runs_verdict here statements ≡ Broken → runs_verdict here (statements ++ more) ≡ Broken
+runs_stays : (here : Place) (statements more : List ResolvedRunStatement) → runs_verdict here statements ≡ Broken → runs_verdict here (statements ++ more) ≡ Broken
 runs_stays here [] more e = absurd (broken-open (sym e))
 runs_stays here (first ∷ later) more e = by_end (is_end first) refl (λ next. runs_stays next later more)
   where
@@ -172,11 +172,11 @@ judged_runs = record {
 
 -- a statement that passes a test, and then others
 judged_with :
-    (test : LookedRun → Bool) (answer : List (Numbered LookedRun) → Option ℕ) (after : List LookedRun → Verdict) (one : LookedRun) → test one ≡ true → Judges answer after →
+    (test : ResolvedRunStatement → Bool) (answer : List (Numbered ResolvedRunStatement) → Option ℕ) (after : List ResolvedRunStatement → Verdict) (one : ResolvedRunStatement) → test one ≡ true → Judges answer after →
     Judges (out_of_order_with test answer) (verdict_with test after)
 judged_with test answer after one passes judged = record { starts = λ e. broken-open (sym e); finds = finds; can_end = can_end; stays = stays }
   where
-    finds : (statements : List (Numbered LookedRun)) → Found (verdict_with test after) statements (out_of_order_with test answer statements)
+    finds : (statements : List (Numbered ResolvedRunStatement)) → Found (verdict_with test after) statements (out_of_order_with test answer statements)
     finds [] = inr (refl, refl)
     finds (first ∷ later) = by_test (test first.statement) refl
       where
@@ -184,15 +184,15 @@ judged_with test answer after one passes judged = record { starts = λ e. broken
         by_test true t = found-cons (verdict_with test after) after first later (answer later) (λ rest. rw t refl) (judged.finds later)
         by_test false t = found-broken (verdict_with test after) first later (λ e. broken-open (sym e)) (rw t refl)
 
-    can_end : (statements : List LookedRun) → (verdict_with test after statements ≡ Broken → ⊥) → (more : List LookedRun) × (verdict_with test after (statements ++ more) ≡ Whole)
+    can_end : (statements : List ResolvedRunStatement) → (verdict_with test after statements ≡ Broken → ⊥) → (more : List ResolvedRunStatement) × (verdict_with test after (statements ++ more) ≡ Whole)
     can_end [] h = let rest = judged.can_end [] judged.starts in (one ∷ rest.0, rw passes rest.1)
     can_end (first ∷ later) h = by_test (test first) refl
       where
-        by_test : (b : Bool) → test first ≡ b → (more : List LookedRun) × (verdict_with test after (first ∷ later ++ more) ≡ Whole)
+        by_test : (b : Bool) → test first ≡ b → (more : List ResolvedRunStatement) × (verdict_with test after (first ∷ later ++ more) ≡ Whole)
         by_test true t = let rest = judged.can_end later (λ e. h (rw t e)) in (rest.0, rw t rest.1)
         by_test false t = absurd (h (rw t refl))
 
-    stays : (statements more : List LookedRun) → verdict_with test after statements ≡ Broken → verdict_with test after (statements ++ more) ≡ Broken
+    stays : (statements more : List ResolvedRunStatement) → verdict_with test after statements ≡ Broken → verdict_with test after (statements ++ more) ≡ Broken
     stays [] more e = absurd (broken-open (sym e))
     stays (first ∷ later) more e = by_test (test first) refl
       where
@@ -209,10 +209,10 @@ judged_version : (version : Version) → Judges (version_out_of_order version) (
 judged_version One = judged_start
 judged_version Two = judged_with is_net_line start_out_of_order start_verdict (Net (record { inputs = 0; gates = 0; wires = 0 })) refl judged_start
 
-judged : Judges run_out_of_order verdict
+judged : Judges first_misplaced verdict
 judged = record { starts = λ e. broken-open (sym e); finds = finds; can_end = can_end; stays = stays }
   where
-    finds : (statements : List (Numbered LookedRun)) → Found verdict statements (run_out_of_order statements)
+    finds : (statements : List (Numbered ResolvedRunStatement)) → Found verdict statements (first_misplaced statements)
     finds [] = inr (refl, refl)
     finds (first ∷ later) = by_version (version_in first.statement) refl
       where
@@ -223,16 +223,16 @@ judged = record { starts = λ e. broken-open (sym e); finds = finds; can_end = c
         by_version (Some version) t =
             found-cons verdict (version_verdict version) first later (version_out_of_order version later) (λ rest. rw t refl) ((judged_version version).finds later)
 
-    can_end : (statements : List LookedRun) → (verdict statements ≡ Broken → ⊥) → (more : List LookedRun) × (verdict (statements ++ more) ≡ Whole)
+    can_end : (statements : List ResolvedRunStatement) → (verdict statements ≡ Broken → ⊥) → (more : List ResolvedRunStatement) × (verdict (statements ++ more) ≡ Whole)
     can_end [] h = let rest = judged_start.can_end [] judged_start.starts in (Header One ∷ rest.0, rest.1)
     can_end (first ∷ later) h = by_version (version_in first) refl
       where
-        by_version : (v : Option Version) → version_in first ≡ v → (more : List LookedRun) × (verdict (first ∷ later ++ more) ≡ Whole)
+        by_version : (v : Option Version) → version_in first ≡ v → (more : List ResolvedRunStatement) × (verdict (first ∷ later ++ more) ≡ Whole)
         by_version None t = absurd (h (rw t refl))
         by_version (Some version) t =
             let rest = (judged_version version).can_end later (λ e. h (rw t e)) in (rest.0, rw t rest.1)
 
-    stays : (statements more : List LookedRun) → verdict statements ≡ Broken → verdict (statements ++ more) ≡ Broken
+    stays : (statements more : List ResolvedRunStatement) → verdict statements ≡ Broken → verdict (statements ++ more) ≡ Broken
     stays [] more e = absurd (broken-open (sym e))
     stays (first ∷ later) more e = by_version (version_in first) refl
       where
@@ -241,20 +241,20 @@ judged = record { starts = λ e. broken-open (sym e); finds = finds; can_end = c
         by_version (Some version) t = rw t ((judged_version version).stays later more (rw t at e))
 
 -- statements in order are whole
-steps-lead : (lead : List (List (Option ℕ))) (rest : List LookedRun) → runs_verdict place.Lead (map Step lead ++ rest) ≡ runs_verdict place.Lead rest
+steps-lead : (lead : List (List (Option ℕ))) (rest : List ResolvedRunStatement) → runs_verdict place.Lead (map Step lead ++ rest) ≡ runs_verdict place.Lead rest
 steps-lead [] rest = refl
 steps-lead (first ∷ later) rest = steps-lead later rest
 
-steps-cycle : (steps : List (List (Option ℕ))) (rest : List LookedRun) → runs_verdict place.Cycle (map Step steps ++ rest) ≡ runs_verdict place.Cycle rest
+steps-cycle : (steps : List (List (Option ℕ))) (rest : List ResolvedRunStatement) → runs_verdict place.Cycle (map Step steps ++ rest) ≡ runs_verdict place.Cycle rest
 steps-cycle [] rest = refl
 steps-cycle (first ∷ later) rest = steps-cycle later rest
 
-cycle-whole : (cycle : Option (List (List (Option ℕ)))) (rest : List LookedRun) → ((here : Place) → runs_verdict here rest ≡ Whole) → runs_verdict place.Lead (cycle_lines Step cycle ++ rest) ≡ Whole
+cycle-whole : (cycle : Option (List (List (Option ℕ)))) (rest : List ResolvedRunStatement) → ((here : Place) → runs_verdict here rest ≡ Whole) → runs_verdict place.Lead (cycle_lines Step cycle ++ rest) ≡ Whole
 cycle-whole None rest h = h place.Lead
 cycle-whole (Some steps) rest h = steps-cycle steps rest ∙ h place.Cycle
 
 -- the statements of runs and the end
-abbrev runs_end : List (RunShape (Option ℕ)) → List LookedRun
+abbrev runs_end : List (RunShape (Option ℕ)) → List ResolvedRunStatement
 runs_end runs = flat_map shape_lines runs ++ End ∷ []
 
 runs_end-cons : (run : RunShape (Option ℕ)) (runs : List (RunShape (Option ℕ))) → runs_end (run ∷ runs) ≡ Run ∷ map Step run.lead ++ (cycle_lines Step run.cycle ++ runs_end runs)
@@ -269,7 +269,7 @@ runs-whole (run ∷ later) here =
     ∙ steps-lead run.lead (cycle_lines Step run.cycle ++ runs_end later)
     ∙ cycle-whole run.cycle (runs_end later) (runs-whole later)
 
-ordered-whole : (statements : List LookedRun) → IsOrdered statements → verdict statements ≡ Whole
+ordered-whole : (statements : List ResolvedRunStatement) → IsOrdered statements → verdict statements ≡ Whole
 ordered-whole statements is = ap verdict is.are ∙ by_size is.size
   where
     by_size : (size : Option Size) → verdict (header_lines size ++ (Start is.start ∷ Input is.input ∷ runs_end is.runs)) ≡ Whole
@@ -277,28 +277,28 @@ ordered-whole statements is = ap verdict is.are ∙ by_size is.size
     by_size (Some size) = runs-whole is.runs place.Between
 
 -- what whole statements are from a place on
-abbrev Rest : Place → List LookedRun → Type 0
+abbrev Rest : Place → List ResolvedRunStatement → Type 0
 Rest place.Between statements = (runs : List (RunShape (Option ℕ))) × (statements ≡ runs_end runs)
 Rest place.Lead statements =
     (lead : List (List (Option ℕ))) × (cycle : Option (List (List (Option ℕ)))) × (runs : List (RunShape (Option ℕ)))
     × (statements ≡ map Step lead ++ (cycle_lines Step cycle ++ runs_end runs))
 Rest place.Cycle statements = (steps : List (List (Option ℕ))) × (runs : List (RunShape (Option ℕ))) × (statements ≡ map Step steps ++ runs_end runs)
 
-rest-runs : (here : Place) (statements : List LookedRun) → (runs : List (RunShape (Option ℕ))) × (statements ≡ runs_end runs) → Rest here statements
+rest-runs : (here : Place) (statements : List ResolvedRunStatement) → (runs : List (RunShape (Option ℕ))) × (statements ≡ runs_end runs) → Rest here statements
 rest-runs place.Between statements is = is
 rest-runs place.Lead statements is = ([], None, is.0, is.1)
 rest-runs place.Cycle statements is = ([], is.0, is.1)
 
-rest-run : (later : List LookedRun) → Rest place.Lead later → (runs : List (RunShape (Option ℕ))) × (Run ∷ later ≡ runs_end runs)
+rest-run : (later : List ResolvedRunStatement) → Rest place.Lead later → (runs : List (RunShape (Option ℕ))) × (Run ∷ later ≡ runs_end runs)
 rest-run later h =
     let run : RunShape (Option ℕ) = record { lead = h.0; cycle = h.1 } in
     (run ∷ h.2, ap (λ rest. Run ∷ rest) h.3 ∙ sym (runs_end-cons run h.2))
 
-rest-end : (later : List LookedRun) → end_verdict later ≡ Whole → (runs : List (RunShape (Option ℕ))) × (End ∷ later ≡ runs_end runs)
+rest-end : (later : List ResolvedRunStatement) → end_verdict later ≡ Whole → (runs : List (RunShape (Option ℕ))) × (End ∷ later ≡ runs_end runs)
 rest-end [] e = ([], refl)
 rest-end (first ∷ later) e = absurd (broken-whole e)
 
-rest-whole : (here : Place) (statements : List LookedRun) → runs_verdict here statements ≡ Whole → Rest here statements
+rest-whole : (here : Place) (statements : List ResolvedRunStatement) → runs_verdict here statements ≡ Whole → Rest here statements
 rest-whole here [] e = cc
 rest-whole here (Header version ∷ later) e = absurd (broken-whole e)
 rest-whole here (Net size ∷ later) e = absurd (broken-whole e)
@@ -316,7 +316,7 @@ rest-whole place.Lead (Cycle ∷ later) e =
 rest-whole place.Cycle (Cycle ∷ later) e = absurd (broken-whole e)
 rest-whole here (End ∷ later) e = rest-runs here (End ∷ later) (rest-end later e)
 
-pub is_Header : (statement : LookedRun) (version : Version) → version_in statement ≡ Some version → statement ≡ Header version
+pub is_Header : (statement : ResolvedRunStatement) (version : Version) → version_in statement ≡ Some version → statement ≡ Header version
 is_Header (Header own) version e = let same : own ≡ version = cc in ap Header same
 is_Header (Net size) version e = cc
 is_Header (Start assignments) version e = cc
@@ -326,7 +326,7 @@ is_Header (Step variables) version e = cc
 is_Header Cycle version e = cc
 is_Header End version e = cc
 
-pub is_Net : (statement : LookedRun) → is_net_line statement ≡ true → (size : Size) × (statement ≡ Net size)
+pub is_Net : (statement : ResolvedRunStatement) → is_net_line statement ≡ true → (size : Size) × (statement ≡ Net size)
 is_Net (Header version) e = cc
 is_Net (Net size) e = (size, refl)
 is_Net (Start assignments) e = cc
@@ -336,7 +336,7 @@ is_Net (Step variables) e = cc
 is_Net Cycle e = cc
 is_Net End e = cc
 
-pub is_Start : (statement : LookedRun) → is_start_line statement ≡ true → statement ≡ Start (assignments_in statement)
+pub is_Start : (statement : ResolvedRunStatement) → is_start_line statement ≡ true → statement ≡ Start (assignments_in statement)
 is_Start (Header version) e = cc
 is_Start (Net size) e = cc
 is_Start (Start assignments) e = refl
@@ -346,7 +346,7 @@ is_Start (Step variables) e = cc
 is_Start Cycle e = cc
 is_Start End e = cc
 
-pub is_Input : (statement : LookedRun) → is_input_line statement ≡ true → statement ≡ Input (assignments_in statement)
+pub is_Input : (statement : ResolvedRunStatement) → is_input_line statement ≡ true → statement ≡ Input (assignments_in statement)
 is_Input (Header version) e = cc
 is_Input (Net size) e = cc
 is_Input (Start assignments) e = cc
@@ -357,14 +357,14 @@ is_Input Cycle e = cc
 is_Input End e = cc
 
 -- whole statements begin with one that passes the test
-record Passed (test : LookedRun → Bool) (after : List LookedRun → Verdict) (statements : List LookedRun) : Type 0 where
-  first : LookedRun
-  later : List LookedRun
+record Passed (test : ResolvedRunStatement → Bool) (after : List ResolvedRunStatement → Verdict) (statements : List ResolvedRunStatement) : Type 0 where
+  first : ResolvedRunStatement
+  later : List ResolvedRunStatement
   are : statements ≡ first ∷ later
   passes : test first ≡ true
   rest : after later ≡ Whole
 
-passed : (test : LookedRun → Bool) (after : List LookedRun → Verdict) (statements : List LookedRun) → verdict_with test after statements ≡ Whole → Passed test after statements
+passed : (test : ResolvedRunStatement → Bool) (after : List ResolvedRunStatement → Verdict) (statements : List ResolvedRunStatement) → verdict_with test after statements ≡ Whole → Passed test after statements
 passed test after [] e = cc
 passed test after (first ∷ later) e = by_test (test first) refl e
   where
@@ -373,13 +373,13 @@ passed test after (first ∷ later) e = by_test (test first) refl e
     by_test false t w = absurd (broken-whole w)
 
 -- statements from the start on, in order
-record HasStates (statements : List LookedRun) : Type 0 where
+record HasStates (statements : List ResolvedRunStatement) : Type 0 where
   start : List Assigned
   input : List Assigned
   runs : List (RunShape (Option ℕ))
   are : statements ≡ Start start ∷ Input input ∷ runs_end runs
 
-states-whole : (statements : List LookedRun) → start_verdict statements ≡ Whole → HasStates statements
+states-whole : (statements : List ResolvedRunStatement) → start_verdict statements ≡ Whole → HasStates statements
 states-whole statements e =
     let s = passed is_start_line input_verdict statements e in
     let i = passed is_input_line (runs_verdict place.Between) s.later s.rest in
@@ -399,7 +399,7 @@ states-whole statements e =
     }
 
 -- whole statements are in order
-whole-ordered : (statements : List LookedRun) → verdict statements ≡ Whole → IsOrdered statements
+whole-ordered : (statements : List ResolvedRunStatement) → verdict statements ≡ Whole → IsOrdered statements
 whole-ordered [] e = cc
 whole-ordered (first ∷ later) e = by_version (version_in first) refl e
   where
@@ -432,13 +432,13 @@ whole-ordered (first ∷ later) e = by_version (version_in first) refl e
         }
 
 -- statements may go on exactly if they are not broken
-went-on : (statements : List LookedRun) → (verdict statements ≡ Broken → ⊥) → MayGoOn statements
+went-on : (statements : List ResolvedRunStatement) → (verdict statements ≡ Broken → ⊥) → MayGoOn statements
 went-on statements h = let rest = judged.can_end statements h in (rest.0, whole-ordered (statements ++ rest.0) rest.1)
 
-stopped : (statements : List LookedRun) → verdict statements ≡ Broken → ¬ MayGoOn statements
+stopped : (statements : List ResolvedRunStatement) → verdict statements ≡ Broken → ¬ MayGoOn statements
 stopped statements broken = λ on. broken-whole (sym (judged.stays statements on.0 broken) ∙ ordered-whole (statements ++ on.0) on.1)
 
-is-broken : (statements : List LookedRun) → ¬ MayGoOn statements → verdict statements ≡ Broken
+is-broken : (statements : List ResolvedRunStatement) → ¬ MayGoOn statements → verdict statements ≡ Broken
 is-broken statements h = by_verdict (verdict statements) refl
   where
     by_verdict : (v : Verdict) → verdict statements ≡ v → v ≡ Broken
@@ -446,36 +446,36 @@ is-broken statements h = by_verdict (verdict statements) refl
     by_verdict Open e = absurd (h (went-on statements (λ b. broken-open (sym b ∙ e))))
     by_verdict Whole e = absurd (h (went-on statements (λ b. broken-whole (sym b ∙ e))))
 
-out-stops : (statements : List (Numbered LookedRun)) (line : ℕ) → IsOutOfPlace statements line → Stops verdict statements line
+out-stops : (statements : List (Numbered ResolvedRunStatement)) (line : ℕ) → IsOutOfPlace statements line → Stops verdict statements line
 out-stops statements line out = record {
   before = out.before;
   last = out.last;
   after = out.after;
   are = out.are;
   here = out.here;
-  goes_on = λ e. stopped (unnumbered out.before) e out.went_on;
-  broken = is-broken (unnumbered (out.before ++ out.last ∷ [])) out.stops;
+  goes_on = λ e. stopped (statements_without_lines out.before) e out.went_on;
+  broken = is-broken (statements_without_lines (out.before ++ out.last ∷ [])) out.stops;
 }
 
-stops-out : (statements : List (Numbered LookedRun)) (line : ℕ) → Stops verdict statements line → IsOutOfPlace statements line
+stops-out : (statements : List (Numbered ResolvedRunStatement)) (line : ℕ) → Stops verdict statements line → IsOutOfPlace statements line
 stops-out statements line stops = record {
   before = stops.before;
   last = stops.last;
   after = stops.after;
   are = stops.are;
   here = stops.here;
-  went_on = went-on (unnumbered stops.before) stops.goes_on;
-  stops = stopped (unnumbered (stops.before ++ stops.last ∷ [])) stops.broken;
+  went_on = went-on (statements_without_lines stops.before) stops.goes_on;
+  stops = stopped (statements_without_lines (stops.before ++ stops.last ∷ [])) stops.broken;
 }
 
 -- what comes after a broken front is broken
-front-broken : (statements front rest : List (Numbered LookedRun)) → statements ≡ front ++ rest → verdict (unnumbered front) ≡ Broken → verdict (unnumbered statements) ≡ Broken
+front-broken : (statements front rest : List (Numbered ResolvedRunStatement)) → statements ≡ front ++ rest → verdict (statements_without_lines front) ≡ Broken → verdict (statements_without_lines statements) ≡ Broken
 front-broken statements front rest are broken =
-    ap (λ those. verdict (unnumbered those)) are
-    ∙ ap verdict (map-append (λ (numbered : Numbered LookedRun). numbered.statement) front rest)
-    ∙ judged.stays (unnumbered front) (unnumbered rest) broken
+    ap (λ those. verdict (statements_without_lines those)) are
+    ∙ ap verdict (map-append (λ (numbered : Numbered ResolvedRunStatement). numbered.statement) front rest)
+    ∙ judged.stays (statements_without_lines front) (statements_without_lines rest) broken
 
-stops-broken : (statements : List (Numbered LookedRun)) (line : ℕ) → Stops verdict statements line → verdict (unnumbered statements) ≡ Broken
+stops-broken : (statements : List (Numbered ResolvedRunStatement)) (line : ℕ) → Stops verdict statements line → verdict (statements_without_lines statements) ≡ Broken
 stops-broken statements line stops =
     front-broken statements (stops.before ++ stops.last ∷ []) stops.after (stops.are ∙ sym (append_assoc stops.before (stops.last ∷ []) stops.after)) stops.broken
 
@@ -497,35 +497,35 @@ cut-twice (z ∷ a) b (w ∷ c) d x y e =
     ]
 
 -- statements stop at one line
-stops-once : (statements : List (Numbered LookedRun)) (line other : ℕ) → Stops verdict statements line → Stops verdict statements other → line ≡ other
+stops-once : (statements : List (Numbered ResolvedRunStatement)) (line other : ℕ) → Stops verdict statements line → Stops verdict statements other → line ≡ other
 stops-once statements line other s t =
     elim (cut-twice s.before s.after t.before t.after s.last t.last (sym s.are ∙ t.are)) [
-      | inl same ↦ sym s.here ∙ ap (λ (numbered : Numbered LookedRun). numbered.line) same ∙ t.here
+      | inl same ↦ sym s.here ∙ ap (λ (numbered : Numbered ResolvedRunStatement). numbered.line) same ∙ t.here
       | inr (inl front) ↦ absurd (t.goes_on (front-broken t.before (s.before ++ s.last ∷ []) front.0 front.1 s.broken))
       | inr (inr front) ↦ absurd (s.goes_on (front-broken s.before (t.before ++ t.last ∷ []) front.0 front.1 t.broken))
     ]
 
-found-breaks : (statements : List (Numbered LookedRun)) (line : ℕ) → Found verdict statements (Some line) → BreaksOrder statements line
+found-breaks : (statements : List (Numbered ResolvedRunStatement)) (line : ℕ) → Found verdict statements (Some line) → BreaksOrder statements line
 found-breaks statements line (inl stops) = inl (stops-out statements line stops)
 found-breaks statements line (inr end) =
-    inr (end.0, went-on (unnumbered statements) (λ e. broken-open (sym e ∙ end.1)), λ is. open-whole (sym end.1 ∙ ordered-whole (unnumbered statements) is))
+    inr (end.0, went-on (statements_without_lines statements) (λ e. broken-open (sym e ∙ end.1)), λ is. open-whole (sym end.1 ∙ ordered-whole (statements_without_lines statements) is))
   where
     open-whole : Open ≡ Whole → ⊥
     open-whole e = cc
 
-breaks-once : (statements : List (Numbered LookedRun)) (line other : ℕ) → Found verdict statements (Some line) → BreaksOrder statements other → line ≡ other
+breaks-once : (statements : List (Numbered ResolvedRunStatement)) (line other : ℕ) → Found verdict statements (Some line) → BreaksOrder statements other → line ≡ other
 breaks-once statements line other (inl stops) (inl out) = stops-once statements line other stops (out-stops statements other out)
-breaks-once statements line other (inl stops) (inr end) = absurd (stopped (unnumbered statements) (stops-broken statements line stops) end.1)
+breaks-once statements line other (inl stops) (inr end) = absurd (stopped (statements_without_lines statements) (stops-broken statements line stops) end.1)
 breaks-once statements line other (inr ends) (inl out) = absurd (broken-open (sym (stops-broken statements other (out-stops statements other out)) ∙ ends.1))
 breaks-once statements line other (inr ends) (inr end) = ends.0 ∙ sym end.0
 
-breaks-none : (statements : List (Numbered LookedRun)) (line : ℕ) → verdict (unnumbered statements) ≡ Whole → ¬ BreaksOrder statements line
+breaks-none : (statements : List (Numbered ResolvedRunStatement)) (line : ℕ) → verdict (statements_without_lines statements) ≡ Whole → ¬ BreaksOrder statements line
 breaks-none statements line whole (inl out) = broken-whole (sym (stops-broken statements line (out-stops statements line out)) ∙ whole)
-breaks-none statements line whole (inr end) = end.2 (whole-ordered (unnumbered statements) whole)
+breaks-none statements line whole (inr end) = end.2 (whole-ordered (statements_without_lines statements) whole)
 
 -- the pass answers the line that breaks the order
-pub answers_order : (statements : List (Numbered LookedRun)) → IsLeastOf (BreaksOrder statements) (run_out_of_order statements)
-answers_order statements = by_answer (run_out_of_order statements) (judged.finds statements)
+pub answers_order : (statements : List (Numbered ResolvedRunStatement)) → IsLeastOf (BreaksOrder statements) (first_misplaced statements)
+answers_order statements = by_answer (first_misplaced statements) (judged.finds statements)
   where
     by_answer : (answer : Option ℕ) → Found verdict statements answer → IsLeastOf (BreaksOrder statements) answer
     by_answer None whole = λ line breaks. breaks-none statements line whole breaks

@@ -13,21 +13,21 @@ use Rattle.std.proofs.lemmas.Option.{slice_get_past}
 use Rattle.std.proofs.lemmas.Slice.Eq.{bytes_eq-Decides}
 use Rattle.hz_core.specs.Netlist.{Netlist, IsCircuit, node_named, primary_inputs}
 use Rattle.hz_line.specs.Line.{lines_of}
-use Rattle.hz_line.specs.Statement.{Numbered, numbered_from, first_line, first_malformed}
+use Rattle.hz_line.specs.Statement.{Numbered, numbered_from, first_passing_line, first_malformed}
 use Rattle.hz_line.proofs.StatementLemmas.{first_malformed-map}
-use Rattle.hz_text.specs.Statement.{Keyword, Start, Change, statement_of}
-use Rattle.hz_text.specs.Assignment.{Assigned, has_repeat, bit_of, assigned_of, is_node, assigns, bit_at, assignment_to}
-use Rattle.hz_text.specs.Lookup.{Looked, looked_of, looked_up}
-use Rattle.hz_text.specs.ScriptFault.{looked_statements, has_unknown, has_no_bit, is_start, IsFaultless}
-use Rattle.hz_text.specs.ScriptRules.{has_node_twice, first_out_of_order, last_beyond, first_fault}
+use Rattle.hz_text.specs.Statement.{Keyword, Start, Change, script_statement_of}
+use Rattle.hz_text.specs.Assignment.{Assigned, has_repeat, bit_of, assigned_of, is_same_node, assigns, assigned_bit, assignment_to}
+use Rattle.hz_text.specs.Resolution.{ResolvedStatement, resolve_statement, resolve_numbered}
+use Rattle.hz_text.specs.ScriptFault.{resolved_statements, has_unknown, has_no_bit, is_start, IsScriptFaultless}
+use Rattle.hz_text.specs.ScriptRules.{has_node_twice, first_out_of_order, last_beyond, first_script_fault}
 use Rattle.hz_text.specs.Rules.{least_unassigned}
 use Rattle.hz_text.specs.ScriptValue.{ScriptOf, IsChange}
 use Rattle.hz_text.specs.ScriptText.{IsScriptOf, IsScriptFor, IsValue}
 use Rattle.hz_text.specs.Printed.{letter_of, statement_text, listed_from, script_text}
 use Rattle.hz_text.proofs.NodeLemmas.{marks_of, length-marks, get_or-marks}
-use Rattle.hz_text.proofs.BuildLemmas.{nodes_of-pairs, repeat_from_IsDistinct}
+use Rattle.hz_text.proofs.BuildLemmas.{assigned_nodes-pairs, repeat_from_IsDistinct}
 use Rattle.hz_text.proofs.FaultLaws.{clear-faultless}
-use Rattle.hz_text.proofs.TextLaws.{first_line-cons}
+use Rattle.hz_text.proofs.TextLaws.{first_passing_line-cons}
 use Rattle.hz_text.proofs.PrintLemmas.{listed-below}
 use Rattle.hz_text.proofs.WordLaws.{AreNodes, spelled, stated, numbered-statement, formed-statement}
 
@@ -57,33 +57,33 @@ assigned_back netlist (pair ∷ pairs) whole h =
     rw (node_at netlist pair.0 whole (All-head P pair pairs h), bit_back pair.1) (ap (λ rest. assignment_to pair ∷ rest) (assigned_back netlist pairs whole (All-tail P pair pairs h)))
 
 -- a statement that was printed, by its nodes and bits
-abbrev pub sent : Keyword → List (ℕ × Bool) → Looked
+abbrev pub sent : Keyword → List (ℕ × Bool) → ResolvedStatement
 sent keyword pairs = record { keyword = keyword; assigned = map assignment_to pairs }
 
 -- the changes that were printed
-abbrev pub changes_sent : ℕ → List (List (ℕ × Bool)) → List (Numbered Looked)
+abbrev pub changes_sent : ℕ → List (List (ℕ × Bool)) → List (Numbered ResolvedStatement)
 changes_sent line [] = []
 changes_sent line (change ∷ changes) = record { line = line; statement = sent Change change } ∷ changes_sent (suc line) changes
 
-looked_back : (netlist : Netlist) (keyword : Keyword) (pairs : List (ℕ × Bool)) (line : ℕ) → IsCircuit netlist → AreNodes netlist pairs → looked_up netlist (record { line = line; statement = stated netlist keyword pairs }) ≡ record { line = line; statement = sent keyword pairs }
+looked_back : (netlist : Netlist) (keyword : Keyword) (pairs : List (ℕ × Bool)) (line : ℕ) → IsCircuit netlist → AreNodes netlist pairs → resolve_numbered netlist (record { line = line; statement = stated netlist keyword pairs }) ≡ record { line = line; statement = sent keyword pairs }
 looked_back netlist keyword pairs line whole h =
-    let F : List Assigned → Numbered Looked = λ all. record { line = line; statement = record { keyword = keyword; assigned = all } } in
+    let F : List Assigned → Numbered ResolvedStatement = λ all. record { line = line; statement = record { keyword = keyword; assigned = all } } in
     ap F (assigned_back netlist pairs whole h)
 
 change_nodes : (netlist : Netlist) (change : List (ℕ × Bool)) → IsCircuit netlist → IsChange netlist.inputs change → AreNodes netlist change
 change_nodes netlist change whole h = All-weaker (λ (pair : ℕ × Bool). pair.0 < netlist.inputs) (λ (pair : ℕ × Bool). pair.0 < length netlist.names) (λ pair l. omega (arith, l, whole.nodes)) change h.below
 
-changes_read : (netlist : Netlist) (changes : List (List (ℕ × Bool))) (line : ℕ) → IsCircuit netlist → All (IsChange netlist.inputs) changes → map (looked_up netlist) (numbered_from statement_of line (lines_of (flat_map (statement_text netlist (codes "change")) changes))) ≡ changes_sent line changes
+changes_read : (netlist : Netlist) (changes : List (List (ℕ × Bool))) (line : ℕ) → IsCircuit netlist → All (IsChange netlist.inputs) changes → map (resolve_numbered netlist) (numbered_from script_statement_of line (lines_of (flat_map (statement_text netlist (codes "change")) changes))) ≡ changes_sent line changes
 changes_read netlist [] line whole h = refl
 changes_read netlist (change ∷ changes) line whole h =
     let P = IsChange netlist.inputs in
     let nodes = change_nodes netlist change whole (All-head P change changes h) in
     let ih = changes_read netlist changes (suc line) whole (All-tail P change changes h) in
-    ap (map (looked_up netlist)) (numbered-statement netlist Change change (flat_map (statement_text netlist (codes "change")) changes) line whole nodes)
-    ∙ ap (λ first. first ∷ map (looked_up netlist) (numbered_from statement_of (suc line) (lines_of (flat_map (statement_text netlist (codes "change")) changes)))) (looked_back netlist Change change line whole nodes)
+    ap (map (resolve_numbered netlist)) (numbered-statement netlist Change change (flat_map (statement_text netlist (codes "change")) changes) line whole nodes)
+    ∙ ap (λ first. first ∷ map (resolve_numbered netlist) (numbered_from script_statement_of (suc line) (lines_of (flat_map (statement_text netlist (codes "change")) changes)))) (looked_back netlist Change change line whole nodes)
     ∙ ap (λ rest. record { line = line; statement = sent Change change } ∷ rest) ih
 
-changes_formed : (netlist : Netlist) (changes : List (List (ℕ × Bool))) (line : ℕ) → IsCircuit netlist → All (IsChange netlist.inputs) changes → first_malformed statement_of line (lines_of (flat_map (statement_text netlist (codes "change")) changes)) ≡ None
+changes_formed : (netlist : Netlist) (changes : List (List (ℕ × Bool))) (line : ℕ) → IsCircuit netlist → All (IsChange netlist.inputs) changes → first_malformed script_statement_of line (lines_of (flat_map (statement_text netlist (codes "change")) changes)) ≡ None
 changes_formed netlist [] line whole h = refl
 changes_formed netlist (change ∷ changes) line whole h =
     let P = IsChange netlist.inputs in
@@ -91,32 +91,32 @@ changes_formed netlist (change ∷ changes) line whole h =
     ∙ changes_formed netlist changes (suc line) whole (All-tail P change changes h)
 
 -- what a script's text is read as
-abbrev pub script_sent : ScriptOf → List (Numbered Looked)
+abbrev pub script_sent : ScriptOf → List (Numbered ResolvedStatement)
 script_sent script = record { line = 1; statement = sent Start (listed_from 0 script.start) } ∷ changes_sent 2 script.changes
 
 start_nodes : (netlist : Netlist) (script : ScriptOf) → IsScriptFor netlist script → AreNodes netlist (listed_from 0 script.start)
 start_nodes netlist script h = let P : ℕ → Type 0 = λ nodes. All (λ (pair : ℕ × Bool). pair.0 < nodes) (listed_from 0 script.start) in subst P h.nodes (listed-below script.start)
 
-script_read : (netlist : Netlist) (script : ScriptOf) → IsCircuit netlist → IsScriptFor netlist script → looked_statements netlist (script_text netlist script) ≡ script_sent script
+script_read : (netlist : Netlist) (script : ScriptOf) → IsCircuit netlist → IsScriptFor netlist script → resolved_statements netlist (script_text netlist script) ≡ script_sent script
 script_read netlist script whole h =
     let rest = flat_map (statement_text netlist (codes "change")) script.changes in
     let nodes = start_nodes netlist script h in
-    ap (map (looked_up netlist)) (numbered-statement netlist Start (listed_from 0 script.start) rest 1 whole nodes)
-    ∙ ap (λ first. first ∷ map (looked_up netlist) (numbered_from statement_of 2 (lines_of rest))) (looked_back netlist Start (listed_from 0 script.start) 1 whole nodes)
+    ap (map (resolve_numbered netlist)) (numbered-statement netlist Start (listed_from 0 script.start) rest 1 whole nodes)
+    ∙ ap (λ first. first ∷ map (resolve_numbered netlist) (numbered_from script_statement_of 2 (lines_of rest))) (looked_back netlist Start (listed_from 0 script.start) 1 whole nodes)
     ∙ ap (λ later. record { line = 1; statement = sent Start (listed_from 0 script.start) } ∷ later) (changes_read netlist script.changes 2 whole h.changes)
 
-script_formed : (netlist : Netlist) (script : ScriptOf) → IsCircuit netlist → IsScriptFor netlist script → first_malformed statement_of 1 (lines_of (script_text netlist script)) ≡ None
+script_formed : (netlist : Netlist) (script : ScriptOf) → IsCircuit netlist → IsScriptFor netlist script → first_malformed script_statement_of 1 (lines_of (script_text netlist script)) ≡ None
 script_formed netlist script whole h =
     formed-statement netlist Start (listed_from 0 script.start) (flat_map (statement_text netlist (codes "change")) script.changes) 1 whole (start_nodes netlist script h)
     ∙ changes_formed netlist script.changes 2 whole h.changes
 
 -- no change that was printed passes a test that no change passes
-changes-none : (inputs : ℕ) (test : Looked → Bool) → ((change : List (ℕ × Bool)) → IsChange inputs change → test (sent Change change) ≡ false) → (changes : List (List (ℕ × Bool))) (line : ℕ) → All (IsChange inputs) changes → first_line test (changes_sent line changes) ≡ None
+changes-none : (inputs : ℕ) (test : ResolvedStatement → Bool) → ((change : List (ℕ × Bool)) → IsChange inputs change → test (sent Change change) ≡ false) → (changes : List (List (ℕ × Bool))) (line : ℕ) → All (IsChange inputs) changes → first_passing_line test (changes_sent line changes) ≡ None
 changes-none inputs test fails [] line h = refl
 changes-none inputs test fails (change ∷ changes) line h =
     let P = IsChange inputs in
-    first_line-cons test (record { line = line; statement = sent Change change }) (changes_sent (suc line) changes)
-    ∙ ap (λ b. cond b (Some line) (first_line test (changes_sent (suc line) changes))) (fails change (All-head P change changes h))
+    first_passing_line-cons test (record { line = line; statement = sent Change change }) (changes_sent (suc line) changes)
+    ∙ ap (λ b. cond b (Some line) (first_passing_line test (changes_sent (suc line) changes))) (fails change (All-head P change changes h))
     ∙ changes-none inputs test fails changes (suc line) (All-tail P change changes h)
 
 pub start-known : (inputs : ℕ) (pairs : List (ℕ × Bool)) → has_unknown inputs (sent Start pairs) ≡ false
@@ -136,7 +136,7 @@ inputs-known inputs (pair ∷ pairs) h =
     rw first (inputs-known inputs pairs (All-tail P pair pairs h))
 
 change-fresh : (inputs : ℕ) (change : List (ℕ × Bool)) → IsChange inputs change → has_node_twice (sent Change change) ≡ false
-change-fresh inputs change h = ap (has_repeat nat_eq) (nodes_of-pairs change) ∙ repeat_from_IsDistinct _ h.distinct
+change-fresh inputs change h = ap (has_repeat nat_eq) (assigned_nodes-pairs change) ∙ repeat_from_IsDistinct _ h.distinct
 
 listed-above : (node from : ℕ) (start : List (Option Bool)) → node < from → list_any (nat_eq node) (map (λ pair. pair.0) (listed_from from start)) ≡ false
 listed-above node from [] h = refl
@@ -148,23 +148,23 @@ listed-fresh from [] = refl
 listed-fresh from (None ∷ later) = listed-fresh (suc from) later
 listed-fresh from (Some bit ∷ later) = rw (listed-above from (suc from) later (omega arith)) (listed-fresh (suc from) later)
 
-below-none : (node from : ℕ) (start : List (Option Bool)) → node < from → bit_at (map assignment_to (listed_from from start)) node ≡ None
+below-none : (node from : ℕ) (start : List (Option Bool)) → node < from → assigned_bit (map assignment_to (listed_from from start)) node ≡ None
 below-none node from [] h = refl
 below-none node from (None ∷ later) h = below-none node (suc from) later (omega arith)
 below-none node from (Some bit ∷ later) h = let other : nat_eq node from ≡ false = grind (arith, nat_tests, h) in rw other (below-none node (suc from) later (omega arith))
 
-bit_at-listed : (from place node : ℕ) (start : List (Option Bool)) → node ≡ from + place → bit_at (map assignment_to (listed_from from start)) node ≡ get_or start place None
-bit_at-listed from place node [] e = refl
-bit_at-listed from zero node (None ∷ later) e = below-none node (suc from) later (omega (arith, e))
-bit_at-listed from zero node (Some bit ∷ later) e = let same : nat_eq node from ≡ true = grind (arith, nat_tests, e) in rw same refl
-bit_at-listed from (suc place) node (None ∷ later) e = bit_at-listed (suc from) place node later (omega (arith, e))
-bit_at-listed from (suc place) node (Some bit ∷ later) e = let other : nat_eq node from ≡ false = grind (arith, nat_tests, e) in rw other (bit_at-listed (suc from) place node later (omega (arith, e)))
+assigned_bit-listed : (from place node : ℕ) (start : List (Option Bool)) → node ≡ from + place → assigned_bit (map assignment_to (listed_from from start)) node ≡ get_or start place None
+assigned_bit-listed from place node [] e = refl
+assigned_bit-listed from zero node (None ∷ later) e = below-none node (suc from) later (omega (arith, e))
+assigned_bit-listed from zero node (Some bit ∷ later) e = let same : nat_eq node from ≡ true = grind (arith, nat_tests, e) in rw same refl
+assigned_bit-listed from (suc place) node (None ∷ later) e = assigned_bit-listed (suc from) place node later (omega (arith, e))
+assigned_bit-listed from (suc place) node (Some bit ∷ later) e = let other : nat_eq node from ≡ false = grind (arith, nat_tests, e) in rw other (assigned_bit-listed (suc from) place node later (omega (arith, e)))
 
-assigns-bit : (all : List Assigned) (node : ℕ) → IsSome (bit_at all node) → assigns all node ≡ true
+assigns-bit : (all : List Assigned) (node : ℕ) → IsSome (assigned_bit all node) → assigns all node ≡ true
 assigns-bit [] node h = cc
-assigns-bit (first ∷ later) node h = by_test (is_node node first.node) refl (assigns-bit later node)
+assigns-bit (first ∷ later) node h = by_test (is_same_node node first.node) refl (assigns-bit later node)
   where
-    by_test : (t : Bool) → is_node node first.node ≡ t → (IsSome (bit_at later node) → assigns later node ≡ true) → (t || assigns later node) ≡ true
+    by_test : (t : Bool) → is_same_node node first.node ≡ t → (IsSome (assigned_bit later node) → assigns later node ≡ true) → (t || assigns later node) ≡ true
     by_test true t ih = refl
     by_test false t ih = ih (rw t at h)
 
@@ -180,7 +180,7 @@ listed-whole start inputs listed =
     let all = map assignment_to (listed_from 0 start) in
     position-nowhere not (marks_of all inputs) false (λ k l.
     let low : k < inputs = omega (arith, l, length-marks all inputs) in
-    let found = assigns-bit all k (rw (bit_at-listed 0 k k start (sym (zero-add k))) (listed k low)) in
+    let found = assigns-bit all k (rw (assigned_bit-listed 0 k k start (sym (zero-add k))) (listed k low)) in
     rw (get_or-marks all inputs k false low, found) refl)
 
 start-whole : (netlist : Netlist) (script : ScriptOf) → IsCircuit netlist → IsScriptFor netlist script → least_unassigned (primary_inputs netlist) (map assignment_to (listed_from 0 script.start)) ≡ None
@@ -198,38 +198,38 @@ changes_back : (changes : List (List (ℕ × Bool))) (line : ℕ) → map (map a
 changes_back [] line = refl
 changes_back (change ∷ changes) line = ap (λ rest. map assignment_to change ∷ rest) (changes_back changes (suc line))
 
-sent-clear : (netlist : Netlist) (script : ScriptOf) → IsCircuit netlist → IsScriptFor netlist script → first_fault netlist.inputs (primary_inputs netlist) (script_sent script) ≡ None
+sent-clear : (netlist : Netlist) (script : ScriptOf) → IsCircuit netlist → IsScriptFor netlist script → first_script_fault netlist.inputs (primary_inputs netlist) (script_sent script) ≡ None
 sent-clear netlist script whole h =
     let inputs = netlist.inputs in
-    let start : Numbered Looked = record { line = 1; statement = sent Start (listed_from 0 script.start) } in
+    let start : Numbered ResolvedStatement = record { line = 1; statement = sent Start (listed_from 0 script.start) } in
     let later = changes_sent 2 script.changes in
-    let unknown : first_line (has_unknown inputs) (script_sent script) ≡ None = first_line-cons (has_unknown inputs) start later ∙ ap (λ b. cond b (Some 1) (first_line (has_unknown inputs) later)) (start-known inputs (listed_from 0 script.start)) ∙ changes-none inputs (has_unknown inputs) (λ change is. inputs-known inputs change is.below) script.changes 2 h.changes in
-    let twice : first_line has_node_twice (script_sent script) ≡ None = first_line-cons has_node_twice start later ∙ ap (λ b. cond b (Some 1) (first_line has_node_twice later)) (ap (has_repeat nat_eq) (nodes_of-pairs (listed_from 0 script.start)) ∙ listed-fresh 0 script.start) ∙ changes-none inputs has_node_twice (change-fresh inputs) script.changes 2 h.changes in
-    let bit : first_line has_no_bit (script_sent script) ≡ None = first_line-cons has_no_bit start later ∙ ap (λ b. cond b (Some 1) (first_line has_no_bit later)) (all-bits Start (listed_from 0 script.start)) ∙ changes-none inputs has_no_bit (λ change is. all-bits Change change) script.changes 2 h.changes in
+    let unknown : first_passing_line (has_unknown inputs) (script_sent script) ≡ None = first_passing_line-cons (has_unknown inputs) start later ∙ ap (λ b. cond b (Some 1) (first_passing_line (has_unknown inputs) later)) (start-known inputs (listed_from 0 script.start)) ∙ changes-none inputs (has_unknown inputs) (λ change is. inputs-known inputs change is.below) script.changes 2 h.changes in
+    let twice : first_passing_line has_node_twice (script_sent script) ≡ None = first_passing_line-cons has_node_twice start later ∙ ap (λ b. cond b (Some 1) (first_passing_line has_node_twice later)) (ap (has_repeat nat_eq) (assigned_nodes-pairs (listed_from 0 script.start)) ∙ listed-fresh 0 script.start) ∙ changes-none inputs has_node_twice (change-fresh inputs) script.changes 2 h.changes in
+    let bit : first_passing_line has_no_bit (script_sent script) ≡ None = first_passing_line-cons has_no_bit start later ∙ ap (λ b. cond b (Some 1) (first_passing_line has_no_bit later)) (all-bits Start (listed_from 0 script.start)) ∙ changes-none inputs has_no_bit (λ change is. all-bits Change change) script.changes 2 h.changes in
     let order : first_out_of_order (script_sent script) ≡ None = changes-none inputs is_start (λ change is. refl) script.changes 2 h.changes in
-    let few : last_beyond (script_sent script) ≡ None = ap (option_map (λ (numbered : Numbered Looked). numbered.line)) (slice_get_past (script_sent script) 10001 (omega (arith, h.few, length-sent script.changes 2))) in
+    let few : last_beyond (script_sent script) ≡ None = ap (option_map (λ (numbered : Numbered ResolvedStatement). numbered.line)) (slice_get_past (script_sent script) 10001 (omega (arith, h.few, length-sent script.changes 2))) in
     rw (unknown, twice, start-whole netlist script whole h, bit, order, few) refl
 
 -- what was printed has no fault
-pub printed-faultless : (netlist : Netlist) (script : ScriptOf) → IsCircuit netlist → IsScriptFor netlist script → IsFaultless netlist (script_text netlist script)
+pub printed-faultless : (netlist : Netlist) (script : ScriptOf) → IsCircuit netlist → IsScriptFor netlist script → IsScriptFaultless netlist (script_text netlist script)
 printed-faultless netlist script whole h =
     let text = script_text netlist script in
-    let none : first_fault netlist.inputs (primary_inputs netlist) (looked_statements netlist text) ≡ None = ap (first_fault netlist.inputs (primary_inputs netlist)) (script_read netlist script whole h) ∙ sent-clear netlist script whole h in
-    clear-faultless netlist text (first_malformed-map (looked_of netlist) statement_of 1 (lines_of text) ∙ script_formed netlist script whole h) none
+    let none : first_script_fault netlist.inputs (primary_inputs netlist) (resolved_statements netlist text) ≡ None = ap (first_script_fault netlist.inputs (primary_inputs netlist)) (script_read netlist script whole h) ∙ sent-clear netlist script whole h in
+    clear-faultless netlist text (first_malformed-map (resolve_statement netlist) script_statement_of 1 (lines_of text) ∙ script_formed netlist script whole h) none
 
 -- what a start lists is read back
-pub listed-back : (start : List (Option Bool)) (nodes : ℕ) → length start ≡ nodes → start ≡ map (bit_at (map assignment_to (listed_from 0 start))) (range_with_len 0 nodes)
+pub listed-back : (start : List (Option Bool)) (nodes : ℕ) → length start ≡ nodes → start ≡ map (assigned_bit (map assignment_to (listed_from 0 start))) (range_with_len 0 nodes)
 listed-back start nodes long =
     let all = map assignment_to (listed_from 0 start) in
-    same_lists _ _ (long ∙ sym (length-map (range_with_len 0 nodes) (bit_at all) ∙ length-range_with_len 0 nodes))
+    same_lists _ _ (long ∙ sym (length-map (range_with_len 0 nodes) (assigned_bit all) ∙ length-range_with_len 0 nodes))
     (λ k d l.
     let low : k < nodes = omega (arith, l, long) in
     get_or_default start k d None l
-    ∙ sym (bit_at-listed 0 k k start (sym (zero-add k)))
-    ∙ sym (get_or-map-range_with_len (bit_at all) 0 nodes k k d low (zero-add k)))
+    ∙ sym (assigned_bit-listed 0 k k start (sym (zero-add k)))
+    ∙ sym (get_or-map-range_with_len (assigned_bit all) 0 nodes k k d low (zero-add k)))
 
 -- what was printed stands for the script
 pub printed-value : (netlist : Netlist) (script : ScriptOf) → IsCircuit netlist → IsScriptFor netlist script → IsValue netlist (script_text netlist script) script
 printed-value netlist script whole h =
-    let P : List (Numbered Looked) → Type 0 = λ statements. IsScriptOf (length netlist.names) statements script in
+    let P : List (Numbered ResolvedStatement) → Type 0 = λ statements. IsScriptOf (length netlist.names) statements script in
     subst P (sym (script_read netlist script whole h)) (record { start = listed-back script.start (length netlist.names) h.nodes; changes = changes_back script.changes 2 })

@@ -8,27 +8,27 @@ use Rattle.std.proofs.lemmas.List.Elements.{All-nil, All-cons, All-tail}
 use Rattle.std.proofs.lemmas.List.FromFn.{length-range_with_len, get_or-map-range_with_len}
 use Rattle.std.proofs.lemmas.Grind.{flat_map-append}
 use Rattle.hz_core.specs.Netlist.{Netlist}
-use Rattle.hz_line.specs.Statement.{Numbered, first_line}
+use Rattle.hz_line.specs.Statement.{Numbered, first_passing_line}
 use Rattle.hz_text.specs.declared.run.order.Place.{Place}
 use Rattle.hz_text.specs.declared.run.order.Place.TheVariants as place
 use Rattle.hz_text.specs.declared.run.size.Size.{Size}
 use Rattle.hz_text.specs.declared.run.version.Version.{Version}
 use Rattle.hz_text.specs.declared.run.version.Version.TheVariants.{One, Two}
-use Rattle.hz_text.specs.Assignment.{Assigned, Nodes, Inputs, is_unknown, bit_at}
+use Rattle.hz_text.specs.Assignment.{Assigned, Nodes, Inputs, is_not_allowed, assigned_bit}
 use Rattle.hz_text.specs.Rules.{AreBelow, least_unassigned}
 use Rattle.hz_text.specs.Bits.{IsWholeStart}
 use Rattle.hz_text.specs.RunStatement.{Header, Net, Start, Input, Run, Step, Cycle, End}
-use Rattle.hz_text.specs.RunLookup.{RunEntry, LookedRun, run_entered, run_entered_all, run_held_by}
+use Rattle.hz_text.specs.RunResolution.{RunEntry, ResolvedRunStatement, numbered_run_resolution, numbered_run_resolutions, run_resolution_of}
 use Rattle.hz_text.specs.RunValue.{RunOf, with_step_in, with_step}
 use Rattle.hz_text.specs.RunFault.{version_in, assignments_in, variables_in, names_unknown, lacks_bit, is_start_line, is_input_line, first_start, first_input}
 use Rattle.hz_text.specs.OrderPass.{is_net_line, is_end}
-use Rattle.hz_text.specs.OrderPass.{place_after, end_out_of_order, runs_out_of_order, out_of_order_with, start_out_of_order, input_out_of_order, net_out_of_order, version_out_of_order, run_out_of_order}
-use Rattle.hz_text.specs.RunRules.{beyond_from, AssignsBelow, names_node_twice, least_left_out, lesser, least_missing_node, first_run_fault}
+use Rattle.hz_text.specs.OrderPass.{place_after, end_out_of_order, runs_out_of_order, out_of_order_with, start_out_of_order, input_out_of_order, net_out_of_order, version_out_of_order, first_misplaced}
+use Rattle.hz_text.specs.RunRules.{beyond_from, AssignsBelow, names_node_twice, least_left_out, option_min, least_missing_node, first_run_fault}
 use Rattle.hz_text.specs.RunText.{step_of, run_statements}
-use Rattle.hz_text.specs.RunOrder.{header_lines, unnumbered}
+use Rattle.hz_text.specs.RunOrder.{header_lines, statements_without_lines}
 use Rattle.hz_text.specs.RunBuilt.{after_version, after_header, place_in, last_place, IsRunAdded}
 use Rattle.hz_text.proofs.FaultLaws.{unassigned-None}
-use Rattle.hz_text.proofs.TextLaws.{first_line-cons}
+use Rattle.hz_text.proofs.TextLaws.{first_passing_line-cons}
 use Rattle.hz_text.proofs.BuildLemmas.{or_parts}
 use Rattle.hz_text.proofs.OrderLaws.{is_Header, is_Net, is_Start, is_Input}
 use Rattle.hz_text.specs.declared.fault.TextFault.TheVariants as fault
@@ -74,7 +74,7 @@ last_place-at (first ∷ next ∷ later) zero d long = absurd (omega (arith, lon
 last_place-at (first ∷ next ∷ later) (suc n) d long = last_place-at (next ∷ later) n d (omega (arith, long))
 
 last-changed :
-    (runs : List RunOf) (n : ℕ) (d run : RunOf) (statement : LookedRun) → length runs ≡ suc n →
+    (runs : List RunOf) (n : ℕ) (d run : RunOf) (statement : ResolvedRunStatement) → length runs ≡ suc n →
     run_statements run ≡ run_statements (get_or runs n d) ++ statement ∷ [] →
     flat_map run_statements (set runs n run) ≡ flat_map run_statements runs ++ statement ∷ []
 last-changed [] n d run statement long e = absurd (omega (arith, long))
@@ -135,7 +135,7 @@ added_cycle old n d long follows =
     }
 
 -- a step and a cycle stand in a run
-pub some_run : (old : List RunOf) (statement : LookedRun) → place_after place.Between statement ≡ None → IsSome (place_after (last_place old) statement) → 0 < length old
+pub some_run : (old : List RunOf) (statement : ResolvedRunStatement) → place_after place.Between statement ≡ None → IsSome (place_after (last_place old) statement) → 0 < length old
 some_run [] statement none follows = absurd (no_place (place_after place.Between statement) none follows)
   where
     no_place : (next : Option Place) → next ≡ None → IsSome next → ⊥
@@ -144,19 +144,19 @@ some_run [] statement none follows = absurd (no_place (place_after place.Between
 some_run (first ∷ later) statement none follows = omega arith
 
 -- what follows a statement in order
-pub record IsNextInOrder (here : Place) (statement : LookedRun) (later : List (Numbered LookedRun)) : Type 0 where
+pub record IsNextInOrder (here : Place) (statement : ResolvedRunStatement) (later : List (Numbered ResolvedRunStatement)) : Type 0 where
   pub next : Place
   pub place : place_after here statement ≡ Some next
   pub ordered : runs_out_of_order next later ≡ None
 
-pub next_in_order : (here : Place) (first : Numbered LookedRun) (later : List (Numbered LookedRun)) → is_end first.statement ≡ false → runs_out_of_order here (first ∷ later) ≡ None → IsNextInOrder here first.statement later
+pub next_in_order : (here : Place) (first : Numbered ResolvedRunStatement) (later : List (Numbered ResolvedRunStatement)) → is_end first.statement ≡ false → runs_out_of_order here (first ∷ later) ≡ None → IsNextInOrder here first.statement later
 next_in_order here first later on e = by_place (place_after here first.statement) refl (rw on at e)
   where
     by_place : (next : Option Place) → place_after here first.statement ≡ next → option_map_or (λ next. runs_out_of_order next later) next (Some first.line) ≡ None → IsNextInOrder here first.statement later
     by_place None p w = cc
     by_place (Some next) p w = record { next = next; place = p; ordered = w }
 
-is_End : (statement : LookedRun) → is_end statement ≡ true → statement ≡ End
+is_End : (statement : ResolvedRunStatement) → is_end statement ≡ true → statement ≡ End
 is_End (Header version) e = cc
 is_End (Net size) e = cc
 is_End (Start assignments) e = cc
@@ -166,28 +166,28 @@ is_End (Step variables) e = cc
 is_End Cycle e = cc
 is_End End e = refl
 
-none_after : (later : List (Numbered LookedRun)) → end_out_of_order later ≡ None → later ≡ []
+none_after : (later : List (Numbered ResolvedRunStatement)) → end_out_of_order later ≡ None → later ≡ []
 none_after [] e = refl
 none_after (first ∷ later) e = cc
 
 -- at the end nothing is left
-pub ended : (here : Place) (first : Numbered LookedRun) (later : List (Numbered LookedRun)) → is_end first.statement ≡ true → runs_out_of_order here (first ∷ later) ≡ None → unnumbered (first ∷ later) ≡ End ∷ []
+pub ended : (here : Place) (first : Numbered ResolvedRunStatement) (later : List (Numbered ResolvedRunStatement)) → is_end first.statement ≡ true → runs_out_of_order here (first ∷ later) ≡ None → statements_without_lines (first ∷ later) ≡ End ∷ []
 ended here first later at e =
     let none : later ≡ [] = none_after later (rw at at e) in
-    ap (λ statement. statement ∷ unnumbered later) (is_End first.statement at) ∙ ap (λ rest. End ∷ unnumbered rest) none
+    ap (λ statement. statement ∷ statements_without_lines later) (is_End first.statement at) ∙ ap (λ rest. End ∷ statements_without_lines rest) none
 
 -- the entry at a place, before those after it
-pub entries-at : (entries : List RunEntry) (i : ℕ) (entry : RunEntry) → i < length entries → entry ≡ get_or entries i entry → run_entered_all (drop i entries) ≡ run_entered entry ∷ run_entered_all (drop (i + 1) entries)
+pub entries-at : (entries : List RunEntry) (i : ℕ) (entry : RunEntry) → i < length entries → entry ≡ get_or entries i entry → numbered_run_resolutions (drop i entries) ≡ numbered_run_resolution entry ∷ numbered_run_resolutions (drop (i + 1) entries)
 entries-at entries i entry within is =
-    ap run_entered_all (drop_more entries i entry within) ∙ ap (λ one. run_entered one ∷ run_entered_all (drop (i + 1) entries)) (sym is)
+    ap numbered_run_resolutions (drop_more entries i entry within) ∙ ap (λ one. numbered_run_resolution one ∷ numbered_run_resolutions (drop (i + 1) entries)) (sym is)
 
 -- a whole start gives each node a bit
-pub bits_known : (all : List Assigned) (nodes : ℕ) → IsWholeStart nodes all → All IsSome (map (bit_at all) (range_with_len 0 nodes))
+pub bits_known : (all : List Assigned) (nodes : ℕ) → IsWholeStart nodes all → All IsSome (map (assigned_bit all) (range_with_len 0 nodes))
 bits_known all nodes whole = λ k d l.
-    let low : k < nodes = omega (arith, l, length-map (range_with_len 0 nodes) (bit_at all), length-range_with_len 0 nodes) in
-    rw (get_or-map-range_with_len (bit_at all) 0 nodes k k d low (zero-add k)) (bit-some all k (unassigned-None nodes all whole.whole k low) whole.bits)
+    let low : k < nodes = omega (arith, l, length-map (range_with_len 0 nodes) (assigned_bit all), length-range_with_len 0 nodes) in
+    rw (get_or-map-range_with_len (assigned_bit all) 0 nodes k k d low (zero-add k)) (bit-some all k (unassigned-None nodes all whole.whole k low) whole.bits)
 
-first_passes : (test : LookedRun → Bool) (after : List (Numbered LookedRun) → Option ℕ) (first : Numbered LookedRun) (later : List (Numbered LookedRun)) → out_of_order_with test after (first ∷ later) ≡ None → (test first.statement ≡ true) × (after later ≡ None)
+first_passes : (test : ResolvedRunStatement → Bool) (after : List (Numbered ResolvedRunStatement) → Option ℕ) (first : Numbered ResolvedRunStatement) (later : List (Numbered ResolvedRunStatement)) → out_of_order_with test after (first ∷ later) ≡ None → (test first.statement ≡ true) × (after later ≡ None)
 first_passes test after first later e = by_test (test first.statement) refl e
   where
     by_test : (b : Bool) → test first.statement ≡ b → cond b (after later) (Some first.line) ≡ None → (test first.statement ≡ true) × (after later ≡ None)
@@ -195,15 +195,15 @@ first_passes test after first later e = by_test (test first.statement) refl e
     by_test false t w = cc
 
 -- the first two statements of a run text in order from the start on, and the runs after them
-pub record IsFramed (start input : Numbered LookedRun) (later : List (Numbered LookedRun)) : Type 0 where
-  pub front : unnumbered (start ∷ input ∷ later) ≡ Start (assignments_in start.statement) ∷ Input (assignments_in input.statement) ∷ unnumbered later
+pub record IsFramed (start input : Numbered ResolvedRunStatement) (later : List (Numbered ResolvedRunStatement)) : Type 0 where
+  pub front : statements_without_lines (start ∷ input ∷ later) ≡ Start (assignments_in start.statement) ∷ Input (assignments_in input.statement) ∷ statements_without_lines later
   pub is_start : start.statement ≡ Start (assignments_in start.statement)
   pub is_input : input.statement ≡ Input (assignments_in input.statement)
   pub first_start : first_start (start ∷ input ∷ later) ≡ Some (assignments_in start.statement)
   pub first_input : first_input (start ∷ input ∷ later) ≡ Some (assignments_in input.statement)
   pub runs : runs_out_of_order place.Between later ≡ None
 
-framed : (start input : Numbered LookedRun) (later : List (Numbered LookedRun)) → start_out_of_order (start ∷ input ∷ later) ≡ None → IsFramed start input later
+framed : (start input : Numbered ResolvedRunStatement) (later : List (Numbered ResolvedRunStatement)) → start_out_of_order (start ∷ input ∷ later) ≡ None → IsFramed start input later
 framed start input later e =
     let b = first_passes is_start_line input_out_of_order start (input ∷ later) e in
     let c = first_passes is_input_line (runs_out_of_order place.Between) input later b.1 in
@@ -212,8 +212,8 @@ framed start input later e =
     let no_input : is_input_line start.statement ≡ false = ap is_input_line s in
     record {
       front =
-          ap (λ one. one ∷ input.statement ∷ unnumbered later) s
-          ∙ ap (λ one. Start (assignments_in start.statement) ∷ one ∷ unnumbered later) i;
+          ap (λ one. one ∷ input.statement ∷ statements_without_lines later) s
+          ∙ ap (λ one. Start (assignments_in start.statement) ∷ one ∷ statements_without_lines later) i;
       is_start = s;
       is_input = i;
       first_start = rw b.0 refl;
@@ -221,19 +221,19 @@ framed start input later e =
       runs = c.1;
     }
 
-inputs-below : (inputs : ℕ) (all : List Assigned) → list_any (λ one. is_unknown inputs Inputs one.node) all ≡ false → AreBelow inputs all
+inputs-below : (inputs : ℕ) (all : List Assigned) → list_any (λ one. is_not_allowed inputs Inputs one.node) all ≡ false → AreBelow inputs all
 inputs-below inputs [] e = All-nil _
 inputs-below inputs (first ∷ later) e =
-    let parts = or_parts (is_unknown inputs Inputs first.node) _ e in
+    let parts = or_parts (is_not_allowed inputs Inputs first.node) _ e in
     All-cons (λ (one : Assigned). IfSome one.node (λ node. node < inputs)) first later (at first.node parts.0) (inputs-below inputs later parts.1)
   where
-    at : (node : Option ℕ) → is_unknown inputs Inputs node ≡ false → IfSome node (λ node. node < inputs)
+    at : (node : Option ℕ) → is_not_allowed inputs Inputs node ≡ false → IfSome node (λ node. node < inputs)
     at None h = tt
     at (Some node) h = grind (arith, nat_tests, h)
 
 -- the start and the input line of a text without a fault
 pub whole_start :
-    (inputs nodes : ℕ) (all : List Assigned) (statement : LookedRun) → statement ≡ Start all → names_unknown inputs statement ≡ false → lacks_bit statement ≡ false →
+    (inputs nodes : ℕ) (all : List Assigned) (statement : ResolvedRunStatement) → statement ≡ Start all → names_unknown inputs statement ≡ false → lacks_bit statement ≡ false →
     names_node_twice statement ≡ false → AreBelow nodes all → least_unassigned nodes all ≡ None → IsWholeStart nodes all
 whole_start inputs nodes all statement is unknown bits twice below whole =
     let bits' : list_any (λ (one : Assigned). is_none one.bit) all ≡ false = sym (ap lacks_bit is) ∙ bits in
@@ -245,7 +245,7 @@ whole_start inputs nodes all statement is unknown bits twice below whole =
     }
 
 pub whole_input :
-    (inputs : ℕ) (all : List Assigned) (statement : LookedRun) → statement ≡ Input all → names_unknown inputs statement ≡ false → lacks_bit statement ≡ false →
+    (inputs : ℕ) (all : List Assigned) (statement : ResolvedRunStatement) → statement ≡ Input all → names_unknown inputs statement ≡ false → lacks_bit statement ≡ false →
     names_node_twice statement ≡ false → least_unassigned inputs all ≡ None → IsWholeStart inputs all
 whole_input inputs all statement is unknown bits twice whole =
     let bits' : list_any (λ (one : Assigned). is_none one.bit) all ≡ false = sym (ap lacks_bit is) ∙ bits in
@@ -258,7 +258,7 @@ whole_input inputs all statement is unknown bits twice whole =
     }
 
 -- the variables of a statement that names nothing unknown are there
-pub known_variables : (inputs : ℕ) (statement : LookedRun) → names_unknown inputs statement ≡ false → list_any is_none (variables_in statement) ≡ false
+pub known_variables : (inputs : ℕ) (statement : ResolvedRunStatement) → names_unknown inputs statement ≡ false → list_any is_none (variables_in statement) ≡ false
 known_variables inputs (Header version) e = refl
 known_variables inputs (Net size) e = refl
 known_variables inputs (Start assignments) e = refl
@@ -276,20 +276,20 @@ all_known (first ∷ later) e =
     All-cons IsSome first later (is_none-Some first parts.0) (all_known later parts.1)
 
 -- the passes over what statements say of names and words have no answer
-pub record AreNamesClear (netlist : Netlist) (statements : List (Numbered LookedRun)) : Type 0 where
-  pub unknown : first_line (names_unknown netlist.inputs) statements ≡ None
-  pub twice : first_line names_node_twice statements ≡ None
+pub record AreNamesClear (netlist : Netlist) (statements : List (Numbered ResolvedRunStatement)) : Type 0 where
+  pub unknown : first_passing_line (names_unknown netlist.inputs) statements ≡ None
+  pub twice : first_passing_line names_node_twice statements ≡ None
   pub start : least_left_out (first_start statements) (length netlist.names) ≡ None
   pub input : least_left_out (first_input statements) netlist.inputs ≡ None
-  pub bit : first_line lacks_bit statements ≡ None
+  pub bit : first_passing_line lacks_bit statements ≡ None
 
 -- no pass has an answer
-pub record IsClearRun (netlist : Netlist) (statements : List (Numbered LookedRun)) : Type 0 where
+pub record IsClearRun (netlist : Netlist) (statements : List (Numbered ResolvedRunStatement)) : Type 0 where
   pub names : AreNamesClear netlist statements
-  pub order : run_out_of_order statements ≡ None
+  pub order : first_misplaced statements ≡ None
   pub few : beyond_from 0 0 statements ≡ None
 
-neither : (first second : Option ℕ) → lesser first second ≡ None → (first ≡ None) × (second ≡ None)
+neither : (first second : Option ℕ) → option_min first second ≡ None → (first ≡ None) × (second ≡ None)
 neither None second e = (refl, e)
 neither (Some first) None e = cc
 neither (Some first) (Some second) e = by_test (nat_le first second) e
@@ -298,27 +298,27 @@ neither (Some first) (Some second) e = by_test (nat_le first second) e
     by_test true w = cc
     by_test false w = cc
 
-pub clear_run : (netlist : Netlist) (statements : List (Numbered LookedRun)) → first_run_fault netlist statements ≡ None → IsClearRun netlist statements
+pub clear_run : (netlist : Netlist) (statements : List (Numbered ResolvedRunStatement)) → first_run_fault netlist statements ≡ None → IsClearRun netlist statements
 clear_run netlist statements h =
-    let a = none_parts fault.Unknown (first_line (names_unknown netlist.inputs) statements) _ h in
-    let b = none_parts fault.Twice (first_line names_node_twice statements) _ a.1 in
+    let a = none_parts fault.Unknown (first_passing_line (names_unknown netlist.inputs) statements) _ h in
+    let b = none_parts fault.Twice (first_passing_line names_node_twice statements) _ a.1 in
     let c = none_parts fault.Missing (least_missing_node netlist statements) _ b.1 in
-    let d = none_parts fault.Bit (first_line lacks_bit statements) _ c.1 in
-    let e = none_parts fault.Order (run_out_of_order statements) _ d.1 in
+    let d = none_parts fault.Bit (first_passing_line lacks_bit statements) _ c.1 in
+    let e = none_parts fault.Order (first_misplaced statements) _ d.1 in
     let m = neither (least_left_out (first_start statements) (length netlist.names)) (least_left_out (first_input statements) netlist.inputs) c.0 in
     let f = none_parts fault.TooMany (beyond_from 0 0 statements) _ e.1 in
     record { names = record { unknown = a.0; twice = b.0; start = m.0; input = m.1; bit = d.0 }; order = e.0; few = f.0 }
 
 -- the passes have no answer behind a statement, either
-clear-tail : (test : LookedRun → Bool) (first : Numbered LookedRun) (later : List (Numbered LookedRun)) → first_line test (first ∷ later) ≡ None → first_line test later ≡ None
-clear-tail test first later e = by_test (test first.statement) (sym (first_line-cons test first later) ∙ e)
+clear-tail : (test : ResolvedRunStatement → Bool) (first : Numbered ResolvedRunStatement) (later : List (Numbered ResolvedRunStatement)) → first_passing_line test (first ∷ later) ≡ None → first_passing_line test later ≡ None
+clear-tail test first later e = by_test (test first.statement) (sym (first_passing_line-cons test first later) ∙ e)
   where
-    by_test : (b : Bool) → cond b (Some first.line) (first_line test later) ≡ None → first_line test later ≡ None
+    by_test : (b : Bool) → cond b (Some first.line) (first_passing_line test later) ≡ None → first_passing_line test later ≡ None
     by_test true w = cc
     by_test false w = w
 
 names-tail :
-    (netlist : Netlist) (first : Numbered LookedRun) (later : List (Numbered LookedRun)) → is_start_line first.statement ≡ false → is_input_line first.statement ≡ false →
+    (netlist : Netlist) (first : Numbered ResolvedRunStatement) (later : List (Numbered ResolvedRunStatement)) → is_start_line first.statement ≡ false → is_input_line first.statement ≡ false →
     AreNamesClear netlist (first ∷ later) → AreNamesClear netlist later
 names-tail netlist first later no_start no_input clear = record {
   unknown = clear-tail (names_unknown netlist.inputs) first later clear.unknown;
@@ -331,105 +331,105 @@ names-tail netlist first later no_start no_input clear = record {
 -- what stands before the start of a text without a fault, and what holds from the start on
 pub record IsFromStart (netlist : Netlist) (entries states : List RunEntry) : Type 0 where
   pub size : Option Size
-  pub front : unnumbered (run_entered_all entries) ≡ header_lines size ++ unnumbered (run_entered_all states)
+  pub front : statements_without_lines (numbered_run_resolutions entries) ≡ header_lines size ++ statements_without_lines (numbered_run_resolutions states)
   pub below : All (AssignsBelow (length netlist.names)) states
-  pub names : AreNamesClear netlist (run_entered_all states)
-  pub order : start_out_of_order (run_entered_all states) ≡ None
+  pub names : AreNamesClear netlist (numbered_run_resolutions states)
+  pub order : start_out_of_order (numbered_run_resolutions states) ≡ None
 
 -- behind the header of version 2
 from_net :
-    (netlist : Netlist) (header : RunEntry) (later : List RunEntry) → All (AssignsBelow (length netlist.names)) later → AreNamesClear netlist (run_entered_all later) →
-    run_held_by header.held ≡ Header Two → net_out_of_order (run_entered_all later) ≡ None → IsFromStart netlist (header ∷ later) (drop 1 later)
+    (netlist : Netlist) (header : RunEntry) (later : List RunEntry) → All (AssignsBelow (length netlist.names)) later → AreNamesClear netlist (numbered_run_resolutions later) →
+    run_resolution_of header.held ≡ Header Two → net_out_of_order (numbered_run_resolutions later) ≡ None → IsFromStart netlist (header ∷ later) (drop 1 later)
 from_net netlist header [] below names is e = let wrong : ◌≡◌ {A = Option ℕ} (Some 0) None = e in cc
 from_net netlist header (net ∷ states) below names is e =
-    let passes = first_passes is_net_line start_out_of_order (run_entered net) (run_entered_all states) e in
-    let tells = is_Net (run_held_by net.held) passes.0 in
+    let passes = first_passes is_net_line start_out_of_order (numbered_run_resolution net) (numbered_run_resolutions states) e in
+    let tells = is_Net (run_resolution_of net.held) passes.0 in
     record {
       size = Some tells.0;
       front =
-          ap (λ one. one ∷ run_held_by net.held ∷ unnumbered (run_entered_all states)) is
-          ∙ ap (λ one. Header Two ∷ one ∷ unnumbered (run_entered_all states)) tells.1;
+          ap (λ one. one ∷ run_resolution_of net.held ∷ statements_without_lines (numbered_run_resolutions states)) is
+          ∙ ap (λ one. Header Two ∷ one ∷ statements_without_lines (numbered_run_resolutions states)) tells.1;
       below = All-tail (AssignsBelow (length netlist.names)) net states below;
-      names = names-tail netlist (run_entered net) (run_entered_all states) (ap is_start_line tells.1) (ap is_input_line tells.1) names;
+      names = names-tail netlist (numbered_run_resolution net) (numbered_run_resolutions states) (ap is_start_line tells.1) (ap is_input_line tells.1) names;
       order = passes.1;
     }
 
 from_start :
-    (netlist : Netlist) (entries : List RunEntry) → All (AssignsBelow (length netlist.names)) entries → AreNamesClear netlist (run_entered_all entries) →
-    run_out_of_order (run_entered_all entries) ≡ None → IsFromStart netlist entries (after_header entries)
+    (netlist : Netlist) (entries : List RunEntry) → All (AssignsBelow (length netlist.names)) entries → AreNamesClear netlist (numbered_run_resolutions entries) →
+    first_misplaced (numbered_run_resolutions entries) ≡ None → IsFromStart netlist entries (after_header entries)
 from_start netlist [] below names e = let wrong : ◌≡◌ {A = Option ℕ} (Some 0) None = e in cc
-from_start netlist (header ∷ later) below names e = by_version (version_in (run_held_by header.held)) refl e
+from_start netlist (header ∷ later) below names e = by_version (version_in (run_resolution_of header.held)) refl e
   where
     low : All (AssignsBelow (length netlist.names)) later
     low = All-tail (AssignsBelow (length netlist.names)) header later below
 
-    rest : (version : Version) → run_held_by header.held ≡ Header version → AreNamesClear netlist (run_entered_all later)
-    rest version is = names-tail netlist (run_entered header) (run_entered_all later) (ap is_start_line is) (ap is_input_line is) names
+    rest : (version : Version) → run_resolution_of header.held ≡ Header version → AreNamesClear netlist (numbered_run_resolutions later)
+    rest version is = names-tail netlist (numbered_run_resolution header) (numbered_run_resolutions later) (ap is_start_line is) (ap is_input_line is) names
 
     by_version :
-        (v : Option Version) → version_in (run_held_by header.held) ≡ v → option_map_or (λ version. version_out_of_order version (run_entered_all later)) v (Some header.line) ≡ None →
+        (v : Option Version) → version_in (run_resolution_of header.held) ≡ v → option_map_or (λ version. version_out_of_order version (numbered_run_resolutions later)) v (Some header.line) ≡ None →
         IsFromStart netlist (header ∷ later) (after_version v later)
     by_version None t w = cc
     by_version (Some One) t w =
-        let is = is_Header (run_held_by header.held) One t in
-        record { size = None; front = ap (λ one. one ∷ unnumbered (run_entered_all later)) is; below = low; names = rest One is; order = w }
+        let is = is_Header (run_resolution_of header.held) One t in
+        record { size = None; front = ap (λ one. one ∷ statements_without_lines (numbered_run_resolutions later)) is; below = low; names = rest One is; order = w }
     by_version (Some Two) t w =
-        let is = is_Header (run_held_by header.held) Two t in
+        let is = is_Header (run_resolution_of header.held) Two t in
         from_net netlist header later low (rest Two is) is w
 
 -- statements without a fault from the start on, ready to be built
 pub record IsReady (netlist : Netlist) (states : List RunEntry) (start input : List Assigned) : Type 0 where
   pub start_is : IsWholeStart (length netlist.names) start
   pub input_is : IsWholeStart netlist.inputs input
-  pub ordered : runs_out_of_order place.Between (run_entered_all (drop 2 states)) ≡ None
-  pub known : All (λ entry. list_any is_none (variables_in (run_held_by entry.held)) ≡ false) (drop 2 states)
-  pub front : unnumbered (run_entered_all states) ≡ Start start ∷ Input input ∷ unnumbered (run_entered_all (drop 2 states))
+  pub ordered : runs_out_of_order place.Between (numbered_run_resolutions (drop 2 states)) ≡ None
+  pub known : All (λ entry. list_any is_none (variables_in (run_resolution_of entry.held)) ≡ false) (drop 2 states)
+  pub front : statements_without_lines (numbered_run_resolutions states) ≡ Start start ∷ Input input ∷ statements_without_lines (numbered_run_resolutions (drop 2 states))
 
 -- what an entry assigns
 abbrev pub assigned_at : RunEntry → List Assigned
-assigned_at entry = assignments_in (run_held_by entry.held)
+assigned_at entry = assignments_in (run_resolution_of entry.held)
 
 -- from the start on there are two statements at least
-long_enough : (states : List RunEntry) → start_out_of_order (run_entered_all states) ≡ None → 2 ≤ length states
+long_enough : (states : List RunEntry) → start_out_of_order (numbered_run_resolutions states) ≡ None → 2 ≤ length states
 long_enough [] e = let wrong : ◌≡◌ {A = Option ℕ} (Some 0) None = e in cc
 long_enough (one ∷ []) e =
-    let b = first_passes is_start_line input_out_of_order (run_entered one) [] e in
+    let b = first_passes is_start_line input_out_of_order (numbered_run_resolution one) [] e in
     let wrong : ◌≡◌ {A = Option ℕ} (Some 0) None = b.1 in cc
 long_enough (one ∷ two ∷ later) e = omega arith
 
 ready_at :
-    (netlist : Netlist) (states : List RunEntry) → All (AssignsBelow (length netlist.names)) states → AreNamesClear netlist (run_entered_all states) →
-    start_out_of_order (run_entered_all states) ≡ None → (start input d : RunEntry) → start ≡ get_or states 0 d → input ≡ get_or states 1 d →
+    (netlist : Netlist) (states : List RunEntry) → All (AssignsBelow (length netlist.names)) states → AreNamesClear netlist (numbered_run_resolutions states) →
+    start_out_of_order (numbered_run_resolutions states) ≡ None → (start input d : RunEntry) → start ≡ get_or states 0 d → input ≡ get_or states 1 d →
     IsReady netlist states (assigned_at start) (assigned_at input)
 ready_at netlist [] below clear order start input d s i = let wrong : ◌≡◌ {A = Option ℕ} (Some 0) None = order in cc
 ready_at netlist (one ∷ []) below clear order start input d s i =
-    let b = first_passes is_start_line input_out_of_order (run_entered one) [] order in
+    let b = first_passes is_start_line input_out_of_order (numbered_run_resolution one) [] order in
     let wrong : ◌≡◌ {A = Option ℕ} (Some 0) None = b.1 in cc
 ready_at netlist (one ∷ two ∷ later) below clear order start input d s i =
     let states = one ∷ two ∷ later in
     let inputs = netlist.inputs in
-    let frame = framed (run_entered one) (run_entered two) (run_entered_all later) order in
-    let U : Numbered LookedRun → Type 0 = λ numbered. names_unknown inputs numbered.statement ≡ false in
-    let B : Numbered LookedRun → Type 0 = λ numbered. lacks_bit numbered.statement ≡ false in
-    let T : Numbered LookedRun → Type 0 = λ numbered. names_node_twice numbered.statement ≡ false in
-    let unknown = All-unmap U run_entered states (All-from_first_line (names_unknown inputs) (run_entered_all states) clear.unknown) in
-    let bits = All-unmap B run_entered states (All-from_first_line lacks_bit (run_entered_all states) clear.bit) in
-    let twice = All-unmap T run_entered states (All-from_first_line names_node_twice (run_entered_all states) clear.twice) in
+    let frame = framed (numbered_run_resolution one) (numbered_run_resolution two) (numbered_run_resolutions later) order in
+    let U : Numbered ResolvedRunStatement → Type 0 = λ numbered. names_unknown inputs numbered.statement ≡ false in
+    let B : Numbered ResolvedRunStatement → Type 0 = λ numbered. lacks_bit numbered.statement ≡ false in
+    let T : Numbered ResolvedRunStatement → Type 0 = λ numbered. names_node_twice numbered.statement ≡ false in
+    let unknown = All-unmap U numbered_run_resolution states (All-from_first_line (names_unknown inputs) (numbered_run_resolutions states) clear.unknown) in
+    let bits = All-unmap B numbered_run_resolution states (All-from_first_line lacks_bit (numbered_run_resolutions states) clear.bit) in
+    let twice = All-unmap T numbered_run_resolution states (All-from_first_line names_node_twice (numbered_run_resolutions states) clear.twice) in
     let start_missing : least_unassigned (length netlist.names) (assigned_at one) ≡ None = ap (λ all. least_left_out all (length netlist.names)) (sym frame.first_start) ∙ clear.start in
     let input_missing : least_unassigned inputs (assigned_at two) ≡ None = ap (λ all. least_left_out all inputs) (sym frame.first_input) ∙ clear.input in
-    let first = whole_start inputs (length netlist.names) (assigned_at one) (run_held_by one.held) frame.is_start (unknown 0 d (omega arith)) (bits 0 d (omega arith)) (twice 0 d (omega arith)) (below 0 d (omega arith)) start_missing in
-    let second = whole_input inputs (assigned_at two) (run_held_by two.held) frame.is_input (unknown 1 d (omega arith)) (bits 1 d (omega arith)) (twice 1 d (omega arith)) input_missing in
+    let first = whole_start inputs (length netlist.names) (assigned_at one) (run_resolution_of one.held) frame.is_start (unknown 0 d (omega arith)) (bits 0 d (omega arith)) (twice 0 d (omega arith)) (below 0 d (omega arith)) start_missing in
+    let second = whole_input inputs (assigned_at two) (run_resolution_of two.held) frame.is_input (unknown 1 d (omega arith)) (bits 1 d (omega arith)) (twice 1 d (omega arith)) input_missing in
     let P : RunEntry → Type 0 = λ entry. IsWholeStart (length netlist.names) (assigned_at entry) in
     let Q : RunEntry → Type 0 = λ entry. IsWholeStart inputs (assigned_at entry) in
     record {
       start_is = subst P (sym s) first;
       input_is = subst Q (sym i) second;
       ordered = frame.runs;
-      known = λ k e l. known_variables inputs (run_held_by (get_or later k e).held) (unknown (suc (suc k)) e (omega (arith, l)));
+      known = λ k e l. known_variables inputs (run_resolution_of (get_or later k e).held) (unknown (suc (suc k)) e (omega (arith, l)));
       front =
           frame.front
-          ∙ ap (λ entry. Start (assigned_at entry) ∷ Input (assigned_at two) ∷ unnumbered (run_entered_all later)) (sym s)
-          ∙ ap (λ entry. Start (assigned_at start) ∷ Input (assigned_at entry) ∷ unnumbered (run_entered_all later)) (sym i);
+          ∙ ap (λ entry. Start (assigned_at entry) ∷ Input (assigned_at two) ∷ statements_without_lines (numbered_run_resolutions later)) (sym s)
+          ∙ ap (λ entry. Start (assigned_at start) ∷ Input (assigned_at entry) ∷ statements_without_lines (numbered_run_resolutions later)) (sym i);
     }
 
 -- the statements of a text without a fault from the start on
@@ -438,17 +438,17 @@ pub record HasStates (netlist : Netlist) (entries : List RunEntry) : Type 0 wher
   pub some : 2 ≤ length (after_header entries)
 
 pub states_of :
-    (netlist : Netlist) (entries : List RunEntry) → All (AssignsBelow (length netlist.names)) entries → first_run_fault netlist (run_entered_all entries) ≡ None →
+    (netlist : Netlist) (entries : List RunEntry) → All (AssignsBelow (length netlist.names)) entries → first_run_fault netlist (numbered_run_resolutions entries) ≡ None →
     HasStates netlist entries
 states_of netlist entries below h =
-    let clear = clear_run netlist (run_entered_all entries) h in
+    let clear = clear_run netlist (numbered_run_resolutions entries) h in
     let is = from_start netlist entries below clear.names clear.order in
     record { is = is; some = long_enough (after_header entries) is.order }
 
 -- the first and the second of them
 pub ready :
     (netlist : Netlist) (entries : List RunEntry) (start input : RunEntry) → start ≡ get_or (after_header entries) 0 start → input ≡ get_or (after_header entries) 1 input →
-    All (AssignsBelow (length netlist.names)) entries → first_run_fault netlist (run_entered_all entries) ≡ None →
+    All (AssignsBelow (length netlist.names)) entries → first_run_fault netlist (numbered_run_resolutions entries) ≡ None →
     IsReady netlist (after_header entries) (assigned_at start) (assigned_at input)
 ready netlist entries start input s i below h =
     let states = states_of netlist entries below h in

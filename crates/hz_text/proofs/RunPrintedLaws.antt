@@ -8,88 +8,88 @@ use Rattle.std.proofs.lemmas.List.{length-map, get_or-map}
 use Rattle.std.proofs.lemmas.List.Elements.{All-nil, All-cons, All-head, All-tail, All-append, All-weaker}
 use Rattle.std.proofs.lemmas.List.Sums.{sum_by-append, sum_by-cons}
 use Rattle.hz_core.specs.Netlist.{Netlist, IsCircuit}
-use Rattle.hz_gmw.specs.Recorded.{flip_count}
+use Rattle.hz_gmw.specs.RunRecord.{flip_count}
 use Rattle.hz_line.specs.Line.{lines_of}
-use Rattle.hz_line.specs.Statement.{Meaning, Nothing, Means, meaning_of, Numbered, with_meaning, numbered_from, first_line, malformed_before, first_malformed}
+use Rattle.hz_line.specs.Statement.{Meaning, Nothing, Means, meaning_of, Numbered, with_meaning, numbered_from, first_passing_line, malformed_before, first_malformed}
 use Rattle.hz_text.specs.Statement as keyword
 use Rattle.hz_text.specs.declared.run.order.Place.{Place}
 use Rattle.hz_text.specs.declared.run.order.Place.TheVariants as place
 use Rattle.hz_text.specs.Assignment.{has_repeat, assignment_to}
-use Rattle.hz_text.specs.Rules.{nodes_of}
+use Rattle.hz_text.specs.Rules.{assigned_nodes}
 use Rattle.hz_text.specs.RunStatement.{Header, Net, Start, Input, Run, Cycle, End}
 use Rattle.hz_text.specs.declared.run.version.Version.TheVariants.{Two}
 use Rattle.std.specs.Option.{option_map}
 use Rattle.hz_text.specs.RunSize.{size_of}
 use Rattle.hz_text.proofs.MismatchLaws.{same_size}
-use Rattle.hz_text.specs.RunLookup.{LookedRun, run_looked_by}
+use Rattle.hz_text.specs.RunResolution.{ResolvedRunStatement, resolve_run_tokens}
 use Rattle.hz_text.specs.RunValue.{RunOf, RunTextOf, cycle_steps, all_steps}
 use Rattle.hz_text.specs.RunText.{step_of, cycle_statements, run_statements, IsRunTextBy, IsRunValue, IsRunTextFor}
-use Rattle.hz_text.specs.RunOrder.{unnumbered}
-use Rattle.hz_text.specs.RunFault.{looked_run_statements, variables_in, names_unknown, lacks_bit, steps_in, IsRunFaultless}
-use Rattle.hz_text.specs.OrderPass.{place_after_step, runs_out_of_order, run_out_of_order}
+use Rattle.hz_text.specs.RunOrder.{statements_without_lines}
+use Rattle.hz_text.specs.RunFault.{resolved_run_statements, variables_in, names_unknown, lacks_bit, steps_in, IsRunFaultless}
+use Rattle.hz_text.specs.OrderPass.{place_after_step, runs_out_of_order, first_misplaced}
 use Rattle.hz_text.specs.RunRules.{first_mismatch, beyond_from, names_node_twice, least_missing_node, first_run_fault}
 use Rattle.hz_text.specs.RunPrinted.{all_listed, run_text_printed}
-use Rattle.hz_text.proofs.BuildLemmas.{nodes_of-pairs}
-use Rattle.hz_text.proofs.TextLaws.{first_line-cons}
+use Rattle.hz_text.proofs.BuildLemmas.{assigned_nodes-pairs}
+use Rattle.hz_text.proofs.TextLaws.{first_passing_line-cons}
 use Rattle.hz_text.proofs.PrintLemmas.{listed-below}
 use Rattle.hz_text.proofs.PrintLaws.{start-known, all-bits, inputs-known, listed-fresh, listed-whole, listed-back}
 use Rattle.hz_text.proofs.RunFaultLaws.{looked_runs-read, clear-faultless}
 use Rattle.hz_text.proofs.RunPrintedLines.{sent, IsReadAsRun, printed-IsReadAsRun}
 
 -- statements, each on a line of its own, the first of which has this number
-abbrev numbered : ℕ → List LookedRun → List (Numbered LookedRun)
+abbrev numbered : ℕ → List ResolvedRunStatement → List (Numbered ResolvedRunStatement)
 numbered line [] = []
 numbered line (statement ∷ later) = record { line = line; statement = statement } ∷ numbered (suc line) later
 
 -- the statements of lines, by what the lines are
-abbrev meant : ℕ → List (Meaning LookedRun) → List (Numbered LookedRun)
+abbrev meant : ℕ → List (Meaning ResolvedRunStatement) → List (Numbered ResolvedRunStatement)
 meant line [] = []
 meant line (meaning ∷ rest) = with_meaning line meaning (meant (suc line) rest)
 
-lines-meant : (netlist : Netlist) (line : ℕ) (lines : List (List ℕ)) → numbered_from (run_looked_by netlist) line lines ≡ meant line (map (meaning_of (run_looked_by netlist)) lines)
+lines-meant : (netlist : Netlist) (line : ℕ) (lines : List (List ℕ)) → numbered_from (resolve_run_tokens netlist) line lines ≡ meant line (map (meaning_of (resolve_run_tokens netlist)) lines)
 lines-meant netlist line [] = refl
-lines-meant netlist line (first ∷ rest) = ap (with_meaning line (meaning_of (run_looked_by netlist) first)) (lines-meant netlist (suc line) rest)
+lines-meant netlist line (first ∷ rest) = ap (with_meaning line (meaning_of (resolve_run_tokens netlist) first)) (lines-meant netlist (suc line) rest)
 
-meant-back : (line : ℕ) (statements : List LookedRun) → meant line (map Means statements ++ Nothing ∷ []) ≡ numbered line statements
+meant-back : (line : ℕ) (statements : List ResolvedRunStatement) → meant line (map Means statements ++ Nothing ∷ []) ≡ numbered line statements
 meant-back line [] = refl
 meant-back line (statement ∷ later) = ap (λ rest. record { line = line; statement = statement } ∷ rest) (meant-back (suc line) later)
 
 -- the first malformed line, by what the lines are
-abbrev malformed_in : ℕ → List (Meaning LookedRun) → Option ℕ
+abbrev malformed_in : ℕ → List (Meaning ResolvedRunStatement) → Option ℕ
 malformed_in line [] = None
 malformed_in line (meaning ∷ rest) = malformed_before line meaning (malformed_in (suc line) rest)
 
-lines-malformed : (netlist : Netlist) (line : ℕ) (lines : List (List ℕ)) → first_malformed (run_looked_by netlist) line lines ≡ malformed_in line (map (meaning_of (run_looked_by netlist)) lines)
+lines-malformed : (netlist : Netlist) (line : ℕ) (lines : List (List ℕ)) → first_malformed (resolve_run_tokens netlist) line lines ≡ malformed_in line (map (meaning_of (resolve_run_tokens netlist)) lines)
 lines-malformed netlist line [] = refl
-lines-malformed netlist line (first ∷ rest) = ap (malformed_before line (meaning_of (run_looked_by netlist) first)) (lines-malformed netlist (suc line) rest)
+lines-malformed netlist line (first ∷ rest) = ap (malformed_before line (meaning_of (resolve_run_tokens netlist) first)) (lines-malformed netlist (suc line) rest)
 
-none-malformed : (line : ℕ) (statements : List LookedRun) → malformed_in line (map Means statements ++ Nothing ∷ []) ≡ None
+none-malformed : (line : ℕ) (statements : List ResolvedRunStatement) → malformed_in line (map Means statements ++ Nothing ∷ []) ≡ None
 none-malformed line [] = refl
 none-malformed line (statement ∷ later) = none-malformed (suc line) later
 
 -- a text of such lines has these statements
-looked-numbered : (netlist : Netlist) (text : List ℕ) (statements : List LookedRun) → IsReadAsRun netlist text statements → looked_run_statements netlist text ≡ numbered 1 statements
+looked-numbered : (netlist : Netlist) (text : List ℕ) (statements : List ResolvedRunStatement) → IsReadAsRun netlist text statements → resolved_run_statements netlist text ≡ numbered 1 statements
 looked-numbered netlist text statements read =
     sym (looked_runs-read netlist text) ∙ lines-meant netlist 1 (lines_of text) ∙ ap (meant 1) read ∙ meant-back 1 statements
 
-text-formed : (netlist : Netlist) (text : List ℕ) (statements : List LookedRun) → IsReadAsRun netlist text statements → first_malformed (run_looked_by netlist) 1 (lines_of text) ≡ None
+text-formed : (netlist : Netlist) (text : List ℕ) (statements : List ResolvedRunStatement) → IsReadAsRun netlist text statements → first_malformed (resolve_run_tokens netlist) 1 (lines_of text) ≡ None
 text-formed netlist text statements read = lines-malformed netlist 1 (lines_of text) ∙ ap (malformed_in 1) read ∙ none-malformed 1 statements
 
-unnumbered-numbered : (line : ℕ) (statements : List LookedRun) → unnumbered (numbered line statements) ≡ statements
+unnumbered-numbered : (line : ℕ) (statements : List ResolvedRunStatement) → statements_without_lines (numbered line statements) ≡ statements
 unnumbered-numbered line [] = refl
 unnumbered-numbered line (statement ∷ later) = ap (λ rest. statement ∷ rest) (unnumbered-numbered (suc line) later)
 
 -- no statement passes a test that each of them fails
-none-passes : (test : LookedRun → Bool) (line : ℕ) (statements : List LookedRun) → All (λ statement. test statement ≡ false) statements → first_line test (numbered line statements) ≡ None
+none-passes : (test : ResolvedRunStatement → Bool) (line : ℕ) (statements : List ResolvedRunStatement) → All (λ statement. test statement ≡ false) statements → first_passing_line test (numbered line statements) ≡ None
 none-passes test line [] h = refl
 none-passes test line (statement ∷ later) h =
-    let P : LookedRun → Type 0 = λ statement. test statement ≡ false in
-    first_line-cons test (record { line = line; statement = statement }) (numbered (suc line) later)
-    ∙ ap (λ b. cond b (Some line) (first_line test (numbered (suc line) later))) (All-head P statement later h)
+    let P : ResolvedRunStatement → Type 0 = λ statement. test statement ≡ false in
+    first_passing_line-cons test (record { line = line; statement = statement }) (numbered (suc line) later)
+    ∙ ap (λ b. cond b (Some line) (first_passing_line test (numbered (suc line) later))) (All-head P statement later h)
     ∙ none-passes test (suc line) later (All-tail P statement later h)
 
 -- the statement has no fault of its own
-record IsSound (inputs : ℕ) (statement : LookedRun) : Type 0 where
+record IsSound (inputs : ℕ) (statement : ResolvedRunStatement) : Type 0 where
   known : names_unknown inputs statement ≡ false
   once : names_node_twice statement ≡ false
   bits : lacks_bit statement ≡ false
@@ -119,8 +119,8 @@ runs-sound : (inputs : ℕ) (runs : List RunOf) → All (IsSound inputs) (flat_m
 runs-sound inputs [] = All-nil (IsSound inputs)
 runs-sound inputs (run ∷ runs) = All-append (IsSound inputs) (run_statements run) (flat_map run_statements runs) (run-sound inputs run) (runs-sound inputs runs)
 
-listed-once : (bits : List Bool) → has_repeat nat_eq (nodes_of (map assignment_to (all_listed bits))) ≡ false
-listed-once bits = ap (has_repeat nat_eq) (nodes_of-pairs (all_listed bits)) ∙ listed-fresh 0 (map Some bits)
+listed-once : (bits : List Bool) → has_repeat nat_eq (assigned_nodes (map assignment_to (all_listed bits))) ≡ false
+listed-once bits = ap (has_repeat nat_eq) (assigned_nodes-pairs (all_listed bits)) ∙ listed-fresh 0 (map Some bits)
 
 -- what lists all nodes lists nodes
 all_listed-below : (bits : List Bool) (bound : ℕ) → length bits ≡ bound → All (λ pair. pair.0 < bound) (all_listed bits)
@@ -148,18 +148,18 @@ sent-sound netlist value h =
     All-append P (Header Two ∷ net ∷ start ∷ input ∷ runs) (End ∷ []) (All-append P (Header Two ∷ net ∷ start ∷ input ∷ []) runs four (runs-sound netlist.inputs value.runs)) (All-cons P End [] last (All-nil P))
 
 -- statements of runs and the end stand in order, whatever their lines
-abbrev InOrder : Place → List LookedRun → Type 0
+abbrev InOrder : Place → List ResolvedRunStatement → Type 0
 InOrder here statements = (line : ℕ) → runs_out_of_order here (numbered line statements) ≡ None
 
-steps-in_order : (here : Place) (steps : List (List ℕ)) (rest : List LookedRun) → place_after_step here ≡ Some here → InOrder here rest → InOrder here (map step_of steps ++ rest)
+steps-in_order : (here : Place) (steps : List (List ℕ)) (rest : List ResolvedRunStatement) → place_after_step here ≡ Some here → InOrder here rest → InOrder here (map step_of steps ++ rest)
 steps-in_order here [] rest stays h = h
 steps-in_order here (flips ∷ steps) rest stays h = λ line. rw stays (steps-in_order here steps rest stays h (suc line))
 
-cycle-in_order : (cycle : Option (List (List ℕ))) (rest : List LookedRun) → ((here : Place) → InOrder here rest) → InOrder place.Lead (cycle_statements cycle ++ rest)
+cycle-in_order : (cycle : Option (List (List ℕ))) (rest : List ResolvedRunStatement) → ((here : Place) → InOrder here rest) → InOrder place.Lead (cycle_statements cycle ++ rest)
 cycle-in_order None rest h = h place.Lead
 cycle-in_order (Some steps) rest h = λ line. steps-in_order place.Cycle steps rest refl (h place.Cycle) (suc line)
 
-run-in_order : (here : Place) (run : RunOf) (rest : List LookedRun) → ((here : Place) → InOrder here rest) → InOrder here (run_statements run ++ rest)
+run-in_order : (here : Place) (run : RunOf) (rest : List ResolvedRunStatement) → ((here : Place) → InOrder here rest) → InOrder here (run_statements run ++ rest)
 run-in_order here run rest h = λ line.
     let after : InOrder place.Lead (map step_of run.lead ++ cycle_statements run.cycle ++ rest) =
     subst (InOrder place.Lead) (sym (append_assoc (map step_of run.lead) (cycle_statements run.cycle) rest))
@@ -173,15 +173,15 @@ runs-in_order (run ∷ runs) here =
     (run-in_order here run (flat_map run_statements runs ++ End ∷ []) (runs-in_order runs))
 
 -- how many variables the steps among statements have
-abbrev variables_count : LookedRun → ℕ
+abbrev variables_count : ResolvedRunStatement → ℕ
 variables_count statement = length (variables_in statement)
 
 -- the statements have these steps
-record Counts (statements : List LookedRun) (steps : List (List ℕ)) : Type 0 where
+record Counts (statements : List ResolvedRunStatement) (steps : List (List ℕ)) : Type 0 where
   steps_are : sum_by steps_in statements ≡ length steps
   variables_are : sum_by variables_count statements ≡ flip_count steps
 
-Counts-append : (a b : List LookedRun) (s t : List (List ℕ)) → Counts a s → Counts b t → Counts (a ++ b) (s ++ t)
+Counts-append : (a b : List ResolvedRunStatement) (s t : List (List ℕ)) → Counts a s → Counts b t → Counts (a ++ b) (s ++ t)
 Counts-append a b s t f g = record {
   steps_are = omega (arith, f.steps_are, g.steps_are, sum_by-append steps_in a b, length-append s t);
   variables_are = sum_by-append variables_count a b ∙ omega (arith, f.variables_are, g.variables_are, sum_by-append length s t);
@@ -197,7 +197,7 @@ steps-count (flips ∷ steps) =
     }
 
 -- a statement that is no step adds none
-plain-count : (statement : LookedRun) (statements : List LookedRun) (steps : List (List ℕ)) → steps_in statement ≡ 0 → variables_count statement ≡ 0 → Counts statements steps → Counts (statement ∷ statements) steps
+plain-count : (statement : ResolvedRunStatement) (statements : List ResolvedRunStatement) (steps : List (List ℕ)) → steps_in statement ≡ 0 → variables_count statement ≡ 0 → Counts statements steps → Counts (statement ∷ statements) steps
 plain-count statement statements steps none nothing h = record {
   steps_are = omega (arith, none, h.steps_are, sum_by-cons steps_in statement statements);
   variables_are = omega (arith, nothing, h.variables_are, sum_by-cons variables_count statement statements);
@@ -219,7 +219,7 @@ runs-count : (runs : List RunOf) → Counts (flat_map run_statements runs ++ End
 runs-count [] = end-count
 runs-count (run ∷ runs) =
     let mine = run.lead ++ cycle_steps run.cycle in
-    let P : List LookedRun → Type 0 = λ statements. Counts statements (mine ++ all_steps runs) in
+    let P : List ResolvedRunStatement → Type 0 = λ statements. Counts statements (mine ++ all_steps runs) in
     subst P (sym (append_assoc (run_statements run) (flat_map run_statements runs) (End ∷ [])))
     (Counts-append (run_statements run) (flat_map run_statements runs ++ End ∷ []) mine (all_steps runs) (run-count run) (runs-count runs))
 
@@ -234,7 +234,7 @@ sent-count netlist value =
     (plain-count start (input ∷ runs) steps refl refl (plain-count input runs steps refl refl (runs-count value.runs))))
 
 -- statements with few steps and few variables are not too many
-none-beyond : (steps variables line : ℕ) (statements : List LookedRun) → steps + sum_by steps_in statements ≤ 2000000 → variables + sum_by variables_count statements ≤ 2000000 → beyond_from steps variables (numbered line statements) ≡ None
+none-beyond : (steps variables line : ℕ) (statements : List ResolvedRunStatement) → steps + sum_by steps_in statements ≤ 2000000 → variables + sum_by variables_count statements ≤ 2000000 → beyond_from steps variables (numbered line statements) ≡ None
 none-beyond steps variables line [] few few' = refl
 none-beyond steps variables line (statement ∷ later) few few' =
     let first = sum_by-cons steps_in statement later in
@@ -260,11 +260,11 @@ sent-clear netlist value h =
     let all = numbered 1 (sent netlist value) in
     let sound = sent-sound netlist value h in
     let count = sent-count netlist value in
-    let unknown : first_line (names_unknown netlist.inputs) all ≡ None = none-passes (names_unknown netlist.inputs) 1 (sent netlist value) (λ k d l. (sound k d l).known) in
-    let twice : first_line names_node_twice all ≡ None = none-passes names_node_twice 1 (sent netlist value) (λ k d l. (sound k d l).once) in
-    let bit : first_line lacks_bit all ≡ None = none-passes lacks_bit 1 (sent netlist value) (λ k d l. (sound k d l).bits) in
+    let unknown : first_passing_line (names_unknown netlist.inputs) all ≡ None = none-passes (names_unknown netlist.inputs) 1 (sent netlist value) (λ k d l. (sound k d l).known) in
+    let twice : first_passing_line names_node_twice all ≡ None = none-passes names_node_twice 1 (sent netlist value) (λ k d l. (sound k d l).once) in
+    let bit : first_passing_line lacks_bit all ≡ None = none-passes lacks_bit 1 (sent netlist value) (λ k d l. (sound k d l).bits) in
     let missing : least_missing_node netlist all ≡ None = sent-whole netlist value h in
-    let order : run_out_of_order all ≡ None = runs-in_order value.runs place.Between 5 in
+    let order : first_misplaced all ≡ None = runs-in_order value.runs place.Between 5 in
     let few : beyond_from 0 0 all ≡ None = none-beyond 0 0 1 (sent netlist value) (omega (arith, count.steps_are, h.few_steps)) (omega (arith, count.variables_are, h.few_variables)) in
     let size : first_mismatch (size_of netlist) all ≡ None = ap (option_map (λ counts. record { line = 2; told = counts.0; real = counts.1 })) (same_size (size_of netlist)) in
     rw (unknown, twice, missing, bit, order, few, size) refl
@@ -289,8 +289,8 @@ pub printed-value : (netlist : Netlist) (value : RunTextOf) → IsCircuit netlis
 printed-value netlist value circuit h =
     let text = run_text_printed netlist value in
     let read = printed-read netlist value circuit h in
-    let same : sent netlist value ≡ unnumbered (looked_run_statements netlist text) = sym (ap unnumbered (looked-numbered netlist text (sent netlist value) read) ∙ unnumbered-numbered 1 (sent netlist value)) in
-    let P : List LookedRun → Type 0 = λ statements. IsRunTextBy netlist statements value in
+    let same : sent netlist value ≡ statements_without_lines (resolved_run_statements netlist text) = sym (ap statements_without_lines (looked-numbered netlist text (sent netlist value) read) ∙ unnumbered-numbered 1 (sent netlist value)) in
+    let P : List ResolvedRunStatement → Type 0 = λ statements. IsRunTextBy netlist statements value in
     subst P same (record {
       size = Some (size_of netlist);
       start = map assignment_to (all_listed value.nodes);

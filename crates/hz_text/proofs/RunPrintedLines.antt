@@ -11,19 +11,19 @@ use Rattle.hz_core.specs.Netlist.{Netlist, IsCircuit, gate_at, pin_count, variab
 use Rattle.hz_net.specs.Network.{network_of}
 use Rattle.hz_net.proofs.Places.{length-network_of}
 use Rattle.hz_line.specs.declared.bytes.Mark.TheVariants.{Open, Close}
-use Rattle.hz_line.specs.Byte.{class_of, is_letter}
+use Rattle.hz_line.specs.Byte.{class_of, is_word_byte}
 use Rattle.hz_line.specs.Line.{lines_of}
 use Rattle.hz_line.specs.Token.{TokenOf, WordOf, MarkOf, tokens_of, with_token, begins_in_word}
 use Rattle.hz_line.specs.Statement.{Meaning, Nothing, Means, meaning_of, meaning_of_tokens}
-use Rattle.hz_line.proofs.WrittenLemmas.{word_bytes, tokens_of-open, tokens_of-close, tokens_of-space, is_letter-separators, tokens_of-word_before, is_inline, lines_of-written}
+use Rattle.hz_line.proofs.WrittenLemmas.{word_bytes, tokens_of-open, tokens_of-close, tokens_of-space, is_word_byte-separators, tokens_of-word_before, is_inline, lines_of-written}
 use Rattle.hz_write.specs.Writes.{line_of}
 use Rattle.hz_text.specs.declared.run.version.Version.TheVariants.{Two}
 use Rattle.hz_text.specs.RunSize.{size_of}
 use Rattle.hz_text.specs.RunKeyword as keyword
 use Rattle.hz_text.specs.Printed.{assignment_text, statement_text}
 use Rattle.hz_text.specs.Assignment.{assignment_to}
-use Rattle.hz_text.specs.RunStatement.{Variable, Node, Pin, Header, Net, Start, Input, Run, Step, Cycle, End, with_first, variables_of, is_decimal, run_keyword_of}
-use Rattle.hz_text.specs.RunLookup.{LookedRun, variable_named, run_looked_by}
+use Rattle.hz_text.specs.RunStatement.{Variable, Node, Pin, Header, Net, Start, Input, Run, Step, Cycle, End, with_first, variables_of_tokens, is_decimal, run_keyword_of}
+use Rattle.hz_text.specs.RunResolution.{ResolvedRunStatement, variable_named, resolve_run_tokens}
 use Rattle.hz_text.specs.RunValue.{RunOf, RunTextOf, cycle_steps, all_steps}
 use Rattle.hz_text.specs.RunText.{step_of, cycle_statements, run_statements}
 use Rattle.hz_text.specs.RunPrinted.{wire_word, variable_word, spaced_word, step_text, cycle_text, run_text, all_listed, net_line, version_text, states_text, run_text_printed}
@@ -34,31 +34,31 @@ use Rattle.hz_text.proofs.VariableWords.{wire_at, variable_word-node, variable_w
 use Rattle.hz_text.proofs.RunPrintLemmas.{All-front, All-back}
 
 -- what the lines of a text are, looked up
-abbrev pub meanings_of : Netlist → List ℕ → List (Meaning LookedRun)
-meanings_of netlist text = map (meaning_of (run_looked_by netlist)) (lines_of text)
+abbrev pub meanings_of : Netlist → List ℕ → List (Meaning ResolvedRunStatement)
+meanings_of netlist text = map (meaning_of (resolve_run_tokens netlist)) (lines_of text)
 
 -- a text before any other is read as these statements
-abbrev Reads : Netlist → List ℕ → List LookedRun → Type 0
+abbrev Reads : Netlist → List ℕ → List ResolvedRunStatement → Type 0
 Reads netlist text statements = (rest : List ℕ) → meanings_of netlist (text ++ rest) ≡ map Means statements ++ meanings_of netlist rest
 
-Reads-append : (netlist : Netlist) (a b : List ℕ) (s t : List LookedRun) → Reads netlist a s → Reads netlist b t → Reads netlist (a ++ b) (s ++ t)
+Reads-append : (netlist : Netlist) (a b : List ℕ) (s t : List ResolvedRunStatement) → Reads netlist a s → Reads netlist b t → Reads netlist (a ++ b) (s ++ t)
 Reads-append netlist a b s t f g = λ rest.
     ap (meanings_of netlist) (append_assoc a b rest) ∙ f (b ++ rest) ∙ ap (λ later. map Means s ++ later) (g rest)
     ∙ sym (append_assoc (map Means s) (map Means t) (meanings_of netlist rest))
     ∙ ap (λ front. front ++ meanings_of netlist rest) (sym (map-append Means s t))
 
 -- texts one after the other
-Reads-each : (netlist : Netlist) {X : Type 0} (text : X → List ℕ) (statements : X → List LookedRun) (xs : List X) → All (λ x. Reads netlist (text x) (statements x)) xs → Reads netlist (flat_map text xs) (flat_map statements xs)
+Reads-each : (netlist : Netlist) {X : Type 0} (text : X → List ℕ) (statements : X → List ResolvedRunStatement) (xs : List X) → All (λ x. Reads netlist (text x) (statements x)) xs → Reads netlist (flat_map text xs) (flat_map statements xs)
 Reads-each netlist text statements [] h = λ rest. refl
 Reads-each netlist {X} text statements (x ∷ xs) h =
     let P : X → Type 0 = λ x. Reads netlist (text x) (statements x) in
     Reads-append netlist (text x) (flat_map text xs) (statements x) (flat_map statements xs) (All-head P x xs h) (Reads-each netlist text statements xs (All-tail P x xs h))
 
 -- a line with its line feed
-Reads-line : (netlist : Netlist) (line : List ℕ) (statement : LookedRun) → list_all is_inline line ≡ true → meaning_of (run_looked_by netlist) line ≡ Means statement → Reads netlist (line ++ 10 ∷ []) (statement ∷ [])
+Reads-line : (netlist : Netlist) (line : List ℕ) (statement : ResolvedRunStatement) → list_all is_inline line ≡ true → meaning_of (resolve_run_tokens netlist) line ≡ Means statement → Reads netlist (line ++ 10 ∷ []) (statement ∷ [])
 Reads-line netlist line statement inline means = λ rest.
     ap (meanings_of netlist) (append_assoc line (10 ∷ []) rest)
-    ∙ ap (map (meaning_of (run_looked_by netlist))) (lines_of-written line rest inline)
+    ∙ ap (map (meaning_of (resolve_run_tokens netlist))) (lines_of-written line rest inline)
     ∙ ap (λ meaning. meaning ∷ meanings_of netlist rest) means
 
 header_reads : (netlist : Netlist) → Reads netlist (codes "runs 2\n") (Header Two ∷ [])
@@ -83,10 +83,10 @@ record AreKeywords : Type 0 where
   start : run_keyword_of (codes "start") ≡ Some keyword.Start
   input : run_keyword_of (codes "input") ≡ Some keyword.Input
   step : run_keyword_of (codes "step") ≡ Some keyword.Step
-  net_letters : list_all is_letter (codes "net") ≡ true
-  start_letters : list_all is_letter (codes "start") ≡ true
-  input_letters : list_all is_letter (codes "input") ≡ true
-  step_letters : list_all is_letter (codes "step") ≡ true
+  net_letters : list_all is_word_byte (codes "net") ≡ true
+  start_letters : list_all is_word_byte (codes "start") ≡ true
+  input_letters : list_all is_word_byte (codes "input") ≡ true
+  step_letters : list_all is_word_byte (codes "step") ≡ true
 
 keywords : AreKeywords
 unfolding class_of run_keyword_of
@@ -109,7 +109,7 @@ one_count n words tokens small is =
       read =
           tokens_of-space (digits ++ words)
           ∙ tokens_of-word_before digits words (decimal_nonempty n small) bytes.0 is.ends ∙ ap (with_token (WordOf digits)) is.read;
-      ends = is_letter-separators.0;
+      ends = is_word_byte-separators.0;
       inline = rw (list_all-append is_inline digits words, bytes.1, is.inline) refl;
     }
 
@@ -127,11 +127,11 @@ net_reads netlist circuit =
     let tokens = tokens_of-word_before (codes "net") words (omega arith) keywords.net_letters three.ends ∙ ap (with_token (WordOf (codes "net"))) three.read in
     let inline : list_all is_inline (codes "net" ++ words) ≡ true = rw (list_all-append is_inline (codes "net") words, three.inline) refl in
     Reads-line netlist (codes "net" ++ words) (Net (size_of netlist)) inline
-    (ap (meaning_of_tokens (run_looked_by netlist)) tokens
+    (ap (meaning_of_tokens (resolve_run_tokens netlist)) tokens
     ∙ rw (keywords.net, count_of-decimal inputs (omega (arith, few)), count_of-decimal gates (omega (arith, few)), count_of-decimal wires (omega (arith, few))) refl)
 
 -- the tokens of a keyword and assignments
-listed_tokens : (netlist : Netlist) (word : List ℕ) (pairs : List (ℕ × Bool)) → IsCircuit netlist → AreNodes netlist pairs → 0 < length word → list_all is_letter word ≡ true → tokens_of (word ++ flat_map (assignment_text netlist) pairs) ≡ Some (WordOf word ∷ pair_tokens netlist pairs)
+listed_tokens : (netlist : Netlist) (word : List ℕ) (pairs : List (ℕ × Bool)) → IsCircuit netlist → AreNodes netlist pairs → 0 < length word → list_all is_word_byte word ≡ true → tokens_of (word ++ flat_map (assignment_text netlist) pairs) ≡ Some (WordOf word ∷ pair_tokens netlist pairs)
 listed_tokens netlist word pairs circuit nodes some letters =
     tokens_of-word_before word (flat_map (assignment_text netlist) pairs) some letters (no_word netlist pairs) ∙ ap (with_token (WordOf word)) (pairs_read netlist pairs circuit nodes)
 
@@ -143,14 +143,14 @@ start_reads : (netlist : Netlist) (pairs : List (ℕ × Bool)) → IsCircuit net
 unfolding statement_text
 start_reads netlist pairs circuit nodes =
     Reads-line netlist (codes "start" ++ flat_map (assignment_text netlist) pairs) (Start (map assignment_to pairs)) (listed_inline netlist (codes "start") pairs circuit nodes refl)
-    (ap (meaning_of_tokens (run_looked_by netlist)) (listed_tokens netlist (codes "start") pairs circuit nodes (omega arith) keywords.start_letters)
+    (ap (meaning_of_tokens (resolve_run_tokens netlist)) (listed_tokens netlist (codes "start") pairs circuit nodes (omega arith) keywords.start_letters)
     ∙ rw (keywords.start, assignments_read netlist pairs) (ap (λ all. Means (Start all)) (assigned_back netlist pairs circuit nodes)))
 
 input_reads : (netlist : Netlist) (pairs : List (ℕ × Bool)) → IsCircuit netlist → AreNodes netlist pairs → Reads netlist (statement_text netlist (codes "input") pairs) (Input (map assignment_to pairs) ∷ [])
 unfolding statement_text
 input_reads netlist pairs circuit nodes =
     Reads-line netlist (codes "input" ++ flat_map (assignment_text netlist) pairs) (Input (map assignment_to pairs)) (listed_inline netlist (codes "input") pairs circuit nodes refl)
-    (ap (meaning_of_tokens (run_looked_by netlist)) (listed_tokens netlist (codes "input") pairs circuit nodes (omega arith) keywords.input_letters)
+    (ap (meaning_of_tokens (resolve_run_tokens netlist)) (listed_tokens netlist (codes "input") pairs circuit nodes (omega arith) keywords.input_letters)
     ∙ rw (keywords.input, assignments_read netlist pairs) (ap (λ all. Means (Input all)) (assigned_back netlist pairs circuit nodes)))
 
 -- the tokens of a variable
@@ -164,7 +164,7 @@ IsNumbered (Node name) = Unit {0}
 IsNumbered (Pin name number) = is_decimal number ≡ true
 
 -- the tokens of variables are these variables
-variables_back : (variables : List Variable) → All IsNumbered variables → variables_of (flat_map variable_tokens variables) ≡ Some variables
+variables_back : (variables : List Variable) → All IsNumbered variables → variables_of_tokens (flat_map variable_tokens variables) ≡ Some variables
 variables_back [] h = refl
 variables_back (Pin name number ∷ rest) h =
     let decimal_number : is_decimal number ≡ true = All-head IsNumbered (Pin name number) rest h in
@@ -218,11 +218,11 @@ pin_written netlist var circuit above below =
       variable = Pin name digits;
       tokens = λ rest later ends read.
           ap tokens_of (append_assoc (name ++ 40 ∷ digits) (41 ∷ []) rest ∙ append_assoc name (40 ∷ digits) (41 ∷ rest))
-          ∙ tokens_of-word_before name (40 ∷ digits ++ 41 ∷ rest) (omega (arith, is.some)) words.0 is_letter-separators.1
+          ∙ tokens_of-word_before name (40 ∷ digits ++ 41 ∷ rest) (omega (arith, is.some)) words.0 is_word_byte-separators.1
           ∙ ap (with_token (WordOf name))
           (tokens_of-open (digits ++ 41 ∷ rest)
           ∙ ap (with_token (MarkOf Open))
-          (tokens_of-word_before digits (41 ∷ rest) some numbers.0 is_letter-separators.2
+          (tokens_of-word_before digits (41 ∷ rest) some numbers.0 is_word_byte-separators.2
           ∙ ap (with_token (WordOf digits)) (tokens_of-close rest ∙ ap (with_token (MarkOf Close)) read)));
       inline = rw (list_all-append is_inline (name ++ 40 ∷ digits) (41 ∷ []), list_all-append is_inline name (40 ∷ digits), words.1, numbers.1) refl;
       numbered = decimal-is_decimal (pin + 1) (omega arith) small;
@@ -262,7 +262,7 @@ flips_written netlist (var ∷ flips) circuit h =
     record {
       variables = first.variable ∷ rest.variables;
       tokens = tokens_of-space (word ++ words) ∙ first.tokens words (flat_map variable_tokens rest.variables) rest.ends rest.tokens;
-      ends = is_letter-separators.0;
+      ends = is_word_byte-separators.0;
       inline = rw (list_all-append is_inline word words, first.inline, rest.inline) refl;
       numbered = All-cons IsNumbered first.variable rest.variables first.numbered rest.numbered;
       found = rw (first.found, rest.found) refl;
@@ -277,7 +277,7 @@ step_reads netlist flips circuit h =
     let tokens : tokens_of (codes "step" ++ words) ≡ Some (WordOf (codes "step") ∷ flat_map variable_tokens written.variables) =
     tokens_of-word_before (codes "step") words (omega arith) keywords.step_letters written.ends ∙ ap (with_token (WordOf (codes "step"))) written.tokens in
     Reads-line netlist (codes "step" ++ words) (step_of flips) inline
-    (ap (meaning_of_tokens (run_looked_by netlist)) tokens
+    (ap (meaning_of_tokens (resolve_run_tokens netlist)) tokens
     ∙ rw (keywords.step, variables_back written.variables written.numbered) (ap (λ all. Means (Step all)) written.found))
 
 -- each step as a statement
@@ -287,7 +287,7 @@ flat_map-steps (flips ∷ steps) = ap (λ later. step_of flips ∷ later) (flat_
 
 steps_read : (netlist : Netlist) (steps : List (List ℕ)) → IsCircuit netlist → All (AreThere netlist) steps → Reads netlist (flat_map (step_text netlist) steps) (map step_of steps)
 steps_read netlist steps circuit h =
-    let P : List LookedRun → Type 0 = Reads netlist (flat_map (step_text netlist) steps) in
+    let P : List ResolvedRunStatement → Type 0 = Reads netlist (flat_map (step_text netlist) steps) in
     subst P (flat_map-steps steps)
     (Reads-each netlist (step_text netlist) (λ flips. step_of flips ∷ []) steps (λ k d l. step_reads netlist (get_or steps k d) circuit (h k d l)))
 
@@ -314,12 +314,12 @@ runs_read netlist (run ∷ runs) circuit h =
     (run_text-reads netlist run circuit (All-front P mine (all_steps runs) h)) (runs_read netlist runs circuit (All-back P mine (all_steps runs) h))
 
 -- a run text as statements
-abbrev pub sent : Netlist → RunTextOf → List LookedRun
+abbrev pub sent : Netlist → RunTextOf → List ResolvedRunStatement
 sent netlist value =
     Header Two ∷ Net (size_of netlist) ∷ Start (map assignment_to (all_listed value.nodes)) ∷ Input (map assignment_to (all_listed value.input)) ∷ flat_map run_statements value.runs ++ End ∷ []
 
 -- each line of the text is one of these statements, in order, and the last line is empty
-abbrev pub IsReadAsRun : Netlist → List ℕ → List LookedRun → Type 0
+abbrev pub IsReadAsRun : Netlist → List ℕ → List ResolvedRunStatement → Type 0
 IsReadAsRun netlist text statements = meanings_of netlist text ≡ map Means statements ++ Nothing ∷ []
 
 pub printed-IsReadAsRun : (netlist : Netlist) (value : RunTextOf) → IsCircuit netlist → AreNodes netlist (all_listed value.nodes) → AreNodes netlist (all_listed value.input) → All (AreThere netlist) (all_steps value.runs) → IsReadAsRun netlist (run_text_printed netlist value) (sent netlist value)

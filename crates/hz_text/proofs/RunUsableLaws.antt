@@ -12,20 +12,20 @@ use Rattle.hz_core.specs.Netlist.{Netlist, IsCircuit, node_named, gate_at, varia
 use Rattle.hz_net.specs.Network.{network_of}
 use Rattle.hz_net.specs.Variables.{first_wire}
 use Rattle.hz_net.proofs.Places.{length-network_of, first_wire-bound}
-use Rattle.hz_gmw.specs.Recorded.{flip_count}
+use Rattle.hz_gmw.specs.RunRecord.{flip_count}
 use Rattle.hz_line.specs.Statement.{Numbered}
 use Rattle.hz_line.proofs.WrittenLemmas.{both}
 use Rattle.hz_text.specs.declared.run.size.Size.{Size}
 use Rattle.hz_text.specs.declared.run.version.Version.{Version}
 use Rattle.hz_text.specs.declared.run.version.Version.TheVariants.{One, Two}
-use Rattle.hz_text.specs.Assignment.{bit_at}
+use Rattle.hz_text.specs.Assignment.{assigned_bit}
 use Rattle.hz_text.specs.RunStatement.{Variable, Node, Pin, Header, Net, Start, Input, Run, Step, Cycle, End, RunStatement, run_statements_of, number_by}
-use Rattle.hz_text.specs.RunLookup.{RunEntry, LookedRun, wire_into, variable_named, run_looked_of, run_looked_up, run_entered_all}
+use Rattle.hz_text.specs.RunResolution.{RunEntry, ResolvedRunStatement, wire_into, variable_named, resolve_run_statement, resolve_numbered_run, numbered_run_resolutions}
 use Rattle.hz_text.specs.RunValue.{RunOf, RunTextOf, cycle_steps, all_steps}
 use Rattle.hz_text.specs.RunFault.{variables_in, steps_in}
-use Rattle.hz_text.specs.RunRules.{beyond_from, IsAcceptedRun}
+use Rattle.hz_text.specs.RunRules.{beyond_from, IsAcceptedRunText}
 use Rattle.hz_text.specs.RunText.{step_of, cycle_statements, run_statements, IsRunTextBy, IsRunTextFor}
-use Rattle.hz_text.specs.RunOrder.{header_lines, unnumbered}
+use Rattle.hz_text.specs.RunOrder.{header_lines, statements_without_lines}
 use Rattle.hz_text.proofs.VariableLemmas.{node_named-below}
 use Rattle.hz_text.proofs.BuildLemmas.{or_parts}
 use Rattle.hz_text.proofs.ReadLaws.{All-unmap}
@@ -54,14 +54,14 @@ variable-below netlist (Pin name number) var circuit e =
     omega (arith, length-network_of netlist circuit, wire-below netlist (node_named netlist name) (number_by number) var circuit (node_named-below netlist name (node_named netlist name) refl) e)
 
 -- the variables that a statement names are below a bound, where they exist
-abbrev NamesBelow : ℕ → LookedRun → Type 0
+abbrev NamesBelow : ℕ → ResolvedRunStatement → Type 0
 NamesBelow bound statement = All (λ variable. IfSome variable (λ var. var < bound)) (variables_in statement)
 
 found-below : (netlist : Netlist) (variable : Variable) (found : Option ℕ) → IsCircuit netlist → variable_named netlist variable ≡ found → IfSome found (λ var. var < length (network_of netlist))
 found-below netlist variable None circuit e = tt
 found-below netlist variable (Some var) circuit e = variable-below netlist variable var circuit e
 
-statement-below : (netlist : Netlist) (statement : RunStatement) → IsCircuit netlist → NamesBelow (length (network_of netlist)) (run_looked_of netlist statement)
+statement-below : (netlist : Netlist) (statement : RunStatement) → IsCircuit netlist → NamesBelow (length (network_of netlist)) (resolve_run_statement netlist statement)
 statement-below netlist (Header version) circuit = All-nil _
 statement-below netlist (Net size) circuit = All-nil _
 statement-below netlist (Start assignments) circuit = All-nil _
@@ -73,10 +73,10 @@ statement-below netlist (Step variables) circuit =
 statement-below netlist Cycle circuit = All-nil _
 statement-below netlist End circuit = All-nil _
 
-statements-below : (netlist : Netlist) (statements : List (Numbered RunStatement)) → IsCircuit netlist → All (NamesBelow (length (network_of netlist))) (unnumbered (map (run_looked_up netlist) statements))
+statements-below : (netlist : Netlist) (statements : List (Numbered RunStatement)) → IsCircuit netlist → All (NamesBelow (length (network_of netlist))) (statements_without_lines (map (resolve_numbered_run netlist) statements))
 statements-below netlist [] circuit = All-nil _
 statements-below netlist (first ∷ later) circuit =
-    All-cons (NamesBelow (length (network_of netlist))) (run_looked_of netlist first.statement) _ (statement-below netlist first.statement circuit) (statements-below netlist later circuit)
+    All-cons (NamesBelow (length (network_of netlist))) (resolve_run_statement netlist first.statement) _ (statement-below netlist first.statement circuit) (statements-below netlist later circuit)
 
 all_parts : {A : Type 0} (P : A → Type 0) (xs ys : List A) → All P (xs ++ ys) → All P xs × All P ys
 all_parts P [] ys h = (All-nil P, h)
@@ -111,21 +111,21 @@ runs-below bound (run ∷ later) h =
     (runs-below bound later parts.1)
 
 -- how many variables a statement names
-abbrev pub names_in : LookedRun → ℕ
+abbrev pub names_in : ResolvedRunStatement → ℕ
 names_in statement = length (variables_in statement)
 
 -- how many steps a statement is
-abbrev pub steps_of : LookedRun → ℕ
+abbrev pub steps_of : ResolvedRunStatement → ℕ
 steps_of statement = steps_in statement
 
 -- so many steps and variables, and those of the statements after them, are within the limits
-abbrev AreFew : ℕ → ℕ → List (Numbered LookedRun) → Type 0
+abbrev AreFew : ℕ → ℕ → List (Numbered ResolvedRunStatement) → Type 0
 AreFew steps variables statements =
-    (steps + sum_by steps_of (unnumbered statements) ≤ 2000000) × (variables + sum_by names_in (unnumbered statements) ≤ 2000000)
+    (steps + sum_by steps_of (statements_without_lines statements) ≤ 2000000) × (variables + sum_by names_in (statements_without_lines statements) ≤ 2000000)
 
 -- where no line is beyond the limits, neither is the whole
 within_limits :
-    (steps variables : ℕ) (statements : List (Numbered LookedRun)) → steps ≤ 2000000 → variables ≤ 2000000 → beyond_from steps variables statements ≡ None → AreFew steps variables statements
+    (steps variables : ℕ) (statements : List (Numbered ResolvedRunStatement)) → steps ≤ 2000000 → variables ≤ 2000000 → beyond_from steps variables statements ≡ None → AreFew steps variables statements
 within_limits steps variables [] s v e = (omega (arith, s), omega (arith, v))
 within_limits steps variables (first ∷ later) s v e =
     by_test (nat_lt 2000000 (steps + steps_of first.statement) || nat_lt 2000000 (variables + names_in first.statement)) refl e
@@ -142,8 +142,8 @@ within_limits steps variables (first ∷ later) s v e =
         let few_steps : steps + steps_of first.statement ≤ 2000000 = grind (arith, nat_tests, parts.0) in
         let few_variables : variables + names_in first.statement ≤ 2000000 = grind (arith, nat_tests, parts.1) in
         let rest = ih few_steps few_variables w in (
-          omega (arith, rest.0, sum_by-cons steps_of first.statement (unnumbered later)),
-          omega (arith, rest.1, sum_by-cons names_in first.statement (unnumbered later)),
+          omega (arith, rest.0, sum_by-cons steps_of first.statement (statements_without_lines later)),
+          omega (arith, rest.1, sum_by-cons names_in first.statement (statements_without_lines later)),
         )
 
 counted_steps : (steps : List (List ℕ)) → (sum_by steps_of (map step_of steps) ≡ length steps) × (sum_by names_in (map step_of steps) ≡ flip_count steps)
@@ -197,7 +197,7 @@ counted_runs (run ∷ later) =
 
 -- the first statements count nothing
 header_counts :
-    (count : LookedRun → ℕ) (size : Option Size) (rest : List LookedRun) → ((version : Version) → count (Header version) ≡ 0) → ((size : Size) → count (Net size) ≡ 0) →
+    (count : ResolvedRunStatement → ℕ) (size : Option Size) (rest : List ResolvedRunStatement) → ((version : Version) → count (Header version) ≡ 0) → ((size : Size) → count (Net size) ≡ 0) →
     sum_by count (header_lines size ++ rest) ≡ sum_by count rest
 header_counts count None rest header net = omega (arith, sum_by-cons count (Header One) rest, header One)
 header_counts count (Some size) rest header net =
@@ -205,24 +205,24 @@ header_counts count (Some size) rest header net =
 
 -- the value of a text without a fault
 pub usable_run :
-    (netlist : Netlist) (text : List ℕ) (entries : List RunEntry) (value : RunTextOf) → IsCircuit netlist → IsAcceptedRun netlist text entries →
-    IsRunTextBy netlist (unnumbered (run_entered_all entries)) value → IsRunTextFor netlist value
+    (netlist : Netlist) (text : List ℕ) (entries : List RunEntry) (value : RunTextOf) → IsCircuit netlist → IsAcceptedRunText netlist text entries →
+    IsRunTextBy netlist (statements_without_lines (numbered_run_resolutions entries)) value → IsRunTextFor netlist value
 usable_run netlist text entries value circuit accepted is =
-    let statements = run_entered_all entries in
+    let statements = numbered_run_resolutions entries in
     let names = length netlist.names in
     let bound = length (network_of netlist) in
     let F : Bool → Option Bool = Some in
     let runs = flat_map run_statements value.runs in
     let states = Start is.start ∷ Input is.input ∷ runs ++ End ∷ [] in
-    let P : List (Numbered LookedRun) → Type 0 = λ those. All (NamesBelow bound) (unnumbered those) in
-    let Q : List LookedRun → Type 0 = All (NamesBelow bound) in
+    let P : List (Numbered ResolvedRunStatement) → Type 0 = λ those. All (NamesBelow bound) (statements_without_lines those) in
+    let Q : List ResolvedRunStatement → Type 0 = All (NamesBelow bound) in
     let below = subst Q is.are (subst P (sym accepted.statements) (statements-below netlist (run_statements_of text) circuit)) in
     let after_header = (all_parts (NamesBelow bound) (header_lines is.size) states below).1 in
     let after_start = All-tail (NamesBelow bound) (Start is.start) (Input is.input ∷ runs ++ End ∷ []) after_header in
     let after_input = All-tail (NamesBelow bound) (Input is.input) (runs ++ End ∷ []) after_start in
     let limits = within_limits 0 0 statements (omega arith) (omega arith) (clear_run netlist statements accepted.clear).few in
     let counts = counted_runs value.runs in
-    let steps : sum_by steps_of (unnumbered statements) ≡ length (all_steps value.runs) =
+    let steps : sum_by steps_of (statements_without_lines statements) ≡ length (all_steps value.runs) =
     ap (sum_by steps_of) is.are ∙ omega (
       arith,
       header_counts steps_of is.size states (λ version. refl) (λ size. refl),
@@ -232,7 +232,7 @@ usable_run netlist text entries value circuit accepted is =
       sum_by-cons steps_of End [],
       counts.0,
     ) in
-    let variables : sum_by names_in (unnumbered statements) ≡ flip_count (all_steps value.runs) =
+    let variables : sum_by names_in (statements_without_lines statements) ≡ flip_count (all_steps value.runs) =
     ap (sum_by names_in) is.are ∙ omega (
       arith,
       header_counts names_in is.size states (λ version. refl) (λ size. refl),
@@ -243,8 +243,8 @@ usable_run netlist text entries value circuit accepted is =
       counts.1,
     ) in
     record {
-      nodes = sym (length-map value.nodes F) ∙ ap length is.nodes_are ∙ length-map (range_with_len 0 names) (bit_at is.start) ∙ length-range_with_len 0 names;
-      inputs = sym (length-map value.input F) ∙ ap length is.input_is ∙ length-map (range_with_len 0 netlist.inputs) (bit_at is.input) ∙ length-range_with_len 0 netlist.inputs;
+      nodes = sym (length-map value.nodes F) ∙ ap length is.nodes_are ∙ length-map (range_with_len 0 names) (assigned_bit is.start) ∙ length-range_with_len 0 names;
+      inputs = sym (length-map value.input F) ∙ ap length is.input_is ∙ length-map (range_with_len 0 netlist.inputs) (assigned_bit is.input) ∙ length-range_with_len 0 netlist.inputs;
       variables = runs-below bound value.runs (all_parts (NamesBelow bound) runs (End ∷ []) after_input).0;
       few_steps = omega (arith, limits.0, steps);
       few_variables = omega (arith, limits.1, variables);

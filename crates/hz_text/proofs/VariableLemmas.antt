@@ -10,8 +10,8 @@ use Rattle.hz_core.specs.Netlist.{Netlist, IsCircuit, most_pins, gate_at, node_n
 use Rattle.hz_net.specs.Variables.{first_wire}
 use Rattle.hz_line.specs.declared.tokens.Token.{Token}
 use Rattle.hz_line.specs.Token.{WordOf, token_of}
-use Rattle.hz_text.specs.RunStatement.{Variable, Pin, variables_of, with_first, number_by}
-use Rattle.hz_text.specs.RunLookup.{wire_into, variable_named, variables_by}
+use Rattle.hz_text.specs.RunStatement.{Variable, Pin, variables_of_tokens, with_first, number_by}
+use Rattle.hz_text.specs.RunResolution.{wire_into, variable_named, variables_by}
 
 -- the number that digits stand for after a number before them
 abbrev pub number_after : ℕ → List ℕ → ℕ
@@ -96,9 +96,9 @@ looked_first netlist variable (Some later) = refl
 -- the first variable, where a pin stands after the name
 pub pin_first :
     (netlist : Netlist) (tokens : List Token) (name number : List ℕ) (d : Token) → 0 < length tokens → token_of (get_or tokens 0 d) ≡ WordOf name →
-    ((name : List ℕ) → variables_of (WordOf name ∷ map token_of (drop 1 tokens)) ≡ with_first (Pin name number) (variables_of (map token_of (drop 3 (drop 1 tokens))))) →
+    ((name : List ℕ) → variables_of_tokens (WordOf name ∷ map token_of (drop 1 tokens)) ≡ with_first (Pin name number) (variables_of_tokens (map token_of (drop 3 (drop 1 tokens))))) →
     variables_by netlist (map token_of tokens) ≡ with_first (variable_named netlist (Pin name number)) (variables_by netlist (map token_of (drop 4 tokens)))
 pin_first netlist [] name number d some is read = absurd (omega (arith, some))
 pin_first netlist (first ∷ rest) name number d some is read =
     ap (λ token. variables_by netlist (token ∷ map token_of rest)) is ∙ ap (option_map (map (variable_named netlist))) (read name)
-    ∙ looked_first netlist (Pin name number) (variables_of (map token_of (drop 3 rest)))
+    ∙ looked_first netlist (Pin name number) (variables_of_tokens (map token_of (drop 3 rest)))

@@ -7,14 +7,14 @@ use Rattle.std.proofs.lemmas.List.Sums.{sum_by-cons}
 use Rattle.std.proofs.lemmas.Option.{same_Some, get_or_from_slice_get}
 use Rattle.hz_core.specs.Netlist.{Gate, Netlist, IsCircuit, IsWhole, IsGateNumber, gate_at, variable_count}
 use Rattle.hz_net.specs.Network.{Wire, wires_of, network_of}
-use Rattle.hz_net.specs.Variables.{variables_of, first_wire}
-use Rattle.hz_net.specs.Entries.{seen_as, entries_of, IsEntryAt}
+use Rattle.hz_net.specs.Variables.{variable_kinds, first_wire}
+use Rattle.hz_net.specs.Entries.{entry_kind, entries_of, IsEntryAt}
 use Rattle.hz_net.specs.declared.entry.Entry.{Entry}
 use Rattle.hz_net.specs.declared.entry.Entry.TheVariants.{Input as InputEntry, Gate as GateEntry, Wire as WireEntry}
 use Rattle.hz_net.specs.declared.variable.VarKind.{VarKind}
 use Rattle.hz_net.specs.declared.variable.VarKind.TheVariants.{Input as InputKind, Gate as GateKind, Wire as WireKind}
-use Rattle.hz_net.proofs.Places.{no_gate, no_wire, pins_of, length-wires_of, length-network_of, length-entries_of, variables_of-entry, IsEntryAt-entries_of, wire_at-pin}
-use Rattle.hz_net.proofs.Wires.{variables_of-wire}
+use Rattle.hz_net.proofs.Places.{no_gate, no_wire, pins_of, length-wires_of, length-network_of, length-entries_of, variable_kinds-entry, IsEntryAt-entries_of, wire_at-pin}
+use Rattle.hz_net.proofs.Wires.{variable_kinds-wire}
 use Rattle.hz_text.specs.RunPrinted.{wire_word, variable_word}
 use Rattle.hz_text.proofs.VariableLemmas.{few_pins}
 
@@ -100,30 +100,30 @@ IsNode (GateKind kind) = Unit {0}
 IsNode (WireKind gate pin source) = ⊥
 
 -- a variable that is told to be a node is one
-pub node_is_below : (netlist : Netlist) (var : ℕ) (kind : VarKind) → IsCircuit netlist → var < length (network_of netlist) → slice_get (variables_of netlist) var ≡ Some kind → IsNode kind → var < length netlist.names
+pub node_is_below : (netlist : Netlist) (var : ℕ) (kind : VarKind) → IsCircuit netlist → var < length (network_of netlist) → slice_get (variable_kinds netlist) var ≡ Some kind → IsNode kind → var < length netlist.names
 node_is_below netlist var kind circuit there told node =
     let below : var < variable_count netlist = omega (arith, there, length-network_of netlist circuit) in
     elim (cases_lt var (length netlist.names)) [
       | inl within ↦ within
-      | inr above ↦ absurd (subst IsNode (same_Some _ _ (sym told ∙ variables_of-wire netlist var circuit above below)) node)
+      | inr above ↦ absurd (subst IsNode (same_Some _ _ (sym told ∙ variable_kinds-wire netlist var circuit above below)) node)
     ]
 
 -- a variable that is told to be a wire is one, into this pin of this gate
 pub wire_is_told :
     (netlist : Netlist) (var gate pin source : ℕ) → IsCircuit netlist → IsWhole netlist → var < length (network_of netlist) →
-    slice_get (variables_of netlist) var ≡ Some (WireKind gate pin source) →
+    slice_get (variable_kinds netlist) var ≡ Some (WireKind gate pin source) →
     (length netlist.names ≤ var) × ((wire_at netlist var).gate ≡ gate) × ((wire_at netlist var).pin ≡ pin)
 wire_is_told netlist var gate pin source circuit whole there told =
     let below : var < variable_count netlist = omega (arith, there, length-network_of netlist circuit) in
     let d : Entry = InputEntry 0 in
     let entry = get_or (entries_of netlist) var d in
     let same : entry ≡ get_or (entries_of netlist) var entry = get_or_default (entries_of netlist) var d entry (omega (arith, below, length-entries_of netlist circuit)) in
-    let above = by_entry entry (IsEntryAt-entries_of netlist var d circuit whole below) (same_Some _ _ (sym (variables_of-entry netlist var entry circuit below same) ∙ told)) in
+    let above = by_entry entry (IsEntryAt-entries_of netlist var d circuit whole below) (same_Some _ _ (sym (variable_kinds-entry netlist var entry circuit below same) ∙ told)) in
     let wire : WireKind gate pin source ≡ WireKind (wire_at netlist var).gate (wire_at netlist var).pin (wire_at netlist var).source =
-    same_Some _ _ (sym told ∙ variables_of-wire netlist var circuit above below) in
+    same_Some _ _ (sym told ∙ variable_kinds-wire netlist var circuit above below) in
     (above, cc, cc)
   where
-    by_entry : (entry : Entry) → IsEntryAt netlist var entry → seen_as entry ≡ WireKind gate pin source → length netlist.names ≤ var
+    by_entry : (entry : Entry) → IsEntryAt netlist var entry → entry_kind entry ≡ WireKind gate pin source → length netlist.names ≤ var
     by_entry (InputEntry number) at e = cc
     by_entry (GateEntry kind first pins) at e = cc
     by_entry (WireEntry gate' pin' source') at e = at.0
@@ -135,7 +135,7 @@ named_word netlist var name below named = variable_word-node netlist var below �
 -- the word of a variable that is told to be a wire
 pub told_word :
     (netlist : Netlist) (var gate pin source : ℕ) → IsCircuit netlist → IsWhole netlist → var < length (network_of netlist) →
-    slice_get (variables_of netlist) var ≡ Some (WireKind gate pin source) →
+    slice_get (variable_kinds netlist) var ≡ Some (WireKind gate pin source) →
     variable_word netlist var ≡ get_or netlist.names gate [] ++ 40 ∷ decimal (pin + 1) ++ 41 ∷ []
 unfolding wire_word
 told_word netlist var gate pin source circuit whole there told =
@@ -148,7 +148,7 @@ told_word netlist var gate pin source circuit whole there told =
 -- what is told of a wire: it goes into a gate, and no gate has more than 256 pins
 pub told_bounds :
     (netlist : Netlist) (var gate pin source : ℕ) → IsCircuit netlist → IsWhole netlist → var < length (network_of netlist) →
-    slice_get (variables_of netlist) var ≡ Some (WireKind gate pin source) → (gate < length netlist.names) × (pin < 256)
+    slice_get (variable_kinds netlist) var ≡ Some (WireKind gate pin source) → (gate < length netlist.names) × (pin < 256)
 told_bounds netlist var gate pin source circuit whole there told =
     let is = wire_is_told netlist var gate pin source circuit whole there told in
     let at = wire_is_pin netlist var circuit is.0 (omega (arith, there, length-network_of netlist circuit)) in

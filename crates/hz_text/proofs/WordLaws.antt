@@ -6,16 +6,16 @@ use Rattle.std.proofs.lemmas.List.Folds.{list_all-append}
 use Rattle.std.proofs.lemmas.List.Elements.{All-head, All-tail}
 use Rattle.hz_core.specs.Netlist.{Netlist, IsName, IsCircuit}
 use Rattle.hz_line.specs.declared.bytes.Mark.TheVariants.{Equals}
-use Rattle.hz_line.specs.Byte.{class_of, is_letter}
+use Rattle.hz_line.specs.Byte.{class_of, is_word_byte}
 use Rattle.hz_line.specs.Line.{lines_of}
 use Rattle.hz_line.specs.Token.{TokenOf, WordOf, MarkOf, tokens_of, with_token, begins_in_word}
 use Rattle.hz_line.specs.Statement.{meaning_of, Means, numbered_from, with_meaning, first_malformed, malformed_before}
-use Rattle.hz_line.proofs.WrittenLemmas.{word_bytes, tokens_of-equals, tokens_of-space, is_letter-separators, tokens_of-word_before, is_inline, lines_of-written}
-use Rattle.hz_text.specs.Statement.{Keyword, Start, Change, Statement, keyword_of, statement_of}
+use Rattle.hz_line.proofs.WrittenLemmas.{word_bytes, tokens_of-equals, tokens_of-space, is_word_byte-separators, tokens_of-word_before, is_inline, lines_of-written}
+use Rattle.hz_text.specs.Statement.{Keyword, Start, Change, ScriptStatement, keyword_of, script_statement_of}
 use Rattle.hz_text.specs.Assignment.{Assignment, assignments_of}
 use Rattle.hz_text.specs.Printed.{letter_of, assignment_text, statement_text}
 
-letter_word : (bit : Bool) → (list_all is_letter (letter_of bit ∷ []) ≡ true) × (is_inline (letter_of bit) ≡ true)
+letter_word : (bit : Bool) → (list_all is_word_byte (letter_of bit ∷ []) ≡ true) × (is_inline (letter_of bit) ≡ true)
 unfolding class_of
 letter_word true = (refl, refl)
 letter_word false = (refl, refl)
@@ -31,7 +31,7 @@ AreNodes netlist pairs = All (λ pair. pair.0 < length netlist.names) pairs
 
 pub no_word : (netlist : Netlist) (pairs : List (ℕ × Bool)) → begins_in_word (flat_map (assignment_text netlist) pairs) ≡ false
 no_word netlist [] = refl
-no_word netlist (pair ∷ pairs) = is_letter-separators.0
+no_word netlist (pair ∷ pairs) = is_word_byte-separators.0
 
 pub name_at : (netlist : Netlist) (node : ℕ) → IsCircuit netlist → node < length netlist.names → IsName (slice_index_or netlist.names node [])
 name_at netlist node whole l = whole.names node [] l
@@ -42,7 +42,7 @@ one_assignment name bit rest tokens is ends read =
     let letters = letter_word bit in
     tokens_of-space ((name ++ 61 ∷ letter_of bit ∷ []) ++ rest)
     ∙ ap tokens_of (append_assoc name (61 ∷ letter_of bit ∷ []) rest)
-    ∙ tokens_of-word_before name (61 ∷ letter_of bit ∷ rest) (omega (arith, is.some)) words.0 is_letter-separators.4
+    ∙ tokens_of-word_before name (61 ∷ letter_of bit ∷ rest) (omega (arith, is.some)) words.0 is_word_byte-separators.4
     ∙ ap (with_token (WordOf name)) (tokens_of-equals (letter_of bit ∷ rest) ∙ ap (with_token (MarkOf Equals)) (tokens_of-word_before (letter_of bit ∷ []) rest (omega arith) letters.0 ends ∙ ap (with_token (WordOf (letter_of bit ∷ []))) read))
 
 pub pairs_read : (netlist : Netlist) (pairs : List (ℕ × Bool)) → IsCircuit netlist → AreNodes netlist pairs → tokens_of (flat_map (assignment_text netlist) pairs) ≡ Some (pair_tokens netlist pairs)
@@ -73,13 +73,13 @@ abbrev pub keyword_text : Keyword → List ℕ
 keyword_text Start = codes "start"
 keyword_text Change = codes "change"
 
-keyword_facts : (keyword : Keyword) → (keyword_of (keyword_text keyword) ≡ Some keyword) × (list_all is_letter (keyword_text keyword) ≡ true) × (list_all is_inline (keyword_text keyword) ≡ true) × (0 < length (keyword_text keyword))
+keyword_facts : (keyword : Keyword) → (keyword_of (keyword_text keyword) ≡ Some keyword) × (list_all is_word_byte (keyword_text keyword) ≡ true) × (list_all is_inline (keyword_text keyword) ≡ true) × (0 < length (keyword_text keyword))
 unfolding keyword_of class_of
 keyword_facts Start = (refl, refl, refl, omega arith)
 keyword_facts Change = (refl, refl, refl, omega arith)
 
 -- the statement of a keyword and pairs
-abbrev pub stated : Netlist → Keyword → List (ℕ × Bool) → Statement
+abbrev pub stated : Netlist → Keyword → List (ℕ × Bool) → ScriptStatement
 stated netlist keyword pairs = record { keyword = keyword; assignments = map (spelled netlist) pairs }
 
 -- the bytes of a line before its line feed
@@ -91,7 +91,7 @@ line_tokens netlist keyword pairs whole h =
     let facts = keyword_facts keyword in
     tokens_of-word_before (keyword_text keyword) (flat_map (assignment_text netlist) pairs) facts.3 facts.1 (no_word netlist pairs) ∙ ap (with_token (WordOf (keyword_text keyword))) (pairs_read netlist pairs whole h)
 
-line_meaning : (netlist : Netlist) (keyword : Keyword) (pairs : List (ℕ × Bool)) → IsCircuit netlist → AreNodes netlist pairs → meaning_of statement_of (body netlist keyword pairs) ≡ Means (stated netlist keyword pairs)
+line_meaning : (netlist : Netlist) (keyword : Keyword) (pairs : List (ℕ × Bool)) → IsCircuit netlist → AreNodes netlist pairs → meaning_of script_statement_of (body netlist keyword pairs) ≡ Means (stated netlist keyword pairs)
 line_meaning netlist keyword pairs whole h =
     rw (line_tokens netlist keyword pairs whole h, (keyword_facts keyword).0, assignments_read netlist pairs) refl
 
@@ -105,12 +105,12 @@ unfolding statement_text
 lines_of-statement netlist keyword pairs rest whole h =
     ap lines_of (append_assoc (body netlist keyword pairs) (10 ∷ []) rest) ∙ lines_of-written (body netlist keyword pairs) rest (line_inline netlist keyword pairs whole h)
 
-pub numbered-statement : (netlist : Netlist) (keyword : Keyword) (pairs : List (ℕ × Bool)) (rest : List ℕ) (line : ℕ) → IsCircuit netlist → AreNodes netlist pairs → numbered_from statement_of line (lines_of (statement_text netlist (keyword_text keyword) pairs ++ rest)) ≡ record { line = line; statement = stated netlist keyword pairs } ∷ numbered_from statement_of (suc line) (lines_of rest)
+pub numbered-statement : (netlist : Netlist) (keyword : Keyword) (pairs : List (ℕ × Bool)) (rest : List ℕ) (line : ℕ) → IsCircuit netlist → AreNodes netlist pairs → numbered_from script_statement_of line (lines_of (statement_text netlist (keyword_text keyword) pairs ++ rest)) ≡ record { line = line; statement = stated netlist keyword pairs } ∷ numbered_from script_statement_of (suc line) (lines_of rest)
 numbered-statement netlist keyword pairs rest line whole h =
-    ap (numbered_from statement_of line) (lines_of-statement netlist keyword pairs rest whole h)
-    ∙ ap (λ meaning. with_meaning line meaning (numbered_from statement_of (suc line) (lines_of rest))) (line_meaning netlist keyword pairs whole h)
+    ap (numbered_from script_statement_of line) (lines_of-statement netlist keyword pairs rest whole h)
+    ∙ ap (λ meaning. with_meaning line meaning (numbered_from script_statement_of (suc line) (lines_of rest))) (line_meaning netlist keyword pairs whole h)
 
-pub formed-statement : (netlist : Netlist) (keyword : Keyword) (pairs : List (ℕ × Bool)) (rest : List ℕ) (line : ℕ) → IsCircuit netlist → AreNodes netlist pairs → first_malformed statement_of line (lines_of (statement_text netlist (keyword_text keyword) pairs ++ rest)) ≡ first_malformed statement_of (suc line) (lines_of rest)
+pub formed-statement : (netlist : Netlist) (keyword : Keyword) (pairs : List (ℕ × Bool)) (rest : List ℕ) (line : ℕ) → IsCircuit netlist → AreNodes netlist pairs → first_malformed script_statement_of line (lines_of (statement_text netlist (keyword_text keyword) pairs ++ rest)) ≡ first_malformed script_statement_of (suc line) (lines_of rest)
 formed-statement netlist keyword pairs rest line whole h =
-    ap (first_malformed statement_of line) (lines_of-statement netlist keyword pairs rest whole h)
-    ∙ ap (λ meaning. malformed_before line meaning (first_malformed statement_of (suc line) (lines_of rest))) (line_meaning netlist keyword pairs whole h)
+    ap (first_malformed script_statement_of line) (lines_of-statement netlist keyword pairs rest whole h)
+    ∙ ap (λ meaning. malformed_before line meaning (first_malformed script_statement_of (suc line) (lines_of rest))) (line_meaning netlist keyword pairs whole h)

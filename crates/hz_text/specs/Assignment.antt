@@ -43,15 +43,15 @@ pub data Allowed : Type 0 where
   Gates : Allowed
 
 -- a statement may not assign this: it is no node, or none that is allowed; inputs are the first nodes
-abbrev pub is_unknown : ℕ → Allowed → Option ℕ → Bool
-is_unknown inputs allowed None = true
-is_unknown inputs Nodes (Some node) = false
-is_unknown inputs Inputs (Some node) = nat_le inputs node
-is_unknown inputs Gates (Some node) = nat_lt node inputs
+abbrev pub is_not_allowed : ℕ → Allowed → Option ℕ → Bool
+is_not_allowed inputs allowed None = true
+is_not_allowed inputs Nodes (Some node) = false
+is_not_allowed inputs Inputs (Some node) = nat_le inputs node
+is_not_allowed inputs Gates (Some node) = nat_lt node inputs
 
 -- some assignment is to what may not be assigned
 abbrev pub any_unknown : ℕ → Allowed → List Assigned → Bool
-any_unknown inputs allowed all = list_any (λ one. is_unknown inputs allowed one.node) all
+any_unknown inputs allowed all = list_any (λ one. is_not_allowed inputs allowed one.node) all
 
 -- some element equals a later one
 abbrev pub has_repeat : {X : Type 0} → (X → X → Bool) → List X → Bool
@@ -67,18 +67,18 @@ abbrev pub any_bitless : List Assigned → Bool
 any_bitless all = list_any (λ one. is_none one.bit) all
 
 -- the node is this one
-abbrev pub is_node : ℕ → Option ℕ → Bool
-is_node node None = false
-is_node node (Some other) = nat_eq node other
+abbrev pub is_same_node : ℕ → Option ℕ → Bool
+is_same_node node None = false
+is_same_node node (Some other) = nat_eq node other
 
 -- some assignment is to this node
 abbrev pub assigns : List Assigned → ℕ → Bool
-assigns all node = list_any (λ assigned. is_node node assigned.node) all
+assigns all node = list_any (λ assigned. is_same_node node assigned.node) all
 
 -- the bit that is assigned to a node, if one is
-abbrev pub bit_at : List Assigned → ℕ → Option Bool
-bit_at [] node = None
-bit_at (first ∷ later) node = if is_node node first.node then first.bit else bit_at later node
+abbrev pub assigned_bit : List Assigned → ℕ → Option Bool
+assigned_bit [] node = None
+assigned_bit (first ∷ later) node = if is_same_node node first.node then first.bit else assigned_bit later node
 
 -- the assignment of a bit to a node
 abbrev pub assignment_to : ℕ × Bool → Assigned

@@ -4,7 +4,7 @@ use Rattle.std.specs.List.{range_with_len}
 use Rattle.std.specs.Option.{option_zip}
 use Rattle.hz_text.specs.declared.assignments.Allowed.{Allowed as AllowedHere}
 use Rattle.hz_text.specs.declared.assignments.Allowed.TheVariants as here
-use Rattle.hz_text.specs.Assignment.{Assigned, Allowed, Nodes, Inputs, Gates, any_bitless, assignment_to, bit_at}
+use Rattle.hz_text.specs.Assignment.{Assigned, Allowed, Nodes, Inputs, Gates, any_bitless, assignment_to, assigned_bit}
 use Rattle.hz_text.specs.Rules.{repeats_node, least_unassigned}
 
 -- what may be assigned
@@ -35,5 +35,5 @@ abbrev pub pair_of : Assigned → Option (ℕ × Bool)
 pair_of assigned = option_zip assigned.node assigned.bit
 
 -- for each of so many nodes, the bit that is assigned to it
-abbrev pub bits_at : List (ℕ × Bool) → ℕ → List (Option Bool)
-bits_at pairs nodes = map (bit_at (map assignment_to pairs)) (range_with_len 0 nodes)
+abbrev pub assigned_bits : List (ℕ × Bool) → ℕ → List (Option Bool)
+assigned_bits pairs nodes = map (assigned_bit (map assignment_to pairs)) (range_with_len 0 nodes)

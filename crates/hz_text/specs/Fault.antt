@@ -5,16 +5,16 @@ use Rattle.hz_text.specs.declared.fault.TextFault.{TextFault}
 use Rattle.hz_text.specs.declared.fault.TextFault.TheVariants.{Form, Unknown, Twice, Missing, Bit, Order, TooMany, Memory, Mismatch}
 
 -- the fault's number
-abbrev pub number_of : TextFault → ℕ
-number_of (Form line) = 1
-number_of (Unknown line) = 2
-number_of (Twice line) = 3
-number_of (Missing node) = 4
-number_of (Bit line) = 5
-number_of (Order line) = 6
-number_of (TooMany line) = 7
-number_of Memory = 8
-number_of (Mismatch line told real) = 9
+abbrev pub fault_number : TextFault → ℕ
+fault_number (Form line) = 1
+fault_number (Unknown line) = 2
+fault_number (Twice line) = 3
+fault_number (Missing node) = 4
+fault_number (Bit line) = 5
+fault_number (Order line) = 6
+fault_number (TooMany line) = 7
+fault_number Memory = 8
+fault_number (Mismatch line told real) = 9
 
 -- the fault's line or node
 abbrev pub place_of : TextFault → ℕ
@@ -31,7 +31,7 @@ place_of (Mismatch line told real) = line
 -- the fault has a lesser number than the other, or the same number and no later line or node
 abbrev pub ComesFirst : TextFault → TextFault → Type 0
 ComesFirst fault other =
-    (number_of fault < number_of other) ⊎ ((number_of fault ≡ number_of other) × (place_of fault ≤ place_of other))
+    (fault_number fault < fault_number other) ⊎ ((fault_number fault ≡ fault_number other) × (place_of fault ≤ place_of other))
 
 -- of the faults that hold, this one comes before each other
 pub record IsLeastFaultOf (holds : TextFault → Type 0) (fault : TextFault) : Type 0 where

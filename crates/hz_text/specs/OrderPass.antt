@@ -5,7 +5,7 @@ use Rattle.hz_line.specs.Statement.{Numbered}
 use Rattle.hz_text.specs.declared.run.order.Place.{Place}
 use Rattle.hz_text.specs.declared.run.order.Place.TheVariants as place
 use Rattle.hz_text.specs.RunStatement.{StatementOf, Net, Run, Step, Cycle, End}
-use Rattle.hz_text.specs.RunLookup.{LookedRun}
+use Rattle.hz_text.specs.RunResolution.{ResolvedRunStatement}
 use Rattle.hz_text.specs.declared.run.version.Version.{Version}
 use Rattle.hz_text.specs.declared.run.version.Version.TheVariants.{One, Two}
 use Rattle.hz_text.specs.RunFault.{version_in, is_start_line, is_input_line}
@@ -33,44 +33,44 @@ place_after_cycle place.Lead = Some place.Cycle
 place_after_cycle place.Cycle = None
 
 -- where one is among the runs after a statement, if it may stand there
-abbrev pub place_after : Place → LookedRun → Option Place
+abbrev pub place_after : Place → ResolvedRunStatement → Option Place
 place_after here Run = Some place.Lead
 place_after here (Step variables) = place_after_step here
 place_after here Cycle = place_after_cycle here
 place_after here _ = None
 
 -- the line that breaks the order: here nothing may stand
-abbrev pub end_out_of_order : List (Numbered LookedRun) → Option ℕ
+abbrev pub end_out_of_order : List (Numbered ResolvedRunStatement) → Option ℕ
 end_out_of_order [] = None
 end_out_of_order (first ∷ later) = Some first.line
 
 -- the line that breaks the order first, in runs and the end after them; 0 where the end is missing
-abbrev pub runs_out_of_order : Place → List (Numbered LookedRun) → Option ℕ
+abbrev pub runs_out_of_order : Place → List (Numbered ResolvedRunStatement) → Option ℕ
 runs_out_of_order here [] = Some 0
 runs_out_of_order here (first ∷ later) =
     if is_end first.statement then end_out_of_order later
     else option_map_or (λ next. runs_out_of_order next later) (place_after here first.statement) (Some first.line)
 
 -- the line that breaks the order first, where a statement that passes the test stands before others; 0 where it is missing
-abbrev pub out_of_order_with : (LookedRun → Bool) → (List (Numbered LookedRun) → Option ℕ) → List (Numbered LookedRun) → Option ℕ
+abbrev pub out_of_order_with : (ResolvedRunStatement → Bool) → (List (Numbered ResolvedRunStatement) → Option ℕ) → List (Numbered ResolvedRunStatement) → Option ℕ
 out_of_order_with test after [] = Some 0
 out_of_order_with test after (first ∷ later) = if test first.statement then after later else Some first.line
 
 -- the order from the input line on, from the start on, from the size of the network on, and behind the header of a version
-abbrev pub input_out_of_order : List (Numbered LookedRun) → Option ℕ
+abbrev pub input_out_of_order : List (Numbered ResolvedRunStatement) → Option ℕ
 input_out_of_order statements = out_of_order_with is_input_line (runs_out_of_order place.Between) statements
 
-abbrev pub start_out_of_order : List (Numbered LookedRun) → Option ℕ
+abbrev pub start_out_of_order : List (Numbered ResolvedRunStatement) → Option ℕ
 start_out_of_order statements = out_of_order_with is_start_line input_out_of_order statements
 
-abbrev pub net_out_of_order : List (Numbered LookedRun) → Option ℕ
+abbrev pub net_out_of_order : List (Numbered ResolvedRunStatement) → Option ℕ
 net_out_of_order statements = out_of_order_with is_net_line start_out_of_order statements
 
-abbrev pub version_out_of_order : Version → List (Numbered LookedRun) → Option ℕ
+abbrev pub version_out_of_order : Version → List (Numbered ResolvedRunStatement) → Option ℕ
 version_out_of_order One statements = start_out_of_order statements
 version_out_of_order Two statements = net_out_of_order statements
 
 -- the order of a whole text
-abbrev pub run_out_of_order : List (Numbered LookedRun) → Option ℕ
-run_out_of_order [] = Some 0
-run_out_of_order (first ∷ later) = option_map_or (λ version. version_out_of_order version later) (version_in first.statement) (Some first.line)
+abbrev pub first_misplaced : List (Numbered ResolvedRunStatement) → Option ℕ
+first_misplaced [] = Some 0
+first_misplaced (first ∷ later) = option_map_or (λ version. version_out_of_order version later) (version_in first.statement) (Some first.line)

@@ -5,7 +5,7 @@ use Rattle.hz_text.specs.declared.run.order.Place.{Place}
 use Rattle.hz_text.specs.declared.run.order.Place.TheVariants.{Between, Lead, Cycle}
 use Rattle.hz_text.specs.declared.run.version.Version.{Version}
 use Rattle.hz_text.specs.declared.run.version.Version.TheVariants.{One, Two}
-use Rattle.hz_text.specs.RunLookup.{LookedRun, RunEntry, run_held_by}
+use Rattle.hz_text.specs.RunResolution.{ResolvedRunStatement, RunEntry, run_resolution_of}
 use Rattle.hz_text.specs.RunFault.{version_in}
 use Rattle.hz_text.specs.OrderPass.{place_after}
 use Rattle.hz_text.specs.RunValue.{RunOf}
@@ -20,7 +20,7 @@ after_version None later = later
 -- the statements from the start on
 abbrev pub after_header : List RunEntry → List RunEntry
 after_header [] = []
-after_header (header ∷ later) = after_version (version_in (run_held_by header.held)) later
+after_header (header ∷ later) = after_version (version_in (run_resolution_of header.held)) later
 
 -- where one is after a run whose cycle is this
 abbrev pub place_in : Option (List (List ℕ)) → Place
@@ -34,6 +34,6 @@ last_place (run ∷ []) = place_in run.cycle
 last_place (run ∷ next ∷ later) = last_place (next ∷ later)
 
 -- a statement was added to runs
-pub record IsRunAdded (old : List RunOf) (statement : LookedRun) (new : List RunOf) : Type 0 where
+pub record IsRunAdded (old : List RunOf) (statement : ResolvedRunStatement) (new : List RunOf) : Type 0 where
   pub statements : flat_map run_statements new ≡ flat_map run_statements old ++ statement ∷ []
   pub place : place_after (last_place old) statement ≡ Some (last_place new)

@@ -43,8 +43,8 @@ abbrev pub MayGoOn : {A V : Type 0} → List (StatementOf A V) → Type 0
 MayGoOn statements = (more : List (StatementOf _ _)) × IsOrdered (statements ++ more)
 
 -- statements without their lines
-abbrev pub unnumbered : {S : Type 0} → List (Numbered S) → List S
-unnumbered statements = map (λ numbered. numbered.statement) statements
+abbrev pub statements_without_lines : {S : Type 0} → List (Numbered S) → List S
+statements_without_lines statements = map (λ numbered. numbered.statement) statements
 
 -- the statements before this line may go on, and with it no longer
 pub record IsOutOfPlace {A V : Type 0} (statements : List (Numbered (StatementOf A V))) (line : ℕ) : Type 0 where
@@ -53,10 +53,10 @@ pub record IsOutOfPlace {A V : Type 0} (statements : List (Numbered (StatementOf
   pub after : List (Numbered (StatementOf A V))
   pub are : statements ≡ before ++ last ∷ after
   pub here : last.line ≡ line
-  pub went_on : MayGoOn (unnumbered before)
-  pub stops : ¬ MayGoOn (unnumbered (before ++ last ∷ []))
+  pub went_on : MayGoOn (statements_without_lines before)
+  pub stops : ¬ MayGoOn (statements_without_lines (before ++ last ∷ []))
 
 -- this line breaks the order; it is 0 where the statements may go on and are not whole
 abbrev pub BreaksOrder : {A V : Type 0} → List (Numbered (StatementOf A V)) → ℕ → Type 0
 BreaksOrder statements line =
-    IsOutOfPlace statements line ⊎ ((line ≡ 0) × MayGoOn (unnumbered statements) × (¬ IsOrdered (unnumbered statements)))
+    IsOutOfPlace statements line ⊎ ((line ≡ 0) × MayGoOn (statements_without_lines statements) × (¬ IsOrdered (statements_without_lines statements)))

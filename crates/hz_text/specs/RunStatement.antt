@@ -37,12 +37,12 @@ abbrev pub with_first : {A : Type 0} → A → Option (List A) → Option (List 
 with_first first later = option_map (λ those. first ∷ those) later
 
 -- the variables that tokens are: a name, or the four tokens name, '(', number, ')'
-abbrev pub variables_of : List TokenOf → Option (List Variable)
-variables_of [] = Some []
-variables_of (WordOf name ∷ MarkOf Open ∷ WordOf number ∷ MarkOf Close ∷ rest) =
-    if is_decimal number then with_first (Pin name number) (variables_of rest) else None
-variables_of (WordOf name ∷ rest) = with_first (Node name) (variables_of rest)
-variables_of _ = None
+abbrev pub variables_of_tokens : List TokenOf → Option (List Variable)
+variables_of_tokens [] = Some []
+variables_of_tokens (WordOf name ∷ MarkOf Open ∷ WordOf number ∷ MarkOf Close ∷ rest) =
+    if is_decimal number then with_first (Pin name number) (variables_of_tokens rest) else None
+variables_of_tokens (WordOf name ∷ rest) = with_first (Node name) (variables_of_tokens rest)
+variables_of_tokens _ = None
 
 -- A statement over what assignments and variables are: the header with its version, the size of the network, the start,
 -- the input, the begin of a run, a step, the begin of its cycle, the end.
@@ -92,9 +92,9 @@ size_by (WordOf inputs ∷ WordOf gates ∷ WordOf wires ∷ []) = size_with (co
 size_by _ = None
 
 -- the statement, where no token is left
-abbrev pub alone : RunStatement → List TokenOf → Option RunStatement
-alone statement [] = Some statement
-alone statement (token ∷ tokens) = None
+abbrev pub if_at_end : RunStatement → List TokenOf → Option RunStatement
+if_at_end statement [] = Some statement
+if_at_end statement (token ∷ tokens) = None
 
 -- the statement of a keyword and the tokens after it
 abbrev pub run_statement_with : Option RunKeyword → List TokenOf → Option RunStatement
@@ -103,10 +103,10 @@ run_statement_with (Some keyword.Runs) rest = option_map Header (version_of rest
 run_statement_with (Some keyword.Net) rest = option_map Net (size_by rest)
 run_statement_with (Some keyword.Start) rest = option_map Start (assignments_of rest)
 run_statement_with (Some keyword.Input) rest = option_map Input (assignments_of rest)
-run_statement_with (Some keyword.Run) rest = alone Run rest
-run_statement_with (Some keyword.Step) rest = option_map Step (variables_of rest)
-run_statement_with (Some keyword.Cycle) rest = alone Cycle rest
-run_statement_with (Some keyword.End) rest = alone End rest
+run_statement_with (Some keyword.Run) rest = if_at_end Run rest
+run_statement_with (Some keyword.Step) rest = option_map Step (variables_of_tokens rest)
+run_statement_with (Some keyword.Cycle) rest = if_at_end Cycle rest
+run_statement_with (Some keyword.End) rest = if_at_end End rest
 
 -- the one statement of a token list, if it is one
 abbrev pub run_statement_of : List TokenOf → Option RunStatement

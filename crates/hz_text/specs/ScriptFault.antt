@@ -7,12 +7,12 @@ use Rattle.hz_text.specs.declared.fault.TextFault.{TextFault}
 use Rattle.hz_text.specs.declared.fault.TextFault.TheVariants.{Form, Unknown, Twice, Missing, Bit, Order, TooMany, Memory, Mismatch}
 use Rattle.hz_text.specs.Assignment.{Allowed, Nodes, Inputs, any_unknown, any_twice, any_bitless, assigns}
 use Rattle.hz_text.specs.Fault.{IsLeastFaultOf, IsLeastFaultOrMemory}
-use Rattle.hz_text.specs.Statement.{Keyword, Start, Change, Statement, statement_of, statements_of}
-use Rattle.hz_text.specs.Lookup.{Looked, looked_up}
+use Rattle.hz_text.specs.Statement.{Keyword, Start, Change, ScriptStatement, script_statement_of, script_statements_of}
+use Rattle.hz_text.specs.Resolution.{ResolvedStatement, resolve_numbered}
 
 -- the statements of a script's text, looked up in a circuit
-abbrev pub looked_statements : Netlist → List ℕ → List (Numbered Looked)
-looked_statements netlist text = map (looked_up netlist) (statements_of text)
+abbrev pub resolved_statements : Netlist → List ℕ → List (Numbered ResolvedStatement)
+resolved_statements netlist text = map (resolve_numbered netlist) (script_statements_of text)
 
 -- a start may assign any node, a change inputs alone
 abbrev pub allowed_in : Keyword → Allowed
@@ -20,15 +20,15 @@ allowed_in Start = Nodes
 allowed_in Change = Inputs
 
 -- the statement assigns a name that is no node, or in a change no input
-abbrev pub has_unknown : ℕ → Looked → Bool
+abbrev pub has_unknown : ℕ → ResolvedStatement → Bool
 has_unknown inputs looked = any_unknown inputs (allowed_in looked.keyword) looked.assigned
 
 -- the statement assigns a name twice
-abbrev pub has_twice : Statement → Bool
+abbrev pub has_twice : ScriptStatement → Bool
 has_twice statement = any_twice statement.assignments
 
 -- the statement assigns a word that is no bit
-abbrev pub has_no_bit : Looked → Bool
+abbrev pub has_no_bit : ResolvedStatement → Bool
 has_no_bit looked = any_bitless looked.assigned
 
 -- the keyword is that of a start
@@ -37,46 +37,46 @@ is_start_word Start = true
 is_start_word Change = false
 
 -- the statement is a start
-abbrev pub is_start : Looked → Bool
+abbrev pub is_start : ResolvedStatement → Bool
 is_start looked = is_start_word looked.keyword
 
 -- the first statement is a start and does not assign this input, which is one of so many primary inputs
-abbrev pub IsMissing : ℕ → List (Numbered Looked) → ℕ → Type 0
+abbrev pub IsMissing : ℕ → List (Numbered ResolvedStatement) → ℕ → Type 0
 IsMissing primary [] node = ⊥
 IsMissing primary (first ∷ later) node =
     (is_start first.statement ≡ true) × (node < primary) × (assigns first.statement.assigned node ≡ false)
 
 -- the first statement, on this line, is no start, or a later one, on this line, is; line 0 where there is no statement
-abbrev pub IsOutOfOrder : List (Numbered Looked) → ℕ → Type 0
+abbrev pub IsOutOfOrder : List (Numbered ResolvedStatement) → ℕ → Type 0
 IsOutOfOrder [] line = line ≡ 0
 IsOutOfOrder (first ∷ later) line =
     PassesOn (λ looked. not (is_start looked)) (first ∷ []) line ⊎ PassesOn is_start later line
 
 -- the line of the change 10,001, if there are so many
-abbrev pub line_beyond : List (Numbered Looked) → Option ℕ
+abbrev pub line_beyond : List (Numbered ResolvedStatement) → Option ℕ
 line_beyond statements =
     option_map (λ numbered. numbered.line) (slice_get (filter (λ numbered. not (is_start numbered.statement)) statements) 10000)
 
 -- the fault stands in the text
-abbrev pub Stands : Netlist → List ℕ → TextFault → Type 0
-Stands netlist text (Form line) = meaning_at statement_of text line ≡ Malformed
-Stands netlist text (Unknown line) = PassesOn (has_unknown netlist.inputs) (looked_statements netlist text) line
-Stands netlist text (Twice line) = PassesOn has_twice (statements_of text) line
-Stands netlist text (Missing node) = IsMissing (primary_inputs netlist) (looked_statements netlist text) node
-Stands netlist text (Bit line) = PassesOn has_no_bit (looked_statements netlist text) line
-Stands netlist text (Order line) = IsOutOfOrder (looked_statements netlist text) line
-Stands netlist text (TooMany line) = line_beyond (looked_statements netlist text) ≡ Some line
-Stands netlist text Memory = ⊥
-Stands netlist text (Mismatch line told real) = ⊥
+abbrev pub HasScriptFault : Netlist → List ℕ → TextFault → Type 0
+HasScriptFault netlist text (Form line) = meaning_at script_statement_of text line ≡ Malformed
+HasScriptFault netlist text (Unknown line) = PassesOn (has_unknown netlist.inputs) (resolved_statements netlist text) line
+HasScriptFault netlist text (Twice line) = PassesOn has_twice (script_statements_of text) line
+HasScriptFault netlist text (Missing node) = IsMissing (primary_inputs netlist) (resolved_statements netlist text) node
+HasScriptFault netlist text (Bit line) = PassesOn has_no_bit (resolved_statements netlist text) line
+HasScriptFault netlist text (Order line) = IsOutOfOrder (resolved_statements netlist text) line
+HasScriptFault netlist text (TooMany line) = line_beyond (resolved_statements netlist text) ≡ Some line
+HasScriptFault netlist text Memory = ⊥
+HasScriptFault netlist text (Mismatch line told real) = ⊥
 
 -- the fault stands in the text and comes before each other that does
-abbrev pub IsLeastFault : Netlist → List ℕ → TextFault → Type 0
-IsLeastFault netlist text fault = IsLeastFaultOf (Stands netlist text) fault
+abbrev pub IsLeastScriptFault : Netlist → List ℕ → TextFault → Type 0
+IsLeastScriptFault netlist text fault = IsLeastFaultOf (HasScriptFault netlist text) fault
 
 -- no fault stands in the text
-abbrev pub IsFaultless : Netlist → List ℕ → Type 0
-IsFaultless netlist text = (fault : TextFault) → ¬ Stands netlist text fault
+abbrev pub IsScriptFaultless : Netlist → List ℕ → Type 0
+IsScriptFaultless netlist text = (fault : TextFault) → ¬ HasScriptFault netlist text fault
 
 -- the fault is the least that stands in the text; memory may always run out
-abbrev pub IsRefusal : Netlist → List ℕ → TextFault → Type 0
-IsRefusal netlist text fault = IsLeastFaultOrMemory (Stands netlist text) fault
+abbrev pub IsScriptRefusal : Netlist → List ℕ → TextFault → Type 0
+IsScriptRefusal netlist text fault = IsLeastFaultOrMemory (HasScriptFault netlist text) fault

@@ -12,7 +12,7 @@ pub data Keyword : Type 0 where
   Change : Keyword
 
 -- a statement: the start or a change, and its assignments
-pub record Statement : Type 0 where
+pub record ScriptStatement : Type 0 where
   pub keyword : Keyword
   pub assignments : List Assignment
 
@@ -21,15 +21,15 @@ unfoldable pub keyword_of : List ℕ → Option Keyword
 keyword_of word = if is_keyword word (codes "start") then Some Start else (if is_keyword word (codes "change") then Some Change else None)
 
 -- the statement of a keyword and the tokens after it
-abbrev pub statement_with : Option Keyword → List TokenOf → Option Statement
-statement_with None rest = None
-statement_with (Some keyword) rest = option_map (λ assignments. record { keyword = keyword; assignments = assignments }) (assignments_of rest)
+abbrev pub script_statement_with : Option Keyword → List TokenOf → Option ScriptStatement
+script_statement_with None rest = None
+script_statement_with (Some keyword) rest = option_map (λ assignments. record { keyword = keyword; assignments = assignments }) (assignments_of rest)
 
 -- the one statement of a token list, if it is one: a keyword, then any number of assignments
-abbrev pub statement_of : List TokenOf → Option Statement
-statement_of (WordOf word ∷ rest) = statement_with (keyword_of word) rest
-statement_of _ = None
+abbrev pub script_statement_of : List TokenOf → Option ScriptStatement
+script_statement_of (WordOf word ∷ rest) = script_statement_with (keyword_of word) rest
+script_statement_of _ = None
 
 -- the statements of a script's text, with their lines
-abbrev pub statements_of : List ℕ → List (Numbered Statement)
-statements_of text = numbered_statements statement_of text
+abbrev pub script_statements_of : List ℕ → List (Numbered ScriptStatement)
+script_statements_of text = numbered_statements script_statement_of text

@@ -8,16 +8,16 @@ use Rattle.hz_text.specs.declared.run.variables.PinAfter.{PinAfter}
 use Rattle.hz_text.specs.declared.run.variables.PinAfter.TheVariants as pin
 use Rattle.hz_text.specs.declared.run.variables.First.{First}
 use Rattle.hz_text.specs.declared.run.variables.First.TheVariants as first
-use Rattle.hz_text.specs.RunStatement.{Node, Pin, variables_of, is_digit, with_first}
-use Rattle.hz_text.specs.RunLookup.{variables_by}
+use Rattle.hz_text.specs.RunStatement.{Node, Pin, variables_of_tokens, is_digit, with_first}
+use Rattle.hz_text.specs.RunResolution.{variables_by}
 
 -- what stands after a name: no pin, what is none, or a pin
 abbrev pub IsPinAfter : List Token → PinAfter → Type 0
 IsPinAfter tokens pin.Absent =
-    (name : List ℕ) → variables_of (WordOf name ∷ map token_of tokens) ≡ with_first (Node name) (variables_of (map token_of tokens))
-IsPinAfter tokens pin.Malformed = (name : List ℕ) → variables_of (WordOf name ∷ map token_of tokens) ≡ None
+    (name : List ℕ) → variables_of_tokens (WordOf name ∷ map token_of tokens) ≡ with_first (Node name) (variables_of_tokens (map token_of tokens))
+IsPinAfter tokens pin.Malformed = (name : List ℕ) → variables_of_tokens (WordOf name ∷ map token_of tokens) ≡ None
 IsPinAfter tokens (pin.Pin number) =
-    ((name : List ℕ) → variables_of (WordOf name ∷ map token_of tokens) ≡ with_first (Pin name number.now) (variables_of (map token_of (drop 3 tokens))))
+    ((name : List ℕ) → variables_of_tokens (WordOf name ∷ map token_of tokens) ≡ with_first (Pin name number.now) (variables_of_tokens (map token_of (drop 3 tokens))))
     × IsTrue (list_all is_digit number.now) × (3 ≤ length tokens)
 
 -- what comes first in tokens: what is no variable, or a variable, looked up, of so many tokens

@@ -4,9 +4,9 @@ ghost use Rattle.std.specs.Prelude.{◌≡◌, ◌<◌, ◌≤◌, All, length, 
 ghost use Rattle.std.specs.List.{range_with_len};
 ghost use Rattle.hz_line.specs.Reading.{IsUnread};
 ghost use Rattle.hz_line.specs.Token.{token_of};
-ghost use Rattle.hz_text.specs.Assignment.{bit_of, assigned_of, assigned_by, is_unknown, any_unknown, any_bitless, assigns};
+ghost use Rattle.hz_text.specs.Assignment.{bit_of, assigned_of, assigned_by, is_not_allowed, any_unknown, any_bitless, assigns};
 ghost use Rattle.hz_text.specs.Bits.{allowed_by};
-ghost use Rattle.hz_text.specs.Rules.{AreBelow, repeats_node, least_unassigned, marked};
+ghost use Rattle.hz_text.specs.Rules.{AreBelow, repeats_node, least_unassigned, with_node_marked};
 
 use hz_core::{Circuit, Memory};
 use hz_line::{Mark, Token, Unread};
@@ -100,7 +100,7 @@ pub(crate) fn any_unknown(all: &[Assigned], allowed: Allowed, inputs: u32) -> bo
 
 // Whether this may not be assigned.
 fn is_unknown(node: Option<u32>, allowed: Allowed, inputs: u32) -> bool
-    ensures { result ≡ is_unknown inputs (allowed_by allowed) node }
+    ensures { result ≡ is_not_allowed inputs (allowed_by allowed) node }
 {
     let Some(node) = node else { return true };
     match allowed {
@@ -171,7 +171,7 @@ fn listed_nodes(alloc: Global, all: &[Assigned], nodes: u32) -> Result<Vec<bool>
 
 // Marks a node, if there is one among those of the list.
 fn mark(marks: &mut [bool], node: Option<u32>)
-    ensures { marks.new ≡ marked marks.old node }
+    ensures { marks.new ≡ with_node_marked marks.old node }
 {
     let Some(node) = node else { return };
     let node = node as usize;

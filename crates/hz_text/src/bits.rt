@@ -2,8 +2,8 @@
 
 ghost use Rattle.std.specs.Prelude.{◌≡◌, ◌++◌, length, map, replicate, None, IfOk, OnOk, option_to_list};
 ghost use Rattle.std.specs.List.{filter_map, range_with_len};
-ghost use Rattle.hz_text.specs.Assignment.{bit_at};
-ghost use Rattle.hz_text.specs.Bits.{ArePairs, bits_at, pair_of};
+ghost use Rattle.hz_text.specs.Assignment.{assigned_bit};
+ghost use Rattle.hz_text.specs.Bits.{ArePairs, assigned_bits, pair_of};
 ghost use Rattle.hz_text.specs.ScriptValue.{IsChange};
 
 use crate::assignments::Assigned;
@@ -17,7 +17,7 @@ pub(crate) fn bits_of(
     nodes: u32,
 ) -> Result<Vec<Option<bool>>, Memory>
     requires { ArePairs nodes all.now }
-    ensures { IfOk result (λ bits. bits.items ≡ map (bit_at all.now) (range_with_len 0 nodes)) }
+    ensures { IfOk result (λ bits. bits.items ≡ map (assigned_bit all.now) (range_with_len 0 nodes)) }
 {
     let mut bits = vec![in alloc; None; nodes as usize]?;
     let mut pairs = Vec::new(alloc);
@@ -52,7 +52,7 @@ fn push_pair(pairs: &mut Vec<(u32, bool)>, assigned: &Assigned) -> Result<(), Me
 fn list_bits(bits: &mut [Option<bool>], pairs: &[(u32, bool)])
     requires none { bits.old ≡ replicate (length bits.old) None }
     requires change { IsChange (length bits.old) pairs.now }
-    ensures { bits.new ≡ bits_at pairs.now (length bits.old) }
+    ensures { bits.new ≡ assigned_bits pairs.now (length bits.old) }
 {
     for (node, bit) in pairs {
         bits[*node as usize] = Some(*bit);

@@ -1,10 +1,10 @@
 // What all texts of statements share: the frame that reads one, and the passes that are the same for each.
 
 ghost use Rattle.std.specs.Prelude.{◌≡◌, ◌≤◌, length, map, All, Some, None, IfOk, MatchResult};
-ghost use Rattle.hz_line.specs.Reading.{entered_by, IsUnread};
-ghost use Rattle.hz_line.specs.Statement.{first_line};
+ghost use Rattle.hz_line.specs.Reading.{numbered_by, IsUnread};
+ghost use Rattle.hz_line.specs.Statement.{first_passing_line};
 ghost use Rattle.hz_line.specs.Token.{token_of};
-ghost use Rattle.hz_text.specs.Rules.{AreBelow, repeats_node, first_fault_in, first_fault_of, IsAnswer, IsChecked};
+ghost use Rattle.hz_text.specs.Rules.{AreBelow, repeats_node, first_fault_in, first_fault_of, IsFaultOrMemory, IsChecked};
 
 use crate::assignments::{Assigned, repeats};
 use crate::fault::{Mismatch, TextFault, refuse};
@@ -69,19 +69,19 @@ pub(crate) trait Text<'t>: Drop {
         alloc: Global,
         entries: &[Numbered<Self::Held>],
     ) -> Result<Option<u32>, Memory>
-        ensures { IfOk result (λ node. node ≡ (rules (context self.now)).missing (map (entered_by stated) entries.now)) };
+        ensures { IfOk result (λ node. node ≡ (rules (context self.now)).missing (map (numbered_by stated) entries.now)) };
 
     // The line that breaks the order.
     fn first_out_of_order(&self, entries: &[Numbered<Self::Held>]) -> Option<u32>
-        ensures { result ≡ (rules (context self.now)).order (map (entered_by stated) entries.now) };
+        ensures { result ≡ (rules (context self.now)).order (map (numbered_by stated) entries.now) };
 
     // The line that passes a limit.
     fn line_beyond(&self, entries: &[Numbered<Self::Held>]) -> Option<u32>
-        ensures { result ≡ (rules (context self.now)).beyond (map (entered_by stated) entries.now) };
+        ensures { result ≡ (rules (context self.now)).beyond (map (numbered_by stated) entries.now) };
 
     // The first count of the network's size that the text tells wrongly.
     fn first_mismatch(&self, entries: &[Numbered<Self::Held>]) -> Option<Mismatch>
-        ensures { result ≡ (rules (context self.now)).mismatch (map (entered_by stated) entries.now) };
+        ensures { result ≡ (rules (context self.now)).mismatch (map (numbered_by stated) entries.now) };
 }
 
 // The lines of a text, as a grammar.
@@ -120,8 +120,8 @@ pub(crate) fn read_text<'t, T: Text<'t>>(
 ) -> Result<Vec<Numbered<T::Held>>, TextFault>
     requires { length text.now ≤ MAX_TEXT }
     ensures checked { MatchResult result
-        (λ read. IsChecked (T.grammar (T.context reader)) (T.rules (T.context reader)) text.now (map (entered_by T.stated) read.items))
-        (λ fault. IsAnswer (first_fault_of (T.grammar (T.context reader)) (T.rules (T.context reader)) text.now) fault) }
+        (λ read. IsChecked (T.grammar (T.context reader)) (T.rules (T.context reader)) text.now (map (numbered_by T.stated) read.items))
+        (λ fault. IsFaultOrMemory (first_fault_of (T.grammar (T.context reader)) (T.rules (T.context reader)) text.now) fault) }
     ensures below { IfOk result (λ read. All (λ entry. AreBelow (T.node_count (T.context reader)) ((T.rules (T.context reader)).assigned (T.stated entry.held))) read.items) }
 {
     let mut lines = Lines { text: reader };
@@ -138,8 +138,8 @@ fn check<'t, T: Text<'t>>(
 ) -> Result<(), TextFault>
     requires { All (λ entry. AreBelow (T.node_count (T.context reader.now)) ((T.rules (T.context reader.now)).assigned (T.stated entry.held))) entries.now }
     ensures { MatchResult result
-        (λ _. first_fault_in (T.rules (T.context reader.now)) (map (entered_by T.stated) entries.now) ≡ None)
-        (λ fault. IsAnswer (first_fault_in (T.rules (T.context reader.now)) (map (entered_by T.stated) entries.now)) fault) }
+        (λ _. first_fault_in (T.rules (T.context reader.now)) (map (numbered_by T.stated) entries.now) ≡ None)
+        (λ fault. IsFaultOrMemory (first_fault_in (T.rules (T.context reader.now)) (map (numbered_by T.stated) entries.now)) fault) }
 {
     let unknown = first_unknown(reader, entries);
     refuse(unknown, |line| TextFault::Unknown { line })?;
@@ -166,7 +166,7 @@ fn check<'t, T: Text<'t>>(
 
 // The line of the first statement that names what is not there or may not be named.
 fn first_unknown<'t, T: Text<'t>>(reader: &T, entries: &[Numbered<T::Held>]) -> Option<u32>
-    ensures { result ≡ first_line (T.rules (T.context reader.now)).unknown (map (entered_by T.stated) entries.now) }
+    ensures { result ≡ first_passing_line (T.rules (T.context reader.now)).unknown (map (numbered_by T.stated) entries.now) }
 {
     for entry in entries {
         if reader.is_unknown(&entry.held) {
@@ -183,7 +183,7 @@ fn first_twice<'t, T: Text<'t>>(
     entries: &[Numbered<T::Held>],
 ) -> Result<Option<u32>, Memory>
     requires { All (λ entry. AreBelow (T.node_count (T.context reader.now)) ((T.rules (T.context reader.now)).assigned (T.stated entry.held))) entries.now }
-    ensures { IfOk result (λ line. line ≡ first_line (λ statement. repeats_node ((T.rules (T.context reader.now)).assigned statement)) (map (entered_by T.stated) entries.now)) }
+    ensures { IfOk result (λ line. line ≡ first_passing_line (λ statement. repeats_node ((T.rules (T.context reader.now)).assigned statement)) (map (numbered_by T.stated) entries.now)) }
 {
     let mut marks = vec![in alloc; 0; reader.node_count() as usize]?;
     for (index, entry) in entries.iter().enumerate() {
@@ -197,7 +197,7 @@ fn first_twice<'t, T: Text<'t>>(
 
 // The line of the first statement that has a word that is to be a bit and is none.
 fn first_without_bit<'t, T: Text<'t>>(reader: &T, entries: &[Numbered<T::Held>]) -> Option<u32>
-    ensures { result ≡ first_line (T.rules (T.context reader.now)).bitless (map (entered_by T.stated) entries.now) }
+    ensures { result ≡ first_passing_line (T.rules (T.context reader.now)).bitless (map (numbered_by T.stated) entries.now) }
 {
     for entry in entries {
         if reader.lacks_bit(&entry.held) {

@@ -11,12 +11,12 @@ use Rattle.hz_core.specs.Netlist.{Netlist, IsCircuit, IsWhole}
 use Rattle.hz_net.specs.Network.{Driver, network_of, bit_at, value_at}
 use Rattle.hz_net.specs.Passes.{IsUnknown}
 use Rattle.hz_net.specs.Starts.{IsStableStart, IsAcceptedStart}
-use Rattle.hz_gmw.specs.Runs.{is_listed, flipped}
+use Rattle.hz_gmw.specs.Runs.{is_listed, state_after}
 use Rattle.hz_gmw.specs.Cycles.{states_of}
-use Rattle.hz_gmw.proofs.Flips.{at-flipped, length-flipped}
+use Rattle.hz_gmw.proofs.Flips.{at-state_after, length-state_after}
 use Rattle.hz_reach.specs.Spread.{changes_in}
 use Rattle.hz_bench.specs.Fault.{IsFaultless}
-use Rattle.hz_bench.specs.Netlist.{netlist_of}
+use Rattle.hz_bench.specs.Netlist.{circuit_of_statements}
 use Rattle.hz_bench.specs.Text.{statements_of}
 use Rattle.hz_text.specs.ScriptText.{IsValue}
 use Rattle.hz_text.specs.ScriptValue.{ScriptOf}
@@ -34,9 +34,9 @@ use Rattle.hz_top.specs.declared.status.Status.{Status}
 use Rattle.hz_top.specs.declared.status.Status.TheVariants as status
 use Rattle.hz_top.specs.Answer.{Answers, WroteWhole}
 use Rattle.hz_top.specs.Headline.{TakesBoth, IsExact, StartsAt, IsExactChange, IsExactReport, Headline}
-use Rattle.hz_top.specs.Outcome.{Told, ScriptComes, ScriptTextComes, TaskComes, IsNetlistText, FilesCome, JobComes}
+use Rattle.hz_top.specs.Outcome.{Observation, IsScriptOutcome, IsScriptTextOutcome, IsTaskOutcome, IsNetlistText, IsFilesOutcome, IsJobOutcome}
 use Rattle.hz_top.specs.Reports.{AnalysisReplays, IsReport}
-use Rattle.hz_top.proofs.Done.{told-bytes, ends-or-memory}
+use Rattle.hz_top.proofs.FaultlessEndings.{told-bytes, ends-or-memory}
 
 -- the first state of a run is one of its states
 contains-first : (steps : List (List ℕ)) (state : List Bool) → Contains (states_of state steps) state
@@ -44,7 +44,7 @@ contains-first [] state = (0, omega arith, refl)
 contains-first (flips ∷ steps) state = (0, omega arith, refl)
 
 -- and so are those after its first step
-contains-later : (flips : List ℕ) (steps : List (List ℕ)) (state member : List Bool) → Contains (states_of (flipped flips state) steps) member → Contains (states_of state (flips ∷ steps)) member
+contains-later : (flips : List ℕ) (steps : List (List ℕ)) (state member : List Bool) → Contains (states_of (state_after flips state) steps) member → Contains (states_of state (flips ∷ steps)) member
 contains-later flips steps state member (k, inside, is) = (suc k, omega (arith, inside), is)
 
 same-or-not : (a b : Bool) → (a ≡ b) ⊎ (a ≡ not b)
@@ -65,18 +65,18 @@ changes-first flips steps i = sum_by-cons (λ (list : List ℕ). once_if (is_lis
 changed-shows : (steps : List (List ℕ)) (state : List Bool) (i : ℕ) (bit : Bool) → i < length state → changes_in steps i ≡ 1 → bit ≡ not (bit_at state i) → (member : List Bool) × Contains (states_of state steps) member × (bit_at member i ≡ bit)
 changed-shows [] state i bit inside once is = absurd cc
 changed-shows (flips ∷ steps) state i bit inside once is =
-    let after : bit_at (flipped flips state) i ≡ cond (is_listed flips i) (not (bit_at state i)) (bit_at state i) = at-flipped flips state i inside in
+    let after : bit_at (state_after flips state) i ≡ cond (is_listed flips i) (not (bit_at state i)) (bit_at state i) = at-state_after flips state i inside in
     elim (cases_Bool (is_listed flips i)) [
       | inl there ↦ (
-        flipped flips state,
-        contains-later flips steps state (flipped flips state) (contains-first steps (flipped flips state)),
+        state_after flips state,
+        contains-later flips steps state (state_after flips state) (contains-first steps (state_after flips state)),
         after ∙ (ap (λ (b : Bool). cond b (not (bit_at state i)) (bit_at state i)) there ∙ sym is),
       )
       | inr out ↦ (
-          let stays : bit_at (flipped flips state) i ≡ bit_at state i = after ∙ ap (λ (b : Bool). cond b (not (bit_at state i)) (bit_at state i)) out in
+          let stays : bit_at (state_after flips state) i ≡ bit_at state i = after ∙ ap (λ (b : Bool). cond b (not (bit_at state i)) (bit_at state i)) out in
           let none : once_if (is_listed flips i) ≡ 0 = ap once_if out in
           let later : changes_in steps i ≡ 1 = omega (arith, once, changes-first flips steps i, none) in
-          let rest = changed-shows steps (flipped flips state) i bit (omega (arith, inside, length-flipped flips state)) later (is ∙ ap not (sym stays)) in
+          let rest = changed-shows steps (state_after flips state) i bit (omega (arith, inside, length-state_after flips state)) later (is ∙ ap not (sym stays)) in
           (rest.0, contains-later flips steps state rest.0 rest.1, rest.2)
           )
     ]
@@ -180,7 +180,7 @@ replays-each netlist analyses replay k finding is =
 
 -- each text without a fault is that of a circuit
 abbrev pub TextsAreCircuits : Type 0
-TextsAreCircuits = (text : List ℕ) → IsFaultless text → IsCircuit (netlist_of (statements_of text)) × IsWhole (netlist_of (statements_of text))
+TextsAreCircuits = (text : List ℕ) → IsFaultless text → IsCircuit (circuit_of_statements (statements_of text)) × IsWhole (circuit_of_statements (statements_of text))
 
 -- a report is exact
 report-exact : TextsAreCircuits → (cap : ℕ) (show : Show) (first second : List ℕ) (netlist : Netlist) (script : ScriptOf) (start : List Bool) (report : List ℕ) → IsNetlistText first netlist → IsValue netlist second script → IsAcceptedStart netlist script.start start → IsReport netlist cap show start script.changes report → IsExactReport show first second report
@@ -205,14 +205,14 @@ report-exact circuits cap show first second netlist script start report text val
     }
 
 -- what the second text comes to, if the job is done with it
-second-exact : TextsAreCircuits → (cap : ℕ) (show : Show) (first second : List ℕ) (netlist : Netlist) (report : List ℕ) → IsNetlistText first netlist → ScriptTextComes (ScriptComes cap show) netlist second status.Done report → IsExactReport show first second report
+second-exact : TextsAreCircuits → (cap : ℕ) (show : Show) (first second : List ℕ) (netlist : Netlist) (report : List ℕ) → IsNetlistText first netlist → IsScriptTextOutcome (IsScriptOutcome cap show) netlist second status.Done report → IsExactReport show first second report
 second-exact circuits cap show first second netlist report text (inl (fault, least, says)) = absurd cc
 second-exact circuits cap show first second netlist report text (inr (value, faultless, is, inl (own_is, refused))) = absurd cc
 second-exact circuits cap show first second netlist report text (inr (value, faultless, is, inr (start, accepted, (done, report_is)))) =
     report-exact circuits cap show first second netlist value start report text is accepted report_is
 
 -- what the files come to, if the job is done
-files-exact : TextsAreCircuits → (told : Told) (bytes_of : List ℕ → List ℕ) (cap : ℕ) (show : Show) (first second report : List ℕ) → told.held ≡ Some bytes_of → FilesCome told (TaskComes (Analyse cap show)) first second status.Done report → IsExactReport show (bytes_of first) (bytes_of second) report
+files-exact : TextsAreCircuits → (told : Observation) (bytes_of : List ℕ → List ℕ) (cap : ℕ) (show : Show) (first second report : List ℕ) → told.held ≡ Some bytes_of → IsFilesOutcome told (IsTaskOutcome (Analyse cap show)) first second status.Done report → IsExactReport show (bytes_of first) (bytes_of second) report
 files-exact circuits told bytes_of cap show first second report is_told (inl (stay, inl (rose, says))) = absurd cc
 files-exact circuits told bytes_of cap show first second report is_told (inl (stay, inr (rose, over, says))) = absurd cc
 files-exact circuits told bytes_of cap show first second report is_told (inr (bytes, (is, short), inl (line, refused, stay, says))) = absurd cc
@@ -221,16 +221,16 @@ files-exact circuits told bytes_of cap show first second report is_told (inr (by
 files-exact circuits told bytes_of cap show first second report is_told (inr (bytes, (is, short), inr (netlist, text, inr (more, (is_more, short_too), comes)))) =
     second-exact circuits cap show (bytes_of first) (bytes_of second) netlist report
     (subst (λ (b : List ℕ). IsNetlistText b netlist) (told-bytes told bytes_of first bytes is_told is) text)
-    (subst (λ (b : List ℕ). ScriptTextComes (ScriptComes cap show) netlist b status.Done report) (told-bytes told bytes_of second more is_told is_more) comes)
+    (subst (λ (b : List ℕ). IsScriptTextOutcome (IsScriptOutcome cap show) netlist b status.Done report) (told-bytes told bytes_of second more is_told is_more) comes)
 
 -- the headline
-pub headline : {S : Type 0} (written : S → Option (List ℕ)) (faults : S → ℕ) (told : Told) (asked : Option JobOf) (was now : S) (ends : Status) → TextsAreCircuits → Answers written faults (JobComes told asked) was now ends → Headline written faults told asked was now ends
+pub headline : {S : Type 0} (written : S → Option (List ℕ)) (faults : S → ℕ) (told : Observation) (asked : Option JobOf) (was now : S) (ends : Status) → TextsAreCircuits → Answers written faults (IsJobOutcome told asked) was now ends → Headline written faults told asked was now ends
 headline written faults told asked was now ends circuits answers cap show first second is good quiet enough =
     elim (ends-or-memory written faults told asked was now ends answers (OnFiles (Analyse cap show) first second) status.Done is good quiet) [
       | inl done ↦ (
-          let whole : WroteWhole written (JobComes told asked) was now status.Done = subst (Answers written faults (JobComes told asked) was now) done answers in
-          let comes : FilesCome told (TaskComes (Analyse cap show)) first second status.Done whole.0 =
-          subst (λ (job : Option JobOf). JobComes told job status.Done whole.0) is whole.1 in
+          let whole : WroteWhole written (IsJobOutcome told asked) was now status.Done = subst (Answers written faults (IsJobOutcome told asked) was now) done answers in
+          let comes : IsFilesOutcome told (IsTaskOutcome (Analyse cap show)) first second status.Done whole.0 =
+          subst (λ (job : Option JobOf). IsJobOutcome told job status.Done whole.0) is whole.1 in
           (done, (whole.0, whole.2, files-exact circuits told good.bytes_of cap show first second whole.0 good.is_told comes))
           )
       | inr out ↦ absurd (enough out)

@@ -11,13 +11,13 @@ use Rattle.hz_gmw.specs.declared.replay_fault.StepFault.TheVariants.{Empty, Repe
 use Rattle.hz_gmw.specs.declared.replay_fault.CycleFault.{CycleFault}
 use Rattle.hz_gmw.specs.declared.replay_fault.CycleFault.TheVariants.{Differs, NotStable, Transient}
 use Rattle.hz_gmw.proofs.CoverB.{length-end_of}
-use Rattle.hz_gmw.proofs.LeastLemmas.{All-listed, times-listed}
+use Rattle.hz_gmw.proofs.LeastLemmas.{All-listed, times_listed-listed}
 use Rattle.hz_text.specs.RunText.{IsRunTextFor}
 use Rattle.hz_text.specs.RunValue.{RunOf, RunTextOf, all_steps}
 use Rattle.hz_top.specs.declared.replaying.Refused.{Refused}
 use Rattle.hz_top.specs.declared.replaying.Refused.TheVariants.{Step, Cycle}
 use Rattle.hz_top.specs.Replaying.{no_run, steps_of, IsRefusedRun, IsFirstRefusal}
-use Rattle.hz_top.specs.Made.{AreVariables}
+use Rattle.hz_top.specs.ReplayerSteps.{AreVariables}
 use Rattle.hz_top.specs.Verdict.{step_variable, cycle_variable, named_variable, NamesVariable}
 use Rattle.hz_top.proofs.RunSteps.{run-variables}
 use Rattle.hz_top.proofs.Refusals.{middle, All-middle}
@@ -26,7 +26,7 @@ use Rattle.hz_top.proofs.Refusals.{middle, All-middle}
 step-variable : (netlist : Netlist) (input state : List Bool) (flips : List ℕ) (fault : StepFault) → All (λ var. var < length (network_of netlist)) flips → IsStepFault (network_of netlist) input state flips fault → NamesVariable netlist (step_variable fault)
 step-variable netlist input state flips Empty all empty = tt
 step-variable netlist input state flips (Repeated var) all least =
-    All-listed (λ i. i < length (network_of netlist)) flips var all (times-listed var flips (omega (arith, least.here)))
+    All-listed (λ i. i < length (network_of netlist)) flips var all (times_listed-listed var flips (omega (arith, least.here)))
 step-variable netlist input state flips (Stable var) all (once, least) =
     All-listed (λ i. i < length (network_of netlist)) flips var all least.here.0
 

@@ -6,13 +6,13 @@ use Rattle.std.proofs.lemmas.List.Elements.{All-nil, All-cons, All-head, All-tai
 use Rattle.std.proofs.lemmas.List.Sums.{sum_by-append, count_by-le-length}
 use Rattle.hz_core.specs.Ternary.{is_unknown}
 use Rattle.hz_core.specs.Netlist.{Netlist, IsCircuit, variable_count}
-use Rattle.hz_net.specs.Network.{Driver, network_of, wires_of, bit_at, driven, IsStable}
+use Rattle.hz_net.specs.Network.{Driver, network_of, wires_of, bit_at, driver_value, IsStable}
 use Rattle.hz_net.specs.Starts.{IsStableStart}
-use Rattle.hz_net.specs.Variables.{expanded}
-use Rattle.hz_net.proofs.Places.{no_wire, All-wires_of, length-wires_of, length-network_of, driver_at-wire, length-expanded, bit_at-expanded-node, bit_at-expanded-wire}
+use Rattle.hz_net.specs.Variables.{expansion_of}
+use Rattle.hz_net.proofs.Places.{no_wire, All-wires_of, length-wires_of, length-network_of, driver_at-wire, length-expansion_of, bit_at-expansion_of-node, bit_at-expansion_of-wire}
 use Rattle.hz_gmw.specs.Runs.{end_of}
 use Rattle.hz_gmw.specs.Cycles.{IsNontransient}
-use Rattle.hz_gmw.specs.Recorded.{flip_count}
+use Rattle.hz_gmw.specs.RunRecord.{flip_count}
 use Rattle.hz_reach.specs.Counts.{StepsAreNoMoreThanFlips}
 use Rattle.hz_text.specs.RunPrinted.{run_text_printed}
 use Rattle.hz_text.specs.RunReadBack.{PrintedRunsAreRead}
@@ -41,23 +41,23 @@ same-bits (x ∷ xs) (y ∷ ys) long each =
     cc
 
 -- in a stable state each wire has its source's value, so it is the state that its nodes' values make
-stable-expanded :
+stable-expansion_of :
     (netlist : Netlist) (input state : List Bool) → IsCircuit netlist → length state ≡ length (network_of netlist) → IsStable (network_of netlist) input state →
-    state ≡ expanded netlist (take (length netlist.names) state)
-stable-expanded netlist input state circuit long stable =
+    state ≡ expansion_of netlist (take (length netlist.names) state)
+stable-expansion_of netlist input state circuit long stable =
     let nodes = take (length netlist.names) state in
     let few : length netlist.names ≤ length state = omega (arith, long, length-network_of netlist circuit) in
     let count : length nodes ≡ length netlist.names = length-take-le (length netlist.names) state few in
-    same-bits state (expanded netlist nodes) (long ∙ sym (length-expanded netlist nodes circuit count)) (λ k within. elim (cases_lt k (length netlist.names)) [
-      | inl node ↦ sym (bit_at-expanded-node netlist nodes k count node ∙ get_or-take (length netlist.names) state k false node)
+    same-bits state (expansion_of netlist nodes) (long ∙ sym (length-expansion_of netlist nodes circuit count)) (λ k within. elim (cases_lt k (length netlist.names)) [
+      | inl node ↦ sym (bit_at-expansion_of-node netlist nodes k count node ∙ get_or-take (length netlist.names) state k false node)
       | inr from ↦ (
           let below : k < variable_count netlist = omega (arith, within, long, length-network_of netlist circuit) in
           let wire = get_or (wires_of netlist) (k - length netlist.names) no_wire in
           let there : k - length netlist.names < length (wires_of netlist) = omega (arith, from, below, length-wires_of netlist) in
           let source : wire.source < length netlist.names = All-wires_of netlist circuit (k - length netlist.names) no_wire there in
           stable k (omega (arith, within, long))
-          ∙ ap (driven input state) (driver_at-wire netlist k circuit from below)
-          ∙ sym (bit_at-expanded-wire netlist nodes k count from below ∙ get_or-take (length netlist.names) state wire.source false source)
+          ∙ ap (driver_value input state) (driver_at-wire netlist k circuit from below)
+          ∙ sym (bit_at-expansion_of-wire netlist nodes k count from below ∙ get_or-take (length netlist.names) state wire.source false source)
           )
     ])
 
@@ -144,8 +144,8 @@ finding-replays read no_more netlist cap start change finding circuit begins rig
     length-take-le (length netlist.names) (map (λ (row : Row). row.start) finding.rows)
     (omega (arith, length-map finding.rows (λ (row : Row). row.start), fit.rows, length-network_of netlist circuit)) in
     let from : start ≡ start_of netlist value =
-    stable-expanded netlist (take netlist.inputs start) start circuit begins.long begins.stable
-    ∙ ap (λ (bits : List Bool). expanded netlist (take (length netlist.names) bits)) (sym right.starts) in
+    stable-expansion_of netlist (take netlist.inputs start) start circuit begins.long begins.stable
+    ∙ ap (λ (bits : List Bool). expansion_of netlist (take (length netlist.names) bits)) (sym right.starts) in
     let same_input : input ≡ finding.input = sym right.input_is in
     let accepted : All (IsAcceptedRun net input start) value.runs =
     All-cons (IsAcceptedRun net input start) (record { lead = finding.spread; cycle = None }) (record { lead = finding.settle; cycle = Some finding.cycle } ∷ [])

@@ -8,14 +8,14 @@ use Rattle.std.proofs.lemmas.List.Folds.{length-flat_map-take}
 use Rattle.std.proofs.lemmas.List.Elements.{All-push}
 use Rattle.hz_core.specs.Netlist.{Netlist}
 use Rattle.hz_net.specs.Network.{Driver, network_of}
-use Rattle.hz_net.specs.Variables.{expanded}
+use Rattle.hz_net.specs.Variables.{expansion_of}
 use Rattle.hz_gmw.specs.Cycles.{IsNontransient}
-use Rattle.hz_gmw.specs.Replayed.{Replayed, begun_at}
+use Rattle.hz_gmw.specs.Replayer.{Replayer, initial_replayer}
 use Rattle.hz_text.specs.RunValue.{RunOf, RunTextOf, cycle_steps, all_steps}
 use Rattle.hz_top.specs.declared.replaying.Refused.{Refused}
-use Rattle.hz_top.specs.Replaying.{no_run, steps_of, step_count, IsAcceptedRun, IsRefusedRun, IsFirstRefusal}
-use Rattle.hz_top.specs.Made.{AreVariables, run_of, KeepsBegin, MadeSteps, IsRefusedBehind}
-use Rattle.hz_top.proofs.Steps.{cut-at, run-refused}
+use Rattle.hz_top.specs.Replaying.{no_run, steps_of, total_steps, IsAcceptedRun, IsRefusedRun, IsFirstRefusal}
+use Rattle.hz_top.specs.ReplayerSteps.{AreVariables, run_of, KeepsInitialState, MakesSteps, IsRefusedFrom}
+use Rattle.hz_top.proofs.ReplayerStepLemmas.{cut-at, run-refused}
 
 -- the steps behind others name variables too
 behind-variables : (netlist : Netlist) (lead steps : List (List ℕ)) → AreVariables netlist (lead ++ steps) → AreVariables netlist steps
@@ -35,12 +35,12 @@ cycle-variables netlist other lead steps_in cycle one is same all =
     subst (λ (n : Netlist). AreVariables n (steps_in one)) (sym same) (behind-variables netlist lead (steps_in one) here)
 
 -- what comes of a run's cycle comes of the run
-pub run-outcome : {T : Type 0} (was now : Replayed) (lead : List (List ℕ)) (steps_in : T → List (List ℕ)) (cycle : Option T) (one : T) (before : ℕ) (result : Result (Unit {0}) Refused) → cycle ≡ Some one → before ≡ length lead → MadeSteps was now lead → MatchResult result (λ done. IsNontransient (network_of now.circuit) now.input now.state (steps_in one)) (λ why. IsRefusedBehind before (network_of now.circuit) now.input now.state (steps_in one) why) → MatchResult result (λ done. IsAcceptedRun (network_of was.circuit) was.input was.state (run_of lead (option_map steps_in cycle))) (λ why. IsRefusedRun (network_of was.circuit) was.input was.state (run_of lead (option_map steps_in cycle)) why)
+pub run-outcome : {T : Type 0} (was now : Replayer) (lead : List (List ℕ)) (steps_in : T → List (List ℕ)) (cycle : Option T) (one : T) (before : ℕ) (result : Result (Unit {0}) Refused) → cycle ≡ Some one → before ≡ length lead → MakesSteps was now lead → MatchResult result (λ done. IsNontransient (network_of now.circuit) now.input now.state (steps_in one)) (λ why. IsRefusedFrom before (network_of now.circuit) now.input now.state (steps_in one) why) → MatchResult result (λ done. IsAcceptedRun (network_of was.circuit) was.input was.state (run_of lead (option_map steps_in cycle))) (λ why. IsRefusedRun (network_of was.circuit) was.input was.state (run_of lead (option_map steps_in cycle)) why)
 run-outcome was now lead steps_in cycle one before (Ok done) is long made lasts =
     subst (λ (o : Option _). IsAcceptedRun (network_of was.circuit) was.input was.state (run_of lead (option_map steps_in o))) (sym is)
     record { lead = made.run; cycle = rw (made.begin.circuit, made.begin.input, made.ends) at lasts }
 run-outcome was now lead steps_in cycle one before (Err why) is long made refused =
-    let here : IsRefusedBehind (length lead) (network_of was.circuit) was.input _ (steps_in one) why = rw (long, made.begin.circuit, made.begin.input, made.ends) at refused in
+    let here : IsRefusedFrom (length lead) (network_of was.circuit) was.input _ (steps_in one) why = rw (long, made.begin.circuit, made.begin.input, made.ends) at refused in
     subst (λ (o : Option _). IsRefusedRun (network_of was.circuit) was.input was.state (run_of lead (option_map steps_in o)) why) (sym is)
     (run-refused (network_of was.circuit) was.input was.state lead (steps_in one) why made.run here)
 
@@ -60,24 +60,24 @@ run-variables netlist other runs number run is below same all =
         subst (All (λ var. var < length (network_of netlist))) (get_or-flat_map steps_of runs number k no_run d below within) (all place d at)
 
 -- and there are no more of them
-pub run-few : (runs : List RunOf) (number : ℕ) (run : RunOf) → run ≡ get_or runs number no_run → number < length runs → step_count runs ≤ 2000000 → length (steps_of run) ≤ 2000000
+pub run-few : (runs : List RunOf) (number : ℕ) (run : RunOf) → run ≡ get_or runs number no_run → number < length runs → total_steps runs ≤ 2000000 → length (steps_of run) ≤ 2000000
 run-few runs number run is below few =
     omega (arith, ap (λ (r : RunOf). length (steps_of r)) is, length-flat_map-take steps_of runs number no_run below, few)
 
 -- what is said of a replayer that begins again is said of what it was given
-pub begun-again : (P : List Driver → List Bool → List Bool → Type 0) (netlist : Netlist) (input start : List Bool) (was now : Replayed) → KeepsBegin (begun_at netlist input start) was → now ≡ begun_at was.circuit was.input was.begun → P (network_of now.circuit) now.input now.state → P (network_of netlist) input start
+pub begun-again : (P : List Driver → List Bool → List Bool → Type 0) (netlist : Netlist) (input start : List Bool) (was now : Replayer) → KeepsInitialState (initial_replayer netlist input start) was → now ≡ initial_replayer was.circuit was.input was.begun → P (network_of now.circuit) now.input now.state → P (network_of netlist) input start
 begun-again P netlist input start was now kept at holds =
-    let circuit : now.circuit ≡ netlist = ap (λ (r : Replayed). r.circuit) at ∙ kept.circuit in
-    let under : now.input ≡ input = ap (λ (r : Replayed). r.input) at ∙ kept.input in
-    let state : now.state ≡ start = ap (λ (r : Replayed). r.state) at ∙ kept.begun in
+    let circuit : now.circuit ≡ netlist = ap (λ (r : Replayer). r.circuit) at ∙ kept.circuit in
+    let under : now.input ≡ input = ap (λ (r : Replayer). r.input) at ∙ kept.input in
+    let state : now.state ≡ start = ap (λ (r : Replayer). r.state) at ∙ kept.begun in
     rw (circuit, under, state) at holds
 
 -- and it may begin once more
-pub kept-again : (netlist : Netlist) (input start : List Bool) (was now next : Replayed) → KeepsBegin (begun_at netlist input start) was → now ≡ begun_at was.circuit was.input was.begun → KeepsBegin now next → KeepsBegin (begun_at netlist input start) next
+pub kept-again : (netlist : Netlist) (input start : List Bool) (was now next : Replayer) → KeepsInitialState (initial_replayer netlist input start) was → now ≡ initial_replayer was.circuit was.input was.begun → KeepsInitialState now next → KeepsInitialState (initial_replayer netlist input start) next
 kept-again netlist input start was now next kept at onward = record {
-  circuit = onward.circuit ∙ (ap (λ (r : Replayed). r.circuit) at ∙ kept.circuit);
-  input = onward.input ∙ (ap (λ (r : Replayed). r.input) at ∙ kept.input);
-  begun = onward.begun ∙ (ap (λ (r : Replayed). r.begun) at ∙ kept.begun);
+  circuit = onward.circuit ∙ (ap (λ (r : Replayer). r.circuit) at ∙ kept.circuit);
+  input = onward.input ∙ (ap (λ (r : Replayer). r.input) at ∙ kept.input);
+  begun = onward.begun ∙ (ap (λ (r : Replayer). r.begun) at ∙ kept.begun);
 }
 
 -- one more run is accepted
@@ -99,5 +99,5 @@ first-refused net input start runs number run why is below all refused = record 
 }
 
 -- what is said of the replayer's circuit and start is said of the text's
-pub of-text : (P : List Driver → List Bool → Type 0) (netlist : Netlist) (value : RunTextOf) (replay : Replayed) (start : List Bool) → replay.circuit ≡ netlist → start ≡ expanded netlist value.nodes → P (network_of replay.circuit) start → P (network_of netlist) (expanded netlist value.nodes)
+pub of-text : (P : List Driver → List Bool → Type 0) (netlist : Netlist) (value : RunTextOf) (replay : Replayer) (start : List Bool) → replay.circuit ≡ netlist → start ≡ expansion_of netlist value.nodes → P (network_of replay.circuit) start → P (network_of netlist) (expansion_of netlist value.nodes)
 of-text P netlist value replay start circuit is holds = rw (circuit, is) at holds

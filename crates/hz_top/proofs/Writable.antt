@@ -8,11 +8,11 @@ use Rattle.hz_core.specs.declared.tri.Tri.TheVariants.{Zero, Unknown}
 use Rattle.hz_core.specs.Netlist.{Netlist, IsCircuit}
 use Rattle.hz_net.specs.Network.{Driver, network_of}
 use Rattle.hz_net.specs.Starts.{IsStableStart}
-use Rattle.hz_gmw.specs.Runs.{is_listed, flipped, IsRun, end_of}
+use Rattle.hz_gmw.specs.Runs.{is_listed, state_after, IsRun, end_of}
 use Rattle.hz_free.proofs.Lists.{listed-head}
 use Rattle.hz_desk.specs.declared.finding.Row.{Row}
 use Rattle.hz_desk.specs.Finding.{FindingOf, values_b}
-use Rattle.hz_seq.specs.Sequence.{Sequenced, IsFindingOfChange, IsFirstUnknown, IsLeftBy}
+use Rattle.hz_seq.specs.Sequence.{SequenceState, IsFindingOfChange, IsFirstUnknown, IsLeftBy}
 use Rattle.hz_seq.proofs.FirstAnalyses.{input-long}
 
 -- the steps of a run change variables that are there
@@ -24,7 +24,7 @@ pub run-inside : (net : List Driver) (input state : List Bool) (steps : List (Li
 run-inside net input state [] run = All-nil (All (λ (var : ℕ). var < length net))
 run-inside net input state (flips ∷ steps) run =
     All-cons (All (λ (var : ℕ). var < length net)) flips steps (listed-all (λ (var : ℕ). var < length net) flips run.0.inside)
-    (run-inside net input (flipped flips state) steps run.1)
+    (run-inside net input (state_after flips state) steps run.1)
 
 -- inputs are nodes
 pub below-names : (netlist : Netlist) (change : List (ℕ × Bool)) → IsCircuit netlist → All (λ pair. pair.0 < netlist.inputs) change → All (λ pair. pair.0 < length netlist.names) change
@@ -65,7 +65,7 @@ first-inside values var first =
 abbrev pub IsStopInside : Netlist → Option ℕ → Type 0
 IsStopInside netlist stopped = IfSome stopped (λ (var : ℕ). var < length (network_of netlist))
 
-pub left-inside : (netlist : Netlist) (finding : FindingOf) (was now : Sequenced) → Fits netlist finding → IsLeftBy finding was now → IsStopInside netlist now.stopped
+pub left-inside : (netlist : Netlist) (finding : FindingOf) (was now : SequenceState) → Fits netlist finding → IsLeftBy finding was now → IsStopInside netlist now.stopped
 left-inside netlist finding was now fit left =
     elim left.2 [
       | inl settled ↦ subst (IsStopInside netlist) (sym settled.0) tt

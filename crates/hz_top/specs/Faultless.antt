@@ -16,12 +16,12 @@ use Rattle.hz_words.specs.declared.job.Task.{Task}
 use Rattle.hz_words.specs.declared.job.Task.TheVariants.{Analyse, Replay, Convert}
 use Rattle.hz_words.specs.Job.{JobOf, OnFiles, Demo}
 use Rattle.hz_top.specs.declared.replaying.Refused.{Refused}
-use Rattle.hz_top.specs.Outcome.{Told, IsNetlistText}
+use Rattle.hz_top.specs.Outcome.{Observation, IsNetlistText}
 use Rattle.hz_top.specs.Replaying.{AreAccepted, IsRefusalOfText}
 
 -- the text is that of a script, the start of which leaves no gate open or unstable
 pub record IsFaultlessScript (netlist : Netlist) (text : List ℕ) : Type 0 where
-  pub faultless : script.IsFaultless netlist text
+  pub faultless : script.IsScriptFaultless netlist text
   pub completable : (value : ScriptOf) → IsValue netlist text value → IsCompletable netlist value.start
 
 -- the runs of a text are accepted, and the status is Done, or some run is refused, and the status is No
@@ -43,7 +43,7 @@ IsFaultlessText Convert netlist text own = IsRunFaultless netlist text × (own �
 
 -- Nothing is to be refused in a task on two files, and it ends with this status: no count of the files rises, the files are
 -- told, the first text is that of a circuit, and of the second nothing is to be refused on it.
-pub record AreFaultlessFiles (told : Told) (task : Task) (first second : List ℕ) (own : Status) : Type 0 where
+pub record AreFaultlessFiles (told : Observation) (task : Task) (first second : List ℕ) (own : Status) : Type 0 where
   pub bytes_of : List ℕ → List ℕ
   pub is_told : told.held ≡ Some bytes_of
   pub none_failed : (place : Place) → ¬ Rose (told.faults place) (told.faults_after place)
@@ -53,6 +53,6 @@ pub record AreFaultlessFiles (told : Told) (task : Task) (first second : List �
   pub text : IsFaultlessText task netlist (bytes_of second) own
 
 -- nothing is to be refused in the job, and it ends with this status
-abbrev pub IsFaultlessJob : Told → JobOf → Status → Type 0
+abbrev pub IsFaultlessJob : Observation → JobOf → Status → Type 0
 IsFaultlessJob told (OnFiles task first second) own = AreFaultlessFiles told task first second own
 IsFaultlessJob told (Demo number cap) own = own ≡ Done

@@ -4,7 +4,7 @@
 -- one round more than there are variables. Every X comes with printed runs that show both values, and that `replay` accepts.
 use Rattle.std.specs.Prelude.{◌≡◌, ◌≢◌, ℕ, zero, suc, ◌+◌, ◌<◌, ◌≤◌, Bool, List, ◌++◌, length, take, map, Contains, Option, Some, slice_get}
 use Rattle.hz_outside.specs.Counts.{Rose}
-use Rattle.hz_outside.specs.Written.{grown}
+use Rattle.hz_outside.specs.WrittenText.{extended_text}
 use Rattle.hz_core.specs.Netlist.{Netlist}
 use Rattle.hz_net.specs.Network.{Driver, network_of, bit_at, value_at}
 use Rattle.hz_net.specs.Passes.{algorithm_a, algorithm_b, IsUnknown, AreRounds}
@@ -24,7 +24,7 @@ use Rattle.hz_words.specs.Job.{JobOf, OnFiles}
 use Rattle.hz_top.specs.declared.status.Status.{Status}
 use Rattle.hz_top.specs.declared.status.Status.TheVariants.{Done, Memory}
 use Rattle.hz_top.specs.Faultless.{AreFaultlessFiles}
-use Rattle.hz_top.specs.Outcome.{Told, IsNetlistText}
+use Rattle.hz_top.specs.Outcome.{Observation, IsNetlistText}
 use Rattle.hz_top.specs.Reports.{AnalysisReplays, analyses_text}
 
 -- variable i takes both values in states
@@ -87,9 +87,9 @@ pub record IsExactReport (show : Show) (netlist_text script_text report : List �
 
 -- The headline of a call that is asked to analyse: if the netlist is accepted, the script has no fault and its start is stable, no
 -- load and no put fails and memory suffices, the call is done, and the text that it wrote is such a report.
-abbrev pub Headline : {S : Type 0} → (S → Option (List ℕ)) → (S → ℕ) → Told → Option JobOf → S → S → Status → Type 0
+abbrev pub Headline : {S : Type 0} → (S → Option (List ℕ)) → (S → ℕ) → Observation → Option JobOf → S → S → Status → Type 0
 Headline written faults told asked was now result =
     (cap : ℕ) (show : Show) (first second : List ℕ) → asked ≡ Some (OnFiles (Analyse cap show) first second)
     → (good : AreFaultlessFiles told (Analyse cap show) first second Done) → ¬ Rose (faults was) (faults now) → result ≢ Memory
-    → (result ≡ Done) × ((report : List ℕ) × (written now ≡ grown (written was) report)
+    → (result ≡ Done) × ((report : List ℕ) × (written now ≡ extended_text (written was) report)
     × IsExactReport show (good.bytes_of first) (good.bytes_of second) report)

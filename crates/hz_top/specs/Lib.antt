@@ -2,33 +2,33 @@
 --
 -- code_of status: the exit status
 -- Answers written faults comes was now status: a text that comes with this status was written, or a prefix of one
--- WroteWhole, WroteFront: the two cases
--- Told: what the files show: the bytes under each name, and what was counted
--- JobComes told job status text: the outcomes of a job: which text comes with which status
--- FilesCome, FirstTextComes, SecondComes: the outcomes of its two files, one after the other
--- TaskComes task netlist text status line: the outcomes of the second text
+-- WroteWhole, WrotePrefix: the two cases
+-- Observation: what the files show: the bytes under each name, and what was counted
+-- IsJobOutcome told job status text: the outcomes of a job: which text comes with which status
+-- IsFilesOutcome, IsFirstTextOutcome, IsSecondFileOutcome: the outcomes of its two files, one after the other
+-- IsTaskOutcome task netlist text status line: the outcomes of the second text
 -- netlist_fault_line fault, text_fault_line name netlist fault: the lines of refusals
--- ScriptComes cap show netlist script status text: the outcomes of a script
+-- IsScriptOutcome cap show netlist script status text: the outcomes of a script
 -- IsReport netlist cap show start changes text: the report of its changes: every finding in it is right
 -- analysis_text netlist show number change analysis: the lines of one change
--- DemoComes number cap status text: the outcomes of a demo
--- RunTextComes judge netlist text status line: the outcomes of a run text
--- ReplayComes netlist runs status line: the verdict on it
+-- IsDemoOutcome number cap status text: the outcomes of a demo
+-- IsRunTextOutcome judge netlist text status line: the outcomes of a run text
+-- IsReplayOutcome netlist runs status line: the verdict on it
 -- IsAcceptedRun net input start run: the lead is a run, and the cycle a nontransient cycle
 -- IsFirstRefusal net input start runs number refused: the first run that is refused, and why
 -- accepted_line runs, no_line netlist number refused: the lines of the verdict
--- ConvertComes netlist runs status text: the conversion
+-- IsConvertOutcome netlist runs status text: the conversion
 -- IsFaultlessJob told job status: nothing is to be refused in the job, which ends with this status
 -- Headline written faults told asked was now status: the headline of a call
 -- IsExactReport show netlist_text script_text report: the headline of a report
 -- IsExact netlist input start finding: the headline of one change
--- MadeSteps was now steps: what the code's replay does in terms of a replayer's state
+-- MakesSteps was now steps: what the code's replay does in terms of a replayer's state
 
 pub mod Ending
 pub mod Answer
 pub mod Refusal
 pub mod Replaying
-pub mod Made
+pub mod ReplayerSteps
 pub mod Verdict
 pub mod RunTexts
 pub mod Reports

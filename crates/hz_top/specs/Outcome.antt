@@ -12,7 +12,7 @@ use Rattle.hz_pass.specs.declared.completed_start.StartFault.TheVariants as star
 use Rattle.hz_bench.specs.declared.fault.BenchFault.{BenchFault}
 use Rattle.hz_bench.specs.declared.fault.BenchFault.TheVariants as bench
 use Rattle.hz_bench.specs.Fault.{IsLeastFault, IsFaultless}
-use Rattle.hz_bench.specs.Netlist.{netlist_of}
+use Rattle.hz_bench.specs.Netlist.{circuit_of_statements}
 use Rattle.hz_bench.specs.Text.{statements_of}
 use Rattle.hz_text.specs.declared.fault.TextFault.{TextFault}
 use Rattle.hz_text.specs.declared.fault.TextFault.TheVariants as reading
@@ -21,10 +21,10 @@ use Rattle.hz_text.specs.ScriptText.{IsValue}
 use Rattle.hz_text.specs.ScriptValue.{ScriptOf}
 use Rattle.hz_top.specs.declared.status.Status.{Status}
 use Rattle.hz_top.specs.declared.status.Status.TheVariants as status
-use Rattle.hz_top.specs.Answer.{Says}
+use Rattle.hz_top.specs.Answer.{Prints}
 use Rattle.hz_top.specs.Reports.{Reports}
-use Rattle.hz_top.specs.Verdict.{ReplayComes}
-use Rattle.hz_top.specs.RunTexts.{RunTextComes, ConvertComes}
+use Rattle.hz_top.specs.Verdict.{IsReplayOutcome}
+use Rattle.hz_top.specs.RunTexts.{IsRunTextOutcome, IsConvertOutcome}
 use Rattle.hz_seq.specs.Analyses.{Found, AreAnalyses}
 use Rattle.hz_desk.specs.Finding.{FindingOf}
 use Rattle.hz_gen.specs.Demo.{demo_netlist, demo_script}
@@ -46,8 +46,8 @@ StartRefused netlist listed text =
     ⊎ ((gate : ℕ) × IsLeastUnstable netlist listed gate × (text ≡ unstable_line netlist gate))
 
 -- what a script without a fault comes to
-abbrev pub ScriptComes : ℕ → Show → Netlist → ScriptOf → Status → List ℕ → Type 0
-ScriptComes cap show netlist script own text =
+abbrev pub IsScriptOutcome : ℕ → Show → Netlist → ScriptOf → Status → List ℕ → Type 0
+IsScriptOutcome cap show netlist script own text =
     ((own ≡ status.Start) × StartRefused netlist script.start text)
     ⊎ ((start : List Bool) × IsAcceptedStart netlist script.start start × Reports netlist cap show start script.changes own text)
 
@@ -57,26 +57,26 @@ Summarises netlist cap start changes text =
     (finding : FindingOf) × AreAnalyses netlist cap start changes (Found finding ∷ []) × (text ≡ summary_text netlist finding)
 
 -- the job is done with this summary
-abbrev pub SummaryComes : Netlist → ℕ → List Bool → List (List (ℕ × Bool)) → Status → List ℕ → Type 0
-SummaryComes netlist cap start changes own text = (own ≡ status.Done) × Summarises netlist cap start changes text
+abbrev pub IsSummaryOutcome : Netlist → ℕ → List Bool → List (List (ℕ × Bool)) → Status → List ℕ → Type 0
+IsSummaryOutcome netlist cap start changes own text = (own ≡ status.Done) × Summarises netlist cap start changes text
 
 -- what the circuit and the script of a number come to
-abbrev pub DemoComes : ℕ → ℕ → Status → List ℕ → Type 0
-DemoComes number cap own text =
+abbrev pub IsDemoOutcome : ℕ → ℕ → Status → List ℕ → Type 0
+IsDemoOutcome number cap own text =
     (start : List Bool) × IsAcceptedStart (demo_netlist number) (demo_script number).start start
-    × SummaryComes (demo_netlist number) cap start (demo_script number).changes own text
+    × IsSummaryOutcome (demo_netlist number) cap start (demo_script number).changes own text
 
 -- what the text of a script comes to, on a circuit, if the judge says what a script comes to
-abbrev pub ScriptTextComes : (judge : Netlist → ScriptOf → Status → List ℕ → Type 0) → Netlist → List ℕ → Status → List ℕ → Type 0
-ScriptTextComes judge netlist bytes own text =
-    ((fault : TextFault) × script.IsLeastFault netlist bytes fault × Says status.Text (text_fault_line (codes "script") netlist fault) own text)
-    ⊎ ((value : ScriptOf) × script.IsFaultless netlist bytes × IsValue netlist bytes value × judge netlist value own text)
+abbrev pub IsScriptTextOutcome : (judge : Netlist → ScriptOf → Status → List ℕ → Type 0) → Netlist → List ℕ → Status → List ℕ → Type 0
+IsScriptTextOutcome judge netlist bytes own text =
+    ((fault : TextFault) × script.IsLeastScriptFault netlist bytes fault × Prints status.Text (text_fault_line (codes "script") netlist fault) own text)
+    ⊎ ((value : ScriptOf) × script.IsScriptFaultless netlist bytes × IsValue netlist bytes value × judge netlist value own text)
 
 -- what the second text comes to, by the task
-abbrev pub TaskComes : Task → Netlist → List ℕ → Status → List ℕ → Type 0
-TaskComes (Analyse cap show) = ScriptTextComes (ScriptComes cap show)
-TaskComes Replay = RunTextComes ReplayComes
-TaskComes Convert = RunTextComes ConvertComes
+abbrev pub IsTaskOutcome : Task → Netlist → List ℕ → Status → List ℕ → Type 0
+IsTaskOutcome (Analyse cap show) = IsScriptTextOutcome (IsScriptOutcome cap show)
+IsTaskOutcome Replay = IsRunTextOutcome IsReplayOutcome
+IsTaskOutcome Convert = IsRunTextOutcome IsConvertOutcome
 
 -- the first text is refused with this line
 abbrev pub NetlistRefused : List ℕ → List ℕ → Type 0
@@ -84,11 +84,11 @@ NetlistRefused bytes line = (fault : BenchFault) × IsLeastFault bytes fault × 
 
 -- the first text is that of this circuit
 abbrev pub IsNetlistText : List ℕ → Netlist → Type 0
-IsNetlistText bytes netlist = IsFaultless bytes × (netlist ≡ netlist_of (statements_of bytes))
+IsNetlistText bytes netlist = IsFaultless bytes × (netlist ≡ circuit_of_statements (statements_of bytes))
 
 -- what files tell and count: the bytes under each name where they are told, and the counts of loads that failed and of
 -- files that were too long, before the call and after it
-pub record Told : Type 0 where
+pub record Observation : Type 0 where
   pub held : Option (List ℕ → List ℕ)
   pub faults : Place → ℕ
   pub faults_after : Place → ℕ
@@ -96,69 +96,69 @@ pub record Told : Type 0 where
   pub longs_after : Place → ℕ
 
 -- the counts of a place stay, as where its file is not asked for
-abbrev pub CountsStay : Told → Place → Type 0
+abbrev pub CountsStay : Observation → Place → Type 0
 CountsStay told place = (told.faults_after place ≡ told.faults place) × (told.longs_after place ≡ told.longs place)
 
 -- the file at a place was not read, or was too long: its count shows it
-abbrev pub Unread : Told → Place → List ℕ → Status → List ℕ → Type 0
-Unread told place name own text =
-    (Rose (told.faults place) (told.faults_after place) × Says status.File (unread_line place) own text)
+abbrev pub FileRefused : Observation → Place → List ℕ → Status → List ℕ → Type 0
+FileRefused told place name own text =
+    (Rose (told.faults place) (told.faults_after place) × Prints status.File (unread_line place) own text)
     ⊎ (Rose (told.longs place) (told.longs_after place)
-    × IfSome told.held (λ bytes_of. most_bytes < length (bytes_of name)) × Says status.TooLong (long_line place) own text)
+    × IfSome told.held (λ bytes_of. most_bytes < length (bytes_of name)) × Prints status.TooLong (long_line place) own text)
 
 -- what the files tell and count before a call and after it
-abbrev pub told_by : {S : Type 0} → (S → Option (List ℕ → List ℕ)) → (S → Place → ℕ) → (S → Place → ℕ) → S → S → Told
-told_by held faults longs was now =
+abbrev pub observation_of : {S : Type 0} → (S → Option (List ℕ → List ℕ)) → (S → Place → ℕ) → (S → Place → ℕ) → S → S → Observation
+observation_of held faults longs was now =
     record { held = held was; faults = faults was; faults_after = faults now; longs = longs was; longs_after = longs now }
 
 -- what is written of a load that gave no file: for want of memory nothing
-abbrev pub LoadSays : Place → LoadFault → Status → List ℕ → Type 0
-LoadSays place load.Failed own text = Says status.File (unread_line place) own text
-LoadSays place load.TooLong own text = Says status.TooLong (long_line place) own text
-LoadSays place load.Memory own text = ⊥
+abbrev pub LoadPrints : Place → LoadFault → Status → List ℕ → Type 0
+LoadPrints place load.Failed own text = Prints status.File (unread_line place) own text
+LoadPrints place load.TooLong own text = Prints status.TooLong (long_line place) own text
+LoadPrints place load.Memory own text = ⊥
 
 -- what is written of a fault of a netlist's text: for want of memory nothing
-abbrev pub NetlistSays : BenchFault → Status → List ℕ → Type 0
-NetlistSays fault own text = (fault ≢ bench.Memory) × Says status.Netlist (netlist_fault_line fault) own text
+abbrev pub NetlistPrints : BenchFault → Status → List ℕ → Type 0
+NetlistPrints fault own text = (fault ≢ bench.Memory) × Prints status.Netlist (netlist_fault_line fault) own text
 
 -- what is written of a fault of a text that is called so: for want of memory nothing
-abbrev pub TextSays : List ℕ → Netlist → TextFault → Status → List ℕ → Type 0
-TextSays called netlist fault own text = (fault ≢ reading.Memory) × Says status.Text (text_fault_line called netlist fault) own text
+abbrev pub TextPrints : List ℕ → Netlist → TextFault → Status → List ℕ → Type 0
+TextPrints called netlist fault own text = (fault ≢ reading.Memory) × Prints status.Text (text_fault_line called netlist fault) own text
 
 -- what is written of a start that can't be completed: for want of memory nothing
-abbrev pub StartSays : Netlist → StartFault → Status → List ℕ → Type 0
-StartSays netlist (start.Open gate) own text = Says status.Start (open_line netlist gate) own text
-StartSays netlist (start.Unstable gate) own text = Says status.Start (unstable_line netlist gate) own text
-StartSays netlist start.Memory own text = ⊥
+abbrev pub StartPrints : Netlist → StartFault → Status → List ℕ → Type 0
+StartPrints netlist (start.Open gate) own text = Prints status.Start (open_line netlist gate) own text
+StartPrints netlist (start.Unstable gate) own text = Prints status.Start (unstable_line netlist gate) own text
+StartPrints netlist start.Memory own text = ⊥
 
 -- the bytes are those of the file, where they are told, and not too many
-abbrev pub IsFile : Told → List ℕ → List ℕ → Type 0
-IsFile told name bytes = IfSome told.held (λ bytes_of. bytes ≡ bytes_of name) × (length bytes ≤ most_bytes)
+abbrev pub IsFileContents : Observation → List ℕ → List ℕ → Type 0
+IsFileContents told name bytes = IfSome told.held (λ bytes_of. bytes ≡ bytes_of name) × (length bytes ≤ most_bytes)
 
 -- what the second file comes to, if this comes of its text
-abbrev pub SecondComes : Told → (List ℕ → Status → List ℕ → Type 0) → List ℕ → Status → List ℕ → Type 0
-SecondComes told comes name own text =
-    Unread told Second name own text
-    ⊎ ((bytes : List ℕ) × IsFile told name bytes × comes bytes own text)
+abbrev pub IsSecondFileOutcome : Observation → (List ℕ → Status → List ℕ → Type 0) → List ℕ → Status → List ℕ → Type 0
+IsSecondFileOutcome told comes name own text =
+    FileRefused told Second name own text
+    ⊎ ((bytes : List ℕ) × IsFileContents told name bytes × comes bytes own text)
 
 -- what the first text comes to, and then the second file, which is not asked for if the first text is refused
-abbrev pub FirstTextComes : Told → (Netlist → List ℕ → Status → List ℕ → Type 0) → List ℕ → List ℕ → Status → List ℕ → Type 0
-FirstTextComes told comes bytes second own text =
-    ((line : List ℕ) × NetlistRefused bytes line × CountsStay told Second × Says status.Netlist line own text)
-    ⊎ ((netlist : Netlist) × IsNetlistText bytes netlist × SecondComes told (comes netlist) second own text)
+abbrev pub IsFirstTextOutcome : Observation → (Netlist → List ℕ → Status → List ℕ → Type 0) → List ℕ → List ℕ → Status → List ℕ → Type 0
+IsFirstTextOutcome told comes bytes second own text =
+    ((line : List ℕ) × NetlistRefused bytes line × CountsStay told Second × Prints status.Netlist line own text)
+    ⊎ ((netlist : Netlist) × IsNetlistText bytes netlist × IsSecondFileOutcome told (comes netlist) second own text)
 
 -- what the two files come to: the second is not asked for if the first is not read
-abbrev pub FilesCome : Told → (Netlist → List ℕ → Status → List ℕ → Type 0) → List ℕ → List ℕ → Status → List ℕ → Type 0
-FilesCome told comes first second own text =
-    (CountsStay told Second × Unread told First first own text)
-    ⊎ ((bytes : List ℕ) × IsFile told first bytes × FirstTextComes told comes bytes second own text)
+abbrev pub IsFilesOutcome : Observation → (Netlist → List ℕ → Status → List ℕ → Type 0) → List ℕ → List ℕ → Status → List ℕ → Type 0
+IsFilesOutcome told comes first second own text =
+    (CountsStay told Second × FileRefused told First first own text)
+    ⊎ ((bytes : List ℕ) × IsFileContents told first bytes × IsFirstTextOutcome told comes bytes second own text)
 
 -- What a job comes to. Without a job the words are refused. No file is loaded for them, nor for a demo.
-abbrev pub JobComes : Told → Option JobOf → Status → List ℕ → Type 0
-JobComes told None own text =
-    ((place : Place) → CountsStay told place) × Says status.Words words_line own text
-JobComes told (Some (OnFiles task first second)) own text = FilesCome told (TaskComes task) first second own text
-JobComes told (Some (Demo number cap)) own text = ((place : Place) → CountsStay told place) × DemoComes number cap own text
+abbrev pub IsJobOutcome : Observation → Option JobOf → Status → List ℕ → Type 0
+IsJobOutcome told None own text =
+    ((place : Place) → CountsStay told place) × Prints status.Words words_line own text
+IsJobOutcome told (Some (OnFiles task first second)) own text = IsFilesOutcome told (IsTaskOutcome task) first second own text
+IsJobOutcome told (Some (Demo number cap)) own text = ((place : Place) → CountsStay told place) × IsDemoOutcome number cap own text
 
 -- the loads that a job may make: each of its two files at its place, with the limit
 abbrev pub MayLoad : (Place → List ℕ → ℕ → Type 0) → Option JobOf → Type 0

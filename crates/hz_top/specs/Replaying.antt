@@ -2,7 +2,7 @@
 use Rattle.std.specs.Prelude.{◌≡◌, ℕ, ◌+◌, Bool, List, [], ◌∷◌, ◌++◌, length, All, Some, None, IfSome, is_some, count_by}
 use Rattle.hz_core.specs.Netlist.{Netlist}
 use Rattle.hz_net.specs.Network.{Driver, network_of}
-use Rattle.hz_net.specs.Variables.{expanded}
+use Rattle.hz_net.specs.Variables.{expansion_of}
 use Rattle.hz_gmw.specs.Runs.{IsRun, end_of}
 use Rattle.hz_gmw.specs.Cycles.{IsNontransient}
 use Rattle.hz_gmw.specs.ReplayFaults.{IsStepFault, IsCycleFault}
@@ -21,12 +21,12 @@ abbrev pub steps_of : RunOf → List (List ℕ)
 steps_of run = run.lead ++ cycle_steps run.cycle
 
 -- how many steps all runs have
-abbrev pub step_count : List RunOf → ℕ
-step_count runs = length (all_steps runs)
+abbrev pub total_steps : List RunOf → ℕ
+total_steps runs = length (all_steps runs)
 
 -- how many runs have a cycle
-abbrev pub cycle_count : List RunOf → ℕ
-cycle_count runs = count_by (λ run. is_some run.cycle) runs
+abbrev pub total_cycles : List RunOf → ℕ
+total_cycles runs = count_by (λ run. is_some run.cycle) runs
 
 -- A run is accepted: its lead is a run from the start, and its cycle, if it has one, is a nontransient cycle from the state
 -- in which the lead ends.
@@ -70,7 +70,7 @@ pub record IsFirstRefusal (net : List Driver) (input start : List Bool) (runs : 
 
 -- the state in which each run of a text begins: each node has its bit, each wire its source's
 abbrev pub start_of : Netlist → RunTextOf → List Bool
-start_of netlist text = expanded netlist text.nodes
+start_of netlist text = expansion_of netlist text.nodes
 
 -- each run of a text is accepted
 abbrev pub AreAccepted : Netlist → RunTextOf → Type 0

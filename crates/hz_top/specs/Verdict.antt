@@ -14,8 +14,8 @@ use Rattle.hz_top.specs.declared.status.Status.{Status}
 use Rattle.hz_top.specs.declared.status.Status.TheVariants as status
 use Rattle.hz_top.specs.declared.replaying.Refused.{Refused}
 use Rattle.hz_top.specs.declared.replaying.Refused.TheVariants as refused
-use Rattle.hz_top.specs.Answer.{Says}
-use Rattle.hz_top.specs.Replaying.{step_count, cycle_count, AreAccepted, IsRefusalOfText}
+use Rattle.hz_top.specs.Answer.{Prints}
+use Rattle.hz_top.specs.Replaying.{total_steps, total_cycles, AreAccepted, IsRefusalOfText}
 
 -- how many runs there are, and how many steps and cycles they have
 unfoldable pub yes_line : ℕ → ℕ → ℕ → List ℕ
@@ -78,10 +78,10 @@ NamesVariable netlist named = IfSome named (λ var. var < length (network_of net
 
 -- the line of runs that are accepted
 abbrev pub accepted_line : List RunOf → List ℕ
-accepted_line runs = yes_line (length runs) (step_count runs) (cycle_count runs)
+accepted_line runs = yes_line (length runs) (total_steps runs) (total_cycles runs)
 
 -- what the replay of a run text comes to
-abbrev pub ReplayComes : Netlist → RunTextOf → Status → List ℕ → Type 0
-ReplayComes netlist runs own text =
-    (AreAccepted netlist runs × Says status.Done (accepted_line runs.runs) own text)
-    ⊎ ((number : ℕ) × (why : Refused) × IsRefusalOfText netlist runs number why × Says status.No (no_line netlist number why) own text)
+abbrev pub IsReplayOutcome : Netlist → RunTextOf → Status → List ℕ → Type 0
+IsReplayOutcome netlist runs own text =
+    (AreAccepted netlist runs × Prints status.Done (accepted_line runs.runs) own text)
+    ⊎ ((number : ℕ) × (why : Refused) × IsRefusalOfText netlist runs number why × Prints status.No (no_line netlist number why) own text)

@@ -4,7 +4,7 @@ ghost use Rattle.hz_core.specs.Netlist.{IsCircuit};
 ghost use Rattle.hz_text.specs.ScriptText.{IsScriptFor};
 ghost use Rattle.hz_words.specs.Values.{IsCap};
 ghost use Rattle.hz_top.specs.Answer.{Answers};
-ghost use Rattle.hz_top.specs.Outcome.{most_bytes, ScriptTextComes, ScriptComes};
+ghost use Rattle.hz_top.specs.Outcome.{most_bytes, IsScriptTextOutcome, IsScriptOutcome};
 
 use crate::refusal::{refuse_start, refuse_text};
 use crate::reporting::report;
@@ -27,7 +27,7 @@ pub(crate) fn analyse_text<K: Sink>(
 ) -> Status
     requires cap { IsCap cap }
     requires text { length text.now ≤ most_bytes }
-    ensures { Answers K.written K.faults (ScriptTextComes (ScriptComes cap show) net.now text.now) out.old out.new result }
+    ensures { Answers K.written K.faults (IsScriptTextOutcome (IsScriptOutcome cap show) net.now text.now) out.old out.new result }
 {
     let circuit = net.circuit();
     match read_script(alloc, circuit, text) {
@@ -48,7 +48,7 @@ fn analyse_script<K: Sink>(
     requires circuit { IsCircuit net.now }
     requires cap { IsCap cap }
     requires script { IsScriptFor net.now script.now }
-    ensures { Answers K.written K.faults (ScriptComes cap show net.now script.now) out.old out.new result }
+    ensures { Answers K.written K.faults (IsScriptOutcome cap show net.now script.now) out.old out.new result }
 {
     match complete(alloc, net, script.start()) {
         Ok(start) => report(alloc, net, script, start.as_slice(), cap, show, out),

@@ -3,7 +3,7 @@ ghost use Rattle.std.specs.Prelude.{◌≤◌, length};
 ghost use Rattle.hz_text.specs.RunText.{IsRunTextFor};
 ghost use Rattle.hz_top.specs.Answer.{Answers};
 ghost use Rattle.hz_top.specs.Outcome.{most_bytes};
-ghost use Rattle.hz_top.specs.RunTexts.{RunTextComes, ConvertComes};
+ghost use Rattle.hz_top.specs.RunTexts.{IsRunTextOutcome, IsConvertOutcome};
 
 use crate::refusal::refuse_text;
 use crate::status::{Status, status_after};
@@ -15,7 +15,7 @@ use std::alloc::Global;
 // Writes the run text of a text anew. Its runs are not replayed.
 pub(crate) fn convert_text<K: Sink>(alloc: Global, net: &Net, text: &[u8], out: &mut K) -> Status
     requires { length text.now ≤ most_bytes }
-    ensures { Answers K.written K.faults (RunTextComes ConvertComes net.now text.now) out.old out.new result }
+    ensures { Answers K.written K.faults (IsRunTextOutcome IsConvertOutcome net.now text.now) out.old out.new result }
 {
     match read_run(alloc, net, text) {
         Ok(runs) => convert(net, &runs, out),
@@ -26,7 +26,7 @@ pub(crate) fn convert_text<K: Sink>(alloc: Global, net: &Net, text: &[u8], out: 
 // Writes a run text.
 fn convert<K: Sink>(net: &Net, runs: &RunText, out: &mut K) -> Status
     requires { IsRunTextFor net.now runs.now }
-    ensures { Answers K.written K.faults (ConvertComes net.now runs.now) out.old out.new result }
+    ensures { Answers K.written K.faults (IsConvertOutcome net.now runs.now) out.old out.new result }
 {
     status_after(write_run_text(out, net, runs), Status::Done)
 }

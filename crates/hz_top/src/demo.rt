@@ -9,7 +9,7 @@ ghost use Rattle.hz_text.specs.ScriptText.{IsScriptFor};
 ghost use Rattle.hz_words.specs.Values.{IsCap};
 ghost use Rattle.hz_write.specs.Writes.{Wrote};
 ghost use Rattle.hz_top.specs.Answer.{Answers};
-ghost use Rattle.hz_top.specs.Outcome.{DemoComes, SummaryComes};
+ghost use Rattle.hz_top.specs.Outcome.{IsDemoOutcome, IsSummaryOutcome};
 
 use crate::refusal::refuse_start;
 use crate::status::{Status, status_after};
@@ -28,7 +28,7 @@ use std::alloc::Global;
 pub(crate) fn demo<K: Sink>(alloc: Global, number: u32, cap: u64, out: &mut K) -> Status
     requires number { IsDemoNumber number }
     requires cap { IsCap cap }
-    ensures { Answers K.written K.faults (DemoComes number cap) out.old out.new result }
+    ensures { Answers K.written K.faults (IsDemoOutcome number cap) out.old out.new result }
 {
     // The law tells that no start is refused.
     demo_starts();
@@ -58,7 +58,7 @@ fn summarise<K: Sink>(
     requires one { length script.now.changes ≡ 1 }
     requires start { IsStableStart net.now start.now }
     requires cap { IsCap cap }
-    ensures { Answers K.written K.faults (SummaryComes net.now cap start.now script.now.changes) out.old out.new result }
+    ensures { Answers K.written K.faults (IsSummaryOutcome net.now cap start.now script.now.changes) out.old out.new result }
 {
     let Ok(desk) = Desk::new(alloc, net) else {
         return Status::Memory;

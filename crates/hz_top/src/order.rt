@@ -3,7 +3,7 @@ ghost use Rattle.std.specs.Prelude.{◌≡◌, ◌≤◌, length};
 ghost use Rattle.hz_outside.specs.declared.fault.Place.TheVariants.{First, Second};
 ghost use Rattle.hz_words.specs.Job.{HasCap};
 ghost use Rattle.hz_top.specs.Answer.{Answers};
-ghost use Rattle.hz_top.specs.Outcome.{most_bytes, told_by, TaskComes, FilesCome, SecondComes};
+ghost use Rattle.hz_top.specs.Outcome.{most_bytes, observation_of, IsTaskOutcome, IsFilesOutcome, IsSecondFileOutcome};
 
 use crate::analysis::analyse_text;
 use crate::converting::convert_text;
@@ -31,7 +31,7 @@ pub(crate) fn work_on_files<F: Files, K: Sink>(
     requires first { F.granted files.old First first.now most_bytes }
     requires second { F.granted files.old Second second.now most_bytes }
     ensures { Answers K.written K.faults
-        (FilesCome (told_by F.held F.faults F.longs files.old files.new) (TaskComes task) first.now second.now)
+        (IsFilesOutcome (observation_of F.held F.faults F.longs files.old files.new) (IsTaskOutcome task) first.now second.now)
         out.old out.new result }
 {
     // The bytes of the first file are freed before the second is loaded.
@@ -63,7 +63,7 @@ fn work_on_second<F: Files, K: Sink>(
     requires cap { HasCap task }
     requires second { F.granted files.old Second second.now most_bytes }
     ensures { Answers K.written K.faults
-        (SecondComes (told_by F.held F.faults F.longs files.old files.new) (TaskComes task net.now) second.now) out.old out.new result }
+        (IsSecondFileOutcome (observation_of F.held F.faults F.longs files.old files.new) (IsTaskOutcome task net.now) second.now) out.old out.new result }
 {
     match files.load(alloc, Place::Second, second, MAX_BYTES) {
         Ok(text) => work_on_text(alloc, net, task, text.as_slice(), out),
@@ -75,7 +75,7 @@ fn work_on_second<F: Files, K: Sink>(
 fn work_on_text<K: Sink>(alloc: Global, net: &Net, task: Task, text: &[u8], out: &mut K) -> Status
     requires cap { HasCap task }
     requires text { length text.now ≤ most_bytes }
-    ensures { Answers K.written K.faults (TaskComes task net.now text.now) out.old out.new result }
+    ensures { Answers K.written K.faults (IsTaskOutcome task net.now text.now) out.old out.new result }
 {
     match task {
         Task::Analyse { cap, show } => analyse_text(alloc, net, cap, show, text, out),

@@ -1,7 +1,7 @@
 //! A law on the runs that are printed: they replay.
 ghost use Rattle.std.specs.Prelude.{◌≡◌, ◌≤◌, length};
 ghost use Rattle.hz_core.specs.Netlist.{Netlist, IsCircuit};
-ghost use Rattle.hz_gmw.specs.Recorded.{flip_count};
+ghost use Rattle.hz_gmw.specs.RunRecord.{flip_count};
 ghost use Rattle.hz_text.specs.RunPrinted.{run_text_printed};
 ghost use Rattle.hz_text.specs.RunValue.{RunTextOf, all_steps};
 ghost use Rattle.hz_top.specs.Replaying.{AreAccepted};

@@ -2,7 +2,7 @@
 ghost use Rattle.std.specs.Prelude.{◌≡◌, ◌<◌, length};
 ghost use Rattle.hz_write.specs.Writes.{Wrote};
 ghost use Rattle.hz_top.specs.Answer.{Answers};
-ghost use Rattle.hz_top.specs.Outcome.{LoadSays, NetlistSays, StartSays, TextSays};
+ghost use Rattle.hz_top.specs.Outcome.{LoadPrints, NetlistPrints, StartPrints, TextPrints};
 ghost use Rattle.hz_top.specs.Refusal.{words_line, unread_line, long_line, place_word, fault_line, counted_line, variables_line, missing_line, mismatch_line, netlist_fault_line, text_fault_line, named_node, named_gate, NamesNode, open_line, unstable_line};
 
 use crate::status::{Status, status_after};
@@ -229,7 +229,7 @@ fn put_unstable<K: Sink>(out: &mut K, circuit: &Circuit, gate: u32) -> Result<()
 
 // Writes why a file was not loaded.
 pub(crate) fn refuse_load<K: Sink>(out: &mut K, place: Place, fault: LoadFault) -> Status
-    ensures { Answers K.written K.faults (LoadSays place fault) out.old out.new result }
+    ensures { Answers K.written K.faults (LoadPrints place fault) out.old out.new result }
 {
     match fault {
         LoadFault::Failed => status_after(put_unread(out, place), Status::File),
@@ -240,7 +240,7 @@ pub(crate) fn refuse_load<K: Sink>(out: &mut K, place: Place, fault: LoadFault) 
 
 // Writes why a text is no netlist.
 pub(crate) fn refuse_netlist<K: Sink>(out: &mut K, fault: BenchFault) -> Status
-    ensures { Answers K.written K.faults (NetlistSays fault) out.old out.new result }
+    ensures { Answers K.written K.faults (NetlistPrints fault) out.old out.new result }
 {
     match fault {
         BenchFault::Memory => Status::Memory,
@@ -256,7 +256,7 @@ pub(crate) fn refuse_text<K: Sink>(
     fault: TextFault,
 ) -> Status
     requires { NamesNode circuit.now (named_node fault) }
-    ensures { Answers K.written K.faults (TextSays called.now circuit.now fault) out.old out.new result }
+    ensures { Answers K.written K.faults (TextPrints called.now circuit.now fault) out.old out.new result }
 {
     match fault {
         TextFault::Memory => Status::Memory,
@@ -267,7 +267,7 @@ pub(crate) fn refuse_text<K: Sink>(
 // Writes why listed values give no start.
 pub(crate) fn refuse_start<K: Sink>(out: &mut K, circuit: &Circuit, fault: StartFault) -> Status
     requires { NamesNode circuit.now (named_gate fault) }
-    ensures { Answers K.written K.faults (StartSays circuit.now fault) out.old out.new result }
+    ensures { Answers K.written K.faults (StartPrints circuit.now fault) out.old out.new result }
 {
     match fault {
         StartFault::Open { gate } => status_after(put_open(out, circuit, gate), Status::Start),

@@ -2,15 +2,15 @@
 ghost use Rattle.std.specs.Prelude.{◌≡◌, ◌+◌, ◌≤◌, length, All, IfOk, MatchResult};
 ghost use Rattle.std.specs.Option.{option_map};
 ghost use Rattle.hz_net.specs.Network.{network_of};
-ghost use Rattle.hz_net.specs.Variables.{expanded};
+ghost use Rattle.hz_net.specs.Variables.{expansion_of};
 ghost use Rattle.hz_gmw.specs.Cycles.{IsNontransient};
 ghost use Rattle.hz_text.specs.RunText.{IsRunTextFor};
 ghost use Rattle.hz_top.specs.Answer.{Answers};
 ghost use Rattle.hz_top.specs.Outcome.{most_bytes};
-ghost use Rattle.hz_top.specs.RunTexts.{RunTextComes};
+ghost use Rattle.hz_top.specs.RunTexts.{IsRunTextOutcome};
 ghost use Rattle.hz_top.specs.Replaying.{steps_of, IsAcceptedRun, IsRefusedRun, IsRefusedStep, IsFirstRefusal};
-ghost use Rattle.hz_top.specs.Made.{AreVariables, run_of, KeepsBegin, MadeSteps, IsRefusedBehind};
-ghost use Rattle.hz_top.specs.Verdict.{ReplayComes};
+ghost use Rattle.hz_top.specs.ReplayerSteps.{AreVariables, run_of, KeepsInitialState, MakesSteps, IsRefusedFrom};
+ghost use Rattle.hz_top.specs.Verdict.{IsReplayOutcome};
 
 use crate::refusal::refuse_text;
 use crate::status::{Status, status_after};
@@ -47,7 +47,7 @@ pub(crate) struct FirstRefusal {
 // Replays the runs of a text on a network.
 pub(crate) fn replay_text<K: Sink>(alloc: Global, net: &Net, text: &[u8], out: &mut K) -> Status
     requires { length text.now ≤ most_bytes }
-    ensures { Answers K.written K.faults (RunTextComes ReplayComes net.now text.now) out.old out.new result }
+    ensures { Answers K.written K.faults (IsRunTextOutcome IsReplayOutcome net.now text.now) out.old out.new result }
 {
     match read_run(alloc, net, text) {
         Ok(runs) => replay(alloc, net, &runs, out),
@@ -58,7 +58,7 @@ pub(crate) fn replay_text<K: Sink>(alloc: Global, net: &Net, text: &[u8], out: &
 // Replays runs on a network, and writes what they come to.
 fn replay<K: Sink>(alloc: Global, net: &Net, text: &RunText, out: &mut K) -> Status
     requires { IsRunTextFor net.now text.now }
-    ensures { Answers K.written K.faults (ReplayComes net.now text.now) out.old out.new result }
+    ensures { Answers K.written K.faults (IsReplayOutcome net.now text.now) out.old out.new result }
 {
     let Ok(start) = expand_start(alloc, net, text.nodes()) else {
         return Status::Memory;
@@ -75,7 +75,7 @@ fn replay<K: Sink>(alloc: Global, net: &Net, text: &RunText, out: &mut K) -> Sta
 // The state in which each node has its bit and each wire its source's.
 fn expand_start(alloc: Global, net: &Net, nodes: &[bool]) -> Result<Vec<bool>, AllocError>
     requires { length nodes.now ≡ length net.now.names }
-    ensures start { IfOk result (λ start. start.items ≡ expanded net.now nodes.now) }
+    ensures start { IfOk result (λ start. start.items ≡ expansion_of net.now nodes.now) }
     ensures long { IfOk result (λ start. length start.items ≡ length (network_of net.now)) }
 {
     let mut start = vec![in alloc; false; net.len() as usize]?;
@@ -112,7 +112,7 @@ fn replay_runs(replay: &mut Replay, text: &RunText, start: &[bool]) -> Result<()
 fn replay_run(replay: &mut Replay, lead: &Run, cycle: Option<&Run>) -> Result<(), Refused>
     requires variables { AreVariables replay.old.circuit (steps_of (run_of lead.now.steps (option_map (λ run. run.now.steps) cycle))) }
     requires few { length (steps_of (run_of lead.now.steps (option_map (λ run. run.now.steps) cycle))) ≤ 2000000 }
-    ensures begin { KeepsBegin replay.old replay.new }
+    ensures begin { KeepsInitialState replay.old replay.new }
     ensures outcome { MatchResult result
         (λ _. IsAcceptedRun (network_of replay.old.circuit) replay.old.input replay.old.state (run_of lead.now.steps (option_map (λ run. run.now.steps) cycle.entry)))
         (λ why. IsRefusedRun (network_of replay.old.circuit) replay.old.input replay.old.state (run_of lead.now.steps (option_map (λ run. run.now.steps) cycle.entry)) why) }
@@ -136,10 +136,10 @@ fn replay_run(replay: &mut Replay, lead: &Run, cycle: Option<&Run>) -> Result<()
 fn replay_cycle(replay: &mut Replay, cycle: &Run, before: usize) -> Result<(), Refused>
     requires variables { AreVariables replay.old.circuit cycle.now.steps }
     requires few { before + length cycle.now.steps ≤ 2000000 }
-    ensures begin { KeepsBegin replay.old replay.new }
+    ensures begin { KeepsInitialState replay.old replay.new }
     ensures outcome { MatchResult result
         (λ _. IsNontransient (network_of replay.old.circuit) replay.old.input replay.old.state cycle.now.steps)
-        (λ why. IsRefusedBehind before (network_of replay.old.circuit) replay.old.input replay.old.state cycle.now.steps why) }
+        (λ why. IsRefusedFrom before (network_of replay.old.circuit) replay.old.input replay.old.state cycle.now.steps why) }
 {
     replay.mark();
     match make_steps(replay, cycle) {
@@ -160,9 +160,9 @@ fn replay_cycle(replay: &mut Replay, cycle: &Run, before: usize) -> Result<(), R
 // Makes the steps of a run.
 fn make_steps(replay: &mut Replay, run: &Run) -> Result<(), RefusedStep>
     requires { AreVariables replay.old.circuit run.now.steps }
-    ensures begin { KeepsBegin replay.old replay.new }
+    ensures begin { KeepsInitialState replay.old replay.new }
     ensures outcome { MatchResult result
-        (λ _. MadeSteps replay.old replay.new run.now.steps)
+        (λ _. MakesSteps replay.old replay.new run.now.steps)
         (λ refused. IsRefusedStep (network_of replay.old.circuit) replay.old.input replay.old.state run.now.steps refused.number refused.fault) }
 {
     for index in 0..run.steps() {

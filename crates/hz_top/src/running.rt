@@ -2,11 +2,11 @@
 ghost use Rattle.std.specs.Prelude.{◌≡◌, ◌⊎◌, map, Some};
 ghost use Rattle.std.specs.String.{string_bytes};
 ghost use Rattle.hz_outside.specs.Counts.{Rose};
-ghost use Rattle.hz_words.specs.Job.{JobOf, job_of, names_of, IsInRange};
+ghost use Rattle.hz_words.specs.Job.{JobOf, job_of, job_model, HasNumbersInRange};
 ghost use Rattle.hz_top.specs.Answer.{Answers};
 ghost use Rattle.hz_top.specs.Faultless.{IsFaultlessJob};
 ghost use Rattle.hz_top.specs.Headline.{Headline};
-ghost use Rattle.hz_top.specs.Outcome.{told_by, JobComes, MayLoad};
+ghost use Rattle.hz_top.specs.Outcome.{observation_of, IsJobOutcome, MayLoad};
 
 use crate::demo::demo;
 use crate::order::work_on_files;
@@ -24,13 +24,13 @@ use std::alloc::Global;
 pub fn run<F: Files, K: Sink>(alloc: Global, words: &[String], files: &mut F, out: &mut K) -> Status
     requires { MayLoad (F.granted files.old) (job_of (map string_bytes words.now)) }
     ensures headline { Headline K.written K.faults
-        (told_by F.held F.faults F.longs files.old files.new) (job_of (map string_bytes words.now))
+        (observation_of F.held F.faults F.longs files.old files.new) (job_of (map string_bytes words.now))
         out.old out.new result }
     ensures answer { Answers K.written K.faults
-        (JobComes (told_by F.held F.faults F.longs files.old files.new) (job_of (map string_bytes words.now)))
+        (IsJobOutcome (observation_of F.held F.faults F.longs files.old files.new) (job_of (map string_bytes words.now)))
         out.old out.new result }
     ensures done { (job : JobOf) (own : Status) → job_of (map string_bytes words.now) ≡ Some job
-        → IsFaultlessJob (told_by F.held F.faults F.longs files.old files.new) job own
+        → IsFaultlessJob (observation_of F.held F.faults F.longs files.old files.new) job own
         → ¬ Rose (K.faults out.old) (K.faults out.new)
         → (result ≡ own) ⊎ (result ≡ Status.Memory) }
 {
@@ -42,7 +42,7 @@ pub fn run<F: Files, K: Sink>(alloc: Global, words: &[String], files: &mut F, ou
 fn answer<F: Files, K: Sink>(alloc: Global, words: &[String], files: &mut F, out: &mut K) -> Status
     requires { MayLoad (F.granted files.old) (job_of (map string_bytes words.now)) }
     ensures { Answers K.written K.faults
-        (JobComes (told_by F.held F.faults F.longs files.old files.new) (job_of (map string_bytes words.now)))
+        (IsJobOutcome (observation_of F.held F.faults F.longs files.old files.new) (job_of (map string_bytes words.now)))
         out.old out.new result }
 {
     match hz_words::read(alloc, words) {
@@ -54,10 +54,10 @@ fn answer<F: Files, K: Sink>(alloc: Global, words: &[String], files: &mut F, out
 
 // Does a job.
 fn work<F: Files, K: Sink>(alloc: Global, job: Job<'_>, files: &mut F, out: &mut K) -> Status
-    requires range { IsInRange job }
-    requires loads { MayLoad (F.granted files.old) (Some (names_of job)) }
+    requires range { HasNumbersInRange job }
+    requires loads { MayLoad (F.granted files.old) (Some (job_model job)) }
     ensures { Answers K.written K.faults
-        (JobComes (told_by F.held F.faults F.longs files.old files.new) (Some (names_of job.entry)))
+        (IsJobOutcome (observation_of F.held F.faults F.longs files.old files.new) (Some (job_model job.entry)))
         out.old out.new result }
 {
     match job {

@@ -3,7 +3,7 @@ ghost use Rattle.std.specs.Prelude.{◌≡◌, ◌+◌, ◌<◌, ◌≤◌, leng
 ghost use Rattle.hz_net.specs.Network.{network_of};
 ghost use Rattle.hz_write.specs.Pieces.{piece_text};
 ghost use Rattle.hz_write.specs.Writes.{Wrote};
-ghost use Rattle.hz_top.specs.Replaying.{step_count, cycle_count, steps_of, no_run};
+ghost use Rattle.hz_top.specs.Replaying.{total_steps, total_cycles, steps_of, no_run};
 ghost use Rattle.hz_top.specs.Verdict.{yes_line, naming_line, step_line, cycle_line, no_line, accepted_line, step_variable, cycle_variable, named_variable, NamesVariable};
 
 use crate::replaying::Refused;
@@ -16,7 +16,7 @@ use hz_write::{Piece, Writer, put_line};
 
 // All runs are accepted.
 pub(crate) fn put_yes<K: Sink>(out: &mut K, text: &RunText) -> Result<(), PutFault>
-    requires { step_count text.now.runs ≤ 2000000 }
+    requires { total_steps text.now.runs ≤ 2000000 }
     ensures { Wrote K.written K.faults (accepted_line text.now.runs) out.old out.new result }
 {
     put_counts(out, text.runs(), count_steps(text), count_cycles(text))
@@ -24,8 +24,8 @@ pub(crate) fn put_yes<K: Sink>(out: &mut K, text: &RunText) -> Result<(), PutFau
 
 // How many steps all runs have.
 fn count_steps(text: &RunText) -> usize
-    requires { step_count text.now.runs ≤ 2000000 }
-    ensures { result ≡ step_count text.now.runs }
+    requires { total_steps text.now.runs ≤ 2000000 }
+    ensures { result ≡ total_steps text.now.runs }
 {
     let mut steps = 0;
     for number in 0..text.runs() {
@@ -37,7 +37,7 @@ fn count_steps(text: &RunText) -> usize
 // How many steps a run has, those of its cycle with them.
 fn steps_in(text: &RunText, number: usize) -> usize
     requires number { number < length text.now.runs }
-    requires few { step_count text.now.runs ≤ 2000000 }
+    requires few { total_steps text.now.runs ≤ 2000000 }
     ensures { result ≡ length (steps_of (slice_index_or text.now.runs number no_run)) }
 {
     let lead = text.lead(number).steps();
@@ -49,7 +49,7 @@ fn steps_in(text: &RunText, number: usize) -> usize
 
 // How many runs have a cycle.
 fn count_cycles(text: &RunText) -> usize
-    ensures { result ≡ cycle_count text.now.runs }
+    ensures { result ≡ total_cycles text.now.runs }
 {
     let mut cycles = 0;
     for number in 0..text.runs() {

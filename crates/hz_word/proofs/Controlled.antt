@@ -4,7 +4,7 @@ use Rattle.std.specs.Bool.{beq}
 use Rattle.std.proofs.lemmas.Bool.{false≢true, true≢false, cases_Bool}
 use Rattle.hz_core.specs.Gate.{some_pin, every_pin, complemented_if}
 use Rattle.hz_word.specs.Word.{IsWord, AreWords}
-use Rattle.hz_word.specs.Walk.{present_letters, MayAdvance, after_move, AreAtTheirEnds, change}
+use Rattle.hz_word.specs.Walk.{current_letters, MayAdvance, after_move, AreAtTheirEnds, change_between}
 use Rattle.hz_word.proofs.Moves.{after_move-AreWords, length-after_move}
 use Rattle.hz_word.proofs.Potentials.{IsTight, IsPotential}
 use Rattle.hz_word.proofs.Totals.{Totals, others, final, is_zero, less_one, bit, of_word, plus, nothing, totals, most_by, most_of, IsSound, IsMoved, or-false-left, or-false-right, plus-IsSound, plus-IsMoved, same-IsMoved, bound}
@@ -12,13 +12,13 @@ use Rattle.hz_word.proofs.Search.{Found, NonePasses, search_words, ends-from_non
 use Rattle.hz_word.proofs.Parity.{change-complemented}
 
 -- the gate value of the present letters, for the connectives that have a controlling letter
-pub some-first : (words : List (List Bool)) → some_pin (present_letters words) ≡ (totals true words).first
+pub some-first : (words : List (List Bool)) → some_pin (current_letters words) ≡ (totals true words).first
 some-first [] = refl
 some-first ([] ∷ words) = some-first words
 some-first ((true ∷ rest) ∷ words) = refl
 some-first ((false ∷ rest) ∷ words) = some-first words
 
-pub every-first : (words : List (List Bool)) → AreWords words → every_pin (present_letters words) ≡ not (totals false words).first
+pub every-first : (words : List (List Bool)) → AreWords words → every_pin (current_letters words) ≡ not (totals false words).first
 every-first [] are_words = refl
 every-first ([] ∷ words) are_words = absurd are_words.0
 every-first ((true ∷ rest) ∷ words) are_words = every-first words are_words.1
@@ -90,29 +90,29 @@ move-IsMoved controlling (word ∷ words) (false ∷ move) are_words may =
 
 -- a move of one word is tight
 IsTightMove : Totals → Totals → Type 0
-IsTightMove t t' = change t.first t'.first + most_of t' ≡ most_of t
+IsTightMove t t' = change_between t.first t'.first + most_of t' ≡ most_of t
 
 -- some word has the controlling letter alone: nothing changes any more
-tight_fixed : (t t' : Totals) → t.fixed ≡ true → IsMoved t t' → IsSound t → IsSound t' → change t.first t'.first + most_of t' ≡ most_of t
+tight_fixed : (t t' : Totals) → t.fixed ≡ true → IsMoved t t' → IsSound t → IsSound t' → change_between t.first t'.first + most_of t' ≡ most_of t
 tight_fixed t t' fixed moved sound sound' =
     let most = bound t t' moved sound sound' in
     let none : most_of t ≡ 0 = rw fixed refl in
     omega arith
 
 -- a word goes from the controlling letter to the other one
-tight_falls_by : (fixed first last last' : Bool) (further n : ℕ) → (fixed || false) ≡ false → change (first || true) (first || false) + most_by (fixed || false) (further + n) (first || false) (last || last') ≡ most_by (fixed || false) (further + n) (first || true) (last || last')
+tight_falls_by : (fixed first last last' : Bool) (further n : ℕ) → (fixed || false) ≡ false → change_between (first || true) (first || false) + most_by (fixed || false) (further + n) (first || false) (last || last') ≡ most_by (fixed || false) (further + n) (first || true) (last || last')
 tight_falls_by true first last last' further n e = absurd (true≢false e)
 tight_falls_by false true last last' further n e = omega arith
 tight_falls_by false false last last' further n e = omega arith
 
 -- all words stand at the other letter, and one with two of them or more goes on
-tight_rises_by : (fixed first last last' : Bool) (further n : ℕ) → (fixed || false) ≡ false → (first || false) ≡ false → change (first || false) (first || true) + most_by (fixed || false) (further + n) (first || true) (last || last') ≡ most_by (fixed || false) (further + suc n) (first || false) (last || last')
+tight_rises_by : (fixed first last last' : Bool) (further n : ℕ) → (fixed || false) ≡ false → (first || false) ≡ false → change_between (first || false) (first || true) + most_by (fixed || false) (further + n) (first || true) (last || last') ≡ most_by (fixed || false) (further + suc n) (first || false) (last || last')
 tight_rises_by true first last last' further n e f = absurd (true≢false e)
 tight_rises_by false true last last' further n e f = absurd (true≢false f)
 tight_rises_by false false last last' further n e f = omega arith
 
 -- all words have one of the other letter and stand at it, and one goes on to the controlling letter
-tight_last_by : (fixed first last last' : Bool) (further : ℕ) → (fixed || false) ≡ false → (first || false) ≡ false → last' ≡ true → further + 0 ≡ 0 → change (first || false) (first || true) + most_by (fixed || true) (further + 0) (first || true) (last || last') ≡ most_by (fixed || false) (further + 0) (first || false) (last || last')
+tight_last_by : (fixed first last last' : Bool) (further : ℕ) → (fixed || false) ≡ false → (first || false) ≡ false → last' ≡ true → further + 0 ≡ 0 → change_between (first || false) (first || true) + most_by (fixed || true) (further + 0) (first || true) (last || last') ≡ most_by (fixed || false) (further + 0) (first || false) (last || last')
 tight_last_by true first last last' further e f g h = absurd (true≢false e)
 tight_last_by false true last last' further e f g h = absurd (true≢false f)
 tight_last_by false false last false further e f g h = absurd (false≢true g)
@@ -125,11 +125,11 @@ at_controlling controlling word = (of_word controlling word).first
 has_further : Bool → List Bool → Bool
 has_further controlling word = not (is_zero (of_word controlling word).further)
 
-tight_rises_at : (n : ℕ) (fixed first last last' : Bool) (further : ℕ) → not (is_zero n) ≡ true → (fixed || false) ≡ false → (first || false) ≡ false → change (first || false) (first || true) + most_by (fixed || is_zero n) (further + less_one n) (first || true) (last || last') ≡ most_by (fixed || false) (further + n) (first || false) (last || last')
+tight_rises_at : (n : ℕ) (fixed first last last' : Bool) (further : ℕ) → not (is_zero n) ≡ true → (fixed || false) ≡ false → (first || false) ≡ false → change_between (first || false) (first || true) + most_by (fixed || is_zero n) (further + less_one n) (first || true) (last || last') ≡ most_by (fixed || false) (further + n) (first || false) (last || last')
 tight_rises_at zero fixed first last last' further p e f = absurd (false≢true p)
 tight_rises_at (suc n) fixed first last last' further p e f = tight_rises_by fixed first last last' further n e f
 
-tight_last_at : (n : ℕ) (fixed first last last' : Bool) (further : ℕ) → (fixed || false) ≡ false → (first || false) ≡ false → (is_zero n ≡ true → last' ≡ true) → further + n ≡ 0 → change (first || false) (first || true) + most_by (fixed || is_zero n) (further + less_one n) (first || true) (last || last') ≡ most_by (fixed || false) (further + n) (first || false) (last || last')
+tight_last_at : (n : ℕ) (fixed first last last' : Bool) (further : ℕ) → (fixed || false) ≡ false → (first || false) ≡ false → (is_zero n ≡ true → last' ≡ true) → further + n ≡ 0 → change_between (first || false) (first || true) + most_by (fixed || is_zero n) (further + less_one n) (first || true) (last || last') ≡ most_by (fixed || false) (further + n) (first || false) (last || last')
 tight_last_at zero fixed first last last' further e f g h = tight_last_by fixed first last last' further e f (g refl) h
 tight_last_at (suc n) fixed first last last' further e f g h = absurd (omega arith)
 
@@ -237,9 +237,9 @@ ends-most controlling words are_words ends =
     (none-first controlling words are_words (none-from_ends (at_controlling controlling) words ends))
 
 module _ (gate : List Bool → Bool) (controlling inverted : Bool) (pins : ℕ)
-    (is : (words : List (List Bool)) → AreWords words → length words ≡ pins → gate (present_letters words) ≡ complemented_if inverted (totals controlling words).first) where
+    (is : (words : List (List Bool)) → AreWords words → length words ≡ pins → gate (current_letters words) ≡ complemented_if inverted (totals controlling words).first) where
   -- the gate changes where the totals do
-  gate-change : (words : List (List Bool)) (move : List Bool) → AreWords words → length words ≡ pins → MayAdvance words move → change (gate (present_letters words)) (gate (present_letters (after_move words move))) ≡ change (totals controlling words).first (totals controlling (after_move words move)).first
+  gate-change : (words : List (List Bool)) (move : List Bool) → AreWords words → length words ≡ pins → MayAdvance words move → change_between (gate (current_letters words)) (gate (current_letters (after_move words move))) ≡ change_between (totals controlling words).first (totals controlling (after_move words move)).first
   gate-change words move are_words long may =
       let e = is words are_words long in
       let f = is (after_move words move) (after_move-AreWords words move are_words may) (length-after_move words move ∙ long) in

@@ -3,7 +3,7 @@ use Rattle.std.proofs.Common.{◌≡◌, Bool, true, false, List, [], ◌∷◌,
 use Rattle.hz_core.specs.Gate.{every_pin, some_pin, odd_pins}
 use Rattle.hz_word.specs.declared.count.Count.TheVariants.{Exact, Many}
 use Rattle.hz_word.specs.Walk.{after_move, walk_changes}
-use Rattle.hz_word.specs.Capped.{capped}
+use Rattle.hz_word.specs.Capped.{capped_word}
 use Rattle.hz_word.specs.Covers.{history_of}
 
 falling : List Bool
@@ -40,8 +40,8 @@ history : history_of (false ∷ false ∷ true ∷ true ∷ true ∷ false ∷ [
 history = refl
 
 -- three changes, under the caps 3 and 2
-capped_at_three : capped 3 (false ∷ true ∷ false ∷ true ∷ []) ≡ record { first = false; changes = Exact 3 }
+capped_at_three : capped_word 3 (false ∷ true ∷ false ∷ true ∷ []) ≡ record { first = false; changes = Exact 3 }
 capped_at_three = refl
 
-capped_at_two : capped 2 (false ∷ true ∷ false ∷ true ∷ []) ≡ record { first = false; changes = Many }
+capped_at_two : capped_word 2 (false ∷ true ∷ false ∷ true ∷ []) ≡ record { first = false; changes = Many }
 capped_at_two = refl

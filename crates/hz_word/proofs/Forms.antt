@@ -10,9 +10,9 @@ use Rattle.hz_word.specs.declared.count.Count.{Count}
 use Rattle.hz_word.specs.declared.count.Count.TheVariants.{Exact, Many}
 use Rattle.hz_word.specs.declared.word.Word.{Word}
 use Rattle.hz_word.specs.Word.{Alternates, IsWord, AreWords, first_letter, change_count}
-use Rattle.hz_word.specs.Walk.{present_letters}
-use Rattle.hz_word.specs.Capped.{capped, capped_count}
-use Rattle.hz_word.specs.Pairs.{last_after, constant, is_no_change, is_constant, shared, controlled_count, controlled_pair, sum_count, parity_pair}
+use Rattle.hz_word.specs.Walk.{current_letters}
+use Rattle.hz_word.specs.Capped.{capped_word, capped_count}
+use Rattle.hz_word.specs.Pairs.{last_after, constant_word, is_no_change, is_constant, one_if_both, controlled_count, controlled_pair, sum_count, parity_pair}
 use Rattle.hz_word.proofs.Moves.{steps_left}
 use Rattle.hz_word.proofs.Totals.{Totals, others, final, is_zero, less_one, bit, of_word, plus, nothing, totals, most_by}
 use Rattle.hz_word.proofs.Search.{by_fields, plus-assoc}
@@ -25,7 +25,7 @@ letter_of controlling false = not controlling
 
 -- the capped word of totals
 abbrev pub form_by : Bool → ℕ → Bool → ℕ → Bool → Bool → Word
-form_by controlling cap true further first last = constant controlling
+form_by controlling cap true further first last = constant_word controlling
 form_by controlling cap false further first last = record { first = letter_of controlling first; changes = capped_count cap (most_by false further first last) }
 
 abbrev pub form : Bool → ℕ → Totals → Word
@@ -65,9 +65,9 @@ word_form cap false true last n (suc o) e = same_fields refl (ap (capped_count c
 word_form cap false false last n (suc o) e = same_fields refl (ap (capped_count cap) (omega arith))
 
 -- the capped form of a word is that of its totals
-capped-form : (controlling : Bool) (cap : ℕ) (word : List Bool) → IsWord word → capped cap word ≡ form controlling cap (of_word controlling word)
-capped-form controlling cap [] is_word = absurd is_word
-capped-form controlling cap (letter ∷ rest) is_word =
+capped_word-form : (controlling : Bool) (cap : ℕ) (word : List Bool) → IsWord word → capped_word cap word ≡ form controlling cap (of_word controlling word)
+capped_word-form controlling cap [] is_word = absurd is_word
+capped_word-form controlling cap (letter ∷ rest) is_word =
     let e = counted controlling letter rest is_word in
     let f : suc (length rest) - 1 + 2 ≡ 2 * others controlling (letter ∷ rest) + bit (beq controlling letter) + bit (beq controlling (final letter rest)) = omega arith in
     word_form cap controlling letter (beq controlling (final letter rest)) (suc (length rest) - 1) (others controlling (letter ∷ rest)) f
@@ -87,7 +87,7 @@ or-true-right : (a : Bool) → (a || true) ≡ true
 or-true-right true = refl
 or-true-right false = refl
 
-bits : (a b : Bool) → bit a + bit b ≡ bit (a || b) + shared a b
+bits : (a b : Bool) → bit a + bit b ≡ bit (a || b) + one_if_both a b
 bits true true = refl
 bits true false = refl
 bits false true = refl
@@ -199,16 +199,16 @@ plus-nothing : (t : Totals) → t ≡ plus t nothing
 plus-nothing t = by_fields (or-false t.fixed) (or-false t.first) (or-false t.last) (omega arith)
 
 -- the pins, one after the other
-fold-form : (controlling : Bool) (cap : ℕ) (t : Totals) (words : List (List Bool)) → AreWords words → fold (controlled_pair controlling cap) (form controlling cap t) (map (capped cap) words) ≡ form controlling cap (plus t (totals controlling words))
+fold-form : (controlling : Bool) (cap : ℕ) (t : Totals) (words : List (List Bool)) → AreWords words → fold (controlled_pair controlling cap) (form controlling cap t) (map (capped_word cap) words) ≡ form controlling cap (plus t (totals controlling words))
 fold-form controlling cap t [] are_words = ap (form controlling cap) (plus-nothing t)
 fold-form controlling cap t (word ∷ words) are_words =
-    let step = ap (controlled_pair controlling cap (form controlling cap t)) (capped-form controlling cap word are_words.0)
+    let step = ap (controlled_pair controlling cap (form controlling cap t)) (capped_word-form controlling cap word are_words.0)
     ∙ pair-form controlling cap t (of_word controlling word) in
-    ap (λ so_far. fold (controlled_pair controlling cap) so_far (map (capped cap) words)) step
+    ap (λ so_far. fold (controlled_pair controlling cap) so_far (map (capped_word cap) words)) step
     ∙ (fold-form controlling cap (plus t (of_word controlling word)) words are_words.1
     ∙ ap (form controlling cap) (sym (plus-assoc t (of_word controlling word) (totals controlling words))))
 
-form-nothing : (controlling : Bool) (cap : ℕ) → constant (not controlling) ≡ form controlling cap nothing
+form-nothing : (controlling : Bool) (cap : ℕ) → constant_word (not controlling) ≡ form controlling cap nothing
 form-nothing controlling cap = same_fields refl (sym (capped_count-zero cap))
 
 form-most : (controlling : Bool) (cap : ℕ) (fixed first last : Bool) (further : ℕ) → (fixed ≡ true → first ≡ true) → form_by controlling cap fixed further first last ≡ record { first = letter_of controlling first; changes = capped_count cap (most_by fixed further first last) }
@@ -216,9 +216,9 @@ form-most controlling cap true true last further sound = same_fields refl (sym (
 form-most controlling cap true false last further sound = absurd (false≢true (sound refl))
 form-most controlling cap false first last further sound = refl
 
-pub fold-controlled : (controlling : Bool) (cap : ℕ) (words : List (List Bool)) → AreWords words → fold (controlled_pair controlling cap) (constant (not controlling)) (map (capped cap) words) ≡ record { first = letter_of controlling (totals controlling words).first; changes = capped_count cap (most_in controlling words) }
+pub fold-controlled : (controlling : Bool) (cap : ℕ) (words : List (List Bool)) → AreWords words → fold (controlled_pair controlling cap) (constant_word (not controlling)) (map (capped_word cap) words) ≡ record { first = letter_of controlling (totals controlling words).first; changes = capped_count cap (most_in controlling words) }
 fold-controlled controlling cap words are_words =
-    ap (λ so_far. fold (controlled_pair controlling cap) so_far (map (capped cap) words)) (form-nothing controlling cap)
+    ap (λ so_far. fold (controlled_pair controlling cap) so_far (map (capped_word cap) words)) (form-nothing controlling cap)
     ∙ (fold-form controlling cap nothing words are_words
     ∙ (ap (form controlling cap) (by_fields refl refl refl (omega arith))
     ∙ form-most controlling cap (totals controlling words).fixed (totals controlling words).first (totals controlling words).last (totals controlling words).further
@@ -251,8 +251,8 @@ parity-assoc false true false = refl
 parity-assoc false false true = refl
 parity-assoc false false false = refl
 
-sum-capped : (cap m n : ℕ) → sum_count cap (capped_count cap m) (capped_count cap n) ≡ capped_count cap (m + n)
-sum-capped cap m n =
+sum-capped_word : (cap m n : ℕ) → sum_count cap (capped_count cap m) (capped_count cap n) ≡ capped_count cap (m + n)
+sum-capped_word cap m n =
     elim (cases_Bool (nat_le m cap)) [
       | inl within ↦ elim (cases_Bool (nat_le n cap)) [
         | inl within' ↦ rw (within, within') refl
@@ -264,16 +264,16 @@ sum-capped cap m n =
       ]
     ]
 
-fold-odd : (cap : ℕ) (first : Bool) (n : ℕ) (words : List (List Bool)) → fold (parity_pair cap) (record { first = first; changes = capped_count cap n }) (map (capped cap) words) ≡ record { first = not (beq first (odd_pins (present_letters words))); changes = capped_count cap (n + steps_left words) }
+fold-odd : (cap : ℕ) (first : Bool) (n : ℕ) (words : List (List Bool)) → fold (parity_pair cap) (record { first = first; changes = capped_count cap n }) (map (capped_word cap) words) ≡ record { first = not (beq first (odd_pins (current_letters words))); changes = capped_count cap (n + steps_left words) }
 fold-odd cap first n [] = same_fields (not-beq-no first) (ap (capped_count cap) (omega arith))
 fold-odd cap first n (word ∷ words) =
-    ap (λ so_far. fold (parity_pair cap) so_far (map (capped cap) words)) (same_fields refl (sum-capped cap n (change_count word)))
+    ap (λ so_far. fold (parity_pair cap) so_far (map (capped_word cap) words)) (same_fields refl (sum-capped_word cap n (change_count word)))
     ∙ (fold-odd cap (not (beq first (first_letter word))) (n + change_count word) words
     ∙ same_fields
-    (parity-assoc first (first_letter word) (odd_pins (present_letters words)) ∙ ap (λ odd. not (beq first odd)) (sym (odd-cons (first_letter word) (present_letters words))))
+    (parity-assoc first (first_letter word) (odd_pins (current_letters words)) ∙ ap (λ odd. not (beq first odd)) (sym (odd-cons (first_letter word) (current_letters words))))
     (ap (capped_count cap) (omega arith)))
 
-pub fold-parity : (cap : ℕ) (words : List (List Bool)) → fold (parity_pair cap) (constant false) (map (capped cap) words) ≡ record { first = odd_pins (present_letters words); changes = capped_count cap (steps_left words) }
+pub fold-parity : (cap : ℕ) (words : List (List Bool)) → fold (parity_pair cap) (constant_word false) (map (capped_word cap) words) ≡ record { first = odd_pins (current_letters words); changes = capped_count cap (steps_left words) }
 fold-parity cap words =
-    ap (λ so_far. fold (parity_pair cap) so_far (map (capped cap) words)) (same_fields refl (sym (capped_count-zero cap)))
-    ∙ (fold-odd cap false 0 words ∙ same_fields (sym (not-beq-false (odd_pins (present_letters words)))) (ap (capped_count cap) (omega arith)))
+    ap (λ so_far. fold (parity_pair cap) so_far (map (capped_word cap) words)) (same_fields refl (sym (capped_count-zero cap)))
+    ∙ (fold-odd cap false 0 words ∙ same_fields (sym (not-beq-false (odd_pins (current_letters words)))) (ap (capped_count cap) (omega arith)))

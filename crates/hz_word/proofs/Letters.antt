@@ -7,7 +7,7 @@ use Rattle.std.specs.Bool.{nat_le}
 use Rattle.hz_word.specs.declared.count.Count.TheVariants.{Exact}
 use Rattle.hz_word.specs.declared.word.Word.{Word}
 use Rattle.hz_word.specs.Word.{Alternates, IsWord, first_letter, last_letter, change_count}
-use Rattle.hz_word.specs.Capped.{capped, capped_count}
+use Rattle.hz_word.specs.Capped.{capped_word, capped_count}
 use Rattle.hz_word.specs.Pairs.{last_after}
 use Rattle.hz_word.proofs.Totals.{final}
 
@@ -60,8 +60,8 @@ exact-capped_count cap n m e =
     ]
 
 -- the last letter by the capped form
-pub last-capped : (cap : ℕ) (letters : List Bool) (word : Word) (changes : ℕ) → IsWord letters → capped cap letters ≡ word → word.changes ≡ Exact changes → last_after word.first changes ≡ last_letter letters
-last-capped cap letters word changes is_word same exact =
+pub last-capped_word : (cap : ℕ) (letters : List Bool) (word : Word) (changes : ℕ) → IsWord letters → capped_word cap letters ≡ word → word.changes ≡ Exact changes → last_after word.first changes ≡ last_letter letters
+last-capped_word cap letters word changes is_word same exact =
     let first = ap (λ (w : Word). w.first) same in
     let count = exact-capped_count cap (change_count letters) changes (ap (λ (w : Word). w.changes) same ∙ exact) in
     sym (last_letter-last_after letters is_word ∙ (ap (λ letter. last_after letter (change_count letters)) first ∙ ap (last_after word.first) count))

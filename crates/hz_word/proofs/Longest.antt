@@ -3,9 +3,9 @@ use Rattle.std.proofs.Common.{◌≡◌, ℕ, zero, suc, ◌≤◌, Bool, true, 
 use Rattle.std.proofs.lemmas.Bool.{eqb-true, false≢true, true≢false}
 use Rattle.hz_core.specs.declared.kind.Kind.{Kind}
 use Rattle.hz_core.specs.declared.kind.Kind.TheVariants.{And, Nand, Or, Nor, Xor, Xnor, Not, Buff}
-use Rattle.hz_core.specs.Gate.{takes, Connective, conjunction, disjunction, parity, copy, connective, inverts, value_of, complemented_if, gate_value, only_pin, odd_pins}
+use Rattle.hz_core.specs.Gate.{takes, Connective, conjunction, disjunction, parity, copy, connective, inverts, connective_value, complemented_if, gate_value, only_pin, odd_pins}
 use Rattle.hz_word.specs.Word.{Alternates, IsWord, AreWords, first_letter, change_count}
-use Rattle.hz_word.specs.Walk.{present_letters, after_move, IsPartOfWalk, IsWalk, walk_changes, IsWordOf}
+use Rattle.hz_word.specs.Walk.{current_letters, after_move, IsPartOfWalk, IsWalk, walk_changes, IsWordOf}
 use Rattle.hz_word.proofs.Moves.{steps_left}
 use Rattle.hz_word.proofs.Potentials.{IsPotential, bounded, attained}
 use Rattle.hz_word.proofs.Parity.{steps_left-IsPotential}
@@ -65,25 +65,25 @@ complemented-not true true = refl
 complemented-not true false = refl
 complemented-not false bit = refl
 
-only-odd : (words : List (List Bool)) → length words ≡ 1 → only_pin (present_letters words) ≡ odd_pins (present_letters words)
+only-odd : (words : List (List Bool)) → length words ≡ 1 → only_pin (current_letters words) ≡ odd_pins (current_letters words)
 only-odd [] one = refl
 only-odd ([] ∷ []) one = refl
 only-odd ((true ∷ rest) ∷ []) one = refl
 only-odd ((false ∷ rest) ∷ []) one = refl
 only-odd (word ∷ next ∷ words) one = absurd (omega arith)
 
-longest-IsPotential : (c : Connective) (inverted : Bool) (pins : ℕ) → HasPins c pins → IsPotential (λ bits. complemented_if inverted (value_of c bits)) (longest c) pins
+longest-IsPotential : (c : Connective) (inverted : Bool) (pins : ℕ) → HasPins c pins → IsPotential (λ bits. complemented_if inverted (connective_value c bits)) (longest c) pins
 longest-IsPotential conjunction inverted pins has =
-    most_in-IsPotential (λ bits. complemented_if inverted (value_of conjunction bits)) false (not inverted) pins
+    most_in-IsPotential (λ bits. complemented_if inverted (connective_value conjunction bits)) false (not inverted) pins
     (λ words are_words long. ap (complemented_if inverted) (every-first words are_words) ∙ complemented-not inverted _)
 longest-IsPotential disjunction inverted pins has =
-    most_in-IsPotential (λ bits. complemented_if inverted (value_of disjunction bits)) true inverted pins
+    most_in-IsPotential (λ bits. complemented_if inverted (connective_value disjunction bits)) true inverted pins
     (λ words are_words long. ap (complemented_if inverted) (some-first words))
 longest-IsPotential parity inverted pins has =
-    steps_left-IsPotential (λ bits. complemented_if inverted (value_of parity bits)) inverted pins
+    steps_left-IsPotential (λ bits. complemented_if inverted (connective_value parity bits)) inverted pins
     (λ words long. refl)
 longest-IsPotential copy inverted pins has =
-    steps_left-IsPotential (λ bits. complemented_if inverted (value_of copy bits)) inverted pins
+    steps_left-IsPotential (λ bits. complemented_if inverted (connective_value copy bits)) inverted pins
     (λ words long. ap (complemented_if inverted) (only-odd words (long ∙ has)))
 
 -- a walk is a part of itself
@@ -116,7 +116,7 @@ module _ (kind : Kind) (words : List (List Bool)) (are_words : AreWords words) (
   potential = longest-IsPotential (connective kind) (inverts kind) (length words) has
 
   abbrev pub longest_word : List Bool
-  longest_word = alternating (gate_value kind (present_letters words)) (longest (connective kind) words)
+  longest_word = alternating (gate_value kind (current_letters words)) (longest (connective kind) words)
 
   -- no part of a walk has more changes than the longest
   part-longest : (moves : List (List Bool)) → IsPartOfWalk words moves → walk_changes (gate_value kind) words moves ≤ longest (connective kind) words
@@ -125,12 +125,12 @@ module _ (kind : Kind) (words : List (List Bool)) (are_words : AreWords words) (
   -- the word of the kind
   pub longest_word-IsWordOf : IsWordOf kind words longest_word
   longest_word-IsWordOf =
-      let same = change_count-alternating (gate_value kind (present_letters words)) (longest (connective kind) words) in
+      let same = change_count-alternating (gate_value kind (current_letters words)) (longest (connective kind) words) in
       let walk = attained (gate_value kind) (longest (connective kind)) (length words) potential words are_words refl in
       let walk_same = walk.2 in
       record {
-        is_word = alternating-IsWord (gate_value kind (present_letters words)) (longest (connective kind) words);
-        begins = first_letter-alternating (gate_value kind (present_letters words)) (longest (connective kind) words);
+        is_word = alternating-IsWord (gate_value kind (current_letters words)) (longest (connective kind) words);
+        begins = first_letter-alternating (gate_value kind (current_letters words)) (longest (connective kind) words);
         attained = (walk.0, walk.1, walk_same ∙ sym same);
         most = λ moves is_walk. let bound = part-longest moves (part-from_walk words moves is_walk) in omega arith;
       }

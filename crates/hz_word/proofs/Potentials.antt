@@ -2,17 +2,17 @@
 -- that. So no walk has more changes than the potential at its begin, and some walk has as many.
 use Rattle.std.proofs.Common.{◌≡◌, ℕ, zero, suc, ◌+◌, ◌≤◌, Bool, List, [], ◌∷◌, length, refl, sym, ◌∙◌, ◌⊎◌, inl, inr, arith}
 use Rattle.hz_word.specs.Word.{AreWords}
-use Rattle.hz_word.specs.Walk.{present_letters, IsMove, after_move, AreAtTheirEnds, IsPartOfWalk, IsWalk, change, walk_changes}
+use Rattle.hz_word.specs.Walk.{current_letters, IsMove, after_move, AreAtTheirEnds, IsPartOfWalk, IsWalk, change_between, walk_changes}
 use Rattle.hz_word.proofs.Moves.{steps_left, after_move-AreWords, length-after_move}
 
 -- a move that lowers a potential by just the change of the gate, and of one word alone
 pub record IsTight (gate : List Bool → Bool) (potential : List (List Bool) → ℕ) (words : List (List Bool)) (move : List Bool) : Type 0 where
   pub is_move : IsMove words move
-  pub exact : change (gate (present_letters words)) (gate (present_letters (after_move words move))) + potential (after_move words move) ≡ potential words
+  pub exact : change_between (gate (current_letters words)) (gate (current_letters (after_move words move))) + potential (after_move words move) ≡ potential words
   pub shorter : steps_left words ≡ suc (steps_left (after_move words move))
 
 pub record IsPotential (gate : List Bool → Bool) (potential : List (List Bool) → ℕ) (pins : ℕ) : Type 0 where
-  pub bound : (words : List (List Bool)) (move : List Bool) → AreWords words → length words ≡ pins → IsMove words move → change (gate (present_letters words)) (gate (present_letters (after_move words move))) + potential (after_move words move) ≤ potential words
+  pub bound : (words : List (List Bool)) (move : List Bool) → AreWords words → length words ≡ pins → IsMove words move → change_between (gate (current_letters words)) (gate (current_letters (after_move words move))) + potential (after_move words move) ≤ potential words
   pub tight : (words : List (List Bool)) → AreWords words → length words ≡ pins → (AreAtTheirEnds words × (potential words ≡ 0)) ⊎ ((move : List Bool) × IsTight gate potential words move)
 
 module _ (gate : List Bool → Bool) (potential : List (List Bool) → ℕ) (pins : ℕ) (is : IsPotential gate potential pins) where

@@ -4,7 +4,7 @@ use Rattle.std.proofs.lemmas.Bool.{false≢true, true≢false, cases_Bool}
 use Rattle.hz_core.specs.Gate.{some_pin, odd_pins}
 use Rattle.hz_core.proofs.Kleene.{odd_pins-true}
 use Rattle.hz_word.specs.Word.{IsWord, AreWords}
-use Rattle.hz_word.specs.Walk.{present_letters, MayAdvance, after_move, AreAtTheirEnds}
+use Rattle.hz_word.specs.Walk.{current_letters, MayAdvance, after_move, AreAtTheirEnds}
 use Rattle.hz_word.proofs.Moves.{steps_left, stay, stay-MayAdvance, after_move-stay}
 use Rattle.hz_word.proofs.Totals.{Totals, of_word, plus, totals}
 
@@ -41,7 +41,7 @@ pub record Found (controlling : Bool) (test : List Bool → Bool) (words : List 
   pub context : Totals
   pub before : totals controlling words ≡ plus context (of_word controlling (letter ∷ not letter ∷ rest))
   pub after : totals controlling (after_move words move) ≡ plus context (of_word controlling (not letter ∷ rest))
-  pub odd : odd_pins (present_letters (after_move words move)) ≡ not (odd_pins (present_letters words))
+  pub odd : odd_pins (current_letters (after_move words move)) ≡ not (odd_pins (current_letters words))
   pub shorter : steps_left words ≡ suc (steps_left (after_move words move))
 
 -- no word that can advance passes
@@ -78,8 +78,8 @@ module _ (controlling : Bool) (test : List Bool → Bool) where
         ap (λ others. plus (of_word controlling (not letter ∷ rest)) (totals controlling others)) (after_move-stay words)
         ∙ plus-comm (of_word controlling (not letter ∷ rest)) (totals controlling words);
     odd =
-        ap (λ others. odd_pins (not letter ∷ present_letters others)) (after_move-stay words)
-        ∙ odd-first letter (present_letters words);
+        ap (λ others. odd_pins (not letter ∷ current_letters others)) (after_move-stay words)
+        ∙ odd-first letter (current_letters words);
     shorter = let e = ap steps_left (after_move-stay words) in omega arith;
   }
 
@@ -100,7 +100,7 @@ module _ (controlling : Bool) (test : List Bool → Bool) where
     after =
         ap (plus (of_word controlling (letter ∷ rest))) found.after
         ∙ plus-assoc (of_word controlling (letter ∷ rest)) found.context (of_word controlling (not found.letter ∷ found.rest));
-    odd = odd-rest letter (present_letters words) (present_letters (after_move words found.move)) found.odd;
+    odd = odd-rest letter (current_letters words) (current_letters (after_move words found.move)) found.odd;
     shorter = let e = found.shorter in omega arith;
   }
 

@@ -3,7 +3,7 @@
 use Rattle.std.proofs.Common.{◌≡◌, ℕ, zero, suc, ◌+◌, ◌*◌, ◌≤◌, Bool, true, false, ◌||◌, List, [], ◌∷◌, refl, sym, ◌∙◌, ◌⊎◌, inl, inr, arith}
 use Rattle.std.specs.Bool.{beq, if◌then◌else◌}
 use Rattle.std.proofs.lemmas.Bool.{false≢true, true≢false}
-use Rattle.hz_word.specs.Walk.{change}
+use Rattle.hz_word.specs.Walk.{change_between}
 
 -- the letters of a word other than the controlling one
 abbrev pub others : Bool → List Bool → ℕ
@@ -145,7 +145,7 @@ same-IsMoved t = record {
 }
 
 -- the bound, over plain values
-bound_by : (fixed fixed' first first' last : Bool) (further further' : ℕ) → (fixed ≡ true → fixed' ≡ true) → further' ≤ further → (first ≡ false → first' ≡ true → (fixed' ≡ true) ⊎ (further' + 1 ≤ further)) → (fixed ≡ true → first ≡ true) → (fixed' ≡ true → first' ≡ true) → (fixed' ≡ true → last ≡ true) → change first first' + most_by fixed' further' first' last ≤ most_by fixed further first last
+bound_by : (fixed fixed' first first' last : Bool) (further further' : ℕ) → (fixed ≡ true → fixed' ≡ true) → further' ≤ further → (first ≡ false → first' ≡ true → (fixed' ≡ true) ⊎ (further' + 1 ≤ further)) → (fixed ≡ true → first ≡ true) → (fixed' ≡ true → first' ≡ true) → (fixed' ≡ true → last ≡ true) → change_between first first' + most_by fixed' further' first' last ≤ most_by fixed further first last
 bound_by true true true true last further further' kept fewer rises begins begins' ends = omega arith
 bound_by true true true false last further further' kept fewer rises begins begins' ends = absurd (false≢true (begins' refl))
 bound_by true true false first' last further further' kept fewer rises begins begins' ends = absurd (false≢true (begins refl))
@@ -164,7 +164,7 @@ bound_by false false false true last further further' kept fewer rises begins be
     ]
 
 -- a move lowers the most changes by at least the change that it makes
-pub bound : (t t' : Totals) → IsMoved t t' → IsSound t → IsSound t' → change t.first t'.first + most_of t' ≤ most_of t
+pub bound : (t t' : Totals) → IsMoved t t' → IsSound t → IsSound t' → change_between t.first t'.first + most_of t' ≤ most_of t
 bound t t' moved sound sound' =
     let same = moved.same_last in
     rw same (bound_by t.fixed t'.fixed t.first t'.first t.last t.further t'.further moved.kept moved.fewer moved.rises sound.begins sound'.begins

@@ -12,20 +12,20 @@ abbrev pub capped_count : ℕ → ℕ → Count
 capped_count cap changes = if nat_le changes cap then Exact changes else Many
 
 -- the capped form
-abbrev pub capped : ℕ → List Bool → Word
-capped cap word = record { first = first_letter word; changes = capped_count cap (change_count word) }
+abbrev pub capped_word : ℕ → List Bool → Word
+capped_word cap word = record { first = first_letter word; changes = capped_count cap (change_count word) }
 
 -- the complement of a capped word
 abbrev pub complement : Word → Word
 complement word = record { first = not word.first; changes = word.changes }
 
 -- a number that is exact is at most the cap
-abbrev pub IsCounted : ℕ → Count → Type 0
-IsCounted cap (Exact changes) = changes ≤ cap
-IsCounted cap Many = Unit {0}
+abbrev pub IsWithinCap : ℕ → Count → Type 0
+IsWithinCap cap (Exact changes) = changes ≤ cap
+IsWithinCap cap Many = Unit {0}
 
 -- For all words whose capped forms are the pins, there is the word of the kind over them, and this is its capped form.
 abbrev pub IsFold : Kind → List Word → ℕ → Word → Type 0
 IsFold kind pins cap outcome =
-    (words : List (List Bool)) → AreWords words → map (capped cap) words ≡ pins →
-    (word : List Bool) × IsWordOf kind words word × (capped cap word ≡ outcome)
+    (words : List (List Bool)) → AreWords words → map (capped_word cap) words ≡ pins →
+    (word : List Bool) × IsWordOf kind words word × (capped_word cap word ≡ outcome)

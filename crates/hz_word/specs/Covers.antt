@@ -7,14 +7,14 @@ use Rattle.hz_word.specs.declared.word.Word.{Word}
 use Rattle.hz_word.specs.Word.{first_letter, change_count}
 
 -- the values that follow a value, with equal neighbours reduced to one
-abbrev pub reduced_after : Bool → List Bool → List Bool
-reduced_after value [] = []
-reduced_after value (next ∷ rest) = if beq value next then reduced_after value rest else next ∷ reduced_after next rest
+abbrev pub reduction_after : Bool → List Bool → List Bool
+reduction_after value [] = []
+reduction_after value (next ∷ rest) = if beq value next then reduction_after value rest else next ∷ reduction_after next rest
 
 -- the history of a variable that takes these values one after the other: equal neighbours are reduced to one
 abbrev pub history_of : List Bool → List Bool
 history_of [] = []
-history_of (value ∷ values) = value ∷ reduced_after value values
+history_of (value ∷ values) = value ∷ reduction_after value values
 
 -- a number of changes bounds those of a history, if it is exact
 abbrev pub Bounds : Count → List Bool → Type 0

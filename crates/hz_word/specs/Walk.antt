@@ -7,8 +7,8 @@ use Rattle.hz_core.specs.Gate.{some_pin, gate_value}
 use Rattle.hz_word.specs.Word.{IsWord, first_letter, change_count}
 
 -- the present letters
-abbrev pub present_letters : List (List Bool) → List Bool
-present_letters words = map first_letter words
+abbrev pub current_letters : List (List Bool) → List Bool
+current_letters words = map first_letter words
 
 -- A move says of each word whether it advances by one letter. Each that advances has a further letter.
 abbrev pub MayAdvance : List (List Bool) → List Bool → Type 0
@@ -43,20 +43,20 @@ IsWalk words [] = AreAtTheirEnds words
 IsWalk words (move ∷ moves) = IsMove words move × IsWalk (after_move words move) moves
 
 -- 1 where two values differ, else 0
-abbrev pub change : Bool → Bool → ℕ
-change before after = if beq before after then 0 else 1
+abbrev pub change_between : Bool → Bool → ℕ
+change_between before after = if beq before after then 0 else 1
 
 -- the number of the moves at which the gate value of the present letters changes
 abbrev pub walk_changes : (List Bool → Bool) → List (List Bool) → List (List Bool) → ℕ
 walk_changes gate words [] = 0
 walk_changes gate words (move ∷ moves) =
-    change (gate (present_letters words)) (gate (present_letters (after_move words move)))
+    change_between (gate (current_letters words)) (gate (current_letters (after_move words move)))
     + walk_changes gate (after_move words move) moves
 
 -- The word of a kind over words: its first letter is the gate value of the first letters, it has as many changes as some
 -- walk, and no walk has more.
 pub record IsWordOf (kind : Kind) (words : List (List Bool)) (word : List Bool) : Type 0 where
   pub is_word : IsWord word
-  pub begins : first_letter word ≡ gate_value kind (present_letters words)
+  pub begins : first_letter word ≡ gate_value kind (current_letters words)
   pub attained : (moves : List (List Bool)) × IsWalk words moves × (walk_changes (gate_value kind) words moves ≡ change_count word)
   pub most : (moves : List (List Bool)) → IsWalk words moves → walk_changes (gate_value kind) words moves ≤ change_count word

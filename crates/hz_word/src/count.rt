@@ -1,5 +1,5 @@
 ghost use Rattle.std.specs.Prelude.{◌≡◌, ◌≤◌};
-ghost use Rattle.hz_word.specs.Capped.{capped_count, IsCounted};
+ghost use Rattle.hz_word.specs.Capped.{capped_count, IsWithinCap};
 ghost use Rattle.hz_word.specs.Pairs.{sum_count};
 
 /// How often a word changes: an exact number, or more often than the cap allows to count.
@@ -13,7 +13,7 @@ impl Count {
     // A number under a cap.
     pub(crate) fn capped(changes: u64, cap: u64) -> Count
         ensures value { result ≡ capped_count cap changes }
-        ensures counted { IsCounted cap result }
+        ensures counted { IsWithinCap cap result }
     {
         if changes <= cap {
             Count::Exact(changes)
@@ -24,11 +24,11 @@ impl Count {
 
     // The sum under a cap.
     pub(crate) fn plus(self, other: Count, cap: u64) -> Count
-        requires counted { IsCounted cap self }
-        requires counted_other { IsCounted cap other }
+        requires counted { IsWithinCap cap self }
+        requires counted_other { IsWithinCap cap other }
         requires cap_high { cap ≤ 1000000 }
         ensures value { result ≡ sum_count cap self other }
-        ensures counted { IsCounted cap result }
+        ensures counted { IsWithinCap cap result }
     {
         match (self, other) {
             (Count::Exact(changes), Count::Exact(more)) => Count::capped(changes + more, cap),

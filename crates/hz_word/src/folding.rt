@@ -1,8 +1,8 @@
 ghost use Rattle.std.specs.Prelude.{◌≡◌, ℕ, ◌≤◌, Bool, false, not, IsTrue, length};
 ghost use Rattle.std.specs.List.{fold, All};
 ghost use Rattle.hz_core.specs.Gate.{takes};
-ghost use Rattle.hz_word.specs.Capped.{IsCounted, IsFold};
-ghost use Rattle.hz_word.specs.Pairs.{controlled_count, controlled_pair, constant, is_constant, kind_word, parity_pair};
+ghost use Rattle.hz_word.specs.Capped.{IsWithinCap, IsFold};
+ghost use Rattle.hz_word.specs.Pairs.{controlled_count, controlled_pair, constant_word, is_constant, kind_word, parity_pair};
 
 use crate::count::Count;
 use crate::word::{Word, last_after};
@@ -12,7 +12,7 @@ use hz_core::Kind;
 /// pins change.
 pub fn fold(kind: Kind, pins: &[Word], cap: u64) -> Word
     requires pins { IsTrue (takes kind (length pins.now)) }
-    requires counted { All (λ pin. IsCounted cap pin.changes) pins.now }
+    requires counted { All (λ pin. IsWithinCap cap pin.changes) pins.now }
     requires cap_low { 1 ≤ cap }
     requires cap_high { cap ≤ 1000000 }
     ensures { IsFold kind pins.now cap result }
@@ -23,7 +23,7 @@ pub fn fold(kind: Kind, pins: &[Word], cap: u64) -> Word
 // By its connective, pin by pin.
 fn pin_by_pin(kind: Kind, pins: &[Word], cap: u64) -> Word
     requires pins { IsTrue (takes kind (length pins.now)) }
-    requires counted { All (λ pin. IsCounted cap pin.changes) pins.now }
+    requires counted { All (λ pin. IsWithinCap cap pin.changes) pins.now }
     requires cap_high { cap ≤ 1000000 }
     ensures { result ≡ kind_word kind cap pins.now }
 {
@@ -41,9 +41,9 @@ fn pin_by_pin(kind: Kind, pins: &[Word], cap: u64) -> Word
 
 // A gate with a controlling letter, which alone gives the gate its value: 0 for AND, 1 for OR.
 fn controlled(controlling: bool, pins: &[Word], cap: u64) -> Word
-    requires counted { All (λ pin. IsCounted cap pin.changes) pins.now }
+    requires counted { All (λ pin. IsWithinCap cap pin.changes) pins.now }
     requires cap_high { cap ≤ 1000000 }
-    ensures { result ≡ fold (controlled_pair controlling cap) (constant (not controlling)) pins.now }
+    ensures { result ≡ fold (controlled_pair controlling cap) (constant_word (not controlling)) pins.now }
 {
     let mut so_far = Word::constant(!controlling);
     for pin in pins {
@@ -54,9 +54,9 @@ fn controlled(controlling: bool, pins: &[Word], cap: u64) -> Word
 
 // The parity of the pins.
 fn parity(pins: &[Word], cap: u64) -> Word
-    requires counted { All (λ pin. IsCounted cap pin.changes) pins.now }
+    requires counted { All (λ pin. IsWithinCap cap pin.changes) pins.now }
     requires cap_high { cap ≤ 1000000 }
-    ensures { result ≡ fold (parity_pair cap) (constant false) pins.now }
+    ensures { result ≡ fold (parity_pair cap) (constant_word false) pins.now }
 {
     let mut so_far = Word::constant(false);
     for pin in pins {
@@ -67,11 +67,11 @@ fn parity(pins: &[Word], cap: u64) -> Word
 
 // The word of such a gate over two pins. A pin that has the controlling letter alone fixes it.
 fn controlled_pair(left: Word, right: Word, controlling: bool, cap: u64) -> Word
-    requires counted_left { IsCounted cap left.changes }
-    requires counted_right { IsCounted cap right.changes }
+    requires counted_left { IsWithinCap cap left.changes }
+    requires counted_right { IsWithinCap cap right.changes }
     requires cap_high { cap ≤ 1000000 }
     ensures value { result ≡ controlled_pair controlling cap left right }
-    ensures counted { IsCounted cap result.changes }
+    ensures counted { IsWithinCap cap result.changes }
 {
     if left.is_constant(controlling) || right.is_constant(controlling) {
         return Word::constant(controlling);
@@ -91,13 +91,13 @@ fn controlled_pair(left: Word, right: Word, controlling: bool, cap: u64) -> Word
 // follows the other one, so the changes add up. But if both begin with the controlling letter, the first change of one is
 // hidden, and if both end with it, the last change of one.
 fn controlled_count(left: Word, right: Word, controlling: bool, cap: u64) -> Count
-    requires counted_left { IsCounted cap left.changes }
-    requires counted_right { IsCounted cap right.changes }
+    requires counted_left { IsWithinCap cap left.changes }
+    requires counted_right { IsWithinCap cap right.changes }
     requires cap_high { cap ≤ 1000000 }
     requires free_left { is_constant controlling left ≡ false }
     requires free_right { is_constant controlling right ≡ false }
     ensures value { result ≡ controlled_count controlling cap left.first right.first left.changes right.changes }
-    ensures counted { IsCounted cap result }
+    ensures counted { IsWithinCap cap result }
 {
     match (left.changes, right.changes) {
         (Count::Exact(of_left), Count::Exact(of_right)) => {
@@ -116,11 +116,11 @@ fn controlled_count(left: Word, right: Word, controlling: bool, cap: u64) -> Cou
 
 // The word of the parity of two pins.
 fn parity_pair(left: Word, right: Word, cap: u64) -> Word
-    requires counted_left { IsCounted cap left.changes }
-    requires counted_right { IsCounted cap right.changes }
+    requires counted_left { IsWithinCap cap left.changes }
+    requires counted_right { IsWithinCap cap right.changes }
     requires cap_high { cap ≤ 1000000 }
     ensures value { result ≡ parity_pair cap left right }
-    ensures counted { IsCounted cap result.changes }
+    ensures counted { IsWithinCap cap result.changes }
 {
     Word {
         first: left.first != right.first,

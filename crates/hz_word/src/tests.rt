@@ -1,6 +1,6 @@
 ghost use Rattle.std.specs.Prelude.{◌↔◌, IsTrue};
 ghost use Rattle.std.specs.List.{All};
-ghost use Rattle.hz_word.specs.Capped.{IsCounted};
+ghost use Rattle.hz_word.specs.Capped.{IsWithinCap};
 
 use crate::{Count, Word, fold};
 use hz_core::Kind;
@@ -21,7 +21,7 @@ fn many(first: bool) -> Word {
 }
 
 fn is_counted(changes: Count, cap: u64) -> bool
-    ensures { IsTrue result ↔ IsCounted cap changes }
+    ensures { IsTrue result ↔ IsWithinCap cap changes }
 {
     match changes {
         Count::Exact(changes) => changes <= cap,
@@ -30,7 +30,7 @@ fn is_counted(changes: Count, cap: u64) -> bool
 }
 
 fn are_counted(pins: &[Word], cap: u64) -> bool
-    ensures { IsTrue result ↔ All (λ pin. IsCounted cap pin.changes) pins.now }
+    ensures { IsTrue result ↔ All (λ pin. IsWithinCap cap pin.changes) pins.now }
 {
     pins.iter().all(|pin| is_counted(pin.changes, cap))
 }

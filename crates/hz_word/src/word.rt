@@ -1,7 +1,7 @@
 ghost use Rattle.std.specs.Prelude.{◌≡◌, ◌↔◌, ℕ, Bool, List, map, not, IsNone, IfSome};
 ghost use Rattle.hz_word.specs.Word.{IsWord, last_letter};
-ghost use Rattle.hz_word.specs.Capped.{capped, complement};
-ghost use Rattle.hz_word.specs.Pairs.{constant, is_constant, last_after};
+ghost use Rattle.hz_word.specs.Capped.{capped_word, complement};
+ghost use Rattle.hz_word.specs.Pairs.{constant_word, is_constant, last_after};
 
 use crate::count::Count;
 
@@ -17,7 +17,7 @@ impl Word {
     /// The word of the complemented letters.
     pub fn not(self) -> Word
         ensures value { result ≡ complement self }
-        ensures letters { (cap : ℕ) (letters : List Bool) → IsWord letters → capped cap letters ≡ self → capped cap (map not letters) ≡ result }
+        ensures letters { (cap : ℕ) (letters : List Bool) → IsWord letters → capped_word cap letters ≡ self → capped_word cap (map not letters) ≡ result }
     {
         Word {
             first: !self.first,
@@ -28,7 +28,7 @@ impl Word {
     /// The last letter, where the number of changes is exact.
     pub fn last(self) -> Option<bool>
         ensures none { IsNone result ↔ (self.changes ≡ Count.Many) }
-        ensures letter { (cap : ℕ) (letters : List Bool) → IsWord letters → capped cap letters ≡ self → IfSome result (λ letter. letter ≡ last_letter letters) }
+        ensures letter { (cap : ℕ) (letters : List Bool) → IsWord letters → capped_word cap letters ≡ self → IfSome result (λ letter. letter ≡ last_letter letters) }
     {
         match self.changes {
             Count::Exact(changes) => Some(last_after(self.first, changes)),
@@ -38,7 +38,7 @@ impl Word {
 
     // The word of one letter alone.
     pub(crate) fn constant(letter: bool) -> Word
-        ensures { result ≡ constant letter }
+        ensures { result ≡ constant_word letter }
     {
         Word {
             first: letter,

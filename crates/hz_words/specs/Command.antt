@@ -8,26 +8,26 @@ use Rattle.hz_words.specs.declared.fault.WordsFault.{WordsFault}
 use Rattle.hz_words.specs.declared.fault.WordsFault.TheVariants.{Refused, Memory}
 
 -- an argument that stands at its place, and must be there
-abbrev pub required : Text → Rule
-required name = record (new_rule name) { required = true }
+abbrev pub required_argument : Text → Rule
+required_argument name = record (new_rule name) { required = true }
 
 -- an option `--name VALUE`, with its value if it is left out
-abbrev pub option : Text → Text → Rule
-option name value = record (new_rule name) { long = Some name; defaults = value ∷ [] }
+abbrev pub option_rule : Text → Text → Rule
+option_rule name value = record (new_rule name) { long = Some name; defaults = value ∷ [] }
 
 -- a command of words after the program's name
-abbrev pub bare : App
-bare = on_top (λ top. record top { no_binary_name = true }) (new_app (codes "hazard"))
+abbrev pub empty_command : App
+empty_command = on_top (λ top. record top { no_binary_name = true }) (new_app (codes "hazard"))
 
 -- the command: a job, a first name, a second name that may be left out, and two options
-abbrev pub hazard : App
-hazard =
-    with_rule (with_rule (with_rule (with_rule (with_rule bare
-    (required (codes "job")))
-    (required (codes "first")))
+abbrev pub hazard_app : App
+hazard_app =
+    with_rule (with_rule (with_rule (with_rule (with_rule empty_command
+    (required_argument (codes "job")))
+    (required_argument (codes "first")))
     (new_rule (codes "second")))
-    (option (codes "cap") (codes "1000")))
-    (option (codes "show") (codes "nodes"))
+    (option_rule (codes "cap") (codes "1000")))
+    (option_rule (codes "show") (codes "nodes"))
 
 -- the texts of the arguments
 pub record Texts : Type 0 where
@@ -60,7 +60,7 @@ arguments_in rows = record {
 -- the arguments that `clap` reads from the words; none if it refuses the words for another cause than memory
 unfoldable pub arguments_of : List Text → Option Texts
 arguments_of words =
-    if is_empty (fault_of hazard words) then Some (arguments_in (matches_of hazard words)) else None
+    if is_empty (fault_of hazard_app words) then Some (arguments_in (matches_of hazard_app words)) else None
 
 -- the arguments that `clap` reads from the words, or a refusal of words that it refuses, or memory ran out
 abbrev pub Parses : List Text → Result Arguments WordsFault → Type 0

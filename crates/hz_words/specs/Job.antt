@@ -16,9 +16,9 @@ pub data JobOf : Type 0 where
   Demo : (number cap : ℕ) → JobOf
 
 -- a job that borrows the words, by its names
-abbrev pub names_of : Job → JobOf
-names_of (asked.OnFiles task first second) = OnFiles task first.now second.now
-names_of (asked.Demo number cap) = Demo number cap
+abbrev pub job_model : Job → JobOf
+job_model (asked.OnFiles task first second) = OnFiles task first.now second.now
+job_model (asked.Demo number cap) = Demo number cap
 
 -- a task that counts changes up to a cap has one
 abbrev pub HasCap : Task → Type 0
@@ -27,9 +27,9 @@ HasCap Replay = Unit {0}
 HasCap Convert = Unit {0}
 
 -- the numbers of a job are in their ranges
-abbrev pub IsInRange : Job → Type 0
-IsInRange (asked.OnFiles task first second) = HasCap task
-IsInRange (asked.Demo number cap) = IsDemoNumber number × IsCap cap
+abbrev pub HasNumbersInRange : Job → Type 0
+HasNumbersInRange (asked.OnFiles task first second) = HasCap task
+HasNumbersInRange (asked.Demo number cap) = IsDemoNumber number × IsCap cap
 
 -- the tasks on two files, each behind its word
 abbrev pub tasks : ℕ → Show → List (List ℕ × Task)

@@ -1,6 +1,6 @@
 -- Words, with their arguments, in the order in which one needs them.
 --
--- hazard: the command line as `clap` reads it
+-- hazard_app: the command line as `clap` reads it
 -- Texts, texts_of arguments: the texts of the arguments
 -- Parses words result: the arguments of words, or their refusal
 -- IsCap cap, cap_of text: a cap on numbers of changes
@@ -9,7 +9,7 @@
 -- JobOf: a task on two files, or a demo
 -- tasks cap show: the tasks, each with its word
 -- job_with texts: the job that the arguments ask for
--- Reads words result: the job of the words, or a refusal of words that ask for none
+-- IsJobOfWords words result: the job of the words, or a refusal of words that ask for none
 
 pub mod Command
 pub mod Values

@@ -7,13 +7,13 @@ use Rattle.hz_report.specs.declared.show.Show.{Show}
 use Rattle.hz_report.specs.declared.show.Show.TheVariants.{Nodes, All}
 
 -- a number of 1 to a greatest one, as `clap` reads numbers, in decimal digits that a `+` may precede
-abbrev pub number_of : ℕ → List ℕ → Option ℕ
-number_of most text =
+abbrev pub number_up_to : ℕ → List ℕ → Option ℕ
+number_up_to most text =
     if is_unsigned_in 1 most text then Some (digits_value 10 (without_leading_plus text)) else None
 
 -- a cap
 abbrev pub cap_of : List ℕ → Option ℕ
-cap_of text = number_of 1000000 text
+cap_of text = number_up_to 1000000 text
 
 -- a number is a cap
 abbrev pub IsCap : ℕ → Type 0
@@ -26,7 +26,7 @@ begins_with_digit (byte ∷ bytes) = nat_le 49 byte && nat_le byte 57
 
 -- the number of a generated circuit: digits of which the first is not 0
 abbrev pub demo_of : List ℕ → Option ℕ
-demo_of text = if begins_with_digit text then number_of 18000 text else None
+demo_of text = if begins_with_digit text then number_up_to 18000 text else None
 
 -- which variables have a line
 abbrev pub show_of : List ℕ → Option Show

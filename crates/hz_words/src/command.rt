@@ -2,7 +2,7 @@
 ghost use Rattle.std.specs.Prelude.{◌≡◌, map, IfOk};
 ghost use Rattle.std.specs.String.{string_bytes};
 ghost use Rattle.clap.specs.Words.{app_of, found_of, rows_of, rule_of};
-ghost use Rattle.hz_words.specs.Command.{required, option, hazard, arguments_in, texts_of, Parses};
+ghost use Rattle.hz_words.specs.Command.{required_argument, option_rule, hazard_app, arguments_in, texts_of, Parses};
 
 use crate::fault::WordsFault;
 use clap::error::ErrorKind;
@@ -37,7 +37,7 @@ pub(crate) fn parse(alloc: Global, words: &[String]) -> Result<Arguments<'_>, Wo
 
 // The command: a job, its two files, and two options.
 fn hazard_command<'w>(alloc: Global) -> Result<Command<'w>, AllocError>
-    ensures { IfOk result (λ command. app_of command ≡ hazard) }
+    ensures { IfOk result (λ command. app_of command ≡ hazard_app) }
 {
     Command::new(alloc, "hazard")
         .no_binary_name(true)
@@ -50,14 +50,14 @@ fn hazard_command<'w>(alloc: Global) -> Result<Command<'w>, AllocError>
 
 // An argument that stands at its place, and must be there.
 fn required<'w>(alloc: Global, name: &'w str) -> Arg<'w>
-    ensures { rule_of result ≡ required name.entry.now }
+    ensures { rule_of result ≡ required_argument name.entry.now }
 {
     Arg::new(alloc, name).required(true)
 }
 
 // An option `--name VALUE`, with its value if it is left out.
 fn option<'w>(alloc: Global, name: &'w str, value: &'w str) -> Arg<'w>
-    ensures { rule_of result ≡ option name.entry.now value.entry.now }
+    ensures { rule_of result ≡ option_rule name.entry.now value.entry.now }
 {
     Arg::new(alloc, name).long(name).default_value(value)
 }

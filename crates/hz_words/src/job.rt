@@ -1,7 +1,7 @@
 //! The jobs that are built.
 ghost use Rattle.std.specs.Prelude.{◌≡◌, option_map, IfSome};
 ghost use Rattle.hz_words.specs.Command.{texts_of};
-ghost use Rattle.hz_words.specs.Job.{job_named, job_on_files, job_on_number, job_with, names_of, IsInRange};
+ghost use Rattle.hz_words.specs.Job.{job_named, job_on_files, job_on_number, job_with, job_model, HasNumbersInRange};
 ghost use Rattle.hz_words.specs.Values.{IsCap};
 
 use crate::command::Arguments;
@@ -47,8 +47,8 @@ pub enum Job<'w> {
 
 // The job that the arguments ask for.
 pub(crate) fn job_with<'w>(arguments: &Arguments<'w>) -> Option<Job<'w>>
-    ensures job { option_map names_of result ≡ job_with (texts_of arguments.now) }
-    ensures range { IfSome result IsInRange }
+    ensures job { option_map job_model result ≡ job_with (texts_of arguments.now) }
+    ensures range { IfSome result HasNumbersInRange }
 {
     let cap = read_cap(arguments.cap?)?;
     let show = read_show(arguments.show?)?;
@@ -70,9 +70,9 @@ fn job_named<'w>(
     show: Show,
 ) -> Option<Job<'w>>
     requires { IsCap cap }
-    ensures job { option_map names_of result
+    ensures job { option_map job_model result
         ≡ job_named word.now first.entry.now (option_map (λ text. text.now) second.entry) cap show }
-    ensures range { IfSome result IsInRange }
+    ensures range { IfSome result HasNumbersInRange }
 {
     if word == "demo" {
         job_on_number(first, second, cap)
@@ -90,9 +90,9 @@ fn job_on_files<'w>(
     show: Show,
 ) -> Option<Job<'w>>
     requires { IsCap cap }
-    ensures job { option_map names_of result
+    ensures job { option_map job_model result
         ≡ job_on_files word.now first.entry.now (option_map (λ text. text.now) second.entry) cap show }
-    ensures range { IfSome result IsInRange }
+    ensures range { IfSome result HasNumbersInRange }
 {
     let second = second?;
     let task = match word {
@@ -111,9 +111,9 @@ fn job_on_files<'w>(
 // The job on the circuit of a number.
 fn job_on_number<'w>(text: &'w str, second: Option<&'w str>, cap: u64) -> Option<Job<'w>>
     requires { IsCap cap }
-    ensures job { option_map names_of result
+    ensures job { option_map job_model result
         ≡ job_on_number text.entry.now (option_map (λ text. text.now) second.entry) cap }
-    ensures range { IfSome result IsInRange }
+    ensures range { IfSome result HasNumbersInRange }
 {
     if second.is_some() {
         return None;

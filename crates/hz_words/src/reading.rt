@@ -1,8 +1,8 @@
 //! The job of the words.
 ghost use Rattle.std.specs.Prelude.{map, IfOk};
 ghost use Rattle.std.specs.String.{string_bytes};
-ghost use Rattle.hz_words.specs.Job.{IsInRange};
-ghost use Rattle.hz_words.specs.Reading.{Reads};
+ghost use Rattle.hz_words.specs.Job.{HasNumbersInRange};
+ghost use Rattle.hz_words.specs.Reading.{IsJobOfWords};
 
 use crate::command::parse;
 use crate::fault::WordsFault;
@@ -13,8 +13,8 @@ use std::alloc::Global;
 /// help.
 #[tactic(auto, unfolding(crate::specs::Job::job_of))]
 pub fn read(alloc: Global, words: &[String]) -> Result<Job<'_>, WordsFault>
-    ensures job { Reads (map string_bytes words.now) result }
-    ensures range { IfOk result IsInRange }
+    ensures job { IsJobOfWords (map string_bytes words.now) result }
+    ensures range { IfOk result HasNumbersInRange }
 {
     let arguments = parse(alloc, words)?;
     job_with(&arguments).ok_or(WordsFault::Refused)

@@ -1,7 +1,7 @@
 //! What the arguments may be.
 ghost use Rattle.std.specs.Prelude.{◌≡◌, ◌≤◌, ◌^◌, ◌<◌, IfSome};
 ghost use Rattle.hz_gen.specs.Demo.{IsDemoNumber};
-ghost use Rattle.hz_words.specs.Values.{number_of, cap_of, show_of, demo_of, begins_with_digit, IsCap};
+ghost use Rattle.hz_words.specs.Values.{number_up_to, cap_of, show_of, demo_of, begins_with_digit, IsCap};
 
 use hz_gen::MAX_NUMBER;
 use hz_report::Show;
@@ -41,7 +41,7 @@ fn begins_with_digit(text: &str) -> bool
 
 // The number of 1 to a greatest one that a text stands for.
 fn read_number(text: &str, most: u64) -> Option<u64>
-    ensures value { result ≡ number_of most text.now }
+    ensures value { result ≡ number_up_to most text.now }
     ensures least { IfSome result (λ number. 1 ≤ number) }
     ensures most { IfSome result (λ number. number ≤ most) }
 {

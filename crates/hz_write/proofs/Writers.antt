@@ -5,12 +5,12 @@ use Rattle.std.proofs.lemmas.List.{append-nil, map-id, take_more, take-append-dr
 use Rattle.std.proofs.lemmas.List.Concat.{flat_map-append}
 use Rattle.std.proofs.lemmas.List.FromFn.{map-range_with_len_more}
 use Rattle.std.proofs.lemmas.Option.{same_Some, get_or_from_slice_get, slice_get_within}
-use Rattle.hz_outside.specs.Written.{grown}
+use Rattle.hz_outside.specs.WrittenText.{extended_text}
 use Rattle.hz_outside.specs.declared.fault.PutFault.{PutFault}
 use Rattle.hz_write.specs.declared.writer.Writer.{Writer}
-use Rattle.hz_write.specs.Writes.{Puts, Stops, Wrote, Waits}
+use Rattle.hz_write.specs.Writes.{Puts, Stops, Wrote, IsBuffered}
 use Rattle.hz_write.specs.Writer.{Given, Begins, Writes, Finishes}
-use Rattle.hz_write.proofs.Writing.{Waits-start, Waits-append, Puts-waiting, Stops-longer, Stops-waiting, Wrote-ended}
+use Rattle.hz_write.proofs.Writing.{IsBuffered-start, IsBuffered-append, Puts-waiting, Stops-longer, Stops-waiting, Wrote-ended}
 
 -- one number more of a range from 0
 pub flat_map_of_range : (text_of : ℕ → List ℕ) (n : ℕ) → flat_map text_of (range_with_len 0 (n + 1)) ≡ flat_map text_of (range_with_len 0 n) ++ text_of n
@@ -37,8 +37,8 @@ flat_map_of_take text_of items i item there =
     ∙ ap (λ (last : _). flat_map text_of (take i items) ++ text_of last) is
 
 -- what a sink in memory has, if a whole text was written to it as a new one
-pub plain_bytes : {text bytes : List ℕ} → Some bytes ≡ grown (Some []) text → bytes ≡ text
-unfolding grown
+pub plain_bytes : {text bytes : List ℕ} → Some bytes ≡ extended_text (Some []) text → bytes ≡ text
+unfolding extended_text
 plain_bytes {text} {bytes} grew = same_Some bytes text grew
 
 no_fault : (fault : Option PutFault) → is_some fault ≡ false → fault ≡ None
@@ -87,11 +87,11 @@ module _ {S : Type 0} {written : S → Option (List ℕ)} {faults : S → ℕ} w
 
   -- a piece of a line: all of it waits or was put
   pub writes_added : {a b : Writer S} (text : List ℕ) → b.out.ghost_name ≡ a.out.ghost_name → is_some a.fault ≡ false → b.fault ≡ a.fault
-      → Waits written faults (a.line ++ text) a.out.now b.out.now b.line → Writes written faults text a b
+      → IsBuffered written faults (a.line ++ text) a.out.now b.out.now b.line → Writes written faults text a b
   unfolding Given
   writes_added {a} text sink was same waits = record {
     sink = sink;
-    gave = λ start before given. rw (same ∙ no_fault a.fault was) (Waits-append text (rw (no_fault a.fault was) at given) waits);
+    gave = λ start before given. rw (same ∙ no_fault a.fault was) (IsBuffered-append text (rw (no_fault a.fault was) at given) waits);
   }
 
   -- the end of a line
@@ -139,4 +139,4 @@ module _ {S : Type 0} (written : S → Option (List ℕ)) (faults : S → ℕ) w
       → Begins start begun → Writes written faults text begun writer → Finishes written faults writer now result → Wrote written faults text start now result
   unfolding Given
   wrote_whole text start begun writer now result begins writes finishes =
-      finishes.wrote start text (writes.gave start [] (rw (begins.no_fault, begins.none_waits, begins.same) (Waits-start [] start)))
+      finishes.wrote start text (writes.gave start [] (rw (begins.no_fault, begins.none_waits, begins.same) (IsBuffered-start [] start)))

@@ -2,12 +2,12 @@
 use Rattle.std.specs.Prelude.{◌≡◌, ℕ, List, [], ◌++◌, Option, Some, None, Result}
 use Rattle.hz_outside.specs.declared.fault.PutFault.{PutFault}
 use Rattle.hz_write.specs.declared.writer.Writer.{Writer}
-use Rattle.hz_write.specs.Writes.{Waits, Stops, Wrote}
+use Rattle.hz_write.specs.Writes.{IsBuffered, Stops, Wrote}
 
 -- Since the sink was as at the start, this text was given to a writer: it was written but for what waits, or a put of it
 -- failed.
 unfoldable pub Given : {S : Type 0} → (S → Option (List ℕ)) → (S → ℕ) → S → List ℕ → (waiting : List ℕ) → Option PutFault → S → Type 0
-Given written faults start text waiting None now = Waits written faults text start now waiting
+Given written faults start text waiting None now = IsBuffered written faults text start now waiting
 Given written faults start text waiting (Some fault) now = Stops written faults fault text start now
 
 -- the writer is over a sink in this state; nothing waits, and there was no fault

@@ -2,7 +2,7 @@
 use Rattle.std.specs.Prelude.{◌≡◌, ℕ, ◌≤◌, List, [], ◌∷◌, ◌++◌, Option, Result, MatchResult}
 use Rattle.std.specs.List.{concat}
 use Rattle.hz_outside.specs.Counts.{Rose}
-use Rattle.hz_outside.specs.Written.{grown, GrewByFront}
+use Rattle.hz_outside.specs.WrittenText.{extended_text, GrewByPrefix}
 use Rattle.hz_outside.specs.declared.fault.PutFault.{PutFault}
 use Rattle.hz_outside.specs.declared.fault.PutFault.TheVariants.{Failed}
 
@@ -16,12 +16,12 @@ line_of pieces = concat pieces ++ newline
 
 -- the whole text was written
 pub record Puts {S : Type 0} (written : S → Option (List ℕ)) (faults : S → ℕ) (text : List ℕ) (was now : S) : Type 0 where
-  pub grew : written now ≡ grown (written was) text
+  pub grew : written now ≡ extended_text (written was) text
   pub never_fell : faults was ≤ faults now
 
 -- a front of the text was written, and a put failed only where the count rose
 pub record Stops {S : Type 0} (written : S → Option (List ℕ)) (faults : S → ℕ) (fault : PutFault) (text : List ℕ) (was now : S) : Type 0 where
-  pub front : GrewByFront (written was) text (written now)
+  pub front : GrewByPrefix (written was) text (written now)
   pub cause : fault ≡ Failed → Rose (faults was) (faults now)
   pub never_fell : faults was ≤ faults now
 
@@ -31,12 +31,12 @@ Wrote written faults text was now result =
     MatchResult result (λ _. Puts written faults text was now) (λ fault. Stops written faults fault text was now)
 
 -- the text is what was written and then what waits
-pub record Waits {S : Type 0} (written : S → Option (List ℕ)) (faults : S → ℕ) (text : List ℕ) (was now : S) (waiting : List ℕ) : Type 0 where
+pub record IsBuffered {S : Type 0} (written : S → Option (List ℕ)) (faults : S → ℕ) (text : List ℕ) (was now : S) (waiting : List ℕ) : Type 0 where
   pub done : List ℕ
   pub puts : Puts written faults done was now
   pub parts : done ++ waiting ≡ text
 
 -- the answer of a call after which some of this text may wait
-abbrev pub Added : {S : Type 0} → (S → Option (List ℕ)) → (S → ℕ) → List ℕ → S → S → List ℕ → Result (Unit {0}) PutFault → Type 0
-Added written faults text was now waiting result =
-    MatchResult result (λ _. Waits written faults text was now waiting) (λ fault. Stops written faults fault text was now)
+abbrev pub WroteBuffered : {S : Type 0} → (S → Option (List ℕ)) → (S → ℕ) → List ℕ → S → S → List ℕ → Result (Unit {0}) PutFault → Type 0
+WroteBuffered written faults text was now waiting result =
+    MatchResult result (λ _. IsBuffered written faults text was now waiting) (λ fault. Stops written faults fault text was now)

@@ -1,6 +1,6 @@
 //! A line that is composed piece by piece.
 ghost use Rattle.std.specs.Prelude.{◌≡◌, ◌+◌, ◌-◌, ◌≤◌, [], ◌++◌, length, OnErr};
-ghost use Rattle.hz_write.specs.Writes.{newline, Wrote, Added};
+ghost use Rattle.hz_write.specs.Writes.{newline, Wrote, WroteBuffered};
 
 use hz_outside::{PutFault, Sink};
 use std::marker::Model;
@@ -41,7 +41,7 @@ impl Line {
     ///
     /// After a refusal the line is dropped: nothing waits.
     pub fn add<K: Sink>(&mut self, out: &mut K, piece: &[u8]) -> Result<(), PutFault>
-        ensures added { Added K.written K.faults (self.old ++ piece.now) out.old out.new self.new result }
+        ensures added { WroteBuffered K.written K.faults (self.old ++ piece.now) out.old out.new self.new result }
         ensures dropped { OnErr result (self.new ≡ []) }
     {
         let mut rest = piece;

@@ -5,7 +5,7 @@
 //! and that list is the pattern. Or any one pin, once changed, gives the gate the value (AND leaves 1 by any pin), and the
 //! first free pin is changed. So no search is needed. `lone_bit` says which of the two it is.
 //!
-//! What must stay true: `IsReached`, for every kind and both values. The caller knows that some list on free pins will do.
+//! What must stay true: `HasBitOrSwitch`, for every kind and both values. The caller knows that some list on free pins will do.
 //!
 //! What breaks if you add a kind: a majority of three pins has neither property, since at 000 no one pin makes it 1. `choose`
 //! would have to search, and the lemma `reached` fails first.
@@ -13,7 +13,7 @@ ghost use Rattle.std.specs.Prelude.{◌≡◌, Bool, false, not, List, IsTrue, M
 ghost use Rattle.std.specs.List.{position};
 ghost use Rattle.hz_core.specs.Gate.{takes};
 ghost use Rattle.hz_core.specs.Pattern.{IsCandidate, IsPattern};
-ghost use Rattle.hz_core.specs.Reached.{IsReached};
+ghost use Rattle.hz_core.specs.BitOrSwitch.{HasBitOrSwitch};
 
 use super::Kind;
 
@@ -44,9 +44,9 @@ impl Kind {
 
     // The bit that all pins have wherever the gate has this value. Where there is none, each pin
     // alone turns the other value into this one.
-    #[tactic(auto, using(crate::proofs::Reached::reached))]
+    #[tactic(auto, using(crate::proofs::BitOrSwitchLemmas::reached))]
     fn lone_bit(self, value: bool) -> Option<bool>
-        ensures { IsReached self value result }
+        ensures { HasBitOrSwitch self value result }
     {
         match self {
             Kind::And => value.then_some(true),

@@ -4,14 +4,14 @@ ghost use Rattle.std.specs.Prelude.{◌≡◌, ◌≤◌, ◌++◌, ◌∷◌, [
 ghost use Rattle.std.specs.List.{flat_map, list_any, range_with_len};
 ghost use Rattle.hz_text.specs.declared.run.order.Place.TheVariants.{Between};
 ghost use Rattle.hz_text.specs.RunStatement.{Run, Step, Cycle, End};
-ghost use Rattle.hz_text.specs.RunLookup.{run_held_by, run_entered_all};
+ghost use Rattle.hz_text.specs.RunResolution.{run_resolution_of, numbered_run_resolutions};
 ghost use Rattle.hz_text.specs.RunFault.{variables_in};
 ghost use Rattle.hz_text.specs.OrderPass.{place_after, runs_out_of_order};
 ghost use Rattle.hz_text.specs.RunRules.{AssignsBelow, first_run_fault};
 ghost use Rattle.hz_text.specs.RunText.{IsRunTextBy, step_of, run_statements};
-ghost use Rattle.hz_text.specs.RunOrder.{unnumbered};
+ghost use Rattle.hz_text.specs.RunOrder.{statements_without_lines};
 ghost use Rattle.hz_text.specs.RunBuilt.{after_header, last_place, IsRunAdded};
-ghost use Rattle.hz_text.specs.Assignment.{bit_at};
+ghost use Rattle.hz_text.specs.Assignment.{assigned_bit};
 ghost use Rattle.hz_text.specs.Bits.{IsWholeStart};
 
 use crate::assignments::Assigned;
@@ -33,8 +33,8 @@ pub(crate) fn build_runs(
 ) -> Result<RunText, Memory>
     requires some { 2 ≤ length (after_header entries.now) }
     requires below { All (AssignsBelow (length circuit.now.names)) entries.now }
-    requires clear { first_run_fault circuit.now (run_entered_all entries.now) ≡ None }
-    ensures { IfOk result (IsRunTextBy circuit.now (unnumbered (run_entered_all entries.now))) }
+    requires clear { first_run_fault circuit.now (numbered_run_resolutions entries.now) ≡ None }
+    ensures { IfOk result (IsRunTextBy circuit.now (statements_without_lines (numbered_run_resolutions entries.now))) }
 {
     let states = after_header(entries);
     let [start, input, later @ ..] = states else {
@@ -73,7 +73,7 @@ fn after_first<'h, 'a>(entries: &'h [RunEntry<'a>]) -> &'h [RunEntry<'a>]
 // The bits that assignments give to so many nodes.
 fn read_bits(alloc: Global, all: &[Assigned], nodes: u32) -> Result<Vec<bool>, Memory>
     requires { IsWholeStart nodes all.now }
-    ensures { IfOk result (λ bits. map Some bits.items ≡ map (bit_at all.now) (range_with_len 0 nodes)) }
+    ensures { IfOk result (λ bits. map Some bits.items ≡ map (assigned_bit all.now) (range_with_len 0 nodes)) }
 {
     let listed = bits_of(alloc, all, nodes)?;
     let mut bits = Vec::new(alloc);
@@ -83,9 +83,9 @@ fn read_bits(alloc: Global, all: &[Assigned], nodes: u32) -> Result<Vec<bool>, M
 
 // The runs that statements before the end are.
 fn read_runs(alloc: Global, entries: &[RunEntry]) -> Result<Vec<ToldRun>, Memory>
-    requires ordered { runs_out_of_order Between (run_entered_all entries.now) ≡ None }
-    requires known { All (λ entry. list_any is_none (variables_in (run_held_by entry.held)) ≡ false) entries.now }
-    ensures { IfOk result (λ runs. unnumbered (run_entered_all entries.now) ≡ flat_map run_statements runs.items ++ End ∷ []) }
+    requires ordered { runs_out_of_order Between (numbered_run_resolutions entries.now) ≡ None }
+    requires known { All (λ entry. list_any is_none (variables_in (run_resolution_of entry.held)) ≡ false) entries.now }
+    ensures { IfOk result (λ runs. statements_without_lines (numbered_run_resolutions entries.now) ≡ flat_map run_statements runs.items ++ End ∷ []) }
 {
     let mut runs = Vec::new(alloc);
     let mut flips = Vec::new(alloc);
@@ -105,9 +105,9 @@ fn add_statement(
     held: &RunHeld,
     flips: &mut Vec<u32>,
 ) -> Result<(), Memory>
-    requires follows { IsSome (place_after (last_place runs.old.items) (run_held_by held.now)) }
-    requires known { list_any is_none (variables_in (run_held_by held.now)) ≡ false }
-    ensures { OnOk result (IsRunAdded runs.old.items (run_held_by held.now) runs.new.items) }
+    requires follows { IsSome (place_after (last_place runs.old.items) (run_resolution_of held.now)) }
+    requires known { list_any is_none (variables_in (run_resolution_of held.now)) ≡ false }
+    ensures { OnOk result (IsRunAdded runs.old.items (run_resolution_of held.now) runs.new.items) }
 {
     match held {
         RunHeld::Run => begin_run(alloc, runs),

@@ -2,10 +2,10 @@
 
 ghost use Rattle.std.specs.Prelude.{◌≡◌};
 ghost use Rattle.hz_text.specs.declared.run.order.Place.TheVariants.{Between};
-ghost use Rattle.hz_text.specs.RunLookup.{run_held_by, run_entered_all};
+ghost use Rattle.hz_text.specs.RunResolution.{run_resolution_of, numbered_run_resolutions};
 ghost use Rattle.hz_text.specs.OrderPass.{is_net_line, is_end};
 ghost use Rattle.hz_text.specs.RunFault.{version_in, is_start_line, is_input_line};
-ghost use Rattle.hz_text.specs.OrderPass.{place_after_step, place_after_cycle, place_after, end_out_of_order, runs_out_of_order, input_out_of_order, start_out_of_order, net_out_of_order, run_out_of_order};
+ghost use Rattle.hz_text.specs.OrderPass.{place_after_step, place_after_cycle, place_after, end_out_of_order, runs_out_of_order, input_out_of_order, start_out_of_order, net_out_of_order, first_misplaced};
 
 use crate::run::statement::{RunEntry, RunHeld};
 use crate::run::version::Version;
@@ -20,7 +20,7 @@ pub(crate) enum Place {
 
 // The line that breaks the order of a text first. It is 0 where none does and the text stops before its end.
 pub(crate) fn first_out_of_order(entries: &[RunEntry]) -> Option<u32>
-    ensures { result ≡ run_out_of_order (run_entered_all entries.now) }
+    ensures { result ≡ first_misplaced (numbered_run_resolutions entries.now) }
 {
     let [first, later @ ..] = entries else {
         return Some(0);
@@ -36,7 +36,7 @@ pub(crate) fn first_out_of_order(entries: &[RunEntry]) -> Option<u32>
 
 // The same from the size of the network on.
 fn net_out_of_order(entries: &[RunEntry]) -> Option<u32>
-    ensures { result ≡ net_out_of_order (run_entered_all entries.now) }
+    ensures { result ≡ net_out_of_order (numbered_run_resolutions entries.now) }
 {
     let [first, later @ ..] = entries else {
         return Some(0);
@@ -50,7 +50,7 @@ fn net_out_of_order(entries: &[RunEntry]) -> Option<u32>
 
 // The same from the start on.
 fn start_out_of_order(entries: &[RunEntry]) -> Option<u32>
-    ensures { result ≡ start_out_of_order (run_entered_all entries.now) }
+    ensures { result ≡ start_out_of_order (numbered_run_resolutions entries.now) }
 {
     let [first, later @ ..] = entries else {
         return Some(0);
@@ -64,7 +64,7 @@ fn start_out_of_order(entries: &[RunEntry]) -> Option<u32>
 
 // The same from the input line on.
 fn input_out_of_order(entries: &[RunEntry]) -> Option<u32>
-    ensures { result ≡ input_out_of_order (run_entered_all entries.now) }
+    ensures { result ≡ input_out_of_order (numbered_run_resolutions entries.now) }
 {
     let [first, later @ ..] = entries else {
         return Some(0);
@@ -78,7 +78,7 @@ fn input_out_of_order(entries: &[RunEntry]) -> Option<u32>
 
 // The same in the runs and the end.
 fn runs_out_of_order(entries: &[RunEntry]) -> Option<u32>
-    ensures { result ≡ runs_out_of_order Between (run_entered_all entries.now) }
+    ensures { result ≡ runs_out_of_order Between (numbered_run_resolutions entries.now) }
 {
     let mut place = Place::Between;
     let mut rest = entries;
@@ -97,7 +97,7 @@ fn runs_out_of_order(entries: &[RunEntry]) -> Option<u32>
 
 // The same after the end.
 fn end_out_of_order(entries: &[RunEntry]) -> Option<u32>
-    ensures { result ≡ end_out_of_order (run_entered_all entries.now) }
+    ensures { result ≡ end_out_of_order (numbered_run_resolutions entries.now) }
 {
     let [first, ..] = entries else {
         return None;
@@ -107,7 +107,7 @@ fn end_out_of_order(entries: &[RunEntry]) -> Option<u32>
 
 // Where one is after a statement among the runs, if it may stand there.
 pub(crate) fn place_after(place: Place, held: &RunHeld) -> Option<Place>
-    ensures { result ≡ place_after place (run_held_by held.now) }
+    ensures { result ≡ place_after place (run_resolution_of held.now) }
 {
     match held {
         RunHeld::Header(_) => None,
@@ -143,7 +143,7 @@ fn place_after_cycle(place: Place) -> Option<Place>
 
 // The version of a text whose first statement this is.
 pub(crate) fn version_in(held: &RunHeld) -> Option<Version>
-    ensures { result ≡ version_in (run_held_by held.now) }
+    ensures { result ≡ version_in (run_resolution_of held.now) }
 {
     match held {
         RunHeld::Header(version) => Some(*version),
@@ -152,25 +152,25 @@ pub(crate) fn version_in(held: &RunHeld) -> Option<Version>
 }
 
 fn is_net_line(held: &RunHeld) -> bool
-    ensures { result ≡ is_net_line (run_held_by held.now) }
+    ensures { result ≡ is_net_line (run_resolution_of held.now) }
 {
     matches!(held, RunHeld::Net(_))
 }
 
 pub(crate) fn is_start_line(held: &RunHeld) -> bool
-    ensures { result ≡ is_start_line (run_held_by held.now) }
+    ensures { result ≡ is_start_line (run_resolution_of held.now) }
 {
     matches!(held, RunHeld::Start(_))
 }
 
 pub(crate) fn is_input_line(held: &RunHeld) -> bool
-    ensures { result ≡ is_input_line (run_held_by held.now) }
+    ensures { result ≡ is_input_line (run_resolution_of held.now) }
 {
     matches!(held, RunHeld::Input(_))
 }
 
 pub(crate) fn is_end(held: &RunHeld) -> bool
-    ensures { result ≡ is_end (run_held_by held.now) }
+    ensures { result ≡ is_end (run_resolution_of held.now) }
 {
     matches!(held, RunHeld::End)
 }

@@ -27,7 +27,7 @@ use std::alloc::Global;
 /// the input in the order of the inputs, then each run, and the end. Keywords are in small letters, words are separated by one space, and each line ends with a
 /// line feed. The wire into the second pin of a gate `g` is written `g(2)`. If the text has at most 16,777,216 bytes,
 /// [`crate::read_run`] gives the run text back.
-#[tactic(auto, unfolding(hz_outside::specs::Written::grown))]
+#[tactic(auto, unfolding(hz_outside::specs::WrittenText::extended_text))]
 pub fn print_run(alloc: Global, net: &Net, text: &RunText) -> Result<Vec<u8>, Memory>
     requires { IsRunTextFor net.now text.now }
     ensures text { IfOk result (λ printed. printed.items ≡ run_text_printed net.now text.now) }

@@ -2,7 +2,7 @@
 
 ghost use Rattle.std.specs.Prelude.{◌≡◌, ◌≤◌, ◌⊎◌, length, None, IfOk, IfErr, OnOk, IsErrOf, MatchResult};
 ghost use Rattle.hz_text.specs.RunFault.{IsLeastRunFault, IsRunFaultless, IsRunRefusal};
-ghost use Rattle.hz_text.specs.RunRules.{IsAcceptedRun};
+ghost use Rattle.hz_text.specs.RunRules.{IsAcceptedRunText};
 ghost use Rattle.hz_text.specs.RunText.{IsRunValue, IsRunTextFor};
 
 use crate::fault::TextFault;
@@ -45,7 +45,7 @@ fn read_accepted_runs<'a>(
 ) -> Result<Vec<RunEntry<'a>>, TextFault>
     requires { length text.now ≤ 16777216 }
     ensures { MatchResult result
-        (λ entries. IsAcceptedRun net.now text.now entries.items)
+        (λ entries. IsAcceptedRunText net.now text.now entries.items)
         (λ fault. IsRunRefusal net.now text.now fault) }
 {
     let variables = Vec::new(alloc);

@@ -3,9 +3,9 @@
 ghost use Rattle.std.specs.Prelude.{◌≡◌, ◌≤◌, IfOk, is_none};
 ghost use Rattle.std.specs.List.{list_any};
 ghost use Rattle.std.specs.Option.{option_map};
-ghost use Rattle.hz_text.specs.RunLookup.{run_held_by, run_entered_all};
+ghost use Rattle.hz_text.specs.RunResolution.{run_resolution_of, numbered_run_resolutions};
 ghost use Rattle.hz_text.specs.RunFault.{assignments_in, variables_in, names_unknown, first_start, first_input, steps_in, is_second, size_in, first_size};
-ghost use Rattle.hz_text.specs.RunRules.{least_left_out, lesser, least_missing_node, beyond_from, first_mismatch};
+ghost use Rattle.hz_text.specs.RunRules.{least_left_out, option_min, least_missing_node, beyond_from, first_mismatch};
 
 use crate::assignments::{Allowed, Assigned, any_unknown, least_unassigned};
 use crate::fault::Mismatch;
@@ -21,7 +21,7 @@ pub const MAX_STEPS: usize = 2_000_000;
 
 // Whether the statement names what is not there: in the start no node, in the input no input, in a step no variable.
 pub(crate) fn names_unknown(held: &RunHeld, inputs: u32) -> bool
-    ensures { result ≡ names_unknown inputs (run_held_by held.now) }
+    ensures { result ≡ names_unknown inputs (run_resolution_of held.now) }
 {
     match held {
         RunHeld::Start(assigned) => any_unknown(assigned.as_slice(), Allowed::Nodes, inputs),
@@ -40,7 +40,7 @@ fn any_none(variables: &[Option<u32>]) -> bool
 
 // What a statement assigns.
 pub(crate) fn assignments_in<'h>(held: &'h RunHeld) -> &'h [Assigned]
-    ensures { result.now ≡ assignments_in (run_held_by held.now) }
+    ensures { result.now ≡ assignments_in (run_resolution_of held.now) }
 {
     match held {
         RunHeld::Start(assigned) => assigned.as_slice(),
@@ -55,7 +55,7 @@ pub(crate) fn least_missing_node(
     entries: &[RunEntry],
     circuit: &Circuit,
 ) -> Result<Option<u32>, Memory>
-    ensures { IfOk result (λ node. node ≡ least_missing_node circuit.now (run_entered_all entries.now)) }
+    ensures { IfOk result (λ node. node ≡ least_missing_node circuit.now (numbered_run_resolutions entries.now)) }
 {
     let start = least_left_out(alloc, first_start(entries), circuit.nodes())?;
     let input = least_left_out(alloc, first_input(entries), circuit.inputs())?;
@@ -64,7 +64,7 @@ pub(crate) fn least_missing_node(
 
 // The lesser of two numbers that may be there.
 fn lesser(first: Option<u32>, second: Option<u32>) -> Option<u32>
-    ensures { result ≡ lesser first second }
+    ensures { result ≡ option_min first second }
 {
     match (first, second) {
         (None, None) => None,
@@ -90,7 +90,7 @@ fn least_left_out(
 
 // What the first start assigns, if there is one.
 fn first_start<'h>(entries: &'h [RunEntry]) -> Option<&'h [Assigned]>
-    ensures { option_map (λ list. list.now) result ≡ first_start (run_entered_all entries.now) }
+    ensures { option_map (λ list. list.now) result ≡ first_start (numbered_run_resolutions entries.now) }
 {
     for entry in entries {
         if is_start_line(&entry.held) {
@@ -102,7 +102,7 @@ fn first_start<'h>(entries: &'h [RunEntry]) -> Option<&'h [Assigned]>
 
 // What the first input line assigns, if there is one.
 fn first_input<'h>(entries: &'h [RunEntry]) -> Option<&'h [Assigned]>
-    ensures { option_map (λ list. list.now) result ≡ first_input (run_entered_all entries.now) }
+    ensures { option_map (λ list. list.now) result ≡ first_input (numbered_run_resolutions entries.now) }
 {
     for entry in entries {
         if is_input_line(&entry.held) {
@@ -114,7 +114,7 @@ fn first_input<'h>(entries: &'h [RunEntry]) -> Option<&'h [Assigned]>
 
 // The first line up to which there are too many steps, or too many variables in steps.
 pub(crate) fn line_beyond(entries: &[RunEntry]) -> Option<u32>
-    ensures { result ≡ beyond_from 0 0 (run_entered_all entries.now) }
+    ensures { result ≡ beyond_from 0 0 (numbered_run_resolutions entries.now) }
 {
     let mut steps = 0;
     let mut variables = 0;
@@ -130,7 +130,7 @@ pub(crate) fn line_beyond(entries: &[RunEntry]) -> Option<u32>
 
 // The first count of the network's size that a text of version 2 tells wrongly.
 pub(crate) fn first_mismatch(entries: &[RunEntry], real: Size) -> Option<Mismatch>
-    ensures { result ≡ first_mismatch real (run_entered_all entries.now) }
+    ensures { result ≡ first_mismatch real (numbered_run_resolutions entries.now) }
 {
     let [first, ..] = entries else {
         return None;
@@ -145,14 +145,14 @@ pub(crate) fn first_mismatch(entries: &[RunEntry], real: Size) -> Option<Mismatc
 
 // Whether the statement is the header of version 2.
 fn is_second(held: &RunHeld) -> bool
-    ensures { result ≡ is_second (run_held_by held.now) }
+    ensures { result ≡ is_second (run_resolution_of held.now) }
 {
     matches!(held, RunHeld::Header(Version::Two))
 }
 
 // The first size of a network that a text tells, and its line.
 fn first_size(entries: &[RunEntry]) -> Option<(u32, Size)>
-    ensures { result ≡ first_size (run_entered_all entries.now) }
+    ensures { result ≡ first_size (numbered_run_resolutions entries.now) }
 {
     for entry in entries {
         if let Some(size) = size_in(&entry.held) {
@@ -164,7 +164,7 @@ fn first_size(entries: &[RunEntry]) -> Option<(u32, Size)>
 
 // The size that a statement tells.
 fn size_in(held: &RunHeld) -> Option<Size>
-    ensures { result ≡ size_in (run_held_by held.now) }
+    ensures { result ≡ size_in (run_resolution_of held.now) }
 {
     match held {
         RunHeld::Net(size) => Some(*size),
@@ -174,7 +174,7 @@ fn size_in(held: &RunHeld) -> Option<Size>
 
 // How many steps a statement is.
 fn steps_in(held: &RunHeld) -> usize
-    ensures value { result ≡ steps_in (run_held_by held.now) }
+    ensures value { result ≡ steps_in (run_resolution_of held.now) }
     ensures one { result ≤ 1 }
 {
     match held {
@@ -185,7 +185,7 @@ fn steps_in(held: &RunHeld) -> usize
 
 // The variables that a statement names.
 pub(crate) fn variables_in<'h>(held: &'h RunHeld) -> &'h [Option<u32>]
-    ensures { result.now ≡ variables_in (run_held_by held.now) }
+    ensures { result.now ≡ variables_in (run_resolution_of held.now) }
 {
     match held {
         RunHeld::Step(variables) => variables,

@@ -2,11 +2,11 @@
 
 ghost use Rattle.std.specs.Prelude.{◌≡◌, length, map, IfOk, MatchResult, Some};
 ghost use Rattle.std.specs.Option.{option_map};
-ghost use Rattle.hz_line.specs.Reading.{entered_by, IsUnread};
+ghost use Rattle.hz_line.specs.Reading.{numbered_by, IsUnread};
 ghost use Rattle.hz_line.specs.Token.{token_of};
 ghost use Rattle.hz_text.specs.Rules.{AreBelow};
 ghost use Rattle.hz_text.specs.RunStatement.{run_keyword_of};
-ghost use Rattle.hz_text.specs.RunLookup.{run_looked_by, run_looked_with, run_held_by, run_keyword_by};
+ghost use Rattle.hz_text.specs.RunResolution.{resolve_run_tokens, resolve_run_keyword, run_resolution_of, run_keyword_by};
 ghost use Rattle.hz_text.specs.RunFault.{assignments_in};
 ghost use Rattle.hz_text.specs.RunRules.{run_rules};
 
@@ -56,7 +56,7 @@ pub(crate) struct RunStatements<'a, 'n> {
 impl<'a, 'n, 't> Text<'t> for RunStatements<'a, 'n> {
     ghost use Rattle.std.specs.Prelude.{length};
     ghost use Rattle.hz_core.specs.Netlist.{Netlist};
-    ghost use Rattle.hz_text.specs.RunLookup.{LookedRun, run_held_by, run_looked_by};
+    ghost use Rattle.hz_text.specs.RunResolution.{ResolvedRunStatement, run_resolution_of, resolve_run_tokens};
     ghost use Rattle.hz_text.specs.RunRules.{run_rules};
 
     type Held = RunHeld<'a>;
@@ -65,11 +65,11 @@ impl<'a, 'n, 't> Text<'t> for RunStatements<'a, 'n> {
 
     ghost context = { λ reader. reader.net.now };
 
-    ghost Stated = { LookedRun };
+    ghost Stated = { ResolvedRunStatement };
 
-    ghost stated = { run_held_by };
+    ghost stated = { run_resolution_of };
 
-    ghost grammar = { run_looked_by };
+    ghost grammar = { resolve_run_tokens };
 
     ghost rules = { run_rules };
 
@@ -139,9 +139,9 @@ fn read_statement_of<'a>(
     variables: &mut Vec<Option<u32>>,
 ) -> Result<RunHeld<'a>, Unread>
     ensures read { MatchResult result
-        (λ held. run_looked_with net.now (Some (run_keyword_by keyword)) (map token_of rest.now) ≡ Some (run_held_by held))
-        (λ why. IsUnread (run_looked_with net.now (Some (run_keyword_by keyword)) (map token_of rest.now)) why) }
-    ensures below { IfOk result (λ held. AreBelow (length net.now.names) (assignments_in (run_held_by held))) }
+        (λ held. resolve_run_keyword net.now (Some (run_keyword_by keyword)) (map token_of rest.now) ≡ Some (run_resolution_of held))
+        (λ why. IsUnread (resolve_run_keyword net.now (Some (run_keyword_by keyword)) (map token_of rest.now)) why) }
+    ensures below { IfOk result (λ held. AreBelow (length net.now.names) (assignments_in (run_resolution_of held))) }
 {
     match keyword {
         RunKeyword::Runs => Ok(RunHeld::Header(read_version(rest)?)),

@@ -22,9 +22,9 @@ impl Model for ToldRun {
 
     ghost Value = { RunOf };
 
-    ghost use Rattle.hz_text.specs.RunInside.{told_of};
+    ghost use Rattle.hz_text.specs.RunInside.{run_of_fields};
 
-    ghost view = { told_of };
+    ghost view = { run_of_fields };
 }
 
 impl ToldRun {

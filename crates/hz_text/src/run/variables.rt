@@ -7,7 +7,7 @@ ghost use Rattle.hz_line.specs.declared.tokens.Token.TheVariants.{Sign};
 ghost use Rattle.hz_line.specs.Token.{token_of};
 ghost use Rattle.hz_line.specs.Reading.{IsUnread};
 ghost use Rattle.hz_text.specs.RunStatement.{is_digit, number_by};
-ghost use Rattle.hz_text.specs.RunLookup.{wire_into, variables_by};
+ghost use Rattle.hz_text.specs.RunResolution.{wire_into, variables_by};
 ghost use Rattle.hz_text.specs.VariablesRead.{IsPinAfter, IsFirstVariable};
 
 use crate::run::number::{is_decimal, number_within};

@@ -2,7 +2,7 @@
 
 ghost use Rattle.std.specs.Prelude.{◌≡◌, ◌<◌, ◌≤◌, [], length, map, All, IfOk, OnOk};
 ghost use Rattle.hz_text.specs.Assignment.{assignment_to};
-ghost use Rattle.hz_text.specs.Lookup.{held_by, entered_all};
+ghost use Rattle.hz_text.specs.Resolution.{resolution_of, numbered_resolutions};
 ghost use Rattle.hz_text.specs.ScriptReading.{IsSound};
 ghost use Rattle.hz_text.specs.ScriptText.{IsScriptOf};
 
@@ -16,8 +16,8 @@ use std::alloc::Global;
 pub(crate) fn build(alloc: Global, nodes: u32, entries: &[Entry]) -> Result<Script, Memory>
     requires some { 0 < length entries.now }
     requires few { length entries.now ≤ 10001 }
-    requires sound { All (λ entry. IsSound nodes (held_by entry.held)) entries.now }
-    ensures { IfOk result (IsScriptOf nodes (entered_all entries.now)) }
+    requires sound { All (λ entry. IsSound nodes (resolution_of entry.held)) entries.now }
+    ensures { IfOk result (IsScriptOf nodes (numbered_resolutions entries.now)) }
 {
     let [first, later @ ..] = entries else {
         unreachable!();
@@ -37,10 +37,10 @@ fn add_changes(
 ) -> Result<(), Memory>
     requires none { script.old.changes ≡ [] }
     requires few { length entries.now ≤ 10000 }
-    requires sound { All (λ entry. IsSound (length script.old.start) (held_by entry.held)) entries.now }
+    requires sound { All (λ entry. IsSound (length script.old.start) (resolution_of entry.held)) entries.now }
     ensures start { OnOk result (script.new.start ≡ script.old.start) }
     ensures changes { OnOk result
-        (map (map assignment_to) script.new.changes ≡ map (λ numbered. numbered.statement.assigned) (entered_all entries.now)) }
+        (map (map assignment_to) script.new.changes ≡ map (λ numbered. numbered.statement.assigned) (numbered_resolutions entries.now)) }
 {
     for entry in entries {
         read_pairs(entry.held.assigned.as_slice(), pairs)?;

@@ -6,7 +6,7 @@ ghost use Rattle.hz_core.specs.Netlist.{IsCircuit};
 ghost use Rattle.hz_write.specs.Writer.{Writes};
 ghost use Rattle.hz_write.specs.Writes.{Wrote};
 ghost use Rattle.hz_text.specs.Printed.{statement_text, listed_from, script_text};
-ghost use Rattle.hz_text.specs.ScriptFault.{IsFaultless};
+ghost use Rattle.hz_text.specs.ScriptFault.{IsScriptFaultless};
 ghost use Rattle.hz_text.specs.ScriptText.{IsScriptFor, IsValue};
 
 use crate::printing::{write_listed, write_statement};
@@ -19,11 +19,11 @@ use std::alloc::Global;
 /// Prints a script of a circuit: the start in the order of the nodes, then each change in its own order. Keywords are in
 /// small letters, words are separated by one space, and each line ends with a line feed. If the text has at most
 /// 16,777,216 bytes, [`crate::read_script`] gives the script back.
-#[tactic(auto, unfolding(hz_outside::specs::Written::grown))]
+#[tactic(auto, unfolding(hz_outside::specs::WrittenText::extended_text))]
 pub fn print_script(alloc: Global, circuit: &Circuit, script: &Script) -> Result<Vec<u8>, Memory>
     requires { IsScriptFor circuit.now script.now }
     ensures text { IfOk result (λ text. text.items ≡ script_text circuit.now script.now) }
-    ensures faultless { IfOk result (λ text. IsFaultless circuit.now text.items) }
+    ensures faultless { IfOk result (λ text. IsScriptFaultless circuit.now text.items) }
     ensures value { IfOk result (λ text. IsValue circuit.now text.items script.now) }
 {
     let mut sink = PlainSink::new(alloc);

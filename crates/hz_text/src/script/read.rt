@@ -1,8 +1,8 @@
 //! Reading scripts.
 
 ghost use Rattle.std.specs.Prelude.{◌≡◌, ◌≤◌, ◌⊎◌, length, IfOk, IfErr, OnOk, IsErrOf, MatchResult};
-ghost use Rattle.hz_text.specs.ScriptFault.{IsLeastFault, IsFaultless, IsRefusal};
-ghost use Rattle.hz_text.specs.ScriptReading.{IsAccepted};
+ghost use Rattle.hz_text.specs.ScriptFault.{IsLeastScriptFault, IsScriptFaultless, IsScriptRefusal};
+ghost use Rattle.hz_text.specs.ScriptReading.{IsAcceptedScript};
 ghost use Rattle.hz_text.specs.ScriptText.{IsValue, IsScriptFor};
 
 use crate::fault::TextFault;
@@ -21,9 +21,9 @@ pub fn read_script(alloc: Global, circuit: &Circuit, text: &[u8]) -> Result<Scri
     requires { length text.now ≤ 16777216 }
     ensures value { IfOk result (IsValue circuit.now text.now) }
     ensures usable { IfOk result (IsScriptFor circuit.now) }
-    ensures faultless { OnOk result (IsFaultless circuit.now text.now) }
-    ensures fault { IfErr result (IsRefusal circuit.now text.now) }
-    ensures exact { (fault : TextFault) → IsLeastFault circuit.now text.now fault
+    ensures faultless { OnOk result (IsScriptFaultless circuit.now text.now) }
+    ensures fault { IfErr result (IsScriptRefusal circuit.now text.now) }
+    ensures exact { (fault : TextFault) → IsLeastScriptFault circuit.now text.now fault
         → IsErrOf result fault ⊎ IsErrOf result TextFault.Memory }
 {
     let entries = read_accepted(alloc, circuit, text)?;
@@ -35,8 +35,8 @@ pub fn read_script(alloc: Global, circuit: &Circuit, text: &[u8]) -> Result<Scri
 fn read_accepted(alloc: Global, circuit: &Circuit, text: &[u8]) -> Result<Vec<Entry>, TextFault>
     requires { length text.now ≤ 16777216 }
     ensures { MatchResult result
-        (λ entries. IsAccepted circuit.now text.now entries.items)
-        (λ fault. IsRefusal circuit.now text.now fault) }
+        (λ entries. IsAcceptedScript circuit.now text.now entries.items)
+        (λ fault. IsScriptRefusal circuit.now text.now fault) }
 {
     read_text(alloc, Statements { alloc, circuit }, text)
 }

@@ -1,8 +1,8 @@
 // What the passes over the statements of a script answer.
 
 ghost use Rattle.std.specs.Prelude.{◌≡◌, IfOk};
-ghost use Rattle.hz_line.specs.Statement.{first_line};
-ghost use Rattle.hz_text.specs.Lookup.{held_by, entered_all};
+ghost use Rattle.hz_line.specs.Statement.{first_passing_line};
+ghost use Rattle.hz_text.specs.Resolution.{resolution_of, numbered_resolutions};
 ghost use Rattle.hz_text.specs.ScriptFault.{has_unknown, is_start};
 ghost use Rattle.hz_text.specs.ScriptRules.{least_missing, first_out_of_order, last_beyond};
 
@@ -14,7 +14,7 @@ use std::alloc::Global;
 
 // Whether the statement assigns no node, or in a change no input.
 pub(crate) fn has_unknown(held: &Held, inputs: u32) -> bool
-    ensures { result ≡ has_unknown inputs (held_by held.now) }
+    ensures { result ≡ has_unknown inputs (resolution_of held.now) }
 {
     match held.keyword {
         Keyword::Start => any_unknown(held.assigned.as_slice(), Allowed::Nodes, inputs),
@@ -28,7 +28,7 @@ pub(crate) fn least_missing(
     entries: &[Entry],
     primary_inputs: u32,
 ) -> Result<Option<u32>, Memory>
-    ensures { IfOk result (λ missing. missing ≡ least_missing primary_inputs (entered_all entries.now)) }
+    ensures { IfOk result (λ missing. missing ≡ least_missing primary_inputs (numbered_resolutions entries.now)) }
 {
     let [first, ..] = entries else {
         return Ok(None);
@@ -41,7 +41,7 @@ pub(crate) fn least_missing(
 
 // The line of the first statement that breaks the order.
 pub(crate) fn first_out_of_order(entries: &[Entry]) -> Option<u32>
-    ensures { result ≡ first_out_of_order (entered_all entries.now) }
+    ensures { result ≡ first_out_of_order (numbered_resolutions entries.now) }
 {
     let [first, later @ ..] = entries else {
         return Some(0);
@@ -54,7 +54,7 @@ pub(crate) fn first_out_of_order(entries: &[Entry]) -> Option<u32>
 
 // The line of the first start.
 fn first_start(entries: &[Entry]) -> Option<u32>
-    ensures { result ≡ first_line is_start (entered_all entries.now) }
+    ensures { result ≡ first_passing_line is_start (numbered_resolutions entries.now) }
 {
     for entry in entries {
         match entry.held.keyword {
@@ -67,7 +67,7 @@ fn first_start(entries: &[Entry]) -> Option<u32>
 
 // The line of the change past the most, where the first statement alone is no change.
 pub(crate) fn line_beyond(entries: &[Entry]) -> Option<u32>
-    ensures { result ≡ last_beyond (entered_all entries.now) }
+    ensures { result ≡ last_beyond (numbered_resolutions entries.now) }
 {
     let entry = entries.get(MAX_CHANGES + 1)?;
     Some(entry.line)

@@ -2,11 +2,11 @@
 
 ghost use Rattle.std.specs.Prelude.{◌≡◌, IsSome, length, map, IfOk, MatchResult, Some};
 ghost use Rattle.std.specs.Option.{option_map};
-ghost use Rattle.hz_line.specs.Reading.{entered_by, IsUnread};
+ghost use Rattle.hz_line.specs.Reading.{numbered_by, IsUnread};
 ghost use Rattle.hz_line.specs.Token.{token_of};
 ghost use Rattle.hz_text.specs.Rules.{AreBelow};
 ghost use Rattle.hz_text.specs.Statement.{keyword_of};
-ghost use Rattle.hz_text.specs.Lookup.{held_by, keyword_by, looked_by};
+ghost use Rattle.hz_text.specs.Resolution.{resolution_of, keyword_by, resolve_tokens};
 ghost use Rattle.hz_text.specs.ScriptRules.{script_rules};
 
 use crate::assignments::{Assigned, any_without_bit, read_assignments};
@@ -44,7 +44,7 @@ pub(crate) struct Statements<'c> {
 impl<'c, 't> Text<'t> for Statements<'c> {
     ghost use Rattle.std.specs.Prelude.{length};
     ghost use Rattle.hz_core.specs.Netlist.{Netlist, primary_inputs};
-    ghost use Rattle.hz_text.specs.Lookup.{Looked, held_by, looked_by};
+    ghost use Rattle.hz_text.specs.Resolution.{ResolvedStatement, resolution_of, resolve_tokens};
     ghost use Rattle.hz_text.specs.ScriptRules.{script_rules};
 
     type Held = Held;
@@ -53,11 +53,11 @@ impl<'c, 't> Text<'t> for Statements<'c> {
 
     ghost context = { λ reader. reader.circuit.now };
 
-    ghost Stated = { Looked };
+    ghost Stated = { ResolvedStatement };
 
-    ghost stated = { held_by };
+    ghost stated = { resolution_of };
 
-    ghost grammar = { looked_by };
+    ghost grammar = { resolve_tokens };
 
     ghost rules = { λ netlist. script_rules netlist.inputs (primary_inputs netlist) };
 

@@ -1,14 +1,14 @@
-use Rattle.hz_bench.specs.Built.{after_gate, MayGate}
+use Rattle.hz_bench.specs.BuiltNetlist.{with_gate_of, MayAddGate}
 use Rattle.hz_bench.proofs.BuildLemmas.{entries_may, entries_more}
 use Rattle.hz_bench.proofs.build.add_gates.Goals as goal
 
 pub add_gate-requires : goal.add_gate-requires
-add_gate-requires c = (entries_may MayGate after_gate c.loop-entry.circuit c.args.entries.now c.loop-entry.entry-index c.entry-item.result c.loop-entry-test.true c.entry-item.is c.loop-entry.invariant.may).0
+add_gate-requires c = (entries_may MayAddGate with_gate_of c.loop-entry.circuit c.args.entries.now c.loop-entry.entry-index c.entry-item.result c.loop-entry-test.true c.entry-item.is c.loop-entry.invariant.may).0
 
 pub loop-entry-preserved : goal.loop-entry-preserved
 loop-entry-preserved c =
-    let next = entries_may MayGate after_gate c.loop-entry.circuit c.args.entries.now c.loop-entry.entry-index c.entry-item.result c.loop-entry-test.true c.entry-item.is c.loop-entry.invariant.may in
+    let next = entries_may MayAddGate with_gate_of c.loop-entry.circuit c.args.entries.now c.loop-entry.entry-index c.entry-item.result c.loop-entry-test.true c.entry-item.is c.loop-entry.invariant.may in
     record {
-      so_far = entries_more after_gate c.args.circuit.now c.loop-entry.circuit c.add_gate.new.circuit c.args.entries.now c.loop-entry.entry-index c.entry-item.result c.loop-entry-test.true c.entry-item.is c.loop-entry.invariant.so_far c.in-Ok.ensures;
+      so_far = entries_more with_gate_of c.args.circuit.now c.loop-entry.circuit c.add_gate.new.circuit c.args.entries.now c.loop-entry.entry-index c.entry-item.result c.loop-entry-test.true c.entry-item.is c.loop-entry.invariant.so_far c.in-Ok.ensures;
       may = rw c.in-Ok.ensures next.1;
     }

@@ -1,6 +1,6 @@
 use Rattle.std.proofs.lemmas.Result.{err_from_is_err_and}
 use Rattle.hz_bench.proofs.ReadLaws.{parse-answer, check-answer, accepted}
-use Rattle.hz_bench.proofs.Sorted.{listed}
+use Rattle.hz_bench.proofs.KeptStatements.{listed}
 use Rattle.hz_bench.proofs.reading.read_accepted.Goals as goal
 
 pub returns-in_err-statements : goal.returns-in_err-statements

@@ -2,7 +2,7 @@ use Rattle.std.proofs.Common.{◌≡◌, ◌≢◌, ◌∙◌, sym, ap, ◌<◌,
 use Rattle.std.proofs.lemmas.Bool.{false≢true}
 use Rattle.std.proofs.lemmas.List.{get_or-map, length-map}
 use Rattle.std.specs.Str.{bytes_eq}
-use Rattle.hz_core.specs.Chains.{has_hash, has_name, previous}
+use Rattle.hz_core.specs.Chains.{has_hash, has_name, previous_passing}
 use Rattle.hz_core.specs.NameHash.{hash_of}
 use Rattle.hz_core.proofs.NameLemmas.{search-inside, search-hashed, search-left, search-begins, search-next, none-named, position-named, position-absent}
 use Rattle.hz_core.proofs.name.find_name.Goals as goal
@@ -13,7 +13,7 @@ loop-number-init g c =
     let hash = hash_of c.args.hashing.now in
     let counted = length-map c.args.items.now g.N.Named.name_of in
     let is = search-begins names hash c.args.chains.now c.args.name.now c.requires c.last-number.result
-    (c.last-number.ensures ∙ ap (λ wanted. previous (has_hash c.args.chains.now wanted) (length c.args.chains.now)) c.hash.ensures) in
+    (c.last-number.ensures ∙ ap (λ wanted. previous_passing (has_hash c.args.chains.now wanted) (length c.args.chains.now)) c.hash.ensures) in
     record {
       inside = omega (arith, search-inside names hash c.args.chains.now c.args.name.now c.requires c.last-number.result (length names) (omega arith) is, counted);
       hashed = search-hashed names hash c.args.chains.now c.args.name.now c.requires c.last-number.result (length names) is;

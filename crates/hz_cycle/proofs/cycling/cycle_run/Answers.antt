@@ -5,9 +5,9 @@ use Rattle.hz_net.specs.Network.{network_of}
 use Rattle.hz_net.proofs.Wired.{wired-network_of}
 use Rattle.hz_cycle.specs.Cycles.{IsCycleOf}
 use Rattle.hz_cycle.proofs.Change.{of-change, change-fixed, unsettled-ranked, ranks-long}
-use Rattle.hz_cycle.proofs.CycleFound.{cycle-found, returned}
+use Rattle.hz_cycle.proofs.CycleExists.{cycle-found, returned}
 use Rattle.hz_cycle.proofs.CycleRoom.{room-twice, room-left}
-use Rattle.hz_cycle.proofs.Goes.{goes-somewhere}
+use Rattle.hz_cycle.proofs.WireTargets.{goes-somewhere}
 use Rattle.hz_cycle.proofs.TurnedStates.{turned-may-begin}
 use Rattle.hz_cycle.proofs.cycling.cycle_run.Goals as goal
 

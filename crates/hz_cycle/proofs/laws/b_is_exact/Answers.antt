@@ -1,5 +1,5 @@
 -- What runs show of Algorithm B holds, since there are such runs.
-use Rattle.hz_cycle.proofs.RunsFound.{b_is_exact, outcomes_exist}
+use Rattle.hz_cycle.proofs.RunsExist.{b_is_exact, outcomes_exist}
 use Rattle.hz_cycle.proofs.laws.b_is_exact.Goals as goal
 
 pub returns-clause-exact : goal.returns-clause-exact

@@ -1,5 +1,5 @@
 -- The laws of the runs below carry the runs of this crate.
-use Rattle.hz_cycle.proofs.RunsFound.{settle_runs_exist}
+use Rattle.hz_cycle.proofs.RunsExist.{settle_runs_exist}
 use Rattle.hz_cycle.proofs.laws.settle_runs_exist.Goals as goal
 
 pub returns : goal.returns

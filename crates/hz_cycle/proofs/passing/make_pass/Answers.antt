@@ -8,12 +8,12 @@ use Rattle.hz_core.specs.Netlist.{Netlist}
 use Rattle.hz_net.specs.Network.{network_of, driver_at, value_at, Function}
 use Rattle.hz_net.specs.Passes.{IsUnknown}
 use Rattle.hz_net.proofs.Places.{length-network_of}
-use Rattle.hz_gmw.specs.Recorded.{Recorded}
-use Rattle.hz_gmw.specs.Runs.{flipped}
-use Rattle.hz_gmw.proofs.Flips.{length-flipped}
-use Rattle.hz_reach.specs.Scratched.{Scratched}
+use Rattle.hz_gmw.specs.RunRecord.{RunRecord}
+use Rattle.hz_gmw.specs.Runs.{state_after}
+use Rattle.hz_gmw.proofs.Flips.{length-state_after}
+use Rattle.hz_reach.specs.ScratchState.{ScratchState}
 use Rattle.hz_cycle.specs.Marks.{ArePatternWires, with_fan_out}
-use Rattle.hz_cycle.proofs.Settled.{unknown-is, is-unknown}
+use Rattle.hz_cycle.proofs.SettledVariables.{unknown-is, is-unknown}
 use Rattle.hz_cycle.proofs.PassTurns.{IsPassAsked, IsPassing, IsHalfTurned, gate-number, driven-gate, passing-long, passing-begin, passing-end, passing-skip, passing-turn, turn-possible, wires-flips, wires-steps, pair-flips, pair-steps}
 use Rattle.hz_cycle.proofs.passing.make_pass.Goals as goal
 use Rattle.hz_cycle.proofs.passing.make_pass.Goals.{then-inputs-var+then-var-nodes+then-is_unsettled, else-inputs-var, else-inputs-var-via-then-inputs-var+then-var-nodes+else-is_unsettled, else-inputs-var-via-then-inputs-var+else-var-nodes, else-inputs-var-via-else-inputs-var}
@@ -75,7 +75,7 @@ step-requires-clause-room_for_steps c =
 pub mark_with_fan_out-requires-clause-scratch : goal.mark_with_fan_out-requires-clause-scratch
 mark_with_fan_out-requires-clause-scratch c =
     ap (length {A = Bool}) c.step.ensures.state
-    ∙ (length-flipped c.mark_pattern.new.scratch.marked c.mark_pattern.new.scratch.state
+    ∙ (length-state_after c.mark_pattern.new.scratch.marked c.mark_pattern.new.scratch.state
     ∙ (ap (length {A = Bool}) c.mark_pattern.ensures.state ∙ passing-long c.loop-place.invariant.0))
 
 pub step-requires-then-is_unsettled-clause-room_for_flips : goal.step-requires-then-is_unsettled-clause-room_for_flips
@@ -88,7 +88,7 @@ step-requires-then-is_unsettled-clause-room_for_flips c =
     let marks = subst (λ (gate : ℕ). ArePatternWires c.args.net.now c.args.b.now c.loop-place.scratch.state gate c.mark_pattern.new.scratch.marked) here c.mark_pattern.ensures.marked in
     let half : IsHalfTurned c.args.net.now (get_or c.loop-place.scratch.sorted c.loop-place.place 0) c.mark_pattern.new.scratch.marked c.loop-place.scratch c.loop-place.run c.step.new.self c.step.new.run c.mark_with_fan_out.new.scratch.marked = record {
       sorted = c.step.ensures.sorted ∙ c.mark_pattern.ensures.sorted;
-      state = c.step.ensures.state ∙ ap (flipped c.mark_pattern.new.scratch.marked) c.mark_pattern.ensures.state;
+      state = c.step.ensures.state ∙ ap (state_after c.mark_pattern.new.scratch.marked) c.mark_pattern.ensures.state;
       steps = c.step.ensures.steps;
       spent = c.step.ensures.room;
       pair_is = c.mark_with_fan_out.ensures.marked ∙ ap (with_fan_out c.args.net.now c.step.new.self.state) here;
@@ -105,7 +105,7 @@ step-requires-then-is_unsettled-clause-room_for_steps c =
     let marks = subst (λ (gate : ℕ). ArePatternWires c.args.net.now c.args.b.now c.loop-place.scratch.state gate c.mark_pattern.new.scratch.marked) here c.mark_pattern.ensures.marked in
     let half : IsHalfTurned c.args.net.now (get_or c.loop-place.scratch.sorted c.loop-place.place 0) c.mark_pattern.new.scratch.marked c.loop-place.scratch c.loop-place.run c.step.new.self c.step.new.run c.mark_with_fan_out.new.scratch.marked = record {
       sorted = c.step.ensures.sorted ∙ c.mark_pattern.ensures.sorted;
-      state = c.step.ensures.state ∙ ap (flipped c.mark_pattern.new.scratch.marked) c.mark_pattern.ensures.state;
+      state = c.step.ensures.state ∙ ap (state_after c.mark_pattern.new.scratch.marked) c.mark_pattern.ensures.state;
       steps = c.step.ensures.steps;
       spent = c.step.ensures.room;
       pair_is = c.mark_with_fan_out.ensures.marked ∙ ap (with_fan_out c.args.net.now c.step.new.self.state) here;
@@ -121,9 +121,9 @@ loop-place-preserved c =
     let inside : place < length c.loop-place.scratch.sorted = omega (arith, c.loop-place-test.true, c.loop-place.invariant.1) in
     let gate = get_or c.loop-place.scratch.sorted place 0 in
     let here : get_or c.sorted.result.now place 0 ≡ gate = ap (λ (list : List ℕ). get_or list place 0) c.sorted.ensures in
-    let moved : (scratch : Scratched) (run : Recorded) → c.if-inputs-var.scratch ≡ scratch → c.if-inputs-var.run ≡ run → IsPassing netlist c.args.rank.now b c.args.scratch.now.state c.args.run.now (place + 1) scratch run → IsPassing netlist c.args.rank.now b c.args.scratch.now.state c.args.run.now (place + 1) c.if-inputs-var.scratch c.if-inputs-var.run =
+    let moved : (scratch : ScratchState) (run : RunRecord) → c.if-inputs-var.scratch ≡ scratch → c.if-inputs-var.run ≡ run → IsPassing netlist c.args.rank.now b c.args.scratch.now.state c.args.run.now (place + 1) scratch run → IsPassing netlist c.args.rank.now b c.args.scratch.now.state c.args.run.now (place + 1) c.if-inputs-var.scratch c.if-inputs-var.run =
     λ scratch run scratch_is run_is is.
-    subst (λ (s : Scratched). IsPassing netlist c.args.rank.now b c.args.scratch.now.state c.args.run.now (place + 1) s c.if-inputs-var.run) (sym scratch_is)
+    subst (λ (s : ScratchState). IsPassing netlist c.args.rank.now b c.args.scratch.now.state c.args.run.now (place + 1) s c.if-inputs-var.run) (sym scratch_is)
     (subst (IsPassing netlist c.args.rank.now b c.args.scratch.now.state c.args.run.now (place + 1) scratch) (sym run_is) is) in
     elim c.if-inputs-var.branch [
       | then-inputs-var+then-var-nodes+then-is_unsettled w ↦ (
@@ -132,17 +132,17 @@ loop-place-preserved c =
           let marks = subst (λ (g : ℕ). ArePatternWires netlist b c.loop-place.scratch.state g w.mark_pattern.new.scratch.marked) here w.mark_pattern.ensures.marked in
           let half : IsHalfTurned netlist gate w.mark_pattern.new.scratch.marked c.loop-place.scratch c.loop-place.run w.step.new.self w.step.new.run w.mark_with_fan_out.new.scratch.marked = record {
             sorted = w.step.ensures.sorted ∙ w.mark_pattern.ensures.sorted;
-            state = w.step.ensures.state ∙ ap (flipped w.mark_pattern.new.scratch.marked) w.mark_pattern.ensures.state;
+            state = w.step.ensures.state ∙ ap (state_after w.mark_pattern.new.scratch.marked) w.mark_pattern.ensures.state;
             steps = w.step.ensures.steps;
             spent = w.step.ensures.room;
             pair_is = w.mark_with_fan_out.ensures.marked ∙ ap (with_fan_out netlist w.step.new.self.state) here;
           } in
           let sorted : w.step-then-is_unsettled.new.self.sorted ≡ w.step.new.self.sorted = w.step-then-is_unsettled.ensures.sorted ∙ w.mark_with_fan_out.ensures.sorted in
-          let state : w.step-then-is_unsettled.new.self.state ≡ flipped w.mark_with_fan_out.new.scratch.marked w.step.new.self.state =
-          w.step-then-is_unsettled.ensures.state ∙ ap (flipped w.mark_with_fan_out.new.scratch.marked) w.mark_with_fan_out.ensures.state in (
+          let state : w.step-then-is_unsettled.new.self.state ≡ state_after w.mark_with_fan_out.new.scratch.marked w.step.new.self.state =
+          w.step-then-is_unsettled.ensures.state ∙ ap (state_after w.mark_with_fan_out.new.scratch.marked) w.mark_with_fan_out.ensures.state in (
             moved w.step-then-is_unsettled.new.self w.step-then-is_unsettled.new.run w.scratch-is w.run-is
                 (passing-turn passing inside is_gate unknown marks half sorted w.step-then-is_unsettled.ensures.marked state w.step-then-is_unsettled.ensures.steps w.step-then-is_unsettled.ensures.room),
-            c.loop-place.invariant.1 ∙ ap (length {A = ℕ}) (sym (sorted ∙ half.sorted) ∙ sym (ap (λ (s : Scratched). s.sorted) w.scratch-is)),
+            c.loop-place.invariant.1 ∙ ap (length {A = ℕ}) (sym (sorted ∙ half.sorted) ∙ sym (ap (λ (s : ScratchState). s.sorted) w.scratch-is)),
           )
           )
       | else-inputs-var w ↦ (
@@ -159,7 +159,7 @@ loop-place-preserved c =
           ]
           ) in (
             moved c.loop-place.scratch c.loop-place.run w.scratch-is w.run-is (passing-skip passing inside none),
-            c.loop-place.invariant.1 ∙ ap (length {A = ℕ}) (sym (ap (λ (s : Scratched). s.sorted) w.scratch-is)),
+            c.loop-place.invariant.1 ∙ ap (length {A = ℕ}) (sym (ap (λ (s : ScratchState). s.sorted) w.scratch-is)),
           )
           )
     ]

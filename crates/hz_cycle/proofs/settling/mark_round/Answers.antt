@@ -5,8 +5,8 @@ use Rattle.std.proofs.lemmas.Bool.{cases_lt}
 use Rattle.hz_core.specs.Ternary.{admits}
 use Rattle.hz_net.specs.Network.{bit_at, value_at}
 use Rattle.hz_reach.specs.Order.{key_at}
-use Rattle.hz_reach.specs.Scratched.{Scratched}
-use Rattle.hz_cycle.specs.Rounds.{differing}
+use Rattle.hz_reach.specs.ScratchState.{ScratchState}
+use Rattle.hz_cycle.specs.Rounds.{differing_variables}
 use Rattle.hz_cycle.proofs.RoundTurns.{order-inside, slice-more, differing-more, differing-skip, round-ascends}
 use Rattle.hz_cycle.proofs.settling.mark_round.Goals as goal
 use Rattle.hz_cycle.proofs.settling.mark_round.Goals.{then-not-admits, else-not-admits}
@@ -57,23 +57,23 @@ loop-place-preserved c =
     ∙ ap (λ (s : List Bool). admits (value_at c.args.b.now var) (bit_at s var)) (c.state.ensures ∙ c.loop-place.invariant.1)) in
     elim c.if-not-admits.branch [
       | then-not-admits w ↦ (
-        ap (λ (s : Scratched). s.marked) w.scratch-is
+        ap (λ (s : ScratchState). s.marked) w.scratch-is
             ∙ (w.mark.ensures.marked
             ∙ (ap (λ (list : List ℕ). list ++ get_or c.sorted-in-loop-place.result.now place 0 ∷ []) c.loop-place.invariant.0
-            ∙ (ap (λ (list : List ℕ). differing c.args.b.now c.args.scratch.now.state (slice_range sorted c.args.from place) ++ get_or list place 0 ∷ []) order
+            ∙ (ap (λ (list : List ℕ). differing_variables c.args.b.now c.args.scratch.now.state (slice_range sorted c.args.from place) ++ get_or list place 0 ∷ []) order
             ∙ (sym (differing-more c.args.b.now c.args.scratch.now.state (slice_range sorted c.args.from place) var (sym is ∙ w.if-not-admits.true))
-            ∙ ap (differing c.args.b.now c.args.scratch.now.state) (sym more))))),
-        ap (λ (s : Scratched). s.state) w.scratch-is ∙ (w.mark.ensures.state ∙ c.loop-place.invariant.1),
-        ap (λ (s : Scratched). s.sorted) w.scratch-is ∙ (w.mark.ensures.sorted ∙ c.loop-place.invariant.2),
+            ∙ ap (differing_variables c.args.b.now c.args.scratch.now.state) (sym more))))),
+        ap (λ (s : ScratchState). s.state) w.scratch-is ∙ (w.mark.ensures.state ∙ c.loop-place.invariant.1),
+        ap (λ (s : ScratchState). s.sorted) w.scratch-is ∙ (w.mark.ensures.sorted ∙ c.loop-place.invariant.2),
         same-more c.args.when.now sorted c.args.from place c.loop-place.invariant.3 here,
       )
       | else-not-admits w ↦ (
-        ap (λ (s : Scratched). s.marked) w.scratch-is
+        ap (λ (s : ScratchState). s.marked) w.scratch-is
             ∙ (c.loop-place.invariant.0
             ∙ (sym (differing-skip c.args.b.now c.args.scratch.now.state (slice_range sorted c.args.from place) var (sym is ∙ w.if-not-admits.false))
-            ∙ ap (differing c.args.b.now c.args.scratch.now.state) (sym more))),
-        ap (λ (s : Scratched). s.state) w.scratch-is ∙ c.loop-place.invariant.1,
-        ap (λ (s : Scratched). s.sorted) w.scratch-is ∙ c.loop-place.invariant.2,
+            ∙ ap (differing_variables c.args.b.now c.args.scratch.now.state) (sym more))),
+        ap (λ (s : ScratchState). s.state) w.scratch-is ∙ c.loop-place.invariant.1,
+        ap (λ (s : ScratchState). s.sorted) w.scratch-is ∙ c.loop-place.invariant.2,
         same-more c.args.when.now sorted c.args.from place c.loop-place.invariant.3 here,
       )
     ]

@@ -1,12 +1,12 @@
 use Rattle.std.proofs.Common.{◌≡◌, ◌<◌, ◌≤◌, ℕ, get_or}
 use Rattle.std.specs.List.{slice_range}
 use Rattle.hz_reach.specs.Order.{key_at}
-use Rattle.hz_cycle.specs.Rounds.{differing}
+use Rattle.hz_cycle.specs.Rounds.{differing_variables}
 use Rattle.hz_cycle.proofs.settling.mark_round.Given as goal
 
 -- the variables so far are of the round, and those that differ are marked
 abbrev pub invariant-loop-place : goal.invariant-loop-place
 invariant-loop-place l =
-    (l.scratch.marked ≡ differing l.b l.fn.scratch.state (slice_range l.fn.scratch.sorted l.from l.place))
+    (l.scratch.marked ≡ differing_variables l.b l.fn.scratch.state (slice_range l.fn.scratch.sorted l.from l.place))
     × (l.scratch.state ≡ l.fn.scratch.state) × (l.scratch.sorted ≡ l.fn.scratch.sorted)
     × ((k : ℕ) → l.from ≤ k → k < l.place → key_at l.when (get_or l.fn.scratch.sorted k 0) ≡ key_at l.when (get_or l.fn.scratch.sorted l.from 0))

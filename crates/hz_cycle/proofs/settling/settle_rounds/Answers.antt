@@ -1,6 +1,6 @@
 -- Each round is a step that has room; at the end every variable that settles has its value.
 use Rattle.std.proofs.Common.{◌∙◌, ℕ, length, ap, arith}
-use Rattle.hz_gmw.specs.Runs.{flipped}
+use Rattle.hz_gmw.specs.Runs.{state_after}
 use Rattle.hz_cycle.proofs.RoundTurns.{round-flips, round-steps, rounds-next, rounds-end}
 use Rattle.hz_cycle.proofs.settling.settle_rounds.Goals as goal
 
@@ -16,7 +16,7 @@ pub loop-place-preserved : goal.loop-place-preserved
 loop-place-preserved c =
     rounds-next c.loop-place.invariant c.mark_round-place.ensures.round c.mark_round-place.ensures.marked
     (c.step.ensures.sorted ∙ c.mark_round-place.ensures.sorted) c.step.ensures.marked
-    (c.step.ensures.state ∙ ap (flipped c.mark_round-place.new.scratch.marked) c.mark_round-place.ensures.state)
+    (c.step.ensures.state ∙ ap (state_after c.mark_round-place.new.scratch.marked) c.mark_round-place.ensures.state)
     c.step.ensures.steps c.step.ensures.room
 
 pub returns-clause-rounds : goal.returns-clause-rounds

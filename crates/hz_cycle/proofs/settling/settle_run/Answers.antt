@@ -3,16 +3,16 @@ use Rattle.std.proofs.Common.{◌≡◌, ◌∙◌, ◌++◌, ℕ, Bool, List, l
 use Rattle.hz_core.proofs.Refinements.{length-Refines}
 use Rattle.hz_net.specs.Network.{network_of}
 use Rattle.hz_gmw.specs.Runs.{end_of}
-use Rattle.hz_gmw.specs.Recorded.{Recorded}
+use Rattle.hz_gmw.specs.RunRecord.{RunRecord}
 use Rattle.hz_gmw.proofs.CoverB.{length-end_of}
 use Rattle.hz_reach.specs.Room.{Spends}
 use Rattle.hz_cycle.specs.Cycles.{IsSettleRun}
 use Rattle.hz_cycle.proofs.Change.{a-long, change-fixed, unsettled-ranked, ranks-long}
-use Rattle.hz_cycle.proofs.SettleFound.{given-change, before-pass, rounds-may-begin, rounds-room, pass-may-begin, pass-room, settle-found, settle-end}
+use Rattle.hz_cycle.proofs.SettleRunExists.{given-change, before-pass, rounds-may-begin, rounds-room, pass-may-begin, pass-room, settle-found, settle-end}
 use Rattle.hz_cycle.proofs.settling.settle_run.Goals as goal
 
 -- what is spent in two parts is spent
-spent-more : (first middle last : Recorded) → Spends first middle → Spends middle last → Spends first last
+spent-more : (first middle last : RunRecord) → Spends first middle → Spends middle last → Spends first last
 spent-more first middle last here there = record { flips = there.flips ∙ here.flips; steps = there.steps ∙ here.steps }
 
 pub settle_rounds-requires-clause-when : goal.settle_rounds-requires-clause-when

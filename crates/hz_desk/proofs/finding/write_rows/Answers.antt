@@ -1,6 +1,6 @@
 -- One row after the other.
 use Rattle.std.proofs.Common.{length, arith}
-use Rattle.hz_desk.proofs.Written.{written-more}
+use Rattle.hz_desk.proofs.RowLoop.{written-more}
 use Rattle.hz_desk.proofs.finding.write_rows.Goals as goal
 
 pub loop-i-preserved : goal.loop-i-preserved

@@ -1,4 +1,4 @@
-use Rattle.hz_desk.proofs.Written.{AreWritten}
+use Rattle.hz_desk.proofs.RowLoop.{AreWritten}
 use Rattle.hz_desk.proofs.finding.write_rows.Given as goal
 
 -- the rows so far are written

@@ -2,7 +2,7 @@
 use Rattle.std.proofs.Common.{◌<◌, All, length, subst, sym, ℕ}
 use Rattle.hz_core.specs.Netlist.{Netlist}
 use Rattle.hz_net.specs.Network.{network_of}
-use Rattle.hz_desk.proofs.Goes.{along-step, step-inside}
+use Rattle.hz_desk.proofs.RaceLoop.{along-step, step-inside}
 use Rattle.hz_desk.proofs.races.races_before.Goals as goal
 
 pub step-requires-in-loop-number : goal.step-requires-in-loop-number

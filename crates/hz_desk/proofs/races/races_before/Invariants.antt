@@ -1,6 +1,6 @@
 use Rattle.std.proofs.Common.{◌≡◌}
 use Rattle.hz_net.specs.Network.{network_of}
-use Rattle.hz_desk.specs.Along.{IsAlong}
+use Rattle.hz_desk.specs.RunProgress.{IsAlong}
 use Rattle.hz_desk.proofs.races.races_before.Given as goal
 
 -- the replayer is on its way, on the same circuit and under the same input

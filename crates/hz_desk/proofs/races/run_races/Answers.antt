@@ -2,9 +2,9 @@
 use Rattle.std.proofs.Common.{◌≡◌, ap, arith}
 use Rattle.hz_net.specs.Network.{network_of}
 use Rattle.hz_gmw.specs.Runs.{end_of}
-use Rattle.hz_gmw.specs.Replayed.{Replayed}
+use Rattle.hz_gmw.specs.Replayer.{Replayer}
 use Rattle.hz_desk.specs.Races.{race_count, states_before}
-use Rattle.hz_desk.proofs.Goes.{all-states, race_bit}
+use Rattle.hz_desk.proofs.RaceLoop.{all-states, race_bit}
 use Rattle.hz_desk.proofs.races.run_races.Goals as goal
 
 pub returns-clause-races : goal.returns-clause-races
@@ -14,7 +14,7 @@ returns-clause-races c =
     let start = c.args.start.now in
     let steps = c.args.run.now.steps in
     let begun = c.begin.ensures.at in
-    let circuit = ap (λ (r : Replayed). r.circuit) begun in
+    let circuit = ap (λ (r : Replayer). r.circuit) begun in
     let before : c.races_before-before.result ≡ race_count net input (states_before start steps) =
     rw begun at c.races_before-before.ensures.races in
     let last : c.race_here.result ≡ race_bit net input (end_of start steps) =

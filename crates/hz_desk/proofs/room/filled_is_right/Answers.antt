@@ -1,5 +1,5 @@
 -- By the laws of the crates below.
-use Rattle.hz_desk.proofs.Right.{right-finding}
+use Rattle.hz_desk.proofs.RightFindings.{right-finding}
 use Rattle.hz_desk.proofs.room.filled_is_right.Goals as goal
 
 pub returns : goal.returns

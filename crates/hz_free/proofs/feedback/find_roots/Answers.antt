@@ -1,7 +1,7 @@
 -- The next variable has a root, or it chooses nothing.
 use Rattle.std.proofs.Common.{sym}
 use Rattle.hz_free.proofs.Roots.{rooted-skip}
-use Rattle.hz_free.proofs.Following.{none-from}
+use Rattle.hz_free.proofs.FollowedPaths.{none-from}
 use Rattle.hz_free.proofs.feedback.find_roots.Goals as goal
 use Rattle.hz_free.proofs.feedback.find_roots.Goals.{then-is_some+in-Ok, else-is_some}
 

@@ -1,6 +1,6 @@
 -- The next variable of the path.
 use Rattle.std.proofs.Common.{◌∙◌}
-use Rattle.hz_free.proofs.Following.{following-next, following-less}
+use Rattle.hz_free.proofs.FollowedPaths.{following-next, following-less}
 use Rattle.hz_free.proofs.feedback.follow.Goals as goal
 
 pub loop-variables-preserved : goal.loop-variables-preserved

@@ -1,11 +1,11 @@
 -- The path so far, and each variable on it leads on.
 use Rattle.std.proofs.Common.{◌-◌, length}
-use Rattle.hz_free.specs.Paths.{IsLink, IsFollowing}
+use Rattle.hz_free.specs.Paths.{IsLink, IsPathSoFar}
 use Rattle.hz_free.proofs.feedback.follow.Given as goal
 
 abbrev pub invariant-loop-variables : goal.invariant-loop-variables
 invariant-loop-variables l = record {
-  following : IsFollowing l.links l.start l.mark l.variables.items l.var l.fn.marks l.marks;
+  following : IsPathSoFar l.links l.start l.mark l.variables.items l.var l.fn.marks l.marks;
   linked : IsLink l.links l.var;
 }
 

@@ -1,7 +1,7 @@
 -- The next variable begins a cycle, or it has none that is not listed.
 use Rattle.std.proofs.Common.{arith, ◌∙◌, not, sym, ap}
 use Rattle.hz_free.proofs.Numbering.{numbered-skip, numbered-more, listed-few}
-use Rattle.hz_free.proofs.Following.{none-from, some-from}
+use Rattle.hz_free.proofs.FollowedPaths.{none-from, some-from}
 use Rattle.hz_free.proofs.PathLemmas.{link-not-none}
 use Rattle.hz_free.proofs.feedback.list_cycles.Goals as goal
 use Rattle.hz_free.proofs.feedback.list_cycles.Goals.{then-is_some+then-is_none+in-Ok, else-is_some, else-is_some-via-then-is_some+else-is_none, else-is_some-via-else-is_some}

@@ -1,6 +1,6 @@
 -- The path came around, or it ends in a variable that has a root.
 use Rattle.std.proofs.Common.{sym}
-use Rattle.hz_free.proofs.Noting.{place-at, listed-part, root-new, root-old}
+use Rattle.hz_free.proofs.NotedValues.{place-at, listed-part, root-new, root-old}
 use Rattle.hz_free.proofs.feedback.root_of.Goals as goal
 
 pub note_choosers-requires-clause-cycle : goal.note_choosers-requires-clause-cycle

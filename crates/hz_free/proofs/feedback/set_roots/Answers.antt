@@ -1,6 +1,6 @@
 -- The next variable has the root.
 use Rattle.std.proofs.Common.{arith, get_or}
-use Rattle.hz_free.proofs.Noting.{value-more, listed-at}
+use Rattle.hz_free.proofs.NotedValues.{value-more, listed-at}
 use Rattle.hz_free.proofs.feedback.set_roots.Goals as goal
 
 pub bounds-roots-var : goal.bounds-roots-var

@@ -1,7 +1,7 @@
 -- One word after the other.
 use Rattle.std.proofs.Common.{arith, ◌≡◌, ◌∙◌, refl, sym, subst, length, take, get_or, List, ℕ}
 use Rattle.hz_net.specs.Network.{network_of}
-use Rattle.hz_free.specs.Told.{AreToldWords}
+use Rattle.hz_free.specs.CappedWords.{AreWordsSoFar}
 use Rattle.hz_free.proofs.AllWords.{ordered-part, var-below, ready-words, next-words, all-words, no-words}
 use Rattle.std.proofs.Math.Seq.{take-length}
 use Rattle.hz_free.proofs.free.write_words.Goals as goal
@@ -37,4 +37,4 @@ returns c =
     let whole : take c.loop-var.var-index c.args.order.now ≡ c.args.order.now = subst (λ (n : ℕ). take n c.args.order.now ≡ c.args.order.now) (sym end) (take-length c.args.order.now) in
     all-words c.args.net.now c.args.input.now c.args.start.now c.args.cap (record { free = c.requires.part.0; order = c.args.order.now; cycles = c.requires.part.1; cores = c.requires.part.2 }) (ordered-part c.args.net.now _ c.requires.part.3)
     c.loop-var.out c.loop-var.invariant.0
-    (subst (λ (placed : List ℕ). AreToldWords (network_of c.args.net.now) c.args.input.now c.args.start.now c.args.cap placed c.loop-var.out c.loop-var.invariant.0) whole c.loop-var.invariant.1)
+    (subst (λ (placed : List ℕ). AreWordsSoFar (network_of c.args.net.now) c.args.input.now c.args.start.now c.args.cap placed c.loop-var.out c.loop-var.invariant.0) whole c.loop-var.invariant.1)

@@ -1,5 +1,5 @@
 -- The fold over the gathered words.
-use Rattle.hz_free.proofs.Gathered.{counted-pins, IsGateWord-from_fold}
+use Rattle.hz_free.proofs.GateWords.{counted-pins, IsGateWord-from_fold}
 use Rattle.hz_free.proofs.words.gate_word.Goals as goal
 
 pub fold-requires-clause-counted : goal.fold-requires-clause-counted

@@ -1,5 +1,5 @@
 use Rattle.std.proofs.Common.{◌≡◌, ◌-◌, ◌∷◌, []}
-use Rattle.hz_gen.specs.Built.{ring_netlist}
+use Rattle.hz_gen.specs.BuiltDemo.{ring_netlist}
 use Rattle.hz_gen.proofs.circuit.add_buffers.Given as goal
 
 -- the buffers so far are there

@@ -1,5 +1,5 @@
 use Rattle.std.proofs.Common.{◌≡◌, ◌-◌}
-use Rattle.hz_gen.specs.Built.{chain_netlist, last_gate}
+use Rattle.hz_gen.specs.BuiltDemo.{chain_netlist, last_gate}
 use Rattle.hz_gen.proofs.circuit.add_chain.Given as goal
 
 -- the multiplexers so far are there, and the next one reads the last of them

@@ -1,6 +1,6 @@
 use Rattle.std.proofs.Common.{◌≡◌, ◌-◌, ◌∷◌, [], ap, length, arith}
 use Rattle.hz_core.specs.Netlist.{variable_count}
-use Rattle.hz_gen.specs.Built.{ring_names, ring_netlist}
+use Rattle.hz_gen.specs.BuiltDemo.{ring_names, ring_netlist}
 use Rattle.hz_gen.proofs.Counts.{count-ring, length-ring_names}
 use Rattle.hz_gen.proofs.circuit.add_ring.Goals as goal
 

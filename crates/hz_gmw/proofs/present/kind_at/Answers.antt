@@ -1,4 +1,4 @@
-use Rattle.hz_gmw.proofs.Driven.{kind-at}
+use Rattle.hz_gmw.proofs.DriverLemmas.{kind-at}
 use Rattle.hz_gmw.proofs.present.kind_at.Goals as goal
 
 pub returns-clause-kind : goal.returns-clause-kind

@@ -1,10 +1,10 @@
 use Rattle.std.proofs.Common.{◌∙◌, ap, arith, sym}
-use Rattle.hz_line.specs.Token.{is_bare}
-use Rattle.hz_line.proofs.TokenLemmas.{is_bare-no_hash, hash_by}
+use Rattle.hz_line.specs.Token.{has_no_token}
+use Rattle.hz_line.proofs.TokenLemmas.{has_no_token-no_hash, hash_by}
 use Rattle.hz_line.proofs.tokens.is_bare.Goals as goal
 
 pub returns-in_default-class_of : goal.returns-in_default-class_of
 returns-in_default-class_of c =
     let rest = c.past_blanks.result.now in
-    let more = is_bare-no_hash rest (omega arith) c.past_blanks.ensures.all (λ e. c.in_default-class_of.not-Hash (hash_by c.class_of.result (c.class_of.ensures ∙ e))) in
-    sym (ap is_bare c.past_blanks.ensures.same ∙ more)
+    let more = has_no_token-no_hash rest (omega arith) c.past_blanks.ensures.all (λ e. c.in_default-class_of.not-Hash (hash_by c.class_of.result (c.class_of.ensures ∙ e))) in
+    sym (ap has_no_token c.past_blanks.ensures.same ∙ more)

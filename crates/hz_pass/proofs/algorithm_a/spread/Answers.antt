@@ -1,7 +1,7 @@
 use Rattle.std.proofs.Common.{◌≤◌, ◌+◌, List, subst}
 use Rattle.hz_core.specs.declared.tri.Tri.{Tri}
 use Rattle.hz_net.specs.Network.{network_of}
-use Rattle.hz_pass.specs.Changes.{change_count}
+use Rattle.hz_pass.specs.Changes.{differing_count}
 use Rattle.hz_pass.proofs.PassResults.{rounds-a, result-a, ranks-a}
 use Rattle.hz_pass.proofs.algorithm_a.spread.Goals as goal
 
@@ -19,4 +19,4 @@ returns-clause-rank g c =
 
 pub returns-clause-least_steps : goal.returns-clause-least_steps
 returns-clause-least_steps g c =
-    subst (λ (values : List Tri). c.args.steps.now + change_count values c.make_rounds.new.state ≤ c.make_rounds.new.steps) c.write_bits.ensures c.make_rounds.ensures.least_steps
+    subst (λ (values : List Tri). c.args.steps.now + differing_count values c.make_rounds.new.state ≤ c.make_rounds.new.steps) c.write_bits.ensures c.make_rounds.ensures.least_steps

@@ -2,7 +2,7 @@ use Rattle.std.proofs.Common.{◌≡◌, ◌∙◌, ◌<◌, ◌+◌, ◌++◌, 
 use Rattle.std.proofs.lemmas.List.{length-map}
 use Rattle.hz_core.specs.Netlist.{IsCutNumber, data_of}
 use Rattle.hz_core.proofs.CircuitLemmas.{data_of-node}
-use Rattle.hz_pass.specs.CutLists.{IsDataOf, AreFiled}
+use Rattle.hz_pass.specs.CutLists.{IsDataOf, AreDataCutsBelow}
 use Rattle.hz_pass.proofs.CutLists.{filed-none, filed-more}
 use Rattle.hz_pass.proofs.cuts.file_cuts.Goals as goal
 use Rattle.hz_pass.proofs.cuts.file_cuts.Goals.{in-Some+in_ok-file, in_default}
@@ -17,9 +17,9 @@ loop-cut-preserved c =
       | in-Some+in_ok-file w ↦ (
           let is_data : data_of netlist cut ≡ Some w.in-Some.node = sym c.data_of.ensures.node ∙ w.in-Some.is in
           let inside : w.in-Some.node < length lists = omega (arith, c.loop-cut.invariant.long, data_of-node netlist cut w.in-Some.node c.data_of.ensures.circuit is_cut.1 is_data) in
-          subst (λ (all : List (Vec ℕ Global)). AreFiled netlist (map (λ (list : Vec ℕ Global). list.items) all) (cut + 1)) (sym w.lists-is)
+          subst (λ (all : List (Vec ℕ Global)). AreDataCutsBelow netlist (map (λ (list : Vec ℕ Global). list.items) all) (cut + 1)) (sym w.lists-is)
           (filed-more netlist lists (map (λ (list : Vec ℕ Global). list.items) w.file.new.lists) w.in-Some.node cut (record { is_cut = is_cut; is_data = is_data }) inside w.in_ok-file.ensures c.loop-cut.invariant)
           )
-      | in_default w ↦ subst (λ (all : List (Vec ℕ Global)). AreFiled netlist (map (λ (list : Vec ℕ Global). list.items) all) (cut + 1)) (sym w.lists-is)
+      | in_default w ↦ subst (λ (all : List (Vec ℕ Global)). AreDataCutsBelow netlist (map (λ (list : Vec ℕ Global). list.items) all) (cut + 1)) (sym w.lists-is)
           (filed-none netlist lists cut (sym c.data_of.ensures.node ∙ w.in_default.is) c.loop-cut.invariant)
     ]

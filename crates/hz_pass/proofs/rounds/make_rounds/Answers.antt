@@ -6,8 +6,8 @@ use Rattle.hz_net.specs.Network.{network_of}
 use Rattle.hz_pass.specs.Frontier.{Falls, reader_count}
 use Rattle.hz_pass.proofs.PassLoop.{pass-begin, pass-long, pass-falls, pass-bound, pass-on, pass-done}
 use Rattle.hz_pass.proofs.Values.{falls-after}
-use Rattle.hz_pass.proofs.StepCounts.{StepsSoFar, steps-begin, steps-more, change_count-le}
-use Rattle.hz_pass.proofs.TakenOver.{length-noted, none-noted, state-after, noted-after, unchanged, differs, some-long, changed-all, next-long, quiet-list}
+use Rattle.hz_pass.proofs.StepCounts.{StepsSoFar, steps-begin, steps-more, differing_count-le}
+use Rattle.hz_pass.proofs.ChangedValues.{length-noted, none-noted, state-after, noted-after, unchanged, differs, some-long, changed-all, next-long, quiet-list}
 use Rattle.hz_pass.proofs.rounds.make_rounds.Goals as goal
 
 pub loop-rule-init : goal.loop-rule-init
@@ -117,4 +117,4 @@ pub returns-clause-least_steps : goal.returns-clause-least_steps
 returns-clause-least_steps g c =
     let net = network_of c.args.net.now in
     let counted = c.loop-rule.invariant.4.least in
-    omega (arith, counted, change_count-le c.args.state.now c.loop-rule.state, c.requires.state)
+    omega (arith, counted, differing_count-le c.args.state.now c.loop-rule.state, c.requires.state)

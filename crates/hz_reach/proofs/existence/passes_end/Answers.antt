@@ -1,5 +1,5 @@
 -- The sequences of both algorithms come to rest; ranks and settling rounds are read off a sequence that does.
-use Rattle.hz_reach.proofs.Rests.{result_of_a, rounds_of_a, result_of_b, rounds_of_b}
+use Rattle.hz_reach.proofs.RestRounds.{result_of_a, rounds_of_a, result_of_b, rounds_of_b}
 use Rattle.hz_reach.proofs.existence.passes_end.Goals as goal
 
 pub returns-clause-a : goal.returns-clause-a

@@ -1,11 +1,11 @@
 use Rattle.std.proofs.Common.{◌≡◌, ◌-◌}
 use Rattle.hz_core.specs.Pattern.{differs}
 use Rattle.hz_net.specs.Network.{bit_at}
-use Rattle.hz_reach.specs.Picked.{picked}
+use Rattle.hz_reach.specs.FilteredRange.{filtered_range}
 use Rattle.hz_reach.proofs.spreading.mark_changed.Given as goal
 
 -- the wires so far that differ from the pattern are marked
 abbrev pub invariant-loop-pin : goal.invariant-loop-pin
 invariant-loop-pin l =
-    (l.scratch.marked ≡ picked (λ i. differs (bit_at l.now (i - l.first)) (bit_at l.pattern (i - l.first))) l.first l.pin)
+    (l.scratch.marked ≡ filtered_range (λ i. differs (bit_at l.now (i - l.first)) (bit_at l.pattern (i - l.first))) l.first l.pin)
     × (l.scratch.state ≡ l.fn.scratch.state) × (l.scratch.sorted ≡ l.fn.scratch.sorted)

@@ -3,8 +3,8 @@ use Rattle.hz_core.specs.Netlist.{Netlist}
 use Rattle.hz_core.specs.Pattern.{differs}
 use Rattle.hz_net.specs.Network.{bit_at}
 use Rattle.hz_net.proofs.Places.{length-network_of}
-use Rattle.hz_reach.specs.Scratched.{Scratched}
-use Rattle.hz_reach.proofs.Marks.{picked-below, picked-more, picked-skip}
+use Rattle.hz_reach.specs.ScratchState.{ScratchState}
+use Rattle.hz_reach.proofs.MarkedVariables.{filtered_range-below, filtered_range-more, filtered_range-skip}
 use Rattle.hz_reach.proofs.spreading.mark_inputs.Goals as goal
 use Rattle.hz_reach.proofs.spreading.mark_inputs.Goals.{then-start-var, else-start-var}
 
@@ -21,7 +21,7 @@ mark-requires-clause-inside c =
 
 pub mark-requires-clause-ascending : goal.mark-requires-clause-ascending
 mark-requires-clause-ascending c =
-    rw c.loop-var.invariant.0 (λ i. picked-below (λ n. differs (bit_at c.args.start.now n) (bit_at c.args.input.now n)) 0 c.loop-var.var c.loop-var.var i (omega arith))
+    rw c.loop-var.invariant.0 (λ i. filtered_range-below (λ n. differs (bit_at c.args.start.now n) (bit_at c.args.input.now n)) 0 c.loop-var.var c.loop-var.var i (omega arith))
 
 pub loop-var-preserved : goal.loop-var-preserved
 loop-var-preserved c =
@@ -30,16 +30,16 @@ loop-var-preserved c =
     let next : var ≡ 0 + var = omega arith in
     elim c.if-start-var.branch [
       | then-start-var w ↦ (
-        ap (λ (s : Scratched). s.marked) w.scratch-is
+        ap (λ (s : ScratchState). s.marked) w.scratch-is
             ∙ (w.mark.ensures.marked
             ∙ (ap (λ (list : List ℕ). list ++ var ∷ []) c.loop-var.invariant.0
-            ∙ picked-more test 0 var var next w.if-start-var.true)),
-        ap (λ (s : Scratched). s.state) w.scratch-is ∙ (w.mark.ensures.state ∙ c.loop-var.invariant.1),
-        ap (λ (s : Scratched). s.sorted) w.scratch-is ∙ (w.mark.ensures.sorted ∙ c.loop-var.invariant.2),
+            ∙ filtered_range-more test 0 var var next w.if-start-var.true)),
+        ap (λ (s : ScratchState). s.state) w.scratch-is ∙ (w.mark.ensures.state ∙ c.loop-var.invariant.1),
+        ap (λ (s : ScratchState). s.sorted) w.scratch-is ∙ (w.mark.ensures.sorted ∙ c.loop-var.invariant.2),
       )
       | else-start-var w ↦ (
-        ap (λ (s : Scratched). s.marked) w.scratch-is ∙ (c.loop-var.invariant.0 ∙ picked-skip test 0 var var next w.if-start-var.false),
-        ap (λ (s : Scratched). s.state) w.scratch-is ∙ c.loop-var.invariant.1,
-        ap (λ (s : Scratched). s.sorted) w.scratch-is ∙ c.loop-var.invariant.2,
+        ap (λ (s : ScratchState). s.marked) w.scratch-is ∙ (c.loop-var.invariant.0 ∙ filtered_range-skip test 0 var var next w.if-start-var.false),
+        ap (λ (s : ScratchState). s.state) w.scratch-is ∙ c.loop-var.invariant.1,
+        ap (λ (s : ScratchState). s.sorted) w.scratch-is ∙ c.loop-var.invariant.2,
       )
     ]

@@ -2,17 +2,17 @@ use Rattle.std.proofs.Common.{◌≡◌, ◌∙◌, ◌≤◌, ◌-◌, ◌+◌,
 use Rattle.hz_core.specs.Netlist.{Netlist}
 use Rattle.hz_core.specs.Pattern.{differs}
 use Rattle.hz_net.specs.Network.{bit_at, value_at}
-use Rattle.hz_reach.specs.Picked.{picked}
-use Rattle.hz_reach.specs.Scratched.{Scratched}
+use Rattle.hz_reach.specs.FilteredRange.{filtered_range}
+use Rattle.hz_reach.specs.ScratchState.{ScratchState}
 use Rattle.hz_core.specs.Ternary.{is_unknown}
-use Rattle.hz_reach.proofs.Marks.{picked-below, picked-more, picked-skip}
+use Rattle.hz_reach.proofs.MarkedVariables.{filtered_range-below, filtered_range-more, filtered_range-skip}
 use Rattle.hz_reach.proofs.spreading.mark_unchanged.Goals as goal
 use Rattle.hz_reach.proofs.spreading.mark_unchanged.Goals.{then-has_yet_to_change, else-has_yet_to_change}
 
 pub mark-requires-clause-ascending : goal.mark-requires-clause-ascending
 mark-requires-clause-ascending c =
     let nodes = ap (λ (netlist : Netlist). length netlist.names) c.circuit.ensures.same in
-    rw c.loop-wire.invariant.0 (λ i. picked-below (λ n. is_unknown (value_at c.args.a.now n) && not (differs (bit_at c.args.start.now n) (bit_at c.args.scratch.now.state n))) (length c.args.net.now.names) (c.loop-wire.wire - length c.args.net.now.names) c.loop-wire.wire i
+    rw c.loop-wire.invariant.0 (λ i. filtered_range-below (λ n. is_unknown (value_at c.args.a.now n) && not (differs (bit_at c.args.start.now n) (bit_at c.args.scratch.now.state n))) (length c.args.net.now.names) (c.loop-wire.wire - length c.args.net.now.names) c.loop-wire.wire i
     (omega (arith, nodes, c.nodes-wire.ensures.nodes, c.loop-wire.auto.wire)))
 
 pub loop-wire-preserved : goal.loop-wire-preserved
@@ -28,17 +28,17 @@ loop-wire-preserved c =
     c.has_yet_to_change.ensures ∙ ap (λ (s : List Bool). is_unknown (value_at c.args.a.now c.loop-wire.wire) && not (differs (bit_at c.args.start.now c.loop-wire.wire) (bit_at s c.loop-wire.wire))) states in
     elim c.if-has_yet_to_change.branch [
       | then-has_yet_to_change w ↦ (
-        ap (λ (s : Scratched). s.marked) w.scratch-is
+        ap (λ (s : ScratchState). s.marked) w.scratch-is
             ∙ (w.mark.ensures.marked
             ∙ (ap (λ (list : List ℕ). list ++ c.loop-wire.wire ∷ []) c.loop-wire.invariant.0
-            ∙ (picked-more test names (c.loop-wire.wire - names) c.loop-wire.wire next (sym is ∙ w.if-has_yet_to_change.true) ∙ ap (picked test names) count))),
-        ap (λ (s : Scratched). s.state) w.scratch-is ∙ (w.mark.ensures.state ∙ c.loop-wire.invariant.1),
-        ap (λ (s : Scratched). s.sorted) w.scratch-is ∙ (w.mark.ensures.sorted ∙ c.loop-wire.invariant.2),
+            ∙ (filtered_range-more test names (c.loop-wire.wire - names) c.loop-wire.wire next (sym is ∙ w.if-has_yet_to_change.true) ∙ ap (filtered_range test names) count))),
+        ap (λ (s : ScratchState). s.state) w.scratch-is ∙ (w.mark.ensures.state ∙ c.loop-wire.invariant.1),
+        ap (λ (s : ScratchState). s.sorted) w.scratch-is ∙ (w.mark.ensures.sorted ∙ c.loop-wire.invariant.2),
       )
       | else-has_yet_to_change w ↦ (
-        ap (λ (s : Scratched). s.marked) w.scratch-is
-            ∙ (c.loop-wire.invariant.0 ∙ (picked-skip test names (c.loop-wire.wire - names) c.loop-wire.wire next (sym is ∙ w.if-has_yet_to_change.false) ∙ ap (picked test names) count)),
-        ap (λ (s : Scratched). s.state) w.scratch-is ∙ c.loop-wire.invariant.1,
-        ap (λ (s : Scratched). s.sorted) w.scratch-is ∙ c.loop-wire.invariant.2,
+        ap (λ (s : ScratchState). s.marked) w.scratch-is
+            ∙ (c.loop-wire.invariant.0 ∙ (filtered_range-skip test names (c.loop-wire.wire - names) c.loop-wire.wire next (sym is ∙ w.if-has_yet_to_change.false) ∙ ap (filtered_range test names) count)),
+        ap (λ (s : ScratchState). s.state) w.scratch-is ∙ c.loop-wire.invariant.1,
+        ap (λ (s : ScratchState). s.sorted) w.scratch-is ∙ c.loop-wire.invariant.2,
       )
     ]

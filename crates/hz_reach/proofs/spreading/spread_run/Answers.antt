@@ -1,16 +1,16 @@
 -- The first step turns the inputs; then each gate of the order has its turn; last come the wires that are left.
 use Rattle.std.proofs.Common.{◌≡◌, ◌∙◌, ◌+◌, ◌<◌, ◌≤◌, ℕ, Bool, List, [], ◌∷◌, ◌++◌, length, get_or, sym, ap, subst, arith}
 use Rattle.hz_core.specs.Netlist.{Netlist, IsGateNumber}
-use Rattle.hz_gmw.specs.Recorded.{Recorded}
-use Rattle.hz_gmw.specs.Runs.{flipped, end_of}
-use Rattle.hz_gmw.proofs.Flips.{length-flipped}
-use Rattle.hz_reach.specs.Room.{after}
-use Rattle.hz_reach.specs.Scratched.{Scratched}
+use Rattle.hz_gmw.specs.RunRecord.{RunRecord}
+use Rattle.hz_gmw.specs.Runs.{state_after, end_of}
+use Rattle.hz_gmw.proofs.Flips.{length-state_after}
+use Rattle.hz_reach.specs.Room.{with_step_if_any}
+use Rattle.hz_reach.specs.ScratchState.{ScratchState}
 use Rattle.hz_reach.specs.Turn.{changed_inputs, AreChangedWires}
-use Rattle.hz_reach.proofs.Asked.{IsAsked, asked-turns, asked-a, asked-ranks}
-use Rattle.hz_reach.proofs.Rooms.{spends-more, end_of-after}
+use Rattle.hz_reach.proofs.SpreadArguments.{IsAsked, asked-turns, asked-a, asked-ranks}
+use Rattle.hz_reach.proofs.SpreadRoom.{spends-more, end_of-after}
 use Rattle.hz_reach.proofs.SpreadSteps.{inputs-flips, inputs-steps, underway-begin, length-state, wires-flips, wires-steps, gate-flips, gate-steps, run-sparing, rest-flips, rest-steps, run-whole}
-use Rattle.hz_reach.proofs.Underway.{IsUnderway, turn-possible, place-ranked, underway-next, underway-turn}
+use Rattle.hz_reach.proofs.GateLoop.{IsUnderway, turn-possible, place-ranked, underway-next, underway-turn}
 use Rattle.hz_reach.proofs.spreading.spread_run.Goals as goal
 use Rattle.hz_reach.proofs.spreading.spread_run.Goals.{then-inputs-var+then-var-nodes, else-inputs-var, else-inputs-var-via-then-inputs-var+else-var-nodes, else-inputs-var-via-else-inputs-var}
 
@@ -40,13 +40,13 @@ pub loop-place-init : goal.loop-place-init
 loop-place-init c =
     let asked : IsAsked c.args.net.now c.args.input.now c.args.start.now c.args.a.now c.args.rank.now c.args.run.now = record { circuit = c.circuit-circuit.ensures.circuit; begins = c.requires.start; result = c.requires.a; ranked = c.requires.rank; empty = c.requires.empty; flips = c.requires.room_for_flips; steps = c.requires.room_for_steps } in
     let flips = changed_inputs c.args.net.now c.args.start.now c.args.input.now in
-    let state : c.step.new.self.state ≡ flipped flips c.args.start.now =
+    let state : c.step.new.self.state ≡ state_after flips c.args.start.now =
     c.step.ensures.state
-    ∙ (ap (λ (list : List ℕ). flipped list c.mark_inputs.new.scratch.state) c.mark_inputs.ensures.marked
-    ∙ ap (flipped flips) (c.mark_inputs.ensures.state ∙ (c.sort.ensures.state ∙ c.begin.ensures.state))) in
+    ∙ (ap (λ (list : List ℕ). state_after list c.mark_inputs.new.scratch.state) c.mark_inputs.ensures.marked
+    ∙ ap (state_after flips) (c.mark_inputs.ensures.state ∙ (c.sort.ensures.state ∙ c.begin.ensures.state))) in
     let sorted = c.step.ensures.sorted ∙ c.mark_inputs.ensures.sorted in (
       underway-begin c.args.net.now c.args.input.now c.args.start.now c.args.a.now c.args.rank.now c.args.run.now asked c.step.new.self c.step.new.run (rw sorted c.sort.ensures.sorted) c.step.ensures.marked state
-          (c.step.ensures.steps ∙ ap (after c.args.run.now.steps) c.mark_inputs.ensures.marked) c.step.ensures.room,
+          (c.step.ensures.steps ∙ ap (with_step_if_any c.args.run.now.steps) c.mark_inputs.ensures.marked) c.step.ensures.room,
       ap (length {A = ℕ}) c.sorted-place-end.ensures,
     )
 
@@ -99,7 +99,7 @@ mark-requires-clause-inside c =
     let ranked = place-ranked c.args.net.now underway.asked.circuit c.args.input.now c.args.start.now c.args.rank.now long turns c.args.a.now c.loop-place.place c.loop-place.scratch c.args.run.now c.loop-place.run underway inside in
     let within = turns.inside (get_or c.loop-place.scratch.sorted c.loop-place.place 0) ranked in
     let state = length-state c.args.net.now c.args.input.now c.args.start.now c.args.a.now c.args.rank.now c.loop-place.place c.loop-place.scratch c.args.run.now c.loop-place.run underway in
-    let step = ap (length {A = Bool}) c.step-then-var-nodes.ensures.state ∙ (length-flipped c.mark_wires.new.scratch.marked c.mark_wires.new.scratch.state ∙ ap (length {A = Bool}) c.mark_wires.ensures.state) in
+    let step = ap (length {A = Bool}) c.step-then-var-nodes.ensures.state ∙ (length-state_after c.mark_wires.new.scratch.marked c.mark_wires.new.scratch.state ∙ ap (length {A = Bool}) c.mark_wires.ensures.state) in
     omega (arith, within, state, step, here)
 
 pub step-requires-then-var-nodes-2-clause-room_for_flips : goal.step-requires-then-var-nodes-2-clause-room_for_flips
@@ -137,10 +137,10 @@ loop-place-preserved c =
     let var = get_or c.sorted.result.now place 0 in
     let gate = get_or c.loop-place.scratch.sorted place 0 in
     let here : var ≡ gate = ap (λ (list : List ℕ). get_or list place 0) c.sorted.ensures in
-    let moved : (scratch : Scratched) (run : Recorded) → c.if-inputs-var.scratch ≡ scratch → c.if-inputs-var.run ≡ run → IsUnderway netlist c.args.input.now c.args.start.now c.args.a.now c.args.rank.now (place + 1) scratch c.args.run.now run → IsUnderway netlist c.args.input.now c.args.start.now c.args.a.now c.args.rank.now (place + 1) c.if-inputs-var.scratch c.args.run.now c.if-inputs-var.run =
+    let moved : (scratch : ScratchState) (run : RunRecord) → c.if-inputs-var.scratch ≡ scratch → c.if-inputs-var.run ≡ run → IsUnderway netlist c.args.input.now c.args.start.now c.args.a.now c.args.rank.now (place + 1) scratch c.args.run.now run → IsUnderway netlist c.args.input.now c.args.start.now c.args.a.now c.args.rank.now (place + 1) c.if-inputs-var.scratch c.args.run.now c.if-inputs-var.run =
     λ scratch run scratch_is run_is is.
-    subst (λ (s : Scratched). IsUnderway netlist c.args.input.now c.args.start.now c.args.a.now c.args.rank.now (place + 1) s c.args.run.now c.if-inputs-var.run) (sym scratch_is)
-    (subst (λ (r : Recorded). IsUnderway netlist c.args.input.now c.args.start.now c.args.a.now c.args.rank.now (place + 1) scratch c.args.run.now r) (sym run_is) is) in
+    subst (λ (s : ScratchState). IsUnderway netlist c.args.input.now c.args.start.now c.args.a.now c.args.rank.now (place + 1) s c.args.run.now c.if-inputs-var.run) (sym scratch_is)
+    (subst (λ (r : RunRecord). IsUnderway netlist c.args.input.now c.args.start.now c.args.a.now c.args.rank.now (place + 1) scratch c.args.run.now r) (sym run_is) is) in
     elim c.if-inputs-var.branch [
       | then-inputs-var+then-var-nodes w ↦ (
           let is_gate = gate-at c.circuit-circuit.result.now netlist c.inputs.result w.nodes.result var gate c.circuit-circuit.ensures.same c.inputs.ensures.inputs w.nodes.ensures.nodes here w.if-inputs-var.true w.if-var-nodes.true in
@@ -148,19 +148,19 @@ loop-place-preserved c =
           let wires = subst (λ (g : ℕ). AreChangedWires netlist c.args.start.now c.args.rank.now g flips) here w.mark_wires.ensures.marked in
           let marked : w.mark.new.self.marked ≡ gate ∷ [] = w.mark.ensures.marked ∙ (ap (λ (list : List ℕ). list ++ var ∷ []) w.step-then-var-nodes.ensures.marked ∙ ap (λ (g : ℕ). g ∷ []) here) in
           let sorted : w.step-then-var-nodes-2.new.self.sorted ≡ c.loop-place.scratch.sorted = w.step-then-var-nodes-2.ensures.sorted ∙ (w.mark.ensures.sorted ∙ (w.step-then-var-nodes.ensures.sorted ∙ w.mark_wires.ensures.sorted)) in
-          let state : w.step-then-var-nodes-2.new.self.state ≡ flipped (gate ∷ []) (flipped flips c.loop-place.scratch.state) =
+          let state : w.step-then-var-nodes-2.new.self.state ≡ state_after (gate ∷ []) (state_after flips c.loop-place.scratch.state) =
           w.step-then-var-nodes-2.ensures.state
-          ∙ (ap (λ (list : List ℕ). flipped list w.mark.new.self.state) marked
-          ∙ ap (flipped (gate ∷ [])) (w.mark.ensures.state ∙ (w.step-then-var-nodes.ensures.state ∙ ap (flipped flips) w.mark_wires.ensures.state))) in
-          let steps : w.step-then-var-nodes-2.new.run.steps ≡ after (after c.loop-place.run.steps flips) (gate ∷ []) =
+          ∙ (ap (λ (list : List ℕ). state_after list w.mark.new.self.state) marked
+          ∙ ap (state_after (gate ∷ [])) (w.mark.ensures.state ∙ (w.step-then-var-nodes.ensures.state ∙ ap (state_after flips) w.mark_wires.ensures.state))) in
+          let steps : w.step-then-var-nodes-2.new.run.steps ≡ with_step_if_any (with_step_if_any c.loop-place.run.steps flips) (gate ∷ []) =
           w.step-then-var-nodes-2.ensures.steps
-          ∙ (ap (after w.step-then-var-nodes.new.run.steps) marked
-          ∙ ap (λ (list : List (List ℕ)). after list (gate ∷ [])) w.step-then-var-nodes.ensures.steps) in
+          ∙ (ap (with_step_if_any w.step-then-var-nodes.new.run.steps) marked
+          ∙ ap (λ (list : List (List ℕ)). with_step_if_any list (gate ∷ [])) w.step-then-var-nodes.ensures.steps) in
           let spent = spends-more c.loop-place.run w.step-then-var-nodes.new.run w.step-then-var-nodes-2.new.run w.step-then-var-nodes.ensures.room w.step-then-var-nodes-2.ensures.room in (
             moved w.step-then-var-nodes-2.new.self w.step-then-var-nodes-2.new.run w.scratch-is w.run-is
                 (underway-turn netlist circuit c.args.input.now c.args.start.now c.args.rank.now long turns c.args.a.now place c.loop-place.scratch c.args.run.now c.loop-place.run underway inside is_gate flips wires
                 w.step-then-var-nodes-2.new.self w.step-then-var-nodes-2.new.run sorted w.step-then-var-nodes-2.ensures.marked state steps spent),
-            c.loop-place.invariant.1 ∙ ap (length {A = ℕ}) (sym sorted ∙ sym (ap (λ (s : Scratched). s.sorted) w.scratch-is)),
+            c.loop-place.invariant.1 ∙ ap (length {A = ℕ}) (sym sorted ∙ sym (ap (λ (s : ScratchState). s.sorted) w.scratch-is)),
           )
           )
       | else-inputs-var w ↦ (
@@ -173,7 +173,7 @@ loop-place-preserved c =
           ] in (
             moved c.loop-place.scratch c.loop-place.run w.scratch-is w.run-is
                 (underway-next netlist circuit c.args.input.now c.args.start.now c.args.rank.now long turns c.args.a.now place c.loop-place.scratch c.args.run.now c.loop-place.run underway inside no_gate),
-            c.loop-place.invariant.1 ∙ ap (length {A = ℕ}) (sym (ap (λ (s : Scratched). s.sorted) w.scratch-is)),
+            c.loop-place.invariant.1 ∙ ap (length {A = ℕ}) (sym (ap (λ (s : ScratchState). s.sorted) w.scratch-is)),
           )
           )
     ]
@@ -201,7 +201,7 @@ step-requires-then-not-keep_unused-clause-room_for_steps c =
 pub returns-then-not-keep_unused-clause-run : goal.returns-then-not-keep_unused-clause-run
 returns-then-not-keep_unused-clause-run c =
     let end : length c.loop-place.scratch.sorted ≤ c.loop-place.place = omega (arith, c.loop-place-test.false, c.loop-place.invariant.1) in
-    let steps = c.step-then-not-keep_unused.ensures.steps ∙ ap (after c.loop-place.run.steps) c.mark_unchanged.ensures.marked in
+    let steps = c.step-then-not-keep_unused.ensures.steps ∙ ap (with_step_if_any c.loop-place.run.steps) c.mark_unchanged.ensures.marked in
     let whole = run-whole c.args.net.now c.args.input.now c.args.start.now c.args.a.now c.args.rank.now c.loop-place.place c.loop-place.scratch c.args.run.now c.loop-place.run c.loop-place.invariant.0 end c.step-then-not-keep_unused.new.run.steps steps in
     rw c.if-not-keep_unused.true whole
 
@@ -209,7 +209,7 @@ pub returns-then-not-keep_unused-clause-state : goal.returns-then-not-keep_unuse
 returns-then-not-keep_unused-clause-state c =
     let underway = c.loop-place.invariant.0 in
     c.step-then-not-keep_unused.ensures.state
-    ∙ (ap (flipped c.mark_unchanged.new.scratch.marked) (c.mark_unchanged.ensures.state ∙ underway.state)
+    ∙ (ap (state_after c.mark_unchanged.new.scratch.marked) (c.mark_unchanged.ensures.state ∙ underway.state)
     ∙ (sym (end_of-after c.args.start.now c.loop-place.run.steps c.mark_unchanged.new.scratch.marked) ∙ ap (end_of c.args.start.now) (sym c.step-then-not-keep_unused.ensures.steps)))
 
 pub returns-else-not-keep_unused-clause-run : goal.returns-else-not-keep_unused-clause-run

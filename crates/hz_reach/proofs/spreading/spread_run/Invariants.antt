@@ -1,5 +1,5 @@
 use Rattle.std.proofs.Common.{◌≡◌, length}
-use Rattle.hz_reach.proofs.Underway.{IsUnderway}
+use Rattle.hz_reach.proofs.GateLoop.{IsUnderway}
 use Rattle.hz_reach.proofs.spreading.spread_run.Given as goal
 
 -- the gates so far have had their turns

@@ -2,7 +2,7 @@ use Rattle.std.proofs.Common.{◌≡◌, ◌<◌, ◌∙◌, ◌+◌, ◌++◌, 
 use Rattle.std.specs.Option.{IfSome}
 use Rattle.std.proofs.lemmas.List.{take_more}
 use Rattle.hz_text.specs.Assignment.{Assigned, has_repeat}
-use Rattle.hz_text.specs.Rules.{nodes_of, AreBelow}
+use Rattle.hz_text.specs.Rules.{assigned_nodes, AreBelow}
 use Rattle.hz_text.proofs.NodeLemmas.{AreMarked, AreMarked-push, AreMarked-push_none, has_repeat-marked}
 use Rattle.hz_text.proofs.assignments.repeats.Goals as goal
 use Rattle.hz_text.proofs.assignments.repeats.Goals.{in-Some+else-marks-node, in_default}
@@ -10,7 +10,7 @@ use Rattle.hz_text.proofs.assignments.repeats.Goals.{in-Some+else-marks-node, in
 below : (all : List Assigned) (d : Assigned) (i node bound : ℕ) → AreBelow bound all → i < length all → (get_or all i d).node ≡ Some node → node < bound
 below all d i node bound h l e = let one : IfSome (get_or all i d).node (λ node. node < bound) = h i d l in rw e at one
 
-stops : (all : List Assigned) (d : Assigned) (i node mark : ℕ) (marks : List ℕ) → i < length all → AreMarked (take i all) marks mark → (get_or all i d).node ≡ Some node → node < length marks → get_or marks node 0 ≡ mark → true ≡ has_repeat nat_eq (nodes_of all)
+stops : (all : List Assigned) (d : Assigned) (i node mark : ℕ) (marks : List ℕ) → i < length all → AreMarked (take i all) marks mark → (get_or all i d).node ≡ Some node → node < length marks → get_or marks node 0 ≡ mark → true ≡ has_repeat nat_eq (assigned_nodes all)
 stops all d i node mark marks l h e within at =
     let whole : (take i all ++ get_or all i d ∷ []) ++ drop (i + 1) all ≡ all = ap (λ front. front ++ drop (i + 1) all) (sym (take_more all i d l)) ∙ take-append-drop (i + 1) all in
     sym (rw whole at (has_repeat-marked (take i all) (drop (i + 1) all) (get_or all i d) marks mark node e within at h))

@@ -1,8 +1,8 @@
 use Rattle.std.proofs.Common.{◌≡◌, ◌∙◌, Bool, Option, None, length, map, replicate, ap, sym, arith, rules}
 use Rattle.std.specs.List.{filter_map, range_with_len}
 use Rattle.std.proofs.lemmas.List.{length-replicate}
-use Rattle.hz_text.specs.Assignment.{bit_at, assignment_to}
-use Rattle.hz_text.specs.Bits.{pair_of, bits_at}
+use Rattle.hz_text.specs.Assignment.{assigned_bit, assignment_to}
+use Rattle.hz_text.specs.Bits.{pair_of, assigned_bits}
 use Rattle.hz_text.proofs.BuildLemmas.{change_of, pairs_back, length-bits}
 use Rattle.hz_text.proofs.NodeLemmas.{written_whole}
 use Rattle.hz_text.proofs.bits.bits_of.Goals as goal
@@ -24,5 +24,5 @@ returns c =
     let old : length c.in_ok-bits.bits.items ≡ nodes = ap length filled ∙ length-replicate {A = Option Bool} nodes None in
     written_whole new c.in_ok-bits.bits.items c.in_ok-bits.bits.len (omega (arith, size, old, c.in_ok-bits.bits.ok.0)) (sym c.in_ok-bits.bits.ok.0)
     ∙ c.list_bits.ensures
-    ∙ ap (bits_at c.as_slice.result.now) long
-    ∙ ap (λ all. map (bit_at all) (range_with_len 0 nodes)) (ap (map assignment_to) pairs ∙ pairs_back nodes c.args.all.now c.requires.pairs)
+    ∙ ap (assigned_bits c.as_slice.result.now) long
+    ∙ ap (λ all. map (assigned_bit all) (range_with_len 0 nodes)) (ap (map assignment_to) pairs ∙ pairs_back nodes c.args.all.now c.requires.pairs)

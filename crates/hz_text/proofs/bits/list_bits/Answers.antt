@@ -1,10 +1,10 @@
 use Rattle.std.proofs.Common.{◌∙◌, false, take, get_or, length, ap, arith}
 use Rattle.std.proofs.lemmas.List.{take_more}
-use Rattle.hz_text.proofs.BuildLemmas.{bits_at-none, bits_at-push, length-bits, new_at, repeat_from_IsDistinct}
+use Rattle.hz_text.proofs.BuildLemmas.{assigned_bits-none, assigned_bits-push, length-bits, new_at, repeat_from_IsDistinct}
 use Rattle.hz_text.proofs.bits.list_bits.Goals as goal
 
 pub loop-node-init : goal.loop-node-init
-loop-node-init c = c.requires.none ∙ bits_at-none (length c.args.bits.now)
+loop-node-init c = c.requires.none ∙ assigned_bits-none (length c.args.bits.now)
 
 pub bounds-bits-node : goal.bounds-bits-node
 bounds-bits-node c =
@@ -19,4 +19,4 @@ loop-node-preserved c =
     let pair = get_or pairs i (0, false) in
     let new = new_at pairs i (0, false) c.loop-node-test.true (repeat_from_IsDistinct _ c.requires.change.distinct) in
     let below = c.requires.change.below i (0, false) c.loop-node-test.true in
-    rw (c.loop-node.invariant, take_more pairs i (0, false) c.loop-node-test.true) (bits_at-push (take i pairs) (length c.args.bits.now) pair.0 pair.1 below new)
+    rw (c.loop-node.invariant, take_more pairs i (0, false) c.loop-node-test.true) (assigned_bits-push (take i pairs) (length c.args.bits.now) pair.0 pair.1 below new)

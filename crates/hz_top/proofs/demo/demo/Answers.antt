@@ -6,9 +6,9 @@ use Rattle.hz_text.specs.ScriptText.{IsScriptFor}
 use Rattle.hz_gen.specs.Demo.{demo_netlist, demo_script}
 use Rattle.hz_pass.specs.Completed.{IsStartFault}
 use Rattle.hz_top.specs.Answer.{Answers}
-use Rattle.hz_top.specs.Outcome.{DemoComes, StartSays}
-use Rattle.hz_top.proofs.Endings.{Answers-more}
-use Rattle.hz_top.proofs.Comings.{ListsInputs-front, start-not-refused}
+use Rattle.hz_top.specs.Outcome.{IsDemoOutcome, StartPrints}
+use Rattle.hz_top.proofs.PutEndings.{Answers-more}
+use Rattle.hz_top.proofs.JobOutcomes.{ListsInputs-front, start-not-refused}
 use Rattle.hz_top.proofs.demo.demo.Goals as goal
 
 pub complete-requires-clause-inputs : goal.complete-requires-clause-inputs
@@ -31,6 +31,6 @@ returns g c =
     subst (λ (start : List (Option Bool)). IsStartFault (demo_netlist c.args.number) start c.in-Err.fault) listed
     (subst (λ (n : Netlist). IsStartFault n c.start.result.now c.in-Err.fault) net c.in-Err.ensures.start) in
     let completable = c.demo_starts.ensures c.args.number c.requires.number circuit in
-    let said = subst (λ (n : Netlist). Answers g.K.Sink.written g.K.Sink.faults (StartSays n c.in-Err.fault) c.args.out.now c.refuse_start.new.out c.refuse_start.result) (c.circuit.ensures.same ∙ net) c.refuse_start.ensures in
-    Answers-more g.K.Sink.written g.K.Sink.faults (StartSays (demo_netlist c.args.number) c.in-Err.fault) (DemoComes c.args.number c.args.cap) c.args.out.now c.refuse_start.new.out c.refuse_start.result
+    let said = subst (λ (n : Netlist). Answers g.K.Sink.written g.K.Sink.faults (StartPrints n c.in-Err.fault) c.args.out.now c.refuse_start.new.out c.refuse_start.result) (c.circuit.ensures.same ∙ net) c.refuse_start.ensures in
+    Answers-more g.K.Sink.written g.K.Sink.faults (StartPrints (demo_netlist c.args.number) c.in-Err.fault) (IsDemoOutcome c.args.number c.args.cap) c.args.out.now c.refuse_start.new.out c.refuse_start.result
     (λ own text says. absurd (start-not-refused (demo_netlist c.args.number) (demo_script c.args.number).start c.in-Err.fault completable why own text says)) said

@@ -1,30 +1,30 @@
 use Rattle.std.proofs.Common.{refl, inl, inr, ap, ◌∙◌, Err}
 use Rattle.hz_outside.specs.declared.fault.Place.TheVariants.{First}
-use Rattle.hz_top.specs.Outcome.{FilesCome, TaskComes, SecondComes, LoadSays, NetlistSays, told_by}
+use Rattle.hz_top.specs.Outcome.{IsFilesOutcome, IsTaskOutcome, IsSecondFileOutcome, LoadPrints, NetlistPrints, observation_of}
 use Rattle.hz_top.specs.Refusal.{netlist_fault_line}
-use Rattle.hz_top.proofs.Endings.{Answers-more}
-use Rattle.hz_top.proofs.Comings.{Unread-load, SecondComes-before, netlist-refused}
+use Rattle.hz_top.proofs.PutEndings.{Answers-more}
+use Rattle.hz_top.proofs.JobOutcomes.{FileRefused-load, IsSecondFileOutcome-before, netlist-refused}
 use Rattle.hz_top.proofs.order.work_on_files.Goals as goal
 
 pub returns-in-Err : goal.returns-in-Err
 returns-in-Err g c =
-    let told = told_by g.F.Files.held g.F.Files.faults g.F.Files.longs c.args.files.now c.load.new.self in
+    let told = observation_of g.F.Files.held g.F.Files.faults g.F.Files.longs c.args.files.now c.load.new.self in
     let first = c.args.first.now in
-    let comes = FilesCome told (TaskComes c.args.task) first c.args.second.now in
-    Answers-more g.K.Sink.written g.K.Sink.faults (LoadSays First c.in-Err.fault) comes c.args.out.now c.refuse_load.new.out c.refuse_load.result
+    let comes = IsFilesOutcome told (IsTaskOutcome c.args.task) first c.args.second.now in
+    Answers-more g.K.Sink.written g.K.Sink.faults (LoadPrints First c.in-Err.fault) comes c.args.out.now c.refuse_load.new.out c.refuse_load.result
     (λ own text says. inl (
       (c.load.ensures.other_faults, c.load.ensures.other_longs),
-      Unread-load told First first c.in-Err.fault
+      FileRefused-load told First first c.in-Err.fault
           (λ is. c.load.ensures.failed (c.in-Err.is ∙ ap Err is)) (λ is. c.load.ensures.too_long (c.in-Err.is ∙ ap Err is))
           (λ is. c.load.ensures.over (c.in-Err.is ∙ ap Err is)) own text says,
     )) c.refuse_load.ensures
 
 pub returns-in-Err-read : goal.returns-in-Err-read
 returns-in-Err-read g c =
-    let told = told_by g.F.Files.held g.F.Files.faults g.F.Files.longs c.args.files.now c.load.new.self in
-    let comes = FilesCome told (TaskComes c.args.task) c.args.first.now c.args.second.now in
+    let told = observation_of g.F.Files.held g.F.Files.faults g.F.Files.longs c.args.files.now c.load.new.self in
+    let comes = IsFilesOutcome told (IsTaskOutcome c.args.task) c.args.first.now c.args.second.now in
     let fault = c.in-Err-read.fault in
-    Answers-more g.K.Sink.written g.K.Sink.faults (NetlistSays fault) comes c.args.out.now c.refuse_netlist.new.out c.refuse_netlist.result
+    Answers-more g.K.Sink.written g.K.Sink.faults (NetlistPrints fault) comes c.args.out.now c.refuse_netlist.new.out c.refuse_netlist.result
     (λ own text says. inr (
       c.as_slice.result.now,
       (rw c.as_slice.ensures.value c.in-Ok.ensures.bytes, rw c.as_slice.ensures.len c.in-Ok.ensures.short),
@@ -44,16 +44,16 @@ returns g c =
     let now = c.work_on_second.new.files in
     let name = c.args.second.now in
     let net = c.in-Ok-build.net in
-    let comes = TaskComes c.args.task in
-    Answers-more g.K.Sink.written g.K.Sink.faults (SecondComes (told_by held faults longs c.load.new.self now) (comes net) name)
-    (FilesCome (told_by held faults longs c.args.files.now now) comes c.args.first.now name) c.args.out.now c.work_on_second.new.out c.work_on_second.result
+    let comes = IsTaskOutcome c.args.task in
+    Answers-more g.K.Sink.written g.K.Sink.faults (IsSecondFileOutcome (observation_of held faults longs c.load.new.self now) (comes net) name)
+    (IsFilesOutcome (observation_of held faults longs c.args.files.now now) comes c.args.first.now name) c.args.out.now c.work_on_second.new.out c.work_on_second.result
     (λ own text says. inr (
       c.as_slice.result.now,
       (rw c.as_slice.ensures.value c.in-Ok.ensures.bytes, rw c.as_slice.ensures.len c.in-Ok.ensures.short),
       inr (
         net,
         (c.in-Ok-read.ensures.faultless, c.in-Ok-build.ensures.ok ∙ c.in-Ok-read.ensures.circuit),
-        SecondComes-before held faults longs c.args.files.now c.load.new.self now (comes net) name
+        IsSecondFileOutcome-before held faults longs c.args.files.now c.load.new.self now (comes net) name
             c.load.ensures.same_files c.load.ensures.other_faults c.load.ensures.other_longs own text says,
       ),
     )) c.work_on_second.ensures

@@ -1,5 +1,5 @@
 use Rattle.std.proofs.Common.{refl}
-use Rattle.hz_top.proofs.Steps.{made-more, refused-next}
+use Rattle.hz_top.proofs.ReplayerStepLemmas.{made-more, refused-next}
 use Rattle.hz_top.proofs.replaying.make_steps.Goals as goal
 
 pub returns-in-Err-clause-outcome : goal.returns-in-Err-clause-outcome

@@ -1,5 +1,5 @@
 use Rattle.std.proofs.Common.{refl, []}
-use Rattle.hz_top.proofs.Steps.{cycle-accepted, cycle-refused}
+use Rattle.hz_top.proofs.ReplayerStepLemmas.{cycle-accepted, cycle-refused}
 use Rattle.hz_top.proofs.replaying.replay_cycle.Goals as goal
 
 pub returns-in-Ok-close-clause-outcome : goal.returns-in-Ok-close-clause-outcome

@@ -2,9 +2,9 @@ use Rattle.std.proofs.Common.{◌∙◌, Bool, List, get_or, subst, ap, All}
 use Rattle.std.proofs.lemmas.List.{take_all}
 use Rattle.std.specs.Option.{option_map}
 use Rattle.hz_net.specs.Network.{Driver, network_of}
-use Rattle.hz_gmw.specs.Replayed.{Replayed}
+use Rattle.hz_gmw.specs.Replayer.{Replayer}
 use Rattle.hz_top.specs.Replaying.{no_run, IsAcceptedRun, IsRefusedRun}
-use Rattle.hz_top.specs.Made.{run_of}
+use Rattle.hz_top.specs.ReplayerSteps.{run_of}
 use Rattle.hz_top.proofs.RunSteps.{same-run, run-variables, run-few, begun-again, kept-again, accepted-more, first-refused}
 use Rattle.hz_top.proofs.replaying.replay_runs.Goals as goal
 
@@ -14,7 +14,7 @@ replay_run-requires-clause-variables c =
     let number = c.loop-number.number in
     let told = same-run c.lead.result.now.steps (option_map (λ run. run.now.steps) c.cycle.result) (get_or runs number no_run) c.lead.ensures c.cycle.ensures in
     run-variables c.args.replay.now.circuit c.restart.new.self.circuit runs number _ told (rw c.runs-number-end.ensures at c.loop-number-test.true)
-    (ap (λ (r : Replayed). r.circuit) c.restart.ensures.at ∙ c.loop-number.invariant.0.circuit) c.requires.text.variables
+    (ap (λ (r : Replayer). r.circuit) c.restart.ensures.at ∙ c.loop-number.invariant.0.circuit) c.requires.text.variables
 
 pub replay_run-requires-clause-few : goal.replay_run-requires-clause-few
 replay_run-requires-clause-few c =

@@ -10,7 +10,7 @@ use Rattle.hz_seq.specs.Analyses.{Analysis, AreAnalyses}
 use Rattle.hz_seq.proofs.FirstAnalyses.{AreFirstAnalyses, no-changes, all-analyses}
 use Rattle.hz_top.specs.Reports.{analyses_text, analysis_text}
 use Rattle.hz_top.proofs.Writable.{IsStopInside}
-use Rattle.hz_top.proofs.GoingOn.{goes-on, stop-inside}
+use Rattle.hz_top.proofs.SequenceSteps.{goes-on, stop-inside}
 use Rattle.hz_seq.proofs.Existence.{HasFindings, with-later}
 use Rattle.hz_top.proofs.ReportLines.{text-more, text-append}
 use Rattle.hz_top.proofs.reporting.write_changes.Goals as goal

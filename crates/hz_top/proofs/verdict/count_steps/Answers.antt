@@ -1,5 +1,5 @@
 use Rattle.std.proofs.Common.{arith}
-use Rattle.hz_top.proofs.Lines.{steps-within}
+use Rattle.hz_top.proofs.ReplayCounts.{steps-within}
 use Rattle.hz_top.proofs.verdict.count_steps.Goals as goal
 
 pub overflow_add-steps : goal.overflow_add-steps

@@ -1,5 +1,5 @@
 use Rattle.std.proofs.Common.{arith, ap, ◌∙◌, sym, length}
-use Rattle.hz_top.proofs.Lines.{parts-within}
+use Rattle.hz_top.proofs.ReplayCounts.{parts-within}
 use Rattle.hz_top.proofs.verdict.steps_in.Goals as goal
 
 pub overflow_add-result : goal.overflow_add-result

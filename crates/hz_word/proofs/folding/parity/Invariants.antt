@@ -1,11 +1,11 @@
 -- The word so far, and then the pins that are left, come to the whole.
 use Rattle.std.proofs.Common.{◌≡◌, false, drop}
 use Rattle.std.specs.List.{fold}
-use Rattle.hz_word.specs.Capped.{IsCounted}
-use Rattle.hz_word.specs.Pairs.{constant, parity_pair}
+use Rattle.hz_word.specs.Capped.{IsWithinCap}
+use Rattle.hz_word.specs.Pairs.{constant_word, parity_pair}
 use Rattle.hz_word.proofs.folding.parity.Given as goal
 
 abbrev pub invariant-loop-pin : goal.invariant-loop-pin
 invariant-loop-pin l =
-    IsCounted l.cap l.so_far.changes
-    × (fold (parity_pair l.cap) l.so_far (drop l.pin-index l.pins) ≡ fold (parity_pair l.cap) (constant false) l.pins)
+    IsWithinCap l.cap l.so_far.changes
+    × (fold (parity_pair l.cap) l.so_far (drop l.pin-index l.pins) ≡ fold (parity_pair l.cap) (constant_word false) l.pins)

@@ -6,13 +6,13 @@ use Rattle.clap.specs.ValueTests.{is_unsigned_in}
 use Rattle.clap.specs.declared.builder.value_parser.ValueParser.TheVariants.{Unsigned}
 use Rattle.clap.proofs.ValueTestLemmas.{accepts-Accepts, Accepts-accepts}
 use Rattle.clap.proofs.WalkLemmas.{both}
-use Rattle.hz_words.specs.Values.{number_of}
+use Rattle.hz_words.specs.Values.{number_up_to}
 use Rattle.hz_words.proofs.values.read_number.Goals as goal
 
 -- a number in the range is read
 number_of-number : (most : ℕ) (text : List ℕ) (number : ℕ) → IsNumeral 10 (without_leading_plus text)
     → digits_value 10 (without_leading_plus text) < 2 ^ 64 → number ≡ digits_value 10 (without_leading_plus text)
-    → (nat_le 1 number && nat_le number most) ≡ true → Some number ≡ number_of most text
+    → (nat_le 1 number && nat_le number most) ≡ true → Some number ≡ number_up_to most text
 number_of-number most text number numeral small is inside =
     let ends = both _ _ inside in
     let least : 1 ≤ number = leb-true _ _ ends.0 in
@@ -26,10 +26,10 @@ number_of-number most text number numeral small is inside =
 -- a text that is no number stands for none
 number_of-other : (most : ℕ) (text : List ℕ)
     → (IsNumeral 10 (without_leading_plus text) × (digits_value 10 (without_leading_plus text) < 2 ^ 64) → ⊥)
-    → None ≡ number_of most text
+    → None ≡ number_up_to most text
 number_of-other most text other = go (is_unsigned_in 1 most text) refl
   where
-    go : (b : Bool) → is_unsigned_in 1 most text ≡ b → None ≡ number_of most text
+    go : (b : Bool) → is_unsigned_in 1 most text ≡ b → None ≡ number_up_to most text
     go true e =
         let passes = accepts-Accepts false (Unsigned 1 most) text e in
         absurd (other (passes.0, passes.1))

@@ -1,14 +1,14 @@
 use Rattle.std.proofs.Common.{◌≡◌, ◌∙◌, sym, ap, refl, ◌++◌, ◌∷◌, [], None, position}
 use Rattle.std.specs.Str.{bytes_eq}
-use Rattle.hz_bench.specs.Definition.{names_in}
-use Rattle.hz_bench.specs.Table.{names_of}
+use Rattle.hz_bench.specs.Definition.{table_names}
+use Rattle.hz_bench.specs.Table.{definition_names}
 use Rattle.hz_bench.proofs.TableLemmas.{holds-more, names-in}
 use Rattle.hz_bench.proofs.definitions.Definitions.add.Goals as goal
 
 pub invariant_of-self-2 : goal.invariant_of-self-2
 invariant_of-self-2 c =
-    let fresh : position (bytes_eq c.args.name.now) (names_of c.self.inside.entries.items) ≡ None =
-    ap (position (bytes_eq c.args.name.now)) (sym (names-in c.self.inside.entries.items) ∙ ap names_in c.self.view_is) ∙ c.requires in
+    let fresh : position (bytes_eq c.args.name.now) (definition_names c.self.inside.entries.items) ≡ None =
+    ap (position (bytes_eq c.args.name.now)) (sym (names-in c.self.inside.entries.items) ∙ ap table_names c.self.view_is) ∙ c.requires in
     holds-more c.self.inside _ c.args.name.now (record { name = c.args.name; line = c.args.line }) c.self.invariant refl fresh refl
     (c.push_reserved.ensures.items ∙ ap (λ was. was ++ record { name = c.args.name; line = c.args.line } ∷ []) c.in-Ok.ensures.items)
     (c.in-Ok-push.ensures.ok ∙ ap (λ hash. c.self.inside.chains ++ hash ∷ []) c.hash.ensures)

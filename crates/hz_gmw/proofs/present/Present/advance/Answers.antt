@@ -1,5 +1,5 @@
 use Rattle.std.proofs.Common.{◌<◌, ◌+◌, ◌∙◌, sym, subst, refl, Bool, List, length, get_or, arith}
-use Rattle.hz_gmw.proofs.PresentLemmas.{FlippedSoFar, flip-step, flip-state}
+use Rattle.hz_gmw.proofs.CurrentStateLemmas.{FlippedSoFar, flip-step, flip-state}
 use Rattle.hz_gmw.proofs.present.Present.advance.Goals as goal
 
 pub loop-var-preserved : goal.loop-var-preserved

@@ -1,6 +1,6 @@
 use Rattle.std.proofs.Common.{◌≡◌}
-use Rattle.hz_gmw.specs.Presents.{IsExact}
-use Rattle.hz_gmw.proofs.PresentLemmas.{FlippedSoFar}
+use Rattle.hz_gmw.specs.CurrentState.{IsExact}
+use Rattle.hz_gmw.proofs.CurrentStateLemmas.{FlippedSoFar}
 use Rattle.hz_gmw.proofs.present.Present.advance.Given as goal
 
 -- the variables so far changed

@@ -4,7 +4,7 @@ use Rattle.std.proofs.lemmas.List.Sums.{count_by-le-length}
 use Rattle.hz_net.specs.Network.{network_of, bit_at}
 use Rattle.hz_net.specs.Variables.{fan_out_of}
 use Rattle.hz_gmw.specs.Instability.{is_unstable}
-use Rattle.hz_gmw.specs.Presents.{AreCounts}
+use Rattle.hz_gmw.specs.CurrentState.{AreCounts}
 use Rattle.hz_gmw.proofs.Counts.{AreCounts-node, nodes-among, fan-bound}
 use Rattle.hz_gmw.proofs.present.Present.change_node.Goals as goal
 

@@ -2,7 +2,7 @@ use Rattle.std.proofs.Common.{◌∙◌, sym, ap, ◌≤◌, ◌+◌, length, ar
 use Rattle.std.specs.Prelude.{slice_range}
 use Rattle.std.proofs.lemmas.List.{get_or_read}
 use Rattle.hz_core.specs.Netlist.{gate_at}
-use Rattle.hz_net.specs.Network.{driven}
+use Rattle.hz_net.specs.Network.{driver_value}
 use Rattle.hz_net.specs.Variables.{first_wire}
 use Rattle.hz_net.proofs.PartLemmas.{length-part}
 use Rattle.hz_gmw.proofs.GateOnes.{part-ones}
@@ -23,4 +23,4 @@ returns-in-Gate c =
     let read = get_or_read present.ones.items gate c.index-in-Gate.result.now (omega (arith, inside, c.requires.counted.fits.ones)) c.index-in-Gate.ensures 0 in
     c.value_of_ones.ensures (slice_range state first (first + pins)) (long ∙ sym c.wires_in-pins.ensures.pins)
     (part-ones state first pins fits ∙ (sym (c.requires.counted.counts.ones gate c.in-Gate.kind first pins driver) ∙ sym read)) ∙
-    sym (ap (driven present.input.items state) driver)
+    sym (ap (driver_value present.input.items state) driver)

@@ -2,8 +2,8 @@ use Rattle.std.proofs.Common.{◌≡◌, ◌+◌, ◌∙◌, sym, ap, Bool, not,
 use Rattle.std.specs.Prelude.{count_by}
 use Rattle.hz_net.specs.Network.{network_of, bit_at}
 use Rattle.hz_gmw.specs.Instability.{is_unstable, unstable_count}
-use Rattle.hz_gmw.specs.Presents.{around}
-use Rattle.hz_gmw.proofs.Driven.{around-once, around-inside}
+use Rattle.hz_gmw.specs.CurrentState.{with_readers}
+use Rattle.hz_gmw.proofs.DriverLemmas.{around-once, around-inside}
 use Rattle.hz_gmw.proofs.Counts.{network-bound, listed-bound, unstable-flip, unstable-bound}
 use Rattle.hz_gmw.proofs.present.Present.flip.Goals as goal
 
@@ -16,7 +16,7 @@ overflow_sub-self c =
       arith,
       c.unstable_around.ensures,
       c.requires.exact.unstable,
-      listed-bound netlist present.input.items present.state.items (around netlist c.args.var) (around-once netlist circuit c.args.var c.requires.var) (around-inside netlist circuit c.args.var c.requires.var),
+      listed-bound netlist present.input.items present.state.items (with_readers netlist c.args.var) (around-once netlist circuit c.args.var c.requires.var) (around-inside netlist circuit c.args.var c.requires.var),
     )
 
 pub overflow_add-self : goal.overflow_add-self
@@ -26,7 +26,7 @@ overflow_add-self c =
     let after = c.change.new.self in
     let var = c.args.var in
     let circuit = c.requires.exact.counted.fits.circuit in
-    let list = around netlist var in
+    let list = with_readers netlist var in
     let next = set present.state.items var (not (bit_at present.state.items var)) in
     let sums = unstable-flip netlist present.input.items present.state.items var circuit c.requires.var in
     let few = listed-bound netlist present.input.items present.state.items list (around-once netlist circuit var c.requires.var) (around-inside netlist circuit var c.requires.var) in
@@ -42,7 +42,7 @@ returns-clause-exact c =
     let after = c.change.new.self in
     let var = c.args.var in
     let circuit = c.requires.exact.counted.fits.circuit in
-    let list = around netlist var in
+    let list = with_readers netlist var in
     let next = set present.state.items var (not (bit_at present.state.items var)) in
     let sums = unstable-flip netlist present.input.items present.state.items var circuit c.requires.var in
     let few = listed-bound netlist present.input.items present.state.items list (around-once netlist circuit var c.requires.var) (around-inside netlist circuit var c.requires.var) in

@@ -2,7 +2,7 @@ use Rattle.std.proofs.Common.{rules, ◌≡◌, ◌∙◌, sym, ap, subst, ℕ, 
 use Rattle.std.proofs.lemmas.List.{length-replicate}
 use Rattle.hz_core.specs.Netlist.{Netlist, IsCircuit}
 use Rattle.hz_net.specs.Network.{network_of}
-use Rattle.hz_gmw.specs.Presents.{AreCounts}
+use Rattle.hz_gmw.specs.CurrentState.{AreCounts}
 use Rattle.hz_gmw.proofs.Counts.{AreCounts-none}
 use Rattle.hz_gmw.proofs.present.Present.new.Goals as goal
 

@@ -1,6 +1,6 @@
 use Rattle.std.proofs.Common.{◌∙◌, sym, ap, arith}
 use Rattle.hz_core.specs.Netlist.{Netlist}
-use Rattle.hz_gmw.proofs.PresentLemmas.{all-below}
+use Rattle.hz_gmw.proofs.CurrentStateLemmas.{all-below}
 use Rattle.hz_gmw.proofs.present.Present.turn_input.Goals as goal
 
 pub returns-clause-input : goal.returns-clause-input

@@ -1,5 +1,5 @@
 use Rattle.std.proofs.Common.{◌∙◌, sym, arith}
-use Rattle.hz_gmw.proofs.PresentLemmas.{all-below}
+use Rattle.hz_gmw.proofs.CurrentStateLemmas.{all-below}
 use Rattle.hz_gmw.proofs.present.Present.turn_to.Goals as goal
 
 pub returns-clause-state : goal.returns-clause-state

@@ -3,9 +3,9 @@ use Rattle.std.specs.Prelude.{count_by, sum_by}
 use Rattle.std.proofs.lemmas.List.Sums.{sum_by-cons}
 use Rattle.hz_net.specs.Network.{network_of}
 use Rattle.hz_gmw.specs.Instability.{is_unstable}
-use Rattle.hz_gmw.specs.Presents.{around}
+use Rattle.hz_gmw.specs.CurrentState.{with_readers}
 use Rattle.hz_gmw.proofs.Counting.{weight}
-use Rattle.hz_gmw.proofs.Driven.{around-node, around-wire}
+use Rattle.hz_gmw.proofs.DriverLemmas.{around-node, around-wire}
 use Rattle.hz_gmw.proofs.present.Present.unstable_around.Goals as goal
 
 pub returns-in-Wire : goal.returns-in-Wire
@@ -15,7 +15,7 @@ returns-in-Wire c =
     let unstable : ℕ → Bool = is_unstable (network_of netlist) present.input.items present.state.items in
     let var = c.args.var in
     let gate = c.in-Wire.gate in
-    let list : count_by unstable (around netlist var) ≡ count_by unstable (var ∷ gate ∷ []) =
+    let list : count_by unstable (with_readers netlist var) ≡ count_by unstable (var ∷ gate ∷ []) =
     ap (count_by unstable) (around-wire netlist c.requires.counted.fits.circuit gate var c.in-Wire.ensures.kind.2 c.in-Wire.ensures.kind.4 c.requires.var) in
     let first : c.one_if.result ≡ weight (unstable var) = c.one_if.ensures ∙ ap weight c.is_unstable.ensures in
     let second : c.one_if-in-Wire.result ≡ weight (unstable gate) = c.one_if-in-Wire.ensures ∙ ap weight c.is_unstable-in-Wire.ensures in

@@ -3,9 +3,9 @@ use Rattle.std.specs.Vec.{with_items}
 use Rattle.std.proofs.lemmas.List.{with_items_is, length-replicate}
 use Rattle.hz_net.specs.Network.{network_of, bit_at}
 use Rattle.hz_gmw.specs.Instability.{unstable_variables}
-use Rattle.hz_gmw.specs.Presents.{taken_over}
+use Rattle.hz_gmw.specs.CurrentState.{with_bits_of}
 use Rattle.hz_gmw.specs.Watches.{watched_variables}
-use Rattle.hz_gmw.specs.Replayed.{Replayed, StandsFor, replayed_at}
+use Rattle.hz_gmw.specs.Replayer.{Replayer, StandsFor, replayer_at}
 use Rattle.hz_gmw.proofs.WatchLemmas.{watched-fresh}
 use Rattle.hz_gmw.proofs.ReplayLemmas.{taken-all, replayed-is, stands-at}
 use Rattle.hz_gmw.proofs.replay.Replay.mark.Goals as goal
@@ -19,8 +19,8 @@ invariant_of-self c =
     let marked_long = c.self.invariant.marked in
     let taken : c.take_over.new.marked ≡ state =
     c.take_over.ensures ∙
-    (ap (λ (now : List Bool). taken_over now c.as_mut_slice.result.now c.members.result.now) c.as_slice.ensures.value ∙
-    (ap (λ (marked : List Bool). taken_over state marked c.members.result.now) c.as_mut_slice.ensures.value ∙
+    (ap (λ (now : List Bool). with_bits_of now c.as_mut_slice.result.now c.members.result.now) c.as_slice.ensures.value ∙
+    (ap (λ (marked : List Bool). with_bits_of state marked c.members.result.now) c.as_mut_slice.ensures.value ∙
     taken-all state fields.marked.items fields.watch.changed c.members.result.now (marked_long ∙ sym fits.state) c.members.ensures c.self.invariant.same)) in
     let marked : (with_items fields.marked c.take_over.new.marked).items ≡ state =
     with_items_is fields.marked c.take_over.new.marked (omega (arith, ap (length {A = Bool}) taken, fits.state, marked_long, fields.marked.ok.0)) ∙ taken in
@@ -47,8 +47,8 @@ returns-clause-at c =
     let marked_long = c.self.invariant.marked in
     let taken : c.take_over.new.marked ≡ state =
     c.take_over.ensures ∙
-    (ap (λ (now : List Bool). taken_over now c.as_mut_slice.result.now c.members.result.now) c.as_slice.ensures.value ∙
-    (ap (λ (marked : List Bool). taken_over state marked c.members.result.now) c.as_mut_slice.ensures.value ∙
+    (ap (λ (now : List Bool). with_bits_of now c.as_mut_slice.result.now c.members.result.now) c.as_slice.ensures.value ∙
+    (ap (λ (marked : List Bool). with_bits_of state marked c.members.result.now) c.as_mut_slice.ensures.value ∙
     taken-all state fields.marked.items fields.watch.changed c.members.result.now (marked_long ∙ sym fits.state) c.members.ensures c.self.invariant.same)) in
     let marked : (with_items fields.marked c.take_over.new.marked).items ≡ state =
     with_items_is fields.marked c.take_over.new.marked (omega (arith, ap (length {A = Bool}) taken, fits.state, marked_long, fields.marked.ok.0)) ∙ taken in
@@ -56,7 +56,7 @@ returns-clause-at c =
     let watched : watched_variables net present.input.items state (bit_at c.clear.new.self.changed) (bit_at c.clear.new.self.been_stable) ≡ unstable_variables net present.input.items state =
     watched-fresh net present.input.items state c.clear.new.self.changed c.clear.new.self.been_stable (length fields.watch.changed) (length fields.watch.been_stable) c.clear.ensures.changed c.clear.ensures.been_stable in
     let at = replayed-is fields.net.now present.input.items present.input.items fields.begun.items fields.begun.items state state (with_items fields.marked c.take_over.new.marked).items (watched_variables net present.input.items state (bit_at c.clear.new.self.changed) (bit_at c.clear.new.self.been_stable)) refl refl refl marked watched in
-    subst (λ (now : Replayed). (let next : Replayed = record { circuit = fields.net.now; input = present.input.items; begun = fields.begun.items; state = state; marked = (with_items fields.marked c.take_over.new.marked).items; stepped = false; watched = watched_variables net present.input.items state (bit_at c.clear.new.self.changed) (bit_at c.clear.new.self.been_stable) } in next) ≡ replayed_at now.circuit now.input now.begun now.state) c.self.view_is at
+    subst (λ (now : Replayer). (let next : Replayer = record { circuit = fields.net.now; input = present.input.items; begun = fields.begun.items; state = state; marked = (with_items fields.marked c.take_over.new.marked).items; stepped = false; watched = watched_variables net present.input.items state (bit_at c.clear.new.self.changed) (bit_at c.clear.new.self.been_stable) } in next) ≡ replayer_at now.circuit now.input now.begun now.state) c.self.view_is at
 
 pub returns-clause-stands : goal.returns-clause-stands
 returns-clause-stands c =
@@ -67,8 +67,8 @@ returns-clause-stands c =
     let marked_long = c.self.invariant.marked in
     let taken : c.take_over.new.marked ≡ state =
     c.take_over.ensures ∙
-    (ap (λ (now : List Bool). taken_over now c.as_mut_slice.result.now c.members.result.now) c.as_slice.ensures.value ∙
-    (ap (λ (marked : List Bool). taken_over state marked c.members.result.now) c.as_mut_slice.ensures.value ∙
+    (ap (λ (now : List Bool). with_bits_of now c.as_mut_slice.result.now c.members.result.now) c.as_slice.ensures.value ∙
+    (ap (λ (marked : List Bool). with_bits_of state marked c.members.result.now) c.as_mut_slice.ensures.value ∙
     taken-all state fields.marked.items fields.watch.changed c.members.result.now (marked_long ∙ sym fits.state) c.members.ensures c.self.invariant.same)) in
     let marked : (with_items fields.marked c.take_over.new.marked).items ≡ state =
     with_items_is fields.marked c.take_over.new.marked (omega (arith, ap (length {A = Bool}) taken, fits.state, marked_long, fields.marked.ok.0)) ∙ taken in
@@ -76,4 +76,4 @@ returns-clause-stands c =
     let watched : watched_variables net present.input.items state (bit_at c.clear.new.self.changed) (bit_at c.clear.new.self.been_stable) ≡ unstable_variables net present.input.items state =
     watched-fresh net present.input.items state c.clear.new.self.changed c.clear.new.self.been_stable (length fields.watch.changed) (length fields.watch.been_stable) c.clear.ensures.changed c.clear.ensures.been_stable in
     let at = replayed-is fields.net.now present.input.items present.input.items fields.begun.items fields.begun.items state state (with_items fields.marked c.take_over.new.marked).items (watched_variables net present.input.items state (bit_at c.clear.new.self.changed) (bit_at c.clear.new.self.been_stable)) refl refl refl marked watched in
-    subst (λ (now : Replayed). StandsFor now []) (sym at) (stands-at fields.net.now present.input.items fields.begun.items state)
+    subst (λ (now : Replayer). StandsFor now []) (sym at) (stands-at fields.net.now present.input.items fields.begun.items state)

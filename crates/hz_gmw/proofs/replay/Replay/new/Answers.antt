@@ -2,7 +2,7 @@ use Rattle.std.proofs.Common.{rules, ◌≡◌, ◌∙◌, sym, ap, subst, ℕ, 
 use Rattle.hz_net.specs.Network.{network_of, bit_at}
 use Rattle.hz_gmw.specs.Instability.{unstable_variables}
 use Rattle.hz_gmw.specs.Watches.{watched_variables}
-use Rattle.hz_gmw.specs.Replayed.{Replayed, StandsFor}
+use Rattle.hz_gmw.specs.Replayer.{Replayer, StandsFor}
 use Rattle.hz_gmw.proofs.WatchLemmas.{watched-fresh}
 use Rattle.hz_gmw.proofs.ReplayLemmas.{replayed-is, stands-at}
 use Rattle.hz_gmw.proofs.replay.Replay.new.Goals as goal
@@ -39,4 +39,4 @@ returns-clause-stands c =
     watched-fresh net present.input.items present.state.items watch.changed watch.been_stable (length net) (length netlist.names) c.in_ok-watch.ensures.changed c.in_ok-watch.ensures.been_stable ∙
     (ap (λ (i : List Bool). unstable_variables net i present.state.items) c.in_ok-present.ensures.input ∙ ap (unstable_variables net inputs) c.in_ok-present.ensures.state) in
     let at = replayed-is netlist inputs present.input.items bits c.in-Ok-vec.begun.items bits present.state.items c.in-Ok.marked.items watched c.in_ok-present.ensures.input begun_is c.in_ok-present.ensures.state marked_is watched_is in
-    subst (λ (now : Replayed). StandsFor now []) (sym at) (stands-at netlist inputs bits bits)
+    subst (λ (now : Replayer). StandsFor now []) (sym at) (stands-at netlist inputs bits bits)

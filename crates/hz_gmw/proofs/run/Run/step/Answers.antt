@@ -1,7 +1,7 @@
 use Rattle.std.proofs.Common.{◌∙◌, ap, sym, [], get_or, arith}
 use Rattle.std.proofs.lemmas.Option.{get_or_from_slice_get}
 use Rattle.hz_net.specs.Parts.{parts_from}
-use Rattle.hz_gmw.specs.Recorded.{Recorded}
+use Rattle.hz_gmw.specs.RunRecord.{RunRecord}
 use Rattle.hz_gmw.proofs.RunLemmas.{held_steps}
 use Rattle.hz_gmw.proofs.run.Run.step.Goals as goal
 
@@ -17,4 +17,4 @@ returns c =
     let flips = c.self.inside.flips.items in
     let part = rw (c.as_slice.ensures.value, c.as_slice-2.ensures.value) at c.part_at.ensures in
     sym (get_or_from_slice_get (parts_from 0 ends flips) c.args.number c.part_at.result.now [] part)
-    ∙ ap (λ (run : Recorded). get_or run.steps c.args.number []) c.self.view_is
+    ∙ ap (λ (run : RunRecord). get_or run.steps c.args.number []) c.self.view_is

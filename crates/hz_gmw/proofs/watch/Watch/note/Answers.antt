@@ -1,7 +1,7 @@
 use Rattle.std.proofs.Common.{◌<◌, ◌+◌, ◌∙◌, refl, sym, subst, ℕ, List, length, get_or, drop, arith}
 use Rattle.hz_net.specs.Network.{network_of}
-use Rattle.hz_gmw.specs.Watches.{NotesStable}
-use Rattle.hz_gmw.proofs.PresentLemmas.{next-due}
+use Rattle.hz_gmw.specs.Watches.{RecordsStable}
+use Rattle.hz_gmw.proofs.CurrentStateLemmas.{next-due}
 use Rattle.hz_gmw.proofs.WatchLemmas.{notes-then}
 use Rattle.hz_gmw.proofs.watch.Watch.note.Goals as goal
 
@@ -17,6 +17,6 @@ loop-var-preserved c =
       c.note_gate.ensures.changed ∙ c.loop-var.invariant.0,
       been_stable.long ∙ c.loop-var.invariant.1,
       λ after rest. c.loop-var.invariant.2 after
-          (subst (λ (list : List ℕ). NotesStable net present.input.items present.state.items list c.loop-var.self.been_stable after) (sym (next-due flips k x few refl))
+          (subst (λ (list : List ℕ). RecordsStable net present.input.items present.state.items list c.loop-var.self.been_stable after) (sym (next-due flips k x few refl))
           (notes-then net present.input.items present.state.items c.loop-var.self.been_stable c.note_gate.new.self.been_stable after x (drop (k + 1) flips) been_stable rest)),
     )

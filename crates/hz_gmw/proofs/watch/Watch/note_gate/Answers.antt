@@ -1,6 +1,6 @@
 use Rattle.std.proofs.Common.{◌<◌, ◌∷◌, [], ◌∙◌, refl, sym, subst, length, arith}
 use Rattle.hz_net.specs.Network.{network_of}
-use Rattle.hz_gmw.specs.Watches.{NotesStable}
+use Rattle.hz_gmw.specs.Watches.{RecordsStable}
 use Rattle.hz_gmw.proofs.WatchLemmas.{notes-node, notes-stable, notes-unstable, no-wire-into}
 use Rattle.hz_gmw.proofs.watch.Watch.note_gate.Goals as goal
 
@@ -10,7 +10,7 @@ returns-then-not-is_unstable-clause-been_stable c =
     let present = c.args.present.now in
     let marks = c.args.self.now.been_stable in
     let inside : c.in-Wire.gate < length marks = omega (arith, c.in-Wire.ensures.kind.3, c.requires.fits.been_stable) in
-    subst (NotesStable (network_of netlist) present.input.items present.state.items (c.args.var ∷ []) marks) (sym c.insert.ensures)
+    subst (RecordsStable (network_of netlist) present.input.items present.state.items (c.args.var ∷ []) marks) (sym c.insert.ensures)
     (notes-stable netlist present.input.items present.state.items marks c.in-Wire.gate c.args.var c.requires.counted.fits.circuit c.in-Wire.ensures.kind.2 inside (sym c.is_unstable.ensures ∙ c.if-not-is_unstable.true))
 
 pub returns-else-not-is_unstable-clause-been_stable : goal.returns-else-not-is_unstable-clause-been_stable

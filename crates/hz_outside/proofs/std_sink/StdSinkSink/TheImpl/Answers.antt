@@ -1,22 +1,22 @@
 -- What standard output counts gives what every sink ensures; it tells nothing of what was written.
 use Rattle.std.proofs.Common.{◌≡◌, ◌≤◌, ℕ, rules, arith, sym, Ok, Err, Result, MatchResult}
-use Rattle.hz_outside.specs.Counts.{raised}
+use Rattle.hz_outside.specs.Counts.{count_after}
 use Rattle.hz_outside.specs.declared.fault.PutFault.{PutFault}
 use Rattle.hz_outside.specs.declared.fault.PutFault.TheVariants.{Failed, Memory}
 use Rattle.hz_outside.proofs.CountLemmas.{rose}
-use Rattle.hz_outside.proofs.WrittenLemmas.{grown-untold, GrewByFront-untold}
+use Rattle.hz_outside.proofs.WrittenLemmas.{extended_text-untold, GrewByPrefix-untold}
 use Rattle.hz_outside.proofs.std_sink.StdSinkSink.TheImpl.Goals as goal
 
 never-falls : {A : Type 0} (old new : ℕ) (result : Result A PutFault)
-    → MatchResult result (λ _. new ≡ old) (λ fault. (fault ≡ Failed) × (new ≡ raised old)) → old ≤ new
+    → MatchResult result (λ _. new ≡ old) (λ fault. (fault ≡ Failed) × (new ≡ count_after old)) → old ≤ new
 never-falls old new (Ok _) e = rw e (omega arith)
 never-falls old new (Err fault) e = rw e.1 (omega arith)
 
 pub put-tells : goal.put-tells
 put-tells g c = record {
-  whole = search (rules, grown-untold);
+  whole = search (rules, extended_text-untold);
   failed = λ e. let h = rw e at c.ensures.counts in rw h.1 (rose c.args.self.now);
-  front = λ _. GrewByFront-untold _;
+  front = λ _. GrewByPrefix-untold _;
   memory = search rules;
   never_falls = never-falls _ _ c.result c.ensures.counts;
 }

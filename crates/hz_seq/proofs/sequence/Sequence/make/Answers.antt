@@ -8,7 +8,7 @@ use Rattle.hz_net.specs.Starts.{IsStableStart}
 use Rattle.hz_desk.specs.declared.finding.Row.{Row}
 use Rattle.hz_desk.specs.Finding.{FindingOf, finding_of, values_b}
 use Rattle.hz_seq.specs.Sequence.{IsSettledAt, IsFirstUnknown}
-use Rattle.hz_seq.proofs.Left.{left-by, stable-left}
+use Rattle.hz_seq.proofs.FindingEffects.{left-by, stable-left}
 use Rattle.hz_seq.proofs.sequence.Sequence.make.Goals as goal
 
 pub invariant_of-self : goal.invariant_of-self

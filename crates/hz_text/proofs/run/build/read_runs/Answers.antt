@@ -5,11 +5,11 @@ use Rattle.std.proofs.lemmas.List.{drop_all}
 use Rattle.std.proofs.lemmas.Option.{none-some}
 use Rattle.hz_line.specs.Statement.{Numbered}
 use Rattle.hz_text.specs.declared.run.order.Place.{Place}
-use Rattle.hz_text.specs.RunLookup.{RunEntry, LookedRun, run_entered, run_entered_all, run_held_by}
+use Rattle.hz_text.specs.RunResolution.{RunEntry, ResolvedRunStatement, numbered_run_resolution, numbered_run_resolutions, run_resolution_of}
 use Rattle.hz_text.specs.RunFault.{variables_in}
 use Rattle.hz_text.specs.OrderPass.{runs_out_of_order}
 use Rattle.hz_text.specs.RunText.{run_statements}
-use Rattle.hz_text.specs.RunOrder.{unnumbered}
+use Rattle.hz_text.specs.RunOrder.{statements_without_lines}
 use Rattle.hz_text.specs.RunBuilt.{last_place}
 use Rattle.hz_text.proofs.RunBuildLaws.{entries-at, next_in_order, ended}
 use Rattle.hz_text.proofs.run.build.read_runs.Goals as goal
@@ -20,13 +20,13 @@ returns-then-is_end c =
     let i = c.loop-entry.entry-index in
     let entry = c.entry-item.result in
     let runs = c.loop-entry.runs.items in
-    let rest = run_entered_all (drop (i + 1) entries) in
+    let rest = numbered_run_resolutions (drop (i + 1) entries) in
     let at = entries-at entries i entry c.loop-entry-test.true c.entry-item.is in
-    let P : List (Numbered LookedRun) → Type 0 = λ statements. runs_out_of_order (last_place runs) statements ≡ None in
+    let P : List (Numbered ResolvedRunStatement) → Type 0 = λ statements. runs_out_of_order (last_place runs) statements ≡ None in
     c.loop-entry.invariant.read
-    ∙ ap (λ statements. flat_map run_statements runs ++ unnumbered statements) at
+    ∙ ap (λ statements. flat_map run_statements runs ++ statements_without_lines statements) at
     ∙ ap (λ statements. flat_map run_statements runs ++ statements)
-    (ended (last_place runs) (run_entered entry) rest (sym c.is_end.ensures ∙ c.if-is_end.true) (subst P at c.loop-entry.invariant.ordered))
+    (ended (last_place runs) (numbered_run_resolution entry) rest (sym c.is_end.ensures ∙ c.if-is_end.true) (subst P at c.loop-entry.invariant.ordered))
 
 pub add_statement-requires-clause-follows : goal.add_statement-requires-clause-follows
 add_statement-requires-clause-follows c =
@@ -34,16 +34,16 @@ add_statement-requires-clause-follows c =
     let i = c.loop-entry.entry-index in
     let entry = c.entry-item.result in
     let runs = c.loop-entry.runs.items in
-    let rest = run_entered_all (drop (i + 1) entries) in
+    let rest = numbered_run_resolutions (drop (i + 1) entries) in
     let at = entries-at entries i entry c.loop-entry-test.true c.entry-item.is in
-    let P : List (Numbered LookedRun) → Type 0 = λ statements. runs_out_of_order (last_place runs) statements ≡ None in
-    let next = next_in_order (last_place runs) (run_entered entry) rest (sym c.is_end.ensures ∙ c.if-is_end.false) (subst P at c.loop-entry.invariant.ordered) in
+    let P : List (Numbered ResolvedRunStatement) → Type 0 = λ statements. runs_out_of_order (last_place runs) statements ≡ None in
+    let next = next_in_order (last_place runs) (numbered_run_resolution entry) rest (sym c.is_end.ensures ∙ c.if-is_end.false) (subst P at c.loop-entry.invariant.ordered) in
     let Q : Option Place → Type 0 = IsSome in
     subst Q (sym next.place) refl
 
 pub add_statement-requires-clause-known : goal.add_statement-requires-clause-known
 add_statement-requires-clause-known c =
-    let P : RunEntry → Type 0 = λ entry. list_any is_none (variables_in (run_held_by entry.held)) ≡ false in
+    let P : RunEntry → Type 0 = λ entry. list_any is_none (variables_in (run_resolution_of entry.held)) ≡ false in
     subst P (sym c.entry-item.is) (c.requires.known c.loop-entry.entry-index c.entry-item.result c.loop-entry-test.true)
 
 pub loop-entry-preserved : goal.loop-entry-preserved
@@ -51,13 +51,13 @@ loop-entry-preserved c =
     let entries = c.args.entries.now in
     let i = c.loop-entry.entry-index in
     let entry = c.entry-item.result in
-    let statement = run_held_by entry.held in
+    let statement = run_resolution_of entry.held in
     let runs = c.loop-entry.runs.items in
     let more = c.add_statement.new.runs.items in
-    let rest = run_entered_all (drop (i + 1) entries) in
+    let rest = numbered_run_resolutions (drop (i + 1) entries) in
     let at = entries-at entries i entry c.loop-entry-test.true c.entry-item.is in
-    let P : List (Numbered LookedRun) → Type 0 = λ statements. runs_out_of_order (last_place runs) statements ≡ None in
-    let next = next_in_order (last_place runs) (run_entered entry) rest (sym c.is_end.ensures ∙ c.if-is_end.false) (subst P at c.loop-entry.invariant.ordered) in
+    let P : List (Numbered ResolvedRunStatement) → Type 0 = λ statements. runs_out_of_order (last_place runs) statements ≡ None in
+    let next = next_in_order (last_place runs) (numbered_run_resolution entry) rest (sym c.is_end.ensures ∙ c.if-is_end.false) (subst P at c.loop-entry.invariant.ordered) in
     let added = c.in_ok-add_statement.ensures in
     let same : Some next.next ≡ Some (last_place more) = sym next.place ∙ added.place in
     let here : next.next ≡ last_place more = cc in
@@ -65,9 +65,9 @@ loop-entry-preserved c =
     record {
       read =
           c.loop-entry.invariant.read
-          ∙ ap (λ statements. flat_map run_statements runs ++ unnumbered statements) at
-          ∙ sym (append_assoc (flat_map run_statements runs) (statement ∷ []) (unnumbered rest))
-          ∙ ap (λ front. front ++ unnumbered rest) (sym added.statements);
+          ∙ ap (λ statements. flat_map run_statements runs ++ statements_without_lines statements) at
+          ∙ sym (append_assoc (flat_map run_statements runs) (statement ∷ []) (statements_without_lines rest))
+          ∙ ap (λ front. front ++ statements_without_lines rest) (sym added.statements);
       ordered = subst Q here next.ordered;
     }
 
@@ -75,6 +75,6 @@ pub returns : goal.returns
 returns c =
     let entries = c.args.entries.now in
     let none = drop_all c.loop-entry.entry-index entries c.loop-entry-test.false in
-    let P : List RunEntry → Type 0 = λ left. runs_out_of_order (last_place c.loop-entry.runs.items) (run_entered_all left) ≡ None in
+    let P : List RunEntry → Type 0 = λ left. runs_out_of_order (last_place c.loop-entry.runs.items) (numbered_run_resolutions left) ≡ None in
     let wrong : Some 0 ≡ None = subst P none c.loop-entry.invariant.ordered in
     absurd (none-some 0 (sym wrong))

@@ -1,11 +1,11 @@
 use Rattle.std.proofs.Common.{◌≡◌, length}
 use Rattle.hz_text.specs.declared.run.order.Place.TheVariants.{Between}
 use Rattle.hz_text.specs.OrderPass.{runs_out_of_order}
-use Rattle.hz_text.specs.RunLookup.{run_entered_all}
+use Rattle.hz_text.specs.RunResolution.{numbered_run_resolutions}
 use Rattle.hz_text.proofs.run.order.runs_out_of_order.Given as goal
 
 abbrev pub invariant-loop-rest : goal.invariant-loop-rest
-invariant-loop-rest l = runs_out_of_order Between (run_entered_all l.entries) ≡ runs_out_of_order l.place (run_entered_all l.rest)
+invariant-loop-rest l = runs_out_of_order Between (numbered_run_resolutions l.entries) ≡ runs_out_of_order l.place (numbered_run_resolutions l.rest)
 
 abbrev pub decreases-loop-rest : goal.decreases-loop-rest
 decreases-loop-rest l = length l.rest

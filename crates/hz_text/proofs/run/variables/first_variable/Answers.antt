@@ -2,7 +2,7 @@ use Rattle.std.proofs.Common.{◌≡◌, ◌-◌, ◌∙◌, List, arith, take, 
 use Rattle.std.proofs.lemmas.List.{length-drop, take_all}
 use Rattle.hz_line.specs.declared.tokens.Token.{Token}
 use Rattle.hz_line.specs.Token.{token_of}
-use Rattle.hz_text.specs.RunLookup.{wire_into, variables_by}
+use Rattle.hz_text.specs.RunResolution.{wire_into, variables_by}
 use Rattle.hz_text.specs.VariablesRead.{IsPinAfter}
 use Rattle.hz_core.specs.Netlist.{node_named}
 use Rattle.hz_text.specs.RunStatement.{with_first, number_by}

@@ -1,7 +1,7 @@
 use Rattle.std.proofs.Common.{◌≡◌, ◌++◌, ◌-◌, ◌≤◌, length, map, drop}
 use Rattle.std.specs.Option.{option_map}
 use Rattle.hz_line.specs.Token.{token_of}
-use Rattle.hz_text.specs.RunLookup.{variables_by}
+use Rattle.hz_text.specs.RunResolution.{variables_by}
 use Rattle.hz_text.proofs.run.variables.read_variables.Given as goal
 
 abbrev pub invariant-loop-place : goal.invariant-loop-place

@@ -3,8 +3,8 @@ use Rattle.std.specs.List.{range_with_len}
 use Rattle.std.proofs.lemmas.List.{length-map}
 use Rattle.std.proofs.lemmas.List.Elements.{All-take, All-drop}
 use Rattle.std.proofs.lemmas.List.FromFn.{length-range_with_len}
-use Rattle.hz_text.specs.Assignment.{bit_at}
-use Rattle.hz_text.specs.Lookup.{Entry, held_by}
+use Rattle.hz_text.specs.Assignment.{assigned_bit}
+use Rattle.hz_text.specs.Resolution.{ScriptEntry, resolution_of}
 use Rattle.hz_text.specs.ScriptReading.{IsSound}
 use Rattle.hz_text.specs.ScriptValue.{ScriptOf}
 use Rattle.hz_text.proofs.BuildLemmas.{entry_sound, whole_script}
@@ -17,15 +17,15 @@ bits_of-requires c =
 pub add_changes-requires-clause-sound : goal.add_changes-requires-clause-sound
 add_changes-requires-clause-sound c =
     let nodes = c.args.nodes in
-    let start : c.of-script.result.start ≡ map (bit_at c.as_slice.result.now) (range_with_len 0 nodes) = ap (λ (script : ScriptOf). script.start) c.of-script.ensures ∙ c.in_ok-start.ensures in
-    let long : length c.of-script.result.start ≡ nodes = ap length start ∙ length-map (range_with_len 0 nodes) (bit_at c.as_slice.result.now) ∙ length-range_with_len 0 nodes in
-    rw long (All-take (λ (entry : Entry). IsSound nodes (held_by entry.held)) _ _ (All-drop (λ (entry : Entry). IsSound nodes (held_by entry.held)) 1 c.args.entries.now c.requires.sound))
+    let start : c.of-script.result.start ≡ map (assigned_bit c.as_slice.result.now) (range_with_len 0 nodes) = ap (λ (script : ScriptOf). script.start) c.of-script.ensures ∙ c.in_ok-start.ensures in
+    let long : length c.of-script.result.start ≡ nodes = ap length start ∙ length-map (range_with_len 0 nodes) (assigned_bit c.as_slice.result.now) ∙ length-range_with_len 0 nodes in
+    rw long (All-take (λ (entry : ScriptEntry). IsSound nodes (resolution_of entry.held)) _ _ (All-drop (λ (entry : ScriptEntry). IsSound nodes (resolution_of entry.held)) 1 c.args.entries.now c.requires.sound))
 
 pub returns : goal.returns
 returns c =
     let nodes = c.args.nodes in
     let start = c.in_ok-add_changes.ensures.start ∙ ap (λ (script : ScriptOf). script.start) c.of-script.ensures ∙ c.in_ok-start.ensures in
     whole_script nodes c.args.entries.now c.first-item.result c.add_changes.new.script c.requires.some c.first-item.is (record {
-      start = start ∙ ap (λ all. map (bit_at all) (range_with_len 0 nodes)) c.as_slice.ensures.value;
+      start = start ∙ ap (λ all. map (assigned_bit all) (range_with_len 0 nodes)) c.as_slice.ensures.value;
       changes = c.in_ok-add_changes.ensures.changes;
     })

@@ -1,11 +1,11 @@
 -- Each turn puts what waits and the front of what is left.
 use Rattle.std.proofs.Common.{◌≡◌, ◌++◌}
 use Rattle.std.proofs.lemmas.List.{take-append-drop}
-use Rattle.hz_write.proofs.Writing.{Waits-start, Waits-put, Stops-put, Added-exit}
+use Rattle.hz_write.proofs.Writing.{IsBuffered-start, IsBuffered-put, Stops-put, WroteBuffered-exit}
 use Rattle.hz_write.proofs.line.Line.add.Goals as goal
 
 pub loop-rest-init : goal.loop-rest-init
-loop-rest-init g c = Waits-start _ _
+loop-rest-init g c = IsBuffered-start _ _
 
 pub returns-in_err-put_waiting-clause-added : goal.returns-in_err-put_waiting-clause-added
 returns-in_err-put_waiting-clause-added g c =
@@ -13,7 +13,7 @@ returns-in_err-put_waiting-clause-added g c =
     rw (c.split_at.ensures.front, c.split_at.ensures.back, take-append-drop) in
     let before = rw rest at c.loop-rest.invariant in
     let stopped = rw c.push.ensures at c.in_err-put_waiting.ensures.wrote in
-    Added-exit _ c.from_residual.result c.from_residual.ensures.1
+    WroteBuffered-exit _ c.from_residual.result c.from_residual.ensures.1
     (Stops-put c.loop-rest.self c.split_at.result.0.now c.split_at.result.1.now before stopped)
 
 pub loop-rest-preserved : goal.loop-rest-preserved
@@ -23,4 +23,4 @@ loop-rest-preserved g c =
     let before = rw rest at c.loop-rest.invariant in
     let put = rw c.push.ensures at c.in_ok-put_waiting.ensures.wrote in
     rw c.put_waiting.ensures.emptied
-    (Waits-put c.loop-rest.self c.split_at.result.0.now c.split_at.result.1.now before put)
+    (IsBuffered-put c.loop-rest.self c.split_at.result.0.now c.split_at.result.1.now before put)

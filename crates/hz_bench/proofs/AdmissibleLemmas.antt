@@ -1,0 +1,282 @@
+-- The circuit of checked statements may be built, and each of its gates has a pin.
+use Rattle.std.proofs.Common.{◌≡◌, ◌∙◌, ℕ, ◌+◌, ◌-◌, ◌<◌, ◌≤◌, ◌++◌, ◌||◌, ◌==◌, Bool, true, false, cond, suc, nat_le, List, [], ◌∷◌, Option, Some, None, length, map, refl, ap, sym, subst, arith, append_assoc, add-zero, length-append}
+use Rattle.std.specs.Prelude.{IsSome, IsTrue, sum_by, All, position, nat_eq, fold}
+use Rattle.std.specs.List.{list_any, AllByRecursion}
+use Rattle.std.specs.Str.{bytes_eq}
+use Rattle.std.proofs.lemmas.Bool.Decides.{nat_tests}
+use Rattle.std.proofs.lemmas.List.{get_or_at, length-map}
+use Rattle.std.proofs.lemmas.List.Elements.{All-nil, All-cons, All-map}
+use Rattle.std.proofs.lemmas.List.Folds.{list_any_at, list_any-append}
+use Rattle.std.proofs.lemmas.List.Quantifiers.{position-Some}
+use Rattle.std.proofs.lemmas.List.Sums.{sum_by-append, sum_by-cons}
+use Rattle.hz_core.specs.declared.kind.Kind.{Kind}
+use Rattle.hz_core.specs.declared.kind.Kind.TheVariants.{And, Nand, Or, Nor, Xor, Xnor, Not, Buff}
+use Rattle.hz_core.specs.Gate.{takes}
+use Rattle.hz_core.specs.Netlist as netlist
+use Rattle.hz_core.proofs.ListLemmas.{list_any-from_position_none}
+use Rattle.hz_line.proofs.WrittenLemmas.{both}
+use Rattle.hz_bench.specs.BuiltNetlist.{AreAdmissibleSteps, MayAddInput, MayAddCut, MayAddGate, MayAddPinNamed, MayAddPins, MayAddOutput, MayBuild, initial_builder, with_input_of, with_cut_of, with_gate_of, with_pin_named, with_pins_of, with_output_of}
+use Rattle.hz_bench.specs.Netlist.{input_names, cut_names, data_name, data_nodes, gate_names, output_names, all_inputs, node_names, number_in, kind_of, gates_of, add_once, each_once, circuit_of_statements}
+use Rattle.hz_bench.specs.Statement.{Statement, Input, Output, FlipFlop, Gate, has_long_name, is_long, statement_variable_count, has_unknown_kind, has_wrong_pins}
+use Rattle.hz_bench.specs.Text.{variable_total}
+use Rattle.hz_bench.proofs.CheckedLemmas.{Apart, UsesKnown, IsChecked, either, not-false}
+use Rattle.hz_bench.proofs.NetlistLemmas.{bare, bare_cuts, bare_gates, bare_inputs, only_inputs, with_gates, with_parts, cuts_of, connected_circuit, data_set, next_cut, pin_added, pins_added, each_once-append, inputs-is, inputs_of-is, unconnected_netlist-is, connected-is}
+
+-- a name that is absent has no node, and one that is present has one
+absent-unnamed : (names : List (List ℕ)) (name : List ℕ) → list_any (bytes_eq name) names ≡ false → position (bytes_eq name) names ≡ None
+absent-unnamed names name h = by_place (position (bytes_eq name) names) refl
+  where
+    by_place : (place : Option ℕ) → position (bytes_eq name) names ≡ place → place ≡ None
+    by_place None e = refl
+    by_place (Some node) e =
+        let found = position-Some (bytes_eq name) names node [] e in
+        let wrong = sym (list_any_at (bytes_eq name) names node [] found.0 found.1) ∙ h in cc
+
+present-named : (names : List (List ℕ)) (name : List ℕ) → list_any (bytes_eq name) names ≡ true → IsSome (position (bytes_eq name) names)
+present-named names name h = by_place (position (bytes_eq name) names) refl
+  where
+    by_place : (place : Option ℕ) → position (bytes_eq name) names ≡ place → IsSome place
+    by_place None e = let wrong = sym h ∙ list_any-from_position_none (bytes_eq name) names e in cc
+    by_place (Some node) e = refl
+
+-- how many pins statements bring
+pins_in : List Statement → ℕ
+pins_in [] = 0
+pins_in (Input name ∷ rest) = pins_in rest
+pins_in (Output name ∷ rest) = pins_in rest
+pins_in (FlipFlop name sources ∷ rest) = pins_in rest
+pins_in (Gate name kind sources ∷ rest) = length sources + pins_in rest
+
+counts : (statements : List Statement) → variable_total statements ≡ length (input_names statements) + length (cut_names statements) + length (gate_names statements) + pins_in statements
+unfolding pins_in
+counts [] = refl
+counts (Input name ∷ rest) = let h = counts rest in omega (arith, h, sum_by-cons statement_variable_count (Input name) rest)
+counts (Output name ∷ rest) = let h = counts rest in omega (arith, h, sum_by-cons statement_variable_count (Output name) rest)
+counts (FlipFlop name sources ∷ rest) = let h = counts rest in omega (arith, h, sum_by-cons statement_variable_count (FlipFlop name sources) rest)
+counts (Gate name kind sources ∷ rest) = let h = counts rest in omega (arith, h, sum_by-cons statement_variable_count (Gate name kind sources) rest)
+
+abbrev pins_of : List netlist.Gate → ℕ
+pins_of gates = sum_by (λ gate. length gate.sources) gates
+
+pins_of-append : (front back : List netlist.Gate) → pins_of (front ++ back) ≡ pins_of front + pins_of back
+pins_of-append front back = sum_by-append _ front back
+
+pins_of-cons : (gate : netlist.Gate) (rest : List netlist.Gate) → pins_of (gate ∷ rest) ≡ length gate.sources + pins_of rest
+pins_of-cons gate rest = sum_by-cons (λ (gate : netlist.Gate). length gate.sources) gate rest
+
+-- the inputs may be added
+inputs_may : (all : netlist.Netlist) (statements : List Statement) → all.cuts ≡ [] → all.gates ≡ [] → AllByRecursion (λ statement. has_long_name statement ≡ false) statements → Apart all.names (input_names statements)
+    → length all.names + pins_of all.gates + length (input_names statements) ≤ 200000 → AreAdmissibleSteps MayAddInput with_input_of all statements
+inputs_may all [] uncut none short apart room = tt
+inputs_may all (Input name ∷ rest) uncut none short apart room = (
+  (record { short = (either (is_long name) _ short.0).0; fresh = absent-unnamed all.names name apart.0; room = omega (arith, room) }, uncut, none),
+  inputs_may (netlist.with_input all name) rest uncut none short.1 apart.1 (omega (arith, room, length-append all.names (name ∷ []))),
+)
+inputs_may all (Output name ∷ rest) uncut none short apart room = (tt, inputs_may all rest uncut none short.1 apart room)
+inputs_may all (FlipFlop name sources ∷ rest) uncut none short apart room = (tt, inputs_may all rest uncut none short.1 apart room)
+inputs_may all (Gate name kind sources ∷ rest) uncut none short apart room = (tt, inputs_may all rest uncut none short.1 apart room)
+
+-- the cuts may be added
+cuts_may : (all : netlist.Netlist) (statements : List Statement) → all.gates ≡ [] → AllByRecursion (λ statement. has_long_name statement ≡ false) statements → Apart all.names (cut_names statements)
+    → length all.names + pins_of all.gates + length (cut_names statements) ≤ 200000 → AreAdmissibleSteps MayAddCut with_cut_of all statements
+cuts_may all [] none short apart room = tt
+cuts_may all (Input name ∷ rest) none short apart room = (tt, cuts_may all rest none short.1 apart room)
+cuts_may all (Output name ∷ rest) none short apart room = (tt, cuts_may all rest none short.1 apart room)
+cuts_may all (FlipFlop name sources ∷ rest) none short apart room = (
+  (record { short = (either (is_long name) _ short.0).0; fresh = absent-unnamed all.names name apart.0; room = omega (arith, room) }, none),
+  cuts_may (netlist.with_cut all name) rest none short.1 apart.1 (omega (arith, room, length-append all.names (name ∷ []))),
+)
+cuts_may all (Gate name kind sources ∷ rest) none short apart room = (tt, cuts_may all rest none short.1 apart room)
+
+-- the gates may be added
+gates_may : (all : netlist.Netlist) (statements : List Statement) → AllByRecursion (λ statement. has_long_name statement ≡ false) statements → Apart all.names (gate_names statements)
+    → length all.names + pins_of all.gates + length (gate_names statements) ≤ 200000 → AreAdmissibleSteps MayAddGate with_gate_of all statements
+gates_may all [] short apart room = tt
+gates_may all (Input name ∷ rest) short apart room = (tt, gates_may all rest short.1 apart room)
+gates_may all (Output name ∷ rest) short apart room = (tt, gates_may all rest short.1 apart room)
+gates_may all (FlipFlop name sources ∷ rest) short apart room = (tt, gates_may all rest short.1 apart room)
+gates_may all (Gate name kind sources ∷ rest) short apart room =
+    let bare : netlist.Gate = record { kind = kind_of kind; sources = [] } in
+    let same : pins_of (all.gates ++ bare ∷ []) ≡ pins_of all.gates = pins_of-append all.gates (bare ∷ []) ∙ add-zero (pins_of all.gates) in (
+      record { short = (either (is_long name) _ short.0).0; fresh = absent-unnamed all.names name apart.0; room = omega (arith, room) },
+      gates_may (netlist.with_gate all name (kind_of kind)) rest short.1 apart.1 (omega (arith, room, same, length-append all.names (name ∷ []))),
+    )
+
+-- a kind takes at least one pin, and no more than its most
+record IsCount (kind : Kind) (pins : ℕ) : Type 0 where
+  some : 1 ≤ pins
+  most : pins ≤ netlist.most_pins kind
+
+IsCount-takes : (kind : Kind) (pins : ℕ) → takes kind pins ≡ true → IsCount kind pins
+IsCount-takes Not pins h = record { some = grind (arith, nat_tests); most = grind (arith, nat_tests) }
+IsCount-takes Buff pins h = record { some = grind (arith, nat_tests); most = grind (arith, nat_tests) }
+IsCount-takes And pins h = let range = both (nat_le 1 pins) (nat_le pins 256) h in record { some = grind (arith, nat_tests); most = grind (arith, nat_tests) }
+IsCount-takes Nand pins h = let range = both (nat_le 1 pins) (nat_le pins 256) h in record { some = grind (arith, nat_tests); most = grind (arith, nat_tests) }
+IsCount-takes Or pins h = let range = both (nat_le 1 pins) (nat_le pins 256) h in record { some = grind (arith, nat_tests); most = grind (arith, nat_tests) }
+IsCount-takes Nor pins h = let range = both (nat_le 1 pins) (nat_le pins 256) h in record { some = grind (arith, nat_tests); most = grind (arith, nat_tests) }
+IsCount-takes Xor pins h = let range = both (nat_le 1 pins) (nat_le pins 256) h in record { some = grind (arith, nat_tests); most = grind (arith, nat_tests) }
+IsCount-takes Xnor pins h = let range = both (nat_le 1 pins) (nat_le pins 256) h in record { some = grind (arith, nat_tests); most = grind (arith, nat_tests) }
+
+-- the pins of a gate statement that passed the check
+gate_count : (name : List ℕ) (kind : Option Kind) (sources : List (List ℕ)) → has_unknown_kind (Gate name kind sources) ≡ false → has_wrong_pins (Gate name kind sources) ≡ false → IsCount (kind_of kind) (length sources)
+gate_count name (Some kind) sources known pins = IsCount-takes kind (length sources) (not-false _ pins)
+gate_count name None sources known pins = cc
+
+-- the names of a flip-flop that passed the check
+cut_count : (name : List ℕ) (sources : List (List ℕ)) → has_wrong_pins (FlipFlop name sources) ≡ false → length sources ≡ 1
+cut_count name sources pins = let one = not-false (length sources == 1) pins in grind (arith, nat_tests, one)
+
+-- the pins of one gate may be added
+gate_may : (all : netlist.Netlist) (number : ℕ) (done more : List netlist.Gate) (kind : Kind) (sources : List ℕ) (names : List (List ℕ)) → number ≡ all.inputs + length done → number < length all.names
+    → AllByRecursion (λ name. list_any (bytes_eq name) all.names ≡ true) names → length sources + length names ≤ netlist.most_pins kind
+    → length all.names + pins_of done + length sources + length names + pins_of more ≤ 200000
+    → AreAdmissibleSteps (MayAddPinNamed number) (with_pin_named number) (with_gates all (done ++ record { kind = kind; sources = sources } ∷ more)) names
+gate_may all number done more kind sources [] place inside known few room = tt
+gate_may all number done more kind sources (name ∷ names) place inside known few room =
+    let gate : netlist.Gate = record { kind = kind; sources = sources } in
+    let here : length done ≡ number - all.inputs = omega (arith, place) in
+    let found = get_or_at done gate more (record { kind = And; sources = [] }) (number - all.inputs) here in
+    let count : pins_of (done ++ gate ∷ more) ≡ pins_of done + (length sources + pins_of more) = pins_of-append done (gate ∷ more) ∙ ap (λ n. pins_of done + n) (pins_of-cons gate more) in (
+      record {
+        gate_is = (omega (arith, place), inside);
+        source_is = present-named all.names name known.0;
+        pins = subst (λ (one : netlist.Gate). length one.sources < netlist.most_pins one.kind) (sym found) (omega (arith, few));
+        room = omega (arith, count, room);
+      },
+      subst (λ now. AreAdmissibleSteps (MayAddPinNamed number) (with_pin_named number) now names) (sym (pin_added all number done more kind sources name place))
+          (gate_may all number done more kind (sources ++ number_in all.names name ∷ []) names place inside known.1 (omega (arith, few, length-append sources (number_in all.names name ∷ []))) (omega (arith, room, length-append sources (number_in all.names name ∷ [])))),
+    )
+
+bare_count : (statements : List Statement) → (length (bare_gates statements) ≡ length (gate_names statements)) × (pins_of (bare_gates statements) ≡ 0)
+unfolding bare_gates
+bare_count [] = (refl, refl)
+bare_count (Input name ∷ rest) = bare_count rest
+bare_count (Output name ∷ rest) = bare_count rest
+bare_count (FlipFlop name sources ∷ rest) = bare_count rest
+bare_count (Gate name kind sources ∷ rest) =
+    let h = bare_count rest in
+    (ap suc h.0, omega (arith, h.1, pins_of-cons (record { kind = kind_of kind; sources = [] }) (bare_gates rest)))
+
+pub bare_length : (statements : List Statement) → length (bare_cuts statements) ≡ length (cut_names statements)
+unfolding bare_cuts
+bare_length [] = refl
+bare_length (Input name ∷ rest) = bare_length rest
+bare_length (Output name ∷ rest) = bare_length rest
+bare_length (FlipFlop name sources ∷ rest) = ap suc (bare_length rest)
+bare_length (Gate name kind sources ∷ rest) = bare_length rest
+
+-- the first of names that are one is known, where all are
+first_known : (names sources : List (List ℕ)) → length sources ≡ 1 → AllByRecursion (λ name. list_any (bytes_eq name) names ≡ true) sources → IsSome (position (bytes_eq (data_name sources)) names)
+first_known names [] one known = cc
+first_known names (source ∷ rest) one known = present-named names source known.0
+
+-- the data nodes of all cuts may be set, and the pins of all gates may be added
+pins_may : (all : netlist.Netlist) (cut number : ℕ) (made : List (Option ℕ)) (done : List netlist.Gate) (statements : List Statement)
+    → cut ≡ (all.inputs - length (made ++ bare_cuts statements)) + length made → length (made ++ bare_cuts statements) ≤ all.inputs
+    → number ≡ all.inputs + length done → number + length (gate_names statements) ≤ length all.names
+    → AllByRecursion (λ statement. has_unknown_kind statement ≡ false) statements → AllByRecursion (λ statement. has_wrong_pins statement ≡ false) statements
+    → AllByRecursion (UsesKnown all.names) statements → length all.names + pins_of done + pins_in statements ≤ 200000
+    → AreAdmissibleSteps MayAddPins with_pins_of (record { netlist = with_parts all (made ++ bare_cuts statements) (done ++ bare_gates statements); cut = cut; gate = number }) statements
+unfolding bare_cuts bare_gates pins_in
+pins_may all cut number made done [] at fits place inside known pins defined room = tt
+pins_may all cut number made done (Input name ∷ rest) at fits place inside known pins defined room = (tt, pins_may all cut number made done rest at fits place inside known.1 pins.1 defined.1 room)
+pins_may all cut number made done (Output name ∷ rest) at fits place inside known pins defined room = (tt, pins_may all cut number made done rest at fits place inside known.1 pins.1 defined.1 room)
+pins_may all cut number made done (FlipFlop name sources ∷ rest) at fits place inside known pins defined room =
+    let unset : Option ℕ = None in
+    let node = number_in all.names (data_name sources) in
+    let one = cut_count name sources pins.0 in
+    let moved : made ++ Some node ∷ bare_cuts rest ≡ (made ++ Some node ∷ []) ++ bare_cuts rest = sym (append_assoc made (Some node ∷ []) (bare_cuts rest)) in
+    let long = length-append made (unset ∷ bare_cuts rest) in
+    let same : length ((made ++ Some node ∷ []) ++ bare_cuts rest) ≡ length (made ++ unset ∷ bare_cuts rest) =
+    omega (arith, long, length-append (made ++ Some node ∷ []) (bare_cuts rest), length-append made (Some node ∷ [])) in
+    let after = data_set all cut node made (bare_cuts rest) (done ++ bare_gates rest) at ∙ ap (λ cuts. with_parts all cuts (done ++ bare_gates rest)) moved in (
+      (omega (arith, at, fits, long, place, inside, room), record { cut_is = (omega (arith, at), omega (arith, at, fits, long)); one = one; source_is = first_known all.names sources one defined.0 }),
+      subst (λ now. AreAdmissibleSteps MayAddPins with_pins_of (record { netlist = now; cut = suc cut; gate = number }) rest) (sym after)
+          (pins_may all (suc cut) number (made ++ Some node ∷ []) done rest (next_cut all cut node made (bare_cuts rest) at) (omega (arith, same, fits)) place inside known.1 pins.1 defined.1 room),
+    )
+pins_may all cut number made done (Gate name kind sources ∷ rest) at fits place inside known pins defined room =
+    let now = record all { cuts = made ++ bare_cuts rest } in
+    let bare = bare_count rest in
+    let count = gate_count name kind sources known.0 pins.0 in
+    let most = count.most in
+    let gate : netlist.Gate = record { kind = kind_of kind; sources = map (number_in all.names) sources } in
+    let moved : done ++ gate ∷ bare_gates rest ≡ (done ++ gate ∷ []) ++ bare_gates rest = sym (append_assoc done (gate ∷ []) (bare_gates rest)) in
+    let next : suc number ≡ all.inputs + length (done ++ gate ∷ []) = omega (arith, place, length-append done (gate ∷ [])) in
+    let more : pins_of (done ++ gate ∷ []) ≡ pins_of done + length sources = omega (arith, pins_of-append done (gate ∷ []), pins_of-cons gate [], length-map sources (number_in all.names)) in
+    let after = pins_added now number done (bare_gates rest) (kind_of kind) [] sources place ∙ ap (with_gates now) moved in (
+      (omega (arith, inside, room), gate_may now number done (bare_gates rest) (kind_of kind) [] sources place (omega (arith, inside)) defined.0 (omega (arith, most)) (omega (arith, room, bare.1))),
+      subst (λ now. AreAdmissibleSteps MayAddPins with_pins_of (record { netlist = now; cut = cut; gate = suc number }) rest) (sym after)
+          (pins_may all cut (suc number) made (done ++ gate ∷ []) rest at fits next (omega (arith, inside)) known.1 pins.1 defined.1 (omega (arith, room, more))),
+    )
+
+-- the outputs may be added
+outputs_may : (all : netlist.Netlist) (statements : List Statement) → AllByRecursion (UsesKnown all.names) statements → AreAdmissibleSteps MayAddOutput with_output_of all statements
+outputs_may all [] defined = tt
+outputs_may all (Input name ∷ rest) defined = (tt, outputs_may all rest defined.1)
+outputs_may all (Output name ∷ rest) defined = (present-named all.names name defined.0.0, outputs_may (netlist.with_output all (number_in all.names name)) rest defined.1)
+outputs_may all (FlipFlop name sources ∷ rest) defined = (tt, outputs_may all rest defined.1)
+outputs_may all (Gate name kind sources ∷ rest) defined = (tt, outputs_may all rest defined.1)
+
+-- checked statements may be built
+pub may_build : (statements : List Statement) → IsChecked statements → MayBuild statements statements
+may_build statements h =
+    let total = counts statements in
+    let few = h.few in
+    let inputs : length (all_inputs statements) ≡ length (input_names statements) + length (cut_names statements) = length-append (input_names statements) (cut_names statements) in
+    let long : length (node_names statements) ≡ length (all_inputs statements) + length (gate_names statements) = length-append (all_inputs statements) (gate_names statements) in
+    let cuts = bare_length statements in
+    let all = bare statements in
+    record {
+      inputs = inputs_may netlist.empty_netlist statements refl refl h.short h.inputs_apart (omega (arith, total, few));
+      cuts = subst (λ now. AreAdmissibleSteps MayAddCut with_cut_of now statements) (sym (inputs-is statements)) (cuts_may (only_inputs statements) statements refl h.short h.cuts_apart (omega (arith, total, few)));
+      gates = subst (λ now. AreAdmissibleSteps MayAddGate with_gate_of now statements) (sym (inputs_of-is statements)) (gates_may (bare_inputs statements) statements h.short h.gates_apart (omega (arith, total, few, inputs)));
+      pins = subst (λ (now : netlist.Netlist). AreAdmissibleSteps MayAddPins with_pins_of (initial_builder now) statements) (sym (unconnected_netlist-is statements))
+          (pins_may all (netlist.primary_inputs all) all.inputs [] [] statements (sym (add-zero (netlist.primary_inputs all))) (omega (arith, cuts, inputs)) (sym (add-zero all.inputs)) (omega (arith, long)) h.known h.pins h.defined (omega (arith, total, few, inputs, long)));
+      outputs_may = subst (λ now. AreAdmissibleSteps MayAddOutput with_output_of now statements) (sym (connected-is statements)) (outputs_may (connected_circuit statements) statements h.defined);
+    }
+
+-- each of their gates has a pin
+gates_whole : (names : List (List ℕ)) (statements : List Statement) → AllByRecursion (λ statement. has_unknown_kind statement ≡ false) statements → AllByRecursion (λ statement. has_wrong_pins statement ≡ false) statements → All (λ gate. 1 ≤ length gate.sources) (gates_of names statements)
+gates_whole names [] known pins = All-nil _
+gates_whole names (Input name ∷ rest) known pins = gates_whole names rest known.1 pins.1
+gates_whole names (Output name ∷ rest) known pins = gates_whole names rest known.1 pins.1
+gates_whole names (FlipFlop name sources ∷ rest) known pins = gates_whole names rest known.1 pins.1
+gates_whole names (Gate name kind sources ∷ rest) known pins =
+    let count = gate_count name kind sources known.0 pins.0 in
+    let some = count.some in
+    All-cons (λ (gate : netlist.Gate). 1 ≤ length gate.sources) (record { kind = kind_of kind; sources = map (number_in names) sources }) (gates_of names rest)
+    (omega (arith, some, length-map sources (number_in names))) (gates_whole names rest known.1 pins.1)
+
+-- a number that is there stays where others are added once
+stays : (number : ℕ) (done rest : List ℕ) → list_any (nat_eq number) done ≡ true → list_any (nat_eq number) (fold add_once done rest) ≡ true
+stays number done [] h = h
+stays number done (next ∷ rest) h = stays number (add_once done next) rest (by_test (list_any (nat_eq next) done))
+  where
+    by_test : (b : Bool) → list_any (nat_eq number) (cond b done (done ++ next ∷ [])) ≡ true
+    by_test true = h
+    by_test false = list_any-append (nat_eq number) done (next ∷ []) ∙ ap (λ b. b || (nat_eq number next || false)) h
+
+-- and each that is added is there
+added : (done rest : List ℕ) → All (λ number. IsTrue (list_any (nat_eq number) (fold add_once done rest))) rest
+added done [] = All-nil _
+added done (next ∷ rest) =
+    All-cons (λ number. IsTrue (list_any (nat_eq number) (fold add_once (add_once done next) rest))) next rest
+    (stays next (add_once done next) rest (by_test (list_any (nat_eq next) done) refl)) (added (add_once done next) rest)
+  where
+    by_test : (b : Bool) → list_any (nat_eq next) done ≡ b → list_any (nat_eq next) (cond b done (done ++ next ∷ [])) ≡ true
+    by_test true h = h
+    by_test false h =
+        let same : nat_eq next next ≡ true = grind (arith, nat_tests) in
+        list_any-append (nat_eq next) done (next ∷ []) ∙ ap (λ b. b || (nat_eq next next || false)) h ∙ ap (λ b. b || false) same
+
+-- each of their cuts has a data node, which is an output
+cuts_whole : (names : List (List ℕ)) (statements : List Statement) → let outputs = each_once (map (number_in names) (output_names statements) ++ data_nodes names statements) in
+    All (λ node. IsTrue (netlist.has_output outputs node)) (cuts_of names statements)
+cuts_whole names statements =
+    let outputs = map (number_in names) (output_names statements) in
+    let nodes = data_nodes names statements in
+    let there = subst (λ all. All (λ number. IsTrue (list_any (nat_eq number) all)) nodes) (sym (each_once-append [] outputs nodes)) (added (each_once outputs) nodes) in
+    All-map (λ node. IsTrue (netlist.has_output (each_once (outputs ++ nodes)) node)) Some nodes there
+
+pub whole : (statements : List Statement) → IsChecked statements → netlist.IsWhole (circuit_of_statements statements)
+whole statements h = record { gates = gates_whole (node_names statements) statements h.known h.pins; cuts = cuts_whole (node_names statements) statements }

@@ -1,0 +1,186 @@
+-- Two passes from a turned state lead back to it, and are the cycle of the change.
+use Rattle.std.proofs.Common.{◌≡◌, ◌≢◌, ℕ, zero, suc, ◌*◌, ◌≤◌, Bool, true, false, not, List, [], ◌∷◌, ◌++◌, length, refl, sym, ap, ◌∙◌, subst, arith, inl, inr, Contains, IsTrue}
+use Rattle.std.specs.List.{AllByRecursion}
+use Rattle.hz_core.specs.declared.tri.Tri.{Tri}
+use Rattle.hz_core.specs.Ternary.{admits, unknown_count, Refines}
+use Rattle.hz_core.proofs.Refinements.{length-Refines, get_or-Refines, Refines-get_or}
+use Rattle.hz_net.specs.Network.{Driver, External, Function, Source, driver_at, bit_at, value_at, IsUnstable}
+use Rattle.hz_net.specs.Passes.{IsKnown, IsUnknown}
+use Rattle.hz_gmw.specs.Runs.{state_after, IsRun, end_of}
+use Rattle.hz_gmw.specs.RunRecord.{flip_count}
+use Rattle.hz_gmw.specs.Cycles.{states_of}
+use Rattle.hz_gmw.proofs.CoverB.{length-end_of}
+use Rattle.hz_gmw.proofs.Paths.{end_of-append, IsRun-append, IsCut, cut-member}
+use Rattle.hz_reach.specs.Counts.{FlipsPerUnknown, StepsAreNoMoreThanFlips}
+use Rattle.hz_net.specs.Reads.{IsWireInto, IsWired}
+use Rattle.hz_reach.specs.Spread.{changes_in}
+use Rattle.hz_cycle.specs.Cycles.{IsCycleOf}
+use Rattle.hz_cycle.specs.Pass.{IsFixed, AreEnough, IsPass}
+use Rattle.hz_cycle.specs.Turned.{IsTurned}
+use Rattle.hz_cycle.proofs.SettledVariables.{either-value, known-stable, no-input, wire-source}
+use Rattle.hz_cycle.proofs.TurnsTaken.{source-gate}
+use Rattle.hz_cycle.proofs.StepLemmas.{changes-append, unchanged-end, contains-end, contains-front}
+use Rattle.hz_cycle.proofs.Turn.{same-or-differ, other-bit}
+use Rattle.hz_cycle.proofs.TurnedStates.{same-turned}
+
+-- two changes are enough for each variable
+pub two-enough : (net : List Driver) (ranks : List ℕ) (b : List Tri) (state : List Bool) → AreEnough net ranks b state (λ i. 2)
+two-enough net ranks b state = record {
+  gates = λ gate kind first pins drives unknown. omega arith;
+  wires = λ wire source gate drives goes unknown. omega arith;
+  twice = λ wire source gate drives goes unknown unsettled differ. omega arith;
+}
+
+-- the states of the later steps of a run are states of the run
+contains-rest : (state member : List Bool) (steps more : List (List ℕ)) → Contains (states_of (end_of state steps) more) member → Contains (states_of state (steps ++ more)) member
+contains-rest state member [] more there = there
+contains-rest state member (flips ∷ steps) more there =
+    let rest = contains-rest (state_after flips state) member steps more there in
+    (suc rest.0, (let less = rest.1 in omega arith), rest.2)
+
+pub contains-begin : (state : List Bool) (steps : List (List ℕ)) → Contains (states_of state steps) state
+contains-begin state [] = (0, omega arith, refl)
+contains-begin state (flips ∷ steps) = (0, omega arith, refl)
+
+-- what holds of all elements holds of each
+all-contains : (P : List Bool → Type 0) (states : List (List Bool)) (member : List Bool) → AllByRecursion P states → Contains states member → P member
+all-contains P [] member all there = absurd (omega (arith, there.1))
+all-contains P (state ∷ states) member all (zero, inside, e) = subst P e all.0
+all-contains P (state ∷ states) member all (suc k, inside, e) = all-contains P states member all.1 (k, omega (arith, inside), e)
+
+-- a state after steps that change no settled variable refines the list as the first does
+pub refines-unchanged : (begun : List Bool) (steps : List (List ℕ)) (b : List Tri) → Refines begun b → ((i : ℕ) → IsKnown (value_at b i) → changes_in steps i ≡ 0) → Refines (end_of begun steps) b
+refines-unchanged begun steps b refined known =
+    Refines-get_or (end_of begun steps) b (length-end_of begun steps ∙ length-Refines begun b refined) (λ i inside.
+    elim (either-value (value_at b i)) [
+      | inl unknown ↦ admitted i unknown (bit_at (end_of begun steps) i)
+      | inr settled ↦
+          subst (λ (bit : Bool). IsTrue (admits (value_at b i) bit)) (sym (unchanged-end begun steps i (known i settled))) (get_or-Refines begun b refined i)
+    ])
+  where
+    admitted : (i : ℕ) → IsUnknown (value_at b i) → (bit : Bool) → IsTrue (admits (value_at b i) bit)
+    admitted i unknown false = rw unknown refl
+    admitted i unknown true = rw unknown refl
+
+module _ {net : List Driver} {input : List Bool} {ranks : List ℕ} {b : List Tri} (wired : IsWired net) (fixed : IsFixed net input b) (go : (wire source : ℕ) → driver_at net wire ≡ Source source → (gate : ℕ) × IsWireInto net gate wire) where
+  module _ {state middle last : List Bool} {first second : List (List ℕ)} (turned : IsTurned net ranks b state) (once : IsPass net input ranks b state first middle) (again : IsPass net input ranks b middle second last) where
+    twice : (bit : Bool) → not (not bit) ≡ bit
+    twice false = refl
+    twice true = refl
+
+    -- they lead back
+    pub returned : last ≡ state
+    returned =
+        same-turned wired fixed go again.turned turned (λ gate kind start pins drives unknown.
+        again.gates gate kind start pins drives unknown
+        ∙ (ap not (once.gates gate kind start pins drives unknown) ∙ twice (bit_at state gate)))
+
+    steps : List (List ℕ)
+    steps = first ++ second
+
+    whole-run : IsRun net input state (first ++ second)
+    whole-run =
+        IsRun-append net input state first second once.run
+        (subst (λ (s : List Bool). IsRun net input s second) (sym once.ends) again.run)
+
+    whole-end : end_of state (first ++ second) ≡ state
+    whole-end = end_of-append state first second ∙ (ap (λ (s : List Bool). end_of s second) once.ends ∙ (again.ends ∙ returned))
+
+    whole-known : (i : ℕ) → IsKnown (value_at b i) → changes_in (first ++ second) i ≡ 0
+    whole-known i known = omega (arith, changes-append first second i, once.known i known, again.known i known)
+
+    whole-few : (i : ℕ) → changes_in (first ++ second) i ≤ 4
+    whole-few i =
+        omega (arith, changes-append first second i, once.few (λ j. 2) (two-enough net ranks b state) i, again.few (λ j. 2) (two-enough net ranks b middle) i)
+
+    member-refines : (member : List Bool) → Contains (states_of state (first ++ second)) member → Refines member b
+    member-refines member there =
+        let cut : IsCut state (first ++ second) member = cut-member state member (first ++ second) there in
+        subst (λ (s : List Bool). Refines s b) cut.here
+        (refines-unchanged state cut.earlier b turned.settled (λ i known.
+        omega (arith, whole-known i known, changes-append cut.earlier cut.later i, ap (λ (list : List (List ℕ)). changes_in list i) cut.whole)))
+
+    -- an unsettled variable has its first bit, and the other
+    HasBit : ℕ → Bool → Type 0
+    HasBit i bit = (member : List Bool) × Contains (states_of state (first ++ second)) member × (bit_at member i ≡ bit)
+
+    has-both : (i : ℕ) (one : Bool) → HasBit i one → HasBit i (not one) → (bit : Bool) → HasBit i bit
+    unfolding HasBit
+    has-both i one here there bit =
+        elim (same-or-differ bit one) [
+          | inl same ↦ (here.0, here.1, here.2 ∙ sym same)
+          | inr differ ↦ (there.0, there.1, there.2 ∙ sym (other-bit bit one differ))
+        ]
+
+    both : (i : ℕ) (bit : Bool) → IsUnknown (value_at b i) → HasBit i bit
+    unfolding HasBit
+    both i bit unknown = by_driver (driver_at net i) refl
+      where
+        by_driver : (driver : Driver) → driver_at net i ≡ driver → HasBit i bit
+        by_driver (External place) e = absurd (no-input fixed i place unknown e)
+        by_driver (Function kind start pins) e =
+            has-both i (bit_at state i) (state, contains-begin state (first ++ second), refl)
+            (end_of state first, contains-front state (end_of state first) first second (contains-end state first), ap (λ (s : List Bool). bit_at s i) once.ends ∙ once.gates i kind start pins e unknown) bit
+        by_driver (Source source) e =
+            let is = source-gate wired fixed i source e (sym (wire-source fixed i source e) ∙ unknown) in
+            let early = once.shown i source e unknown in
+            let late = again.shown i source e unknown in
+            has-both i (bit_at state source)
+            (early.0, contains-front state early.0 first second early.1, early.2)
+            (late.0, contains-rest state late.0 first second (subst (λ (s : List Bool). Contains (states_of s second) late.0) (sym once.ends) late.1), late.2 ∙ once.gates source is.kind is.first is.pins is.drives is.unsettled) bit
+
+    -- the cycle
+    pub cycle-found : FlipsPerUnknown → StepsAreNoMoreThanFlips → IsCycleOf net input b state (first ++ second)
+    unfolding HasBit
+    cycle-found per_unknown no_more =
+        let flips : flip_count (first ++ second) ≤ 4 * unknown_count b =
+        per_unknown net input state (first ++ second) b 4 whole-run fixed.long whole-known whole-few in
+        let only_state : (member : List Bool) → first ++ second ≡ [] → Contains (states_of state (first ++ second)) member → state ≡ member =
+        λ member none there. alone member (subst (λ (list : List (List ℕ)). Contains (states_of state list) member) none there) in
+        record {
+          nontransient = record {
+            cycle = record {
+              run = whole-run;
+              closed = whole-end;
+              alone = λ none i inside. elim (either-value (value_at b i)) [
+                | inl unknown ↦ (
+                    let zero = both i false unknown in
+                    let one = both i true unknown in
+                    let here : bit_at state i ≡ false = ap (λ (s : List Bool). bit_at s i) (only_state zero.0 none zero.1) ∙ zero.2 in
+                    let there : bit_at state i ≡ true = ap (λ (s : List Bool). bit_at s i) (only_state one.0 none one.1) ∙ one.2 in
+                    cc
+                    )
+                | inr known ↦ known-stable fixed state i turned.settled inside known
+              ];
+            };
+            lasts = λ waits. elim (either-value (value_at b waits.0)) [
+              | inl unknown ↦ (
+                  let other = both waits.0 (not waits.2) unknown in
+                  let holds = all-contains (λ (now : List Bool). (bit_at now waits.0 ≡ waits.2) × IsUnstable net input now waits.0) (states_of state (first ++ second)) other.0 waits.3 other.1 in
+                  not-itself waits.2 (sym other.2 ∙ holds.0)
+                  )
+              | inr known ↦ (
+                  let holds = all-contains (λ (now : List Bool). (bit_at now waits.0 ≡ waits.2) × IsUnstable net input now waits.0) (states_of state (first ++ second)) state waits.3 (contains-begin state (first ++ second)) in
+                  holds.1 (known-stable fixed state waits.0 turned.settled waits.1 known)
+                  )
+            ];
+          };
+          both = both;
+          values = member-refines;
+          stable = λ member there i inside known. known-stable fixed member i (member-refines member there) inside known;
+          flips = flips;
+          none = λ zero_unknown.
+              no-element (first ++ second) (omega (arith, no_more net input state (first ++ second) whole-run, flips, ap (λ (n : ℕ). 4 * n) zero_unknown));
+        }
+      where
+        alone : (member : List Bool) → Contains (state ∷ []) member → state ≡ member
+        alone member (zero, inside, e) = e
+        alone member (suc k, inside, e) = absurd (omega (arith, inside))
+
+        not-itself : (bit : Bool) → not bit ≢ bit
+        not-itself false e = cc
+        not-itself true e = cc
+
+        no-element : (list : List (List ℕ)) → length list ≤ 0 → list ≡ []
+        no-element [] few = refl
+        no-element (x ∷ list) few = absurd (omega (arith, few))

@@ -1,0 +1,204 @@
+-- A pass while it is made: its steps so far are a run, how often each variable has changed in it, and which bits the wires
+-- of gates that have had their turn have shown.
+use Rattle.std.proofs.Common.{◌≡◌, ◌≢◌, ℕ, ◌+◌, ◌<◌, ◌≤◌, Bool, true, false, not, cond, List, map, sym, ap, ◌∙◌, subst, arith, inl, inr, Contains}
+use Rattle.std.specs.Prelude.{slice_range}
+use Rattle.std.proofs.lemmas.Bool.{cases_eq, false_from_ne_true}
+use Rattle.hz_core.specs.declared.tri.Tri.{Tri}
+use Rattle.hz_core.specs.declared.kind.Kind.{Kind}
+use Rattle.hz_core.specs.Ternary.{is_unknown}
+use Rattle.hz_core.specs.Pattern.{IsPattern}
+use Rattle.hz_net.specs.Network.{Driver, Function, Source, driver_at, bit_at, value_at}
+use Rattle.hz_net.specs.Passes.{IsKnown, IsUnknown}
+use Rattle.hz_gmw.specs.Runs.{is_listed, IsStep, IsRun, state_after, end_of}
+use Rattle.hz_gmw.specs.Cycles.{states_of}
+use Rattle.hz_reach.specs.Order.{IsEarlier}
+use Rattle.hz_reach.specs.Room.{with_step_if_any}
+use Rattle.hz_net.specs.Reads.{IsWireInto, IsWired}
+use Rattle.hz_reach.specs.Spread.{changes_in}
+use Rattle.hz_reach.proofs.SpreadRoom.{end_of-after}
+use Rattle.hz_cycle.specs.Pass.{IsFixed}
+use Rattle.hz_cycle.proofs.KeyOrder.{not-earlier, not-both}
+use Rattle.hz_cycle.proofs.PassInvariant.{IsInside}
+use Rattle.hz_cycle.proofs.StepLemmas.{listed, changes-after, listed-none, run-after, unchanged-end, contains-after, contains-end}
+use Rattle.hz_cycle.proofs.Turn.{also, IsNext, IsAfterTurn, IsWithFanOut, turn_wires, turn_middle, listed-pin, wires-unsettled, wires-step, kept-other, gate-kept, flips-unsettled, flips-step, after-turn, settled-after}
+use Rattle.hz_cycle.proofs.TurnKeeps.{also-itself, also-other, inside-after}
+
+-- one, if a variable has had its turn
+abbrev pub turns : (ℕ → Bool) → ℕ → ℕ
+turns had i = cond (had i) 1 0
+
+pub record IsUnderway (net : List Driver) (input : List Bool) (ranks : List ℕ) (b : List Tri) (begun : List Bool) (had : ℕ → Bool) (made : List (List ℕ)) (state : List Bool) : Type 0 where
+  pub inside : IsInside net ranks b begun had state
+  pub run : IsRun net input begun made
+  pub ends : end_of begun made ≡ state
+  pub known : (i : ℕ) → IsKnown (value_at b i) → changes_in made i ≡ 0
+  pub gates : (gate : ℕ) (kind : Kind) (first pins : ℕ) → driver_at net gate ≡ Function kind first pins → changes_in made gate ≤ turns had gate
+  pub wires :
+      (wire source gate : ℕ) → driver_at net wire ≡ Source source → IsWireInto net gate wire →
+      changes_in made wire ≤ turns had source + turns had gate
+  pub outward :
+      (wire source gate : ℕ) → driver_at net wire ≡ Source source → IsWireInto net gate wire → IsKnown (value_at b gate) →
+      changes_in made wire ≤ turns had source
+  pub equal :
+      (wire source gate : ℕ) → driver_at net wire ≡ Source source → IsWireInto net gate wire → IsEarlier ranks source gate →
+      IsUnknown (value_at b source) → IsUnknown (value_at b gate) → bit_at begun wire ≡ bit_at begun source →
+      changes_in made wire ≤ turns had gate
+  pub shown :
+      (wire source : ℕ) → driver_at net wire ≡ Source source → IsUnknown (value_at b source) → had source ≡ true →
+      (member : List Bool) × Contains (states_of begun made) member × (bit_at member wire ≡ bit_at begun source)
+
+module _ {net : List Driver} {input : List Bool} {b : List Tri} {ranks : List ℕ} {begun state : List Bool} {had : ℕ → Bool} {made : List (List ℕ)} {gate : ℕ} {kind : Kind} {first pins : ℕ} {pattern : List Bool} {flips : List ℕ} (wired : IsWired net) (fixed : IsFixed net input b) (underway : IsUnderway net input ranks b begun had made state) (next : IsNext net ranks b had gate kind first pins) (canonical : IsPattern kind (slice_range state first (first + pins)) (map is_unknown (slice_range b first (first + pins))) (not (bit_at state gate)) pattern) (flip : IsWithFanOut net (turn_middle state first pins pattern) gate flips) where
+  wires : List ℕ
+  wires = turn_wires state first pins pattern
+
+  into : (pin : ℕ) → pin < pins → IsWireInto net gate (first + pin)
+  into pin few = record { kind = kind; first = first; pins = pins; driven = next.drives; above = omega arith; below = omega (arith, few) }
+
+  turn : IsAfterTurn net gate first pins pattern state (state_after flips (turn_middle state first pins pattern))
+  turn = after-turn wired fixed underway.inside next canonical flip
+
+  -- the wires that set the pattern are wires into the gate
+  wire-goes : (wire other : ℕ) → IsWireInto net other wire → is_listed (turn_wires state first pins pattern) wire ≡ true → other ≡ gate
+  wire-goes wire other goes there =
+      let is = listed-pin wired fixed underway.inside next canonical wire there in
+      wired.own other gate wire goes (subst (IsWireInto net gate) (sym is.2) (into is.0 is.1))
+
+  -- a wire that changes with the gate comes from it
+  wire-comes : (wire source : ℕ) → driver_at net wire ≡ Source source → is_listed flips wire ≡ true → source ≡ gate
+  wire-comes wire source drives there = elim (flip.others wire there) [
+    | inl same ↦ (let again : driver_at net wire ≡ Function kind first pins = ap (driver_at net) same ∙ next.drives in cc)
+    | inr from ↦ same-source source gate (sym drives ∙ from.0)
+  ]
+    where
+      same-source : (one two : ℕ) → Source one ≡ Source two → one ≡ two
+      same-source one two e = cc
+
+  -- a turn adds at most one change
+  one-turn : (flipped_too : List ℕ) (i other : ℕ) → (is_listed flipped_too i ≡ true → other ≡ gate) → listed flipped_too i + turns had other ≤ turns (also had gate) other
+  one-turn flipped_too i other only =
+      elim (cases_eq other gate) [
+        | inl same ↦ rw (also-itself had gate other same, ap had same ∙ next.waits) (at-most (is_listed flipped_too i))
+        | inr apart ↦ rw (also-other had gate other apart, false_from_ne_true _ (λ there. apart (only there))) (omega arith)
+      ]
+    where
+      at-most : (bit : Bool) → cond bit 1 0 + 0 ≤ 1
+      at-most false = omega arith
+      at-most true = omega arith
+
+  more-changes : (i : ℕ) → changes_in (with_step_if_any (with_step_if_any made (turn_wires state first pins pattern)) flips) i ≡ changes_in made i + listed (turn_wires state first pins pattern) i + listed flips i
+  more-changes i =
+      changes-after (with_step_if_any made (turn_wires state first pins pattern)) flips i
+      ∙ ap (λ (n : ℕ). n + listed flips i) (changes-after made (turn_wires state first pins pattern) i)
+
+  wires-out : (i : ℕ) → (is_listed (turn_wires state first pins pattern) i ≡ true → ⊥) → listed (turn_wires state first pins pattern) i ≡ 0
+  wires-out i none = listed-none (turn_wires state first pins pattern) i (false_from_ne_true _ none)
+
+  flips-out : (i : ℕ) → (is_listed flips i ≡ true → ⊥) → listed flips i ≡ 0
+  flips-out i none = listed-none flips i (false_from_ne_true _ none)
+
+  -- a wire whose source is earlier than its gate and had the source's bit at the beginning does not change with its source
+  equal-out :
+      (wire source other : ℕ) → driver_at net wire ≡ Source source → IsWireInto net other wire → IsEarlier ranks source other →
+      IsUnknown (value_at b source) → IsUnknown (value_at b other) → bit_at begun wire ≡ bit_at begun source →
+      is_listed flips wire ≡ true → ⊥
+  equal-out wire source other drives goes earlier unknown unsettled same there =
+      let from : source ≡ gate = wire-comes wire source drives there in
+      let later : IsEarlier ranks gate other = subst (λ (n : ℕ). IsEarlier ranks n other) from earlier in
+      let apart : other ≢ gate = λ here. not-earlier ranks gate (subst (IsEarlier ranks gate) here later) in
+      let waits : had other ≡ false = false_from_ne_true _ (λ turned. not-both ranks gate other later (next.only other turned)) in
+      let none : changes_in made wire ≡ 0 = (
+      let few : changes_in made wire ≤ turns had other = underway.equal wire source other drives goes earlier unknown unsettled same in
+      let zero_turns : turns had other ≤ 0 = rw waits (omega arith) in
+      omega (arith, few, zero_turns)
+      ) in
+      let wire_now : bit_at (turn_middle state first pins pattern) wire ≡ bit_at begun wire =
+      kept-other wired fixed underway.inside next canonical wire (λ pin few here. apart (wired.own other gate wire goes (subst (IsWireInto net gate) (sym here) (into pin few))))
+      ∙ (ap (λ (s : List Bool). bit_at s wire) (sym underway.ends) ∙ unchanged-end begun made wire none) in
+      let gate_now : bit_at (turn_middle state first pins pattern) gate ≡ bit_at begun gate =
+      gate-kept wired fixed underway.inside next canonical
+      ∙ (underway.inside.gates gate kind first pins next.drives next.unsettled ∙ ap (λ (h : Bool). cond h (not (bit_at begun gate)) (bit_at begun gate)) next.waits) in
+      elim (flip.others wire there) [
+        | inl here ↦ (let again : driver_at net wire ≡ Function kind first pins = ap (driver_at net) here ∙ next.drives in cc)
+        | inr differ ↦ differ.1 (wire_now ∙ (same ∙ (ap (bit_at begun) from ∙ sym gate_now)))
+      ]
+
+  ends-middle : end_of begun (with_step_if_any made (turn_wires state first pins pattern)) ≡ turn_middle state first pins pattern
+  ends-middle = end_of-after begun made (turn_wires state first pins pattern) ∙ ap (state_after (turn_wires state first pins pattern)) underway.ends
+
+  ends-last : end_of begun (with_step_if_any (with_step_if_any made (turn_wires state first pins pattern)) flips) ≡ state_after flips (turn_middle state first pins pattern)
+  ends-last = end_of-after begun (with_step_if_any made (turn_wires state first pins pattern)) flips ∙ ap (state_after flips) ends-middle
+
+  pub underway-after : IsUnderway net input ranks b begun (also had gate) (with_step_if_any (with_step_if_any made (turn_wires state first pins pattern)) flips) (state_after flips (turn_middle state first pins pattern))
+  underway-after = record {
+    inside = inside-after wired fixed underway.inside next canonical turn (settled-after wired fixed underway.inside next canonical flip);
+    run = run-after net input begun (with_step_if_any made (turn_wires state first pins pattern)) flips
+        (run-after net input begun made (turn_wires state first pins pattern) underway.run (λ some.
+        subst (λ (s : List Bool). IsStep net input s (turn_wires state first pins pattern)) (sym underway.ends) (wires-step wired fixed underway.inside next canonical some)))
+        (λ some. subst (λ (s : List Bool). IsStep net input s flips) (sym ends-middle) (flips-step wired fixed underway.inside next canonical flip));
+    ends = ends-last;
+    known = λ i known.
+        omega (
+          arith,
+          more-changes i,
+          underway.known i known,
+          wires-out i (λ there. known (wires-unsettled wired fixed underway.inside next canonical i there)),
+          flips-out i (λ there. known (flips-unsettled wired fixed underway.inside next canonical flip i there)),
+        );
+    gates = λ other its_kind start count drives.
+        omega (
+          arith,
+          more-changes other,
+          underway.gates other its_kind start count drives,
+          wires-out other (λ there.
+              let is = listed-pin wired fixed underway.inside next canonical other there in
+              let from = wired.source gate (first + is.0) (into is.0 is.1) in
+              let wire : driver_at net other ≡ Source from.0 = ap (driver_at net) is.2 ∙ from.1 in
+              cc),
+          one-turn flips other other (λ there. elim (flip.others other there) [
+            | inl same ↦ same
+            | inr wire ↦ (let from = wire.0 in cc)
+          ]),
+        );
+    wires = λ wire source other drives goes.
+        omega (
+          arith,
+          more-changes wire,
+          underway.wires wire source other drives goes,
+          one-turn (turn_wires state first pins pattern) wire other (wire-goes wire other goes),
+          one-turn flips wire source (wire-comes wire source drives),
+        );
+    outward = λ wire source other drives goes known.
+        omega (
+          arith,
+          more-changes wire,
+          underway.outward wire source other drives goes known,
+          wires-out wire (λ there. known (ap (value_at b) (wire-goes wire other goes there) ∙ next.unsettled)),
+          one-turn flips wire source (wire-comes wire source drives),
+        );
+    equal = λ wire source other drives goes earlier unknown unsettled same.
+        omega (
+          arith,
+          more-changes wire,
+          underway.equal wire source other drives goes earlier unknown unsettled same,
+          one-turn (turn_wires state first pins pattern) wire other (wire-goes wire other goes),
+          flips-out wire (equal-out wire source other drives goes earlier unknown unsettled same),
+        );
+    shown = λ wire source drives unknown turned.
+        elim (cases_eq source gate) [
+          | inl same ↦ (
+            end_of begun (with_step_if_any (with_step_if_any made (turn_wires state first pins pattern)) flips),
+            contains-end begun (with_step_if_any (with_step_if_any made (turn_wires state first pins pattern)) flips),
+            ap (λ (s : List Bool). bit_at s wire) ends-last
+                ∙ (turn.fan_out wire (drives ∙ ap Source same)
+                ∙ (underway.inside.gates gate kind first pins next.drives next.unsettled
+                ∙ (ap (λ (h : Bool). cond h (not (bit_at begun gate)) (bit_at begun gate)) next.waits ∙ ap (bit_at begun) (sym same)))),
+          )
+          | inr apart ↦ (
+              let before = underway.shown wire source drives unknown (sym (also-other had gate source apart) ∙ turned) in (
+                before.0,
+                contains-after begun before.0 (with_step_if_any made (turn_wires state first pins pattern)) flips (contains-after begun before.0 made (turn_wires state first pins pattern) before.1),
+                before.2,
+              )
+              )
+        ];
+  }

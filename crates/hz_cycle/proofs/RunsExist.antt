@@ -1,0 +1,97 @@
+-- From every stable start, under every input, there are a settle run and a cycle at its end: the spread run, the settling
+-- rounds and one pass, and then two passes. So Algorithm B is exact.
+use Rattle.std.proofs.Common.{◌≡◌, ℕ, ◌++◌, Bool, List, refl, subst}
+use Rattle.hz_core.specs.declared.tri.Tri.{Tri}
+use Rattle.hz_core.specs.declared.tri.Tri.TheVariants.{Zero, One, Unknown}
+use Rattle.hz_core.specs.Netlist.{Netlist, IsCircuit}
+use Rattle.hz_core.specs.Ternary.{IsJoinOf}
+use Rattle.hz_net.specs.Network.{network_of, bit_at, value_at}
+use Rattle.hz_net.specs.Passes.{algorithm_a, algorithm_b, AreSettlingRounds}
+use Rattle.hz_net.specs.Starts.{IsStableStart}
+use Rattle.hz_net.proofs.Wired.{wired-network_of}
+use Rattle.hz_gmw.specs.Runs.{end_of}
+use Rattle.hz_gmw.specs.Cycles.{IsOutcome}
+use Rattle.hz_reach.specs.Counts.{FlipsAreChanges, StepsAreNoMoreThanFlips, FlipsPerUnknown, EndsByChanges}
+use Rattle.hz_reach.specs.Existence.{ResultOfAExists, ResultOfBExists, RanksExist, SettlingRoundsExist, SparingRunExists}
+use Rattle.hz_reach.specs.Spread.{IsSparingRun}
+use Rattle.hz_cycle.specs.Cycles.{IsCycleOf}
+use Rattle.hz_cycle.specs.Exact.{RunsShowB, HasSettleRunAndCycle, SettleRunsExist, BIsExact, OutcomesExist}
+use Rattle.hz_cycle.specs.Pass.{MayBegin, IsPass}
+use Rattle.hz_cycle.specs.Turned.{IsTurned}
+use Rattle.hz_cycle.proofs.Change.{IsChange, change-fixed, unsettled-ranked, ranks-long}
+use Rattle.hz_cycle.proofs.CycleExists.{cycle-found}
+use Rattle.hz_cycle.proofs.WireTargets.{goes-somewhere}
+use Rattle.hz_cycle.proofs.OrderExists.{order-found}
+use Rattle.hz_cycle.proofs.PassExists.{pass-found}
+use Rattle.hz_cycle.proofs.RoundsExist.{rounds-found}
+use Rattle.hz_cycle.proofs.SettleRunExists.{IsBeforePass, given-change, rounds-may-begin, pass-may-begin, settle-found, settle-end}
+use Rattle.hz_cycle.proofs.TurnedStates.{turned-may-begin}
+
+-- what is known of how often runs change variables
+record AreCounted : Type 0 where
+  changes : FlipsAreChanges
+  fewer : StepsAreNoMoreThanFlips
+  per_unknown : FlipsPerUnknown
+  ends : EndsByChanges
+
+module _ {netlist : Netlist} {input start : List Bool} {a : List Tri} {ranks : List ℕ} {b : List Tri} (counted : AreCounted) (circuit : IsCircuit netlist) (change : IsChange (network_of netlist) input start a ranks b) where
+  pass : (begun : List Bool) → MayBegin (network_of netlist) ranks b begun → (made : List (List ℕ)) × ((state : List Bool) × IsPass (network_of netlist) input ranks b begun made state)
+  pass begun begins = pass-found circuit (change-fixed change) (ranks-long change) (unsettled-ranked change) counted.changes counted.fewer begins
+
+  -- the cycle of a turned state
+  cycle : (state : List Bool) → IsTurned (network_of netlist) ranks b state → (steps : List (List ℕ)) × IsCycleOf (network_of netlist) input b state steps
+  cycle state turned =
+      let once = pass state (turned-may-begin turned) in
+      let again = pass once.1.0 (turned-may-begin once.1.1.turned) in
+      (once.0 ++ again.0, cycle-found (wired-network_of netlist circuit) (change-fixed change) (goes-somewhere netlist circuit) turned once.1.1 again.1.1 counted.per_unknown counted.fewer)
+
+  -- the settle run, and the cycle at its end
+  both : {when : List ℕ} {spread : List (List ℕ)} → IsStableStart netlist start → AreSettlingRounds (algorithm_b (network_of netlist) input a) a b when → IsSparingRun (network_of netlist) input start a ranks spread → HasSettleRunAndCycle (network_of netlist) input start a b
+  both {when} {spread} begins rounds sparing =
+      let order = order-found when in
+      let settled = rounds-found (rounds-may-begin change rounds sparing refl) order.0 order.1 in
+      let before : IsBeforePass netlist input start a ranks when b spread (end_of start spread) settled.0 settled.1.0 = record {
+        circuit = circuit;
+        begins = begins;
+        change = change;
+        rounds = rounds;
+        sparing = sparing;
+        spread_end = refl;
+        settling = settled.1.1;
+      } in
+      let last = pass settled.1.0 (pass-may-begin before counted.ends) in
+      let round = cycle last.1.0 last.1.1.turned in
+      record {
+        settle = (spread ++ settled.0) ++ last.0;
+        cycle = round.0;
+        is_settle = settle-found before counted.per_unknown counted.ends last.1.1;
+        is_cycle = subst (λ (state : List Bool). IsCycleOf (network_of netlist) input b state round.0) (settle-end before last.1.1) round.1;
+      }
+
+pub settle_runs_exist : FlipsAreChanges → StepsAreNoMoreThanFlips → FlipsPerUnknown → EndsByChanges → RanksExist → SettlingRoundsExist → SparingRunExists → SettleRunsExist
+settle_runs_exist changes fewer per_unknown ends ranks_exist rounds_exist sparing_exists netlist input start a b circuit begins a_result b_result =
+    let net = network_of netlist in
+    let counted : AreCounted = record { changes = changes; fewer = fewer; per_unknown = per_unknown; ends = ends } in
+    let ranks = ranks_exist (algorithm_a net input start) a a_result in
+    let rounds = rounds_exist (algorithm_b net input a) a b b_result in
+    let sparing = sparing_exists netlist input start a ranks.0 circuit begins a_result ranks.1 in
+    both counted circuit (given-change begins a_result ranks.1 b_result) begins rounds.1 sparing.1
+
+pub b_is_exact : RunsShowB → SettleRunsExist → BIsExact
+b_is_exact shown exist netlist input start a b i circuit begins a_result b_result =
+    let runs = exist netlist input start a b circuit begins a_result b_result in
+    shown (network_of netlist) input start a b runs.settle runs.cycle i begins.long a_result b_result runs.is_settle runs.is_cycle
+
+-- a set of bits that joins to a value has a bit
+joined-some : (set : Bool → Type 0) (value : Tri) → IsJoinOf set value → (bit : Bool) × set bit
+joined-some set Zero join = (_, join.0)
+joined-some set One join = (_, join.0)
+joined-some set Unknown join = (_, join.0)
+
+pub outcomes_exist : ResultOfAExists → ResultOfBExists → BIsExact → OutcomesExist
+outcomes_exist a_exists b_exists exact netlist input start circuit begins =
+    let net = network_of netlist in
+    let a = a_exists net input start begins.long in
+    let b = b_exists net input start a.0 begins.long a.1 in
+    let some = joined-some (λ bit. (state : List Bool) × IsOutcome net input start state × (bit_at state 0 ≡ bit)) (value_at b.0 0) (exact netlist input start a.0 b.0 0 circuit begins a.1 b.1) in
+    (some.1.0, some.1.1)

@@ -1,0 +1,135 @@
+-- What the result of Algorithm B says of a state that refines it: settled variables are stable, and each pin of an
+-- unsettled gate that is not settled may take either bit.
+use Rattle.std.proofs.Common.{◌≡◌, ℕ, zero, suc, ◌+◌, ◌-◌, ◌<◌, ◌⊎◌, Bool, true, false, not, cond, List, length, map, get_or, refl, sym, ap, ◌∙◌, subst, arith, inl, inr, IsTrue}
+use Rattle.std.specs.Prelude.{slice_range}
+use Rattle.std.proofs.lemmas.Bool.{cases_lt}
+use Rattle.std.proofs.lemmas.List.{get_or_past, get_or-map}
+use Rattle.hz_core.specs.declared.tri.Tri.{Tri}
+use Rattle.hz_core.specs.declared.tri.Tri.TheVariants.{Zero, One, Unknown}
+use Rattle.hz_core.specs.declared.kind.Kind.{Kind}
+use Rattle.hz_core.specs.Ternary.{tri_of, is_unknown, admits, Refines}
+use Rattle.hz_core.specs.Extension.{extension}
+use Rattle.hz_core.specs.Pattern.{IsCandidate}
+use Rattle.hz_core.proofs.Refinements.{length-Refines, get_or-Refines, Refines-get_or, Refines-slice_range}
+use Rattle.hz_core.proofs.Patterns.{candidate-extension}
+use Rattle.hz_net.specs.Network.{Driver, External, Function, Source, driver_at, bit_at, value_at, driver_value3, excitation}
+use Rattle.hz_net.specs.Passes.{algorithm_b, IsKnown, IsUnknown, AreRounds}
+use Rattle.hz_net.proofs.Excitations.{admits-driver_value, at-excitations}
+use Rattle.hz_net.proofs.PartLemmas.{length-part}
+use Rattle.hz_net.proofs.Sequences.{length-algorithm_b}
+use Rattle.hz_gmw.specs.Runs.{is_listed, state_after}
+use Rattle.hz_gmw.proofs.Flips.{length-state_after, at-state_after}
+use Rattle.hz_reach.proofs.StateParts.{driver-inside}
+use Rattle.hz_cycle.specs.Pass.{IsFixed}
+
+-- Values
+
+pub unknown-is : (value : Tri) → is_unknown value ≡ true → IsUnknown value
+unknown-is Zero e = cc
+unknown-is One e = cc
+unknown-is Unknown e = refl
+
+pub is-unknown : (value : Tri) → IsUnknown value → is_unknown value ≡ true
+is-unknown value unknown = rw unknown refl
+
+-- two bits that one known value admits
+pub same-admitted : (value : Tri) (here there : Bool) → IsKnown value → IsTrue (admits value here) → IsTrue (admits value there) → here ≡ there
+same-admitted Zero false false known a b = refl
+same-admitted Zero false true known a b = cc
+same-admitted Zero true there known a b = cc
+same-admitted One false there known a b = cc
+same-admitted One true false known a b = cc
+same-admitted One true true known a b = refl
+same-admitted Unknown here there known a b = absurd (known refl)
+
+admits-unknown : (value : Tri) (bit : Bool) → IsUnknown value → IsTrue (admits value bit)
+admits-unknown value false unknown = rw unknown refl
+admits-unknown value true unknown = rw unknown refl
+
+known-bit : (value : Tri) (bit : Bool) → is_unknown value ≡ false → IsTrue (admits value bit) → value ≡ tri_of bit
+known-bit Zero false known there = refl
+known-bit Zero true known there = cc
+known-bit One false known there = cc
+known-bit One true known there = refl
+known-bit Unknown bit known there = cc
+
+pub either-value : (value : Tri) → IsUnknown value ⊎ IsKnown value
+either-value Zero = inr (λ e. cc)
+either-value One = inr (λ e. cc)
+either-value Unknown = inl refl
+
+-- two states that refine a list agree where it is known
+pub same-known : (state other : List Bool) (b : List Tri) (i : ℕ) → Refines state b → Refines other b → IsKnown (value_at b i) → bit_at state i ≡ bit_at other i
+same-known state other b i here there known =
+    same-admitted (value_at b i) (bit_at state i) (bit_at other i) known (get_or-Refines state b here i) (get_or-Refines other b there i)
+
+-- where only unknown variables change, a state refines a list as before
+pub refines-state_after : (state : List Bool) (b : List Tri) (flips : List ℕ) → Refines state b → ((i : ℕ) → is_listed flips i ≡ true → IsUnknown (value_at b i)) → Refines (state_after flips state) b
+refines-state_after state b flips refined only =
+    Refines-get_or (state_after flips state) b (length-state_after flips state ∙ length-Refines state b refined) (λ i inside.
+    let within : i < length state = subst (λ (n : ℕ). i < n) (length-state_after flips state) inside in
+    subst (λ (bit : Bool). IsTrue (admits (value_at b i) bit)) (sym (at-state_after flips state i within))
+    (by_case i (is_listed flips i) (only i)))
+  where
+    by_case : (i : ℕ) (listed : Bool) → (listed ≡ true → IsUnknown (value_at b i)) → IsTrue (admits (value_at b i) (cond listed (not (bit_at state i)) (bit_at state i)))
+    by_case i true unknown = admits-unknown (value_at b i) (not (bit_at state i)) (unknown refl)
+    by_case i false unknown = get_or-Refines state b refined i
+
+-- the result of Algorithm B is one
+pub fixed-result : (net : List Driver) (input : List Bool) (first : List Tri) (rounds : ℕ) → length first ≡ length net → AreRounds (algorithm_b net input first) rounds → IsFixed net input (algorithm_b net input first rounds)
+fixed-result net input first zero long are = absurd (omega (arith, are.some))
+fixed-result net input first (suc round) long are =
+    let last : suc round - 1 ≡ round = omega arith in
+    let settled : algorithm_b net input first (suc round) ≡ algorithm_b net input first round =
+    are.settled ∙ ap (algorithm_b net input first) last in
+    record {
+      long = length-algorithm_b net input first long (suc round);
+      same = λ i inside.
+          at-excitations net input (algorithm_b net input first round) i inside
+          ∙ ap (λ (values : List Tri). driver_value3 input values (driver_at net i)) (sym settled);
+    }
+
+module _ {net : List Driver} {input : List Bool} {b : List Tri} (fixed : IsFixed net input b) where
+  pub unknown-inside : (i : ℕ) → IsUnknown (value_at b i) → i < length net
+  unknown-inside i unknown = elim (cases_lt i (length net)) [
+    | inl inside ↦ inside
+    | inr past ↦ (let none : value_at b i ≡ Zero = get_or_past b i Zero (omega (arith, past, fixed.long)) in cc)
+  ]
+
+  -- a settled variable is stable in a state that refines the result
+  pub known-stable : (state : List Bool) (i : ℕ) → Refines state b → i < length net → IsKnown (value_at b i) → bit_at state i ≡ excitation net input state i
+  known-stable state i refined inside known =
+      same-admitted (value_at b i) (bit_at state i) (excitation net input state i) known (get_or-Refines state b refined i)
+      (subst (λ (value : Tri). IsTrue (admits value (excitation net input state i))) (sym (fixed.same i inside)) (admits-driver_value input state b refined (driver_at net i)))
+
+  -- no input is unsettled
+  pub no-input : (i place : ℕ) → IsUnknown (value_at b i) → driver_at net i ≡ External place → ⊥
+  no-input i place unknown drives =
+      known_value (bit_at input place) (sym (ap (driver_value3 input b) drives) ∙ (sym (fixed.same i (unknown-inside i unknown)) ∙ unknown))
+    where
+      known_value : (bit : Bool) → tri_of bit ≡ Unknown → ⊥
+      known_value false e = cc
+      known_value true e = cc
+
+  -- a wire has its source's value
+  pub wire-source : (wire source : ℕ) → driver_at net wire ≡ Source source → value_at b wire ≡ value_at b source
+  wire-source wire source drives = fixed.same wire (driver-inside net wire source drives) ∙ ap (driver_value3 input b) drives
+
+  -- an unsettled gate has a pattern for either bit
+  pub gate-possible :
+      (state : List Bool) (gate : ℕ) (kind : Kind) (first pins : ℕ) (want : Bool) → Refines state b →
+      driver_at net gate ≡ Function kind first pins → IsUnknown (value_at b gate) →
+      ((pin : ℕ) → pin < pins → first + pin < length net) →
+      (list : List Bool) × IsCandidate kind (slice_range state first (first + pins)) (map is_unknown (slice_range b first (first + pins))) want list
+  gate-possible state gate kind first pins want refined drives unknown inside =
+      let now = slice_range state first (first + pins) in
+      let values = slice_range b first (first + pins) in
+      let long : length state ≡ length b = length-Refines state b refined in
+      let now_long : length now ≡ pins = length-part state first pins (λ pin few. omega (arith, inside pin few, long, fixed.long)) in
+      let values_long : length values ≡ pins = length-part b first pins (λ pin few. omega (arith, inside pin few, fixed.long)) in
+      candidate-extension kind now (map is_unknown values) want values (values_long ∙ sym now_long)
+      (λ pin few settled.
+      known-bit (get_or values pin Zero) (get_or now pin false)
+      (sym (get_or-map is_unknown values pin Zero false (omega (arith, few, now_long, values_long))) ∙ settled)
+      (get_or-Refines now values (Refines-slice_range state b first (first + pins) refined) pin))
+      (admits-unknown (extension kind values) want (sym (ap (driver_value3 input b) drives) ∙ (sym (fixed.same gate (unknown-inside gate unknown)) ∙ unknown)))

@@ -1,0 +1,159 @@
+-- What a variable of a network is and how it is driven; the variables around it, each once.
+use Rattle.std.proofs.Common.{◌≡◌, ◌≢◌, ℕ, zero, suc, ◌+◌, ◌-◌, ◌<◌, ◌≤◌, true, List, [], ◌∷◌, length, get_or, Some, All, IsTrue, slice_get, refl, sym, ap, ◌∙◌, subst, arith, inl, inr}
+use Rattle.std.specs.Prelude.{nat_eq, Contains}
+use Rattle.std.proofs.lemmas.Bool.{cases_lt, cases_Bool, false≢true, false_from_ne_true}
+use Rattle.std.proofs.lemmas.List.Elements.{All-cons}
+use Rattle.hz_core.specs.Gate.{takes}
+use Rattle.hz_core.specs.Netlist.{Netlist, IsCircuit, IsWhole, variable_count}
+use Rattle.hz_net.specs.Network.{Wire, Function, Source, network_of, wires_of, driver_at}
+use Rattle.hz_net.specs.Variables.{variable_kinds, first_wire, readers_from, fan_out_of}
+use Rattle.hz_net.specs.Reads.{IsWireInto, readers_of}
+use Rattle.hz_net.specs.Entries.{driver_of, entry_kind, entries_of, IsEntryAt}
+use Rattle.hz_net.specs.declared.entry.Entry.{Entry}
+use Rattle.hz_net.specs.declared.entry.Entry.TheVariants.{Input as InputEntry, Gate as GateEntry, Wire as WireEntry}
+use Rattle.hz_net.specs.declared.variable.VarKind.{VarKind}
+use Rattle.hz_net.proofs.Places.{no_wire, length-network_of, length-entries_of, driver_at-entry, variable_kinds-entry, IsEntryAt-entries_of}
+use Rattle.hz_net.proofs.Wires.{IsWireFrom-driver_at, driver_at-IsWireFrom, Contains-fan_out_of, IsWireFrom-fan_out_of, variable_kinds-wire}
+use Rattle.hz_net.proofs.Wired.{is_gate_of, gate-named, named-into}
+use Rattle.hz_net.proofs.Readers.{node-readers, wire-readers, readers-inside}
+use Rattle.hz_gmw.specs.Runs.{is_listed, IsRepeatFree}
+use Rattle.hz_gmw.specs.CurrentState.{IsKindAt, with_readers}
+use Rattle.hz_gmw.proofs.LeastLemmas.{listed-cases, listed-other, listed-Contains}
+
+entry-kind : (netlist : Netlist) (var : ℕ) (entry : Entry) → IsCircuit netlist → var < variable_count netlist → IsEntryAt netlist var entry → driver_at (network_of netlist) var ≡ driver_of entry → slice_get (variable_kinds netlist) var ≡ Some (entry_kind entry) → IsKindAt netlist var (entry_kind entry)
+entry-kind netlist var (InputEntry number) circuit within at driven seen =
+    (driven, subst (λ (n : ℕ). n < netlist.inputs) (sym at.0) at.1, omega (arith, at.1, circuit.nodes))
+entry-kind netlist var (GateEntry kind first pins) circuit within at driven seen = (
+  driven ∙ (ap (λ (n : ℕ). Function kind n pins) at.1 ∙ ap (λ (n : ℕ). Function kind (first_wire netlist var) n) at.2),
+  at.0,
+  subst (λ (n : ℕ). first_wire netlist var + n ≤ length (network_of netlist)) at.2 (subst (λ (n : ℕ). n + pins ≤ length (network_of netlist)) at.1 at.3),
+  subst (λ (n : ℕ). IsTrue (takes kind n)) at.2 at.4,
+)
+entry-kind netlist var (WireEntry gate pin source) circuit within at driven seen =
+    let into = named-into netlist circuit var gate pin source at.0 within seen in
+    (driven, at.1, into, (is_gate_of netlist circuit gate into.kind into.first into.pins into.driven).is_gate.1, at.0)
+
+some-same : (a b : VarKind) → Some a ≡ Some b → a ≡ b
+some-same a b e = cc
+
+entry-there : (list : List Entry) (k : ℕ) (d : Entry) → k < length list → get_or list k d ≡ get_or list k (get_or list k d)
+entry-there [] k d few = absurd (omega (arith, few))
+entry-there (entry ∷ list) zero d few = refl
+entry-there (entry ∷ list) (suc k) d few = same list k d (get_or list k d) (omega (arith, few))
+  where
+    same : (list : List Entry) (k : ℕ) (d e : Entry) → k < length list → get_or list k d ≡ get_or list k e
+    same [] k d e few = absurd (omega (arith, few))
+    same (entry ∷ list) zero d e few = refl
+    same (entry ∷ list) (suc k) d e few = same list k d e (omega (arith, few))
+
+-- what a variable is, says how it is driven
+pub kind-at : (netlist : Netlist) (var : ℕ) (kind : VarKind) → IsCircuit netlist → IsWhole netlist → var < length (network_of netlist) → slice_get (variable_kinds netlist) var ≡ Some kind → IsKindAt netlist var kind
+kind-at netlist var kind circuit whole within seen =
+    let few : var < variable_count netlist = omega (arith, within, length-network_of netlist circuit) in
+    let entry = get_or (entries_of netlist) var (InputEntry 0) in
+    let read : entry ≡ get_or (entries_of netlist) var entry = entry-there (entries_of netlist) var (InputEntry 0) (omega (arith, few, length-entries_of netlist circuit)) in
+    let told = variable_kinds-entry netlist var entry circuit few read in
+    subst (IsKindAt netlist var) (some-same (entry_kind entry) kind (sym told ∙ seen))
+    (entry-kind netlist var entry circuit few (IsEntryAt-entries_of netlist var (InputEntry 0) circuit whole few) (driver_at-entry netlist var entry circuit few read) told)
+
+pub Contains-listed : (list : List ℕ) (i : ℕ) → is_listed list i ≡ true → Contains list i
+Contains-listed [] i there = absurd (false≢true there)
+Contains-listed (x ∷ list) i there = elim (listed-cases i x list there) [
+  | inl same ↦ (0, omega arith, sym same)
+  | inr rest ↦ (
+      let found = Contains-listed list i rest in
+      let few : found.0 < length list = found.1 in
+      (suc found.0, omega (arith, few), found.2)
+      )
+]
+
+-- a wire from a node is driven by it
+pub fan-driver : (netlist : Netlist) (node wire : ℕ) → IsCircuit netlist → is_listed (fan_out_of netlist node) wire ≡ true → driver_at (network_of netlist) wire ≡ Source node
+fan-driver netlist node wire circuit there =
+    driver_at-IsWireFrom netlist wire node circuit (IsWireFrom-fan_out_of netlist wire node (Contains-listed (fan_out_of netlist node) wire there))
+
+-- and stands behind the nodes
+pub fan-above : (netlist : Netlist) (node wire : ℕ) → is_listed (fan_out_of netlist node) wire ≡ true → length netlist.names ≤ wire
+fan-above netlist node wire there =
+    (IsWireFrom-fan_out_of netlist wire node (Contains-listed (fan_out_of netlist node) wire there)).above
+
+-- a wire that a node drives is in its fan-out
+pub driver-fan : (netlist : Netlist) (node wire : ℕ) → IsCircuit netlist → driver_at (network_of netlist) wire ≡ Source node → is_listed (fan_out_of netlist node) wire ≡ true
+driver-fan netlist node wire circuit driven =
+    listed-Contains (fan_out_of netlist node) wire (Contains-fan_out_of netlist wire node (IsWireFrom-driver_at netlist wire node circuit driven))
+
+readers-above : (first : ℕ) (wires : List Wire) (node i : ℕ) → is_listed (readers_from first wires node) i ≡ true → first ≤ i
+readers-above first [] node i there = absurd (false≢true there)
+readers-above first (wire ∷ wires) node i there = elim (cases_Bool (nat_eq wire.source node)) [
+  | inl same ↦ elim (listed-cases i first (readers_from (suc first) wires node) (rw same at there)) [
+    | inl here ↦ omega (arith, here)
+    | inr rest ↦ (let later = readers-above (suc first) wires node i rest in omega (arith, later))
+  ]
+  | inr other ↦ (let later = readers-above (suc first) wires node i (rw other at there) in omega (arith, later))
+]
+
+readers-once : (first : ℕ) (wires : List Wire) (node : ℕ) → IsRepeatFree (readers_from first wires node)
+readers-once first [] node = tt
+readers-once first (wire ∷ wires) node = elim (cases_Bool (nat_eq wire.source node)) [
+  | inl same ↦ rw same (
+    false_from_ne_true (is_listed (readers_from (suc first) wires node) first) (λ there. let later = readers-above (suc first) wires node first there in omega (arith, later)),
+    readers-once (suc first) wires node,
+  )
+  | inr other ↦ rw other (readers-once (suc first) wires node)
+]
+
+-- the fan-out of a node has each wire once
+pub fan-once : (netlist : Netlist) (node : ℕ) → IsRepeatFree (fan_out_of netlist node)
+fan-once netlist node = readers-once (length netlist.names) (wires_of netlist) node
+
+length-readers : (first : ℕ) (wires : List Wire) (node : ℕ) → length (readers_from first wires node) ≤ length wires
+length-readers first [] node = omega arith
+length-readers first (wire ∷ wires) node =
+    let rest = length-readers (suc first) wires node in
+    elim (cases_Bool (nat_eq wire.source node)) [
+      | inl same ↦ rw same (omega (arith, rest))
+      | inr other ↦ rw other (omega (arith, rest))
+    ]
+
+-- and no more wires than there are
+pub fan-length : (netlist : Netlist) (node : ℕ) → length (fan_out_of netlist node) ≤ length (wires_of netlist)
+fan-length netlist node = length-readers (length netlist.names) (wires_of netlist) node
+
+module _ (netlist : Netlist) (circuit : IsCircuit netlist) where
+  -- a node and the wires from it
+  pub around-node : (node : ℕ) → node < length netlist.names → with_readers netlist node ≡ node ∷ fan_out_of netlist node
+  around-node node inside = ap (λ (list : List ℕ). node ∷ list) (node-readers netlist circuit node inside)
+
+  pub node-once : (node : ℕ) → node < length netlist.names → IsRepeatFree (node ∷ fan_out_of netlist node)
+  node-once node inside = (
+    false_from_ne_true (is_listed (fan_out_of netlist node) node) (λ there. let above = fan-above netlist node node there in omega (arith, above, inside)),
+    fan-once netlist node,
+  )
+
+  -- a wire and its gate
+  pub around-wire : (gate wire : ℕ) → IsWireInto (network_of netlist) gate wire → length netlist.names ≤ wire → wire < length (network_of netlist) → with_readers netlist wire ≡ wire ∷ gate ∷ []
+  around-wire gate wire into above below =
+      let few : wire < variable_count netlist = omega (arith, below, length-network_of netlist circuit) in
+      let named = gate-named netlist circuit gate wire into in
+      ap (λ (list : List ℕ). wire ∷ list) (wire-readers netlist circuit wire above few ∙ ap (λ (g : ℕ). g ∷ []) named)
+
+  -- the variables around a variable are each there once
+  pub around-once : (var : ℕ) → var < length (network_of netlist) → IsRepeatFree (with_readers netlist var)
+  around-once var below = elim (cases_lt var (length netlist.names)) [
+    | inl node ↦ subst IsRepeatFree (sym (around-node var node)) (node-once var node)
+    | inr above ↦ (
+        let few : var < variable_count netlist = omega (arith, below, length-network_of netlist circuit) in
+        let wire = get_or (wires_of netlist) (var - length netlist.names) no_wire in
+        let into = named-into netlist circuit var wire.gate wire.pin wire.source above few (variable_kinds-wire netlist var circuit above few) in
+        let gate = (is_gate_of netlist circuit wire.gate into.kind into.first into.pins into.driven).is_gate.1 in
+        let apart : var ≢ wire.gate = λ same. omega (arith, same, gate, above) in
+        subst IsRepeatFree (sym (around-wire wire.gate var into above below)) (listed-other var wire.gate [] apart, (refl, tt))
+        )
+  ]
+
+  -- and are variables
+  pub around-inside : (var : ℕ) → var < length (network_of netlist) → All (λ i. i < length (network_of netlist)) (with_readers netlist var)
+  around-inside var below = All-cons (λ (i : ℕ). i < length (network_of netlist)) var (readers_of netlist var) below (readers-inside netlist circuit var below)
+
+  pub node-inside : (node : ℕ) → node < length netlist.names → All (λ i. i < length (network_of netlist)) (node ∷ fan_out_of netlist node)
+  node-inside node inside = subst (All (λ i. i < length (network_of netlist))) (around-node node inside) (around-inside node (omega (arith, inside, length-network_of netlist circuit)))

@@ -1,0 +1,68 @@
+-- The present state of a network as a replayer keeps it, and what is counted of it.
+use Rattle.std.specs.Prelude.{◌≡◌, ℕ, ◌+◌, ◌<◌, ◌≤◌, Bool, true, List, ◌∷◌, length, fold, count_by, slice_set, slice_index_or, IsTrue, nat_lt, if◌then◌else◌}
+use Rattle.std.specs.List.{range_with_len}
+use Rattle.hz_core.specs.declared.kind.Kind.{Kind}
+use Rattle.hz_core.specs.Gate.{takes}
+use Rattle.hz_core.specs.Netlist.{Netlist, IsCircuit, IsWhole, IsGateNumber, gate_at}
+use Rattle.hz_net.specs.Network.{External, Function, Source, network_of, driver_at, bit_at}
+use Rattle.hz_net.specs.Variables.{first_wire, fan_out_of}
+use Rattle.hz_net.specs.Reads.{IsWireInto, readers_of}
+use Rattle.hz_net.specs.declared.variable.VarKind.{VarKind}
+use Rattle.hz_net.specs.declared.variable.VarKind.TheVariants.{Input, Gate as GateVariable, Wire as WireVariable}
+use Rattle.hz_gmw.specs.Instability.{is_unstable, unstable_count}
+use Rattle.hz_gmw.specs.declared.present.Present.{Present}
+
+-- How a variable is driven by what it is: an input by its place, a gate by its function of its own wires, a wire by its source.
+-- All of these are there, and a wire goes into its gate.
+abbrev pub IsKindAt : Netlist → ℕ → VarKind → Type 0
+IsKindAt netlist var (Input number) =
+    (driver_at (network_of netlist) var ≡ External number) × (number < netlist.inputs) × (var < length netlist.names)
+IsKindAt netlist var (GateVariable kind) =
+    (driver_at (network_of netlist) var ≡ Function kind (first_wire netlist var) (length (gate_at netlist var).sources))
+    × IsGateNumber netlist var
+    × (first_wire netlist var + length (gate_at netlist var).sources ≤ length (network_of netlist))
+    × IsTrue (takes kind (length (gate_at netlist var).sources))
+IsKindAt netlist var (WireVariable gate pin source) =
+    (driver_at (network_of netlist) var ≡ Source source) × (source < length netlist.names)
+    × IsWireInto (network_of netlist) gate var × (gate < length netlist.names) × (length netlist.names ≤ var)
+
+-- one bit for each input and each variable of a whole circuit, and two counts for each node
+pub record Fits (netlist : Netlist) (present : Present) : Type 0 where
+  pub circuit : IsCircuit netlist
+  pub whole : IsWhole netlist
+  pub input : length present.input.items ≡ netlist.inputs
+  pub state : length present.state.items ≡ length (network_of netlist)
+  pub ones : length present.ones.items ≡ length netlist.names
+  pub wires : length present.unstable_wires.items ≡ length netlist.names
+
+-- What is counted of a state: how many wires of each gate are 1, and how many of the wires from each node are unstable.
+pub record AreCounts (netlist : Netlist) (input state : List Bool) (at_one lagging : List ℕ) : Type 0 where
+  pub ones : (gate : ℕ) (kind : Kind) (first pins : ℕ) → driver_at (network_of netlist) gate ≡ Function kind first pins → slice_index_or at_one gate 0 ≡ count_by (bit_at state) (range_with_len first pins)
+  pub wires : (node : ℕ) → node < length netlist.names → slice_index_or lagging node 0 ≡ count_by (is_unstable (network_of netlist) input state) (fan_out_of netlist node)
+
+-- the counts of nodes are right
+pub record IsCounted (netlist : Netlist) (present : Present) : Type 0 where
+  pub fits : Fits netlist present
+  pub counts : AreCounts netlist present.input.items present.state.items present.ones.items present.unstable_wires.items
+
+-- and so is the count of all unstable variables
+pub record IsExact (netlist : Netlist) (present : Present) : Type 0 where
+  pub counted : IsCounted netlist present
+  pub unstable : present.unstable ≡ unstable_count (network_of netlist) present.input.items present.state.items
+
+-- a variable and those that read it: what may become stable or unstable when it changes
+abbrev pub with_readers : Netlist → ℕ → List ℕ
+with_readers netlist var = var ∷ readers_of netlist var
+
+-- how many variables are unstable among a node and the wires from it; a wire counts with its node
+abbrev pub unstable_from : Netlist → List Bool → List Bool → ℕ → ℕ
+unstable_from netlist input state var =
+    if nat_lt var (length netlist.names) then count_by (is_unstable (network_of netlist) input state) (var ∷ fan_out_of netlist var) else 0
+
+-- marks with those of a list set
+abbrev pub with_marks : List Bool → List ℕ → List Bool
+with_marks marks list = fold (λ marks var. slice_set marks var true) marks list
+
+-- a state in which listed variables have the values that they have in another
+abbrev pub with_bits_of : List Bool → List Bool → List ℕ → List Bool
+with_bits_of given state list = fold (λ state var. slice_set state var (bit_at given var)) state list

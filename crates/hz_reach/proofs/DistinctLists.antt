@@ -1,0 +1,109 @@
+-- Lists of variables that name none twice, and the state after steps of which none changes a variable again.
+use Rattle.std.proofs.Common.{◌≡◌, ℕ, ◌<◌, ◌≤◌, ◌⊎◌, Bool, true, false, not, cond, ◌||◌, List, [], ◌∷◌, ◌++◌, length, refl, sym, ap, ◌∙◌, subst, arith, inl, inr, eqb}
+use Rattle.std.specs.List.{concat, AllByRecursion, IsDistinct}
+use Rattle.std.proofs.lemmas.Bool.{cases_Bool, or_cases, or_parts, or_from, or_left, or_right, both_ways, eqb-true, eq-eqb}
+use Rattle.std.proofs.lemmas.List.Folds.{list_any-append}
+use Rattle.std.proofs.lemmas.List.Sums.{sum_by-cons}
+use Rattle.std.proofs.lemmas.Map.Steps.{length-le_from_distinct_below}
+use Rattle.hz_net.specs.Network.{Driver, bit_at}
+use Rattle.hz_gmw.specs.Runs.{is_listed, IsRepeatFree, state_after, IsRun, end_of}
+use Rattle.hz_reach.specs.Spread.{changes_in}
+use Rattle.hz_gmw.proofs.Flips.{length-state_after, at-state_after}
+
+-- what is listed in two lists together
+pub listed-append : (xs ys : List ℕ) (i : ℕ) → is_listed (xs ++ ys) i ≡ (is_listed xs i || is_listed ys i)
+listed-append xs ys i = list_any-append (eqb i) xs ys
+
+pub listed-cases : (xs ys : List ℕ) (i : ℕ) → is_listed (xs ++ ys) i ≡ true → (is_listed xs i ≡ true) ⊎ (is_listed ys i ≡ true)
+listed-cases xs ys i there = or_cases _ _ (sym (listed-append xs ys i) ∙ there)
+
+pub listed-left : (xs ys : List ℕ) (i : ℕ) → is_listed xs i ≡ true → is_listed (xs ++ ys) i ≡ true
+listed-left xs ys i there = listed-append xs ys i ∙ or_left _ _ there
+
+pub listed-right : (xs ys : List ℕ) (i : ℕ) → is_listed ys i ≡ true → is_listed (xs ++ ys) i ≡ true
+listed-right xs ys i there = listed-append xs ys i ∙ or_right _ _ there
+
+pub unlisted-append : (xs ys : List ℕ) (i : ℕ) → is_listed xs i ≡ false → is_listed ys i ≡ false → is_listed (xs ++ ys) i ≡ false
+unlisted-append xs ys i left right = listed-append xs ys i ∙ or_from _ _ left right
+
+pub unlisted-parts : (xs ys : List ℕ) (i : ℕ) → is_listed (xs ++ ys) i ≡ false → (is_listed xs i ≡ false) × (is_listed ys i ≡ false)
+unlisted-parts xs ys i out = or_parts _ _ (sym (listed-append xs ys i) ∙ out)
+
+-- two lists that share no variable
+abbrev pub AreApart : List ℕ → List ℕ → Type 0
+AreApart xs ys = (i : ℕ) → is_listed xs i ≡ true → is_listed ys i ≡ false
+
+listed-head : (x : ℕ) (xs : List ℕ) → is_listed (x ∷ xs) x ≡ true
+listed-head x xs = or_left (eqb x x) (is_listed xs x) (eq-eqb x x refl)
+
+pub is_repeat_free-append : (xs ys : List ℕ) → IsRepeatFree xs → IsRepeatFree ys → AreApart xs ys → IsRepeatFree (xs ++ ys)
+is_repeat_free-append [] ys left right apart = right
+is_repeat_free-append (x ∷ xs) ys left right apart =
+    (unlisted-append xs ys x left.0 (apart x (listed-head x xs)), is_repeat_free-append xs ys left.1 right (λ i there. apart i (or_right _ _ there)))
+
+pub is_repeat_free-right : (xs ys : List ℕ) → IsRepeatFree (xs ++ ys) → IsRepeatFree ys
+is_repeat_free-right [] ys whole = whole
+is_repeat_free-right (x ∷ xs) ys whole = is_repeat_free-right xs ys whole.1
+
+-- the parts of a list that names none twice share no variable
+pub is_repeat_free-apart : (xs ys : List ℕ) → IsRepeatFree (xs ++ ys) → AreApart xs ys
+is_repeat_free-apart [] ys whole i there = absurd (both_ways false refl there)
+is_repeat_free-apart (x ∷ xs) ys whole i there =
+    elim (or_cases _ _ there) [
+      | inl same ↦ subst (λ (n : ℕ). is_listed ys n ≡ false) (sym (eqb-true i x same)) (unlisted-parts xs ys x whole.0).1
+      | inr later ↦ is_repeat_free-apart xs ys whole.1 i later
+    ]
+
+-- a list of variables below a number that names none twice is no longer than the number
+distinct-from : (x : ℕ) (xs : List ℕ) → is_listed xs x ≡ false → AllByRecursion (λ y. eqb x y ≡ false) xs
+distinct-from x [] out = tt
+distinct-from x (y ∷ ys) out = let parts = or_parts _ _ out in (parts.0, distinct-from x ys parts.1)
+
+distinct : (xs : List ℕ) → IsRepeatFree xs → IsDistinct eqb xs
+unfolding IsDistinct
+distinct [] once = tt
+distinct (x ∷ xs) once = (distinct-from x xs once.0, distinct xs once.1)
+
+pub is_repeat_free-bound : (xs : List ℕ) (n : ℕ) → IsRepeatFree xs → ((i : ℕ) → is_listed xs i ≡ true → i < n) → length xs ≤ n
+is_repeat_free-bound xs n once inside = length-le_from_distinct_below xs n (distinct xs once) inside
+
+-- a bit that changes at most once
+changed-twice : (left right both bit : Bool) → both ≡ (left || right) → (left ≡ true → right ≡ false) → cond right (not (cond left (not bit) bit)) (cond left (not bit) bit) ≡ cond both (not bit) bit
+changed-twice true true both bit e apart = absurd (both_ways true (apart refl) refl)
+changed-twice true false both bit e apart = rw e refl
+changed-twice false true both bit e apart = rw e refl
+changed-twice false false both bit e apart = rw e refl
+
+-- the bits after steps of which none changes a variable again: those of the variables that some step changed are complemented
+pub at-end_of : (steps : List (List ℕ)) (state : List Bool) (i : ℕ) → IsRepeatFree (concat steps) → i < length state → bit_at (end_of state steps) i ≡ cond (is_listed (concat steps) i) (not (bit_at state i)) (bit_at state i)
+at-end_of [] state i once inside = refl
+at-end_of (flips ∷ steps) state i once inside =
+    let later = at-end_of steps (state_after flips state) i (is_repeat_free-right flips (concat steps) once) (subst (λ (n : ℕ). i < n) (sym (length-state_after flips state)) inside) in
+    later
+    ∙ (ap (λ (b : Bool). cond (is_listed (concat steps) i) (not b) b) (at-state_after flips state i inside)
+    ∙ changed-twice (is_listed flips i) (is_listed (concat steps) i) (is_listed (flips ++ concat steps) i) (bit_at state i) (listed-append flips (concat steps) i) (is_repeat_free-apart flips (concat steps) once i))
+
+-- what a run changes are variables
+pub listed-inside : (net : List Driver) (input : List Bool) (steps : List (List ℕ)) (state : List Bool) (i : ℕ) → IsRun net input state steps → is_listed (concat steps) i ≡ true → i < length net
+listed-inside net input [] state i run there = absurd (both_ways false refl there)
+listed-inside net input (flips ∷ steps) state i run there =
+    elim (listed-cases flips (concat steps) i there) [
+      | inl here ↦ run.0.inside i here
+      | inr later ↦ listed-inside net input steps (state_after flips state) i run.1 later
+    ]
+
+-- how often a run changes a variable that no step lists, and one that one step lists
+pub changes-unlisted : (steps : List (List ℕ)) (i : ℕ) → is_listed (concat steps) i ≡ false → changes_in steps i ≡ 0
+changes-unlisted [] i out = refl
+changes-unlisted (flips ∷ steps) i out =
+    let parts = unlisted-parts flips (concat steps) i out in
+    sum_by-cons (λ (list : List ℕ). cond (is_listed list i) 1 0) flips steps ∙ rw parts.0 (omega (arith, changes-unlisted steps i parts.1))
+
+pub changes-listed : (steps : List (List ℕ)) (i : ℕ) → IsRepeatFree (concat steps) → is_listed (concat steps) i ≡ true → changes_in steps i ≡ 1
+changes-listed [] i once there = absurd (both_ways false refl there)
+changes-listed (flips ∷ steps) i once there =
+    sum_by-cons (λ (list : List ℕ). cond (is_listed list i) 1 0) flips steps
+    ∙ elim (cases_Bool (is_listed flips i)) [
+      | inl here ↦ rw here (omega (arith, changes-unlisted steps i (is_repeat_free-apart flips (concat steps) once i here)))
+      | inr out ↦ rw out (omega (arith, changes-listed steps i (is_repeat_free-right flips (concat steps) once) (elim (listed-cases flips (concat steps) i there) [ inl here ↦ absurd (both_ways _ out here) | inr later ↦ later ])))
+    ]

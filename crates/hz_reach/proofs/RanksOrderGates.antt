@@ -1,0 +1,174 @@
+-- Where the start is stable under some input, the ranks of Algorithm A say what turns and when.
+use Rattle.std.proofs.Common.{◌≡◌, ◌≢◌, ℕ, suc, ◌+◌, ◌<◌, ◌≤◌, Bool, true, false, not, List, length, refl, sym, ap, ◌∙◌, subst, arith, inl, inr, IsTrue}
+use Rattle.std.specs.Prelude.{slice_range}
+use Rattle.std.proofs.lemmas.Bool.{cases_lt}
+use Rattle.std.proofs.lemmas.List.{get_or_past}
+use Rattle.hz_core.specs.declared.tri.Tri.{Tri}
+use Rattle.hz_core.specs.declared.tri.Tri.TheVariants.{Zero, One, Unknown}
+use Rattle.hz_core.specs.declared.kind.Kind.{Kind}
+use Rattle.hz_core.specs.Ternary.{tri_of, admits, join_of, IsJoinOf}
+use Rattle.hz_core.specs.Extension.{extension, IsValueOver}
+use Rattle.hz_core.proofs.Refinements.{known-admits, length-Refines, get_or-Refines}
+use Rattle.hz_core.proofs.Extensions.{IsExtension-extension}
+use Rattle.hz_net.specs.Network.{Driver, External, Function, Source, driver_at, bit_at, value_at, driver_value, driver_value3, IsStable}
+use Rattle.hz_net.specs.Reads.{IsWireInto, IsWired}
+use Rattle.hz_net.specs.Passes.{algorithm_a, AreRounds, IsFirstRound, IsUnknown, IsRank, AreRanks}
+use Rattle.hz_net.proofs.PartLemmas.{length-part, at-part}
+use Rattle.hz_net.proofs.Sequences.{length-algorithm_a}
+use Rattle.hz_net.proofs.Ranks.{unknown-later, unknown-or-start, one-round, at-tri_of, turns-before-rank}
+use Rattle.hz_reach.specs.Order.{key_at}
+use Rattle.hz_reach.proofs.StateParts.{driver-inside}
+use Rattle.hz_reach.proofs.TurnsByRank.{IsChangedBy, IsChangedAfter, AreTurns}
+
+not-itself : (bit : Bool) → not bit ≢ bit
+not-itself false e = cc
+not-itself true e = cc
+
+-- a bit that a join admits is in its set
+in-set : (set : Bool → Type 0) (value : Tri) (bit : Bool) → IsJoinOf set value → IsTrue (admits value bit) → set bit
+in-set set Zero false join there = join.0
+in-set set Zero true join there = cc
+in-set set One false join there = cc
+in-set set One true join there = join.0
+in-set set Unknown false join there = join.0
+in-set set Unknown true join there = join.1
+
+-- the join of two bits that differ
+join-differ : (here there : Bool) → here ≢ there → join_of (tri_of here) (tri_of there) ≡ Unknown
+join-differ false false differ = absurd (differ refl)
+join-differ false true differ = refl
+join-differ true false differ = refl
+join-differ true true differ = absurd (differ refl)
+
+-- a rank that is not 0
+ranked-value : (sequence : ℕ → List Tri) (i : ℕ) (value : Tri) (rank : ℕ) → IsRank sequence i value rank → rank ≢ 0 → (value ≡ Unknown) × IsFirstRound sequence i IsUnknown rank
+ranked-value sequence i Zero rank is some = absurd (some is)
+ranked-value sequence i One rank is some = absurd (some is)
+ranked-value sequence i Unknown rank is some = (refl, is)
+
+module _ (net : List Driver) (input old start : List Bool) (rounds : ℕ) (ranks : List ℕ) (wired : IsWired net) (long : length start ≡ length net) (stable : IsStable net old start) (are : AreRounds (algorithm_a net input start) rounds) (ranked : AreRanks (algorithm_a net input start) (algorithm_a net input start rounds) ranks) where
+  long_result : length (algorithm_a net input start rounds) ≡ length net
+  long_result = length-algorithm_a net input start long rounds
+
+  -- what has a rank is a variable
+  rank-inside : (i : ℕ) → key_at ranks i ≢ 0 → i < length net
+  rank-inside i some = elim (cases_lt i (length net)) [
+    | inl inside ↦ inside
+    | inr past ↦ absurd (some (get_or_past ranks i 0 (omega (arith, ranked.long, long_result))))
+  ]
+
+  rank-value : (i : ℕ) → key_at ranks i ≢ 0 → (value_at (algorithm_a net input start rounds) i ≡ Unknown) × IsFirstRound (algorithm_a net input start) i IsUnknown (key_at ranks i)
+  rank-value i some =
+      let inside : i < length net = rank-inside i some in
+      ranked-value (algorithm_a net input start) i (value_at (algorithm_a net input start rounds) i) (key_at ranks i) (ranked.each i (omega (arith, long_result))) some
+
+  -- what has a rank is X in the result
+  pub unknown-ranked : (i : ℕ) → key_at ranks i ≢ 0 → value_at (algorithm_a net input start rounds) i ≡ Unknown
+  unknown-ranked i some = (rank-value i some).0
+
+  unknown-inside : (i : ℕ) → value_at (algorithm_a net input start rounds) i ≡ Unknown → i < length net
+  unknown-inside i is = elim (cases_lt i (length net)) [
+    | inl inside ↦ inside
+    | inr past ↦ (let none : value_at (algorithm_a net input start rounds) i ≡ Zero = get_or_past (algorithm_a net input start rounds) i Zero (omega (arith, past, long_result)) in cc)
+  ]
+
+  unknown-first : (i : ℕ) → value_at (algorithm_a net input start rounds) i ≡ Unknown → IsFirstRound (algorithm_a net input start) i IsUnknown (key_at ranks i)
+  unknown-first i is =
+      subst (λ (v : Tri). IsRank (algorithm_a net input start) i v (key_at ranks i)) is (ranked.each i (let inside : i < length net = unknown-inside i is in omega (arith, long_result)))
+
+  -- what is X in the result has a rank
+  pub ranked-unknown : (i : ℕ) → value_at (algorithm_a net input start rounds) i ≡ Unknown → key_at ranks i ≢ 0
+  ranked-unknown i is =
+      let before = turns-before-rank net input start i (key_at ranks i) long (unknown-inside i is) (unknown-first i is) in
+      let more : key_at ranks i ≡ suc before.0 = before.1 in
+      omega arith
+
+  -- what is X in a round has a rank, which is no later
+  rank-early : (i round : ℕ) → round ≤ rounds → value_at (algorithm_a net input start round) i ≡ Unknown → (key_at ranks i ≢ 0) × (key_at ranks i ≤ round)
+  rank-early i round early is =
+      let last : value_at (algorithm_a net input start rounds) i ≡ Unknown = unknown-later net input start long i round rounds early is in (
+        ranked-unknown i last,
+        elim (cases_lt round (key_at ranks i)) [
+          | inl later ↦ absurd ((unknown-first i last).least round later is)
+          | inr no_later ↦ no_later
+        ],
+      )
+
+  -- a rank is among the rounds
+  pub rank-late : (i : ℕ) → key_at ranks i ≢ 0 → key_at ranks i ≤ rounds
+  rank-late i some = elim (cases_lt rounds (key_at ranks i)) [
+    | inl later ↦ absurd ((rank-value i some).1.least rounds later (rank-value i some).0)
+    | inr no_later ↦ no_later
+  ]
+
+  turns-input : (i place : ℕ) → driver_at net i ≡ External place → key_at ranks i ≢ 0 → bit_at start i ≢ bit_at input place
+  turns-input i place drives some same =
+      let before = turns-before-rank net input start i (key_at ranks i) long (rank-inside i some) (rank-value i some).1 in
+      not-itself (bit_at start i)
+      (known-admits (bit_at input place) (not (bit_at start i)) (subst (λ (d : Driver). IsTrue (admits (driver_value3 input (algorithm_a net input start before.0) d) (not (bit_at start i)))) drives before.2.drives) ∙ sym same)
+
+  ranked-input : (i place : ℕ) → i < length net → driver_at net i ≡ External place → bit_at start i ≢ bit_at input place → key_at ranks i ≢ 0
+  ranked-input i place inside drives differ =
+      let first : value_at (algorithm_a net input start 1) i ≡ Unknown =
+      one-round net input start long i 0 inside
+      ∙ (ap (λ (d : Driver). join_of (value_at (algorithm_a net input start 0) i) (driver_value3 input (algorithm_a net input start 0) d)) drives
+      ∙ (ap (λ (v : Tri). join_of v (tri_of (bit_at input place))) (at-tri_of start i) ∙ join-differ (bit_at start i) (bit_at input place) differ)) in
+      ranked-unknown i (unknown-later net input start long i 1 rounds are.some first)
+
+  -- a variable that a bit other than its start's refines is X
+  differs-unknown : (i round : ℕ) (bit : Bool) → IsTrue (admits (value_at (algorithm_a net input start round) i) bit) → bit ≢ bit_at start i → value_at (algorithm_a net input start round) i ≡ Unknown
+  differs-unknown i round bit admitted differ =
+      elim (unknown-or-start net input start long i round) [
+        | inl is ↦ is
+        | inr known ↦ absurd (differ (known-admits (bit_at start i) bit (subst (λ (v : Tri). IsTrue (admits v bit)) known admitted)))
+      ]
+
+  turns-wire : (i source : ℕ) → driver_at net i ≡ Source source → key_at ranks i ≢ 0 → IsChangedAfter start ranks i source
+  turns-wire i source drives some =
+      let same : bit_at start i ≡ bit_at start source = stable i (rank-inside i some) ∙ ap (driver_value old start) drives in
+      let before = turns-before-rank net input start i (key_at ranks i) long (rank-inside i some) (rank-value i some).1 in
+      let next : key_at ranks i ≡ suc before.0 = before.1 in
+      let admitted : IsTrue (admits (value_at (algorithm_a net input start before.0) source) (not (bit_at start i))) =
+      subst (λ (d : Driver). IsTrue (admits (driver_value3 input (algorithm_a net input start before.0) d) (not (bit_at start i)))) drives before.2.drives in
+      let unknown : value_at (algorithm_a net input start before.0) source ≡ Unknown =
+      differs-unknown source before.0 (not (bit_at start i)) admitted (λ e. not-itself (bit_at start i) (e ∙ sym same)) in
+      let early = rank-early source before.0 (omega (arith, next, rank-late i some)) unknown in
+      record { some = early.0; less = omega (arith, next, early.1); same = same }
+
+  turns-gate : (i : ℕ) (kind : Kind) (first pins : ℕ) → driver_at net i ≡ Function kind first pins → key_at ranks i ≢ 0 → (pattern : List Bool) × IsChangedBy start ranks i kind first pins pattern
+  turns-gate i kind first pins drives some =
+      let before = turns-before-rank net input start i (key_at ranks i) long (rank-inside i some) (rank-value i some).1 in
+      let next : key_at ranks i ≡ suc before.0 = before.1 in
+      let state = algorithm_a net input start before.0 in
+      let part = slice_range state first (first + pins) in
+      let inside : (k : ℕ) → k < pins → first + k < length state =
+      λ k few. (
+      let into : IsWireInto net i (first + k) = record { kind = kind; first = first; pins = pins; driven = drives; above = omega arith; below = omega (arith, few) } in
+      let from = wired.source i (first + k) into in
+      omega (arith, driver-inside net (first + k) from.0 from.1, length-algorithm_a net input start long before.0)
+      ) in
+      let admitted : IsTrue (admits (extension kind part) (not (bit_at start i))) =
+      subst (λ (d : Driver). IsTrue (admits (driver_value3 input state d) (not (bit_at start i)))) drives before.2.drives in
+      let value : IsValueOver kind part (not (bit_at start i)) =
+      in-set (IsValueOver kind part) (extension kind part) (not (bit_at start i)) (IsExtension-extension kind part) admitted in (
+        value.0,
+        record {
+          long = length-Refines value.0 part value.1 ∙ length-part state first pins inside;
+          value = value.2;
+          free = λ pin few differ.
+              let here : IsTrue (admits (value_at state (first + pin)) (bit_at value.0 pin)) =
+              subst (λ (v : Tri). IsTrue (admits v (bit_at value.0 pin))) (at-part state first pins pin Zero few) (get_or-Refines value.0 part value.1 pin) in
+              let early = rank-early (first + pin) before.0 (omega (arith, next, rank-late i some)) (differs-unknown (first + pin) before.0 (bit_at value.0 pin) here differ) in
+              (early.0, omega (arith, next, early.1));
+        },
+      )
+
+  pub ranked-turns : AreTurns net input start ranks
+  ranked-turns = record {
+    long = long;
+    inside = rank-inside;
+    inputs = turns-input;
+    ranked = ranked-input;
+    wires = turns-wire;
+    gates = turns-gate;
+  }
