@@ -311,7 +311,7 @@ pub printed-faultless : (netlist : Netlist) → IsCircuit netlist → IsWhole ne
 printed-faultless netlist circuit whole =
     faultless netlist.names (netlist_text netlist) (statements_for netlist) (printed-IsReadAs netlist circuit whole) (statements_sound netlist circuit whole) (nodes_define netlist circuit whole) circuit.names_distinct (omega (arith, nodes_count netlist circuit whole, circuit.variables))
 
--- so what is answered in place of its circuit is want of memory
+-- so what is answered in place of its circuit is that memory ran out
 pub memory_alone : (text : List ℕ) (fault : BenchFault) → IsFaultless text → IsNetlistRefusal text fault → fault ≡ Memory
 memory_alone text (Form line) none h = absurd (none (Form line) h.stands)
 memory_alone text (Name line) none h = absurd (none (Name line) h.stands)

@@ -14,7 +14,7 @@ prefix_of name = take (length name - 1) name
 abbrev pub last_byte_of : List ℕ → ℕ
 last_byte_of name = slice_index_or name (length name - 1) 0
 
--- 32 bits of a hash of the front, the lowest eight of them with the last byte
+-- 32 bits of a hash of the prefix, the lowest eight of them with the last byte
 abbrev pub mixed_hash : ℕ → ℕ → ℕ
 mixed_hash front last = bit_and (bit_xor (bit_xor front (front / 2 ^ 32)) last) 0xFFFF_FFFF
 

@@ -66,7 +66,7 @@ waits-end : (net : List Driver) (input state : List Bool) (steps : List (List �
 waits-end net input state [] i bit waits = waits.0
 waits-end net input state (flips ∷ steps) i bit waits = waits-end net input (state_after flips state) steps i bit waits.1
 
--- and along its front
+-- and along its prefix
 waits-front : (net : List Driver) (input state : List Bool) (steps more : List (List ℕ)) (i : ℕ) (bit : Bool) → WaitsAt net input state (steps ++ more) i bit → WaitsAt net input state steps i bit
 waits-front net input state [] [] i bit waits = waits
 waits-front net input state [] (flips ∷ more) i bit waits = (waits.0, tt)

@@ -11,7 +11,7 @@ use std::marker::Model;
 /// A run by its steps, without the state in which it begins. Each step is the list of the variables that change in it at
 /// once, in the general multiple-winner model of Brzozowski and Seger.
 ///
-/// Room for steps can be made before they are known, so that a search which is under way never meets want of memory.
+/// Room for steps can be made before they are known, so a search that has begun never runs out of memory.
 #[derive(Debug, Drop)]
 pub struct Run {
     // The variables of all steps, one step after the other, and where each step ends.

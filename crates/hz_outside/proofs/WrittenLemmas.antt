@@ -13,12 +13,12 @@ pub extended_text-told : (text more : List ℕ) → extended_text (Some text) mo
 unfolding extended_text
 extended_text-told text more = refl
 
--- a text that is not told grew by any front
+-- a text that is not told grew by any prefix
 pub GrewByPrefix-untold : (piece : List ℕ) → GrewByPrefix None piece None
 unfolding extended_text
 GrewByPrefix-untold piece = record { front = piece; rest = []; parts = append-nil piece; grew = refl }
 
--- the first bytes of a piece are a front of it
+-- the first bytes of a piece are a prefix of it
 pub GrewByPrefix-take : (text piece : List ℕ) (taken : ℕ) → GrewByPrefix (Some text) piece (Some (text ++ take taken piece))
 unfolding extended_text
 GrewByPrefix-take text piece taken = record {

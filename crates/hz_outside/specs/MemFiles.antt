@@ -35,7 +35,7 @@ pub record GivesFile (old : MemState) (name : List ℕ) (most : ℕ) (bytes : Li
   pub short : length bytes ≤ most
   pub after : new ≡ state_after_call old
 
--- a load gave no file: the listed calls fail, a longer file is too long, and want of memory is free
+-- a load gave no file: the listed calls fail, a longer file is too long, and memory may run out at any call
 abbrev pub GivesNoFile : MemState → Place → List ℕ → ℕ → LoadFault → MemState → Type 0
 GivesNoFile old place name most Failed new =
     (fails_next old ≡ true) × (new ≡ record (state_after_call old) { faults = counts_after old.faults place })

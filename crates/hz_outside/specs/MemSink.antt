@@ -33,7 +33,7 @@ taken_next state = taken_at state.failing (count_after state.calls)
 abbrev pub put_by : SinkState → List ℕ → SinkState
 put_by state more = record state { bytes = state.bytes ++ more; calls = count_after state.calls }
 
--- a put that gave no success: the listed calls fail after what they take, and want of memory is free
+-- a put that gave no success: the listed calls fail after what they take, and memory may run out at any call
 abbrev pub PutsLess : SinkState → List ℕ → PutFault → SinkState → Type 0
 PutsLess old piece Failed new =
     IsSomeAnd (taken_next old) (λ taken. new ≡ record (put_by old (take taken piece)) { faults = count_after old.faults })

@@ -21,7 +21,7 @@ pub record GivesPlain (old : PlainState) (name : List ℕ) (most : ℕ) (bytes :
   pub short : length bytes ≤ most
   pub after : new ≡ old
 
--- a load gave no file: none fails, a longer file is too long, and want of memory is free
+-- a load gave no file: none fails, a longer file is too long, and memory may run out at any call
 abbrev pub GivesNoPlain : PlainState → Place → List ℕ → ℕ → LoadFault → PlainState → Type 0
 GivesNoPlain old place name most Failed new = ⊥
 GivesNoPlain old place name most TooLong new =

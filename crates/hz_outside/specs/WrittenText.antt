@@ -6,7 +6,7 @@ unfoldable pub extended_text : Option (List ℕ) → List ℕ → Option (List �
 extended_text None more = None
 extended_text (Some text) more = Some (text ++ more)
 
--- a text grew by a front of the piece, and the rest was not written
+-- a text grew by a prefix of the piece, and the rest was not written
 pub record GrewByPrefix (was : Option (List ℕ)) (piece : List ℕ) (now : Option (List ℕ)) : Type 0 where
   pub front : List ℕ
   pub rest : List ℕ

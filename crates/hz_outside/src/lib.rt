@@ -2,7 +2,7 @@
 //!
 //! | Module | What lives in it |
 //! |---|---|
-//! | `fault` | the faults of a load and of a put, the two places, want of memory |
+//! | `fault` | the faults of a load and of a put, the two places, out of memory |
 //! | `files` | the trait [`Files`]: a load gives the whole bytes of a file |
 //! | `sink` | the trait [`Sink`]: a put writes a piece |
 //! | `counts` | counts of faults, one for each place |

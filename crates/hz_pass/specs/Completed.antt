@@ -9,7 +9,7 @@ use Rattle.hz_net.specs.Starts.{IsLeastOpen, IsLeastUnstable}
 use Rattle.hz_pass.specs.declared.completed_start.StartFault.{StartFault}
 use Rattle.hz_pass.specs.declared.completed_start.StartFault.TheVariants.{Open, Unstable, Memory}
 
--- what a refusal says of the listed values: want of memory says nothing
+-- what a refusal says of the listed values: out of memory says nothing
 abbrev pub IsStartFault : Netlist → List (Option Bool) → StartFault → Type 0
 IsStartFault netlist listed (Open gate) = IsLeastOpen netlist listed gate
 IsStartFault netlist listed (Unstable gate) = IsLeastUnstable netlist listed gate

@@ -48,7 +48,7 @@ impl<'n> Sequence<'n> {
     ghost use Rattle.std.specs.Borrow.{sem};
     ghost use Rattle.hz_seq.specs.Lent.{LeavesSequence};
 
-    /// A sequence that begins at a start, which is stable under its own inputs. On want of memory the desk is dropped.
+    /// A sequence that begins at a start, which is stable under its own inputs. If memory runs out, the desk is dropped.
     pub fn new(alloc: Global, desk: Desk<'n>, start: &[bool]) -> Result<Sequence<'n>, Memory>
         requires { IsStableStart desk.netlist start.now }
         ensures { IfOk result (λ sequence. sequence ≡ record { desk = desk.entry; start = start.now; stopped = None }) }

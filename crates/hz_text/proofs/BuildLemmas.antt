@@ -111,7 +111,7 @@ assigned_bits-push pairs nodes node bit within new =
           get_or-set_other (assigned_bits pairs nodes) node i (Some bit) d ne ∙ get_or-bits pairs nodes i d l ∙ sym (assigned_bit-push_other pairs node i bit ne) ∙ sym (get_or-bits (pairs ++ (node, bit) ∷ []) nodes i d l)
     ])
 
--- no node of a front is that of the pair after it
+-- no node of a prefix is that of the pair after it
 pub new_at : (pairs : List (ℕ × Bool)) (i : ℕ) (d : ℕ × Bool) → i < length pairs → has_repeat nat_eq (map (λ pair. pair.0) pairs) ≡ false → list_any (nat_eq ((get_or pairs i d).0)) (map (λ pair. pair.0) (take i pairs)) ≡ false
 new_at pairs i d l h =
     let front = map (λ (pair : ℕ × Bool). pair.0) (take i pairs) in

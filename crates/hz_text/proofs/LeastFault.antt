@@ -218,7 +218,7 @@ least-unique stands fault other one a b =
           )
     ]
 
--- the answer is the least fault, or want of memory
+-- the answer is the least fault, or memory ran out
 pub exact : (stands : TextFault → Type 0) (fault other : TextFault) → OneMismatch stands → IsLeastFaultOrMemory stands fault → IsLeastFaultOf stands other → (fault ≡ other) ⊎ (fault ≡ Memory)
 exact stands fault other one (inl memory) least = inr memory
 exact stands fault other one (inr h) least = inl (least-unique stands fault other one h least)

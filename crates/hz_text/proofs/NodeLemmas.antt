@@ -107,7 +107,7 @@ has_repeat-push (x ∷ xs) y =
     shuffle false true false d = refl
     shuffle false false c d = refl
 
--- a repeat in a front is one in the whole
+-- a repeat in a prefix is one in the whole
 pub has_repeat-append : (xs ys : List ℕ) → has_repeat nat_eq xs ≡ true → has_repeat nat_eq (xs ++ ys) ≡ true
 has_repeat-append [] ys h = cc
 has_repeat-append (x ∷ xs) ys h =

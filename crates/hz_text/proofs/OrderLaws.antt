@@ -468,7 +468,7 @@ stops-out statements line stops = record {
   stops = stopped (statements_without_lines (stops.before ++ stops.last ∷ [])) stops.broken;
 }
 
--- what comes after a broken front is broken
+-- what comes after a broken prefix is broken
 front-broken : (statements front rest : List (Numbered ResolvedRunStatement)) → statements ≡ front ++ rest → verdict (statements_without_lines front) ≡ Broken → verdict (statements_without_lines statements) ≡ Broken
 front-broken statements front rest are broken =
     ap (λ those. verdict (statements_without_lines those)) are
@@ -479,7 +479,7 @@ stops-broken : (statements : List (Numbered ResolvedRunStatement)) (line : ℕ) 
 stops-broken statements line stops =
     front-broken statements (stops.before ++ stops.last ∷ []) stops.after (stops.are ∙ sym (append_assoc stops.before (stops.last ∷ []) stops.after)) stops.broken
 
--- a list that is cut at an element in two ways: at one place, or one front has the other and its element
+-- a list that is cut at an element in two ways: at one place, or one prefix has the other and its element
 abbrev HasFront : {X : Type 0} → List X → X → List X → Type 0
 HasFront front one whole = (rest : List _) × (whole ≡ (front ++ one ∷ []) ++ rest)
 

@@ -28,7 +28,7 @@ number_after-append number (digit ∷ front) digits = number_after-append (10 * 
 pub number_by-push : (digits : List ℕ) (digit : ℕ) → number_by (digits ++ digit ∷ []) ≡ 10 * number_by digits + (digit - 48)
 number_by-push digits digit = number_after-append 0 digits (digit ∷ [])
 
--- a front stands for no greater number
+-- a prefix stands for no greater number
 pub number_by-take : (digits : List ℕ) (i : ℕ) → number_by (take i digits) ≤ number_by digits
 number_by-take digits i =
     let whole : number_by digits ≡ number_after (number_by (take i digits)) (drop i digits) =

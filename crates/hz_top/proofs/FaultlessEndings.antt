@@ -98,7 +98,7 @@ asked-end : (told : Observation) (asked : Option JobOf) (job : JobOf) (wanted : 
 asked-end told asked job wanted is good own said comes =
     job-end told job wanted good own said (subst (λ (job : Option JobOf). IsJobOutcome told job own said) is comes)
 
--- and a call ends so, or for want of memory
+-- and a call ends so, or memory ran out
 pub ends-or-memory : {S : Type 0} (written : S → Option (List ℕ)) (faults : S → ℕ) (told : Observation) (asked : Option JobOf) (was now : S) (ends : Status) → Answers written faults (IsJobOutcome told asked) was now ends → (job : JobOf) (wanted : Status) → asked ≡ Some job → IsFaultlessJob told job wanted → ¬ Rose (faults was) (faults now) → (ends ≡ wanted) ⊎ (ends ≡ status.Memory)
 ends-or-memory written faults told asked was now status.Done (text, says, grew) job wanted is good quiet = inl (asked-end told asked job wanted is good status.Done text says)
 ends-or-memory written faults told asked was now status.No (text, says, grew) job wanted is good quiet = inl (asked-end told asked job wanted is good status.No text says)

@@ -81,7 +81,7 @@ IsSecondFileOutcome-before held faults longs was mid now comes name same few sho
 IsSecondFileOutcome-before held faults longs was mid now comes name same few short own text (inr (bytes, (is, most), says)) =
     inr (bytes, (subst (λ (told : Option (List ℕ → List ℕ)). IfSome told (λ bytes_of. bytes ≡ bytes_of name)) same is, most), says)
 
--- a refusal of a netlist that is not for want of memory is the least fault of its text
+-- a refusal of a netlist other than out of memory is the least fault of its text
 pub netlist-refused : (text : List ℕ) (fault : BenchFault) → netlist_fault.IsNetlistRefusal text fault → fault ≢ bench.Memory → netlist_fault.IsLeastFault text fault
 netlist-refused text (bench.Form line) least other = least
 netlist-refused text (bench.Name line) least other = least
@@ -92,7 +92,7 @@ netlist-refused text (bench.Undefined line) least other = least
 netlist-refused text (bench.TooMany variables) least other = least
 netlist-refused text bench.Memory least other = absurd (other refl)
 
--- a refusal of a text that is not for want of memory is the least of the faults that hold
+-- a refusal of a text other than out of memory is the least of the faults that hold
 pub text-refused : (holds : TextFault → Type 0) (fault : TextFault) → IsLeastFaultOrMemory holds fault → fault ≢ reading.Memory → IsLeastFaultOf holds fault
 text-refused holds fault (inl memory) other = absurd (other memory)
 text-refused holds fault (inr least) other = least

@@ -43,7 +43,7 @@ Answers-put written faults comes was now own text (Err fault.Failed) ends is say
 Answers-put written faults comes was now own text (Err fault.Memory) ends is says stops at =
     subst (Answers written faults comes was now) (sym at) (inr (own, text, says, stops.front))
 
--- nothing was written for want of memory
+-- nothing was written, since memory ran out
 pub Answers-nothing : {S : Type 0} (written : S → Option (List ℕ)) (faults : S → ℕ) (comes : Status → List ℕ → Type 0) (was now : S) → now ≡ was → Answers written faults comes was now status.Memory
 Answers-nothing written faults comes was now same = inl (ap written same)
 
@@ -51,7 +51,7 @@ Answers-nothing written faults comes was now same = inl (ap written same)
 pub WroteWhole-more : {S : Type 0} (written : S → Option (List ℕ)) (less more : Status → List ℕ → Type 0) (was now : S) (own : Status) → ((own : Status) (text : List ℕ) → less own text → more own text) → WroteWhole written less was now own → WroteWhole written more was now own
 WroteWhole-more written less more was now own up (text, says, grew) = (text, up own text says, grew)
 
--- what a front's text may be, may be more
+-- what a prefix's text may be, may be more
 pub WrotePrefix-more : {S : Type 0} (written : S → Option (List ℕ)) (less more : Status → List ℕ → Type 0) (was now : S) → ((own : Status) (text : List ℕ) → less own text → more own text) → WrotePrefix written less was now → WrotePrefix written more was now
 WrotePrefix-more written less more was now up (inl same) = inl same
 WrotePrefix-more written less more was now up (inr (own, text, says, front)) = inr (own, text, up own text says, front)

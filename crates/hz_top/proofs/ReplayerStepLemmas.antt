@@ -63,7 +63,7 @@ refused-next was now steps i flips fault below is made refused = record {
   refused = rw (made.begin.circuit, made.begin.input, made.ends) at refused;
 }
 
--- a step that is refused in the front of some steps is refused in the whole
+-- a step that is refused in a prefix of some steps is refused in the whole
 pub refused-before : (net : List Driver) (input start : List Bool) (steps more : List (List ℕ)) (number : ℕ) (fault : StepFault) → IsRefusedStep net input start steps number fault → IsRefusedStep net input start (steps ++ more) number fault
 refused-before net input start steps more number fault r = record {
   before = r.before;

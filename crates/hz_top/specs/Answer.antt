@@ -10,13 +10,13 @@ abbrev pub WroteWhole : {S : Type 0} → (S → Option (List ℕ)) → (Status �
 WroteWhole written comes was now status =
     (text : List ℕ) × comes status text × (written now ≡ extended_text (written was) text)
 
--- nothing was written, or a front of a text that comes with some status
+-- nothing was written, or a prefix of a text that comes with some status
 abbrev pub WrotePrefix : {S : Type 0} → (S → Option (List ℕ)) → (Status → List ℕ → Type 0) → S → S → Type 0
 WrotePrefix written comes was now =
     (written now ≡ written was)
     ⊎ ((status : Status) × (text : List ℕ) × comes status text × GrewByPrefix (written was) text (written now))
 
--- The status is one whose text was written, where `comes` says which text comes with which status. Otherwise a front of
+-- The status is one whose text was written, where `comes` says which text comes with which status. Otherwise a prefix of
 -- such a text was written, and the output was not taken, which its count shows, or memory ran out.
 abbrev pub Answers : {S : Type 0} → (S → Option (List ℕ)) → (S → ℕ) → (Status → List ℕ → Type 0) → S → S → Status → Type 0
 Answers written faults comes was now Done = WroteWhole written comes was now Done

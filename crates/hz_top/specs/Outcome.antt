@@ -111,21 +111,21 @@ abbrev pub observation_of : {S : Type 0} → (S → Option (List ℕ → List �
 observation_of held faults longs was now =
     record { held = held was; faults = faults was; faults_after = faults now; longs = longs was; longs_after = longs now }
 
--- what is written of a load that gave no file: for want of memory nothing
+-- what is written of a load that gave no file: nothing if memory ran out
 abbrev pub LoadPrints : Place → LoadFault → Status → List ℕ → Type 0
 LoadPrints place load.Failed own text = Prints status.File (unread_line place) own text
 LoadPrints place load.TooLong own text = Prints status.TooLong (long_line place) own text
 LoadPrints place load.Memory own text = ⊥
 
--- what is written of a fault of a netlist's text: for want of memory nothing
+-- what is written of a fault of a netlist's text: nothing if memory ran out
 abbrev pub NetlistPrints : BenchFault → Status → List ℕ → Type 0
 NetlistPrints fault own text = (fault ≢ bench.Memory) × Prints status.Netlist (netlist_fault_line fault) own text
 
--- what is written of a fault of a text that is called so: for want of memory nothing
+-- what is written of a fault of a text that is called so: nothing if memory ran out
 abbrev pub TextPrints : List ℕ → Netlist → TextFault → Status → List ℕ → Type 0
 TextPrints called netlist fault own text = (fault ≢ reading.Memory) × Prints status.Text (text_fault_line called netlist fault) own text
 
--- what is written of a start that can't be completed: for want of memory nothing
+-- what is written of a start that can't be completed: nothing if memory ran out
 abbrev pub StartPrints : Netlist → StartFault → Status → List ℕ → Type 0
 StartPrints netlist (start.Open gate) own text = Prints status.Start (open_line netlist gate) own text
 StartPrints netlist (start.Unstable gate) own text = Prints status.Start (unstable_line netlist gate) own text

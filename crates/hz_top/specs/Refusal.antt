@@ -52,7 +52,7 @@ unfoldable pub mismatch_line : List ℕ → ℕ → ℕ → ℕ → List ℕ
 mismatch_line called line told real =
     line_of (codes "refused: " ∷ called ∷ codes " line " ∷ decimal line ∷ codes ": net " ∷ decimal told ∷ codes ", not " ∷ decimal real ∷ [])
 
--- a fault of a netlist's text; for want of memory there is no line
+-- a fault of a netlist's text; if memory ran out there is no line
 abbrev pub netlist_fault_line : BenchFault → List ℕ
 netlist_fault_line (bench.Form line) = fault_line (codes "netlist") line (codes ": form")
 netlist_fault_line (bench.Name line) = fault_line (codes "netlist") line (codes ": name too long")
@@ -63,7 +63,7 @@ netlist_fault_line (bench.Undefined line) = fault_line (codes "netlist") line (c
 netlist_fault_line (bench.TooMany variables) = variables_line variables
 netlist_fault_line bench.Memory = []
 
--- a fault of a text that is called so, on a circuit; for want of memory there is no line
+-- a fault of a text that is called so, on a circuit; if memory ran out there is no line
 abbrev pub text_fault_line : List ℕ → Netlist → TextFault → List ℕ
 text_fault_line called netlist (fault.Form line) = fault_line called line (codes ": form")
 text_fault_line called netlist (fault.Unknown line) = fault_line called line (codes ": unknown name")

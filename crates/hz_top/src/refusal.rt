@@ -114,7 +114,7 @@ fn put_variables<K: Sink>(out: &mut K, variables: u32) -> Result<(), PutFault>
     )
 }
 
-// A fault of a netlist's text. For want of memory there is no line.
+// A fault of a netlist's text. If memory ran out, there is no line.
 fn put_netlist_fault<K: Sink>(out: &mut K, fault: BenchFault) -> Result<(), PutFault>
     ensures { Wrote K.written K.faults (netlist_fault_line fault) out.old out.new result }
 {
@@ -180,7 +180,7 @@ fn put_mismatch<K: Sink>(
     )
 }
 
-// A fault of a text that is called so. For want of memory there is no line.
+// A fault of a text that is called so. If memory ran out, there is no line.
 fn put_text_fault<K: Sink>(
     out: &mut K,
     called: &[u8],

@@ -38,7 +38,7 @@ taken app words rows is matches kinds =
 not_empty : (kind : ErrorKind) (kinds : Kinds) → is_empty (kind ∷ kinds) ≡ false
 not_empty kind kinds = ne_eqb _ _ (λ e. omega (arith, e))
 
--- without a fault an error is want of memory
+-- without a fault an error says that memory ran out
 no_fault : (error : Error) → HasKind [] error → kind_of error ≡ OutOfMemory
 no_fault error has = elim has [ inl memory ↦ memory | inr none ↦ absurd none ]
 

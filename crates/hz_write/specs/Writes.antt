@@ -19,7 +19,7 @@ pub record Puts {S : Type 0} (written : S → Option (List ℕ)) (faults : S →
   pub grew : written now ≡ extended_text (written was) text
   pub never_fell : faults was ≤ faults now
 
--- a front of the text was written, and a put failed only where the count rose
+-- a prefix of the text was written, and a put failed only where the count rose
 pub record Stops {S : Type 0} (written : S → Option (List ℕ)) (faults : S → ℕ) (fault : PutFault) (text : List ℕ) (was now : S) : Type 0 where
   pub front : GrewByPrefix (written was) text (written now)
   pub cause : fault ≡ Failed → Rose (faults was) (faults now)

@@ -4,7 +4,7 @@ use Rattle.hz_write.proofs.Writing.{Puts-nil}
 use Rattle.hz_top.specs.Refusal.{netlist_fault_line}
 use Rattle.hz_top.proofs.refusal.put_netlist_fault.Goals as goal
 
--- want of memory has no line
+-- out of memory has no line
 pub returns-in-Memory : goal.returns-in-Memory
 returns-in-Memory g c =
     subst (λ (text : List ℕ). Puts g.K.Sink.written g.K.Sink.faults text c.args.out.now c.args.out.now) (ap (netlist_fault_line) (sym c.in-Memory.is)) (Puts-nil c.args.out.now)

@@ -11,7 +11,7 @@ on_ok : {A E : Type 0} (P Q : Type 0) (r : Result A E) → (P → Q) → OnOk r 
 on_ok P Q (Ok _) f h = f h
 on_ok P Q (Err _) f h = h
 
--- after a put that failed, the bytes grew by a front of the piece and the count rose
+-- after a put that failed, the bytes grew by a prefix of the piece and the count rose
 record Stopped (old new : SinkState) (piece : List ℕ) : Type 0 where
   rose : Rose old.faults new.faults
   never_falls : old.faults ≤ new.faults

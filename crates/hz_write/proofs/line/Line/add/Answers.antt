@@ -1,4 +1,4 @@
--- Each turn puts what waits and the front of what is left.
+-- Each turn puts what waits and a prefix of what is left.
 use Rattle.std.proofs.Common.{◌≡◌, ◌++◌}
 use Rattle.std.proofs.lemmas.List.{take-append-drop}
 use Rattle.hz_write.proofs.Writing.{IsBuffered-start, IsBuffered-put, Stops-put, WroteBuffered-exit}
