@@ -6,10 +6,10 @@ use hz_top::{Status, run};
 use std::process::ExitCode;
 use std::{env, io};
 
-/// The exit code where memory does not hold the words.
+/// The exit code if memory does not hold the words.
 const MEMORY: u8 = 9;
 
-/// The exit code where the system gives no words that are text.
+/// The exit code if the system gives no words that are text.
 const SYSTEM: u8 = 10;
 
 fn main(rt: HostRuntime) -> ExitCode {
@@ -36,7 +36,7 @@ fn read_words(rt: &HostRuntime) -> io::Result<Vec<String>> {
     Ok(words)
 }
 
-// The exit code where the words can't be read.
+// The exit code if the words can't be read.
 fn code_of(error: &io::Error) -> u8 {
     match error.kind() {
         io::ErrorKind::OutOfMemory => MEMORY,

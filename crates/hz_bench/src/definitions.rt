@@ -77,7 +77,7 @@ impl<'a> Definitions<'a> {
         self.chains.room()
     }
 
-    // Makes room for so many names more.
+    // Makes room for that many more names.
     fn reserve(&mut self, more: usize) -> Result<(), Memory>
         ensures { OnOk result (self.new ≡ self.old) }
     {
@@ -135,7 +135,7 @@ fn hash_names(
     Ok(())
 }
 
-/// Takes room for the names of the rest of a text, where the table is full: as many to a byte as were found in what was read
+/// Takes room for the names of the rest of a text, if the table is full: as many to a byte as were found in what was read
 /// so far. So a table of a million names is made anew once or twice, and not twenty times. A table whose names collide is hashed
 /// anew.
 pub(crate) fn make_room(lines: &mut Definitions, text: &[u8], left: usize) -> Result<(), Memory>
@@ -153,7 +153,7 @@ pub(crate) fn make_room(lines: &mut Definitions, text: &[u8], left: usize) -> Re
     lines.reserve(more.max(FIRST_ROOM))
 }
 
-/// Puts the name that a statement defines into the table, or answers the line that defines it there.
+/// Puts the name that a statement defines into the table, or returns the line that defines it there.
 pub(crate) fn define<'a>(
     lines: &mut Definitions<'a>,
     entry: &Entry<'a>,

@@ -18,7 +18,7 @@ pub enum BenchFault {
     /// A name that an earlier line defines; `first` is the earliest such line.
     #[error("line {line}: defined twice, first on line {first}")]
     Twice { line: u32, first: u32 },
-    /// A gate with so many pins as its kind does not take, or a flip-flop that does not read one name.
+    /// A gate with a number of pins that its kind does not allow, or a flip-flop that does not read one name.
     #[error("line {line}: pins {count}")]
     Pins { line: u32, count: u32 },
     /// A name that no line defines.

@@ -116,7 +116,7 @@ impl Form {
     }
 }
 
-// Whether a gate of this kind does not take so many pins.
+// Whether a gate of this kind does not allow that many pins.
 fn refuses(kind: Option<Kind>, pins: usize) -> bool
     ensures { result ≡ refuses_pin_count kind pins }
 {

@@ -9,7 +9,7 @@ use crate::entry::{Entry, OutputLine};
 use crate::forms::Form;
 use crate::statement::is_long;
 
-/// A gate with so many pins as its kind does not take, or a flip-flop that does not read one name.
+/// A gate with a number of pins that its kind does not allow, or a flip-flop that does not read one name.
 #[derive(Clone, Copy, Debug)]
 pub struct WrongPins {
     pub line: u32,
@@ -81,7 +81,7 @@ impl Notes {
     }
 }
 
-// Notes the line, where it is the first to be noted.
+// Notes the line, if it is the first to be noted.
 fn note_line(first: &mut Option<u32>, here: bool, line: u32)
     ensures { first.new ≡ first_of first.old here line }
 {
@@ -90,7 +90,7 @@ fn note_line(first: &mut Option<u32>, here: bool, line: u32)
     }
 }
 
-// Notes the pins of an entry, where they are the first that are wrong.
+// Notes the pins of an entry, if they are the first that are wrong.
 fn note_pins(first: &mut Option<WrongPins>, entry: &Entry)
     ensures { first.new ≡ wrong_or first.old (numbered_of entry.now) }
 {

@@ -62,7 +62,7 @@ fn read_accepted<'a>(alloc: Global, text: &'a [u8]) -> Result<Accepted<'a>, Benc
     Ok(Accepted { statements, uses })
 }
 
-// Checks the statements, in the order of the faults, and answers the nodes that they use.
+// Checks the statements, in the order of the faults, and returns the nodes that they use.
 fn check(alloc: Global, statements: &Statements) -> Result<Uses, BenchFault>
     requires { statements.now.again ≡ None → statements.now.notes.variables ≤ 200000 → HasAllNodes statements.now }
     ensures { MatchResult result

@@ -65,7 +65,7 @@ pub(crate) fn resolve(alloc: Global, statements: &Statements) -> Result<Uses, Be
     }
 }
 
-/// The earlier of two lines, where both are there.
+/// The earlier of two lines, if both are there.
 pub(crate) fn earlier(one: Option<u32>, other: Option<u32>) -> Option<u32>
     ensures { result ≡ earlier_of_lines one other }
 {

@@ -1,7 +1,7 @@
 //! The chains of a hash table: entries that share a bucket, each linked to the one before it.
 //!
 //! Entries are numbered from 0 in the order in which they come, and known by their hashes alone. A search walks one chain, so the
-//! longest chain bounds what it costs. Hashes that are no better than chance make no long chain where there are as many buckets as
+//! longest chain bounds what it costs. Hashes that are no better than chance make no long chain if there are as many buckets as
 //! entries; one is the sign that names were chosen to collide.
 ghost use Rattle.std.specs.Prelude.{◌≡◌, ◌+◌, ◌-◌, ◌<◌, ◌≤◌, ◌^◌, ◌++◌, ◌∷◌, [], length, map, replicate, IfOk, OnOk, OnErr, slice_get};
 ghost use Rattle.std.specs.List.{slice_index_or};
@@ -11,7 +11,7 @@ use crate::Memory;
 use std::alloc::Global;
 use std::marker::Model;
 
-/// The longest chain that chance makes: with as many buckets as entries one of so many comes about less than once in 10^15 tables.
+/// The longest chain that chance makes: with as many buckets as entries one of that length arises less than once in 10^15 tables.
 const LONGEST: u32 = 24;
 
 /// How many buckets there are at first.
@@ -79,7 +79,7 @@ impl Chains {
         self.deepest > LONGEST
     }
 
-    /// Makes buckets for so many entries.
+    /// Makes buckets for that many entries.
     pub fn reserve(&mut self, entries: usize) -> Result<(), Memory>
         ensures { self.new ≡ self.old }
     {
@@ -141,7 +141,7 @@ impl Chains {
         )
     }
 
-    // Makes so many buckets.
+    // Makes that many buckets.
     fn widen(&mut self, count: usize) -> Result<(), Memory>
         requires { 0 < count }
         ensures { self.new ≡ self.old }
@@ -158,7 +158,7 @@ impl Chains {
     }
 }
 
-// How many buckets are made for so many entries: a power of two.
+// How many buckets are made for that many entries: a power of two.
 fn buckets_for(entries: usize) -> usize
     ensures { 0 < result }
 {
@@ -169,7 +169,7 @@ fn buckets_for(entries: usize) -> usize
     count
 }
 
-// The bucket of a hash, of so many.
+// The bucket of a hash, if there are that many.
 #[inline]
 #[tactic(auto, unfolding(crate::specs::Chains::bucket), using(crate::proofs::ChainLemmas::bucket_inside))]
 fn bucket(count: usize, hash: u32) -> usize
@@ -198,7 +198,7 @@ fn seek(count: usize, links: &[Link], hash: u32, from: u32) -> u32
     0
 }
 
-// Puts all entries on their chains, in empty buckets, and answers the length of the longest chain.
+// Puts all entries on their chains, in empty buckets, and returns the length of the longest chain.
 fn join_all(heads: &mut Vec<u32>, links: &mut Vec<Link>) -> u32
     requires some { 0 < length heads.old.items }
     requires empty { heads.old.items ≡ replicate (length heads.old.items) 0 }
@@ -215,7 +215,7 @@ fn join_all(heads: &mut Vec<u32>, links: &mut Vec<Link>) -> u32
     deepest
 }
 
-// Puts an entry on the chain of its bucket, after those before it, and answers how long the chain is then.
+// Puts an entry on the chain of its bucket, after those before it, and returns how long the chain is then.
 fn join(heads: &mut Vec<u32>, links: &mut Vec<Link>, entry: usize) -> u32
     requires entry { entry < length links.old.items }
     requires few { entry + 1 < 2 ^ 32 }

@@ -54,7 +54,7 @@ impl Circuit {
         Circuit::of_names(alloc, NameHashing::plain(), Chains::new(alloc))
     }
 
-    /// A circuit without nodes, whose names are hashed in this way, with as many buckets as so many names take.
+    /// A circuit without nodes, whose names are hashed in this way, with as many buckets as that many names take.
     pub fn with_names(alloc: Global, hashing: NameHashing, names: usize) -> Result<Circuit, Memory>
         ensures { IfOk result (λ circuit. circuit ≡ empty_netlist) }
     {
@@ -80,7 +80,7 @@ impl Circuit {
         }
     }
 
-    /// Adds a primary input, and answers its number. Primary inputs come before cuts, and cuts before gates.
+    /// Adds a primary input, and returns its number. Primary inputs come before cuts, and cuts before gates.
     pub fn add_input(&mut self, name: &[u8]) -> Result<u32, Memory>
         requires name { IsName name.now }
         requires fresh { node_named self.old name.now ≡ None }
@@ -96,7 +96,7 @@ impl Circuit {
         Ok(number)
     }
 
-    /// Adds a cut, which has no data node yet, and answers its number.
+    /// Adds a cut, which has no data node yet, and returns its number.
     pub fn add_cut(&mut self, name: &[u8]) -> Result<u32, Memory>
         requires name { IsName name.now }
         requires fresh { node_named self.old name.now ≡ None }
@@ -125,7 +125,7 @@ impl Circuit {
         self.cuts[place] = Some(node);
     }
 
-    /// Adds a gate, which has no pin yet, and answers its number.
+    /// Adds a gate, which has no pin yet, and returns its number.
     pub fn add_gate(&mut self, name: &[u8], kind: Kind) -> Result<u32, Memory>
         requires name { IsName name.now }
         requires fresh { node_named self.old name.now ≡ None }

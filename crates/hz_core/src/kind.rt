@@ -25,7 +25,7 @@ pub enum Kind {
 }
 
 impl Kind {
-    /// Whether a gate of this kind may have so many pins.
+    /// Whether a gate of this kind may have that many pins.
     pub fn takes(self, pins: usize) -> bool
         ensures { result ≡ takes self pins }
     {
@@ -35,7 +35,7 @@ impl Kind {
         }
     }
 
-    /// The value of the gate function where the pins have these bits.
+    /// The value of the gate function if the pins have these bits.
     pub fn eval(self, pins: &[bool]) -> bool
         requires { IsTrue (takes self (length pins.now)) }
         ensures { result ≡ gate_value self pins.now }
@@ -53,7 +53,7 @@ impl Kind {
     }
 
     /// The value of the ternary extension, the least that is above the gate's value on each list of
-    /// bits that the pins may have: X only where these values differ.
+    /// bits that the pins may have: X only if these values differ.
     #[tactic(auto, using(crate::proofs::Extensions::joined))]
     pub fn eval3(self, pins: &[Tri]) -> Tri
         requires { IsTrue (takes self (length pins.now)) }

@@ -18,7 +18,7 @@ impl Tri {
         if bit { Tri::One } else { Tri::Zero }
     }
 
-    /// The bit, where it is known.
+    /// The bit, if it is known.
     pub fn bit(self) -> Option<bool>
         ensures { result ≡ known_bit self }
     {

@@ -36,7 +36,7 @@ pub fn cycle_run(
     ensures marked { scratch.new.marked ≡ [] }
     ensures room { Spends run.old run.new }
 {
-    // A getter of the network tells that its circuit is one; the room is told by how often each variable changes.
+    // A getter of the network says that its circuit is one; the room is given by how often each variable changes.
     let _variables = net.len();
     run_counts();
     make_pass(net, rank, b, scratch, run);

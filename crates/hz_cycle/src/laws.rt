@@ -4,7 +4,7 @@ ghost use Rattle.hz_cycle.specs.Exact.{RunsShowB, SettleRunsExist, BIsExact, Out
 use hz_gmw::b_covers;
 use hz_reach::{passes_end, run_counts, run_ends, spread_runs_exist};
 
-/// Where a change has a settle run and a cycle that begins at its end, the value of the result of Algorithm B at a variable
+/// If a change has a settle run and a cycle that begins at its end, the value of the result of Algorithm B at a variable
 /// is the join of the values that the variable has in the outcome states.
 pub fn runs_show_b()
     ensures { RunsShowB }
@@ -23,7 +23,7 @@ pub fn settle_runs_exist()
 }
 
 /// Algorithm B is exact: for every circuit, every stable start and every input, the value of its result at a variable is
-/// the join of the values that the variable has in the outcome states. There is always an outcome state; where the result
+/// the join of the values that the variable has in the outcome states. There is always an outcome state; if the result
 /// is X, one outcome state has 0 there and another has 1.
 pub fn b_is_exact()
     ensures exact { BIsExact }

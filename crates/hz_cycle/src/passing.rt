@@ -81,7 +81,7 @@ fn mark_pattern(net: &Net, b: &[Tri], gate: u32, scratch: &mut Scratch)
     mark_changes(kind, first, &now[..pins as usize], &b[wires], want, scratch);
 }
 
-// Marks the wires that differ from the pattern which gives a gate a bit, where the unsettled pins are free.
+// Marks the wires that differ from the pattern which gives a gate a bit, if the unsettled pins are free.
 fn mark_changes(
     kind: Kind,
     first: u32,

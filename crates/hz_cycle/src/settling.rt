@@ -54,7 +54,7 @@ pub fn settle_run(
     ensures marked { scratch.new.marked ≡ [] }
     ensures room { Spends run.old run.new }
 {
-    // A getter of the network tells that its circuit is one; the room and the bits are told by how often each variable
+    // A getter of the network says that its circuit is one; the room and the bits are given by how often each variable
     // changes.
     let _variables = net.len();
     run_counts();

@@ -68,7 +68,7 @@ impl<'n> Room<'n> {
         ensures right { IsRightFinding (network_of net.now) input.now start.now cap (finding_of self.new.finding) }
         ensures room { IsRoomFor net.now self.new }
     {
-        // A getter of the network tells that its circuit is one.
+        // A getter of the network says that its circuit is one.
         let _variables = net.len();
         filled_is_right();
         let rounds = self.passes.make(net, start, input);
@@ -131,7 +131,7 @@ fn fill_rows(
     ensures words { AreCappedWords (network_of net.now) input.now start.now cap words.new }
     ensures rows { AreRowsOf start.now passes.now.a.items passes.now.b.items words.new rows.new }
 {
-    // A getter of the network tells that its circuit is one; the law tells which words have a change.
+    // A getter of the network says that its circuit is one; the law says which words have a change.
     let _variables = net.len();
     words_change();
     free.words(net, start, input, cap, words);

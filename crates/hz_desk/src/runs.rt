@@ -40,7 +40,7 @@ pub(crate) fn make_runs(
     ensures settle_room { HasRunRoom (2 * length (network_of net.now)) settle.new }
     ensures cycle_room { HasRunRoom (4 * length (network_of net.now)) cycle.new }
 {
-    // A getter of the network tells its bound; the steps are told by how often each variable changes.
+    // A getter of the network says its bound; the steps are given by how often each variable changes.
     let _variables = net.len();
     run_counts();
     spread_flips();

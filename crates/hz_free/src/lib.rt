@@ -2,7 +2,7 @@
 //!
 //! | Module | What stands there |
 //! |---|---|
-//! | `free` | `Free`, which is made for a network once, and tells its words for each change |
+//! | `free` | `Free`, which is made for a network once, and gives its words for each change |
 //! | `order` | the feedback-free variables in a topological order |
 //! | `words` | the words of an input and of a gate |
 //! | `feedback` | the feedback cycles, and the core of each variable that is not feedback-free |

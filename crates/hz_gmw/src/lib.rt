@@ -34,13 +34,13 @@ pub use replay::Replay;
 pub use replay_fault::{CycleFault, StepFault};
 pub use run::Run;
 
-/// Algorithm A covers: where its result is 0 or 1 at a variable, every reachable state has this value there.
+/// Algorithm A covers: if its result is 0 or 1 at a variable, every reachable state has this value there.
 #[tactic(auto, using(crate::proofs::CoverA::covers))]
 pub fn a_covers()
     ensures { (net : List Driver) (input start state : List Bool) (rounds : ℕ) → length start ≡ length net → AreRounds (algorithm_a net input start) rounds → IsReachable net input start state → Refines state (algorithm_a net input start rounds) }
 {}
 
-/// Algorithm B covers: where a state of its sequence from the result of Algorithm A is 0 or 1 at a variable, every
+/// Algorithm B covers: if a state of its sequence from the result of Algorithm A is 0 or 1 at a variable, every
 /// outcome state has this value there.
 #[tactic(auto, using(crate::proofs::CoverB::covers_outcomes))]
 pub fn b_covers()

@@ -126,7 +126,7 @@ impl<'n> Replay<'n> {
         self.stepped = false;
     }
 
-    /// Makes a step of the multiple-winner relation: changes the listed variables at once. It is refused exactly where they
+    /// Makes a step of the multiple-winner relation: changes the listed variables at once. It is refused exactly if they
     /// are no step from the present state, by the first fault that stands; the replayer is then as before.
     pub fn step(&mut self, flips: &[u32]) -> Result<(), StepFault>
         requires { All (λ var. var < length (network_of self.old.circuit)) flips.now }
@@ -146,7 +146,7 @@ impl<'n> Replay<'n> {
     }
 
     /// Says whether the states since the mark are a nontransient cycle: a run with a step that ends where it began, around
-    /// which no variable waits, or one stable state alone. It is refused exactly where they are not, by the first fault
+    /// which no variable waits, or one stable state alone. It is refused exactly if they are not, by the first fault
     /// that stands. The replayer is as before.
     pub fn close(&mut self) -> Result<(), CycleFault>
         ensures exact { (steps : List (List ℕ)) → StandsFor self.old steps → IsTrue (is_ok result) ↔ IsNontransient (network_of self.old.circuit) self.old.input self.old.marked steps }

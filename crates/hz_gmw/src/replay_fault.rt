@@ -2,7 +2,7 @@
 
 use thiserror::Error;
 
-/// Why a list of variables is no step of the multiple-winner relation. Faults are numbered in this order; where several
+/// Why a list of variables is no step of the multiple-winner relation. Faults are numbered in this order; if several
 /// stand, the answer is the first. The variable is the least for which it stands.
 #[derive(Clone, Copy, Debug, PartialEq, Eq, Error)]
 pub enum StepFault {
@@ -17,7 +17,7 @@ pub enum StepFault {
     Stable { var: u32 },
 }
 
-/// Why the states since a mark are no nontransient cycle. Faults are numbered in this order; where several stand, the
+/// Why the states since a mark are no nontransient cycle. Faults are numbered in this order; if several stand, the
 /// answer is the first. The variable is the least for which it stands.
 #[derive(Clone, Copy, Debug, PartialEq, Eq, Error)]
 pub enum CycleFault {

@@ -47,7 +47,7 @@ impl Run {
         }
     }
 
-    /// A run with no step, and with room for steps with so many flips in all.
+    /// A run with no step, and with room for steps with that many flips in all.
     pub fn with_room(alloc: Global, flips: usize, steps: usize) -> Result<Run, Memory>
         ensures steps { IfOk result (λ run. run.steps ≡ []) }
         ensures room_for_flips { IfOk result (λ run. flips ≤ run.spare_flips) }
@@ -58,7 +58,7 @@ impl Run {
         Ok(run)
     }
 
-    /// Makes room for more steps with so many flips in all.
+    /// Makes room for more steps with that many flips in all.
     pub fn reserve(&mut self, flips: usize, steps: usize) -> Result<(), Memory>
         ensures steps { self.new.steps ≡ self.old.steps }
         ensures room_for_flips { OnOk result (flips ≤ self.new.spare_flips) }
@@ -127,7 +127,7 @@ impl Run {
     }
 }
 
-// Appends where there is room.
+// Appends. There is room.
 fn append(list: &mut Vec<u32>, more: &[u32])
     requires { vec_len list.old + length more.now ≤ vec_capacity list.old }
     ensures items { list.new.items ≡ list.old.items ++ more.now }

@@ -29,7 +29,7 @@ impl Model for VariableSet {
 }
 
 impl VariableSet {
-    // No variable, with room for so many.
+    // No variable, with room for that many.
     pub(crate) fn new(alloc: Global, count: u32) -> Result<VariableSet, Memory>
         ensures { IfOk result (λ set. set ≡ replicate count false) }
     {
@@ -56,7 +56,7 @@ impl VariableSet {
         self.members.as_slice()
     }
 
-    // Puts a variable into the set, where it may be already.
+    // Puts a variable into the set, unless it is there already.
     pub(crate) fn insert(&mut self, var: u32)
         requires { var < length self.old }
         ensures { self.new ≡ slice_set self.old var true }

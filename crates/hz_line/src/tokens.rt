@@ -94,8 +94,8 @@ pub fn next_token<'a>(line: &'a [u8]) -> Next<'a>
     }
 }
 
-/// The word that a line begins with, and what comes after it; none where something else comes first. It answers what
-/// [`next_token`] does, and is quicker where a word is wanted.
+/// The word that a line begins with, and what comes after it; none if something else comes first. It returns what
+/// [`next_token`] does, and is faster if only a word is wanted.
 #[inline]
 pub fn first_word<'a>(line: &'a [u8]) -> Option<(&'a [u8], &'a [u8])>
     ensures first { BeginsWithWord line.now result }
@@ -110,7 +110,7 @@ pub fn first_word<'a>(line: &'a [u8]) -> Option<(&'a [u8], &'a [u8])>
     }
 }
 
-/// The mark that a line begins with, and what comes after it; none where something else comes first.
+/// The mark that a line begins with, and what comes after it; none if something else comes first.
 #[inline]
 pub fn first_mark<'a>(line: &'a [u8]) -> Option<(Mark, &'a [u8])>
     ensures first { BeginsWithMark line.now result }

@@ -13,7 +13,7 @@ use std::{fs, rt};
 /// How many bytes one read asks for.
 const READ_SIZE: usize = 65_536;
 
-/// Files of the file system. They tell no content, and every load is granted.
+/// Files of the file system. They show no contents, and every load is granted.
 #[derive(Drop)]
 pub struct DiskFiles<'r, R: rt::Files> {
     rt: &'r R,

@@ -8,7 +8,7 @@ use std::alloc::Global;
 
 /// A store of files by name, from which whole files are loaded.
 ///
-/// `held` gives the bytes of each name, where the store tells them. `granted` says which loads may
+/// `held` gives the bytes of each name, if the store shows them. `granted` says which loads may
 /// be made. `faults` and `longs` count, for each place, the loads that failed and the files that were
 /// too long. A load says nothing of what its own place grants afterwards.
 pub trait Files {
@@ -24,7 +24,7 @@ pub trait Files {
 
     /// The bytes of the file, of which there may be at most `most`.
     ///
-    /// Where the file is told and memory is there, the answer is `TooLong` exactly where the file has
+    /// If the contents are shown and memory suffices, the answer is `TooLong` exactly if the file has
     /// more than `most` bytes, unless the load failed: this is `short`, `bytes` and `over` together.
     fn load(
         &mut self,

@@ -24,7 +24,7 @@ impl Model for FailingPut {
 
 /// A sink in memory, for tests of what is generic over [`Sink`].
 ///
-/// Calls of `put` are numbered from 1. A call in a list takes at most so many bytes of its piece and
+/// Calls of `put` are numbered from 1. A call in a list takes at most that many bytes of its piece and
 /// fails; of a call that is listed twice the first counts.
 #[derive(Drop)]
 pub struct MemSink {
@@ -60,7 +60,7 @@ impl MemSink {
         }
     }
 
-    /// Lets the put of this number fail after at most so many bytes of its piece.
+    /// Lets the put of this number fail after at most that many bytes of its piece.
     pub fn fail(&mut self, call: u64, taken: usize) -> Result<(), Memory>
         ensures ok { OnOk result (self.new ≡ record self.old {
           failing = self.old.failing ++ record { call = call; taken = taken } ∷ [];
@@ -108,7 +108,7 @@ impl Sink for MemSink {
     }
 }
 
-/// How many bytes the call of this number takes at most, where it fails.
+/// How many bytes the call of this number takes at most, if it fails.
 fn taken_at(failing: &[FailingPut], call: u64) -> Option<usize>
     ensures { result ≡ taken_at failing.now call }
 {

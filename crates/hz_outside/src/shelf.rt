@@ -65,7 +65,7 @@ impl Shelf {
         Ok(())
     }
 
-    /// The bytes under a name, none where no file has it.
+    /// The bytes under a name, none if no file has it.
     pub(crate) fn find(&self, name: &str) -> &[u8]
         ensures { result.now ≡ contents_of self.now name.now }
     {
@@ -73,7 +73,7 @@ impl Shelf {
     }
 }
 
-/// The bytes of the first file of this name, none where no file has it.
+/// The bytes of the first file of this name, none if no file has it.
 fn find_in<'a>(files: &'a [NamedFile], name: &str) -> &'a [u8]
     ensures { result.now ≡ contents_of files.now name.now }
 {

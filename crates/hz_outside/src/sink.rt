@@ -7,7 +7,7 @@ use super::fault::PutFault;
 
 /// A writer of pieces.
 ///
-/// `written` is what was written so far, where the sink tells it. `faults` counts the puts that
+/// `written` is what was written so far, if the sink shows it. `faults` counts the puts that
 /// failed.
 pub trait Sink {
     ghost written: { Self → Option (List ℕ) };

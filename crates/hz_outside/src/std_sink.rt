@@ -11,7 +11,7 @@ use std::marker::Model;
 const GATHERED: usize = 65_536;
 
 /// Standard output. It gathers pieces, so that a text of many lines takes few writes, and is seen as its count of faults. It
-/// tells nothing of what was written.
+/// shows nothing of what was written.
 ///
 /// What was gathered last is written by [`flush`](StdSink::flush), which the caller must not leave out.
 #[derive(Drop)]

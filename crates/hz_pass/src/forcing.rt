@@ -26,7 +26,7 @@ use hz_core::{Memory, Tri};
 use hz_net::{Net, VarKind};
 use std::alloc::Global;
 
-// The value that each variable is forced to, X where it is open.
+// The value that each variable is forced to, X if it is open.
 pub(crate) fn forced_values(
     alloc: Global,
     net: &Net,
@@ -162,7 +162,7 @@ fn gate_of(net: &Net, wire: u32) -> u32
     }
 }
 
-// Sets a gate that is X to its extension, and lets it wait, where that is known.
+// Sets a gate that is X to its extension, and lets it wait, if that is known.
 fn set_gate(net: &Net, gate: u32, values: &mut [Tri], waiting: &mut Vec<u32>) -> Result<(), Memory>
     requires circuit { IsCircuit net.now }
     requires gate { IsGateNumber net.now gate }

@@ -14,7 +14,7 @@ use std::mem::swap;
 use std::sync::ledger::Ledger;
 
 // Makes rounds from a state until one changes nothing, and returns how many, that one included. Notes at each variable the
-// round that changed it, and 0 where none did. The first round evaluates every variable, a later one the readers of what the
+// round that changed it, or 0 if none did. The first round evaluates every variable, a later one the readers of what the
 // round before changed.
 pub(crate) fn make_rounds<L: Ledger>(
     rule: Rule,

@@ -27,7 +27,7 @@ pub use scratch::Scratch;
 pub use spreading::{mark_changed, spread_run};
 
 /// Algorithm A is exact: from a start that is stable under its own input, the value of its result at a variable is the
-/// join of the values that the variable has in the reachable states. So where the result is X, one reachable state has 0
+/// join of the values that the variable has in the reachable states. So if the result is X, one reachable state has 0
 /// there and another has 1.
 pub fn a_is_exact()
     ensures { (netlist : Netlist) (input own start : List Bool) (rounds i : ℕ) → IsCircuit netlist → length start ≡ length (network_of netlist) → IsStable (network_of netlist) own start → AreRounds (algorithm_a (network_of netlist) input start) rounds → JoinsTo (IsReachable (network_of netlist) input start) i (value_at (algorithm_a (network_of netlist) input start rounds) i) }

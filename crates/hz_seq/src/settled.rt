@@ -5,7 +5,7 @@ ghost use Rattle.hz_seq.specs.Sequence.{IsFirstUnknown, IsSettledAt};
 
 use hz_desk::Row;
 
-/// Writes the state in which a change settles. If it leaves a variable unsettled there is none: this answers the first such
+/// Writes the state in which a change settles. If it leaves a variable unsettled there is none: this returns the first such
 /// variable, and the state has no meaning.
 #[tactic(auto, using(crate::proofs::Settling::one_more, crate::proofs::Settling::first_without, crate::proofs::Settling::settled_at))]
 pub(crate) fn settle(rows: &[Row], state: &mut [bool]) -> Option<u32>

@@ -10,7 +10,7 @@ use crate::assignments::Assigned;
 use hz_core::Memory;
 use std::alloc::Global;
 
-// For each of so many nodes, the bit that is assigned to it.
+// For each of that many nodes, the bit that is assigned to it.
 pub(crate) fn bits_of(
     alloc: Global,
     all: &[Assigned],

@@ -7,13 +7,13 @@ use hz_line::UnreadText;
 use thiserror::Error;
 
 /// Why a text is refused. Lines are counted from 1. The faults are numbered from 1 in the order in which they stand here;
-/// where several stand in a text, the answer has the least number and, among those, the least line or node.
+/// if several stand in a text, the answer has the least number and, among those, the least line or node.
 #[derive(Clone, Copy, Debug, PartialEq, Eq, Error)]
 pub enum TextFault {
     /// The line is no statement.
     #[error("form in line {line}")]
     Form { line: u32 },
-    /// A name that is assigned in the line is no node or, where only inputs may be assigned, no input; or a step in the line
+    /// A name that is assigned in the line is no node or, if only inputs may be assigned, no input; or a step in the line
     /// names what is no variable.
     #[error("unknown in line {line}")]
     Unknown { line: u32 },
@@ -26,7 +26,7 @@ pub enum TextFault {
     /// A word that is assigned in the line is neither `0` nor `1`.
     #[error("bit in line {line}")]
     Bit { line: u32 },
-    /// The line breaks the order of statements. The line is 0 where the text has no statement, and where a run text in order
+    /// The line breaks the order of statements. The line is 0 if the text has no statement, and if a run text in order
     /// stops before its end.
     #[error("order in line {line}")]
     Order { line: u32 },
@@ -36,13 +36,13 @@ pub enum TextFault {
     /// Memory ran out.
     #[error("out of memory")]
     Memory,
-    /// The line with the size of a run text's network tells a count that is not the network's: `told` is the first such of
+    /// The line with the size of a run text's network has a count that is not the network's: `told` is the first such of
     /// the inputs, the gates and the wires, `real` the network's own.
     #[error("{told}, not {real}, in line {line}")]
     Mismatch { line: u32, told: u32, real: u32 },
 }
 
-/// The first count of a network's size that a text tells wrongly.
+/// The first count of a network's size that a text has wrong.
 #[derive(Clone, Copy, Debug)]
 pub(crate) struct Mismatch {
     pub(crate) line: u32,

@@ -52,7 +52,7 @@ impl Model for Script {
 }
 
 impl Script {
-    /// A script of a circuit with so many nodes, which lists none of them and has no change.
+    /// A script of a circuit with that many nodes, which lists none of them and has no change.
     pub fn new(alloc: Global, nodes: u32) -> Result<Script, Memory>
         ensures start { IfOk result (λ script. script.start ≡ replicate nodes None) }
         ensures changes { IfOk result (λ script. script.changes ≡ []) }

@@ -16,7 +16,7 @@ use std::alloc::Global;
 /// A text of statements that assign bits to nodes of a circuit: its grammar, and the passes over its statements that find
 /// its faults.
 ///
-/// `Held`, `Context`, `stated` and `grammar` are as in [`Grammar`]. `rules` are what the passes answer, and `node_count` is
+/// `Held`, `Context`, `stated` and `grammar` are as in [`Grammar`]. `rules` are what the passes return, and `node_count` is
 /// above each node that a statement assigns.
 pub(crate) trait Text<'t>: Drop {
     ghost use Rattle.std.specs.Prelude.{ℕ, List, Option};
@@ -79,7 +79,7 @@ pub(crate) trait Text<'t>: Drop {
     fn line_beyond(&self, entries: &[Numbered<Self::Held>]) -> Option<u32>
         ensures { result ≡ (rules (context self.now)).beyond (map (numbered_by stated) entries.now) };
 
-    // The first count of the network's size that the text tells wrongly.
+    // The first count of the network's size that the text has wrong.
     fn first_mismatch(&self, entries: &[Numbered<Self::Held>]) -> Option<Mismatch>
         ensures { result ≡ (rules (context self.now)).mismatch (map (numbered_by stated) entries.now) };
 }

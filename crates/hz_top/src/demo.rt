@@ -30,7 +30,7 @@ pub(crate) fn demo<K: Sink>(alloc: Global, number: u32, cap: u64, out: &mut K) -
     requires cap { IsCap cap }
     ensures { Answers K.written K.faults (IsDemoOutcome number cap) out.old out.new result }
 {
-    // The law tells that no start is refused.
+    // The law says that no start is refused.
     demo_starts();
     let Ok((circuit, script)) = make(alloc, number) else {
         return Status::Memory;

@@ -10,7 +10,7 @@ ghost use Rattle.hz_top.specs.RunTexts.{ReplaysAs};
 use hz_text::printed_runs_are_read;
 
 /// Runs of a network that begin at a start and stand under an input, each with a nontransient cycle at its end or with none,
-/// are printed as a run text on which the job `replay` comes to `yes`, with the counts of these runs. There may be no more
+/// are printed as a run text to which the job `replay` answers `yes`, with the counts of these runs. There may be no more
 /// than 2,000,000 steps in all, and no more than 2,000,000 variables in steps.
 pub fn accepted_runs_replay()
     ensures { (netlist : Netlist) (value : RunTextOf) → IsCircuit netlist → length value.nodes ≡ length netlist.names → length value.input ≡ netlist.inputs → length (all_steps value.runs) ≤ 2000000 → flip_count (all_steps value.runs) ≤ 2000000 → AreAccepted netlist value → ReplaysAs netlist (run_text_printed netlist value) value.runs }

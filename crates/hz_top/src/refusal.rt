@@ -154,7 +154,7 @@ fn put_missing<'p, K: Sink>(
     )
 }
 
-// A count of the network's size that a text tells wrongly.
+// A count of the network's size that a text has wrong.
 #[tactic(auto, unfolding(crate::specs::Refusal::mismatch_line))]
 fn put_mismatch<K: Sink>(
     out: &mut K,

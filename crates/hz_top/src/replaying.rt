@@ -132,7 +132,7 @@ fn replay_run(replay: &mut Replay, lead: &Run, cycle: Option<&Run>) -> Result<()
     }
 }
 
-// Replays a cycle from the present state, behind so many steps of its run.
+// Replays a cycle from the present state, after that many steps of its run.
 fn replay_cycle(replay: &mut Replay, cycle: &Run, before: usize) -> Result<(), Refused>
     requires variables { AreVariables replay.old.circuit cycle.now.steps }
     requires few { before + length cycle.now.steps ≤ 2000000 }

@@ -68,7 +68,7 @@ fn write_report<K: Sink>(
     ensures { (text : List ℕ) × IsReport net.now cap show start.now script.now.changes text
         × Wrote K.written K.faults text out.old out.new result }
 {
-    // The laws tell that the printed runs have few steps, and that what is printed is read as these runs.
+    // The laws say that the printed runs have few steps, and that what is printed is read as these runs.
     run_counts();
     printed_runs_are_read();
     let mut writer = Writer::new(out);
@@ -95,7 +95,7 @@ fn write_changes<K: Sink>(
     ensures { (analyses : List Analysis) × AreAnalyses net.now cap sequence.old.start script.now.changes analyses
         × Writes K.written K.faults (analyses_text net.now show 1 script.now.changes analyses) writer.old writer.new }
 {
-    // A getter of the network tells that its circuit is whole, and the law, that the changes which are left out have findings.
+    // A getter of the network says that its circuit is whole, and the law, that the changes which are left out have findings.
     let _variables = net.len();
     findings_exist();
     for number in 0..script.changes() {
@@ -114,7 +114,7 @@ fn write_changes<K: Sink>(
     }
 }
 
-// Makes the next change, and writes what it comes to.
+// Makes the next change, and writes its outcome.
 fn write_next<K: Sink>(
     writer: &mut Writer<'_, K>,
     net: &Net,

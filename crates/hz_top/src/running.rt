@@ -17,7 +17,7 @@ use hz_outside::{Files, Sink};
 use hz_words::{Job, WordsFault};
 use std::alloc::Global;
 
-/// Does the job that the words ask for, and answers how it ended.
+/// Does the job that the words ask for, and returns how it ended.
 ///
 /// The words are those after the program's name. The files are loaded by their names, the first one at the first place
 /// and the second at the second, each at most once. The text goes into the sink, line by line; a refusal is one line.

@@ -23,7 +23,7 @@ pub fn word_is_unique()
     ensures { (kind : Kind) (words : List (List Bool)) (word other : List Bool) → IsTrue (takes kind (length words)) → AreWords words → IsWordOf kind words word → IsWordOf kind words other → word ≡ other }
 {}
 
-/// Along a part of a walk a gate changes at most as often as its word, also where the walk is not finished.
+/// Along a part of a walk a gate changes at most as often as its word, even if the walk is not finished.
 #[tactic(auto, using(crate::proofs::Laws::part_changes))]
 pub fn word_bounds_parts()
     ensures { (kind : Kind) (words : List (List Bool)) (word : List Bool) (moves : List (List Bool)) → IsTrue (takes kind (length words)) → AreWords words → IsWordOf kind words word → IsPartOfWalk words moves → walk_changes (gate_value kind) words moves ≤ change_count word }

@@ -25,7 +25,7 @@ impl Word {
         }
     }
 
-    /// The last letter, where the number of changes is exact.
+    /// The last letter, if the number of changes is exact.
     pub fn last(self) -> Option<bool>
         ensures none { IsNone result ↔ (self.changes ≡ Count.Many) }
         ensures letter { (cap : ℕ) (letters : List Bool) → IsWord letters → capped_word cap letters ≡ self → IfSome result (λ letter. letter ≡ last_letter letters) }
@@ -57,7 +57,7 @@ impl Word {
     }
 }
 
-// The last letter of the word with this first letter and so many changes.
+// The last letter of the word with this first letter and that many changes.
 pub(crate) fn last_after(first: bool, changes: u64) -> bool
     ensures { result ≡ last_after first changes }
 {

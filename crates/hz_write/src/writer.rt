@@ -12,8 +12,8 @@ use itoa::Buffer;
 
 /// A writer of lines over a sink, which keeps the first fault, and puts nothing more from then on.
 ///
-/// A line is put at its end, or buffer by buffer where it is longer than one. The writer is used up by
-/// [`finish`](Writer::finish), which tells the fault. Between calls of long work [`has_failed`](Writer::has_failed) tells it.
+/// A line is put at its end, or buffer by buffer if it is longer than one. The writer is used up by
+/// [`finish`](Writer::finish), which returns the fault. During long work [`has_failed`](Writer::has_failed) says whether there is one.
 pub struct Writer<'k, K: Sink> {
     out: &'k mut K,
     line: Line,
@@ -117,7 +117,7 @@ impl<'k, K: Sink> Writer<'k, K> {
         self.fault.is_some()
     }
 
-    /// Puts what waits, and tells the first fault.
+    /// Puts what waits, and returns the first fault.
     pub fn finish(self) -> Result<(), PutFault>
         ensures { Finishes K.written K.faults self.entry self.exit.0.now result }
     {

@@ -42,7 +42,7 @@ impl Kind {
         }
     }
 
-    // The bit that all pins have wherever the gate has this value. Where there is none, each pin
+    // The bit that all pins have wherever the gate has this value. If there is none, each pin
     // alone turns the other value into this one.
     #[tactic(auto, using(crate::proofs::BitOrSwitchLemmas::reached))]
     fn lone_bit(self, value: bool) -> Option<bool>

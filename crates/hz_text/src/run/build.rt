@@ -70,7 +70,7 @@ fn after_first<'h, 'a>(entries: &'h [RunEntry<'a>]) -> &'h [RunEntry<'a>]
     later
 }
 
-// The bits that assignments give to so many nodes.
+// The bits that assignments give to that many nodes.
 fn read_bits(alloc: Global, all: &[Assigned], nodes: u32) -> Result<Vec<bool>, Memory>
     requires { IsWholeStart nodes all.now }
     ensures { IfOk result (λ bits. map Some bits.items ≡ map (assigned_bit all.now) (range_with_len 0 nodes)) }

@@ -18,7 +18,7 @@ pub(crate) enum Place {
     Cycle,
 }
 
-// The line that breaks the order of a text first. It is 0 where none does and the text stops before its end.
+// The line that breaks the order of a text first. It is 0 if none does and the text stops before its end.
 pub(crate) fn first_out_of_order(entries: &[RunEntry]) -> Option<u32>
     ensures { result ≡ first_misplaced (numbered_run_resolutions entries.now) }
 {

@@ -1,4 +1,4 @@
-// What the passes over the statements of a run text answer.
+// What the passes over the statements of a run text return.
 
 ghost use Rattle.std.specs.Prelude.{◌≡◌, ◌≤◌, IfOk, is_none};
 ghost use Rattle.std.specs.List.{list_any};
@@ -74,7 +74,7 @@ fn lesser(first: Option<u32>, second: Option<u32>) -> Option<u32>
     }
 }
 
-// The least of so many nodes that the assignments leave out, if they are there.
+// The least of that many nodes that the assignments leave out, if they are there.
 fn least_left_out(
     alloc: Global,
     assigned: Option<&[Assigned]>,
@@ -150,7 +150,7 @@ fn is_second(held: &RunHeld) -> bool
     matches!(held, RunHeld::Header(Version::Two))
 }
 
-// The first size of a network that a text tells, and its line.
+// The first size of a network that a text has, and its line.
 fn first_size(entries: &[RunEntry]) -> Option<(u32, Size)>
     ensures { result ≡ first_size (numbered_run_resolutions entries.now) }
 {
@@ -162,7 +162,7 @@ fn first_size(entries: &[RunEntry]) -> Option<(u32, Size)>
     None
 }
 
-// The size that a statement tells.
+// The size that a statement has.
 fn size_in(held: &RunHeld) -> Option<Size>
     ensures { result ≡ size_in (run_resolution_of held.now) }
 {

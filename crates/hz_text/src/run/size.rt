@@ -1,4 +1,4 @@
-// The size of a network, as a run text tells it.
+// The size of a network, as a run text has it.
 
 ghost use Rattle.std.specs.Prelude.{◌≡◌, map, Some, MatchResult};
 ghost use Rattle.hz_line.specs.Reading.{IsUnread};

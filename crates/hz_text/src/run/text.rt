@@ -110,7 +110,7 @@ impl RunText {
         RunText { nodes, input, runs }
     }
 
-    /// Adds a run after the last one. It takes both parts; where memory runs out they are dropped.
+    /// Adds a run after the last one. It takes both parts; if memory runs out they are dropped.
     pub fn add_run(&mut self, lead: Run, cycle: Option<Run>) -> Result<(), Memory>
         ensures ok { OnOk result (self.new ≡ record self.old { runs = self.old.runs ++ record { lead = lead.steps; cycle = option_map (λ run. run.steps) cycle } ∷ [] }) }
         ensures err { OnErr result (self.new ≡ self.old) }

@@ -1,4 +1,4 @@
-// What the passes over the statements of a script answer.
+// What the passes over the statements of a script return.
 
 ghost use Rattle.std.specs.Prelude.{◌≡◌, IfOk};
 ghost use Rattle.hz_line.specs.Statement.{first_passing_line};
@@ -65,7 +65,7 @@ fn first_start(entries: &[Entry]) -> Option<u32>
     None
 }
 
-// The line of the change past the most, where the first statement alone is no change.
+// The line of the change past the most, if the first statement alone is no change.
 pub(crate) fn line_beyond(entries: &[Entry]) -> Option<u32>
     ensures { result ≡ last_beyond (numbered_resolutions entries.now) }
 {

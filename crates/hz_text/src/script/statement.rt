@@ -102,7 +102,7 @@ impl<'c, 't> Text<'t> for Statements<'c> {
         line_beyond(entries)
     }
 
-    // A script tells no size.
+    // A script has no size.
     fn first_mismatch(&self, _entries: &[Entry]) -> Option<Mismatch> {
         None
     }
