@@ -23,8 +23,9 @@ use Rattle.hz_text.specs.declared.fault.TextFault.TheVariants as reading
 use Rattle.hz_text.specs.Fault.{IsLeastFaultOf, IsLeastFaultOrMemory}
 use Rattle.hz_top.specs.declared.status.Status.{Status}
 use Rattle.hz_top.specs.declared.status.Status.TheVariants as status
-use Rattle.hz_top.specs.Outcome.{LoadPrints, StartPrints, StartRefused, most_bytes, FileRefused, Observation, observation_of, IsSecondFileOutcome}
+use Rattle.hz_top.specs.Outcome.{StartRefused, most_bytes, FileRefused, Observation, observation_of, IsSecondFileOutcome}
 use Rattle.hz_top.specs.Refusal.{unread_line, long_line}
+use Rattle.hz_top.specs.Inside.{LoadPrints, StartPrints}
 
 -- a load that failed has the line of a file that was not read
 pub LoadPrints-failed : (place : Place) (fault : LoadFault) → fault ≡ load.Failed → LoadPrints place fault status.File (unread_line place)

@@ -6,7 +6,7 @@ use Rattle.hz_text.specs.declared.fault.TextFault.TheVariants.{Form, Unknown, Tw
 use Rattle.hz_text.specs.RunFault.{resolved_run_statements, first_start, first_input, LeavesOut, IsUnassigned, HasRunFault, IsRunRefusal}
 use Rattle.hz_text.specs.Fault.{IsLeastFaultOrMemory}
 use Rattle.hz_text.specs.ScriptFault.{resolved_statements, IsMissing, HasScriptFault, IsScriptRefusal}
-use Rattle.hz_top.specs.Refusal.{named_node, NamesNode}
+use Rattle.hz_top.specs.Inside.{named_node, NamesNode}
 
 -- what a start leaves out is an input
 missing-below : (inputs : ℕ) (statements : List _) (node : ℕ) → IsMissing inputs statements node → node < inputs

@@ -16,9 +16,9 @@ use Rattle.hz_text.specs.RunText.{IsRunTextFor}
 use Rattle.hz_text.specs.RunValue.{RunOf, RunTextOf, all_steps}
 use Rattle.hz_top.specs.declared.replaying.Refused.{Refused}
 use Rattle.hz_top.specs.declared.replaying.Refused.TheVariants.{Step, Cycle}
-use Rattle.hz_top.specs.Replaying.{no_run, steps_of, IsRefusedRun, IsFirstRefusal}
+use Rattle.hz_top.specs.Replaying.{steps_of, IsRefusedRun, IsFirstRefusal}
 use Rattle.hz_top.specs.ReplayerSteps.{AreVariables}
-use Rattle.hz_top.specs.Verdict.{step_variable, cycle_variable, named_variable, NamesVariable}
+use Rattle.hz_top.specs.Inside.{no_run, step_variable, cycle_variable, named_variable, NamesVariable}
 use Rattle.hz_top.proofs.RunSteps.{run-variables}
 use Rattle.hz_top.proofs.Refusals.{middle, All-middle}
 

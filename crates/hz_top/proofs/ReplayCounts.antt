@@ -3,7 +3,8 @@ use Rattle.std.proofs.Common.{◌≡◌, ap, ℕ, ◌+◌, ◌<◌, ◌≤◌, L
 use Rattle.std.proofs.lemmas.List.{length-append}
 use Rattle.std.proofs.lemmas.List.Folds.{length-flat_map-take}
 use Rattle.hz_text.specs.RunValue.{RunOf, cycle_steps}
-use Rattle.hz_top.specs.Replaying.{no_run, steps_of, total_steps}
+use Rattle.hz_top.specs.Replaying.{steps_of, total_steps}
+use Rattle.hz_top.specs.Inside.{no_run}
 
 -- the steps of a run, and those of the runs before it, are no more than there are
 pub steps-within : (runs : List RunOf) (number : ℕ) → number < length runs → length (steps_of (get_or runs number no_run)) + total_steps (take number runs) ≤ total_steps runs

@@ -13,8 +13,9 @@ use Rattle.hz_gmw.specs.Cycles.{IsNontransient}
 use Rattle.hz_gmw.specs.Replayer.{Replayer, initial_replayer}
 use Rattle.hz_text.specs.RunValue.{RunOf, RunTextOf, cycle_steps, all_steps}
 use Rattle.hz_top.specs.declared.replaying.Refused.{Refused}
-use Rattle.hz_top.specs.Replaying.{no_run, steps_of, total_steps, IsAcceptedRun, IsRefusedRun, IsFirstRefusal}
+use Rattle.hz_top.specs.Replaying.{steps_of, total_steps, IsAcceptedRun, IsRefusedRun, IsFirstRefusal}
 use Rattle.hz_top.specs.ReplayerSteps.{AreVariables, run_of, KeepsInitialState, MakesSteps, IsRefusedFrom}
+use Rattle.hz_top.specs.Inside.{no_run}
 use Rattle.hz_top.proofs.ReplayerStepLemmas.{cut-at, run-refused}
 
 -- the steps behind others name variables too

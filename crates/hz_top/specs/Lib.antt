@@ -35,3 +35,4 @@ pub mod Reports
 pub mod Outcome
 pub mod Faultless
 pub mod Headline
+pub mod Inside

@@ -1,21 +1,15 @@
 -- What a job comes to, in the order of work: the status and the text that is written.
-use Rattle.std.specs.Prelude.{◌≡◌, ◌≢◌, ℕ, ◌<◌, ◌≤◌, ◌⊎◌, Bool, List, [], ◌∷◌, length, codes, Option, Some, None, IfSome}
+use Rattle.std.specs.Prelude.{◌≡◌, ℕ, ◌<◌, ◌≤◌, ◌⊎◌, Bool, List, [], ◌∷◌, length, codes, Option, Some, None, IfSome}
 use Rattle.hz_outside.specs.Counts.{Rose}
 use Rattle.hz_outside.specs.declared.fault.Place.{Place}
 use Rattle.hz_outside.specs.declared.fault.Place.TheVariants.{First, Second}
-use Rattle.hz_outside.specs.declared.fault.LoadFault.{LoadFault}
-use Rattle.hz_outside.specs.declared.fault.LoadFault.TheVariants as load
 use Rattle.hz_core.specs.Netlist.{Netlist}
 use Rattle.hz_net.specs.Starts.{IsAcceptedStart, IsLeastOpen, IsLeastUnstable}
-use Rattle.hz_pass.specs.declared.completed_start.StartFault.{StartFault}
-use Rattle.hz_pass.specs.declared.completed_start.StartFault.TheVariants as start
 use Rattle.hz_bench.specs.declared.fault.BenchFault.{BenchFault}
-use Rattle.hz_bench.specs.declared.fault.BenchFault.TheVariants as bench
 use Rattle.hz_bench.specs.Fault.{IsLeastFault, IsFaultless}
 use Rattle.hz_bench.specs.Netlist.{circuit_of_statements}
 use Rattle.hz_bench.specs.Text.{statements_of}
 use Rattle.hz_text.specs.declared.fault.TextFault.{TextFault}
-use Rattle.hz_text.specs.declared.fault.TextFault.TheVariants as reading
 use Rattle.hz_text.specs.ScriptFault as script
 use Rattle.hz_text.specs.ScriptText.{IsValue}
 use Rattle.hz_text.specs.ScriptValue.{ScriptOf}
@@ -110,26 +104,6 @@ FileRefused told place name own text =
 abbrev pub observation_of : {S : Type 0} → (S → Option (List ℕ → List ℕ)) → (S → Place → ℕ) → (S → Place → ℕ) → S → S → Observation
 observation_of held faults longs was now =
     record { held = held was; faults = faults was; faults_after = faults now; longs = longs was; longs_after = longs now }
-
--- what is written of a load that gave no file: nothing if memory ran out
-abbrev pub LoadPrints : Place → LoadFault → Status → List ℕ → Type 0
-LoadPrints place load.Failed own text = Prints status.File (unread_line place) own text
-LoadPrints place load.TooLong own text = Prints status.TooLong (long_line place) own text
-LoadPrints place load.Memory own text = ⊥
-
--- what is written of a fault of a netlist's text: nothing if memory ran out
-abbrev pub NetlistPrints : BenchFault → Status → List ℕ → Type 0
-NetlistPrints fault own text = (fault ≢ bench.Memory) × Prints status.Netlist (netlist_fault_line fault) own text
-
--- what is written of a fault of a text that is called so: nothing if memory ran out
-abbrev pub TextPrints : List ℕ → Netlist → TextFault → Status → List ℕ → Type 0
-TextPrints called netlist fault own text = (fault ≢ reading.Memory) × Prints status.Text (text_fault_line called netlist fault) own text
-
--- what is written of a start that can't be completed: nothing if memory ran out
-abbrev pub StartPrints : Netlist → StartFault → Status → List ℕ → Type 0
-StartPrints netlist (start.Open gate) own text = Prints status.Start (open_line netlist gate) own text
-StartPrints netlist (start.Unstable gate) own text = Prints status.Start (unstable_line netlist gate) own text
-StartPrints netlist start.Memory own text = ⊥
 
 -- the bytes are those of the file, where they are told, and not too many
 abbrev pub IsFileContents : Observation → List ℕ → List ℕ → Type 0

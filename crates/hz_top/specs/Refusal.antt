@@ -1,12 +1,10 @@
 -- The lines of refusals.
-use Rattle.std.specs.Prelude.{ℕ, ◌<◌, List, [], ◌∷◌, length, codes, decimal, Option, Some, None, IfSome}
+use Rattle.std.specs.Prelude.{ℕ, List, [], ◌∷◌, codes, decimal}
 use Rattle.hz_outside.specs.declared.fault.Place.{Place}
 use Rattle.hz_outside.specs.declared.fault.Place.TheVariants.{First, Second}
 use Rattle.hz_write.specs.Writes.{line_of}
 use Rattle.hz_core.specs.Netlist.{Netlist}
 use Rattle.hz_report.specs.Words.{node_name}
-use Rattle.hz_pass.specs.declared.completed_start.StartFault.{StartFault}
-use Rattle.hz_pass.specs.declared.completed_start.StartFault.TheVariants as start
 use Rattle.hz_bench.specs.declared.fault.BenchFault.{BenchFault}
 use Rattle.hz_bench.specs.declared.fault.BenchFault.TheVariants as bench
 use Rattle.hz_text.specs.declared.fault.TextFault.{TextFault}
@@ -74,28 +72,6 @@ text_fault_line called netlist (fault.Order line) = fault_line called line (code
 text_fault_line called netlist (fault.TooMany line) = fault_line called line (codes ": too many")
 text_fault_line called netlist fault.Memory = []
 text_fault_line called netlist (fault.Mismatch line told real) = mismatch_line called line told real
-
--- the node that a fault of a text names, if it names one
-abbrev pub named_node : TextFault → Option ℕ
-named_node (fault.Form line) = None
-named_node (fault.Unknown line) = None
-named_node (fault.Twice line) = None
-named_node (fault.Missing node) = Some node
-named_node (fault.Bit line) = None
-named_node (fault.Order line) = None
-named_node (fault.TooMany line) = None
-named_node fault.Memory = None
-named_node (fault.Mismatch line told real) = None
-
--- the gate that a fault of a start names, if it names one
-abbrev pub named_gate : StartFault → Option ℕ
-named_gate (start.Open gate) = Some gate
-named_gate (start.Unstable gate) = Some gate
-named_gate start.Memory = None
-
--- what is named, if anything is, is a node of the circuit
-abbrev pub NamesNode : Netlist → Option ℕ → Type 0
-NamesNode netlist named = IfSome named (λ node. node < length netlist.names)
 
 -- a gate that the start leaves open
 unfoldable pub open_line : Netlist → ℕ → List ℕ

@@ -1,5 +1,5 @@
 -- What the runs of a run text come to, by the step relation and the definitions of cycles.
-use Rattle.std.specs.Prelude.{◌≡◌, ℕ, ◌+◌, Bool, List, [], ◌∷◌, ◌++◌, length, All, Some, None, IfSome, is_some, count_by}
+use Rattle.std.specs.Prelude.{◌≡◌, ℕ, ◌+◌, Bool, List, ◌∷◌, ◌++◌, length, All, Some, IfSome, is_some, count_by}
 use Rattle.hz_core.specs.Netlist.{Netlist}
 use Rattle.hz_net.specs.Network.{Driver, network_of}
 use Rattle.hz_net.specs.Variables.{expansion_of}
@@ -11,10 +11,6 @@ use Rattle.hz_gmw.specs.declared.replay_fault.CycleFault.{CycleFault}
 use Rattle.hz_text.specs.RunValue.{RunOf, RunTextOf, cycle_steps, all_steps}
 use Rattle.hz_top.specs.declared.replaying.Refused.{Refused}
 use Rattle.hz_top.specs.declared.replaying.Refused.TheVariants.{Step, Cycle}
-
--- a run without a step
-abbrev pub no_run : RunOf
-no_run = record { lead = []; cycle = None }
 
 -- all steps of a run, those of its cycle behind those of its lead
 abbrev pub steps_of : RunOf → List (List ℕ)

@@ -1,9 +1,8 @@
 -- The one line that `replay` writes.
-use Rattle.std.specs.Prelude.{ℕ, ◌<◌, ◌⊎◌, List, [], ◌∷◌, ◌++◌, length, codes, decimal, Option, Some, None, IfSome}
+use Rattle.std.specs.Prelude.{ℕ, ◌⊎◌, List, [], ◌∷◌, ◌++◌, length, codes, decimal}
 use Rattle.std.specs.List.{concat}
 use Rattle.hz_write.specs.Writes.{newline, line_of}
 use Rattle.hz_core.specs.Netlist.{Netlist}
-use Rattle.hz_net.specs.Network.{network_of}
 use Rattle.hz_gmw.specs.declared.replay_fault.StepFault.{StepFault}
 use Rattle.hz_gmw.specs.declared.replay_fault.StepFault.TheVariants.{Empty, Repeated, Stable}
 use Rattle.hz_gmw.specs.declared.replay_fault.CycleFault.{CycleFault}
@@ -54,27 +53,6 @@ cycle_line netlist run (Transient var) = naming_line netlist (cycle_words run (c
 abbrev pub no_line : Netlist → ℕ → Refused → List ℕ
 no_line netlist run (refused.Step number fault) = step_line netlist run number fault
 no_line netlist run (refused.Cycle fault) = cycle_line netlist run fault
-
--- the variable that a fault of a step names, if it names one
-abbrev pub step_variable : StepFault → Option ℕ
-step_variable Empty = None
-step_variable (Repeated var) = Some var
-step_variable (Stable var) = Some var
-
--- the variable that a fault of a cycle names
-abbrev pub cycle_variable : CycleFault → ℕ
-cycle_variable (Differs var) = var
-cycle_variable (NotStable var) = var
-cycle_variable (Transient var) = var
-
--- the variable that a refusal names, if it names one
-abbrev pub named_variable : Refused → Option ℕ
-named_variable (refused.Step number fault) = step_variable fault
-named_variable (refused.Cycle fault) = Some (cycle_variable fault)
-
--- what is named, if anything is, is a variable of the network
-abbrev pub NamesVariable : Netlist → Option ℕ → Type 0
-NamesVariable netlist named = IfSome named (λ var. var < length (network_of netlist))
 
 -- the line of runs that are accepted
 abbrev pub accepted_line : List RunOf → List ℕ

@@ -2,8 +2,8 @@
 ghost use Rattle.std.specs.Prelude.{◌≡◌, ◌<◌, length};
 ghost use Rattle.hz_write.specs.Writes.{Wrote};
 ghost use Rattle.hz_top.specs.Answer.{Answers};
-ghost use Rattle.hz_top.specs.Outcome.{LoadPrints, NetlistPrints, StartPrints, TextPrints};
-ghost use Rattle.hz_top.specs.Refusal.{words_line, unread_line, long_line, place_word, fault_line, counted_line, variables_line, missing_line, mismatch_line, netlist_fault_line, text_fault_line, named_node, named_gate, NamesNode, open_line, unstable_line};
+ghost use Rattle.hz_top.specs.Inside.{LoadPrints, NetlistPrints, StartPrints, TextPrints, named_node, named_gate, NamesNode};
+ghost use Rattle.hz_top.specs.Refusal.{words_line, unread_line, long_line, place_word, fault_line, counted_line, variables_line, missing_line, mismatch_line, netlist_fault_line, text_fault_line, open_line, unstable_line};
 
 use crate::status::{Status, status_after};
 use hz_bench::BenchFault;

@@ -3,8 +3,9 @@ ghost use Rattle.std.specs.Prelude.{◌≡◌, ◌+◌, ◌<◌, ◌≤◌, leng
 ghost use Rattle.hz_net.specs.Network.{network_of};
 ghost use Rattle.hz_write.specs.Pieces.{piece_text};
 ghost use Rattle.hz_write.specs.Writes.{Wrote};
-ghost use Rattle.hz_top.specs.Replaying.{total_steps, total_cycles, steps_of, no_run};
-ghost use Rattle.hz_top.specs.Verdict.{yes_line, naming_line, step_line, cycle_line, no_line, accepted_line, step_variable, cycle_variable, named_variable, NamesVariable};
+ghost use Rattle.hz_top.specs.Replaying.{total_steps, total_cycles, steps_of};
+ghost use Rattle.hz_top.specs.Verdict.{yes_line, naming_line, step_line, cycle_line, no_line, accepted_line};
+ghost use Rattle.hz_top.specs.Inside.{no_run, step_variable, cycle_variable, named_variable, NamesVariable};
 
 use crate::replaying::Refused;
 use hz_gmw::{CycleFault, StepFault};

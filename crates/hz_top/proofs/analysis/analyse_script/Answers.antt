@@ -1,7 +1,8 @@
 use Rattle.std.proofs.Common.{inl, inr, arith, List, Option, Bool, subst}
 use Rattle.hz_pass.specs.Completed.{IsStartFault}
-use Rattle.hz_top.specs.Outcome.{IsScriptOutcome, StartPrints}
+use Rattle.hz_top.specs.Outcome.{IsScriptOutcome}
 use Rattle.hz_top.specs.Reports.{Reports}
+use Rattle.hz_top.specs.Inside.{StartPrints}
 use Rattle.hz_top.proofs.PutEndings.{Answers-more}
 use Rattle.hz_top.proofs.JobOutcomes.{ListsInputs-front, start-accepted, start-refused}
 use Rattle.hz_top.proofs.analysis.analyse_script.Goals as goal

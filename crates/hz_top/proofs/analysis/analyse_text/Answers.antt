@@ -1,7 +1,8 @@
 use Rattle.std.proofs.Common.{inl, inr, codes, subst, sym}
 use Rattle.hz_core.specs.Netlist.{IsCircuit}
 use Rattle.hz_text.specs.ScriptFault.{HasScriptFault}
-use Rattle.hz_top.specs.Outcome.{IsScriptOutcome, IsScriptTextOutcome, TextPrints}
+use Rattle.hz_top.specs.Outcome.{IsScriptOutcome, IsScriptTextOutcome}
+use Rattle.hz_top.specs.Inside.{TextPrints}
 use Rattle.hz_top.proofs.PutEndings.{Answers-more}
 use Rattle.hz_top.proofs.JobOutcomes.{text-refused}
 use Rattle.hz_top.proofs.NamedNodes.{script-node}

@@ -6,7 +6,8 @@ use Rattle.hz_text.specs.ScriptText.{IsScriptFor}
 use Rattle.hz_gen.specs.Demo.{demo_netlist, demo_script}
 use Rattle.hz_pass.specs.Completed.{IsStartFault}
 use Rattle.hz_top.specs.Answer.{Answers}
-use Rattle.hz_top.specs.Outcome.{IsDemoOutcome, StartPrints}
+use Rattle.hz_top.specs.Outcome.{IsDemoOutcome}
+use Rattle.hz_top.specs.Inside.{StartPrints}
 use Rattle.hz_top.proofs.PutEndings.{Answers-more}
 use Rattle.hz_top.proofs.JobOutcomes.{ListsInputs-front, start-not-refused}
 use Rattle.hz_top.proofs.demo.demo.Goals as goal

@@ -1,7 +1,8 @@
 use Rattle.std.proofs.Common.{refl, inl, inr, ap, ◌∙◌, Err}
 use Rattle.hz_outside.specs.declared.fault.Place.TheVariants.{First}
-use Rattle.hz_top.specs.Outcome.{IsFilesOutcome, IsTaskOutcome, IsSecondFileOutcome, LoadPrints, NetlistPrints, observation_of}
+use Rattle.hz_top.specs.Outcome.{IsFilesOutcome, IsTaskOutcome, IsSecondFileOutcome, observation_of}
 use Rattle.hz_top.specs.Refusal.{netlist_fault_line}
+use Rattle.hz_top.specs.Inside.{LoadPrints, NetlistPrints}
 use Rattle.hz_top.proofs.PutEndings.{Answers-more}
 use Rattle.hz_top.proofs.JobOutcomes.{FileRefused-load, IsSecondFileOutcome-before, netlist-refused}
 use Rattle.hz_top.proofs.order.work_on_files.Goals as goal

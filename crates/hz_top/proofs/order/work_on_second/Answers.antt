@@ -1,6 +1,7 @@
 use Rattle.std.proofs.Common.{inl, inr, ap, ◌∙◌, Err}
 use Rattle.hz_outside.specs.declared.fault.Place.TheVariants.{Second}
-use Rattle.hz_top.specs.Outcome.{IsTaskOutcome, IsSecondFileOutcome, LoadPrints, observation_of}
+use Rattle.hz_top.specs.Outcome.{IsTaskOutcome, IsSecondFileOutcome, observation_of}
+use Rattle.hz_top.specs.Inside.{LoadPrints}
 use Rattle.hz_top.proofs.PutEndings.{Answers-more}
 use Rattle.hz_top.proofs.JobOutcomes.{FileRefused-load}
 use Rattle.hz_top.proofs.order.work_on_second.Goals as goal

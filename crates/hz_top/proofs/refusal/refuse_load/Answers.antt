@@ -1,5 +1,5 @@
 use Rattle.hz_top.specs.declared.status.Status.TheVariants as status
-use Rattle.hz_top.specs.Outcome.{LoadPrints}
+use Rattle.hz_top.specs.Inside.{LoadPrints}
 use Rattle.hz_top.specs.Refusal.{unread_line, long_line}
 use Rattle.hz_top.proofs.PutEndings.{Answers-put}
 use Rattle.hz_top.proofs.JobOutcomes.{LoadPrints-failed, LoadPrints-long}

@@ -1,6 +1,6 @@
 use Rattle.std.proofs.Common.{refl}
 use Rattle.hz_top.specs.declared.status.Status.TheVariants as status
-use Rattle.hz_top.specs.Outcome.{NetlistPrints}
+use Rattle.hz_top.specs.Inside.{NetlistPrints}
 use Rattle.hz_top.specs.Refusal.{netlist_fault_line}
 use Rattle.hz_top.proofs.PutEndings.{Answers-put}
 use Rattle.hz_top.proofs.refusal.refuse_netlist.Goals as goal

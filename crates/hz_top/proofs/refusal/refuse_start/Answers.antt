@@ -3,7 +3,7 @@ use Rattle.hz_pass.specs.declared.completed_start.StartFault.{StartFault}
 use Rattle.hz_pass.specs.declared.completed_start.StartFault.TheVariants.{Open, Unstable}
 use Rattle.hz_top.specs.declared.status.Status.TheVariants as status
 use Rattle.hz_top.specs.Answer.{Answers}
-use Rattle.hz_top.specs.Outcome.{StartPrints}
+use Rattle.hz_top.specs.Inside.{StartPrints}
 use Rattle.hz_top.specs.Refusal.{open_line, unstable_line}
 use Rattle.hz_top.proofs.PutEndings.{Answers-put}
 use Rattle.hz_top.proofs.refusal.refuse_start.Goals as goal

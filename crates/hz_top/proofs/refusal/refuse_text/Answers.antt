@@ -1,6 +1,6 @@
 use Rattle.std.proofs.Common.{refl}
 use Rattle.hz_top.specs.declared.status.Status.TheVariants as status
-use Rattle.hz_top.specs.Outcome.{TextPrints}
+use Rattle.hz_top.specs.Inside.{TextPrints}
 use Rattle.hz_top.specs.Refusal.{text_fault_line}
 use Rattle.hz_top.proofs.PutEndings.{Answers-put}
 use Rattle.hz_top.proofs.refusal.refuse_text.Goals as goal

@@ -3,8 +3,9 @@ use Rattle.std.proofs.lemmas.List.{take_all}
 use Rattle.std.specs.Option.{option_map}
 use Rattle.hz_net.specs.Network.{Driver, network_of}
 use Rattle.hz_gmw.specs.Replayer.{Replayer}
-use Rattle.hz_top.specs.Replaying.{no_run, IsAcceptedRun, IsRefusedRun}
+use Rattle.hz_top.specs.Replaying.{IsAcceptedRun, IsRefusedRun}
 use Rattle.hz_top.specs.ReplayerSteps.{run_of}
+use Rattle.hz_top.specs.Inside.{no_run}
 use Rattle.hz_top.proofs.RunSteps.{same-run, run-variables, run-few, begun-again, kept-again, accepted-more, first-refused}
 use Rattle.hz_top.proofs.replaying.replay_runs.Goals as goal
 

@@ -1,6 +1,6 @@
 use Rattle.std.proofs.Common.{inl, inr, codes}
 use Rattle.hz_text.specs.RunFault.{HasRunFault}
-use Rattle.hz_top.specs.Outcome.{TextPrints}
+use Rattle.hz_top.specs.Inside.{TextPrints}
 use Rattle.hz_top.specs.RunTexts.{IsRunTextOutcome}
 use Rattle.hz_top.specs.Verdict.{IsReplayOutcome}
 use Rattle.hz_top.proofs.PutEndings.{Answers-more}
