@@ -4,8 +4,8 @@ use Rattle.std.specs.List.{list_all}
 use Rattle.std.proofs.lemmas.Bool.Decides.{nat_tests}
 use Rattle.hz_core.specs.declared.kind.Kind.{Kind}
 use Rattle.hz_core.specs.Netlist.{Netlist, IsName, is_name_byte, node_named, variable_count}
-use Rattle.hz_line.specs.Byte.{Class, Blank, Hash, Sign, Letter, Forbidden, class_of, is_word_byte, is_word_class}
-use Rattle.hz_line.specs.declared.bytes.Mark.TheVariants.{Open, Close, Comma, Equals}
+use Rattle.hz_line.specs.Byte.{Class, Blank, Hash, Punct, WordByte, Forbidden, class_of, is_word_byte, is_word_class}
+use Rattle.hz_line.specs.declared.bytes.Punctuation.TheVariants.{Open, Close, Comma, Equals}
 use Rattle.hz_line.specs.Token.{IsWordToken}
 use Rattle.std.proofs.lemmas.List.{take_more, map_push, at_drop_more}
 use Rattle.hz_line.proofs.WrittenLemmas.{both}
@@ -21,7 +21,7 @@ past : (test : Bool) (class rest : Class) → is_word_class class ≡ false → 
 past true class rest none h = cc
 past false class rest none h = (refl, h)
 
-last : (test : Bool) → is_word_class (cond test Letter Forbidden) ≡ true → test ≡ true
+last : (test : Bool) → is_word_class (cond test WordByte Forbidden) ≡ true → test ≡ true
 last true h = refl
 last false h = cc
 
@@ -31,10 +31,10 @@ unfolding class_of
 is_name_byte-letter byte h =
     let blank = past (byte == 32 || byte == 9) Blank _ refl h in
     let hash = past (byte == 35) Hash _ refl blank.1 in
-    let open_mark = past (byte == 40) (Sign Open) _ refl hash.1 in
-    let close_mark = past (byte == 41) (Sign Close) _ refl open_mark.1 in
-    let comma = past (byte == 44) (Sign Comma) _ refl close_mark.1 in
-    let equals = past (byte == 61) (Sign Equals) _ refl comma.1 in
+    let open_mark = past (byte == 40) (Punct Open) _ refl hash.1 in
+    let close_mark = past (byte == 41) (Punct Close) _ refl open_mark.1 in
+    let comma = past (byte == 44) (Punct Comma) _ refl close_mark.1 in
+    let equals = past (byte == 61) (Punct Equals) _ refl comma.1 in
     let range = both (nat_le 33 byte) (nat_le byte 126) (last (nat_le 33 byte && nat_le byte 126) equals.1) in
     rw (range.0, range.1, open_mark.0, close_mark.0, comma.0, equals.0, hash.0) refl
 

@@ -5,10 +5,10 @@ use Rattle.std.specs.List.{AllByRecursion}
 use Rattle.std.proofs.lemmas.List.Elements.{All-head, All-tail}
 use Rattle.hz_core.specs.Netlist.{Netlist, IsCircuit, IsDataAmong, IsWhole, empty_netlist, with_output}
 use Rattle.hz_core.proofs.CircuitLemmas.{IsCircuit-empty, IsCircuit-with_input, IsCircuit-with_cut, IsCircuit-with_data, IsCircuit-with_gate, IsCircuit-with_pin, IsCircuit-with_output}
-use Rattle.hz_line.specs.declared.bytes.Mark.TheVariants.{Open, Close, Comma, Equals}
+use Rattle.hz_line.specs.declared.bytes.Punctuation.TheVariants.{Open, Close, Comma, Equals}
 use Rattle.hz_line.specs.Line.{lines_of}
 use Rattle.hz_line.specs.Statement.{Meaning, Nothing, Malformed, Means, Numbered, with_meaning, meaning_by, meaning_of_tokens, numbered_from, first_malformed}
-use Rattle.hz_line.specs.Token.{TokenOf, WordOf, MarkOf, tokens_of, IsWordToken, AreWordTokens}
+use Rattle.hz_line.specs.Token.{TokenOf, WordOf, PunctuationOf, tokens_of, IsWordToken, AreWordTokens}
 use Rattle.hz_line.proofs.TokenLemmas.{tokens_of-AreWordTokens}
 use Rattle.hz_bench.specs.declared.fault.BenchFault.{BenchFault}
 use Rattle.hz_bench.specs.declared.fault.BenchFault.TheVariants.{Form}
@@ -44,28 +44,28 @@ defined_worded name kind (Some names) statement h word = by_word (is_flip_flop k
 
 tokens_worded : (tokens : List TokenOf) (statement : Statement) → statement_of tokens ≡ Some statement → AreWordTokens tokens → Worded statement
 tokens_worded [] statement h words = cc
-tokens_worded (MarkOf mark ∷ rest) statement h words = cc
+tokens_worded (PunctuationOf punctuation ∷ rest) statement h words = cc
 tokens_worded (WordOf first ∷ []) statement h words = cc
 tokens_worded (WordOf first ∷ WordOf second ∷ rest) statement h words = cc
-tokens_worded (WordOf first ∷ MarkOf Close ∷ rest) statement h words = cc
-tokens_worded (WordOf first ∷ MarkOf Comma ∷ rest) statement h words = cc
-tokens_worded (WordOf first ∷ MarkOf Open ∷ []) statement h words = cc
-tokens_worded (WordOf first ∷ MarkOf Open ∷ MarkOf mark ∷ rest) statement h words = cc
-tokens_worded (WordOf first ∷ MarkOf Open ∷ WordOf second ∷ []) statement h words = cc
-tokens_worded (WordOf first ∷ MarkOf Open ∷ WordOf second ∷ WordOf third ∷ rest) statement h words = cc
-tokens_worded (WordOf first ∷ MarkOf Open ∷ WordOf second ∷ MarkOf Open ∷ rest) statement h words = cc
-tokens_worded (WordOf first ∷ MarkOf Open ∷ WordOf second ∷ MarkOf Comma ∷ rest) statement h words = cc
-tokens_worded (WordOf first ∷ MarkOf Open ∷ WordOf second ∷ MarkOf Equals ∷ rest) statement h words = cc
-tokens_worded (WordOf first ∷ MarkOf Open ∷ WordOf second ∷ MarkOf Close ∷ []) statement h words = port_worded second (port_word first) statement h words.1.0
-tokens_worded (WordOf first ∷ MarkOf Open ∷ WordOf second ∷ MarkOf Close ∷ token ∷ rest) statement h words = cc
-tokens_worded (WordOf first ∷ MarkOf Equals ∷ []) statement h words = cc
-tokens_worded (WordOf first ∷ MarkOf Equals ∷ MarkOf mark ∷ rest) statement h words = cc
-tokens_worded (WordOf first ∷ MarkOf Equals ∷ WordOf second ∷ []) statement h words = cc
-tokens_worded (WordOf first ∷ MarkOf Equals ∷ WordOf second ∷ WordOf third ∷ rest) statement h words = cc
-tokens_worded (WordOf first ∷ MarkOf Equals ∷ WordOf second ∷ MarkOf Close ∷ rest) statement h words = cc
-tokens_worded (WordOf first ∷ MarkOf Equals ∷ WordOf second ∷ MarkOf Comma ∷ rest) statement h words = cc
-tokens_worded (WordOf first ∷ MarkOf Equals ∷ WordOf second ∷ MarkOf Equals ∷ rest) statement h words = cc
-tokens_worded (WordOf first ∷ MarkOf Equals ∷ WordOf second ∷ MarkOf Open ∷ rest) statement h words = defined_worded first second (name_list_of rest) statement h words.0
+tokens_worded (WordOf first ∷ PunctuationOf Close ∷ rest) statement h words = cc
+tokens_worded (WordOf first ∷ PunctuationOf Comma ∷ rest) statement h words = cc
+tokens_worded (WordOf first ∷ PunctuationOf Open ∷ []) statement h words = cc
+tokens_worded (WordOf first ∷ PunctuationOf Open ∷ PunctuationOf punctuation ∷ rest) statement h words = cc
+tokens_worded (WordOf first ∷ PunctuationOf Open ∷ WordOf second ∷ []) statement h words = cc
+tokens_worded (WordOf first ∷ PunctuationOf Open ∷ WordOf second ∷ WordOf third ∷ rest) statement h words = cc
+tokens_worded (WordOf first ∷ PunctuationOf Open ∷ WordOf second ∷ PunctuationOf Open ∷ rest) statement h words = cc
+tokens_worded (WordOf first ∷ PunctuationOf Open ∷ WordOf second ∷ PunctuationOf Comma ∷ rest) statement h words = cc
+tokens_worded (WordOf first ∷ PunctuationOf Open ∷ WordOf second ∷ PunctuationOf Equals ∷ rest) statement h words = cc
+tokens_worded (WordOf first ∷ PunctuationOf Open ∷ WordOf second ∷ PunctuationOf Close ∷ []) statement h words = port_worded second (port_word first) statement h words.1.0
+tokens_worded (WordOf first ∷ PunctuationOf Open ∷ WordOf second ∷ PunctuationOf Close ∷ token ∷ rest) statement h words = cc
+tokens_worded (WordOf first ∷ PunctuationOf Equals ∷ []) statement h words = cc
+tokens_worded (WordOf first ∷ PunctuationOf Equals ∷ PunctuationOf punctuation ∷ rest) statement h words = cc
+tokens_worded (WordOf first ∷ PunctuationOf Equals ∷ WordOf second ∷ []) statement h words = cc
+tokens_worded (WordOf first ∷ PunctuationOf Equals ∷ WordOf second ∷ WordOf third ∷ rest) statement h words = cc
+tokens_worded (WordOf first ∷ PunctuationOf Equals ∷ WordOf second ∷ PunctuationOf Close ∷ rest) statement h words = cc
+tokens_worded (WordOf first ∷ PunctuationOf Equals ∷ WordOf second ∷ PunctuationOf Comma ∷ rest) statement h words = cc
+tokens_worded (WordOf first ∷ PunctuationOf Equals ∷ WordOf second ∷ PunctuationOf Equals ∷ rest) statement h words = cc
+tokens_worded (WordOf first ∷ PunctuationOf Equals ∷ WordOf second ∷ PunctuationOf Open ∷ rest) statement h words = defined_worded first second (name_list_of rest) statement h words.0
 
 found_worded : (tokens : List TokenOf) (found : Option Statement) (statement : Statement) → found ≡ statement_of tokens → meaning_by found ≡ Means statement → AreWordTokens tokens → Worded statement
 found_worded tokens None statement same h words = cc

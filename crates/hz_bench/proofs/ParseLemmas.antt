@@ -4,10 +4,10 @@ use Rattle.std.specs.Borrow.{Bor}
 use Rattle.std.specs.Map.{lookup}
 use Rattle.std.specs.Str.{bytes_eq}
 use Rattle.std.proofs.lemmas.List.{append-nil}
-use Rattle.hz_line.specs.declared.bytes.Mark.TheVariants.{Open, Close, Comma, Equals}
+use Rattle.hz_line.specs.declared.bytes.Punctuation.TheVariants.{Open, Close, Comma, Equals}
 use Rattle.hz_line.specs.Line.{lines_of, lines_of_rest, rest_length}
 use Rattle.hz_line.specs.Statement.{Nothing, Means, Numbered, with_meaning, meaning_by, meaning_of_tokens, numbered_from, malformed_before, first_malformed, first_passing_line}
-use Rattle.hz_line.specs.Token.{TokenOf, WordOf, MarkOf, tokens_of}
+use Rattle.hz_line.specs.Token.{TokenOf, WordOf, PunctuationOf, tokens_of}
 use Rattle.hz_line.proofs.TokenLemmas.{tokens_of-length}
 use Rattle.hz_bench.specs.declared.notes.Notes.{Notes}
 use Rattle.hz_bench.specs.declared.parse.Statements.{Statements}
@@ -104,31 +104,31 @@ gate_weight name word rest (Some names) statement same h = by_word (is_flip_flop
         let few : length names + length names ≡ length rest = omega (arith, ap length words, twice) in
         subst (λ (one : Statement). statement_variable_count one ≤ length rest + 4) is (omega arith)
 
--- only a head of two words, each with a mark after it, begins a statement
+-- only a head of two words, each with punctuation after it, begins a statement
 statement_weight : (tokens : List TokenOf) (statement : Statement) → statement_of tokens ≡ Some statement → statement_variable_count statement ≤ length tokens
 statement_weight [] statement h = cc
-statement_weight (MarkOf mark ∷ rest) statement h = cc
+statement_weight (PunctuationOf punctuation ∷ rest) statement h = cc
 statement_weight (WordOf first ∷ []) statement h = cc
 statement_weight (WordOf first ∷ WordOf second ∷ rest) statement h = cc
-statement_weight (WordOf first ∷ MarkOf Close ∷ rest) statement h = cc
-statement_weight (WordOf first ∷ MarkOf Comma ∷ rest) statement h = cc
-statement_weight (WordOf first ∷ MarkOf Open ∷ []) statement h = cc
-statement_weight (WordOf first ∷ MarkOf Open ∷ MarkOf mark ∷ rest) statement h = cc
-statement_weight (WordOf first ∷ MarkOf Open ∷ WordOf second ∷ []) statement h = cc
-statement_weight (WordOf first ∷ MarkOf Open ∷ WordOf second ∷ WordOf third ∷ rest) statement h = cc
-statement_weight (WordOf first ∷ MarkOf Open ∷ WordOf second ∷ MarkOf Open ∷ rest) statement h = cc
-statement_weight (WordOf first ∷ MarkOf Open ∷ WordOf second ∷ MarkOf Comma ∷ rest) statement h = cc
-statement_weight (WordOf first ∷ MarkOf Open ∷ WordOf second ∷ MarkOf Equals ∷ rest) statement h = cc
-statement_weight (WordOf first ∷ MarkOf Open ∷ WordOf second ∷ MarkOf Close ∷ []) statement h = port_weight second (port_word first) statement h
-statement_weight (WordOf first ∷ MarkOf Open ∷ WordOf second ∷ MarkOf Close ∷ token ∷ rest) statement h = cc
-statement_weight (WordOf first ∷ MarkOf Equals ∷ []) statement h = cc
-statement_weight (WordOf first ∷ MarkOf Equals ∷ MarkOf mark ∷ rest) statement h = cc
-statement_weight (WordOf first ∷ MarkOf Equals ∷ WordOf second ∷ []) statement h = cc
-statement_weight (WordOf first ∷ MarkOf Equals ∷ WordOf second ∷ WordOf third ∷ rest) statement h = cc
-statement_weight (WordOf first ∷ MarkOf Equals ∷ WordOf second ∷ MarkOf Close ∷ rest) statement h = cc
-statement_weight (WordOf first ∷ MarkOf Equals ∷ WordOf second ∷ MarkOf Comma ∷ rest) statement h = cc
-statement_weight (WordOf first ∷ MarkOf Equals ∷ WordOf second ∷ MarkOf Equals ∷ rest) statement h = cc
-statement_weight (WordOf first ∷ MarkOf Equals ∷ WordOf second ∷ MarkOf Open ∷ rest) statement h =
+statement_weight (WordOf first ∷ PunctuationOf Close ∷ rest) statement h = cc
+statement_weight (WordOf first ∷ PunctuationOf Comma ∷ rest) statement h = cc
+statement_weight (WordOf first ∷ PunctuationOf Open ∷ []) statement h = cc
+statement_weight (WordOf first ∷ PunctuationOf Open ∷ PunctuationOf punctuation ∷ rest) statement h = cc
+statement_weight (WordOf first ∷ PunctuationOf Open ∷ WordOf second ∷ []) statement h = cc
+statement_weight (WordOf first ∷ PunctuationOf Open ∷ WordOf second ∷ WordOf third ∷ rest) statement h = cc
+statement_weight (WordOf first ∷ PunctuationOf Open ∷ WordOf second ∷ PunctuationOf Open ∷ rest) statement h = cc
+statement_weight (WordOf first ∷ PunctuationOf Open ∷ WordOf second ∷ PunctuationOf Comma ∷ rest) statement h = cc
+statement_weight (WordOf first ∷ PunctuationOf Open ∷ WordOf second ∷ PunctuationOf Equals ∷ rest) statement h = cc
+statement_weight (WordOf first ∷ PunctuationOf Open ∷ WordOf second ∷ PunctuationOf Close ∷ []) statement h = port_weight second (port_word first) statement h
+statement_weight (WordOf first ∷ PunctuationOf Open ∷ WordOf second ∷ PunctuationOf Close ∷ token ∷ rest) statement h = cc
+statement_weight (WordOf first ∷ PunctuationOf Equals ∷ []) statement h = cc
+statement_weight (WordOf first ∷ PunctuationOf Equals ∷ PunctuationOf punctuation ∷ rest) statement h = cc
+statement_weight (WordOf first ∷ PunctuationOf Equals ∷ WordOf second ∷ []) statement h = cc
+statement_weight (WordOf first ∷ PunctuationOf Equals ∷ WordOf second ∷ WordOf third ∷ rest) statement h = cc
+statement_weight (WordOf first ∷ PunctuationOf Equals ∷ WordOf second ∷ PunctuationOf Close ∷ rest) statement h = cc
+statement_weight (WordOf first ∷ PunctuationOf Equals ∷ WordOf second ∷ PunctuationOf Comma ∷ rest) statement h = cc
+statement_weight (WordOf first ∷ PunctuationOf Equals ∷ WordOf second ∷ PunctuationOf Equals ∷ rest) statement h = cc
+statement_weight (WordOf first ∷ PunctuationOf Equals ∷ WordOf second ∷ PunctuationOf Open ∷ rest) statement h =
     let few = gate_weight first second rest (name_list_of rest) statement refl h in omega arith
 
 found_weight : (tokens : List TokenOf) (found : Option Statement) (statement : Statement) → found ≡ statement_of tokens → meaning_by found ≡ Means statement → statement_variable_count statement ≤ length tokens

@@ -8,15 +8,15 @@ use Rattle.std.proofs.lemmas.List.Elements.{All-head, All-tail, All-take, All-ma
 use Rattle.hz_core.specs.declared.kind.Kind.{Kind}
 use Rattle.hz_core.specs.declared.kind.Kind.TheVariants.{And, Nand, Or, Nor, Xor, Xnor, Not, Buff}
 use Rattle.hz_core.specs.Netlist.{Netlist, Gate as GateOf, IsName, IsCircuit, IsDataAmong, IsGateAmong, IsWhole, primary_inputs}
-use Rattle.hz_line.specs.declared.bytes.Mark.TheVariants.{Open, Close, Comma, Equals}
+use Rattle.hz_line.specs.declared.bytes.Punctuation.TheVariants.{Open, Close, Comma, Equals}
 use Rattle.hz_line.specs.Byte.{class_of, is_word_byte}
 use Rattle.hz_line.specs.Line.{lines_of}
-use Rattle.hz_line.specs.Token.{TokenOf, WordOf, MarkOf, tokens_of, with_token, begins_in_word}
+use Rattle.hz_line.specs.Token.{TokenOf, WordOf, PunctuationOf, tokens_of, with_token, begins_in_word}
 use Rattle.hz_line.specs.Statement.{Meaning, Nothing, Means, meaning_of_tokens}
 use Rattle.hz_line.proofs.WrittenLemmas.{tokens_of-open, tokens_of-close, tokens_of-comma, tokens_of-equals, tokens_of-space, is_word_byte-separators, tokens_of-word_before, is_inline, word_bytes, lines_of-written}
 use Rattle.hz_bench.specs.Statement.{Port, InputPort, OutputPort, Statement, Gate, kind_named, port_word, port_of, name_list_of, statement_of, FlipFlop, is_flip_flop}
 use Rattle.hz_bench.specs.Text.{bench_meaning}
-use Rattle.hz_bench.specs.Printed.{name_at, kind_name, port_line, port_lines, cut_line, cut_lines, more_sources, source_list, gate_head, gate_line, gate_texts, netlist_text}
+use Rattle.hz_bench.specs.Printed.{name_at, kind_name, port_line, port_lines, split_line, cut_lines, more_sources, source_list, gate_head, gate_line, gate_texts, netlist_text}
 
 -- a word that stands within a line
 pub record IsWritten (word : List ℕ) : Type 0 where
@@ -100,11 +100,11 @@ unfolding port_line
 port_split word name =
     sym (append_assoc word (40 ∷ (name ++ 41 ∷ [])) (10 ∷ []) ∙ ap (λ back. word ++ 40 ∷ back) (append_assoc name (41 ∷ []) (10 ∷ [])))
 
-port_tokens : (word name : List ℕ) → IsWritten word → IsWritten name → tokens_of (port_body word name) ≡ Some (WordOf word ∷ MarkOf Open ∷ WordOf name ∷ MarkOf Close ∷ [])
+port_tokens : (word name : List ℕ) → IsWritten word → IsWritten name → tokens_of (port_body word name) ≡ Some (WordOf word ∷ PunctuationOf Open ∷ WordOf name ∷ PunctuationOf Close ∷ [])
 port_tokens word name first second =
     let named = tokens_of-word_before name (41 ∷ []) second.some second.letters is_word_byte-separators.2 ∙ ap (with_token (WordOf name)) (tokens_of-close []) in
     tokens_of-word_before word (40 ∷ (name ++ 41 ∷ [])) first.some first.letters is_word_byte-separators.1
-    ∙ ap (with_token (WordOf word)) (tokens_of-open (name ++ 41 ∷ []) ∙ ap (with_token (MarkOf Open)) named)
+    ∙ ap (with_token (WordOf word)) (tokens_of-open (name ++ 41 ∷ []) ∙ ap (with_token (PunctuationOf Open)) named)
 
 port_meaning : (word name : List ℕ) (made : Port) → IsPortWord word made → IsWritten name → bench_meaning (port_body word name) ≡ Means (port_of name made)
 port_meaning word name made is written = ap (meaning_of_tokens statement_of) (port_tokens word name is.written written) ∙ rw is.makes refl
@@ -132,8 +132,8 @@ ports_read word made (name ∷ names) rest is named =
 
 -- the tokens of further names, up to the closing parenthesis
 abbrev further : List (List ℕ) → List TokenOf
-further [] = MarkOf Close ∷ []
-further (name ∷ names) = MarkOf Comma ∷ WordOf name ∷ further names
+further [] = PunctuationOf Close ∷ []
+further (name ∷ names) = PunctuationOf Comma ∷ WordOf name ∷ further names
 
 name_list_of-further : (name : List ℕ) (names : List (List ℕ)) → name_list_of (WordOf name ∷ further names) ≡ Some (name ∷ names)
 name_list_of-further name [] = refl
@@ -159,7 +159,7 @@ further_tokens names (source ∷ sources) named below =
     let word = node_written names source named (All-head P source sources below) in
     let ih = further_tokens names sources named (All-tail P source sources below) in
     tokens_of-comma (32 ∷ (name ++ rest) ++ 41 ∷ [])
-    ∙ ap (with_token (MarkOf Comma)) (tokens_of-space ((name ++ rest) ++ 41 ∷ []) ∙ ap tokens_of (append_assoc name rest (41 ∷ []))
+    ∙ ap (with_token (PunctuationOf Comma)) (tokens_of-space ((name ++ rest) ++ 41 ∷ []) ∙ ap tokens_of (append_assoc name rest (41 ∷ []))
     ∙ tokens_of-word_before name (rest ++ 41 ∷ []) word.some word.letters (further_begins names sources) ∙ ap (with_token (WordOf name)) ih)
 
 further_inline : (names : List (List ℕ)) (sources : List ℕ) → All IsName names → AreNodes names sources → list_all is_inline (more_sources names sources) ≡ true
@@ -195,21 +195,21 @@ sources_inline names (first ∷ rest) named below =
 abbrev cut_body : List ℕ → List ℕ → List ℕ
 cut_body name source = name ++ (32 ∷ 61 ∷ 32 ∷ codes "DFF" ++ (40 ∷ (source ++ 41 ∷ [])))
 
-cut_split : (name source : List ℕ) → cut_line name source ≡ cut_body name source ++ 10 ∷ []
-unfolding cut_line
+cut_split : (name source : List ℕ) → split_line name source ≡ cut_body name source ++ 10 ∷ []
+unfolding split_line
 cut_split name source =
     let front = 32 ∷ 61 ∷ 32 ∷ codes "DFF" ++ 40 ∷ [] in
     sym (append_assoc name (front ++ (source ++ 41 ∷ [])) (10 ∷ []) ∙ ap (λ back. name ++ (front ++ back)) (append_assoc source (41 ∷ []) (10 ∷ [])))
 
-cut_tokens : (name source : List ℕ) → IsWritten name → IsWritten source → tokens_of (cut_body name source) ≡ Some (WordOf name ∷ MarkOf Equals ∷ WordOf (codes "DFF") ∷ MarkOf Open ∷ WordOf source ∷ MarkOf Close ∷ [])
+cut_tokens : (name source : List ℕ) → IsWritten name → IsWritten source → tokens_of (cut_body name source) ≡ Some (WordOf name ∷ PunctuationOf Equals ∷ WordOf (codes "DFF") ∷ PunctuationOf Open ∷ WordOf source ∷ PunctuationOf Close ∷ [])
 cut_tokens name source first second =
     let word = codes "DFF" in
     let spelled = flip_flop_word.0 in
     let back = 40 ∷ (source ++ 41 ∷ []) in
     let last = tokens_of-word_before source (41 ∷ []) second.some second.letters is_word_byte-separators.2 ∙ ap (with_token (WordOf source)) (tokens_of-close []) in
     let kind_first = tokens_of-word_before word back spelled.some spelled.letters is_word_byte-separators.1
-    ∙ ap (with_token (WordOf word)) (tokens_of-open (source ++ 41 ∷ []) ∙ ap (with_token (MarkOf Open)) last) in
-    let equals_first = tokens_of-space (61 ∷ 32 ∷ word ++ back) ∙ tokens_of-equals (32 ∷ word ++ back) ∙ ap (with_token (MarkOf Equals)) (tokens_of-space (word ++ back) ∙ kind_first) in
+    ∙ ap (with_token (WordOf word)) (tokens_of-open (source ++ 41 ∷ []) ∙ ap (with_token (PunctuationOf Open)) last) in
+    let equals_first = tokens_of-space (61 ∷ 32 ∷ word ++ back) ∙ tokens_of-equals (32 ∷ word ++ back) ∙ ap (with_token (PunctuationOf Equals)) (tokens_of-space (word ++ back) ∙ kind_first) in
     tokens_of-word_before name (32 ∷ 61 ∷ 32 ∷ word ++ back) first.some first.letters is_word_byte-separators.0
     ∙ ap (with_token (WordOf name)) equals_first
 
@@ -218,7 +218,7 @@ cut_inline name source first second =
     let back : list_all is_inline (source ++ 41 ∷ []) ≡ true = rw (list_all-append is_inline source (41 ∷ []), second.inline) refl in
     rw (list_all-append is_inline name (32 ∷ 61 ∷ 32 ∷ codes "DFF" ++ (40 ∷ (source ++ 41 ∷ []))), first.inline, back) refl
 
-cut_read : (name source rest : List ℕ) → IsWritten name → IsWritten source → meanings_of (cut_line name source ++ rest) ≡ Means (FlipFlop name (source ∷ [])) ∷ meanings_of rest
+cut_read : (name source rest : List ℕ) → IsWritten name → IsWritten source → meanings_of (split_line name source ++ rest) ≡ Means (FlipFlop name (source ∷ [])) ∷ meanings_of rest
 cut_read name source rest first second =
     ap (λ line. meanings_of (line ++ rest)) (cut_split name source)
     ∙ one_line (cut_body name source) rest (FlipFlop name (source ∷ [])) (cut_inline name source first second)
@@ -237,19 +237,19 @@ cuts_read names node (None ∷ cuts) rest named room among =
     cuts_read names (suc node) cuts rest named (omega (arith, room)) (All-tail (IsDataAmong (length names)) None cuts among)
 cuts_read names node (Some source ∷ cuts) rest named room among =
     let P = IsDataAmong (length names) in
-    ap meanings_of (append_assoc (cut_line (name_at names node) (name_at names source)) (cut_lines names (suc node) cuts) rest)
+    ap meanings_of (append_assoc (split_line (name_at names node) (name_at names source)) (cut_lines names (suc node) cuts) rest)
     ∙ cut_read (name_at names node) (name_at names source) (cut_lines names (suc node) cuts ++ rest)
     (node_written names node named (omega (arith, room))) (node_written names source named (All-head P (Some source) cuts among))
     ∙ ap (λ later. Means (FlipFlop (name_at names node) (name_at names source ∷ [])) ∷ later)
     (cuts_read names (suc node) cuts rest named (omega (arith, room)) (All-tail P (Some source) cuts among))
 
-head_tokens : (name rest : List ℕ) (kind : Kind) → IsWritten name → tokens_of (gate_head name kind ++ rest) ≡ with_token (WordOf name) (with_token (MarkOf Equals) (with_token (WordOf (kind_name kind)) (with_token (MarkOf Open) (tokens_of rest))))
+head_tokens : (name rest : List ℕ) (kind : Kind) → IsWritten name → tokens_of (gate_head name kind ++ rest) ≡ with_token (WordOf name) (with_token (PunctuationOf Equals) (with_token (WordOf (kind_name kind)) (with_token (PunctuationOf Open) (tokens_of rest))))
 unfolding gate_head
 head_tokens name rest kind written =
     let word = kind_name kind in
     let spelled = IsWritten-kind kind in
     let kind_first = ap tokens_of (append_assoc word (40 ∷ []) rest) ∙ tokens_of-word_before word (40 ∷ rest) spelled.some spelled.letters is_word_byte-separators.1 ∙ ap (with_token (WordOf word)) (tokens_of-open rest) in
-    let equals_first = tokens_of-space (61 ∷ 32 ∷ (word ++ 40 ∷ []) ++ rest) ∙ tokens_of-equals (32 ∷ (word ++ 40 ∷ []) ++ rest) ∙ ap (with_token (MarkOf Equals)) (tokens_of-space ((word ++ 40 ∷ []) ++ rest) ∙ kind_first) in
+    let equals_first = tokens_of-space (61 ∷ 32 ∷ (word ++ 40 ∷ []) ++ rest) ∙ tokens_of-equals (32 ∷ (word ++ 40 ∷ []) ++ rest) ∙ ap (with_token (PunctuationOf Equals)) (tokens_of-space ((word ++ 40 ∷ []) ++ rest) ∙ kind_first) in
     ap tokens_of (append_assoc name (32 ∷ 61 ∷ 32 ∷ word ++ 40 ∷ []) rest)
     ∙ tokens_of-word_before name (32 ∷ 61 ∷ 32 ∷ (word ++ 40 ∷ []) ++ rest) written.some written.letters is_word_byte-separators.0
     ∙ ap (with_token (WordOf name)) equals_first
@@ -277,7 +277,7 @@ gate_meaning : (names : List (List ℕ)) (name : List ℕ) (gate : GateOf) → A
 gate_meaning names name gate named written below some =
     let list = sources_tokens names gate.sources named below some in
     ap (meaning_of_tokens statement_of) (head_tokens name (source_list names gate.sources ++ 41 ∷ []) gate.kind written)
-    ∙ ap (λ tokens. meaning_of_tokens statement_of (with_token (WordOf name) (with_token (MarkOf Equals) (with_token (WordOf (kind_name gate.kind)) (with_token (MarkOf Open) tokens))))) list.1
+    ∙ ap (λ tokens. meaning_of_tokens statement_of (with_token (WordOf name) (with_token (PunctuationOf Equals) (with_token (WordOf (kind_name gate.kind)) (with_token (PunctuationOf Open) tokens))))) list.1
     ∙ rw (list.2, no_flip_flop gate.kind, kind_back gate.kind) refl
 
 gate_inline : (names : List (List ℕ)) (name : List ℕ) (gate : GateOf) → All IsName names → IsWritten name → AreNodes names gate.sources → list_all is_inline (gate_body names name gate) ≡ true

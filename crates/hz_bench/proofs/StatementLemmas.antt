@@ -1,10 +1,10 @@
 -- The statement that a line means, from the head of its tokens.
 use Rattle.std.proofs.Common.{◌≡◌, ◌∙◌, ℕ, ◌*◌, ◌||◌, List, [], ◌∷◌, Bool, true, false, Option, Some, None, option_map, is_some, cond, length, refl, sym, ap, subst, arith, IfSome, true≢false}
 use Rattle.std.specs.List.{list_any}
-use Rattle.hz_line.specs.declared.bytes.Mark.{Mark}
-use Rattle.hz_line.specs.declared.bytes.Mark.TheVariants.{Open, Close, Comma, Equals}
+use Rattle.hz_line.specs.declared.bytes.Punctuation.{Punctuation}
+use Rattle.hz_line.specs.declared.bytes.Punctuation.TheVariants.{Open, Close, Comma, Equals}
 use Rattle.hz_line.specs.Statement.{Means, meaning_of_tokens}
-use Rattle.hz_line.specs.Token.{TokenOf, WordOf, MarkOf, tokens_of, with_token, has_no_token, IsWordToken, AreWordTokens}
+use Rattle.hz_line.specs.Token.{TokenOf, WordOf, PunctuationOf, tokens_of, with_token, has_no_token, IsWordToken, AreWordTokens}
 use Rattle.hz_line.proofs.TokenLemmas.{tokens_of-AreWordTokens}
 use Rattle.hz_bench.specs.declared.forms.Form.TheVariants as form
 use Rattle.hz_bench.specs.declared.statement.Head.{Head}
@@ -69,23 +69,23 @@ more_names name (Some names) h = refl
 
 pub IsNameList-from_some : (tokens : List TokenOf) → is_some (name_list_of tokens) ≡ true → IsNameList tokens
 IsNameList-from_some [] h = cc
-IsNameList-from_some (MarkOf mark ∷ rest) h = cc
+IsNameList-from_some (PunctuationOf punctuation ∷ rest) h = cc
 IsNameList-from_some (WordOf name ∷ []) h = cc
 IsNameList-from_some (WordOf name ∷ WordOf next ∷ rest) h = cc
-IsNameList-from_some (WordOf name ∷ MarkOf Open ∷ rest) h = cc
-IsNameList-from_some (WordOf name ∷ MarkOf Equals ∷ rest) h = cc
-IsNameList-from_some (WordOf name ∷ MarkOf Close ∷ []) h = record { words = refl; twice = refl }
-IsNameList-from_some (WordOf name ∷ MarkOf Close ∷ token ∷ rest) h = cc
-IsNameList-from_some (WordOf name ∷ MarkOf Comma ∷ rest) h =
+IsNameList-from_some (WordOf name ∷ PunctuationOf Open ∷ rest) h = cc
+IsNameList-from_some (WordOf name ∷ PunctuationOf Equals ∷ rest) h = cc
+IsNameList-from_some (WordOf name ∷ PunctuationOf Close ∷ []) h = record { words = refl; twice = refl }
+IsNameList-from_some (WordOf name ∷ PunctuationOf Close ∷ token ∷ rest) h = cc
+IsNameList-from_some (WordOf name ∷ PunctuationOf Comma ∷ rest) h =
     let ih = IsNameList-from_some rest (more_names name (name_list_of rest) h) in
     record { words = ap (option_map (λ (names : List (List ℕ)). name ∷ names)) ih.words; twice = let t = ih.twice in omega arith }
 
 -- the tokens of a head before these
-abbrev pub headed : List ℕ → Mark → List ℕ → Mark → Option (List TokenOf) → Option (List TokenOf)
-headed first mark second next tokens = with_token (WordOf first) (with_token (MarkOf mark) (with_token (WordOf second) (with_token (MarkOf next) tokens)))
+abbrev pub headed : List ℕ → Punctuation → List ℕ → Punctuation → Option (List TokenOf) → Option (List TokenOf)
+headed first punctuation second next tokens = with_token (WordOf first) (with_token (PunctuationOf punctuation) (with_token (WordOf second) (with_token (PunctuationOf next) tokens)))
 
 -- an input or output
-pub port_meant : (text : List ℕ) (head : Head) (made : Port) → tokens_of text ≡ head_tokens head → head.mark ≡ Open → head.next ≡ Close → has_no_token (tokens_of head.rest.now) ≡ true → port_word head.first.now ≡ Some made → bench_meaning text ≡ Means (port_of head.second.now made)
+pub port_meant : (text : List ℕ) (head : Head) (made : Port) → tokens_of text ≡ head_tokens head → head.punctuation ≡ Open → head.next ≡ Close → has_no_token (tokens_of head.rest.now) ≡ true → port_word head.first.now ≡ Some made → bench_meaning text ≡ Means (port_of head.second.now made)
 port_meant text head made tokens opened closed bare port =
     ap (meaning_of_tokens statement_of) tokens ∙ rw (opened, closed) (meant (tokens_of head.rest.now) bare)
   where
@@ -116,7 +116,7 @@ pub IsListed-from_noted : (tokens : Option (List TokenOf)) (noted : NameList) �
 IsListed-from_noted tokens noted h = listed_by tokens (names_by tokens) noted refl h
 
 -- a flip-flop or a gate
-pub gate_meant : (text : List ℕ) (head : Head) (names : List (List ℕ)) → tokens_of text ≡ head_tokens head → head.mark ≡ Equals → head.next ≡ Open → names_by (tokens_of head.rest.now) ≡ Some names → bench_meaning text ≡ Means (defined_by head.first.now head.second.now names)
+pub gate_meant : (text : List ℕ) (head : Head) (names : List (List ℕ)) → tokens_of text ≡ head_tokens head → head.punctuation ≡ Equals → head.next ≡ Open → names_by (tokens_of head.rest.now) ≡ Some names → bench_meaning text ≡ Means (defined_by head.first.now head.second.now names)
 gate_meant text head names tokens equals opened listed =
     ap (meaning_of_tokens statement_of) tokens ∙ rw (equals, opened) (meant (tokens_of head.rest.now) listed)
   where
@@ -125,12 +125,12 @@ gate_meant text head names tokens equals opened listed =
     meant (Some rest) h = rw h refl
 
 -- the words of a head are words, where what follows it has tokens
-headed_words : (first second : List ℕ) (mark next : Mark) (rest : Option (List TokenOf)) → is_some rest ≡ true → IfSome (headed first mark second next rest) AreWordTokens → IsWordToken first × IsWordToken second
-headed_words first second mark next None h words = cc
-headed_words first second mark next (Some rest) h words = (words.0, words.1.0)
+headed_words : (first second : List ℕ) (punctuation next : Punctuation) (rest : Option (List TokenOf)) → is_some rest ≡ true → IfSome (headed first punctuation second next rest) AreWordTokens → IsWordToken first × IsWordToken second
+headed_words first second punctuation next None h words = cc
+headed_words first second punctuation next (Some rest) h words = (words.0, words.1.0)
 
 pub head_words : (text : List ℕ) (head : Head) → tokens_of text ≡ head_tokens head → is_some (tokens_of head.rest.now) ≡ true → IsWordToken head.first.now × IsWordToken head.second.now
-head_words text head e some = headed_words head.first.now head.second.now head.mark head.next (tokens_of head.rest.now) some (subst (λ (found : Option (List TokenOf)). IfSome found AreWordTokens) e (tokens_of-AreWordTokens text))
+head_words text head e some = headed_words head.first.now head.second.now head.punctuation head.next (tokens_of head.rest.now) some (subst (λ (found : Option (List TokenOf)). IfSome found AreWordTokens) e (tokens_of-AreWordTokens text))
 
 pub bare-some : (tokens : Option (List TokenOf)) → has_no_token tokens ≡ true → is_some tokens ≡ true
 bare-some None h = cc
@@ -145,32 +145,32 @@ pub listed-some : (tokens : Option (List TokenOf)) (names : List (List ℕ)) →
 listed-some None names h = cc
 listed-some (Some tokens) names h = refl
 
--- a list of names is words, each with a mark after it
+-- a list of names is words, each with punctuation after it
 names_marked : (tokens : List TokenOf) → is_some (name_list_of tokens) ≡ true → are_punctuated_words tokens ≡ true
 names_marked [] h = cc
-names_marked (MarkOf mark ∷ rest) h = cc
+names_marked (PunctuationOf punctuation ∷ rest) h = cc
 names_marked (WordOf name ∷ []) h = cc
 names_marked (WordOf name ∷ WordOf next ∷ rest) h = cc
-names_marked (WordOf name ∷ MarkOf Open ∷ rest) h = cc
-names_marked (WordOf name ∷ MarkOf Equals ∷ rest) h = cc
-names_marked (WordOf name ∷ MarkOf Close ∷ []) h = refl
-names_marked (WordOf name ∷ MarkOf Close ∷ token ∷ rest) h = cc
-names_marked (WordOf name ∷ MarkOf Comma ∷ rest) h = names_marked rest (more_names name (name_list_of rest) h)
+names_marked (WordOf name ∷ PunctuationOf Open ∷ rest) h = cc
+names_marked (WordOf name ∷ PunctuationOf Equals ∷ rest) h = cc
+names_marked (WordOf name ∷ PunctuationOf Close ∷ []) h = refl
+names_marked (WordOf name ∷ PunctuationOf Close ∷ token ∷ rest) h = cc
+names_marked (WordOf name ∷ PunctuationOf Comma ∷ rest) h = names_marked rest (more_names name (name_list_of rest) h)
 
 pub listed_marked : (tokens : Option (List TokenOf)) (names : List (List ℕ)) → names_by tokens ≡ Some names → are_punctuated tokens ≡ true
 listed_marked None names h = cc
 listed_marked (Some tokens) names h = names_marked tokens (ap is_some h)
 
--- the first of these words is one of them, and the others come after its mark
-pub first_marked : (tokens rest : Option (List TokenOf)) (word : List ℕ) (mark : Mark) → tokens ≡ with_token (WordOf word) (with_token (MarkOf mark) rest) → are_punctuated tokens ≡ true → (words_by tokens ≡ word ∷ words_by rest) × (are_punctuated rest ≡ true)
-first_marked tokens None word mark e h = absurd (true≢false (sym h ∙ ap are_punctuated e))
-first_marked tokens (Some rest) word mark e h = (ap words_by e, sym (ap are_punctuated e) ∙ h)
+-- the first of these words is one of them, and the others come after its punctuation
+pub first_marked : (tokens rest : Option (List TokenOf)) (word : List ℕ) (punctuation : Punctuation) → tokens ≡ with_token (WordOf word) (with_token (PunctuationOf punctuation) rest) → are_punctuated tokens ≡ true → (words_by tokens ≡ word ∷ words_by rest) × (are_punctuated rest ≡ true)
+first_marked tokens None word punctuation e h = absurd (true≢false (sym h ∙ ap are_punctuated e))
+first_marked tokens (Some rest) word punctuation e h = (ap words_by e, sym (ap are_punctuated e) ∙ h)
 
--- where no word with a mark comes first, there is none
+-- where no word with punctuation comes first, there is none
 pub none_marked : (tokens : Option (List TokenOf)) → has_punctuated_first tokens ≡ false → are_punctuated tokens ≡ true → words_by tokens ≡ []
 none_marked None e h = cc
 none_marked (Some []) e h = refl
-none_marked (Some (MarkOf mark ∷ rest)) e h = cc
+none_marked (Some (PunctuationOf punctuation ∷ rest)) e h = cc
 none_marked (Some (WordOf word ∷ [])) e h = cc
 none_marked (Some (WordOf word ∷ WordOf next ∷ rest)) e h = cc
-none_marked (Some (WordOf word ∷ MarkOf mark ∷ rest)) e h = cc
+none_marked (Some (WordOf word ∷ PunctuationOf punctuation ∷ rest)) e h = cc

@@ -2,26 +2,26 @@
 use Rattle.std.specs.Prelude.{◌≡◌, ◌<◌, ◌≤◌, ◌+◌, ◌||◌, ℕ, Bool, false, List, [], ◌∷◌, length, Option, None, Some}
 use Rattle.std.specs.List.{list_any}
 use Rattle.hz_line.specs.Statement.{Means}
-use Rattle.hz_line.specs.Token.{TokenOf, WordOf, MarkOf, tokens_of, with_token, has_mark_first}
+use Rattle.hz_line.specs.Token.{TokenOf, WordOf, PunctuationOf, tokens_of, with_token, has_punctuation_first}
 use Rattle.hz_bench.specs.declared.entry.Line.{Line}
 use Rattle.hz_bench.specs.declared.statement.Head.{Head}
-use Rattle.hz_bench.specs.declared.statement.MarkedWord.{MarkedWord}
+use Rattle.hz_bench.specs.declared.statement.PunctuatedWord.{PunctuatedWord}
 use Rattle.hz_bench.specs.declared.statement.NameList.{NameList}
 use Rattle.hz_bench.specs.Entry.{numbered_line}
 use Rattle.hz_bench.specs.Statement.{Statement, statement_of, name_list_of, is_long}
 use Rattle.hz_bench.specs.Text.{bench_meaning}
 
--- the first tokens are a word and a mark
+-- the first tokens are a word and punctuation
 abbrev pub has_punctuated_first : Option (List TokenOf) → Bool
 has_punctuated_first None = false
 has_punctuated_first (Some []) = false
-has_punctuated_first (Some (MarkOf mark ∷ tokens)) = false
-has_punctuated_first (Some (WordOf word ∷ tokens)) = has_mark_first (Some tokens)
+has_punctuated_first (Some (PunctuationOf punctuation ∷ tokens)) = false
+has_punctuated_first (Some (WordOf word ∷ tokens)) = has_punctuation_first (Some tokens)
 
--- a line begins with this word and this mark, before a shorter line; or with no word that has a mark after it
-abbrev pub IsPunctuatedFirst : List ℕ → Option MarkedWord → Type 0
+-- a line begins with this word and this punctuation, before a shorter line; or with no word that has punctuation after it
+abbrev pub IsPunctuatedFirst : List ℕ → Option PunctuatedWord → Type 0
 IsPunctuatedFirst line None = has_punctuated_first (tokens_of line) ≡ false
-IsPunctuatedFirst line (Some marked) = (tokens_of line ≡ with_token (WordOf marked.word.now) (with_token (MarkOf marked.mark) (tokens_of marked.rest.now))) × (length marked.rest.now < length line)
+IsPunctuatedFirst line (Some marked) = (tokens_of line ≡ with_token (WordOf marked.word.now) (with_token (PunctuationOf marked.punctuation) (tokens_of marked.rest.now))) × (length marked.rest.now < length line)
 
 -- the statement of a line's tokens, if it has them and they are one
 abbrev pub statement_by : Option (List TokenOf) → Option Statement
@@ -35,7 +35,7 @@ IsStatementOfLine line text (Some found) = ((numbered_line found).line ≡ line)
 
 -- the tokens of a head, and of the line after it
 abbrev pub head_tokens : Head → Option (List TokenOf)
-head_tokens head = with_token (WordOf head.first.now) (with_token (MarkOf head.mark) (with_token (WordOf head.second.now) (with_token (MarkOf head.next) (tokens_of head.rest.now))))
+head_tokens head = with_token (WordOf head.first.now) (with_token (PunctuationOf head.punctuation) (with_token (WordOf head.second.now) (with_token (PunctuationOf head.next) (tokens_of head.rest.now))))
 
 -- a line begins with this head; without one it has no statement
 abbrev pub IsHeadOf : List ℕ → Option Head → Type 0

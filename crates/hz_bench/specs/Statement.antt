@@ -4,9 +4,9 @@ use Rattle.std.specs.List.{list_any}
 use Rattle.hz_core.specs.declared.kind.Kind.{Kind}
 use Rattle.hz_core.specs.declared.kind.Kind.TheVariants.{And, Nand, Or, Nor, Xor, Xnor, Not, Buff}
 use Rattle.hz_core.specs.Gate.{takes}
-use Rattle.hz_line.specs.declared.bytes.Mark.TheVariants.{Open, Close, Comma, Equals}
+use Rattle.hz_line.specs.declared.bytes.Punctuation.TheVariants.{Open, Close, Comma, Equals}
 use Rattle.hz_line.specs.Keyword.{is_keyword}
-use Rattle.hz_line.specs.Token.{TokenOf, WordOf, MarkOf, tokens_of}
+use Rattle.hz_line.specs.Token.{TokenOf, WordOf, PunctuationOf, tokens_of}
 
 -- an input or an output
 pub data Port : Type 0 where
@@ -56,14 +56,14 @@ port_of name OutputPort = Output name
 
 -- one or more names separated by commas, and a closing parenthesis
 abbrev pub name_list_of : List TokenOf → Option (List (List ℕ))
-name_list_of (WordOf name ∷ MarkOf Close ∷ []) = Some (name ∷ [])
-name_list_of (WordOf name ∷ MarkOf Comma ∷ rest) = option_map (λ names. name ∷ names) (name_list_of rest)
+name_list_of (WordOf name ∷ PunctuationOf Close ∷ []) = Some (name ∷ [])
+name_list_of (WordOf name ∷ PunctuationOf Comma ∷ rest) = option_map (λ names. name ∷ names) (name_list_of rest)
 name_list_of _ = None
 
 -- the one statement of a token list, if it is one: WORD ( NAME ) or NAME = KIND ( NAME , .. NAME )
 abbrev pub statement_of : List TokenOf → Option Statement
-statement_of (WordOf word ∷ MarkOf Open ∷ WordOf name ∷ MarkOf Close ∷ []) = option_map (port_of name) (port_word word)
-statement_of (WordOf name ∷ MarkOf Equals ∷ WordOf kind ∷ MarkOf Open ∷ rest) = option_map (defined_by name kind) (name_list_of rest)
+statement_of (WordOf word ∷ PunctuationOf Open ∷ WordOf name ∷ PunctuationOf Close ∷ []) = option_map (port_of name) (port_word word)
+statement_of (WordOf name ∷ PunctuationOf Equals ∷ WordOf kind ∷ PunctuationOf Open ∷ rest) = option_map (defined_by name kind) (name_list_of rest)
 statement_of _ = None
 
 -- the name that a statement begins with: the one that it defines, or an output's
@@ -147,7 +147,7 @@ statement_variable_count (Gate name kind sources) = 1 + length sources
 abbrev pub words_of : List TokenOf → List (List ℕ)
 words_of [] = []
 words_of (WordOf word ∷ tokens) = word ∷ words_of tokens
-words_of (MarkOf mark ∷ tokens) = words_of tokens
+words_of (PunctuationOf punctuation ∷ tokens) = words_of tokens
 
 -- the words among tokens; none where there are no tokens
 abbrev pub words_by : Option (List TokenOf) → List (List ℕ)
@@ -158,13 +158,13 @@ words_by (Some tokens) = words_of tokens
 abbrev pub words_in : List ℕ → List (List ℕ)
 words_in part = words_by (tokens_of part)
 
--- words, each with a mark after it
+-- words, each with punctuation after it
 abbrev pub are_punctuated_words : List TokenOf → Bool
 are_punctuated_words [] = true
-are_punctuated_words (WordOf word ∷ MarkOf mark ∷ tokens) = are_punctuated_words tokens
+are_punctuated_words (WordOf word ∷ PunctuationOf punctuation ∷ tokens) = are_punctuated_words tokens
 are_punctuated_words _ = false
 
--- a part of a line has tokens, and they are words, each with a mark after it
+-- a part of a line has tokens, and they are words, each with punctuation after it
 abbrev pub are_punctuated : Option (List TokenOf) → Bool
 are_punctuated None = false
 are_punctuated (Some tokens) = are_punctuated_words tokens

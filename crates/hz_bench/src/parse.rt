@@ -25,7 +25,7 @@ use crate::notes::{Notes, Redefinition};
 use crate::statement::statement_of;
 use crate::unknown::reads_unknown;
 use hz_core::{MAX_VARIABLES, Memory};
-use hz_line::{cut_line, is_bare};
+use hz_line::{is_blank_line, split_line};
 use std::alloc::Global;
 
 /// What was read of the statements of a text.
@@ -57,7 +57,7 @@ pub(crate) fn parse<'a>(alloc: Global, text: &'a [u8]) -> Result<Statements<'a>,
     let mut line = 0u32;
     let mut left = Some(text);
     while let Some(rest) = left {
-        let cut = cut_line(rest);
+        let cut = split_line(rest);
         line += 1;
         left = cut.rest;
         let Ok(()) = make_room(&mut statements.lines, text, rest.len()) else {
@@ -69,7 +69,7 @@ pub(crate) fn parse<'a>(alloc: Global, text: &'a [u8]) -> Result<Statements<'a>,
                 Err(Memory) => return Err(BenchFault::Memory),
             },
             None => {
-                if !is_bare(cut.line) {
+                if !is_blank_line(cut.line) {
                     return Err(BenchFault::Form { line });
                 }
             }

@@ -7,7 +7,7 @@ ghost use Rattle.hz_bench.specs.Statement.{is_long};
 
 use crate::entry::{Entry, Line, OutputLine};
 use crate::forms::{Form, form_named};
-use hz_line::{Mark, first_mark, first_word, is_bare, is_keyword};
+use hz_line::{Punctuation, first_punctuation, first_word, is_blank_line, is_keyword};
 
 /// The statement of a line, if it has one. It takes no memory.
 pub(crate) fn statement_of<'a>(line: u32, text: &'a [u8]) -> Option<Line<'a>>
@@ -15,28 +15,28 @@ pub(crate) fn statement_of<'a>(line: u32, text: &'a [u8]) -> Option<Line<'a>>
     ensures { IsStatementOfLine line text.now result }
 {
     let head = head_of(text)?;
-    match (head.mark, head.next) {
-        (Mark::Open, Mark::Close) => port(line, text, &head),
-        (Mark::Equals, Mark::Open) => gate(line, text, &head),
+    match (head.punctuation, head.next) {
+        (Punctuation::Open, Punctuation::Close) => port(line, text, &head),
+        (Punctuation::Equals, Punctuation::Open) => gate(line, text, &head),
         _ => None,
     }
 }
 
-// Every statement begins with two words, each with a mark after it.
+// Every statement begins with two words, each with punctuation after it.
 #[derive(Clone, Copy)]
 struct Head<'a> {
     first: &'a [u8],
-    mark: Mark,
+    punctuation: Punctuation,
     second: &'a [u8],
-    next: Mark,
+    next: Punctuation,
     rest: &'a [u8],
 }
 
-/// A word with a mark after it, and the line after both.
+/// A word with punctuation after it, and the line after both.
 #[derive(Clone, Copy)]
-pub(crate) struct MarkedWord<'a> {
+pub(crate) struct PunctuatedWord<'a> {
     pub(crate) word: &'a [u8],
-    pub(crate) mark: Mark,
+    pub(crate) punctuation: Punctuation,
     pub(crate) rest: &'a [u8],
 }
 
@@ -51,37 +51,41 @@ struct NameList {
 fn head_of<'a>(line: &'a [u8]) -> Option<Head<'a>>
     ensures { IsHeadOf line.now result }
 {
-    let first = marked_word(line)?;
-    let second = marked_word(first.rest)?;
+    let first = punctuated_word(line)?;
+    let second = punctuated_word(first.rest)?;
     Some(Head {
         first: first.word,
-        mark: first.mark,
+        punctuation: first.punctuation,
         second: second.word,
-        next: second.mark,
+        next: second.punctuation,
         rest: second.rest,
     })
 }
 
-/// The word and the mark that a line begins with. A gate's sources are read by it one after the other: a comma follows each
+/// The word and the punctuation that a line begins with. A gate's sources are read by it one after the other: a comma follows each
 /// but the last, which a parenthesis follows.
 #[inline(always)]
-pub(crate) fn marked_word<'a>(line: &'a [u8]) -> Option<MarkedWord<'a>>
+pub(crate) fn punctuated_word<'a>(line: &'a [u8]) -> Option<PunctuatedWord<'a>>
     ensures { IsPunctuatedFirst line.now result }
 {
     let (word, after) = first_word(line)?;
-    let (mark, rest) = first_mark(after)?;
-    Some(MarkedWord { word, mark, rest })
+    let (punctuation, rest) = first_punctuation(after)?;
+    Some(PunctuatedWord {
+        word,
+        punctuation,
+        rest,
+    })
 }
 
 // The input or output `WORD ( NAME )`.
 #[tactic(auto, unfolding(crate::specs::Statement::port_word))]
 fn port<'a>(line: u32, text: &'a [u8], head: &Head<'a>) -> Option<Line<'a>>
     requires tokens { tokens_of text.now ≡ head_tokens head.now }
-    requires opened { head.now.mark ≡ Mark.Open }
-    requires closed { head.now.next ≡ Mark.Close }
+    requires opened { head.now.punctuation ≡ Punctuation.Open }
+    requires closed { head.now.next ≡ Punctuation.Close }
     ensures { IsStatementOfLine line text.now result }
 {
-    if !is_bare(head.rest) {
+    if !is_blank_line(head.rest) {
         return None;
     }
     if is_keyword(head.first, b"INPUT") {
@@ -106,8 +110,8 @@ fn port<'a>(line: u32, text: &'a [u8], head: &Head<'a>) -> Option<Line<'a>>
 // The flip-flop or gate `NAME = KIND ( NAME , .. NAME )`.
 fn gate<'a>(line: u32, text: &'a [u8], head: &Head<'a>) -> Option<Line<'a>>
     requires tokens { tokens_of text.now ≡ head_tokens head.now }
-    requires equals { head.now.mark ≡ Mark.Equals }
-    requires opened { head.now.next ≡ Mark.Open }
+    requires equals { head.now.punctuation ≡ Punctuation.Equals }
+    requires opened { head.now.next ≡ Punctuation.Open }
     requires few { length head.now.rest.now < 2 ^ 32 }
     ensures { IsStatementOfLine line text.now result }
 {
@@ -133,14 +137,14 @@ fn names(line: &[u8]) -> Option<NameList>
     };
     let mut left = line;
     loop {
-        let Some(name) = marked_word(left) else {
+        let Some(name) = punctuated_word(left) else {
             return None;
         };
         names = names.add(name.word);
-        match name.mark {
-            Mark::Comma => left = name.rest,
-            Mark::Close => return names.at_end(name.rest),
-            Mark::Open | Mark::Equals => return None,
+        match name.punctuation {
+            Punctuation::Comma => left = name.rest,
+            Punctuation::Close => return names.at_end(name.rest),
+            Punctuation::Open | Punctuation::Equals => return None,
         }
     }
 }
@@ -168,7 +172,11 @@ impl NameList {
     fn at_end(self, rest: &[u8]) -> Option<NameList>
         ensures { result ≡ if has_no_token (tokens_of rest.now) then Some self else None }
     {
-        if is_bare(rest) { Some(self) } else { None }
+        if is_blank_line(rest) {
+            Some(self)
+        } else {
+            None
+        }
     }
 }
 

@@ -12,7 +12,7 @@ ghost use Rattle.hz_bench.specs.Statement.{are_punctuated, words_in};
 use crate::definitions::{Definitions, is_defined};
 use crate::entry::{Entry, OutputLine, Waiting};
 use crate::parse::Statements;
-use crate::statement::marked_word;
+use crate::statement::punctuated_word;
 use crate::uses::earlier;
 
 /// The first line that uses a name which the table does not have.
@@ -77,7 +77,7 @@ pub(crate) fn reads_unknown(sources: &[u8], lines: &Definitions) -> bool
     ensures { result ≡ list_any (is_missing lines.now) (words_in sources.now) }
 {
     let mut left = sources;
-    while let Some(source) = marked_word(left) {
+    while let Some(source) = punctuated_word(left) {
         if !is_defined(lines, source.word) {
             return true;
         }

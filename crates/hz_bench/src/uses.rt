@@ -19,7 +19,7 @@ use crate::fault::BenchFault;
 use crate::forms::Form;
 use crate::notes::Notes;
 use crate::parse::Statements;
-use crate::statement::marked_word;
+use crate::statement::punctuated_word;
 use hz_core::Memory;
 use std::alloc::Global;
 
@@ -148,7 +148,7 @@ fn resolve_sources(
     ensures pins { IfOk result (λ unnumbered. unnumbered ≡ false → pins.new.items ≡ pins.old.items ++ numbers_of (number_for lines.now numbers.now) (sources_of (statement_of_entry entry.now))) }
 {
     let mut left = entry.sources;
-    while let Some(source) = marked_word(left) {
+    while let Some(source) = punctuated_word(left) {
         match resolve_name(source.word, lines, numbers, pins) {
             Ok(false) => left = source.rest,
             Ok(true) => return Ok(true),

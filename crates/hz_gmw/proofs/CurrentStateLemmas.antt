@@ -1,4 +1,4 @@
--- The loops over the present state: what is known after some variables, and that one more keeps it.
+-- The loops over the current state: what is known after some variables, and that one more keeps it.
 use Rattle.std.proofs.Common.{◌≡◌, ◌≢◌, ℕ, ◌+◌, ◌-◌, ◌<◌, ◌≤◌, Bool, true, false, not, List, ◌∷◌, length, get_or, set, drop, refl, sym, ap, ◌∙◌, subst, arith, inl, inr}
 use Rattle.std.specs.Prelude.{sum_by}
 use Rattle.std.specs.Bool.{beq}

@@ -247,7 +247,7 @@ back-step flips begun moved moved' state state' long state_is moved_is back i st
           (get_or_past state i false past ∙ sym (get_or_past (state_after flips state) i false (omega (arith, past, length-state_after flips state))))
     ])
 
--- all that was touched is taken over: the marked state is the present one
+-- all that was touched is taken over: the marked state is the current one
 pub taken-all : (state marked touched : List Bool) (list : List ℕ) → length marked ≡ length state → AreMembers touched list → ((i : ℕ) → bit_at touched i ≡ false → bit_at marked i ≡ bit_at state i) → with_bits_of state marked list ≡ state
 taken-all state marked touched list long members same =
     ext_get_or false (with_bits_of state marked list) state (length-with_bits_of state marked list ∙ long) (λ i inside.

@@ -1,4 +1,4 @@
--- The present state of a network as a replayer keeps it, and what is counted of it.
+-- The current state of a network as a replayer keeps it, and what is counted of it.
 use Rattle.std.specs.Prelude.{◌≡◌, ℕ, ◌+◌, ◌<◌, ◌≤◌, Bool, true, List, ◌∷◌, length, fold, count_by, slice_set, slice_index_or, IsTrue, nat_lt, if◌then◌else◌}
 use Rattle.std.specs.List.{range_with_len}
 use Rattle.hz_core.specs.declared.kind.Kind.{Kind}
@@ -10,7 +10,7 @@ use Rattle.hz_net.specs.Reads.{IsWireInto, readers_of}
 use Rattle.hz_net.specs.declared.variable.VarKind.{VarKind}
 use Rattle.hz_net.specs.declared.variable.VarKind.TheVariants.{Input, Gate as GateVariable, Wire as WireVariable}
 use Rattle.hz_gmw.specs.Instability.{is_unstable, unstable_count}
-use Rattle.hz_gmw.specs.declared.present.Present.{Present}
+use Rattle.hz_gmw.specs.declared.current_state.CurrentState.{CurrentState}
 
 -- How a variable is driven by what it is: an input by its place, a gate by its function of its own wires, a wire by its source.
 -- All of these are there, and a wire goes into its gate.
@@ -27,13 +27,13 @@ IsKindAt netlist var (WireVariable gate pin source) =
     × IsWireInto (network_of netlist) gate var × (gate < length netlist.names) × (length netlist.names ≤ var)
 
 -- one bit for each input and each variable of a whole circuit, and two counts for each node
-pub record Fits (netlist : Netlist) (present : Present) : Type 0 where
+pub record Fits (netlist : Netlist) (current : CurrentState) : Type 0 where
   pub circuit : IsCircuit netlist
   pub whole : IsWhole netlist
-  pub input : length present.input.items ≡ netlist.inputs
-  pub state : length present.state.items ≡ length (network_of netlist)
-  pub ones : length present.ones.items ≡ length netlist.names
-  pub wires : length present.unstable_wires.items ≡ length netlist.names
+  pub input : length current.input.items ≡ netlist.inputs
+  pub state : length current.state.items ≡ length (network_of netlist)
+  pub ones : length current.ones.items ≡ length netlist.names
+  pub wires : length current.unstable_wires.items ≡ length netlist.names
 
 -- What is counted of a state: how many wires of each gate are 1, and how many of the wires from each node are unstable.
 pub record AreCounts (netlist : Netlist) (input state : List Bool) (at_one lagging : List ℕ) : Type 0 where
@@ -41,14 +41,14 @@ pub record AreCounts (netlist : Netlist) (input state : List Bool) (at_one laggi
   pub wires : (node : ℕ) → node < length netlist.names → slice_index_or lagging node 0 ≡ count_by (is_unstable (network_of netlist) input state) (fan_out_of netlist node)
 
 -- the counts of nodes are right
-pub record IsCounted (netlist : Netlist) (present : Present) : Type 0 where
-  pub fits : Fits netlist present
-  pub counts : AreCounts netlist present.input.items present.state.items present.ones.items present.unstable_wires.items
+pub record IsCounted (netlist : Netlist) (current : CurrentState) : Type 0 where
+  pub fits : Fits netlist current
+  pub counts : AreCounts netlist current.input.items current.state.items current.ones.items current.unstable_wires.items
 
 -- and so is the count of all unstable variables
-pub record IsExact (netlist : Netlist) (present : Present) : Type 0 where
-  pub counted : IsCounted netlist present
-  pub unstable : present.unstable ≡ unstable_count (network_of netlist) present.input.items present.state.items
+pub record IsExact (netlist : Netlist) (current : CurrentState) : Type 0 where
+  pub counted : IsCounted netlist current
+  pub unstable : current.unstable ≡ unstable_count (network_of netlist) current.input.items current.state.items
 
 -- a variable and those that read it: what may become stable or unstable when it changes
 abbrev pub with_readers : Netlist → ℕ → List ℕ

@@ -10,22 +10,22 @@ use Rattle.hz_gmw.specs.declared.replay.Replay.TheInside.{Inside}
 abbrev pub replayer_of : Inside → Replayer
 replayer_of fields = record {
   circuit = fields.net.now;
-  input = fields.present.input.items;
+  input = fields.current.input.items;
   begun = fields.begun.items;
-  state = fields.present.state.items;
+  state = fields.current.state.items;
   marked = fields.marked.items;
   stepped = fields.stepped;
-  watched = watched_variables (network_of fields.net.now) fields.present.input.items fields.present.state.items (bit_at fields.watch.changed) (bit_at fields.watch.been_stable);
+  watched = watched_variables (network_of fields.net.now) fields.current.input.items fields.current.state.items (bit_at fields.watch.changed) (bit_at fields.watch.been_stable);
 }
 
 -- The counts are right; what did not change since the mark has the value that it had there, what did not move the value
 -- that it had at the begin; and no variable is named.
 pub record HoldsReplay (fields : Inside) : Type 0 where
-  pub exact : IsExact fields.net.now fields.present
+  pub exact : IsExact fields.net.now fields.current
   pub watch : WatchFits fields.net.now fields.watch
   pub marked : length fields.marked.items ≡ length (network_of fields.net.now)
-  pub same : (i : ℕ) → bit_at fields.watch.changed i ≡ false → bit_at fields.marked.items i ≡ bit_at fields.present.state.items i
+  pub same : (i : ℕ) → bit_at fields.watch.changed i ≡ false → bit_at fields.marked.items i ≡ bit_at fields.current.state.items i
   pub begun : length fields.begun.items ≡ length (network_of fields.net.now)
   pub moved : length fields.moved ≡ length (network_of fields.net.now)
-  pub back : (i : ℕ) → bit_at fields.moved i ≡ false → bit_at fields.begun.items i ≡ bit_at fields.present.state.items i
+  pub back : (i : ℕ) → bit_at fields.moved i ≡ false → bit_at fields.begun.items i ≡ bit_at fields.current.state.items i
   pub named : fields.named ≡ replicate (length (network_of fields.net.now)) false

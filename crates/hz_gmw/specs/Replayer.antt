@@ -7,7 +7,7 @@ use Rattle.hz_gmw.specs.Runs.{is_listed, state_after, IsRun, end_of}
 use Rattle.hz_gmw.specs.Cycles.{WaitsAt}
 use Rattle.hz_gmw.specs.Instability.{is_unstable, unstable_variables}
 
--- What a replayer keeps: the circuit, the external input, the state in which it began, the present state, the marked
+-- What a replayer keeps: the circuit, the external input, the state in which it began, the current state, the marked
 -- state, whether a step was made since the mark, and of each variable whether it is watched.
 pub record Replayer : Type 0 where
   pub circuit : Netlist
@@ -22,7 +22,7 @@ pub record Replayer : Type 0 where
 abbrev pub Waits : Replayer → List (List ℕ) → ℕ → Type 0
 Waits now steps i = (bit : Bool) × WaitsAt (network_of now.circuit) now.input now.marked steps i bit
 
--- A replayer stands for a run from its marked state to its present one, which has a step exactly where one was made since
+-- A replayer stands for a run from its marked state to its current one, which has a step exactly where one was made since
 -- the mark, and all along which exactly the watched variables wait.
 pub record StandsFor (now : Replayer) (steps : List (List ℕ)) : Type 0 where
   pub run : IsRun (network_of now.circuit) now.input now.marked steps
@@ -30,7 +30,7 @@ pub record StandsFor (now : Replayer) (steps : List (List ℕ)) : Type 0 where
   pub stepped : IsTrue now.stepped ↔ (steps ≢ [])
   pub watched : (i : ℕ) → i < length (network_of now.circuit) → IsTrue (bit_at now.watched i) ↔ Waits now steps i
 
--- a replayer that began in one state, and whose present state is marked, with no step since
+-- a replayer that began in one state, and whose current state is marked, with no step since
 abbrev pub replayer_at : Netlist → List Bool → List Bool → List Bool → Replayer
 replayer_at circuit input begun state = record {
   circuit = circuit;

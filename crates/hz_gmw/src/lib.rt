@@ -5,7 +5,7 @@
 //! | `run` | [`Run`]: the steps of a run, with room that is taken once |
 //! | `replay` | [`Replay`]: checks steps and cycles |
 //! | `replay_fault` | why a step or a cycle is refused |
-//! | `present` | the current state of a replayer, with what is counted of it |
+//! | `current_state` | the current state of a replayer, with what is counted of it |
 //! | `watch` | which variables may have waited since the mark |
 //! | `variable_set` | sets of variables |
 //! | `least` | the least listed variable with a property |
@@ -19,9 +19,9 @@ ghost use Rattle.hz_net.specs.Passes.{algorithm_a, algorithm_b, AreRounds};
 ghost use Rattle.hz_gmw.specs.Runs.{IsReachable};
 ghost use Rattle.hz_gmw.specs.Cycles.{IsOutcome};
 
+mod current_state;
 mod least;
 mod ones;
-mod present;
 mod replay;
 mod replay_fault;
 #[cfg(test)]

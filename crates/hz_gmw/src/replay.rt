@@ -9,8 +9,8 @@ ghost use Rattle.hz_gmw.specs.Replayer.{StandsFor, replayer_at, initial_replayer
 ghost use Rattle.hz_gmw.specs.ReplayFaults.{IsStepFault, IsCycleFault};
 ghost use Rattle.hz_gmw.specs.CurrentState.{with_bits_of};
 
+use crate::current_state::CurrentState;
 use crate::least::{least_differing, least_repeated};
-use crate::present::Present;
 use crate::variable_set::{VariableSet, insert_each};
 use crate::watch::Watch;
 use crate::{CycleFault, StepFault};
@@ -30,7 +30,7 @@ use std::marker::Model;
 #[derive(Debug, Drop)]
 pub struct Replay<'n> {
     net: &'n Net,
-    present: Present,
+    current: CurrentState,
     // The marked state, what happened since the mark, and whether a step was made since.
     marked: Vec<bool>,
     watch: Watch,
@@ -55,13 +55,13 @@ impl<'n> Model for Replay<'n> {
 }
 
 impl<'n> Replay<'n> {
-    /// The present state, in which every input and every variable is 0, is marked.
+    /// The current state, in which every input and every variable is 0, is marked.
     pub fn new(alloc: Global, net: &'n Net) -> Result<Replay<'n>, Memory>
         ensures at { IfOk result (λ replay. replay ≡ initial_replayer net.now (replicate net.now.inputs false) (replicate (length (network_of net.now)) false)) }
         ensures stands { IfOk result (λ replay. StandsFor replay []) }
     {
         let variables = net.len();
-        let present = Present::new(alloc, net)?;
+        let current = CurrentState::new(alloc, net)?;
         let Ok(marked) = vec![in alloc; false; variables as usize] else {
             return Err(Memory);
         };
@@ -73,7 +73,7 @@ impl<'n> Replay<'n> {
         let named = VariableSet::new(alloc, variables)?;
         Ok(Replay {
             net,
-            present,
+            current,
             marked,
             watch,
             stepped: false,
@@ -91,8 +91,8 @@ impl<'n> Replay<'n> {
         ensures at { self.new ≡ initial_replayer self.old.circuit input.now state.now }
         ensures stands { StandsFor self.new [] }
     {
-        self.present.turn_input(self.net, input);
-        self.present.turn_to(self.net, state);
+        self.current.turn_input(self.net, input);
+        self.current.turn_to(self.net, state);
         self.begun.as_mut_slice().copy_from_slice(state);
         self.marked.as_mut_slice().copy_from_slice(state);
         self.moved.clear();
@@ -105,21 +105,21 @@ impl<'n> Replay<'n> {
         ensures at { self.new ≡ initial_replayer self.old.circuit self.old.input self.old.begun }
         ensures stands { StandsFor self.new [] }
     {
-        self.present
+        self.current
             .turn_back(self.net, self.moved.members(), self.begun.as_slice());
         insert_each(&mut self.watch.changed, self.moved.members());
         self.moved.clear();
         self.mark();
     }
 
-    /// Marks the present state, with no step since.
+    /// Marks the current state, with no step since.
     pub fn mark(&mut self)
         ensures at { self.new ≡ replayer_at self.old.circuit self.old.input self.old.begun self.old.state }
         ensures stands { StandsFor self.new [] }
     {
         take_over(
             self.watch.changed.members(),
-            self.present.state.as_slice(),
+            self.current.state.as_slice(),
             self.marked.as_mut_slice(),
         );
         self.watch.clear();
@@ -127,7 +127,7 @@ impl<'n> Replay<'n> {
     }
 
     /// Makes a step of the multiple-winner relation: changes the listed variables at once. It is refused exactly if they
-    /// are no step from the present state, by the first fault that stands; the replayer is then as before.
+    /// are no step from the current state, by the first fault that stands; the replayer is then as before.
     pub fn step(&mut self, flips: &[u32]) -> Result<(), StepFault>
         requires { All (λ var. var < length (network_of self.old.circuit)) flips.now }
         ensures exact { IsTrue (is_ok result) ↔ IsStep (network_of self.old.circuit) self.old.input self.old.state flips.now }
@@ -138,8 +138,8 @@ impl<'n> Replay<'n> {
         if let Some(fault) = self.step_fault(flips) {
             return Err(fault);
         }
-        self.watch.note(self.net, &self.present, flips);
-        self.present.advance(self.net, flips);
+        self.watch.note(self.net, &self.current, flips);
+        self.current.advance(self.net, flips);
         insert_each(&mut self.moved, flips);
         self.stepped = true;
         Ok(())
@@ -159,27 +159,27 @@ impl<'n> Replay<'n> {
         }
     }
 
-    /// The present value of a variable.
+    /// The current value of a variable.
     pub fn value(&self, var: u32) -> bool
         requires { var < length (network_of self.now.circuit) }
         ensures { result ≡ bit_at self.now.state var }
     {
-        self.present.state[var as usize]
+        self.current.state[var as usize]
     }
 
-    /// Whether a variable is unstable in the present state.
+    /// Whether a variable is unstable in the current state.
     pub fn unstable(&self, var: u32) -> bool
         requires { var < length (network_of self.now.circuit) }
         ensures { IsTrue result ↔ IsUnstable (network_of self.now.circuit) self.now.input self.now.state var }
     {
-        self.present.is_unstable(self.net, var)
+        self.current.is_unstable(self.net, var)
     }
 
-    /// How many variables are unstable in the present state.
+    /// How many variables are unstable in the current state.
     pub fn unstable_count(&self) -> u32
         ensures { result ≡ unstable_count (network_of self.now.circuit) self.now.input self.now.state }
     {
-        self.present.unstable
+        self.current.unstable
     }
 
     // Why the listed variables are no step, if they are none.
@@ -194,7 +194,7 @@ impl<'n> Replay<'n> {
         if let Some(var) = least_repeated(flips, &mut self.named) {
             return Some(StepFault::Repeated { var });
         }
-        if let Some(var) = self.present.least_stable(self.net, flips) {
+        if let Some(var) = self.current.least_stable(self.net, flips) {
             return Some(StepFault::Stable { var });
         }
         None
@@ -225,7 +225,7 @@ impl<'n> Replay<'n> {
     {
         least_differing(
             self.watch.changed.members(),
-            self.present.state.as_slice(),
+            self.current.state.as_slice(),
             self.marked.as_slice(),
         )
     }
@@ -234,11 +234,11 @@ impl<'n> Replay<'n> {
     fn least_unstable(&self) -> Option<u32>
         ensures { IsLeastOf (λ i. (i < length (network_of self.now.circuit)) × IsUnstable (network_of self.now.circuit) self.now.input self.now.state i) result }
     {
-        if self.present.unstable == 0 {
+        if self.current.unstable == 0 {
             return None;
         }
         for var in 0..self.net.len() {
-            if self.present.is_unstable(self.net, var) {
+            if self.current.is_unstable(self.net, var) {
                 return Some(var);
             }
         }
@@ -249,11 +249,11 @@ impl<'n> Replay<'n> {
     fn least_watched(&self) -> Option<u32>
         ensures { IsLeastOf (λ i. (i < length (network_of self.now.circuit)) × IsTrue (bit_at self.now.watched i)) result }
     {
-        self.watch.least(self.net, &self.present)
+        self.watch.least(self.net, &self.current)
     }
 }
 
-// Gives listed variables of the marked state the values that they have in the present one.
+// Gives listed variables of the marked state the values that they have in the current one.
 fn take_over(list: &[u32], state: &[bool], marked: &mut [bool])
     requires inside { All (λ var. var < length state.now) list.now }
     requires long { length marked.old ≡ length state.now }

@@ -6,7 +6,7 @@ ghost use Rattle.hz_gmw.specs.Least.{IsLeastOf};
 ghost use Rattle.hz_gmw.specs.CurrentState.{IsCounted, IsExact, with_marks};
 ghost use Rattle.hz_gmw.specs.Watches.{WatchFits, lapses, is_watched, watched_variables, unstable_unchanged, RecordsStable};
 
-use crate::present::{Present, kind_at, one_if};
+use crate::current_state::{CurrentState, kind_at, one_if};
 use crate::variable_set::{VariableSet, insert_each};
 use hz_core::Memory;
 use hz_net::{Net, VarKind};
@@ -36,15 +36,15 @@ impl Watch {
     }
 
     // Notes the listed variables, which are about to change.
-    pub(crate) fn note(&mut self, net: &Net, present: &Present, flips: &[u32])
-        requires counted { IsCounted net.now present.now }
+    pub(crate) fn note(&mut self, net: &Net, current: &CurrentState, flips: &[u32])
+        requires counted { IsCounted net.now current.now }
         requires fits { WatchFits net.now self.old }
         requires inside { All (λ var. var < length (network_of net.now)) flips.now }
         ensures changed { self.new.changed ≡ with_marks self.old.changed flips.now }
-        ensures been_stable { RecordsStable (network_of net.now) present.now.input.items present.now.state.items flips.now self.old.been_stable self.new.been_stable }
+        ensures been_stable { RecordsStable (network_of net.now) current.now.input.items current.now.state.items flips.now self.old.been_stable self.new.been_stable }
     {
         for var in flips {
-            self.note_gate(net, present, *var);
+            self.note_gate(net, current, *var);
         }
         insert_each(&mut self.changed, flips);
     }
@@ -59,16 +59,16 @@ impl Watch {
     }
 
     // The least watched variable. The variables are searched only if some are watched.
-    pub(crate) fn least(&self, net: &Net, present: &Present) -> Option<u32>
-        requires exact { IsExact net.now present.now }
+    pub(crate) fn least(&self, net: &Net, current: &CurrentState) -> Option<u32>
+        requires exact { IsExact net.now current.now }
         requires fits { WatchFits net.now self.now }
-        ensures { IsLeastOf (λ i. (i < length (network_of net.now)) × IsTrue (bit_at (watched_variables (network_of net.now) present.now.input.items present.now.state.items (bit_at self.now.changed) (bit_at self.now.been_stable)) i)) result }
+        ensures { IsLeastOf (λ i. (i < length (network_of net.now)) × IsTrue (bit_at (watched_variables (network_of net.now) current.now.input.items current.now.state.items (bit_at self.now.changed) (bit_at self.now.been_stable)) i)) result }
     {
-        if self.count(net, present) == 0 {
+        if self.count(net, current) == 0 {
             return None;
         }
         for var in 0..net.len() {
-            if self.contains(net, present, var) {
+            if self.contains(net, current, var) {
                 return Some(var);
             }
         }
@@ -76,39 +76,39 @@ impl Watch {
     }
 
     // How many variables are watched: those that are unstable, without those to which something happened.
-    fn count(&self, net: &Net, present: &Present) -> u32
-        requires exact { IsExact net.now present.now }
+    fn count(&self, net: &Net, current: &CurrentState) -> u32
+        requires exact { IsExact net.now current.now }
         requires fits { WatchFits net.now self.now }
-        ensures { result ≡ count_by (is_watched (network_of net.now) present.now.input.items present.now.state.items (bit_at self.now.changed) (bit_at self.now.been_stable)) (range_with_len 0 (length (network_of net.now))) }
+        ensures { result ≡ count_by (is_watched (network_of net.now) current.now.input.items current.now.state.items (bit_at self.now.changed) (bit_at self.now.been_stable)) (range_with_len 0 (length (network_of net.now))) }
     {
-        let unstable = present.unstable;
-        let unchanged = present.without_nodes(net, unstable, self.changed.members());
-        self.without_stable(net, present, unchanged, self.been_stable.members())
+        let unstable = current.unstable;
+        let unchanged = current.without_nodes(net, unstable, self.changed.members());
+        self.without_stable(net, current, unchanged, self.been_stable.members())
     }
 
     // A number less how many of the listed nodes are unstable and did not change.
-    fn without_stable(&self, net: &Net, present: &Present, number: u32, list: &[u32]) -> u32
-        requires counted { IsCounted net.now present.now }
+    fn without_stable(&self, net: &Net, current: &CurrentState, number: u32, list: &[u32]) -> u32
+        requires counted { IsCounted net.now current.now }
         requires fits { WatchFits net.now self.now }
         requires inside { All (λ node. node < length net.now.names) list.now }
-        ensures { result ≡ number - count_by (unstable_unchanged (network_of net.now) present.now.input.items present.now.state.items (bit_at self.now.changed)) list.now }
+        ensures { result ≡ number - count_by (unstable_unchanged (network_of net.now) current.now.input.items current.now.state.items (bit_at self.now.changed)) list.now }
     {
         let mut left = number;
         for node in list {
-            let counts = present.is_unstable(net, *node) && !self.changed.contains(*node);
+            let counts = current.is_unstable(net, *node) && !self.changed.contains(*node);
             left = left.saturating_sub(one_if(counts));
         }
         left
     }
 
     // Whether a variable is watched.
-    fn contains(&self, net: &Net, present: &Present, var: u32) -> bool
-        requires counted { IsCounted net.now present.now }
+    fn contains(&self, net: &Net, current: &CurrentState, var: u32) -> bool
+        requires counted { IsCounted net.now current.now }
         requires fits { WatchFits net.now self.now }
         requires var { var < length (network_of net.now) }
-        ensures { result ≡ is_watched (network_of net.now) present.now.input.items present.now.state.items (bit_at self.now.changed) (bit_at self.now.been_stable) var }
+        ensures { result ≡ is_watched (network_of net.now) current.now.input.items current.now.state.items (bit_at self.now.changed) (bit_at self.now.been_stable) var }
     {
-        present.is_unstable(net, var) && !self.lapsed(net, var)
+        current.is_unstable(net, var) && !self.lapsed(net, var)
     }
 
     // Whether something happened for which a variable is watched no longer.
@@ -125,15 +125,15 @@ impl Watch {
     }
 
     // Notes the gate of a wire that is about to change, if the gate is stable.
-    fn note_gate(&mut self, net: &Net, present: &Present, var: u32)
-        requires counted { IsCounted net.now present.now }
+    fn note_gate(&mut self, net: &Net, current: &CurrentState, var: u32)
+        requires counted { IsCounted net.now current.now }
         requires fits { WatchFits net.now self.old }
         requires var { var < length (network_of net.now) }
         ensures changed { self.new.changed ≡ self.old.changed }
-        ensures been_stable { RecordsStable (network_of net.now) present.now.input.items present.now.state.items (var ∷ []) self.old.been_stable self.new.been_stable }
+        ensures been_stable { RecordsStable (network_of net.now) current.now.input.items current.now.state.items (var ∷ []) self.old.been_stable self.new.been_stable }
     {
         if let VarKind::Wire { gate, .. } = kind_at(net, var) {
-            if !present.is_unstable(net, gate) {
+            if !current.is_unstable(net, gate) {
                 self.been_stable.insert(gate);
             }
         }

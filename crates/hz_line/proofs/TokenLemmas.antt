@@ -7,9 +7,9 @@ use Rattle.std.proofs.lemmas.List.Folds.{list_all-append}
 use Rattle.std.proofs.lemmas.List.Sums.{take_while-cons}
 use Rattle.hz_line.specs.declared.bytes.Class.{Class as ClassHere}
 use Rattle.hz_line.specs.declared.bytes.Class.TheVariants as here
-use Rattle.hz_line.specs.Byte.{class_by, class_of, is_word_byte, is_word_class, is_blank, is_blank_class, is_mark_class, Class, Blank, Hash, Sign, Letter, Forbidden}
-use Rattle.hz_line.specs.declared.bytes.Mark.{Mark}
-use Rattle.hz_line.specs.Token.{TokenOf, WordOf, MarkOf, tokens_of, tokens_with, with_token, with_byte_first, begins_in_word, begins_in_blank, begins_in_mark, has_no_token, has_mark_first, IsWordToken, AreWordTokens, PastBlanks, IsTokenAndRest, BeginsWithToken, BeginsWithTokens}
+use Rattle.hz_line.specs.Byte.{class_by, class_of, is_word_byte, is_word_class, is_blank, is_blank_class, is_punctuation_class, Class, Blank, Hash, Punct, WordByte, Forbidden}
+use Rattle.hz_line.specs.declared.bytes.Punctuation.{Punctuation}
+use Rattle.hz_line.specs.Token.{TokenOf, WordOf, PunctuationOf, tokens_of, tokens_with, with_token, with_byte_first, begins_in_word, begins_in_blank, begins_in_punctuation, has_no_token, has_punctuation_first, IsWordToken, AreWordTokens, PastBlanks, IsTokenAndRest, BeginsWithToken, BeginsWithTokens}
 
 -- these tokens before others
 abbrev pub with_tokens : List TokenOf → Option (List TokenOf) → Option (List TokenOf)
@@ -32,24 +32,24 @@ pub lengthen-with_token : (byte : ℕ) (word : List ℕ) (tokens : Option (List 
 lengthen-with_token byte word None = refl
 lengthen-with_token byte word (Some tokens) = refl
 
-pub Letter-from_is_letter : (class : Class) → is_word_class class ≡ true → class ≡ Letter
-Letter-from_is_letter Blank h = cc
-Letter-from_is_letter Hash h = cc
-Letter-from_is_letter (Sign mark) h = cc
-Letter-from_is_letter Letter h = refl
-Letter-from_is_letter Forbidden h = cc
+pub WordByte-from_is_word_byte : (class : Class) → is_word_class class ≡ true → class ≡ WordByte
+WordByte-from_is_word_byte Blank h = cc
+WordByte-from_is_word_byte Hash h = cc
+WordByte-from_is_word_byte (Punct punctuation) h = cc
+WordByte-from_is_word_byte WordByte h = refl
+WordByte-from_is_word_byte Forbidden h = cc
 
 -- the line begins with its first word, and the tokens of what follows it come next
 abbrev pub BeginsWithItsWord : List ℕ → Type 0
 BeginsWithItsWord line = tokens_of line ≡ with_token (WordOf (take_while is_word_byte line)) (tokens_of (drop (prefix_len is_word_byte line) line))
 
-front : (byte : ℕ) (rest : List ℕ) → class_of byte ≡ Letter → take_while is_word_byte (byte ∷ rest) ≡ byte ∷ take_while is_word_byte rest
+front : (byte : ℕ) (rest : List ℕ) → class_of byte ≡ WordByte → take_while is_word_byte (byte ∷ rest) ≡ byte ∷ take_while is_word_byte rest
 front byte rest e = take_while-cons is_word_byte byte rest ∙ ap (λ (class : Class). cond (is_word_class class) (byte ∷ take_while is_word_byte rest) []) e
 
 drop-by_one : (n m byte : ℕ) (rest : List ℕ) → m ≡ suc n → drop m (byte ∷ rest) ≡ drop n rest
 drop-by_one n m byte rest e = rw e refl
 
-after : (byte : ℕ) (rest : List ℕ) → class_of byte ≡ Letter → drop (prefix_len is_word_byte (byte ∷ rest)) (byte ∷ rest) ≡ drop (prefix_len is_word_byte rest) rest
+after : (byte : ℕ) (rest : List ℕ) → class_of byte ≡ WordByte → drop (prefix_len is_word_byte (byte ∷ rest)) (byte ∷ rest) ≡ drop (prefix_len is_word_byte rest) rest
 after byte rest e =
     ap (λ (class : Class). drop (cond (is_word_class class) (1 + prefix_len is_word_byte rest) 0) (byte ∷ rest)) e
     ∙ drop-by_one (prefix_len is_word_byte rest) _ byte rest (omega arith)
@@ -58,21 +58,21 @@ prefix_len-no_word : (rest : List ℕ) → begins_in_word rest ≡ false → pre
 prefix_len-no_word [] h = refl
 prefix_len-no_word (byte ∷ rest) h = rw h refl
 
-word_step : (byte : ℕ) (rest : List ℕ) (more : Bool) → class_of byte ≡ Letter → begins_in_word rest ≡ more → (begins_in_word rest ≡ true → BeginsWithItsWord rest) → BeginsWithItsWord (byte ∷ rest)
+word_step : (byte : ℕ) (rest : List ℕ) (more : Bool) → class_of byte ≡ WordByte → begins_in_word rest ≡ more → (begins_in_word rest ≡ true → BeginsWithItsWord rest) → BeginsWithItsWord (byte ∷ rest)
 word_step byte rest true e h ih = rw (front byte rest e, after byte rest e, e, h, ih h) (lengthen-with_token byte _ _)
 word_step byte rest false e h ih = rw (front byte rest e, after byte rest e, e, h, prefix_len-no_word rest h) refl
 
 pub tokens_of-word : (line : List ℕ) → begins_in_word line ≡ true → BeginsWithItsWord line
 tokens_of-word [] h = cc
-tokens_of-word (byte ∷ rest) h = word_step byte rest (begins_in_word rest) (Letter-from_is_letter (class_of byte) h) refl (tokens_of-word rest)
+tokens_of-word (byte ∷ rest) h = word_step byte rest (begins_in_word rest) (WordByte-from_is_word_byte (class_of byte) h) refl (tokens_of-word rest)
 
 -- the same at a line that is not empty, with the word's length
-pub tokens_of-word_at : (line : List ℕ) → 0 < length line → class_of (get_or line 0 0) ≡ Letter → BeginsWithItsWord line × (0 < prefix_len is_word_byte line)
+pub tokens_of-word_at : (line : List ℕ) → 0 < length line → class_of (get_or line 0 0) ≡ WordByte → BeginsWithItsWord line × (0 < prefix_len is_word_byte line)
 tokens_of-word_at [] more e = absurd (omega arith)
 tokens_of-word_at (byte ∷ rest) more e = (tokens_of-word (byte ∷ rest) (ap is_word_class e), rw e (omega arith))
 
 letters_at : (byte : ℕ) (rest : List ℕ) (letter : Bool) → is_word_byte byte ≡ letter → list_all is_word_byte (take_while is_word_byte rest) ≡ true → list_all is_word_byte (take_while is_word_byte (byte ∷ rest)) ≡ true
-letters_at byte rest true e ih = rw (front byte rest (Letter-from_is_letter (class_of byte) e), e, ih) refl
+letters_at byte rest true e ih = rw (front byte rest (WordByte-from_is_word_byte (class_of byte) e), e, ih) refl
 letters_at byte rest false e ih = rw (prefix_len-no_word (byte ∷ rest) e) refl
 
 letters : (line : List ℕ) → list_all is_word_byte (take_while is_word_byte line) ≡ true
@@ -80,15 +80,15 @@ letters [] = refl
 letters (byte ∷ rest) = letters_at byte rest (is_word_byte byte) refl (letters rest)
 
 ends_at : (byte : ℕ) (rest : List ℕ) (letter : Bool) → is_word_byte byte ≡ letter → begins_in_word (drop (prefix_len is_word_byte rest) rest) ≡ false → begins_in_word (drop (prefix_len is_word_byte (byte ∷ rest)) (byte ∷ rest)) ≡ false
-ends_at byte rest true e ih = ap begins_in_word (after byte rest (Letter-from_is_letter (class_of byte) e)) ∙ ih
+ends_at byte rest true e ih = ap begins_in_word (after byte rest (WordByte-from_is_word_byte (class_of byte) e)) ∙ ih
 ends_at byte rest false e ih = rw (prefix_len-no_word (byte ∷ rest) e) e
 
 ends : (line : List ℕ) → begins_in_word (drop (prefix_len is_word_byte line) line) ≡ false
 ends [] = refl
 ends (byte ∷ rest) = ends_at byte rest (is_word_byte byte) refl (ends rest)
 
--- a line that begins with a letter is its longest word and what comes after it
-pub IsTokenAndRest-word : (line : List ℕ) → 0 < length line → class_of (get_or line 0 0) ≡ Letter → IsTokenAndRest (WordOf (take_while is_word_byte line)) (drop (prefix_len is_word_byte line) line) line
+-- a line that begins with a word byte is its longest word and what comes after it
+pub IsTokenAndRest-word : (line : List ℕ) → 0 < length line → class_of (get_or line 0 0) ≡ WordByte → IsTokenAndRest (WordOf (take_while is_word_byte line)) (drop (prefix_len is_word_byte line) line) line
 IsTokenAndRest-word [] more e = absurd (omega arith)
 IsTokenAndRest-word (byte ∷ rest) more e =
     let some : 0 < length (take_while is_word_byte (byte ∷ rest)) = rw (front byte rest e) (omega arith) in (
@@ -108,35 +108,35 @@ begins_in_word-prefix (byte ∷ rest) some = prefix-at byte rest (is_word_byte b
 
 pub IsTokenAndRest-begins_in_word : (line : List ℕ) → begins_in_word line ≡ true → IsTokenAndRest (WordOf (take_while is_word_byte line)) (drop (prefix_len is_word_byte line) line) line
 IsTokenAndRest-begins_in_word [] h = cc
-IsTokenAndRest-begins_in_word (byte ∷ rest) h = IsTokenAndRest-word (byte ∷ rest) (omega arith) (Letter-from_is_letter (class_of byte) h)
+IsTokenAndRest-begins_in_word (byte ∷ rest) h = IsTokenAndRest-word (byte ∷ rest) (omega arith) (WordByte-from_is_word_byte (class_of byte) h)
 
--- a line whose first byte is no mark begins in none
-no_sign : (class : Class) → ((mark : Mark) → class ≡ Sign mark → ⊥) → is_mark_class class ≡ false
-no_sign Blank none = refl
-no_sign Hash none = refl
-no_sign (Sign mark) none = absurd (none mark refl)
-no_sign Letter none = refl
-no_sign Forbidden none = refl
+-- a line whose first byte is no punctuation begins in none
+none_punctuates : (class : Class) → ((punctuation : Punctuation) → class ≡ Punct punctuation → ⊥) → is_punctuation_class class ≡ false
+none_punctuates Blank none = refl
+none_punctuates Hash none = refl
+none_punctuates (Punct punctuation) none = absurd (none punctuation refl)
+none_punctuates WordByte none = refl
+none_punctuates Forbidden none = refl
 
-pub begins_in_mark-no_sign : (line : List ℕ) → 0 < length line → ((mark : Mark) → class_of (get_or line 0 0) ≡ Sign mark → ⊥) → begins_in_mark line ≡ false
-begins_in_mark-no_sign [] more none = refl
-begins_in_mark-no_sign (byte ∷ rest) more none = no_sign (class_of byte) none
+pub begins_in_punctuation-no_punctuation : (line : List ℕ) → 0 < length line → ((punctuation : Punctuation) → class_of (get_or line 0 0) ≡ Punct punctuation → ⊥) → begins_in_punctuation line ≡ false
+begins_in_punctuation-no_punctuation [] more none = refl
+begins_in_punctuation-no_punctuation (byte ∷ rest) more none = none_punctuates (class_of byte) none
 
--- a line whose first byte is no blank and no mark has no mark first
-mark_first-word : (word : List ℕ) (tokens : Option (List TokenOf)) → has_mark_first (with_token (WordOf word) tokens) ≡ false
-mark_first-word word None = refl
-mark_first-word word (Some tokens) = refl
+-- a line whose first byte is no blank and no punctuation has no punctuation first
+punctuation_first-word : (word : List ℕ) (tokens : Option (List TokenOf)) → has_punctuation_first (with_token (WordOf word) tokens) ≡ false
+punctuation_first-word word None = refl
+punctuation_first-word word (Some tokens) = refl
 
-mark_first-at : (byte : ℕ) (rest : List ℕ) (class : Class) → class_of byte ≡ class → is_blank_class class ≡ false → is_mark_class class ≡ false → has_mark_first (tokens_of (byte ∷ rest)) ≡ false
-mark_first-at byte rest Blank e blank mark = cc
-mark_first-at byte rest Hash e blank mark = rw e refl
-mark_first-at byte rest (Sign sign) e blank mark = cc
-mark_first-at byte rest Letter e blank mark = ap has_mark_first (tokens_of-word (byte ∷ rest) (ap is_word_class e)) ∙ mark_first-word _ _
-mark_first-at byte rest Forbidden e blank mark = rw e refl
+punctuation_first-at : (byte : ℕ) (rest : List ℕ) (class : Class) → class_of byte ≡ class → is_blank_class class ≡ false → is_punctuation_class class ≡ false → has_punctuation_first (tokens_of (byte ∷ rest)) ≡ false
+punctuation_first-at byte rest Blank e blank punctuation = cc
+punctuation_first-at byte rest Hash e blank punctuation = rw e refl
+punctuation_first-at byte rest (Punct sign) e blank punctuation = cc
+punctuation_first-at byte rest WordByte e blank punctuation = ap has_punctuation_first (tokens_of-word (byte ∷ rest) (ap is_word_class e)) ∙ punctuation_first-word _ _
+punctuation_first-at byte rest Forbidden e blank punctuation = rw e refl
 
-pub has_mark_first-no_mark : (line : List ℕ) → begins_in_blank line ≡ false → begins_in_mark line ≡ false → has_mark_first (tokens_of line) ≡ false
-has_mark_first-no_mark [] blank mark = refl
-has_mark_first-no_mark (byte ∷ rest) blank mark = mark_first-at byte rest (class_of byte) refl blank mark
+pub has_punctuation_first-no_punctuation : (line : List ℕ) → begins_in_blank line ≡ false → begins_in_punctuation line ≡ false → has_punctuation_first (tokens_of line) ≡ false
+has_punctuation_first-no_punctuation [] blank punctuation = refl
+has_punctuation_first-no_punctuation (byte ∷ rest) blank punctuation = punctuation_first-at byte rest (class_of byte) refl blank punctuation
 
 -- a line whose first byte is no blank and no comment's has a token, or none for a forbidden byte
 bare-token : (token : TokenOf) (tokens : Option (List TokenOf)) → has_no_token (with_token token tokens) ≡ false
@@ -146,8 +146,8 @@ bare-token token (Some tokens) = refl
 bare-at : (byte : ℕ) (rest : List ℕ) (class : Class) → class_of byte ≡ class → is_blank_class class ≡ false → (class ≡ Hash → ⊥) → has_no_token (tokens_of (byte ∷ rest)) ≡ false
 bare-at byte rest Blank e blank hash = cc
 bare-at byte rest Hash e blank hash = absurd (hash refl)
-bare-at byte rest (Sign sign) e blank hash = rw e (bare-token (MarkOf sign) (tokens_of rest))
-bare-at byte rest Letter e blank hash = ap has_no_token (tokens_of-word (byte ∷ rest) (ap is_word_class e)) ∙ bare-token _ _
+bare-at byte rest (Punct sign) e blank hash = rw e (bare-token (PunctuationOf sign) (tokens_of rest))
+bare-at byte rest WordByte e blank hash = ap has_no_token (tokens_of-word (byte ∷ rest) (ap is_word_class e)) ∙ bare-token _ _
 bare-at byte rest Forbidden e blank hash = rw e refl
 
 pub has_no_token-no_hash : (line : List ℕ) → 0 < length line → begins_in_blank line ≡ false → (class_of (get_or line 0 0) ≡ Hash → ⊥) → has_no_token (tokens_of line) ≡ false
@@ -176,8 +176,8 @@ pub BeginsWithTokens-push : (line : List ℕ) (tokens : List TokenOf) (token : T
 BeginsWithTokens-push line [] token middle rest h t = (rest, subst (λ front. BeginsWithToken front token rest) (sym h) t, refl)
 BeginsWithTokens-push line (first ∷ tokens) token middle rest h t = (h.0, h.1, BeginsWithTokens-push h.0 tokens token middle rest h.2 t)
 
-is_word_byte-Letter : (byte : ℕ) → class_of byte ≡ Letter → is_word_byte byte ≡ true
-is_word_byte-Letter byte e = ap is_word_class e
+is_word_byte-WordByte : (byte : ℕ) → class_of byte ≡ WordByte → is_word_byte byte ≡ true
+is_word_byte-WordByte byte e = ap is_word_class e
 
 one_letter : (byte : ℕ) → is_word_byte byte ≡ true → IsWordToken (byte ∷ [])
 one_letter byte h = record { some = lit< tt; letters = rw h refl }
@@ -193,7 +193,7 @@ lengthen-AreWordTokens : (byte : ℕ) (tokens : Option (List TokenOf)) → is_wo
 lengthen-AreWordTokens byte None e h = h
 lengthen-AreWordTokens byte (Some []) e h = h
 lengthen-AreWordTokens byte (Some (WordOf word ∷ tokens)) e h = (one_more byte word e h.0, h.1)
-lengthen-AreWordTokens byte (Some (MarkOf mark ∷ tokens)) e h = h
+lengthen-AreWordTokens byte (Some (PunctuationOf punctuation ∷ tokens)) e h = h
 
 letter-AreWordTokens : (byte : ℕ) (more : Bool) (tokens : Option (List TokenOf)) → is_word_byte byte ≡ true → IfSome tokens AreWordTokens → IfSome (cond more (with_byte_first byte tokens) (with_token (WordOf (byte ∷ [])) tokens)) AreWordTokens
 letter-AreWordTokens byte true tokens e h = lengthen-AreWordTokens byte tokens e h
@@ -202,8 +202,8 @@ letter-AreWordTokens byte false tokens e h = with_token-AreWordTokens (WordOf (b
 tokens_with-AreWordTokens : (byte : ℕ) (class : Class) (rest : List ℕ) (tokens : Option (List TokenOf)) → class_of byte ≡ class → IfSome tokens AreWordTokens → IfSome (tokens_with byte class rest tokens) AreWordTokens
 tokens_with-AreWordTokens byte Blank rest tokens e h = h
 tokens_with-AreWordTokens byte Hash rest tokens e h = tt
-tokens_with-AreWordTokens byte (Sign mark) rest tokens e h = with_token-AreWordTokens (MarkOf mark) tokens (λ after r. r) h
-tokens_with-AreWordTokens byte Letter rest tokens e h = letter-AreWordTokens byte (begins_in_word rest) tokens (is_word_byte-Letter byte e) h
+tokens_with-AreWordTokens byte (Punct punctuation) rest tokens e h = with_token-AreWordTokens (PunctuationOf punctuation) tokens (λ after r. r) h
+tokens_with-AreWordTokens byte WordByte rest tokens e h = letter-AreWordTokens byte (begins_in_word rest) tokens (is_word_byte-WordByte byte e) h
 tokens_with-AreWordTokens byte Forbidden rest tokens e h = tt
 
 -- the words that a line has are words
@@ -219,7 +219,7 @@ lengthen-length : (byte : ℕ) (tokens : Option (List TokenOf)) (n : ℕ) → If
 lengthen-length byte None n h = tt
 lengthen-length byte (Some []) n h = omega arith
 lengthen-length byte (Some (WordOf word ∷ tokens)) n h = omega arith
-lengthen-length byte (Some (MarkOf mark ∷ tokens)) n h = omega arith
+lengthen-length byte (Some (PunctuationOf punctuation ∷ tokens)) n h = omega arith
 
 more-length : (tokens : Option (List TokenOf)) (n : ℕ) → IfSome tokens (λ all. length all ≤ n) → IfSome tokens (λ all. length all ≤ suc n)
 more-length None n h = tt
@@ -232,8 +232,8 @@ letter-length byte false tokens n h = with_token-length (WordOf (byte ∷ [])) t
 tokens_with-length : (byte : ℕ) (class : Class) (rest : List ℕ) (tokens : Option (List TokenOf)) → IfSome tokens (λ all. length all ≤ length rest) → IfSome (tokens_with byte class rest tokens) (λ all. length all ≤ suc (length rest))
 tokens_with-length byte Blank rest tokens h = more-length tokens (length rest) h
 tokens_with-length byte Hash rest tokens h = omega arith
-tokens_with-length byte (Sign mark) rest tokens h = with_token-length (MarkOf mark) tokens (length rest) h
-tokens_with-length byte Letter rest tokens h = letter-length byte (begins_in_word rest) tokens (length rest) h
+tokens_with-length byte (Punct punctuation) rest tokens h = with_token-length (PunctuationOf punctuation) tokens (length rest) h
+tokens_with-length byte WordByte rest tokens h = letter-length byte (begins_in_word rest) tokens (length rest) h
 tokens_with-length byte Forbidden rest tokens h = tt
 
 -- a line has no more tokens than bytes
@@ -241,17 +241,17 @@ pub tokens_of-length : (line : List ℕ) → IfSome (tokens_of line) (λ tokens.
 tokens_of-length [] = omega arith
 tokens_of-length (byte ∷ rest) = tokens_with-length byte (class_of byte) rest (tokens_of rest) (tokens_of-length rest)
 
--- a class that is that of a mark, or that of the comment's start
-pub sign_by : (class : ClassHere) (mark : Mark) → class_by class ≡ Sign mark → class ≡ here.Sign mark
-sign_by here.Blank mark e = cc
-sign_by here.Hash mark e = cc
-sign_by (here.Sign other) mark e = let same : other ≡ mark = cc in ap here.Sign same
-sign_by here.Letter mark e = cc
-sign_by here.Forbidden mark e = cc
+-- a class that is that of punctuation, or that of the comment's start
+pub punctuation_by : (class : ClassHere) (punctuation : Punctuation) → class_by class ≡ Punct punctuation → class ≡ here.Punct punctuation
+punctuation_by here.Blank punctuation e = cc
+punctuation_by here.Hash punctuation e = cc
+punctuation_by (here.Punct other) punctuation e = let same : other ≡ punctuation = cc in ap here.Punct same
+punctuation_by here.WordByte punctuation e = cc
+punctuation_by here.Forbidden punctuation e = cc
 
 pub hash_by : (class : ClassHere) → class_by class ≡ Hash → class ≡ here.Hash
 hash_by here.Blank e = cc
 hash_by here.Hash e = refl
-hash_by (here.Sign other) e = cc
-hash_by here.Letter e = cc
+hash_by (here.Punct other) e = cc
+hash_by here.WordByte e = cc
 hash_by here.Forbidden e = cc

@@ -2,25 +2,25 @@
 use Rattle.std.proofs.Common.{◌≡◌, ◌∙◌, ℕ, ◌-◌, ◌<◌, List, [], ◌∷◌, ◌++◌, Bool, true, false, not, nat_le, ◌||◌, ◌&&◌, ◌==◌, length, refl, ap, arith, slice_index, zero, suc}
 use Rattle.std.specs.List.{list_all, slice_split}
 use Rattle.std.proofs.lemmas.Bool.Decides.{nat_tests}
-use Rattle.hz_line.specs.declared.bytes.Mark.TheVariants.{Open, Close, Comma, Equals}
+use Rattle.hz_line.specs.declared.bytes.Punctuation.TheVariants.{Open, Close, Comma, Equals}
 use Rattle.hz_line.specs.Byte.{class_of, is_word_byte}
 use Rattle.hz_line.specs.Line.{lines_of, is_line_feed}
-use Rattle.hz_line.specs.Token.{WordOf, MarkOf, tokens_of, with_token, with_byte_first, begins_in_word}
-use Rattle.hz_line.proofs.TokenLemmas.{Letter-from_is_letter, lengthen-with_token}
+use Rattle.hz_line.specs.Token.{WordOf, PunctuationOf, tokens_of, with_token, with_byte_first, begins_in_word}
+use Rattle.hz_line.proofs.TokenLemmas.{WordByte-from_is_word_byte, lengthen-with_token}
 
-pub tokens_of-open : (rest : List ℕ) → tokens_of (40 ∷ rest) ≡ with_token (MarkOf Open) (tokens_of rest)
+pub tokens_of-open : (rest : List ℕ) → tokens_of (40 ∷ rest) ≡ with_token (PunctuationOf Open) (tokens_of rest)
 unfolding class_of
 tokens_of-open rest = refl
 
-pub tokens_of-close : (rest : List ℕ) → tokens_of (41 ∷ rest) ≡ with_token (MarkOf Close) (tokens_of rest)
+pub tokens_of-close : (rest : List ℕ) → tokens_of (41 ∷ rest) ≡ with_token (PunctuationOf Close) (tokens_of rest)
 unfolding class_of
 tokens_of-close rest = refl
 
-pub tokens_of-comma : (rest : List ℕ) → tokens_of (44 ∷ rest) ≡ with_token (MarkOf Comma) (tokens_of rest)
+pub tokens_of-comma : (rest : List ℕ) → tokens_of (44 ∷ rest) ≡ with_token (PunctuationOf Comma) (tokens_of rest)
 unfolding class_of
 tokens_of-comma rest = refl
 
-pub tokens_of-equals : (rest : List ℕ) → tokens_of (61 ∷ rest) ≡ with_token (MarkOf Equals) (tokens_of rest)
+pub tokens_of-equals : (rest : List ℕ) → tokens_of (61 ∷ rest) ≡ with_token (PunctuationOf Equals) (tokens_of rest)
 unfolding class_of
 tokens_of-equals rest = refl
 
@@ -28,7 +28,7 @@ pub tokens_of-space : (rest : List ℕ) → tokens_of (32 ∷ rest) ≡ tokens_o
 unfolding class_of
 tokens_of-space rest = refl
 
--- no letter: a space and each mark
+-- no word byte: a space and each punctuation
 pub is_word_byte-separators : (is_word_byte 32 ≡ false) × (is_word_byte 40 ≡ false) × (is_word_byte 41 ≡ false) × (is_word_byte 44 ≡ false) × (is_word_byte 61 ≡ false)
 unfolding class_of
 is_word_byte-separators = (refl, refl, refl, refl, refl)
@@ -37,14 +37,14 @@ pub both : (a b : Bool) → (a && b) ≡ true → (a ≡ true) × (b ≡ true)
 both true b h = (refl, h)
 both false b h = cc
 
--- a word that no letter follows is a token by itself
+-- a word that no word byte follows is a token by itself
 pub tokens_of-word_before : (word rest : List ℕ) → 0 < length word → list_all is_word_byte word ≡ true → begins_in_word rest ≡ false → tokens_of (word ++ rest) ≡ with_token (WordOf word) (tokens_of rest)
 tokens_of-word_before [] rest some letters ends = absurd (omega arith)
 tokens_of-word_before (byte ∷ []) rest some letters ends =
-    let e = Letter-from_is_letter (class_of byte) (both (is_word_byte byte) _ letters).0 in rw (e, ends) refl
+    let e = WordByte-from_is_word_byte (class_of byte) (both (is_word_byte byte) _ letters).0 in rw (e, ends) refl
 tokens_of-word_before (byte ∷ next ∷ word) rest some letters ends =
     let parts = both (is_word_byte byte) _ letters in
-    let e = Letter-from_is_letter (class_of byte) parts.0 in
+    let e = WordByte-from_is_word_byte (class_of byte) parts.0 in
     let more : is_word_byte next ≡ true = (both (is_word_byte next) _ parts.1).0 in
     let ih = tokens_of-word_before (next ∷ word) rest (omega arith) parts.1 ends in
     rw (e, more) (ap (with_byte_first byte) ih ∙ lengthen-with_token byte (next ∷ word) (tokens_of rest))
@@ -69,7 +69,7 @@ off false h = refl
 far : (byte at : ℕ) → nat_le 33 byte ≡ true → nat_le at 32 ≡ true → (byte == at) ≡ false
 far byte at h l = grind (arith, nat_tests, h, l)
 
--- such a byte is a letter, and ends no line
+-- such a byte is a word byte, and ends no line
 pub word_byte : (byte : ℕ) → is_printed_byte byte ≡ true → (is_word_byte byte ≡ true) × (is_inline byte ≡ true)
 unfolding class_of
 word_byte byte h =

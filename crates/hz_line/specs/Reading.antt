@@ -6,10 +6,10 @@ use Rattle.hz_line.specs.OrThat.{OrThat}
 use Rattle.hz_line.specs.Statement.{Meaning, Nothing, Malformed, Means, Numbered, numbered_statements, first_malformed}
 use Rattle.hz_line.specs.Token.{TokenOf}
 use Rattle.hz_line.specs.declared.statements.Numbered.{Numbered as Entered}
-use Rattle.hz_line.specs.declared.statements.Unread.{Unread}
-use Rattle.hz_line.specs.declared.statements.Unread.TheVariants as unread
-use Rattle.hz_line.specs.declared.statements.UnreadText.{UnreadText}
-use Rattle.hz_line.specs.declared.statements.UnreadText.TheVariants as unread_text
+use Rattle.hz_line.specs.declared.statements.StatementFault.{StatementFault}
+use Rattle.hz_line.specs.declared.statements.StatementFault.TheVariants as unread
+use Rattle.hz_line.specs.declared.statements.StatementsFault.{StatementsFault}
+use Rattle.hz_line.specs.declared.statements.StatementsFault.TheVariants as unread_text
 use Rattle.hz_line.specs.declared.tokens.LineFault.{LineFault}
 use Rattle.hz_line.specs.declared.tokens.LineFault.TheVariants as fault
 
@@ -23,16 +23,16 @@ meaning_read stated None = Nothing
 meaning_read stated (Some held) = Means (stated held)
 
 -- why a line was not read, by why it has no tokens
-abbrev pub unread_by : LineFault → Unread
+abbrev pub unread_by : LineFault → StatementFault
 unread_by fault.Forbidden = unread.Form
 unread_by fault.Memory = unread.Memory
 
 -- why nothing was read: it is not there; memory may always run out
-abbrev pub IsUnread : {A : Type 0} → Option A → Unread → Type 0
+abbrev pub IsUnread : {A : Type 0} → Option A → StatementFault → Type 0
 IsUnread read why = OrThat unread.Memory (λ _. read ≡ None) why
 
 -- why a line was not read: it is malformed; memory may always run out
-abbrev pub IsUnreadLine : {S : Type 0} → Meaning S → Unread → Type 0
+abbrev pub IsUnreadLine : {S : Type 0} → Meaning S → StatementFault → Type 0
 IsUnreadLine meaning why = OrThat unread.Memory (λ _. meaning ≡ Malformed) why
 
 -- these are the statements of the text, and no line is malformed
@@ -41,6 +41,6 @@ pub record AreStatementsOf {S : Type 0} (grammar : List TokenOf → Option S) (t
   pub formed : first_malformed grammar 1 (lines_of text) ≡ None
 
 -- why a text was not read: the line is the first malformed one; memory may always run out
-abbrev pub IsUnreadText : {S : Type 0} → (List TokenOf → Option S) → List ℕ → UnreadText → Type 0
+abbrev pub IsUnreadText : {S : Type 0} → (List TokenOf → Option S) → List ℕ → StatementsFault → Type 0
 IsUnreadText grammar text why =
     OrThat unread_text.Memory (λ found. option_map unread_text.Form (first_malformed grammar 1 (lines_of text)) ≡ Some found) why

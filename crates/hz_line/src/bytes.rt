@@ -3,9 +3,9 @@
 ghost use Rattle.std.specs.Prelude.{◌≡◌};
 ghost use Rattle.hz_line.specs.Byte.{class_by, class_of, is_word_byte};
 
-/// The marks, each a token by itself.
+/// Punctuation, each a token by itself.
 #[derive(Clone, Copy, Debug, PartialEq, Eq)]
-pub enum Mark {
+pub enum Punctuation {
     /// `(`
     Open,
     /// `)`
@@ -23,10 +23,10 @@ pub(crate) enum Class {
     Blank,
     /// `#`, which starts the comment.
     Hash,
-    /// One of the marks.
-    Sign(Mark),
+    /// Punctuation.
+    Punct(Punctuation),
     /// Any other printing byte of ASCII, a part of a word.
-    Letter,
+    WordByte,
     /// Any other byte, as a control byte, a carriage return or a byte from 0x80 on.
     Forbidden,
 }
@@ -40,25 +40,25 @@ pub(crate) fn class_of(byte: u8) -> Class
     match byte {
         b' ' | b'\t' => Class::Blank,
         b'#' => Class::Hash,
-        b'(' => Class::Sign(Mark::Open),
-        b')' => Class::Sign(Mark::Close),
-        b',' => Class::Sign(Mark::Comma),
-        b'=' => Class::Sign(Mark::Equals),
-        0x21..=0x7e => Class::Letter,
+        b'(' => Class::Punct(Punctuation::Open),
+        b')' => Class::Punct(Punctuation::Close),
+        b',' => Class::Punct(Punctuation::Comma),
+        b'=' => Class::Punct(Punctuation::Equals),
+        0x21..=0x7e => Class::WordByte,
         _ => Class::Forbidden,
     }
 }
 
 // Whether the byte is a part of a word. Every byte of every word is asked, so a table answers.
 #[inline]
-pub(crate) fn is_letter(byte: u8) -> bool
+pub(crate) fn is_word_byte(byte: u8) -> bool
     ensures { result ≡ is_word_byte byte }
 {
-    LETTERS[byte as usize]
+    WORD_BYTES[byte as usize]
 }
 
 // Which bytes are parts of words.
-static LETTERS: [bool; 256] = [
+static WORD_BYTES: [bool; 256] = [
     false, false, false, false, false, false, false, false, false, false, false, false, false,
     false, false, false, false, false, false, false, false, false, false, false, false, false,
     false, false, false, false, false, false, false, true, true, false, true, true, true, true,

@@ -1,10 +1,10 @@
 //! Lines of a text and tokens of a line.
 //!
 //! The texts of this project (netlists, scripts, patterns and runs) share one lexical form: lines end at a
-//! line feed, `#` starts a comment, blanks separate tokens, and a token is a word or one of the marks
-//! `( ) , =`. [`cut_line`] takes one line off a text, [`read_tokens`] gives the tokens of a line, [`next_token`]
+//! line feed, `#` starts a comment, blanks separate tokens, and a token is a word or punctuation
+//! `( ) , =`. [`split_line`] takes one line off a text, [`read_tokens`] gives the tokens of a line, [`next_token`]
 //! one after the other, and [`is_keyword`] compares a word with a keyword in any letter case. A reader that knows
-//! what has to come next asks [`first_word`], [`first_mark`] or [`has_no_token`], which is quicker. Lines and tokens borrow
+//! what has to come next asks [`first_word`], [`first_punctuation`] or [`has_no_token`], which is quicker. Lines and tokens borrow
 //! the text.
 //!
 //! A text each of whose lines is one statement has a [`Grammar`], and [`read_statements`] gives its numbered statements or
@@ -12,7 +12,7 @@
 //!
 //! | Module | What lives in it |
 //! |---|---|
-//! | `lines` | [`cut_line`]: one line off a text |
+//! | `lines` | [`split_line`]: one line off a text |
 //! | `bytes` | what a byte does in a line |
 //! | `tokens` | the tokens of a line, all of them or one after the other |
 //! | `keywords` | [`is_keyword`]: keywords, in any letter case |
@@ -25,12 +25,12 @@ mod lines;
 mod statements;
 mod tokens;
 
-pub use bytes::Mark;
+pub use bytes::Punctuation;
 pub use keywords::is_keyword;
-pub use lines::{Cut, cut_line};
-pub use statements::{Grammar, Numbered, Unread, UnreadText, read_statements};
+pub use lines::{Cut, split_line};
+pub use statements::{Grammar, Numbered, StatementFault, StatementsFault, read_statements};
 pub use tokens::{
-    LineFault, Next, Token, first_mark, first_word, is_bare, next_token, read_tokens,
+    LineFault, Next, Token, first_punctuation, first_word, is_blank_line, next_token, read_tokens,
 };
 
 #[cfg(test)]

@@ -16,7 +16,7 @@ pub struct Cut<'a> {
 /// Cuts the first line off a text, in time linear in the line. A text that ends in a line feed has an
 /// empty line after it.
 #[inline]
-pub fn cut_line<'a>(text: &'a [u8]) -> Cut<'a>
+pub fn split_line<'a>(text: &'a [u8]) -> Cut<'a>
     ensures lines { lines_of text.now ≡ result.line.now ∷ lines_of_rest result.rest }
     ensures within { length result.line.now + rest_length result.rest ≤ length text.now }
 {

@@ -5,14 +5,14 @@ ghost use Rattle.hz_line.specs.Statement.{meaning_of};
 ghost use Rattle.hz_line.specs.Token.{token_of};
 ghost use Rattle.hz_line.specs.Reading.{numbered_by, meaning_read, AreStatementsOf, IsUnread, IsUnreadLine, IsUnreadText};
 
-use crate::lines::cut_line;
+use crate::lines::split_line;
 use crate::tokens::{LineFault, Token, read_tokens};
 use std::alloc::{AllocFailed, Global};
 use thiserror::Error;
 
 /// Why tokens were not read.
 #[derive(Clone, Copy, Debug, PartialEq, Eq, Error)]
-pub enum Unread {
+pub enum StatementFault {
     /// They are nothing of the kind that was to be read.
     #[error("form")]
     Form,
@@ -23,7 +23,7 @@ pub enum Unread {
 
 /// Why the statements of a text were not read.
 #[derive(Clone, Copy, Debug, PartialEq, Eq, Error)]
-pub enum UnreadText {
+pub enum StatementsFault {
     /// The line, counted from 1, is the first that is malformed.
     #[error("form in line {line}")]
     Form { line: u32 },
@@ -32,35 +32,35 @@ pub enum UnreadText {
     Memory,
 }
 
-impl<T: Drop> From<AllocFailed<T>> for Unread {
-    ghost use Rattle.hz_line.specs.declared.statements.Unread.TheVariants as unread;
+impl<T: Drop> From<AllocFailed<T>> for StatementFault {
+    ghost use Rattle.hz_line.specs.declared.statements.StatementFault.TheVariants as unread;
 
     ghost from_gives = { λ _ made. made ≡ unread.Memory };
 
-    fn from(_failed: AllocFailed<T>) -> Unread {
-        Unread::Memory
+    fn from(_failed: AllocFailed<T>) -> StatementFault {
+        StatementFault::Memory
     }
 }
 
-impl<T: Drop> From<AllocFailed<T>> for UnreadText {
-    ghost use Rattle.hz_line.specs.declared.statements.UnreadText.TheVariants as text;
+impl<T: Drop> From<AllocFailed<T>> for StatementsFault {
+    ghost use Rattle.hz_line.specs.declared.statements.StatementsFault.TheVariants as text;
 
     ghost from_gives = { λ _ made. made ≡ text.Memory };
 
-    fn from(_failed: AllocFailed<T>) -> UnreadText {
-        UnreadText::Memory
+    fn from(_failed: AllocFailed<T>) -> StatementsFault {
+        StatementsFault::Memory
     }
 }
 
-impl From<LineFault> for Unread {
+impl From<LineFault> for StatementFault {
     ghost use Rattle.hz_line.specs.Reading.{unread_by};
 
     ghost from_gives = { λ fault made. made ≡ unread_by fault };
 
-    fn from(fault: LineFault) -> Unread {
+    fn from(fault: LineFault) -> StatementFault {
         match fault {
-            LineFault::Forbidden => Unread::Form,
-            LineFault::Memory => Unread::Memory,
+            LineFault::Forbidden => StatementFault::Form,
+            LineFault::Memory => StatementFault::Memory,
         }
     }
 }
@@ -96,7 +96,7 @@ pub trait Grammar<'t> {
     ghost IsSound: { Context → Self.Held → Type 0 };
 
     /// Reads the statement that tokens are.
-    fn statement(&mut self, tokens: &[Token<'t>]) -> Result<Self::Held, Unread>
+    fn statement(&mut self, tokens: &[Token<'t>]) -> Result<Self::Held, StatementFault>
         ensures read { MatchResult result
             (λ held. grammar (context self.old) (map token_of tokens.now) ≡ Some (stated held))
             (λ why. IsUnread (grammar (context self.old) (map token_of tokens.now)) why) }
@@ -110,7 +110,7 @@ pub fn read_statements<'t, G: Grammar<'t>>(
     alloc: Global,
     grammar: &mut G,
     text: &'t [u8],
-) -> Result<Vec<Numbered<G::Held>>, UnreadText>
+) -> Result<Vec<Numbered<G::Held>>, StatementsFault>
     requires { length text.now ≤ 4294967294 }
     ensures read { MatchResult result
         (λ read. AreStatementsOf (G.grammar (G.context grammar.old)) text.now (map (numbered_by G.stated) read.items))
@@ -123,13 +123,13 @@ pub fn read_statements<'t, G: Grammar<'t>>(
     let mut rest = Some(text);
     let mut line = 0;
     while let Some(left) = rest {
-        let cut = cut_line(left);
+        let cut = split_line(left);
         line += 1;
         match read_line(grammar, cut.line, &mut tokens) {
             Ok(None) => {}
             Ok(Some(held)) => entries.push(Numbered { line, held })?,
-            Err(Unread::Form) => return Err(UnreadText::Form { line }),
-            Err(Unread::Memory) => return Err(UnreadText::Memory),
+            Err(StatementFault::Form) => return Err(StatementsFault::Form { line }),
+            Err(StatementFault::Memory) => return Err(StatementsFault::Memory),
         }
         rest = cut.rest;
     }
@@ -141,7 +141,7 @@ fn read_line<'t, G: Grammar<'t>>(
     grammar: &mut G,
     line: &'t [u8],
     tokens: &mut Vec<Token<'t>>,
-) -> Result<Option<G::Held>, Unread>
+) -> Result<Option<G::Held>, StatementFault>
     ensures read { MatchResult result
         (λ read. meaning_of (G.grammar (G.context grammar.old)) line.now ≡ meaning_read G.stated read)
         (λ why. IsUnreadLine (meaning_of (G.grammar (G.context grammar.old)) line.now) why) }

@@ -1,8 +1,8 @@
 // Each public function once, with ample memory.
 
 use crate::{
-    Cut, LineFault, Mark, Next, Token, cut_line, first_mark, first_word, is_bare, is_keyword,
-    next_token, read_tokens,
+    Cut, LineFault, Next, Punctuation, Token, first_punctuation, first_word, is_blank_line,
+    is_keyword, next_token, read_tokens, split_line,
 };
 use std::test::Fail;
 
@@ -10,20 +10,20 @@ use std::test::Fail;
 fn spelling<'a>(token: &Token<'a>) -> &'a [u8] {
     match token {
         Token::Word(word) => *word,
-        Token::Sign(Mark::Open) => b"(",
-        Token::Sign(Mark::Close) => b")",
-        Token::Sign(Mark::Comma) => b",",
-        Token::Sign(Mark::Equals) => b"=",
+        Token::Punct(Punctuation::Open) => b"(",
+        Token::Punct(Punctuation::Close) => b")",
+        Token::Punct(Punctuation::Comma) => b",",
+        Token::Punct(Punctuation::Equals) => b"=",
     }
 }
 
 #[test]
 fn reads_lines(rt: HostRuntime) -> Result<(), Fail> {
-    let Cut { line, rest } = cut_line(b"\t[g]=Buf( a.0,$b )#\xff=\r\nx\r");
+    let Cut { line, rest } = split_line(b"\t[g]=Buf( a.0,$b )#\xff=\r\nx\r");
     let Cut {
         line: last,
         rest: none,
-    } = cut_line(rest.unwrap_or(b""));
+    } = split_line(rest.unwrap_or(b""));
     assert!(rt; none.is_none());
     assert_eq!(rt; last, b"x".as_slice());
 
@@ -57,9 +57,9 @@ fn reads_lines(rt: HostRuntime) -> Result<(), Fail> {
 fn takes_what_comes_first(rt: HostRuntime) -> Result<(), Fail> {
     let (word, behind) = first_word(b"\tg1 = x").unwrap_or((b"", b""));
     assert_eq!(rt; word, b"g1".as_slice());
-    let (mark, rest) = first_mark(behind).unwrap_or((Mark::Open, b""));
-    assert_eq!(rt; mark, Mark::Equals);
+    let (punctuation, rest) = first_punctuation(behind).unwrap_or((Punctuation::Open, b""));
+    assert_eq!(rt; punctuation, Punctuation::Equals);
     assert_eq!(rt; rest, b" x".as_slice());
-    assert!(rt; is_bare(b" # x"));
+    assert!(rt; is_blank_line(b" # x"));
     Ok(())
 }

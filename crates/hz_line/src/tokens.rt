@@ -3,18 +3,18 @@
 ghost use Rattle.std.specs.Prelude.{◌≡◌, ◌≤◌, false, length, IfErr, MatchResult, map, Some};
 ghost use Rattle.std.specs.List.{prefix_len};
 ghost use Rattle.hz_line.specs.Byte.{is_word_byte};
-ghost use Rattle.hz_line.specs.Token.{token_of, tokens_of, begins_in_blank, has_no_token, BeginsWith, BeginsWithMark, BeginsWithWord, IsMarkFirst, IsNext, IsWordFirst, PastBlanks, AreTokensBeforeFault, HasLineFault};
+ghost use Rattle.hz_line.specs.Token.{token_of, tokens_of, begins_in_blank, has_no_token, BeginsWith, BeginsWithPunctuation, BeginsWithWord, IsPunctuationFirst, IsNext, IsWordFirst, PastBlanks, AreTokensBeforeFault, HasLineFault};
 
-use crate::bytes::{Class, Mark, class_of, is_letter};
+use crate::bytes::{Class, Punctuation, class_of, is_word_byte};
 use std::alloc::AllocFailed;
 use thiserror::Error;
 
 /// A token, which borrows the text.
 #[derive(Clone, Copy, Debug)]
 pub enum Token<'a> {
-    /// A longest run of letters, never empty.
+    /// A longest run of word bytes, never empty.
     Word(&'a [u8]),
-    Sign(Mark),
+    Punct(Punctuation),
 }
 
 /// Why a line has no tokens.
@@ -78,15 +78,15 @@ pub fn next_token<'a>(line: &'a [u8]) -> Next<'a>
     ensures first { BeginsWith line.now result }
     ensures tokens { IsNext line.now result }
 {
-    let rest = past_blanks(line);
+    let rest = trim_start(line);
     let [first, others @ ..] = rest else {
         return Next::End;
     };
     match class_of(*first) {
         Class::Blank => unreachable!(),
         Class::Hash => Next::End,
-        Class::Sign(mark) => Next::Token(Token::Sign(mark), others),
-        Class::Letter => {
+        Class::Punct(punctuation) => Next::Token(Token::Punct(punctuation), others),
+        Class::WordByte => {
             let (word, after) = rest.split_at(word_len(rest));
             Next::Token(Token::Word(word), after)
         }
@@ -101,7 +101,7 @@ pub fn first_word<'a>(line: &'a [u8]) -> Option<(&'a [u8], &'a [u8])>
     ensures first { BeginsWithWord line.now result }
     ensures tokens { IsWordFirst line.now result }
 {
-    let rest = past_blanks(line);
+    let rest = trim_start(line);
     let len = word_len(rest);
     if len == 0 {
         None
@@ -110,27 +110,27 @@ pub fn first_word<'a>(line: &'a [u8]) -> Option<(&'a [u8], &'a [u8])>
     }
 }
 
-/// The mark that a line begins with, and what comes after it; none if something else comes first.
+/// The punctuation that a line begins with, and what comes after it; none if something else comes first.
 #[inline]
-pub fn first_mark<'a>(line: &'a [u8]) -> Option<(Mark, &'a [u8])>
-    ensures first { BeginsWithMark line.now result }
-    ensures tokens { IsMarkFirst line.now result }
+pub fn first_punctuation<'a>(line: &'a [u8]) -> Option<(Punctuation, &'a [u8])>
+    ensures first { BeginsWithPunctuation line.now result }
+    ensures tokens { IsPunctuationFirst line.now result }
 {
-    let [first, rest @ ..] = past_blanks(line) else {
+    let [first, rest @ ..] = trim_start(line) else {
         return None;
     };
     match class_of(*first) {
-        Class::Sign(mark) => Some((mark, rest)),
+        Class::Punct(punctuation) => Some((punctuation, rest)),
         _ => None,
     }
 }
 
 /// Whether a line has no tokens: it is empty, or has blanks and a comment alone.
 #[inline]
-pub fn is_bare(line: &[u8]) -> bool
+pub fn is_blank_line(line: &[u8]) -> bool
     ensures { result ≡ has_no_token (tokens_of line.now) }
 {
-    let [first, ..] = past_blanks(line) else {
+    let [first, ..] = trim_start(line) else {
         return true;
     };
     match class_of(*first) {
@@ -141,7 +141,7 @@ pub fn is_bare(line: &[u8]) -> bool
 
 // A line without the blanks at its front.
 #[inline]
-fn past_blanks<'a>(line: &'a [u8]) -> &'a [u8]
+fn trim_start<'a>(line: &'a [u8]) -> &'a [u8]
     ensures front { PastBlanks (λ after. after ≡ result.now) line.now }
     ensures all { begins_in_blank result.now ≡ false }
     ensures same { tokens_of line.now ≡ tokens_of result.now }
@@ -157,14 +157,14 @@ fn past_blanks<'a>(line: &'a [u8]) -> &'a [u8]
     rest
 }
 
-// How many letters a line begins with.
+// How many word bytes a line begins with.
 #[inline]
 fn word_len(line: &[u8]) -> usize
     ensures value { result ≡ prefix_len is_word_byte line.now }
     ensures within { result ≤ length line.now }
 {
     for (index, byte) in line.iter().enumerate() {
-        if !is_letter(*byte) {
+        if !is_word_byte(*byte) {
             return index;
         }
     }

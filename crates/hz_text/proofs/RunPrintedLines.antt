@@ -10,10 +10,10 @@ use Rattle.std.proofs.lemmas.List.Elements.{All-nil, All-cons, All-head, All-tai
 use Rattle.hz_core.specs.Netlist.{Netlist, IsCircuit, gate_at, pin_count, variable_count}
 use Rattle.hz_net.specs.Network.{network_of}
 use Rattle.hz_net.proofs.Places.{length-network_of}
-use Rattle.hz_line.specs.declared.bytes.Mark.TheVariants.{Open, Close}
+use Rattle.hz_line.specs.declared.bytes.Punctuation.TheVariants.{Open, Close}
 use Rattle.hz_line.specs.Byte.{class_of, is_word_byte}
 use Rattle.hz_line.specs.Line.{lines_of}
-use Rattle.hz_line.specs.Token.{TokenOf, WordOf, MarkOf, tokens_of, with_token, begins_in_word}
+use Rattle.hz_line.specs.Token.{TokenOf, WordOf, PunctuationOf, tokens_of, with_token, begins_in_word}
 use Rattle.hz_line.specs.Statement.{Meaning, Nothing, Means, meaning_of, meaning_of_tokens}
 use Rattle.hz_line.proofs.WrittenLemmas.{word_bytes, tokens_of-open, tokens_of-close, tokens_of-space, is_word_byte-separators, tokens_of-word_before, is_inline, lines_of-written}
 use Rattle.hz_write.specs.Writes.{line_of}
@@ -156,7 +156,7 @@ input_reads netlist pairs circuit nodes =
 -- the tokens of a variable
 abbrev variable_tokens : Variable → List TokenOf
 variable_tokens (Node name) = WordOf name ∷ []
-variable_tokens (Pin name number) = WordOf name ∷ MarkOf Open ∷ WordOf number ∷ MarkOf Close ∷ []
+variable_tokens (Pin name number) = WordOf name ∷ PunctuationOf Open ∷ WordOf number ∷ PunctuationOf Close ∷ []
 
 -- where a variable has a number, it is a decimal one
 abbrev IsNumbered : Variable → Type 0
@@ -221,9 +221,9 @@ pin_written netlist var circuit above below =
           ∙ tokens_of-word_before name (40 ∷ digits ++ 41 ∷ rest) (omega (arith, is.some)) words.0 is_word_byte-separators.1
           ∙ ap (with_token (WordOf name))
           (tokens_of-open (digits ++ 41 ∷ rest)
-          ∙ ap (with_token (MarkOf Open))
+          ∙ ap (with_token (PunctuationOf Open))
           (tokens_of-word_before digits (41 ∷ rest) some numbers.0 is_word_byte-separators.2
-          ∙ ap (with_token (WordOf digits)) (tokens_of-close rest ∙ ap (with_token (MarkOf Close)) read)));
+          ∙ ap (with_token (WordOf digits)) (tokens_of-close rest ∙ ap (with_token (PunctuationOf Close)) read)));
       inline = rw (list_all-append is_inline (name ++ 40 ∷ digits) (41 ∷ []), list_all-append is_inline name (40 ∷ digits), words.1, numbers.1) refl;
       numbered = decimal-is_decimal (pin + 1) (omega arith) small;
       found = rw (node_at netlist gate circuit is_gate.1, number_by-decimal (pin + 1) small, high, low, few, back) (ap Some at.place);

@@ -5,10 +5,10 @@ use Rattle.std.specs.Option.{option_map}
 use Rattle.std.proofs.lemmas.List.Folds.{list_all-append}
 use Rattle.std.proofs.lemmas.List.Elements.{All-head, All-tail}
 use Rattle.hz_core.specs.Netlist.{Netlist, IsName, IsCircuit}
-use Rattle.hz_line.specs.declared.bytes.Mark.TheVariants.{Equals}
+use Rattle.hz_line.specs.declared.bytes.Punctuation.TheVariants.{Equals}
 use Rattle.hz_line.specs.Byte.{class_of, is_word_byte}
 use Rattle.hz_line.specs.Line.{lines_of}
-use Rattle.hz_line.specs.Token.{TokenOf, WordOf, MarkOf, tokens_of, with_token, begins_in_word}
+use Rattle.hz_line.specs.Token.{TokenOf, WordOf, PunctuationOf, tokens_of, with_token, begins_in_word}
 use Rattle.hz_line.specs.Statement.{meaning_of, Means, numbered_from, with_meaning, first_malformed, malformed_before}
 use Rattle.hz_line.proofs.WrittenLemmas.{word_bytes, tokens_of-equals, tokens_of-space, is_word_byte-separators, tokens_of-word_before, is_inline, lines_of-written}
 use Rattle.hz_text.specs.Statement.{Keyword, Start, Change, ScriptStatement, keyword_of, script_statement_of}
@@ -23,7 +23,7 @@ letter_word false = (refl, refl)
 -- the tokens of assignments
 abbrev pub pair_tokens : Netlist → List (ℕ × Bool) → List TokenOf
 pair_tokens netlist [] = []
-pair_tokens netlist (pair ∷ pairs) = WordOf (slice_index_or netlist.names pair.0 []) ∷ MarkOf Equals ∷ WordOf (letter_of pair.1 ∷ []) ∷ pair_tokens netlist pairs
+pair_tokens netlist (pair ∷ pairs) = WordOf (slice_index_or netlist.names pair.0 []) ∷ PunctuationOf Equals ∷ WordOf (letter_of pair.1 ∷ []) ∷ pair_tokens netlist pairs
 
 -- the pairs name nodes
 abbrev pub AreNodes : Netlist → List (ℕ × Bool) → Type 0
@@ -36,14 +36,14 @@ no_word netlist (pair ∷ pairs) = is_word_byte-separators.0
 pub name_at : (netlist : Netlist) (node : ℕ) → IsCircuit netlist → node < length netlist.names → IsName (slice_index_or netlist.names node [])
 name_at netlist node whole l = whole.names node [] l
 
-one_assignment : (name : List ℕ) (bit : Bool) (rest : List ℕ) (tokens : List TokenOf) → IsName name → begins_in_word rest ≡ false → tokens_of rest ≡ Some tokens → tokens_of ((32 ∷ name ++ 61 ∷ letter_of bit ∷ []) ++ rest) ≡ Some (WordOf name ∷ MarkOf Equals ∷ WordOf (letter_of bit ∷ []) ∷ tokens)
+one_assignment : (name : List ℕ) (bit : Bool) (rest : List ℕ) (tokens : List TokenOf) → IsName name → begins_in_word rest ≡ false → tokens_of rest ≡ Some tokens → tokens_of ((32 ∷ name ++ 61 ∷ letter_of bit ∷ []) ++ rest) ≡ Some (WordOf name ∷ PunctuationOf Equals ∷ WordOf (letter_of bit ∷ []) ∷ tokens)
 one_assignment name bit rest tokens is ends read =
     let words = word_bytes name is.bytes in
     let letters = letter_word bit in
     tokens_of-space ((name ++ 61 ∷ letter_of bit ∷ []) ++ rest)
     ∙ ap tokens_of (append_assoc name (61 ∷ letter_of bit ∷ []) rest)
     ∙ tokens_of-word_before name (61 ∷ letter_of bit ∷ rest) (omega (arith, is.some)) words.0 is_word_byte-separators.4
-    ∙ ap (with_token (WordOf name)) (tokens_of-equals (letter_of bit ∷ rest) ∙ ap (with_token (MarkOf Equals)) (tokens_of-word_before (letter_of bit ∷ []) rest (omega arith) letters.0 ends ∙ ap (with_token (WordOf (letter_of bit ∷ []))) read))
+    ∙ ap (with_token (WordOf name)) (tokens_of-equals (letter_of bit ∷ rest) ∙ ap (with_token (PunctuationOf Equals)) (tokens_of-word_before (letter_of bit ∷ []) rest (omega arith) letters.0 ends ∙ ap (with_token (WordOf (letter_of bit ∷ []))) read))
 
 pub pairs_read : (netlist : Netlist) (pairs : List (ℕ × Bool)) → IsCircuit netlist → AreNodes netlist pairs → tokens_of (flat_map (assignment_text netlist) pairs) ≡ Some (pair_tokens netlist pairs)
 pairs_read netlist [] whole h = refl

@@ -4,8 +4,8 @@ use Rattle.std.specs.List.{list_any}
 use Rattle.std.specs.Option.{option_map}
 use Rattle.std.specs.Str.{bytes_eq}
 use Rattle.hz_core.specs.Netlist.{Netlist, node_named}
-use Rattle.hz_line.specs.declared.bytes.Mark.TheVariants.{Equals}
-use Rattle.hz_line.specs.Token.{TokenOf, WordOf, MarkOf}
+use Rattle.hz_line.specs.declared.bytes.Punctuation.TheVariants.{Equals}
+use Rattle.hz_line.specs.Token.{TokenOf, WordOf, PunctuationOf}
 
 -- a name and the word that is assigned to it
 pub record Assignment : Type 0 where
@@ -15,7 +15,7 @@ pub record Assignment : Type 0 where
 -- the assignments that tokens are, three tokens each
 abbrev pub assignments_of : List TokenOf → Option (List Assignment)
 assignments_of [] = Some []
-assignments_of (WordOf name ∷ MarkOf Equals ∷ WordOf word ∷ rest) =
+assignments_of (WordOf name ∷ PunctuationOf Equals ∷ WordOf word ∷ rest) =
     option_map (λ assignments. record { name = name; word = word } ∷ assignments) (assignments_of rest)
 assignments_of _ = None
 

@@ -7,8 +7,8 @@ use Rattle.hz_line.specs.OrThat.{OrThat}
 use Rattle.hz_line.specs.Reading.{AreStatementsOf}
 use Rattle.hz_line.specs.Statement.{Numbered, numbered_statements, first_passing_line, first_malformed}
 use Rattle.hz_line.specs.Token.{TokenOf}
-use Rattle.hz_line.specs.declared.statements.UnreadText.{UnreadText}
-use Rattle.hz_line.specs.declared.statements.UnreadText.TheVariants as unread
+use Rattle.hz_line.specs.declared.statements.StatementsFault.{StatementsFault}
+use Rattle.hz_line.specs.declared.statements.StatementsFault.TheVariants as unread
 use Rattle.hz_text.specs.declared.fault.TextFault.{TextFault}
 use Rattle.hz_text.specs.declared.fault.TextFault.TheVariants.{Form, Unknown, Twice, Missing, Bit, Order, TooMany, Memory, Mismatch}
 use Rattle.hz_text.specs.declared.fault.Mismatch.{Mismatch as Wrong}
@@ -75,6 +75,6 @@ pub record IsChecked {S : Type 0} (grammar : List TokenOf → Option S) (rules :
   pub clear : first_fault_in rules statements ≡ None
 
 -- the fault of a text whose statements were not read
-abbrev pub fault_by : UnreadText → TextFault
+abbrev pub fault_by : StatementsFault → TextFault
 fault_by (unread.Form line) = Form line
 fault_by unread.Memory = Memory

@@ -3,10 +3,10 @@ use Rattle.std.specs.Prelude.{ℕ, ◌-◌, ◌+◌, ◌*◌, Bool, false, not, 
 use Rattle.std.specs.List.{list_all}
 use Rattle.std.specs.Option.{option_map}
 use Rattle.std.specs.Str.{bytes_eq}
-use Rattle.hz_line.specs.declared.bytes.Mark.TheVariants.{Open, Close}
+use Rattle.hz_line.specs.declared.bytes.Punctuation.TheVariants.{Open, Close}
 use Rattle.hz_line.specs.Keyword.{is_keyword}
 use Rattle.hz_line.specs.Statement.{Numbered, numbered_statements}
-use Rattle.hz_line.specs.Token.{TokenOf, WordOf, MarkOf}
+use Rattle.hz_line.specs.Token.{TokenOf, WordOf, PunctuationOf}
 use Rattle.hz_text.specs.Assignment.{Assignment, assignments_of}
 use Rattle.hz_text.specs.declared.run.size.Size.{Size}
 use Rattle.hz_text.specs.declared.run.version.Version.{Version}
@@ -39,7 +39,7 @@ with_first first later = option_map (λ those. first ∷ those) later
 -- the variables that tokens are: a name, or the four tokens name, '(', number, ')'
 abbrev pub variables_of_tokens : List TokenOf → Option (List Variable)
 variables_of_tokens [] = Some []
-variables_of_tokens (WordOf name ∷ MarkOf Open ∷ WordOf number ∷ MarkOf Close ∷ rest) =
+variables_of_tokens (WordOf name ∷ PunctuationOf Open ∷ WordOf number ∷ PunctuationOf Close ∷ rest) =
     if is_decimal number then with_first (Pin name number) (variables_of_tokens rest) else None
 variables_of_tokens (WordOf name ∷ rest) = with_first (Node name) (variables_of_tokens rest)
 variables_of_tokens _ = None

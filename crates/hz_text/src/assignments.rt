@@ -9,7 +9,7 @@ ghost use Rattle.hz_text.specs.Bits.{allowed_by};
 ghost use Rattle.hz_text.specs.Rules.{AreBelow, repeats_node, least_unassigned, with_node_marked};
 
 use hz_core::{Circuit, Memory};
-use hz_line::{Mark, Token, Unread};
+use hz_line::{Punctuation, StatementFault, Token};
 use std::alloc::Global;
 use std::marker::Model;
 
@@ -41,7 +41,7 @@ pub(crate) fn read_assignments(
     alloc: Global,
     circuit: &Circuit,
     tokens: &[Token],
-) -> Result<Vec<Assigned>, Unread>
+) -> Result<Vec<Assigned>, StatementFault>
     ensures read { MatchResult result
         (λ read. assigned_by circuit.now (map token_of tokens.now) ≡ Some read.items)
         (λ why. IsUnread (assigned_by circuit.now (map token_of tokens.now)) why) }
@@ -51,7 +51,7 @@ pub(crate) fn read_assignments(
     let mut rest = tokens;
     while let [
         Token::Word(name),
-        Token::Sign(Mark::Equals),
+        Token::Punct(Punctuation::Equals),
         Token::Word(word),
         after @ ..,
     ] = rest
@@ -62,7 +62,7 @@ pub(crate) fn read_assignments(
     if rest.is_empty() {
         Ok(read)
     } else {
-        Err(Unread::Form)
+        Err(StatementFault::Form)
     }
 }
 

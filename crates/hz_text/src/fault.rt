@@ -3,7 +3,7 @@
 ghost use Rattle.std.specs.Prelude.{◌≡◌, None, MatchResult, IsSomeAnd};
 
 use hz_core::Memory;
-use hz_line::UnreadText;
+use hz_line::StatementsFault;
 use thiserror::Error;
 
 /// Why a text is refused. Lines are counted from 1. The faults are numbered from 1 in the order in which they stand here;
@@ -60,15 +60,15 @@ impl From<Memory> for TextFault {
     }
 }
 
-impl From<UnreadText> for TextFault {
+impl From<StatementsFault> for TextFault {
     ghost use Rattle.hz_text.specs.Rules.{fault_by};
 
     ghost from_gives = { λ why made. made ≡ fault_by why };
 
-    fn from(why: UnreadText) -> TextFault {
+    fn from(why: StatementsFault) -> TextFault {
         match why {
-            UnreadText::Form { line } => TextFault::Form { line },
-            UnreadText::Memory => TextFault::Memory,
+            StatementsFault::Form { line } => TextFault::Form { line },
+            StatementsFault::Memory => TextFault::Memory,
         }
     }
 }

@@ -10,7 +10,7 @@ use crate::assignments::{Assigned, repeats};
 use crate::fault::{Mismatch, TextFault, refuse};
 use crate::limit::MAX_TEXT;
 use hz_core::Memory;
-use hz_line::{Grammar, Numbered, Token, Unread, read_statements};
+use hz_line::{Grammar, Numbered, StatementFault, Token, read_statements};
 use std::alloc::Global;
 
 /// A text of statements that assign bits to nodes of a circuit: its grammar, and the passes over its statements that find
@@ -40,7 +40,7 @@ pub(crate) trait Text<'t>: Drop {
     ghost node_count: { Context → ℕ };
 
     // The statement that tokens are.
-    fn statement(&mut self, tokens: &[Token<'t>]) -> Result<Self::Held, Unread>
+    fn statement(&mut self, tokens: &[Token<'t>]) -> Result<Self::Held, StatementFault>
         ensures read { MatchResult result
             (λ held. grammar (context self.old) (map token_of tokens.now) ≡ Some (stated held))
             (λ why. IsUnread (grammar (context self.old) (map token_of tokens.now)) why) }
@@ -107,7 +107,7 @@ impl<'t, T: Text<'t>> Grammar<'t> for Lines<T> {
 
     ghost IsSound = { λ context held. AreBelow (T.node_count context) ((T.rules context).assigned (T.stated held)) };
 
-    fn statement(&mut self, tokens: &[Token<'t>]) -> Result<T::Held, Unread> {
+    fn statement(&mut self, tokens: &[Token<'t>]) -> Result<T::Held, StatementFault> {
         self.text.statement(tokens)
     }
 }

@@ -8,7 +8,7 @@ ghost use Rattle.hz_text.specs.RunSize.{size_of, difference};
 
 use crate::run::number::read_count;
 use hz_core::Circuit;
-use hz_line::{Token, Unread};
+use hz_line::{StatementFault, Token};
 
 /// How many inputs, gates and wires there are.
 #[derive(Clone, Copy, Debug)]
@@ -19,28 +19,28 @@ pub(crate) struct Size {
 }
 
 // The size that tokens are: three numbers.
-pub(crate) fn read_size(tokens: &[Token]) -> Result<Size, Unread>
+pub(crate) fn read_size(tokens: &[Token]) -> Result<Size, StatementFault>
     ensures { MatchResult result
         (λ size. size_by (map token_of tokens.now) ≡ Some size)
         (λ why. IsUnread (size_by (map token_of tokens.now)) why) }
 {
     let [Token::Word(inputs), later @ ..] = tokens else {
-        return Err(Unread::Form);
+        return Err(StatementFault::Form);
     };
     let [Token::Word(gates), last @ ..] = later else {
-        return Err(Unread::Form);
+        return Err(StatementFault::Form);
     };
     let [Token::Word(wires), after @ ..] = last else {
-        return Err(Unread::Form);
+        return Err(StatementFault::Form);
     };
     if !after.is_empty() {
-        return Err(Unread::Form);
+        return Err(StatementFault::Form);
     }
     read_counts(inputs, gates, wires)
 }
 
 // The size with the counts that these words are.
-fn read_counts(inputs: &[u8], gates: &[u8], wires: &[u8]) -> Result<Size, Unread>
+fn read_counts(inputs: &[u8], gates: &[u8], wires: &[u8]) -> Result<Size, StatementFault>
     ensures { MatchResult result
         (λ size. size_with (count_of inputs.now) (count_of gates.now) (count_of wires.now) ≡ Some size)
         (λ why. IsUnread (size_with (count_of inputs.now) (count_of gates.now) (count_of wires.now)) why) }
@@ -51,7 +51,7 @@ fn read_counts(inputs: &[u8], gates: &[u8], wires: &[u8]) -> Result<Size, Unread
             gates,
             wires,
         }),
-        _ => Err(Unread::Form),
+        _ => Err(StatementFault::Form),
     }
 }
 

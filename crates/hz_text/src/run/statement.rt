@@ -23,7 +23,7 @@ use crate::run::version::{Version, read_version};
 use crate::text::Text;
 use bumpalo::Bump;
 use hz_core::Memory;
-use hz_line::{Numbered, Token, Unread, is_keyword};
+use hz_line::{Numbered, StatementFault, Token, is_keyword};
 use hz_net::Net;
 use std::alloc::Global;
 
@@ -75,12 +75,12 @@ impl<'a, 'n, 't> Text<'t> for RunStatements<'a, 'n> {
 
     ghost node_count = { λ netlist. length netlist.names };
 
-    fn statement(&mut self, tokens: &[Token<'t>]) -> Result<RunHeld<'a>, Unread> {
+    fn statement(&mut self, tokens: &[Token<'t>]) -> Result<RunHeld<'a>, StatementFault> {
         let [Token::Word(word), rest @ ..] = tokens else {
-            return Err(Unread::Form);
+            return Err(StatementFault::Form);
         };
         let Some(keyword) = run_keyword(word) else {
-            return Err(Unread::Form);
+            return Err(StatementFault::Form);
         };
         read_statement_of(
             self.alloc,
@@ -137,7 +137,7 @@ fn read_statement_of<'a>(
     keyword: RunKeyword,
     rest: &[Token],
     variables: &mut Vec<Option<u32>>,
-) -> Result<RunHeld<'a>, Unread>
+) -> Result<RunHeld<'a>, StatementFault>
     ensures read { MatchResult result
         (λ held. resolve_run_keyword net.now (Some (run_keyword_by keyword)) (map token_of rest.now) ≡ Some (run_resolution_of held))
         (λ why. IsUnread (resolve_run_keyword net.now (Some (run_keyword_by keyword)) (map token_of rest.now)) why) }
@@ -149,12 +149,12 @@ fn read_statement_of<'a>(
         RunKeyword::Start => Ok(RunHeld::Start(read_assignments(alloc, net.circuit(), rest)?)),
         RunKeyword::Input => Ok(RunHeld::Input(read_assignments(alloc, net.circuit(), rest)?)),
         RunKeyword::Run if rest.is_empty() => Ok(RunHeld::Run),
-        RunKeyword::Run => Err(Unread::Form),
+        RunKeyword::Run => Err(StatementFault::Form),
         RunKeyword::Step => Ok(RunHeld::Step(read_variables(arena, net, rest, variables)?)),
         RunKeyword::Cycle if rest.is_empty() => Ok(RunHeld::Cycle),
-        RunKeyword::Cycle => Err(Unread::Form),
+        RunKeyword::Cycle => Err(StatementFault::Form),
         RunKeyword::End if rest.is_empty() => Ok(RunHeld::End),
-        RunKeyword::End => Err(Unread::Form),
+        RunKeyword::End => Err(StatementFault::Form),
     }
 }
 

@@ -2,8 +2,8 @@
 
 ghost use Rattle.std.specs.Prelude.{◌≡◌, ◌<◌, ◌∷◌, length, map, Some, IsTrue, IfSome, MatchResult};
 ghost use Rattle.std.specs.List.{list_all};
-ghost use Rattle.hz_line.specs.declared.bytes.Mark.TheVariants.{Open};
-ghost use Rattle.hz_line.specs.declared.tokens.Token.TheVariants.{Sign};
+ghost use Rattle.hz_line.specs.declared.bytes.Punctuation.TheVariants.{Open};
+ghost use Rattle.hz_line.specs.declared.tokens.Token.TheVariants.{Punct};
 ghost use Rattle.hz_line.specs.Token.{token_of};
 ghost use Rattle.hz_line.specs.Reading.{IsUnread};
 ghost use Rattle.hz_text.specs.RunStatement.{is_digit, number_by};
@@ -12,7 +12,7 @@ ghost use Rattle.hz_text.specs.VariablesRead.{IsPinAfter, IsFirstVariable};
 
 use crate::run::number::{is_decimal, number_within};
 use bumpalo::Bump;
-use hz_line::{Mark, Token, Unread};
+use hz_line::{Punctuation, StatementFault, Token};
 use hz_net::Net;
 
 // The most pins of a gate.
@@ -43,7 +43,7 @@ pub(crate) fn read_variables<'a>(
     net: &Net,
     tokens: &[Token],
     read: &mut Vec<Option<u32>>,
-) -> Result<&'a [Option<u32>], Unread>
+) -> Result<&'a [Option<u32>], StatementFault>
     ensures { MatchResult result
         (λ laid. variables_by net.now (map token_of tokens.now) ≡ Some laid.now)
         (λ why. IsUnread (variables_by net.now (map token_of tokens.now)) why) }
@@ -52,7 +52,7 @@ pub(crate) fn read_variables<'a>(
     let mut place = 0;
     while place < tokens.len() {
         match first_variable(net, &tokens[place..]) {
-            First::Malformed => return Err(Unread::Form),
+            First::Malformed => return Err(StatementFault::Form),
             First::Variable(variable, taken) => {
                 read.push(variable)?;
                 place += taken;
@@ -60,7 +60,7 @@ pub(crate) fn read_variables<'a>(
         }
     }
     let Ok(laid) = arena.try_alloc_slice_copy(read.as_slice()) else {
-        return Err(Unread::Memory);
+        return Err(StatementFault::Memory);
     };
     Ok(laid)
 }
@@ -88,33 +88,33 @@ fn first_variable(net: &Net, tokens: &[Token]) -> First
 fn pin_after<'a>(tokens: &[Token<'a>]) -> PinAfter<'a>
     ensures { IsPinAfter tokens.now result }
 {
-    let [Token::Sign(mark), after @ ..] = tokens else {
+    let [Token::Punct(mark), after @ ..] = tokens else {
         return PinAfter::Absent;
     };
     match mark {
-        Mark::Open => pin_within(after),
-        Mark::Close => PinAfter::Malformed,
-        Mark::Comma => PinAfter::Malformed,
-        Mark::Equals => PinAfter::Malformed,
+        Punctuation::Open => pin_within(after),
+        Punctuation::Close => PinAfter::Malformed,
+        Punctuation::Comma => PinAfter::Malformed,
+        Punctuation::Equals => PinAfter::Malformed,
     }
 }
 
 // The pin whose opening sign stands before these tokens.
 fn pin_within<'a>(tokens: &[Token<'a>]) -> PinAfter<'a>
-    ensures { IsPinAfter (Sign Open ∷ tokens.now) result }
+    ensures { IsPinAfter (Punct Open ∷ tokens.now) result }
 {
     let [Token::Word(number), after @ ..] = tokens else {
         return PinAfter::Malformed;
     };
-    let [Token::Sign(mark), ..] = after else {
+    let [Token::Punct(mark), ..] = after else {
         return PinAfter::Malformed;
     };
     match mark {
-        Mark::Close if is_decimal(number) => PinAfter::Pin(number),
-        Mark::Close => PinAfter::Malformed,
-        Mark::Open => PinAfter::Malformed,
-        Mark::Comma => PinAfter::Malformed,
-        Mark::Equals => PinAfter::Malformed,
+        Punctuation::Close if is_decimal(number) => PinAfter::Pin(number),
+        Punctuation::Close => PinAfter::Malformed,
+        Punctuation::Open => PinAfter::Malformed,
+        Punctuation::Comma => PinAfter::Malformed,
+        Punctuation::Equals => PinAfter::Malformed,
     }
 }
 

@@ -5,7 +5,7 @@ ghost use Rattle.hz_line.specs.Reading.{IsUnread};
 ghost use Rattle.hz_line.specs.Token.{token_of};
 ghost use Rattle.hz_text.specs.RunStatement.{version_of};
 
-use hz_line::{Token, Unread};
+use hz_line::{StatementFault, Token};
 
 /// A version of run texts. The second one names the size of its network.
 #[derive(Clone, Copy, Debug)]
@@ -15,22 +15,22 @@ pub(crate) enum Version {
 }
 
 // The version that tokens are.
-pub(crate) fn read_version(tokens: &[Token]) -> Result<Version, Unread>
+pub(crate) fn read_version(tokens: &[Token]) -> Result<Version, StatementFault>
     ensures { MatchResult result
         (λ version. version_of (map token_of tokens.now) ≡ Some version)
         (λ why. IsUnread (version_of (map token_of tokens.now)) why) }
 {
     let [Token::Word(version), after @ ..] = tokens else {
-        return Err(Unread::Form);
+        return Err(StatementFault::Form);
     };
     if !after.is_empty() {
-        return Err(Unread::Form);
+        return Err(StatementFault::Form);
     }
     if *version == b"1".as_slice() {
         Ok(Version::One)
     } else if *version == b"2".as_slice() {
         Ok(Version::Two)
     } else {
-        Err(Unread::Form)
+        Err(StatementFault::Form)
     }
 }

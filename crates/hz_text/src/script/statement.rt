@@ -14,7 +14,7 @@ use crate::fault::Mismatch;
 use crate::script::rules::{first_out_of_order, has_unknown, least_missing, line_beyond};
 use crate::text::Text;
 use hz_core::{Circuit, Memory};
-use hz_line::{Numbered, Token, Unread, is_keyword};
+use hz_line::{Numbered, StatementFault, Token, is_keyword};
 use std::alloc::Global;
 
 /// What a statement of a script is.
@@ -63,12 +63,12 @@ impl<'c, 't> Text<'t> for Statements<'c> {
 
     ghost node_count = { λ netlist. length netlist.names };
 
-    fn statement(&mut self, tokens: &[Token<'t>]) -> Result<Held, Unread> {
+    fn statement(&mut self, tokens: &[Token<'t>]) -> Result<Held, StatementFault> {
         let [Token::Word(word), rest @ ..] = tokens else {
-            return Err(Unread::Form);
+            return Err(StatementFault::Form);
         };
         let Some(keyword) = read_keyword(word) else {
-            return Err(Unread::Form);
+            return Err(StatementFault::Form);
         };
         let assigned = read_assignments(self.alloc, self.circuit, rest)?;
         Ok(Held { keyword, assigned })

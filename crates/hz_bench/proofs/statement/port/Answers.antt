@@ -4,7 +4,7 @@ use Rattle.hz_bench.proofs.statement.port.Goals as goal
 
 pub invariant_of-result : goal.invariant_of-result
 invariant_of-result c =
-    let bare = sym c.is_bare.ensures ∙ c.if-not-is_bare.false in
+    let bare = sym c.is_blank_line.ensures ∙ c.if-not-is_blank_line.false in
     let words = head_words c.args.text.now c.args.head.now c.requires.tokens (bare-some _ bare) in
     record {
       worded = words.1;

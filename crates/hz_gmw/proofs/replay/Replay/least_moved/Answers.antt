@@ -8,7 +8,7 @@ use Rattle.hz_gmw.proofs.replay.Replay.least_moved.Goals as goal
 
 pub returns : goal.returns
 returns c =
-    let state = c.self.inside.present.state.items in
+    let state = c.self.inside.current.state.items in
     let marked = c.self.inside.marked.items in
     let list = c.members.result.now in
     let found : c.least_differing.result ≡ least_from None (λ var. not (beq (bit_at state var) (bit_at marked var))) list =

@@ -8,7 +8,7 @@ use Rattle.hz_gmw.proofs.replay.Replay.least_unstable.Goals as goal
 pub returns-then-self-eq0 : goal.returns-then-self-eq0
 returns-then-self-eq0 c =
     let fields = c.self.inside in
-    let present = fields.present in
-    let none : unstable_count (network_of fields.net.now) present.input.items present.state.items ≡ 0 = omega (arith, c.if-self-eq0.true, c.self.invariant.exact.unstable) in
+    let current = fields.current in
+    let none : unstable_count (network_of fields.net.now) current.input.items current.state.items ≡ 0 = omega (arith, c.if-self-eq0.true, c.self.invariant.exact.unstable) in
     subst (λ (now : Replayer). (i : ℕ) → (i < length (network_of now.circuit)) × IsUnstable (network_of now.circuit) now.input now.state i → ⊥) c.self.view_is
-    (none-unstable fields.net.now present.input.items present.state.items none)
+    (none-unstable fields.net.now current.input.items current.state.items none)

@@ -13,8 +13,8 @@ use Rattle.hz_gmw.proofs.replay.Replay.mark.Goals as goal
 pub invariant_of-self : goal.invariant_of-self
 invariant_of-self c =
     let fields = c.self.inside in
-    let present = fields.present in
-    let state = present.state.items in
+    let current = fields.current in
+    let state = current.state.items in
     let fits = c.self.invariant.exact.counted.fits in
     let marked_long = c.self.invariant.marked in
     let taken : c.take_over.new.marked ≡ state =
@@ -41,8 +41,8 @@ invariant_of-self c =
 pub returns-clause-at : goal.returns-clause-at
 returns-clause-at c =
     let fields = c.self.inside in
-    let present = fields.present in
-    let state = present.state.items in
+    let current = fields.current in
+    let state = current.state.items in
     let fits = c.self.invariant.exact.counted.fits in
     let marked_long = c.self.invariant.marked in
     let taken : c.take_over.new.marked ≡ state =
@@ -53,16 +53,16 @@ returns-clause-at c =
     let marked : (with_items fields.marked c.take_over.new.marked).items ≡ state =
     with_items_is fields.marked c.take_over.new.marked (omega (arith, ap (length {A = Bool}) taken, fits.state, marked_long, fields.marked.ok.0)) ∙ taken in
     let net = network_of fields.net.now in
-    let watched : watched_variables net present.input.items state (bit_at c.clear.new.self.changed) (bit_at c.clear.new.self.been_stable) ≡ unstable_variables net present.input.items state =
-    watched-fresh net present.input.items state c.clear.new.self.changed c.clear.new.self.been_stable (length fields.watch.changed) (length fields.watch.been_stable) c.clear.ensures.changed c.clear.ensures.been_stable in
-    let at = replayed-is fields.net.now present.input.items present.input.items fields.begun.items fields.begun.items state state (with_items fields.marked c.take_over.new.marked).items (watched_variables net present.input.items state (bit_at c.clear.new.self.changed) (bit_at c.clear.new.self.been_stable)) refl refl refl marked watched in
-    subst (λ (now : Replayer). (let next : Replayer = record { circuit = fields.net.now; input = present.input.items; begun = fields.begun.items; state = state; marked = (with_items fields.marked c.take_over.new.marked).items; stepped = false; watched = watched_variables net present.input.items state (bit_at c.clear.new.self.changed) (bit_at c.clear.new.self.been_stable) } in next) ≡ replayer_at now.circuit now.input now.begun now.state) c.self.view_is at
+    let watched : watched_variables net current.input.items state (bit_at c.clear.new.self.changed) (bit_at c.clear.new.self.been_stable) ≡ unstable_variables net current.input.items state =
+    watched-fresh net current.input.items state c.clear.new.self.changed c.clear.new.self.been_stable (length fields.watch.changed) (length fields.watch.been_stable) c.clear.ensures.changed c.clear.ensures.been_stable in
+    let at = replayed-is fields.net.now current.input.items current.input.items fields.begun.items fields.begun.items state state (with_items fields.marked c.take_over.new.marked).items (watched_variables net current.input.items state (bit_at c.clear.new.self.changed) (bit_at c.clear.new.self.been_stable)) refl refl refl marked watched in
+    subst (λ (now : Replayer). (let next : Replayer = record { circuit = fields.net.now; input = current.input.items; begun = fields.begun.items; state = state; marked = (with_items fields.marked c.take_over.new.marked).items; stepped = false; watched = watched_variables net current.input.items state (bit_at c.clear.new.self.changed) (bit_at c.clear.new.self.been_stable) } in next) ≡ replayer_at now.circuit now.input now.begun now.state) c.self.view_is at
 
 pub returns-clause-stands : goal.returns-clause-stands
 returns-clause-stands c =
     let fields = c.self.inside in
-    let present = fields.present in
-    let state = present.state.items in
+    let current = fields.current in
+    let state = current.state.items in
     let fits = c.self.invariant.exact.counted.fits in
     let marked_long = c.self.invariant.marked in
     let taken : c.take_over.new.marked ≡ state =
@@ -73,7 +73,7 @@ returns-clause-stands c =
     let marked : (with_items fields.marked c.take_over.new.marked).items ≡ state =
     with_items_is fields.marked c.take_over.new.marked (omega (arith, ap (length {A = Bool}) taken, fits.state, marked_long, fields.marked.ok.0)) ∙ taken in
     let net = network_of fields.net.now in
-    let watched : watched_variables net present.input.items state (bit_at c.clear.new.self.changed) (bit_at c.clear.new.self.been_stable) ≡ unstable_variables net present.input.items state =
-    watched-fresh net present.input.items state c.clear.new.self.changed c.clear.new.self.been_stable (length fields.watch.changed) (length fields.watch.been_stable) c.clear.ensures.changed c.clear.ensures.been_stable in
-    let at = replayed-is fields.net.now present.input.items present.input.items fields.begun.items fields.begun.items state state (with_items fields.marked c.take_over.new.marked).items (watched_variables net present.input.items state (bit_at c.clear.new.self.changed) (bit_at c.clear.new.self.been_stable)) refl refl refl marked watched in
-    subst (λ (now : Replayer). StandsFor now []) (sym at) (stands-at fields.net.now present.input.items fields.begun.items state)
+    let watched : watched_variables net current.input.items state (bit_at c.clear.new.self.changed) (bit_at c.clear.new.self.been_stable) ≡ unstable_variables net current.input.items state =
+    watched-fresh net current.input.items state c.clear.new.self.changed c.clear.new.self.been_stable (length fields.watch.changed) (length fields.watch.been_stable) c.clear.ensures.changed c.clear.ensures.been_stable in
+    let at = replayed-is fields.net.now current.input.items current.input.items fields.begun.items fields.begun.items state state (with_items fields.marked c.take_over.new.marked).items (watched_variables net current.input.items state (bit_at c.clear.new.self.changed) (bit_at c.clear.new.self.been_stable)) refl refl refl marked watched in
+    subst (λ (now : Replayer). StandsFor now []) (sym at) (stands-at fields.net.now current.input.items fields.begun.items state)

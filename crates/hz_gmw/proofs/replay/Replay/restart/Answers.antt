@@ -11,7 +11,7 @@ pub invariant_of-self : goal.invariant_of-self
 invariant_of-self c =
     let fields = c.self.inside in
     let held = c.self.invariant in
-    let state = fields.present.state.items in
+    let state = fields.current.state.items in
     let list = c.members.result.now in
     let gone : c.turn_back.new.self.state.items ≡ fields.begun.items =
     c.turn_back.ensures.state ∙ (ap (λ (given : List Bool). with_bits_of given state list) c.as_slice.ensures.value ∙
@@ -36,12 +36,12 @@ pub returns-clause-at : goal.returns-clause-at
 returns-clause-at c =
     let fields = c.self.inside in
     let held = c.self.invariant in
-    let state = fields.present.state.items in
+    let state = fields.current.state.items in
     let begun = fields.begun.items in
     let list = c.members.result.now in
     let gone : c.turn_back.new.self.state.items ≡ begun =
     c.turn_back.ensures.state ∙ (ap (λ (given : List Bool). with_bits_of given state list) c.as_slice.ensures.value ∙
     taken-all begun state fields.moved list (held.exact.counted.fits.state ∙ sym held.begun) c.members.ensures (λ i still. sym (held.back i still))) in
     let at = c.mark.ensures.at ∙ (ap (λ (input : List Bool). replayer_at fields.net.now input begun c.turn_back.new.self.state.items) c.turn_back.ensures.input ∙
-    ap (replayer_at fields.net.now fields.present.input.items begun) gone) in
+    ap (replayer_at fields.net.now fields.current.input.items begun) gone) in
     subst (λ (now : Replayer). c.mark.new.self ≡ initial_replayer now.circuit now.input now.begun) c.self.view_is at

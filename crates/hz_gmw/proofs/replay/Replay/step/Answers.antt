@@ -25,17 +25,17 @@ invariant_of-self c =
         been_stable = c.note.ensures.been_stable.long ∙ c.self.invariant.watch.been_stable;
       };
       marked = c.self.invariant.marked;
-      same = back-step c.args.flips.now fields.marked.items fields.watch.changed c.note.new.self.changed fields.present.state.items c.advance.new.self.state.items (c.self.invariant.watch.changed ∙ sym c.self.invariant.exact.counted.fits.state) c.advance.ensures.state c.note.ensures.changed c.self.invariant.same;
+      same = back-step c.args.flips.now fields.marked.items fields.watch.changed c.note.new.self.changed fields.current.state.items c.advance.new.self.state.items (c.self.invariant.watch.changed ∙ sym c.self.invariant.exact.counted.fits.state) c.advance.ensures.state c.note.ensures.changed c.self.invariant.same;
       begun = c.self.invariant.begun;
       moved = ap (length {A = Bool}) c.insert_each.ensures ∙ (length-with_marks fields.moved c.args.flips.now ∙ c.self.invariant.moved);
-      back = back-step c.args.flips.now fields.begun.items fields.moved c.insert_each.new.set fields.present.state.items c.advance.new.self.state.items (c.self.invariant.moved ∙ sym c.self.invariant.exact.counted.fits.state) c.advance.ensures.state c.insert_each.ensures c.self.invariant.back;
+      back = back-step c.args.flips.now fields.begun.items fields.moved c.insert_each.new.set fields.current.state.items c.advance.new.self.state.items (c.self.invariant.moved ∙ sym c.self.invariant.exact.counted.fits.state) c.advance.ensures.state c.insert_each.ensures c.self.invariant.back;
       named = c.self.invariant.named;
     }
 
 pub returns-clause-after : goal.returns-clause-after
 returns-clause-after c =
     let fields = c.self.inside in
-    let before = fields.present in
+    let before = fields.current in
     let after = c.advance.new.self in
     let flips = c.args.flips.now in
     let fits = c.self.invariant.exact.counted.fits in
@@ -52,7 +52,7 @@ pub returns-clause-stands : goal.returns-clause-stands
 returns-clause-stands c =
     λ steps stands.
     let fields = c.self.inside in
-    let before = fields.present in
+    let before = fields.current in
     let after = c.advance.new.self in
     let flips = c.args.flips.now in
     let fits = c.self.invariant.exact.counted.fits in

@@ -35,8 +35,8 @@ returns-in-Some-least_stable-clause-answer c =
     let right : (i : ℕ) → i < length (network_of now.circuit) → bit_at marks i ≡ is_unstable (network_of now.circuit) now.input now.state i =
     at-unstable_variables (network_of now.circuit) now.input now.state in
     let fields = c.self.inside in
-    let stable = subst (λ (now : Replayer). IsLeastOf (λ i. IsTrue (is_listed flips i) × IsTrue (not (bit_at (unstable_variables (network_of now.circuit) now.input now.state) i))) (least_from None (λ var. not (is_unstable (network_of fields.net.now) fields.present.input.items fields.present.state.items var)) flips)) c.self.view_is
-    (stable-listed (network_of fields.net.now) fields.present.input.items fields.present.state.items flips inside) in
+    let stable = subst (λ (now : Replayer). IsLeastOf (λ i. IsTrue (is_listed flips i) × IsTrue (not (bit_at (unstable_variables (network_of now.circuit) now.input now.state) i))) (least_from None (λ var. not (is_unstable (network_of fields.net.now) fields.current.input.items fields.current.state.items var)) flips)) c.self.view_is
+    (stable-listed (network_of fields.net.now) fields.current.input.items fields.current.state.items flips inside) in
     stable-fault (network_of now.circuit) now.input now.state marks flips c.in-Some-least_stable.var c.requires right once
     (subst (IsLeastOf (λ i. IsTrue (is_listed flips i) × IsTrue (not (bit_at marks i)))) (sym c.in-Some-least_stable.ensures) stable)
 
@@ -54,8 +54,8 @@ returns-clause-answer c =
     let right : (i : ℕ) → i < length (network_of now.circuit) → bit_at marks i ≡ is_unstable (network_of now.circuit) now.input now.state i =
     at-unstable_variables (network_of now.circuit) now.input now.state in
     let fields = c.self.inside in
-    let stable = subst (λ (now : Replayer). IsLeastOf (λ i. IsTrue (is_listed flips i) × IsTrue (not (bit_at (unstable_variables (network_of now.circuit) now.input now.state) i))) (least_from None (λ var. not (is_unstable (network_of fields.net.now) fields.present.input.items fields.present.state.items var)) flips)) c.self.view_is
-    (stable-listed (network_of fields.net.now) fields.present.input.items fields.present.state.items flips inside) in
+    let stable = subst (λ (now : Replayer). IsLeastOf (λ i. IsTrue (is_listed flips i) × IsTrue (not (bit_at (unstable_variables (network_of now.circuit) now.input now.state) i))) (least_from None (λ var. not (is_unstable (network_of fields.net.now) fields.current.input.items fields.current.state.items var)) flips)) c.self.view_is
+    (stable-listed (network_of fields.net.now) fields.current.input.items fields.current.state.items flips inside) in
     step-by (network_of now.circuit) now.input now.state marks flips c.requires right
     (λ none. false≢true (c.if-is_empty.ensures ∙ eq-eqb (length flips) 0 (ap (length {A = ℕ}) none))) once
     (subst (IsLeastOf (λ i. IsTrue (is_listed flips i) × IsTrue (not (bit_at marks i)))) (sym c.in_default-least_stable.ensures) stable)

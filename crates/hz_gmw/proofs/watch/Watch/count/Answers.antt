@@ -4,12 +4,12 @@ use Rattle.hz_gmw.proofs.watch.Watch.count.Goals as goal
 
 pub returns : goal.returns
 returns c =
-    let present = c.args.present.now in
+    let current = c.args.current.now in
     let watch = c.args.self.now in
     omega (
       arith,
       c.without_stable.ensures,
       c.without_nodes-unchanged.ensures,
       c.requires.exact.unstable,
-      count-watched c.args.net.now c.requires.exact.counted.fits.circuit present.input.items present.state.items watch.changed watch.been_stable c.members.result.now c.members-2.result.now c.members.ensures c.members-2.ensures c.requires.fits.changed c.requires.fits.been_stable,
+      count-watched c.args.net.now c.requires.exact.counted.fits.circuit current.input.items current.state.items watch.changed watch.been_stable c.members.result.now c.members-2.result.now c.members.ensures c.members-2.ensures c.requires.fits.changed c.requires.fits.been_stable,
     )

@@ -12,38 +12,38 @@ pub returns-then-count-eq0 : goal.returns-then-count-eq0
 returns-then-count-eq0 c =
     λ i h.
     let net = network_of c.args.net.now in
-    let present = c.args.present.now in
+    let current = c.args.current.now in
     let watch = c.args.self.now in
-    let none : count_by (is_watched net present.input.items present.state.items (bit_at watch.changed) (bit_at watch.been_stable)) (range_with_len 0 (length net)) ≡ 0 = omega (arith, c.if-count-eq0.true, c.count.ensures) in
-    false≢true (sym (none-watched net present.input.items present.state.items (bit_at watch.changed) (bit_at watch.been_stable) i none h.0) ∙
-    (sym (at-watched_variables net present.input.items present.state.items (bit_at watch.changed) (bit_at watch.been_stable) i h.0) ∙ h.1))
+    let none : count_by (is_watched net current.input.items current.state.items (bit_at watch.changed) (bit_at watch.been_stable)) (range_with_len 0 (length net)) ≡ 0 = omega (arith, c.if-count-eq0.true, c.count.ensures) in
+    false≢true (sym (none-watched net current.input.items current.state.items (bit_at watch.changed) (bit_at watch.been_stable) i none h.0) ∙
+    (sym (at-watched_variables net current.input.items current.state.items (bit_at watch.changed) (bit_at watch.been_stable) i h.0) ∙ h.1))
 
 pub returns-then-contains : goal.returns-then-contains
 returns-then-contains c =
     let net = network_of c.args.net.now in
-    let present = c.args.present.now in
+    let current = c.args.current.now in
     let watch = c.args.self.now in
-    let test : ℕ → Bool = is_watched net present.input.items present.state.items (bit_at watch.changed) (bit_at watch.been_stable) in
-    let at : (i : ℕ) → i < length net → bit_at (watched_variables net present.input.items present.state.items (bit_at watch.changed) (bit_at watch.been_stable)) i ≡ test i =
-    λ i inside. at-watched_variables net present.input.items present.state.items (bit_at watch.changed) (bit_at watch.been_stable) i inside in
-    let holds : ℕ → Type 0 = λ i. (i < length net) × IsTrue (bit_at (watched_variables net present.input.items present.state.items (bit_at watch.changed) (bit_at watch.been_stable)) i) in
+    let test : ℕ → Bool = is_watched net current.input.items current.state.items (bit_at watch.changed) (bit_at watch.been_stable) in
+    let at : (i : ℕ) → i < length net → bit_at (watched_variables net current.input.items current.state.items (bit_at watch.changed) (bit_at watch.been_stable)) i ≡ test i =
+    λ i inside. at-watched_variables net current.input.items current.state.items (bit_at watch.changed) (bit_at watch.been_stable) i inside in
+    let holds : ℕ → Type 0 = λ i. (i < length net) × IsTrue (bit_at (watched_variables net current.input.items current.state.items (bit_at watch.changed) (bit_at watch.been_stable)) i) in
     let inside : c.loop-var.var < length net = omega (arith, c.len-var-end.ensures.len) in
     least-scanned holds test (length net) c.loop-var.var inside (λ i few passes. (few, at i few ∙ passes)) (λ i h. (h.0, sym (at i h.0) ∙ h.1)) c.loop-var.invariant (sym c.contains.ensures ∙ c.if-contains.true)
 
 pub loop-var-preserved : goal.loop-var-preserved
 loop-var-preserved c =
     let net = network_of c.args.net.now in
-    let present = c.args.present.now in
+    let current = c.args.current.now in
     let watch = c.args.self.now in
-    scanned-more (is_watched net present.input.items present.state.items (bit_at watch.changed) (bit_at watch.been_stable)) c.loop-var.var c.loop-var.invariant (sym c.contains.ensures ∙ c.if-contains.false)
+    scanned-more (is_watched net current.input.items current.state.items (bit_at watch.changed) (bit_at watch.been_stable)) c.loop-var.var c.loop-var.invariant (sym c.contains.ensures ∙ c.if-contains.false)
 
 pub returns : goal.returns
 returns c =
     let net = network_of c.args.net.now in
-    let present = c.args.present.now in
+    let current = c.args.current.now in
     let watch = c.args.self.now in
-    let test : ℕ → Bool = is_watched net present.input.items present.state.items (bit_at watch.changed) (bit_at watch.been_stable) in
-    let at : (i : ℕ) → i < length net → bit_at (watched_variables net present.input.items present.state.items (bit_at watch.changed) (bit_at watch.been_stable)) i ≡ test i =
-    λ i inside. at-watched_variables net present.input.items present.state.items (bit_at watch.changed) (bit_at watch.been_stable) i inside in
-    let holds : ℕ → Type 0 = λ i. (i < length net) × IsTrue (bit_at (watched_variables net present.input.items present.state.items (bit_at watch.changed) (bit_at watch.been_stable)) i) in
+    let test : ℕ → Bool = is_watched net current.input.items current.state.items (bit_at watch.changed) (bit_at watch.been_stable) in
+    let at : (i : ℕ) → i < length net → bit_at (watched_variables net current.input.items current.state.items (bit_at watch.changed) (bit_at watch.been_stable)) i ≡ test i =
+    λ i inside. at-watched_variables net current.input.items current.state.items (bit_at watch.changed) (bit_at watch.been_stable) i inside in
+    let holds : ℕ → Type 0 = λ i. (i < length net) × IsTrue (bit_at (watched_variables net current.input.items current.state.items (bit_at watch.changed) (bit_at watch.been_stable)) i) in
     none-scanned holds test (length net) c.loop-var.var (omega (arith, c.len-var-end.ensures.len)) (λ i h. (h.0, sym (at i h.0) ∙ h.1)) c.loop-var.invariant

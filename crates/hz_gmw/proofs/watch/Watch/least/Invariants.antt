@@ -6,4 +6,4 @@ use Rattle.hz_gmw.proofs.watch.Watch.least.Given as goal
 -- no variable so far is watched
 abbrev pub invariant-loop-var : goal.invariant-loop-var
 invariant-loop-var l =
-    (i : ℕ) → i < l.var → is_watched (network_of l.net) l.present.input.items l.present.state.items (bit_at l.self.changed) (bit_at l.self.been_stable) i ≡ false
+    (i : ℕ) → i < l.var → is_watched (network_of l.net) l.current.input.items l.current.state.items (bit_at l.self.changed) (bit_at l.self.been_stable) i ≡ false

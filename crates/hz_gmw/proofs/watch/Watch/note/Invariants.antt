@@ -8,4 +8,4 @@ abbrev pub invariant-loop-var : goal.invariant-loop-var
 invariant-loop-var l =
     (l.self.changed ≡ l.fn.self.changed)
     × (length l.self.been_stable ≡ length l.fn.self.been_stable)
-    × ((after : List Bool) → RecordsStable (network_of l.net) l.present.input.items l.present.state.items (drop l.var-index l.flips) l.self.been_stable after → RecordsStable (network_of l.net) l.present.input.items l.present.state.items l.flips l.fn.self.been_stable after)
+    × ((after : List Bool) → RecordsStable (network_of l.net) l.current.input.items l.current.state.items (drop l.var-index l.flips) l.self.been_stable after → RecordsStable (network_of l.net) l.current.input.items l.current.state.items l.flips l.fn.self.been_stable after)

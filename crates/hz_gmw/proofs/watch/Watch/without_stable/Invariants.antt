@@ -7,5 +7,5 @@ use Rattle.hz_gmw.proofs.watch.Watch.without_stable.Given as goal
 -- what is left less the rest is the whole difference
 abbrev pub invariant-loop-node : goal.invariant-loop-node
 invariant-loop-node l =
-    l.left - count_by (unstable_unchanged (network_of l.net) l.present.input.items l.present.state.items (bit_at l.self.changed)) (drop l.node-index l.list)
-    ≡ l.number - count_by (unstable_unchanged (network_of l.net) l.present.input.items l.present.state.items (bit_at l.self.changed)) l.list
+    l.left - count_by (unstable_unchanged (network_of l.net) l.current.input.items l.current.state.items (bit_at l.self.changed)) (drop l.node-index l.list)
+    ≡ l.number - count_by (unstable_unchanged (network_of l.net) l.current.input.items l.current.state.items (bit_at l.self.changed)) l.list
