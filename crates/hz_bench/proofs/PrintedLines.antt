@@ -16,7 +16,7 @@ use Rattle.hz_line.specs.Statement.{Meaning, Nothing, Means, meaning_of_tokens}
 use Rattle.hz_line.proofs.WrittenLemmas.{tokens_of-open, tokens_of-close, tokens_of-comma, tokens_of-equals, tokens_of-space, is_word_byte-separators, tokens_of-word_before, is_inline, word_bytes, lines_of-written}
 use Rattle.hz_bench.specs.Statement.{Port, InputPort, OutputPort, Statement, Gate, kind_named, port_word, port_of, name_list_of, statement_of, FlipFlop, is_flip_flop}
 use Rattle.hz_bench.specs.Text.{bench_meaning}
-use Rattle.hz_bench.specs.Printed.{name_at, kind_name, port_line, port_lines, split_line, cut_lines, more_sources, source_list, gate_head, gate_line, gate_texts, netlist_text}
+use Rattle.hz_bench.specs.Printed.{name_at, kind_name, port_line, port_lines, cut_line, cut_lines, more_sources, source_list, gate_head, gate_line, gate_texts, netlist_text}
 
 -- a word that stands within a line
 pub record IsWritten (word : List ℕ) : Type 0 where
@@ -195,8 +195,8 @@ sources_inline names (first ∷ rest) named below =
 abbrev cut_body : List ℕ → List ℕ → List ℕ
 cut_body name source = name ++ (32 ∷ 61 ∷ 32 ∷ codes "DFF" ++ (40 ∷ (source ++ 41 ∷ [])))
 
-cut_split : (name source : List ℕ) → split_line name source ≡ cut_body name source ++ 10 ∷ []
-unfolding split_line
+cut_split : (name source : List ℕ) → cut_line name source ≡ cut_body name source ++ 10 ∷ []
+unfolding cut_line
 cut_split name source =
     let front = 32 ∷ 61 ∷ 32 ∷ codes "DFF" ++ 40 ∷ [] in
     sym (append_assoc name (front ++ (source ++ 41 ∷ [])) (10 ∷ []) ∙ ap (λ back. name ++ (front ++ back)) (append_assoc source (41 ∷ []) (10 ∷ [])))
@@ -218,7 +218,7 @@ cut_inline name source first second =
     let back : list_all is_inline (source ++ 41 ∷ []) ≡ true = rw (list_all-append is_inline source (41 ∷ []), second.inline) refl in
     rw (list_all-append is_inline name (32 ∷ 61 ∷ 32 ∷ codes "DFF" ++ (40 ∷ (source ++ 41 ∷ []))), first.inline, back) refl
 
-cut_read : (name source rest : List ℕ) → IsWritten name → IsWritten source → meanings_of (split_line name source ++ rest) ≡ Means (FlipFlop name (source ∷ [])) ∷ meanings_of rest
+cut_read : (name source rest : List ℕ) → IsWritten name → IsWritten source → meanings_of (cut_line name source ++ rest) ≡ Means (FlipFlop name (source ∷ [])) ∷ meanings_of rest
 cut_read name source rest first second =
     ap (λ line. meanings_of (line ++ rest)) (cut_split name source)
     ∙ one_line (cut_body name source) rest (FlipFlop name (source ∷ [])) (cut_inline name source first second)
@@ -237,7 +237,7 @@ cuts_read names node (None ∷ cuts) rest named room among =
     cuts_read names (suc node) cuts rest named (omega (arith, room)) (All-tail (IsDataAmong (length names)) None cuts among)
 cuts_read names node (Some source ∷ cuts) rest named room among =
     let P = IsDataAmong (length names) in
-    ap meanings_of (append_assoc (split_line (name_at names node) (name_at names source)) (cut_lines names (suc node) cuts) rest)
+    ap meanings_of (append_assoc (cut_line (name_at names node) (name_at names source)) (cut_lines names (suc node) cuts) rest)
     ∙ cut_read (name_at names node) (name_at names source) (cut_lines names (suc node) cuts ++ rest)
     (node_written names node named (omega (arith, room))) (node_written names source named (All-head P (Some source) cuts among))
     ∙ ap (λ later. Means (FlipFlop (name_at names node) (name_at names source ∷ [])) ∷ later)

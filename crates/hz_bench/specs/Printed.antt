@@ -53,13 +53,13 @@ gate_texts names node [] = []
 gate_texts names node (gate ∷ rest) = gate_line names (name_at names node) gate ++ gate_texts names (suc node) rest
 
 -- the line of a flip-flop: its name and the name that it reads
-unfoldable pub split_line : List ℕ → List ℕ → List ℕ
-split_line name source = name ++ (codes " = DFF(" ++ (source ++ (codes ")" ++ 10 ∷ [])))
+unfoldable pub cut_line : List ℕ → List ℕ → List ℕ
+cut_line name source = name ++ (codes " = DFF(" ++ (source ++ (codes ")" ++ 10 ∷ [])))
 
 -- the line of a cut with its data node; a cut without one has none
 abbrev pub cut_text : List (List ℕ) → List ℕ → Option ℕ → List ℕ
 cut_text names name None = []
-cut_text names name (Some node) = split_line name (name_at names node)
+cut_text names name (Some node) = cut_line name (name_at names node)
 
 -- the lines of cuts, the first of which is this node
 abbrev pub cut_lines : List (List ℕ) → ℕ → List (Option ℕ) → List ℕ

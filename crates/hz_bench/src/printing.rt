@@ -5,7 +5,7 @@ ghost use Rattle.hz_bench.specs.Fault.{IsFaultless};
 ghost use Rattle.hz_bench.specs.Netlist.{circuit_of_statements};
 ghost use Rattle.hz_bench.specs.Text.{statements_of};
 ghost use Rattle.hz_core.specs.Netlist.{IsCircuit, IsGateNumber, IsWhole, data_of, gate_at, primary_inputs};
-ghost use Rattle.hz_bench.specs.Printed.{split_line, cut_lines, cut_text, gate_head, gate_line, gate_texts, kind_name, more_sources, name_at, port_line, port_lines, netlist_text, source_list};
+ghost use Rattle.hz_bench.specs.Printed.{cut_line, cut_lines, cut_text, gate_head, gate_line, gate_texts, kind_name, more_sources, name_at, port_line, port_lines, netlist_text, source_list};
 
 use hz_core::{Circuit, Kind, Memory};
 use std::alloc::Global;
@@ -93,9 +93,9 @@ fn print_cut(text: &mut Vec<u8>, circuit: &Circuit, cut: u32) -> Result<(), Memo
 }
 
 // Prints the line of a flip-flop with this name, which reads this source.
-#[tactic(auto, unfolding(crate::specs::Printed::split_line))]
+#[tactic(auto, unfolding(crate::specs::Printed::cut_line))]
 fn print_flip_flop(text: &mut Vec<u8>, name: &[u8], source: &[u8]) -> Result<(), Memory>
-    ensures { OnOk result (text.new.items ≡ text.old.items ++ split_line name.now source.now) }
+    ensures { OnOk result (text.new.items ≡ text.old.items ++ cut_line name.now source.now) }
 {
     put(text, name)?;
     put(text, b" = DFF(")?;
