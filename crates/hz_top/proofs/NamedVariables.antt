@@ -14,8 +14,8 @@ use Rattle.hz_gmw.proofs.CoverB.{length-end_of}
 use Rattle.hz_gmw.proofs.LeastLemmas.{All-listed, times_listed-listed}
 use Rattle.hz_text.specs.RunText.{IsRunTextFor}
 use Rattle.hz_text.specs.RunValue.{RunOf, RunTextOf, all_steps}
-use Rattle.hz_top.specs.declared.replaying.Refused.{Refused}
-use Rattle.hz_top.specs.declared.replaying.Refused.TheVariants.{Step, Cycle}
+use Rattle.hz_top.specs.declared.replaying.RunRefusal.{RunRefusal}
+use Rattle.hz_top.specs.declared.replaying.RunRefusal.TheVariants.{Step, Cycle}
 use Rattle.hz_top.specs.Replaying.{steps_of, IsRefusedRun, IsFirstRefusal}
 use Rattle.hz_top.specs.ReplayerSteps.{AreVariables}
 use Rattle.hz_top.specs.Inside.{no_run, step_variable, cycle_variable, named_variable, NamesVariable}
@@ -45,7 +45,7 @@ cycle-variable netlist input state steps (NotStable var) long (none, least) = le
 cycle-variable netlist input state steps (Transient var) long (closed, some, least) = least.here.0
 
 -- the variable that the refusal of a run names
-run-variable : (netlist : Netlist) (input start : List Bool) (run : RunOf) (why : Refused) → length start ≡ length (network_of netlist) → AreVariables netlist (steps_of run) → IsRefusedRun (network_of netlist) input start run why → NamesVariable netlist (named_variable why)
+run-variable : (netlist : Netlist) (input start : List Bool) (run : RunOf) (why : RunRefusal) → length start ≡ length (network_of netlist) → AreVariables netlist (steps_of run) → IsRefusedRun (network_of netlist) input start run why → NamesVariable netlist (named_variable why)
 run-variable netlist input start run (Step number fault) long all r =
     step-variable netlist input (end_of start r.before) r.flips fault
     (All-middle (All (λ var. var < length (network_of netlist))) r.before r.after r.flips (subst (AreVariables netlist) r.whole all)) r.refused
@@ -59,7 +59,7 @@ among netlist before after run all =
     (omega (arith, length-append before (run ∷ after))) refl all
 
 -- the variable that the first refusal names
-pub refusal-variable : (netlist : Netlist) (value : RunTextOf) (start : List Bool) (number : ℕ) (why : Refused) → IsRunTextFor netlist value → length start ≡ length (network_of netlist) → IsFirstRefusal (network_of netlist) value.input start value.runs number why → NamesVariable netlist (named_variable why)
+pub refusal-variable : (netlist : Netlist) (value : RunTextOf) (start : List Bool) (number : ℕ) (why : RunRefusal) → IsRunTextFor netlist value → length start ≡ length (network_of netlist) → IsFirstRefusal (network_of netlist) value.input start value.runs number why → NamesVariable netlist (named_variable why)
 refusal-variable netlist value start number why usable long first =
     run-variable netlist value.input start first.run why long
     (among netlist first.before first.after first.run (subst (λ (runs : List RunOf). AreVariables netlist (all_steps runs)) first.whole usable.variables))

@@ -9,8 +9,8 @@ use Rattle.hz_gmw.specs.declared.replay_fault.StepFault.{StepFault}
 use Rattle.hz_gmw.proofs.Paths.{IsRun-append, IsRun-rest}
 use Rattle.hz_gmw.proofs.ReplayLemmas.{step-or-fault, cycle-or-fault}
 use Rattle.hz_text.specs.RunValue.{RunOf, RunTextOf, cycle_steps}
-use Rattle.hz_top.specs.declared.replaying.Refused.{Refused}
-use Rattle.hz_top.specs.declared.replaying.Refused.TheVariants.{Step, Cycle}
+use Rattle.hz_top.specs.declared.replaying.RunRefusal.{RunRefusal}
+use Rattle.hz_top.specs.declared.replaying.RunRefusal.TheVariants.{Step, Cycle}
 use Rattle.hz_top.specs.Replaying.{steps_of, IsAcceptedRun, IsRefusedStep, IsRefusedRun, start_of, AreAccepted, IsRefusalOfText}
 
 -- no step of a run is refused
@@ -26,7 +26,7 @@ whole-run net input start lead None run lasts = IsRun-append net input start lea
 whole-run net input start lead (Some steps) run lasts = IsRun-append net input start lead steps run lasts.cycle.run
 
 -- no run is both
-run-accepted-or-refused : (net : List Driver) (input start : List Bool) (run : RunOf) (why : Refused) → IsAcceptedRun net input start run → IsRefusedRun net input start run why → ⊥
+run-accepted-or-refused : (net : List Driver) (input start : List Bool) (run : RunOf) (why : RunRefusal) → IsAcceptedRun net input start run → IsRefusedRun net input start run why → ⊥
 run-accepted-or-refused net input start run (Step number fault) accepted refused =
     run-or-refused net input start (steps_of run) number fault (whole-run net input start run.lead run.cycle accepted.lead accepted.cycle) refused
 run-accepted-or-refused net input start run (Cycle fault) accepted r =
@@ -43,7 +43,7 @@ All-middle P before after x all =
     subst P (middle before after x x) (all (length before) x (omega (arith, length-append before (x ∷ after))))
 
 -- no text is both
-pub accepted-or-refused : (netlist : Netlist) (value : RunTextOf) (number : ℕ) (why : Refused) → AreAccepted netlist value → IsRefusalOfText netlist value number why → ⊥
+pub accepted-or-refused : (netlist : Netlist) (value : RunTextOf) (number : ℕ) (why : RunRefusal) → AreAccepted netlist value → IsRefusalOfText netlist value number why → ⊥
 accepted-or-refused netlist value number why accepted first =
     let net = network_of netlist in
     let start = start_of netlist value in

@@ -23,8 +23,8 @@ use Rattle.hz_gmw.proofs.Paths.{IsRun-front, IsRun-rest}
 use Rattle.hz_net.proofs.Places.{length-expansion_of}
 use Rattle.hz_text.specs.RunText.{IsRunTextFor}
 use Rattle.hz_text.specs.RunValue.{RunOf, RunTextOf, cycle_steps, all_steps}
-use Rattle.hz_top.specs.declared.replaying.Refused.{Refused}
-use Rattle.hz_top.specs.declared.replaying.Refused.TheVariants.{Step, Cycle}
+use Rattle.hz_top.specs.declared.replaying.RunRefusal.{RunRefusal}
+use Rattle.hz_top.specs.declared.replaying.RunRefusal.TheVariants.{Step, Cycle}
 use Rattle.hz_top.specs.Replaying.{steps_of, IsAcceptedRun, IsRefusedStep, IsRefusedRun, IsFirstRefusal, start_of, AreAccepted, IsRefusalOfText}
 use Rattle.hz_top.specs.ReplayerSteps.{AreVariables, run_of}
 use Rattle.hz_gmw.proofs.Bits.{beq-same, beq-refl}
@@ -194,7 +194,7 @@ steps-decided net input start (flips ∷ steps) all =
 -- a run of a text is accepted, or refused
 abbrev RunDecided : List Driver → List Bool → List Bool → RunOf → Type 0
 RunDecided net input start run =
-    IsAcceptedRun net input start run ⊎ ((why : Refused) × IsRefusedRun net input start run why)
+    IsAcceptedRun net input start run ⊎ ((why : RunRefusal) × IsRefusedRun net input start run why)
 
 by-cycle : (net : List Driver) (input start : List Bool) (lead steps : List (List ℕ)) → IsRun net input start (lead ++ steps) → CycleDecided net input (end_of start lead) steps → RunDecided net input start (run_of lead (Some steps))
 by-cycle net input start lead steps run (inl lasts) = inl record { lead = IsRun-front net input start lead steps run; cycle = lasts }
@@ -224,7 +224,7 @@ All-right P (x ∷ xs) ys all = All-right P xs ys (All-tail P x (xs ++ ys) all)
 -- the runs of a text are accepted, or there is a first refusal
 abbrev RunsDecided : List Driver → List Bool → List Bool → List RunOf → Type 0
 RunsDecided net input start runs =
-    All (IsAcceptedRun net input start) runs ⊎ ((number : ℕ) × (why : Refused) × IsFirstRefusal net input start runs number why)
+    All (IsAcceptedRun net input start) runs ⊎ ((number : ℕ) × (why : RunRefusal) × IsFirstRefusal net input start runs number why)
 
 after-run : (net : List Driver) (input start : List Bool) (run : RunOf) (runs : List RunOf) → RunDecided net input start run → RunsDecided net input start runs → RunsDecided net input start (run ∷ runs)
 after-run net input start run runs (inr (why, refused)) later =
@@ -256,6 +256,6 @@ runs-decided netlist input start (run ∷ runs) long all =
     P flips = All (λ var. var < length (network_of netlist)) flips
 
 -- a run text of a network is accepted, or has a first refusal
-pub text-decided : (netlist : Netlist) (value : RunTextOf) → IsCircuit netlist → IsRunTextFor netlist value → AreAccepted netlist value ⊎ ((number : ℕ) × (why : Refused) × IsRefusalOfText netlist value number why)
+pub text-decided : (netlist : Netlist) (value : RunTextOf) → IsCircuit netlist → IsRunTextFor netlist value → AreAccepted netlist value ⊎ ((number : ℕ) × (why : RunRefusal) × IsRefusalOfText netlist value number why)
 text-decided netlist value circuit usable =
     runs-decided netlist value.input (start_of netlist value) value.runs (length-expansion_of netlist value.nodes circuit usable.nodes) usable.variables

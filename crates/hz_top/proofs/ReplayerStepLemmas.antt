@@ -9,8 +9,8 @@ use Rattle.hz_gmw.specs.ReplayFaults.{IsStepFault, IsCycleFault}
 use Rattle.hz_gmw.specs.declared.replay_fault.StepFault.{StepFault}
 use Rattle.hz_gmw.specs.declared.replay_fault.CycleFault.{CycleFault}
 use Rattle.hz_gmw.proofs.Paths.{end_of-append, IsRun-append}
-use Rattle.hz_top.specs.declared.replaying.Refused.{Refused}
-use Rattle.hz_top.specs.declared.replaying.Refused.TheVariants.{Step, Cycle}
+use Rattle.hz_top.specs.declared.replaying.RunRefusal.{RunRefusal}
+use Rattle.hz_top.specs.declared.replaying.RunRefusal.TheVariants.{Step, Cycle}
 use Rattle.hz_top.specs.Replaying.{IsRefusedStep, IsRefusedRun}
 use Rattle.hz_top.specs.ReplayerSteps.{run_of, MakesSteps, IsRefusedFrom}
 
@@ -88,7 +88,7 @@ refused-behind net input start lead steps number own fault run is r = record {
 }
 
 -- a run whose cycle is refused is refused
-pub run-refused : (net : List Driver) (input start : List Bool) (lead steps : List (List ℕ)) (why : Refused) → IsRun net input start lead → IsRefusedFrom (length lead) net input (end_of start lead) steps why → IsRefusedRun net input start (run_of lead (Some steps)) why
+pub run-refused : (net : List Driver) (input start : List Bool) (lead steps : List (List ℕ)) (why : RunRefusal) → IsRun net input start lead → IsRefusedFrom (length lead) net input (end_of start lead) steps why → IsRefusedRun net input start (run_of lead (Some steps)) why
 run-refused net input start lead steps (Step number fault) run (own, is, refused) =
     refused-behind net input start lead steps number own fault run is refused
 run-refused net input start lead steps (Cycle fault) run (onward, refused) = record {

@@ -12,7 +12,7 @@ use Rattle.hz_net.specs.Variables.{expansion_of}
 use Rattle.hz_gmw.specs.Cycles.{IsNontransient}
 use Rattle.hz_gmw.specs.Replayer.{Replayer, initial_replayer}
 use Rattle.hz_text.specs.RunValue.{RunOf, RunTextOf, cycle_steps, all_steps}
-use Rattle.hz_top.specs.declared.replaying.Refused.{Refused}
+use Rattle.hz_top.specs.declared.replaying.RunRefusal.{RunRefusal}
 use Rattle.hz_top.specs.Replaying.{steps_of, total_steps, IsAcceptedRun, IsRefusedRun, IsFirstRefusal}
 use Rattle.hz_top.specs.ReplayerSteps.{AreVariables, run_of, KeepsInitialState, MakesSteps, IsRefusedFrom}
 use Rattle.hz_top.specs.Inside.{no_run}
@@ -36,7 +36,7 @@ cycle-variables netlist other lead steps_in cycle one is same all =
     subst (λ (n : Netlist). AreVariables n (steps_in one)) (sym same) (behind-variables netlist lead (steps_in one) here)
 
 -- what comes of a run's cycle comes of the run
-pub run-outcome : {T : Type 0} (was now : Replayer) (lead : List (List ℕ)) (steps_in : T → List (List ℕ)) (cycle : Option T) (one : T) (before : ℕ) (result : Result (Unit {0}) Refused) → cycle ≡ Some one → before ≡ length lead → MakesSteps was now lead → MatchResult result (λ done. IsNontransient (network_of now.circuit) now.input now.state (steps_in one)) (λ why. IsRefusedFrom before (network_of now.circuit) now.input now.state (steps_in one) why) → MatchResult result (λ done. IsAcceptedRun (network_of was.circuit) was.input was.state (run_of lead (option_map steps_in cycle))) (λ why. IsRefusedRun (network_of was.circuit) was.input was.state (run_of lead (option_map steps_in cycle)) why)
+pub run-outcome : {T : Type 0} (was now : Replayer) (lead : List (List ℕ)) (steps_in : T → List (List ℕ)) (cycle : Option T) (one : T) (before : ℕ) (result : Result (Unit {0}) RunRefusal) → cycle ≡ Some one → before ≡ length lead → MakesSteps was now lead → MatchResult result (λ done. IsNontransient (network_of now.circuit) now.input now.state (steps_in one)) (λ why. IsRefusedFrom before (network_of now.circuit) now.input now.state (steps_in one) why) → MatchResult result (λ done. IsAcceptedRun (network_of was.circuit) was.input was.state (run_of lead (option_map steps_in cycle))) (λ why. IsRefusedRun (network_of was.circuit) was.input was.state (run_of lead (option_map steps_in cycle)) why)
 run-outcome was now lead steps_in cycle one before (Ok done) is long made lasts =
     subst (λ (o : Option _). IsAcceptedRun (network_of was.circuit) was.input was.state (run_of lead (option_map steps_in o))) (sym is)
     record { lead = made.run; cycle = rw (made.begin.circuit, made.begin.input, made.ends) at lasts }
@@ -88,7 +88,7 @@ accepted-more net input start runs number run is below all accepted =
     (All-push (IsAcceptedRun net input start) (take number runs) (get_or runs number no_run) all (subst (IsAcceptedRun net input start) is accepted))
 
 -- the first run that is refused
-pub first-refused : (net : List Driver) (input start : List Bool) (runs : List RunOf) (number : ℕ) (run : RunOf) (why : Refused) → run ≡ get_or runs number no_run → number < length runs → All (IsAcceptedRun net input start) (take number runs) → IsRefusedRun net input start run why → IsFirstRefusal net input start runs (number + 1) why
+pub first-refused : (net : List Driver) (input start : List Bool) (runs : List RunOf) (number : ℕ) (run : RunOf) (why : RunRefusal) → run ≡ get_or runs number no_run → number < length runs → All (IsAcceptedRun net input start) (take number runs) → IsRefusedRun net input start run why → IsFirstRefusal net input start runs (number + 1) why
 first-refused net input start runs number run why is below all refused = record {
   before = take number runs;
   run = run;

@@ -15,7 +15,7 @@ use Rattle.hz_gen.specs.Starts.{IsCompletable}
 use Rattle.hz_words.specs.declared.job.Task.{Task}
 use Rattle.hz_words.specs.declared.job.Task.TheVariants.{Analyse, Replay, Convert}
 use Rattle.hz_words.specs.Job.{JobOf, OnFiles, Demo}
-use Rattle.hz_top.specs.declared.replaying.Refused.{Refused}
+use Rattle.hz_top.specs.declared.replaying.RunRefusal.{RunRefusal}
 use Rattle.hz_top.specs.Outcome.{Observation, IsNetlistText}
 use Rattle.hz_top.specs.Replaying.{AreAccepted, IsRefusalOfText}
 
@@ -28,7 +28,7 @@ pub record IsFaultlessScript (netlist : Netlist) (text : List ℕ) : Type 0 wher
 abbrev pub EndsReplay : Netlist → RunTextOf → Status → Type 0
 EndsReplay netlist runs own =
     (AreAccepted netlist runs × (own ≡ Done))
-    ⊎ ((number : ℕ) × (why : Refused) × IsRefusalOfText netlist runs number why × (own ≡ No))
+    ⊎ ((number : ℕ) × (why : RunRefusal) × IsRefusalOfText netlist runs number why × (own ≡ No))
 
 -- the text is a run text, the replay of which ends with this status
 pub record IsFaultlessRuns (netlist : Netlist) (text : List ℕ) (own : Status) : Type 0 where

@@ -16,8 +16,8 @@ use Rattle.hz_bench.specs.declared.fault.BenchFault.TheVariants as bench
 use Rattle.hz_text.specs.declared.fault.TextFault.{TextFault}
 use Rattle.hz_text.specs.declared.fault.TextFault.TheVariants as text
 use Rattle.hz_text.specs.RunValue.{RunOf}
-use Rattle.hz_top.specs.declared.replaying.Refused.{Refused}
-use Rattle.hz_top.specs.declared.replaying.Refused.TheVariants as refused
+use Rattle.hz_top.specs.declared.replaying.RunRefusal.{RunRefusal}
+use Rattle.hz_top.specs.declared.replaying.RunRefusal.TheVariants as refused
 use Rattle.hz_top.specs.declared.status.Status.{Status}
 use Rattle.hz_top.specs.declared.status.Status.TheVariants as status
 use Rattle.hz_top.specs.Answer.{Prints}
@@ -82,7 +82,7 @@ cycle_variable (NotStable var) = var
 cycle_variable (Transient var) = var
 
 -- the variable that a refusal names, if it names one
-abbrev pub named_variable : Refused → Option ℕ
+abbrev pub named_variable : RunRefusal → Option ℕ
 named_variable (refused.Step number fault) = step_variable fault
 named_variable (refused.Cycle fault) = Some (cycle_variable fault)
 

@@ -9,8 +9,8 @@ use Rattle.hz_gmw.specs.ReplayFaults.{IsStepFault, IsCycleFault}
 use Rattle.hz_gmw.specs.declared.replay_fault.StepFault.{StepFault}
 use Rattle.hz_gmw.specs.declared.replay_fault.CycleFault.{CycleFault}
 use Rattle.hz_text.specs.RunValue.{RunOf, RunTextOf, cycle_steps, all_steps}
-use Rattle.hz_top.specs.declared.replaying.Refused.{Refused}
-use Rattle.hz_top.specs.declared.replaying.Refused.TheVariants.{Step, Cycle}
+use Rattle.hz_top.specs.declared.replaying.RunRefusal.{RunRefusal}
+use Rattle.hz_top.specs.declared.replaying.RunRefusal.TheVariants.{Step, Cycle}
 
 -- all steps of a run, those of its cycle behind those of its lead
 abbrev pub steps_of : RunOf → List (List ℕ)
@@ -50,12 +50,12 @@ pub record IsRefusedCycle (net : List Driver) (input start : List Bool) (run : R
   pub refused : IsCycleFault net input (end_of start run.lead) steps fault
 
 -- why a run is refused: for a step, numbered through lead and cycle, or for its cycle
-abbrev pub IsRefusedRun : List Driver → List Bool → List Bool → RunOf → Refused → Type 0
+abbrev pub IsRefusedRun : List Driver → List Bool → List Bool → RunOf → RunRefusal → Type 0
 IsRefusedRun net input start run (Step number fault) = IsRefusedStep net input start (steps_of run) number fault
 IsRefusedRun net input start run (Cycle fault) = IsRefusedCycle net input start run fault
 
 -- The first refusal, of the run with this number, counted from 1: all runs before it are accepted.
-pub record IsFirstRefusal (net : List Driver) (input start : List Bool) (runs : List RunOf) (number : ℕ) (refused : Refused) : Type 0 where
+pub record IsFirstRefusal (net : List Driver) (input start : List Bool) (runs : List RunOf) (number : ℕ) (refused : RunRefusal) : Type 0 where
   pub before : List RunOf
   pub run : RunOf
   pub after : List RunOf
@@ -73,6 +73,6 @@ abbrev pub AreAccepted : Netlist → RunTextOf → Type 0
 AreAccepted netlist text = All (IsAcceptedRun (network_of netlist) text.input (start_of netlist text)) text.runs
 
 -- this is the first refusal of a text
-abbrev pub IsRefusalOfText : Netlist → RunTextOf → ℕ → Refused → Type 0
+abbrev pub IsRefusalOfText : Netlist → RunTextOf → ℕ → RunRefusal → Type 0
 IsRefusalOfText netlist text number refused =
     IsFirstRefusal (network_of netlist) text.input (start_of netlist text) text.runs number refused

@@ -11,8 +11,8 @@ use Rattle.hz_text.specs.RunPrinted.{variable_word}
 use Rattle.hz_text.specs.RunValue.{RunOf, RunTextOf}
 use Rattle.hz_top.specs.declared.status.Status.{Status}
 use Rattle.hz_top.specs.declared.status.Status.TheVariants as status
-use Rattle.hz_top.specs.declared.replaying.Refused.{Refused}
-use Rattle.hz_top.specs.declared.replaying.Refused.TheVariants as refused
+use Rattle.hz_top.specs.declared.replaying.RunRefusal.{RunRefusal}
+use Rattle.hz_top.specs.declared.replaying.RunRefusal.TheVariants as refused
 use Rattle.hz_top.specs.Answer.{Prints}
 use Rattle.hz_top.specs.Replaying.{total_steps, total_cycles, AreAccepted, IsRefusalOfText}
 
@@ -50,7 +50,7 @@ cycle_line netlist run (NotStable var) = naming_line netlist (cycle_words run (c
 cycle_line netlist run (Transient var) = naming_line netlist (cycle_words run (codes " cycle: transient ")) var
 
 -- a run that is refused
-abbrev pub no_line : Netlist → ℕ → Refused → List ℕ
+abbrev pub no_line : Netlist → ℕ → RunRefusal → List ℕ
 no_line netlist run (refused.Step number fault) = step_line netlist run number fault
 no_line netlist run (refused.Cycle fault) = cycle_line netlist run fault
 
@@ -62,4 +62,4 @@ accepted_line runs = yes_line (length runs) (total_steps runs) (total_cycles run
 abbrev pub IsReplayOutcome : Netlist → RunTextOf → Status → List ℕ → Type 0
 IsReplayOutcome netlist runs own text =
     (AreAccepted netlist runs × Prints status.Done (accepted_line runs.runs) own text)
-    ⊎ ((number : ℕ) × (why : Refused) × IsRefusalOfText netlist runs number why × Prints status.No (no_line netlist number why) own text)
+    ⊎ ((number : ℕ) × (why : RunRefusal) × IsRefusalOfText netlist runs number why × Prints status.No (no_line netlist number why) own text)

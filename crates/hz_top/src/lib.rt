@@ -31,5 +31,6 @@ mod verdict;
 
 pub use order::MAX_BYTES;
 pub use reading_back::accepted_runs_replay;
+pub use replaying::RunRefusal;
 pub use running::run;
 pub use status::Status;

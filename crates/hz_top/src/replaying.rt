@@ -21,9 +21,9 @@ use hz_outside::Sink;
 use hz_text::{RunText, read_run};
 use std::alloc::{AllocError, Global};
 
-/// Why a run is refused.
+/// Why `replay` refuses a run of a text.
 #[derive(Clone, Copy, Debug)]
-pub(crate) enum Refused {
+pub enum RunRefusal {
     /// The step with this number is no step. Steps are counted from 1 through the lead and the cycle.
     Step { number: usize, fault: StepFault },
     /// The cycle is no nontransient cycle.
@@ -41,7 +41,7 @@ pub(crate) struct RefusedStep {
 #[derive(Clone, Copy, Debug)]
 pub(crate) struct FirstRefusal {
     pub run: usize,
-    pub why: Refused,
+    pub why: RunRefusal,
 }
 
 // Replays the runs of a text on a network.
@@ -109,7 +109,7 @@ fn replay_runs(replay: &mut Replay, text: &RunText, start: &[bool]) -> Result<()
 }
 
 // Replays a run from the present state.
-fn replay_run(replay: &mut Replay, lead: &Run, cycle: Option<&Run>) -> Result<(), Refused>
+fn replay_run(replay: &mut Replay, lead: &Run, cycle: Option<&Run>) -> Result<(), RunRefusal>
     requires variables { AreVariables replay.old.circuit (steps_of (run_of lead.now.steps (option_map (λ run. run.now.steps) cycle))) }
     requires few { length (steps_of (run_of lead.now.steps (option_map (λ run. run.now.steps) cycle))) ≤ 2000000 }
     ensures begin { KeepsInitialState replay.old replay.new }
@@ -120,7 +120,7 @@ fn replay_run(replay: &mut Replay, lead: &Run, cycle: Option<&Run>) -> Result<()
     match make_steps(replay, lead) {
         Ok(()) => {}
         Err(refused) => {
-            return Err(Refused::Step {
+            return Err(RunRefusal::Step {
                 number: refused.number,
                 fault: refused.fault,
             });
@@ -133,7 +133,7 @@ fn replay_run(replay: &mut Replay, lead: &Run, cycle: Option<&Run>) -> Result<()
 }
 
 // Replays a cycle from the present state, after that many steps of its run.
-fn replay_cycle(replay: &mut Replay, cycle: &Run, before: usize) -> Result<(), Refused>
+fn replay_cycle(replay: &mut Replay, cycle: &Run, before: usize) -> Result<(), RunRefusal>
     requires variables { AreVariables replay.old.circuit cycle.now.steps }
     requires few { before + length cycle.now.steps ≤ 2000000 }
     ensures begin { KeepsInitialState replay.old replay.new }
@@ -145,7 +145,7 @@ fn replay_cycle(replay: &mut Replay, cycle: &Run, before: usize) -> Result<(), R
     match make_steps(replay, cycle) {
         Ok(()) => {}
         Err(refused) => {
-            return Err(Refused::Step {
+            return Err(RunRefusal::Step {
                 number: before + refused.number,
                 fault: refused.fault,
             });
@@ -153,7 +153,7 @@ fn replay_cycle(replay: &mut Replay, cycle: &Run, before: usize) -> Result<(), R
     }
     match replay.close() {
         Ok(()) => Ok(()),
-        Err(fault) => Err(Refused::Cycle { fault }),
+        Err(fault) => Err(RunRefusal::Cycle { fault }),
     }
 }
 

@@ -492,67 +492,69 @@ fn reports(rt: HostRuntime) -> Result<(), Fail> {
     Ok(())
 }
 
+// Netlists, scripts, and the status and the line with which `analyse` refuses them.
+const REFUSALS: [(&str, &str, u8, &str); 11] = [
+    (
+        "INPUT(a)\ng = NOT(a, a)\n",
+        "",
+        3,
+        "refused: netlist line 2: pins 2\n",
+    ),
+    (
+        "INPUT(a)\n",
+        "start a=2\n",
+        4,
+        "refused: script line 1: bit\n",
+    ),
+    ("INPUT(a)\n", "", 4, "refused: script line 0: order\n"),
+    (
+        "INPUT(a)\n",
+        "begin a=0\n",
+        4,
+        "refused: script line 1: form\n",
+    ),
+    (
+        "INPUT(a)\n",
+        "start b=0\n",
+        4,
+        "refused: script line 1: unknown name\n",
+    ),
+    (
+        "INPUT(a)\n",
+        "start a=0 a=1\n",
+        4,
+        "refused: script line 1: assigned twice\n",
+    ),
+    (
+        "INPUT(a)\n",
+        "start\n",
+        4,
+        "refused: script: no value for a\n",
+    ),
+    (
+        "INPUT(a)\n",
+        "change a=1\n",
+        4,
+        "refused: script line 1: order\n",
+    ),
+    (
+        "INPUT(a)\ny = NOT(y)\n",
+        "start a=0\n",
+        5,
+        "refused: start: open y\n",
+    ),
+    (
+        "INPUT(a)\ny = NOT(y)\n",
+        "start a=0 y=0\n",
+        5,
+        "refused: start: unstable y\n",
+    ),
+    (STICKY, "start a=1\n", 5, "refused: start: open q\n"),
+];
+
 #[test]
 fn refusals(rt: HostRuntime) -> Result<(), Fail> {
-    let rows = [
-        (
-            "INPUT(a)\ng = NOT(a, a)\n",
-            "",
-            3,
-            "refused: netlist line 2: pins 2\n",
-        ),
-        (
-            "INPUT(a)\n",
-            "start a=2\n",
-            4,
-            "refused: script line 1: bit\n",
-        ),
-        ("INPUT(a)\n", "", 4, "refused: script line 0: order\n"),
-        (
-            "INPUT(a)\n",
-            "begin a=0\n",
-            4,
-            "refused: script line 1: form\n",
-        ),
-        (
-            "INPUT(a)\n",
-            "start b=0\n",
-            4,
-            "refused: script line 1: unknown name\n",
-        ),
-        (
-            "INPUT(a)\n",
-            "start a=0 a=1\n",
-            4,
-            "refused: script line 1: assigned twice\n",
-        ),
-        (
-            "INPUT(a)\n",
-            "start\n",
-            4,
-            "refused: script: no value for a\n",
-        ),
-        (
-            "INPUT(a)\n",
-            "change a=1\n",
-            4,
-            "refused: script line 1: order\n",
-        ),
-        (
-            "INPUT(a)\ny = NOT(y)\n",
-            "start a=0\n",
-            5,
-            "refused: start: open y\n",
-        ),
-        (
-            "INPUT(a)\ny = NOT(y)\n",
-            "start a=0 y=0\n",
-            5,
-            "refused: start: unstable y\n",
-        ),
-        (STICKY, "start a=1\n", 5, "refused: start: open q\n"),
-    ];
-    for (netlist, script, code, text) in rows {
+    for (netlist, script, code, text) in REFUSALS {
         let (status, out) = run_job(rt.alloc(), "analyse", &[], netlist, script, 0, (0, 0))?;
         assert_eq!(rt; status.code(), code);
         assert_eq!(rt; out.bytes(), text.as_bytes());
@@ -584,86 +586,88 @@ fn too_many_changes(rt: HostRuntime) -> Result<(), Fail> {
     Ok(())
 }
 
+// Netlists, the pieces of run texts, and the status and the line of `replay`.
+const REPLAYS: [(&str, [&str; 4], u8, &str); 8] = [
+    (
+        LATCH,
+        [STATES, SPREAD, SETTLE, CYCLE],
+        0,
+        "yes: runs 2 steps 20 cycles 1\n",
+    ),
+    (
+        LATCH,
+        [
+            STATES,
+            SPREAD,
+            "run\nstep r s\nstep q\nstep qb(1)\nstep qb\nstep q(2)\nstep q qb(2)\nstep qb\n",
+            CYCLE,
+        ],
+        1,
+        "no: run 2 step 2: stable q\n",
+    ),
+    (
+        LATCH,
+        [
+            STATES,
+            SPREAD,
+            SETTLE,
+            "cycle\nstep q(2)\nstep q qb(2)\nstep qb\nstep q(2)\nstep q qb(2)\n",
+        ],
+        1,
+        "no: run 2 cycle: differs qb\n",
+    ),
+    (
+        LATCH,
+        [STATES, SPREAD, SETTLE, "cycle\n"],
+        1,
+        "no: run 2 cycle: not stable q(2)\n",
+    ),
+    (
+        LATCH,
+        [
+            STATES,
+            "run\nstep\nstep r s\nstep q(1)\nstep q\nstep qb(1)\nstep qb\nstep q(2) qb(2)\n",
+            SETTLE,
+            CYCLE,
+        ],
+        1,
+        "no: run 1 step 1: empty\n",
+    ),
+    (
+        LATCH,
+        [
+            STATES,
+            "run\nstep r r\nstep q(1)\nstep q\nstep qb(1)\nstep qb\nstep q(2) qb(2)\n",
+            SETTLE,
+            CYCLE,
+        ],
+        1,
+        "no: run 1 step 1: repeated r\n",
+    ),
+    (
+        "INPUT(e)\ny = NAND(e, y)\nd = BUFF(e)\n",
+        [
+            "start e=0 y=1 d=0\ninput e=1\n",
+            "run\nstep e\nstep y(1)\n",
+            "cycle\nstep y\nstep y(2)\n",
+            "step y\nstep y(2)\n",
+        ],
+        1,
+        "no: run 1 cycle: transient d(1)\n",
+    ),
+    (
+        LATCH,
+        [STATES, "run\nstep qb(3)\n", SETTLE, CYCLE],
+        4,
+        "refused: runs line 5: unknown name\n",
+    ),
+];
+
 // The printed runs of the latch, and those with one line changed; a ring whose cycle lets a variable wait; and a step of no
 // variable.
 #[test]
 fn replays(rt: HostRuntime) -> Result<(), Fail> {
-    let rows = [
-        (
-            LATCH,
-            [STATES, SPREAD, SETTLE, CYCLE],
-            0,
-            "yes: runs 2 steps 20 cycles 1\n",
-        ),
-        (
-            LATCH,
-            [
-                STATES,
-                SPREAD,
-                "run\nstep r s\nstep q\nstep qb(1)\nstep qb\nstep q(2)\nstep q qb(2)\nstep qb\n",
-                CYCLE,
-            ],
-            1,
-            "no: run 2 step 2: stable q\n",
-        ),
-        (
-            LATCH,
-            [
-                STATES,
-                SPREAD,
-                SETTLE,
-                "cycle\nstep q(2)\nstep q qb(2)\nstep qb\nstep q(2)\nstep q qb(2)\n",
-            ],
-            1,
-            "no: run 2 cycle: differs qb\n",
-        ),
-        (
-            LATCH,
-            [STATES, SPREAD, SETTLE, "cycle\n"],
-            1,
-            "no: run 2 cycle: not stable q(2)\n",
-        ),
-        (
-            LATCH,
-            [
-                STATES,
-                "run\nstep\nstep r s\nstep q(1)\nstep q\nstep qb(1)\nstep qb\nstep q(2) qb(2)\n",
-                SETTLE,
-                CYCLE,
-            ],
-            1,
-            "no: run 1 step 1: empty\n",
-        ),
-        (
-            LATCH,
-            [
-                STATES,
-                "run\nstep r r\nstep q(1)\nstep q\nstep qb(1)\nstep qb\nstep q(2) qb(2)\n",
-                SETTLE,
-                CYCLE,
-            ],
-            1,
-            "no: run 1 step 1: repeated r\n",
-        ),
-        (
-            "INPUT(e)\ny = NAND(e, y)\nd = BUFF(e)\n",
-            [
-                "start e=0 y=1 d=0\ninput e=1\n",
-                "run\nstep e\nstep y(1)\n",
-                "cycle\nstep y\nstep y(2)\n",
-                "step y\nstep y(2)\n",
-            ],
-            1,
-            "no: run 1 cycle: transient d(1)\n",
-        ),
-        (
-            LATCH,
-            [STATES, "run\nstep qb(3)\n", SETTLE, CYCLE],
-            4,
-            "refused: runs line 5: unknown name\n",
-        ),
-    ];
-    for (netlist, [states, first, second, cycle], code, text) in rows {
+    for (netlist, [states, first, second, cycle], code, text) in REPLAYS {
         let whole = joined(
             rt.alloc(),
             &["runs 1\n", states, first, second, cycle, "end\n"],

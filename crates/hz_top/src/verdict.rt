@@ -7,7 +7,7 @@ ghost use Rattle.hz_top.specs.Replaying.{total_steps, total_cycles, steps_of};
 ghost use Rattle.hz_top.specs.Verdict.{yes_line, naming_line, step_line, cycle_line, no_line, accepted_line};
 ghost use Rattle.hz_top.specs.Inside.{no_run, step_variable, cycle_variable, named_variable, NamesVariable};
 
-use crate::replaying::Refused;
+use crate::replaying::RunRefusal;
 use hz_gmw::{CycleFault, StepFault};
 use hz_net::Net;
 use hz_outside::{PutFault, Sink};
@@ -89,14 +89,14 @@ pub(crate) fn put_no<K: Sink>(
     out: &mut K,
     net: &Net,
     run: usize,
-    why: Refused,
+    why: RunRefusal,
 ) -> Result<(), PutFault>
     requires { NamesVariable net.now (named_variable why) }
     ensures { Wrote K.written K.faults (no_line net.now run why) out.old out.new result }
 {
     match why {
-        Refused::Step { number, fault } => put_step(out, net, run, number, fault),
-        Refused::Cycle { fault } => put_cycle(out, net, run, fault),
+        RunRefusal::Step { number, fault } => put_step(out, net, run, number, fault),
+        RunRefusal::Cycle { fault } => put_cycle(out, net, run, fault),
     }
 }
 
