@@ -9,6 +9,7 @@ use Rattle.std.proofs.lemmas.List.Elements.{All-nil, All-cons, All-map}
 use Rattle.std.proofs.lemmas.List.Folds.{list_any_at, list_any-append}
 use Rattle.std.proofs.lemmas.List.Quantifiers.{position-Some}
 use Rattle.std.proofs.lemmas.List.Sums.{sum_by-append, sum_by-cons}
+use Rattle.hz_core.proofs.CircuitLemmas.{bounds-from_takes}
 use Rattle.hz_core.specs.declared.kind.Kind.{Kind}
 use Rattle.hz_core.specs.declared.kind.Kind.TheVariants.{And, Nand, Or, Nor, Xor, Xnor, Not, Buff}
 use Rattle.hz_core.specs.Gate.{takes}
@@ -102,24 +103,9 @@ gates_may all (Gate name kind sources ∷ rest) short apart room =
       gates_may (netlist.with_gate all name (kind_of kind)) rest short.1 apart.1 (omega (arith, room, same, length-append all.names (name ∷ []))),
     )
 
--- a kind takes at least one pin, and no more than its most
-record IsCount (kind : Kind) (pins : ℕ) : Type 0 where
-  some : 1 ≤ pins
-  most : pins ≤ netlist.most_pins kind
-
-IsCount-takes : (kind : Kind) (pins : ℕ) → takes kind pins ≡ true → IsCount kind pins
-IsCount-takes Not pins h = record { some = grind (arith, nat_tests); most = grind (arith, nat_tests) }
-IsCount-takes Buff pins h = record { some = grind (arith, nat_tests); most = grind (arith, nat_tests) }
-IsCount-takes And pins h = let range = both (nat_le 1 pins) (nat_le pins 256) h in record { some = grind (arith, nat_tests); most = grind (arith, nat_tests) }
-IsCount-takes Nand pins h = let range = both (nat_le 1 pins) (nat_le pins 256) h in record { some = grind (arith, nat_tests); most = grind (arith, nat_tests) }
-IsCount-takes Or pins h = let range = both (nat_le 1 pins) (nat_le pins 256) h in record { some = grind (arith, nat_tests); most = grind (arith, nat_tests) }
-IsCount-takes Nor pins h = let range = both (nat_le 1 pins) (nat_le pins 256) h in record { some = grind (arith, nat_tests); most = grind (arith, nat_tests) }
-IsCount-takes Xor pins h = let range = both (nat_le 1 pins) (nat_le pins 256) h in record { some = grind (arith, nat_tests); most = grind (arith, nat_tests) }
-IsCount-takes Xnor pins h = let range = both (nat_le 1 pins) (nat_le pins 256) h in record { some = grind (arith, nat_tests); most = grind (arith, nat_tests) }
-
 -- the pins of a gate statement that passed the check
-gate_count : (name : List ℕ) (kind : Option Kind) (sources : List (List ℕ)) → has_unknown_kind (Gate name kind sources) ≡ false → has_wrong_pins (Gate name kind sources) ≡ false → IsCount (kind_of kind) (length sources)
-gate_count name (Some kind) sources known pins = IsCount-takes kind (length sources) (not-false _ pins)
+gate_count : (name : List ℕ) (kind : Option Kind) (sources : List (List ℕ)) → has_unknown_kind (Gate name kind sources) ≡ false → has_wrong_pins (Gate name kind sources) ≡ false → (1 ≤ length sources) × (length sources ≤ netlist.most_pins (kind_of kind))
+gate_count name (Some kind) sources known pins = bounds-from_takes kind (length sources) (not-false _ pins)
 gate_count name None sources known pins = cc
 
 -- the names of a flip-flop that passed the check
@@ -198,7 +184,7 @@ pins_may all cut number made done (Gate name kind sources ∷ rest) at fits plac
     let now = record all { cuts = made ++ bare_cuts rest } in
     let bare = bare_count rest in
     let count = gate_count name kind sources known.0 pins.0 in
-    let most = count.most in
+    let most = count.1 in
     let gate : netlist.Gate = record { kind = kind_of kind; sources = map (number_in all.names) sources } in
     let moved : done ++ gate ∷ bare_gates rest ≡ (done ++ gate ∷ []) ++ bare_gates rest = sym (append_assoc done (gate ∷ []) (bare_gates rest)) in
     let next : suc number ≡ all.inputs + length (done ++ gate ∷ []) = omega (arith, place, length-append done (gate ∷ [])) in
@@ -243,7 +229,7 @@ gates_whole names (Output name ∷ rest) known pins = gates_whole names rest kno
 gates_whole names (FlipFlop name sources ∷ rest) known pins = gates_whole names rest known.1 pins.1
 gates_whole names (Gate name kind sources ∷ rest) known pins =
     let count = gate_count name kind sources known.0 pins.0 in
-    let some = count.some in
+    let some = count.0 in
     All-cons (λ (gate : netlist.Gate). 1 ≤ length gate.sources) (record { kind = kind_of kind; sources = map (number_in names) sources }) (gates_of names rest)
     (omega (arith, some, length-map sources (number_in names))) (gates_whole names rest known.1 pins.1)
 

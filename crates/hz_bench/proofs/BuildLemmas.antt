@@ -4,11 +4,10 @@ use Rattle.std.specs.List.{list_all}
 use Rattle.std.proofs.lemmas.Bool.Decides.{nat_tests}
 use Rattle.hz_core.specs.declared.kind.Kind.{Kind}
 use Rattle.hz_core.specs.Netlist.{Netlist, IsName, is_name_byte, node_named, variable_count}
-use Rattle.hz_line.specs.Byte.{Class, Blank, Hash, Punct, WordByte, Forbidden, class_of, is_word_byte, is_word_class}
-use Rattle.hz_line.specs.declared.bytes.Punctuation.TheVariants.{Open, Close, Comma, Equals}
+use Rattle.hz_line.specs.Byte.{is_word_byte}
 use Rattle.hz_line.specs.Token.{IsWordToken}
 use Rattle.std.proofs.lemmas.List.{take_more, map_push, at_drop_more}
-use Rattle.hz_line.proofs.WrittenLemmas.{both}
+use Rattle.hz_line.proofs.WrittenLemmas.{both, is_word_byte-is}
 use Rattle.hz_bench.specs.declared.entry.Entry.{Entry}
 use Rattle.hz_bench.specs.BuiltNetlist.{MayAddNode, MayAddInput, MayAddCut, MayAddGate, AreAdmissibleSteps}
 use Rattle.hz_bench.specs.Entry.{statement_of_entry, statement_list}
@@ -17,32 +16,13 @@ use Rattle.hz_bench.specs.Form.{form_of}
 use Rattle.hz_bench.specs.Statement.{Statement, Input, Output, FlipFlop, Gate, name_of, is_long}
 use Rattle.hz_bench.proofs.EntryLemmas.{entry-formed, entry-named}
 
-past : (test : Bool) (class rest : Class) → is_word_class class ≡ false → is_word_class (cond test class rest) ≡ true → (test ≡ false) × (is_word_class rest ≡ true)
-past true class rest none h = cc
-past false class rest none h = (refl, h)
-
-last : (test : Bool) → is_word_class (cond test WordByte Forbidden) ≡ true → test ≡ true
-last true h = refl
-last false h = cc
-
--- a letter may stand in a name
-is_name_byte-letter : (byte : ℕ) → is_word_byte byte ≡ true → is_name_byte byte ≡ true
-unfolding class_of
-is_name_byte-letter byte h =
-    let blank = past (byte == 32 || byte == 9) Blank _ refl h in
-    let hash = past (byte == 35) Hash _ refl blank.1 in
-    let open_mark = past (byte == 40) (Punct Open) _ refl hash.1 in
-    let close_mark = past (byte == 41) (Punct Close) _ refl open_mark.1 in
-    let comma = past (byte == 44) (Punct Comma) _ refl close_mark.1 in
-    let equals = past (byte == 61) (Punct Equals) _ refl comma.1 in
-    let range = both (nat_le 33 byte) (nat_le byte 126) (last (nat_le 33 byte && nat_le byte 126) equals.1) in
-    rw (range.0, range.1, open_mark.0, close_mark.0, comma.0, equals.0, hash.0) refl
-
+-- word bytes may stand in a name
 name_bytes : (word : List ℕ) → list_all is_word_byte word ≡ true → list_all is_name_byte word ≡ true
 name_bytes [] h = refl
 name_bytes (byte ∷ word) h =
     let parts = both (is_word_byte byte) _ h in
-    rw (is_name_byte-letter byte parts.0, name_bytes word parts.1) refl
+    let this : is_name_byte byte ≡ true = sym (is_word_byte-is byte) ∙ parts.0 in
+    rw (this, name_bytes word parts.1) refl
 
 -- a word that is not too long is a name
 pub IsName-word : (name : List ℕ) → IsWordToken name → is_long name ≡ false → IsName name

@@ -6,6 +6,7 @@ use Rattle.std.specs.List.{list_any}
 use Rattle.std.proofs.Math.Nat.{min-eq_left, min-eq_right}
 use Rattle.std.proofs.lemmas.List.{length-map}
 use Rattle.std.proofs.lemmas.List.Sums.{sum_by-cons}
+use Rattle.hz_core.specs.Least.{option_min}
 use Rattle.hz_line.specs.Line.{lines_of}
 use Rattle.hz_line.specs.Statement.{Numbered, first_passing_line}
 use Rattle.hz_line.proofs.StatementLemmas.{Ascends, numbered_from-Ascends}
@@ -16,7 +17,7 @@ use Rattle.hz_bench.specs.declared.notes.Notes.{Notes}
 use Rattle.hz_bench.specs.declared.notes.Redefinition.{Redefinition}
 use Rattle.hz_bench.specs.declared.parse.Statements.{Statements}
 use Rattle.hz_bench.specs.BuiltNetlist.{BuilderState, with_input_of, with_cut_of, with_gate_of, with_pins_of, with_output_of, inputs_of, unconnected_netlist, initial_builder, connected_netlist, with_data_outputs, built_netlist, AreAdmissibleSteps, MayAddInput, MayAddCut, MayAddGate, MayAddPins, MayAddOutput, MayBuild}
-use Rattle.hz_bench.specs.Check.{reads_undefined, uses_undefined, first_that, fault_or, too_many_fault, first_fault, earlier_of_lines}
+use Rattle.hz_bench.specs.Check.{reads_undefined, uses_undefined, first_that, fault_or, too_many_fault, first_fault}
 use Rattle.hz_bench.specs.Definition.{is_that, is_missing, defines, definer, defined_names, IsTableOf}
 use Rattle.hz_bench.specs.Entry.{numbered_of, numbered_list, numbered_outputs, statement_list, output_list}
 use Rattle.hz_bench.specs.Netlist.{input_names, cut_names}
@@ -32,7 +33,7 @@ use Rattle.hz_bench.proofs.NetlistLemmas.{statement_list-numbered, output_list-n
 
 -- the first line that uses a name which no node defines
 abbrev pub undefined_line : List (Numbered Statement) → List (Numbered Statement) → Option ℕ
-undefined_line nodes outputs = earlier_of_lines (first_passing_line (reads_undefined nodes) nodes) (first_passing_line (uses_undefined nodes) outputs)
+undefined_line nodes outputs = option_min (first_passing_line (reads_undefined nodes) nodes) (first_passing_line (uses_undefined nodes) outputs)
 
 -- the fault of nodes and outputs, of which this was noted: the least number and, of this number, the first line
 abbrev pub sorted_fault : List (Numbered Statement) → List (Numbered Statement) → Notes → Option BenchFault
@@ -244,34 +245,34 @@ first_passing_line-low test low line (first ∷ rest) h e = by_test (test first.
     by_test false e ih = omega (arith, h.0, ih e)
 
 -- a line before all others is the earlier one
-earlier-left : (line : ℕ) (other : Option ℕ) → ((found : ℕ) → other ≡ Some found → line ≤ found) → earlier_of_lines (Some line) other ≡ Some line
+earlier-left : (line : ℕ) (other : Option ℕ) → ((found : ℕ) → other ≡ Some found → line ≤ found) → option_min (Some line) other ≡ Some line
 earlier-left line None low = refl
 earlier-left line (Some found) low = ap Some (min-eq_left (low found refl))
 
-earlier-right : (line : ℕ) (other : Option ℕ) → ((found : ℕ) → other ≡ Some found → line ≤ found) → earlier_of_lines other (Some line) ≡ Some line
+earlier-right : (line : ℕ) (other : Option ℕ) → ((found : ℕ) → other ≡ Some found → line ≤ found) → option_min other (Some line) ≡ Some line
 earlier-right line None low = refl
 earlier-right line (Some found) low = ap Some (min-eq_right (low found refl))
 
 -- the first line that passes is the first among the nodes or the first among the outputs
-earlier-all : (test : Statement → Bool) (low : ℕ) (statements : List (Numbered Statement)) → Ascends low statements → earlier_of_lines (first_passing_line test (nodes_among statements)) (first_passing_line test (outputs_among statements)) ≡ first_passing_line test statements
+earlier-all : (test : Statement → Bool) (low : ℕ) (statements : List (Numbered Statement)) → Ascends low statements → option_min (first_passing_line test (nodes_among statements)) (first_passing_line test (outputs_among statements)) ≡ first_passing_line test statements
 earlier-all test low [] h = refl
 earlier-all test low (first ∷ rest) h = by_node (defines_node first.statement) (earlier-all test (suc first.line) rest h.1) ∙ sym (first_passing_line-cons test first rest)
   where
     later : (keeps : Statement → Bool) (found : ℕ) → first_passing_line test (kept keeps rest) ≡ Some found → first.line ≤ found
     later keeps found e = let above = first_passing_line-low test (suc first.line) found (kept keeps rest) (Ascends-kept keeps (suc first.line) (suc first.line) rest (omega arith) h.1) e in omega (arith, above)
 
-    left : (b : Bool) → earlier_of_lines (first_passing_line test (nodes_among rest)) (first_passing_line test (outputs_among rest)) ≡ first_passing_line test rest → earlier_of_lines (cond b (Some first.line) (first_passing_line test (nodes_among rest))) (first_passing_line test (outputs_among rest)) ≡ cond b (Some first.line) (first_passing_line test rest)
+    left : (b : Bool) → option_min (first_passing_line test (nodes_among rest)) (first_passing_line test (outputs_among rest)) ≡ first_passing_line test rest → option_min (cond b (Some first.line) (first_passing_line test (nodes_among rest))) (first_passing_line test (outputs_among rest)) ≡ cond b (Some first.line) (first_passing_line test rest)
     left true ih = earlier-left first.line (first_passing_line test (outputs_among rest)) (later is_output)
     left false ih = ih
 
-    right : (b : Bool) → earlier_of_lines (first_passing_line test (nodes_among rest)) (first_passing_line test (outputs_among rest)) ≡ first_passing_line test rest → earlier_of_lines (first_passing_line test (nodes_among rest)) (cond b (Some first.line) (first_passing_line test (outputs_among rest))) ≡ cond b (Some first.line) (first_passing_line test rest)
+    right : (b : Bool) → option_min (first_passing_line test (nodes_among rest)) (first_passing_line test (outputs_among rest)) ≡ first_passing_line test rest → option_min (first_passing_line test (nodes_among rest)) (cond b (Some first.line) (first_passing_line test (outputs_among rest))) ≡ cond b (Some first.line) (first_passing_line test rest)
     right true ih = earlier-right first.line (first_passing_line test (nodes_among rest)) (later defines_node)
     right false ih = ih
 
-    by_node : (b : Bool) → earlier_of_lines (first_passing_line test (nodes_among rest)) (first_passing_line test (outputs_among rest)) ≡ first_passing_line test rest
-        → earlier_of_lines (first_passing_line test (cond b (first ∷ nodes_among rest) (nodes_among rest))) (first_passing_line test (cond (not b) (first ∷ outputs_among rest) (outputs_among rest))) ≡ cond (test first.statement) (Some first.line) (first_passing_line test rest)
-    by_node true ih = ap (λ line. earlier_of_lines line (first_passing_line test (outputs_among rest))) (first_passing_line-cons test first (nodes_among rest)) ∙ left (test first.statement) ih
-    by_node false ih = ap (earlier_of_lines (first_passing_line test (nodes_among rest))) (first_passing_line-cons test first (outputs_among rest)) ∙ right (test first.statement) ih
+    by_node : (b : Bool) → option_min (first_passing_line test (nodes_among rest)) (first_passing_line test (outputs_among rest)) ≡ first_passing_line test rest
+        → option_min (first_passing_line test (cond b (first ∷ nodes_among rest) (nodes_among rest))) (first_passing_line test (cond (not b) (first ∷ outputs_among rest) (outputs_among rest))) ≡ cond (test first.statement) (Some first.line) (first_passing_line test rest)
+    by_node true ih = ap (λ line. option_min line (first_passing_line test (outputs_among rest))) (first_passing_line-cons test first (nodes_among rest)) ∙ left (test first.statement) ih
+    by_node false ih = ap (option_min (first_passing_line test (nodes_among rest))) (first_passing_line-cons test first (outputs_among rest)) ∙ right (test first.statement) ih
 
 -- only nodes define names
 undefined-output : (statement : Statement) → defines_node statement ≡ false → defined_name statement ≡ None
@@ -316,8 +317,8 @@ undefined_line-kept statements h =
     (λ statement node. undefined-kept statements (sources_of statement) ∙ ap (list_any (λ name. not (is_some (definer statements name)))) (node_sources statement node)) statements in
     let outputs = first_passing_line-same (uses_undefined (nodes_among statements)) (uses_undefined statements) is_output
     (λ statement output. undefined-kept statements (used_names statement)) statements in
-    ap (λ line. earlier_of_lines line (first_passing_line (uses_undefined (nodes_among statements)) (outputs_among statements))) nodes
-    ∙ ap (earlier_of_lines (first_passing_line (uses_undefined statements) (nodes_among statements))) outputs
+    ap (λ line. option_min line (first_passing_line (uses_undefined (nodes_among statements)) (outputs_among statements))) nodes
+    ∙ ap (option_min (first_passing_line (uses_undefined statements) (nodes_among statements))) outputs
     ∙ earlier-all (uses_undefined statements) 1 statements h
 
 -- the names that nodes define are all names that are defined
@@ -397,8 +398,8 @@ unknown-undefined all statements gathered once =
     ∙ gathered.telling once (list_any (λ name. not (is_some (definer (nodes_among all) name)))) (λ names known. undefined-kept all names ∙ known) in
     let outputs = ap (λ (test : List ℕ → Bool). first_passing_line (λ statement. list_any test (used_names statement)) (numbered_outputs statements.outputs.items)) same
     ∙ ap (first_passing_line (uses_undefined (nodes_among all))) gathered.outputs in
-    ap (λ line. earlier_of_lines line (first_passing_line (uses_missing statements.lines) (numbered_outputs statements.outputs.items))) sources
-    ∙ ap (earlier_of_lines (first_passing_line (reads_undefined (nodes_among all)) (nodes_among all))) outputs
+    ap (λ line. option_min line (first_passing_line (uses_missing statements.lines) (numbered_outputs statements.outputs.items))) sources
+    ∙ ap (option_min (first_passing_line (reads_undefined (nodes_among all)) (nodes_among all))) outputs
 
 -- what is left of a fault behind a name that is defined again
 behind-again : (all : List (Numbered Statement)) (statements : Statements) (front : Option BenchFault) → AreGathered all statements

@@ -10,14 +10,14 @@ use Rattle.std.proofs.lemmas.List.Folds.{list_any_none}
 use Rattle.std.proofs.lemmas.List.Elements.{All-nil, All-cons, All-head, All-tail}
 use Rattle.std.proofs.lemmas.List.Sums.{position_or_len_is}
 use Rattle.std.proofs.lemmas.Map.Keys.{apart_from_distinct}
-use Rattle.hz_core.specs.Netlist.{Netlist, Gate as GateOf, IsCircuit, IsDataAmong, IsGateAmong, IsWhole, has_output, primary_inputs}
+use Rattle.hz_core.specs.Netlist.{Netlist, Gate as GateOf, IsCircuit, IsDataAmong, IsGateAmong, IsWhole, has_output, primary_inputs, node_name}
 use Rattle.hz_core.proofs.CircuitLemmas.{same_netlist}
 use Rattle.hz_line.specs.Line.{lines_of}
 use Rattle.hz_line.specs.Statement.{Meaning, Nothing, Malformed, Means, Numbered, with_meaning, numbered_from}
 use Rattle.hz_bench.specs.Netlist.{input_names, cut_names, data_names, data_nodes, gate_names, output_names, all_inputs, node_names, number_in, gates_of, add_once, each_once, circuit_of_statements}
 use Rattle.hz_bench.specs.Statement.{InputPort, OutputPort, Statement, statement_of}
 use Rattle.hz_bench.specs.Text.{bench_meaning, statements_of}
-use Rattle.hz_bench.specs.Printed.{name_at, netlist_text}
+use Rattle.hz_bench.specs.Printed.{netlist_text}
 use Rattle.hz_bench.proofs.NetlistLemmas.{each_once-append}
 use Rattle.hz_bench.proofs.PrintedLines.{ports, cut_statements, gate_statements, statements_for, IsReadAs, printed-IsReadAs}
 
@@ -46,14 +46,14 @@ pub IsReadAs-statements : (text : List ℕ) (statements : List Statement) → Is
 IsReadAs-statements text statements read = meant_lines 1 (lines_of text) ∙ ap meant read ∙ meant_back statements
 
 -- a name stands at the place of its node
-number_back : (names : List (List ℕ)) (node : ℕ) → IsDistinct bytes_eq names → node < length names → number_in names (name_at names node) ≡ node
+number_back : (names : List (List ℕ)) (node : ℕ) → IsDistinct bytes_eq names → node < length names → number_in names (node_name names node) ≡ node
 number_back names node distinct below =
-    let name = name_at names node in
+    let name = node_name names node in
     position_or_len_is (bytes_eq name) names node [] (omega arith)
-    (λ k h. nat_list_eq_equiv.symm name (name_at names k) ∙ apart_from_distinct bytes_eq names k node [] distinct h below)
+    (λ k h. nat_list_eq_equiv.symm name (node_name names k) ∙ apart_from_distinct bytes_eq names k node [] distinct h below)
     (λ h. nat_list_eq_equiv.refl name)
 
-numbers_back : (names : List (List ℕ)) (nodes : List ℕ) → IsDistinct bytes_eq names → All (λ node. node < length names) nodes → map (number_in names) (map (name_at names) nodes) ≡ nodes
+numbers_back : (names : List (List ℕ)) (nodes : List ℕ) → IsDistinct bytes_eq names → All (λ node. node < length names) nodes → map (number_in names) (map (node_name names) nodes) ≡ nodes
 numbers_back names [] distinct below = refl
 numbers_back names (node ∷ nodes) distinct below =
     let P : ℕ → Type 0 = λ node. node < length names in
@@ -62,13 +62,13 @@ numbers_back names (node ∷ nodes) distinct below =
 -- the names of so many nodes, the first of which is this one
 abbrev pub named_from : List (List ℕ) → ℕ → List ℕ → List (List ℕ)
 named_from names node [] = []
-named_from names node (one ∷ more) = name_at names node ∷ named_from names (suc node) more
+named_from names node (one ∷ more) = node_name names node ∷ named_from names (suc node) more
 
 pub named_from-drop : (names : List (List ℕ)) (node : ℕ) (more : List ℕ) → node + length more ≤ length names → drop node names ≡ named_from names node more ++ drop (node + length more) names
 named_from-drop names node [] room = ap (λ n. drop n names) (sym (add-zero node))
 named_from-drop names node (one ∷ more) room =
     let moved : suc node + length more ≡ node + suc (length more) = omega arith in
-    drop-cons names node [] (omega (arith, room)) ∙ ap (λ rest. name_at names node ∷ rest) (named_from-drop names (suc node) more (omega (arith, room)) ∙ ap (λ n. named_from names (suc node) more ++ drop n names) moved)
+    drop-cons names node [] (omega (arith, room)) ∙ ap (λ rest. node_name names node ∷ rest) (named_from-drop names (suc node) more (omega (arith, room)) ∙ ap (λ n. named_from names (suc node) more ++ drop n names) moved)
 
 pub length-named_from : (names : List (List ℕ)) (node : ℕ) (more : List ℕ) → length (named_from names node more) ≡ length more
 length-named_from names node [] = refl
@@ -123,14 +123,14 @@ outputs_add names (name ∷ outputs) rest =
     let ih = outputs_add names outputs rest in
     record { inputs_are = ih.inputs_are; cuts_are = ih.cuts_are; sources_are = ih.sources_are; gates_are = ih.gates_are; outputs_are = ap (λ all. name ∷ all) ih.outputs_are; made_are = ih.made_are }
 
-cuts_add : (names : List (List ℕ)) (node : ℕ) (nodes : List ℕ) (rest : List Statement) → Adds names (cut_statements names node (map Some nodes)) rest [] (named_from names node nodes) (map (name_at names) nodes) [] [] []
+cuts_add : (names : List (List ℕ)) (node : ℕ) (nodes : List ℕ) (rest : List Statement) → Adds names (cut_statements names node (map Some nodes)) rest [] (named_from names node nodes) (map (node_name names) nodes) [] [] []
 cuts_add names node [] rest = record { inputs_are = refl; cuts_are = refl; sources_are = refl; gates_are = refl; outputs_are = refl; made_are = refl }
 cuts_add names node (source ∷ nodes) rest =
     let ih = cuts_add names (suc node) nodes rest in
     record {
       inputs_are = ih.inputs_are;
-      cuts_are = ap (λ all. name_at names node ∷ all) ih.cuts_are;
-      sources_are = ap (λ all. name_at names source ∷ all) ih.sources_are;
+      cuts_are = ap (λ all. node_name names node ∷ all) ih.cuts_are;
+      sources_are = ap (λ all. node_name names source ∷ all) ih.sources_are;
       gates_are = ih.gates_are;
       outputs_are = ih.outputs_are;
       made_are = ih.made_are;
@@ -149,7 +149,7 @@ gates_add names node (gate ∷ rest) distinct all among =
       inputs_are = ih.inputs_are;
       cuts_are = ih.cuts_are;
       sources_are = ih.sources_are;
-      gates_are = ap (λ later. name_at names node ∷ later) ih.gates_are ∙ ap (λ later. later ++ []) (sym (drop-cons names node [] below));
+      gates_are = ap (λ later. node_name names node ∷ later) ih.gates_are ∙ ap (λ later. later ++ []) (sym (drop-cons names node [] below));
       outputs_are = ih.outputs_are;
       made_are = rw sources (ap (λ later. gate ∷ later) ih.made_are);
     }
@@ -192,8 +192,8 @@ circuit_back netlist circuit whole =
     let total : primary + length set.nodes ≡ netlist.inputs = omega (arith, count, circuit.cuts) in
     let inputs = take primary names in
     let cuts = named_from names primary set.nodes in
-    let sources = map (name_at names) set.nodes in
-    let outputs = map (name_at names) netlist.outputs in
+    let sources = map (node_name names) set.nodes in
+    let outputs = map (node_name names) netlist.outputs in
     let last = gate_statements names netlist.inputs netlist.gates in
     let middle = cut_statements names primary netlist.cuts in
     let nil : last ++ [] ≡ last = append-nil last in

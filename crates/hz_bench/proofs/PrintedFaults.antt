@@ -11,7 +11,7 @@ use Rattle.std.proofs.lemmas.List.Elements.{All-nil, All-cons, All-append, All-m
 use Rattle.std.proofs.lemmas.List.Sums.{sum_by-append, sum_by-cons}
 use Rattle.std.proofs.lemmas.Map.Keys.{apart_from_distinct}
 use Rattle.hz_core.specs.Gate.{takes}
-use Rattle.hz_core.specs.Netlist.{Netlist, Gate as GateOf, IsName, IsCircuit, IsGateAmong, IsWhole, primary_inputs, variable_count}
+use Rattle.hz_core.specs.Netlist.{Netlist, Gate as GateOf, IsName, IsCircuit, IsGateAmong, IsWhole, primary_inputs, variable_count, node_name}
 use Rattle.hz_core.proofs.CircuitLemmas.{takes-from_bounds}
 use Rattle.hz_line.specs.Line.{lines_of}
 use Rattle.hz_line.specs.Statement.{Meaning, Nothing, Malformed, Means}
@@ -20,7 +20,7 @@ use Rattle.hz_bench.specs.declared.fault.BenchFault.TheVariants.{Form, Name, Kin
 use Rattle.hz_bench.specs.Fault.{States, HasThat, Defines, Uses, IsSecond, IsFaultless, IsNetlistRefusal}
 use Rattle.hz_bench.specs.Statement.{InputPort, OutputPort, Statement, Input, Output, FlipFlop, Gate, defined_name, used_names, has_long_name, is_long, statement_variable_count, port_of, has_unknown_kind, has_wrong_pins}
 use Rattle.hz_bench.specs.Text.{bench_meaning, bench_meaning_at, variable_total}
-use Rattle.hz_bench.specs.Printed.{name_at, netlist_text}
+use Rattle.hz_bench.specs.Printed.{netlist_text}
 use Rattle.hz_bench.proofs.PrintedLines.{ports, HasPin, cut_statements, gate_statement, gate_statements, statements_for, IsReadAs, printed-IsReadAs}
 use Rattle.hz_bench.proofs.PrintedCircuit.{IsReadAs-statements, named_from, named_from-drop, set_nodes}
 
@@ -174,24 +174,24 @@ output_sound : (names : List (List ℕ)) (name : List ℕ) → IsName name → C
 output_sound names name is among = record { short = rw (short_name name is) refl; known = refl; pins = refl; uses = All-cons (Contains names) name [] among (All-nil (Contains names)) }
 
 -- a node's name is among the names
-node_among : (names : List (List ℕ)) (node : ℕ) → node < length names → Contains names (name_at names node)
-node_among names node below = (node, below, get_or_default names node (name_at names node) [] below)
+node_among : (names : List (List ℕ)) (node : ℕ) → node < length names → Contains names (node_name names node)
+node_among names node below = (node, below, get_or_default names node (node_name names node) [] below)
 
 gate_sound : (names : List (List ℕ)) (name : List ℕ) (gate : GateOf) → All IsName names → IsName name → IsGateAmong (length names) gate → HasPin gate → IsSound names (gate_statement names name gate)
 gate_sound names name gate named is among some =
-    let sources = All-map IsName (name_at names) gate.sources (λ k d below. named _ [] (among.sources k d below)) in
+    let sources = All-map IsName (node_name names) gate.sources (λ k d below. named _ [] (among.sources k d below)) in
     record {
-      short = rw (short_name name is) (short_names (map (name_at names) gate.sources) sources);
+      short = rw (short_name name is) (short_names (map (node_name names) gate.sources) sources);
       known = refl;
-      pins = ap (λ count. not (takes gate.kind count)) (length-map gate.sources (name_at names)) ∙ ap not (takes-from_bounds gate.kind (length gate.sources) some among.pins);
-      uses = All-map (Contains names) (name_at names) gate.sources (λ k d below. node_among names _ (among.sources k d below));
+      pins = ap (λ count. not (takes gate.kind count)) (length-map gate.sources (node_name names)) ∙ ap not (takes-from_bounds gate.kind (length gate.sources) some among.pins);
+      uses = All-map (Contains names) (node_name names) gate.sources (λ k d below. node_among names _ (among.sources k d below));
     }
 
 gates_sound : (names : List (List ℕ)) (node : ℕ) (gates : List GateOf) → All IsName names → node + length gates ≤ length names → All (IsGateAmong (length names)) gates → All HasPin gates → All (IsSound names) (gate_statements names node gates)
 gates_sound names node [] named room among pins = All-nil (IsSound names)
 gates_sound names node (gate ∷ rest) named room among pins =
-    let first = gate_sound names (name_at names node) gate named (named node [] (omega (arith, room))) (All-head (IsGateAmong (length names)) gate rest among) (All-head HasPin gate rest pins) in
-    All-cons (IsSound names) (gate_statement names (name_at names node) gate) (gate_statements names (suc node) rest) first
+    let first = gate_sound names (node_name names node) gate named (named node [] (omega (arith, room))) (All-head (IsGateAmong (length names)) gate rest among) (All-head HasPin gate rest pins) in
+    All-cons (IsSound names) (gate_statement names (node_name names node) gate) (gate_statements names (suc node) rest) first
     (gates_sound names (suc node) rest named (omega (arith, room)) (All-tail (IsGateAmong (length names)) gate rest among) (All-tail HasPin gate rest pins))
 
 cut_sound : (names : List (List ℕ)) (name source : List ℕ) → IsName name → IsName source → Contains names source → IsSound names (FlipFlop name (source ∷ []))
@@ -203,8 +203,8 @@ cuts_sound names node [] named room below = All-nil (IsSound names)
 cuts_sound names node (source ∷ nodes) named room below =
     let P : ℕ → Type 0 = λ node. node < length names in
     let here = All-head P source nodes below in
-    let first = cut_sound names (name_at names node) (name_at names source) (named node [] (omega (arith, room))) (named source [] here) (node_among names source here) in
-    All-cons (IsSound names) (FlipFlop (name_at names node) (name_at names source ∷ [])) (cut_statements names (suc node) (map Some nodes)) first
+    let first = cut_sound names (node_name names node) (node_name names source) (named node [] (omega (arith, room))) (named source [] here) (node_among names source here) in
+    All-cons (IsSound names) (FlipFlop (node_name names node) (node_name names source ∷ [])) (cut_statements names (suc node) (map Some nodes)) first
     (cuts_sound names (suc node) nodes named (omega (arith, room)) (All-tail P source nodes below))
 
 statements_sound : (netlist : Netlist) → IsCircuit netlist → IsWhole netlist → All (IsSound netlist.names) (statements_for netlist)
@@ -215,12 +215,12 @@ statements_sound netlist circuit whole =
     let set = set_nodes netlist circuit whole in
     let count : length netlist.cuts ≡ length set.nodes = ap length set.are ∙ length-map set.nodes Some in
     let inputs = take primary names in
-    let outputs = map (name_at names) netlist.outputs in
+    let outputs = map (node_name names) netlist.outputs in
     let cuts = cut_statements names primary netlist.cuts in
     let gates = gate_statements names netlist.inputs netlist.gates in
     let named = All-take IsName primary names circuit.names in
     let first = All-map P (λ name. port_of name InputPort) inputs (λ k d below. input_sound names _ (named k d below)) in
-    let second = All-map P (λ name. port_of name OutputPort) outputs (All-map (λ name. P (Output name)) (name_at names) netlist.outputs
+    let second = All-map P (λ name. port_of name OutputPort) outputs (All-map (λ name. P (Output name)) (node_name names) netlist.outputs
     (λ k d below. output_sound names _ (circuit.names _ [] (circuit.outputs k d below)) (node_among names _ (circuit.outputs k d below)))) in
     let third = subst (λ all. All P (cut_statements names primary all)) (sym set.are)
     (cuts_sound names primary set.nodes circuit.names (omega (arith, count, circuit.cuts, circuit.nodes)) set.below) in
@@ -240,11 +240,11 @@ gates_define : (names : List (List ℕ)) (node : ℕ) (gates : List GateOf) → 
 gates_define names node [] all = sym (drop_of_length-le names (omega (arith, all)))
 gates_define names node (gate ∷ rest) all =
     let below : node < length names = omega (arith, all) in
-    ap (λ later. name_at names node ∷ later) (gates_define names (suc node) rest (omega (arith, all))) ∙ sym (drop-cons names node [] below)
+    ap (λ later. node_name names node ∷ later) (gates_define names (suc node) rest (omega (arith, all))) ∙ sym (drop-cons names node [] below)
 
 cuts_define : (names : List (List ℕ)) (node : ℕ) (nodes : List ℕ) → defined_names (cut_statements names node (map Some nodes)) ≡ named_from names node nodes
 cuts_define names node [] = refl
-cuts_define names node (source ∷ nodes) = ap (λ later. name_at names node ∷ later) (cuts_define names (suc node) nodes)
+cuts_define names node (source ∷ nodes) = ap (λ later. node_name names node ∷ later) (cuts_define names (suc node) nodes)
 
 -- the statements of a circuit define the names of its nodes
 nodes_define : (netlist : Netlist) → IsCircuit netlist → IsWhole netlist → defined_names (statements_for netlist) ≡ netlist.names
@@ -255,7 +255,7 @@ nodes_define netlist circuit whole =
     let count : length netlist.cuts ≡ length set.nodes = ap length set.are ∙ length-map set.nodes Some in
     let total : primary + length set.nodes ≡ netlist.inputs = omega (arith, count, circuit.cuts) in
     let inputs = take primary names in
-    let outputs = map (name_at names) netlist.outputs in
+    let outputs = map (node_name names) netlist.outputs in
     let cuts = cut_statements names primary netlist.cuts in
     let gates = gate_statements names netlist.inputs netlist.gates in
     let defined : defined_names cuts ≡ named_from names primary set.nodes = ap (λ all. defined_names (cut_statements names primary all)) set.are ∙ cuts_define names primary set.nodes in
@@ -278,14 +278,14 @@ gates_count : (names : List (List ℕ)) (node : ℕ) (gates : List GateOf) → v
 gates_count names node [] = refl
 gates_count names node (gate ∷ rest) =
     let ih = gates_count names (suc node) rest in
-    let pins = length-map gate.sources (name_at names) in
-    let first = sum_by-cons statement_variable_count (gate_statement names (name_at names node) gate) (gate_statements names (suc node) rest) in
+    let pins = length-map gate.sources (node_name names) in
+    let first = sum_by-cons statement_variable_count (gate_statement names (node_name names node) gate) (gate_statements names (suc node) rest) in
     omega (arith, ih, pins, first, sum_by-cons (λ (gate : GateOf). length gate.sources) gate rest)
 
 cuts_count : (names : List (List ℕ)) (node : ℕ) (nodes : List ℕ) → variable_total (cut_statements names node (map Some nodes)) ≡ length nodes
 cuts_count names node [] = refl
 cuts_count names node (source ∷ nodes) =
-    let first = sum_by-cons statement_variable_count (FlipFlop (name_at names node) (name_at names source ∷ [])) (cut_statements names (suc node) (map Some nodes)) in
+    let first = sum_by-cons statement_variable_count (FlipFlop (node_name names node) (node_name names source ∷ [])) (cut_statements names (suc node) (map Some nodes)) in
     omega (arith, first, cuts_count names (suc node) nodes)
 
 -- they count its variables
@@ -296,7 +296,7 @@ nodes_count netlist circuit whole =
     let set = set_nodes netlist circuit whole in
     let count : length netlist.cuts ≡ length set.nodes = ap length set.are ∙ length-map set.nodes Some in
     let inputs = take primary names in
-    let outputs = map (name_at names) netlist.outputs in
+    let outputs = map (node_name names) netlist.outputs in
     let cuts = cut_statements names primary netlist.cuts in
     let gates = gate_statements names netlist.inputs netlist.gates in
     let first = sum_by-append statement_variable_count (ports InputPort inputs) (ports OutputPort outputs ++ (cuts ++ gates)) in

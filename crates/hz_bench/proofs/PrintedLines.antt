@@ -7,16 +7,16 @@ use Rattle.std.proofs.lemmas.List.Folds.{list_all-append}
 use Rattle.std.proofs.lemmas.List.Elements.{All-head, All-tail, All-take, All-map}
 use Rattle.hz_core.specs.declared.kind.Kind.{Kind}
 use Rattle.hz_core.specs.declared.kind.Kind.TheVariants.{And, Nand, Or, Nor, Xor, Xnor, Not, Buff}
-use Rattle.hz_core.specs.Netlist.{Netlist, Gate as GateOf, IsName, IsCircuit, IsDataAmong, IsGateAmong, IsWhole, primary_inputs}
+use Rattle.hz_core.specs.Netlist.{Netlist, Gate as GateOf, IsName, IsCircuit, IsDataAmong, IsGateAmong, IsWhole, primary_inputs, node_name, is_name_byte}
 use Rattle.hz_line.specs.declared.bytes.Punctuation.TheVariants.{Open, Close, Comma, Equals}
 use Rattle.hz_line.specs.Byte.{class_of, is_word_byte}
 use Rattle.hz_line.specs.Line.{lines_of}
 use Rattle.hz_line.specs.Token.{TokenOf, WordOf, PunctuationOf, tokens_of, with_token, begins_in_word}
 use Rattle.hz_line.specs.Statement.{Meaning, Nothing, Means, meaning_of_tokens}
-use Rattle.hz_line.proofs.WrittenLemmas.{tokens_of-open, tokens_of-close, tokens_of-comma, tokens_of-equals, tokens_of-space, is_word_byte-separators, tokens_of-word_before, is_inline, word_bytes, lines_of-written}
+use Rattle.hz_line.proofs.WrittenLemmas.{tokens_of-open, tokens_of-close, tokens_of-comma, tokens_of-equals, tokens_of-space, is_word_byte-separators, tokens_of-word_before, is_inline, is_word_byte-is, word_bytes, lines_of-written}
 use Rattle.hz_bench.specs.Statement.{Port, InputPort, OutputPort, Statement, Gate, kind_named, port_word, port_of, name_list_of, statement_of, FlipFlop, is_flip_flop}
 use Rattle.hz_bench.specs.Text.{bench_meaning}
-use Rattle.hz_bench.specs.Printed.{name_at, kind_name, port_line, port_lines, cut_line, cut_lines, more_sources, source_list, gate_head, gate_line, gate_texts, netlist_text}
+use Rattle.hz_bench.specs.Printed.{kind_name, port_line, port_lines, cut_line, cut_lines, more_sources, source_list, gate_head, gate_line, gate_texts, netlist_text}
 
 -- a word that stands within a line
 pub record IsWritten (word : List ℕ) : Type 0 where
@@ -26,7 +26,7 @@ pub record IsWritten (word : List ℕ) : Type 0 where
 
 IsWritten-name : (name : List ℕ) → IsName name → IsWritten name
 IsWritten-name name is =
-    let bytes = word_bytes name is.bytes in
+    let bytes = word_bytes is_name_byte is_word_byte-is name is.bytes in
     record { some = omega (arith, is.some); letters = bytes.0; inline = bytes.1 }
 
 IsWritten-kind : (kind : Kind) → IsWritten (kind_name kind)
@@ -143,18 +143,18 @@ name_list_of-further name (next ∷ names) = ap (option_map (λ (rest : List (Li
 abbrev AreNodes : List (List ℕ) → List ℕ → Type 0
 AreNodes names nodes = All (λ node. node < length names) nodes
 
-node_written : (names : List (List ℕ)) (node : ℕ) → All IsName names → node < length names → IsWritten (name_at names node)
-node_written names node named below = IsWritten-name (name_at names node) (named node [] below)
+node_written : (names : List (List ℕ)) (node : ℕ) → All IsName names → node < length names → IsWritten (node_name names node)
+node_written names node named below = IsWritten-name (node_name names node) (named node [] below)
 
 further_begins : (names : List (List ℕ)) (sources : List ℕ) → begins_in_word (more_sources names sources ++ 41 ∷ []) ≡ false
 further_begins names [] = is_word_byte-separators.2
 further_begins names (source ∷ sources) = is_word_byte-separators.3
 
-further_tokens : (names : List (List ℕ)) (sources : List ℕ) → All IsName names → AreNodes names sources → tokens_of (more_sources names sources ++ 41 ∷ []) ≡ Some (further (map (name_at names) sources))
+further_tokens : (names : List (List ℕ)) (sources : List ℕ) → All IsName names → AreNodes names sources → tokens_of (more_sources names sources ++ 41 ∷ []) ≡ Some (further (map (node_name names) sources))
 further_tokens names [] named below = tokens_of-close []
 further_tokens names (source ∷ sources) named below =
     let P : ℕ → Type 0 = λ node. node < length names in
-    let name = name_at names source in
+    let name = node_name names source in
     let rest = more_sources names sources in
     let word = node_written names source named (All-head P source sources below) in
     let ih = further_tokens names sources named (All-tail P source sources below) in
@@ -168,20 +168,20 @@ further_inline names (source ∷ sources) named below =
     let P : ℕ → Type 0 = λ node. node < length names in
     let word = node_written names source named (All-head P source sources below) in
     let ih = further_inline names sources named (All-tail P source sources below) in
-    rw (list_all-append is_inline (name_at names source) (more_sources names sources), word.inline, ih) refl
+    rw (list_all-append is_inline (node_name names source) (more_sources names sources), word.inline, ih) refl
 
 -- the tokens of a list of sources, up to the closing parenthesis, are the names
-sources_tokens : (names : List (List ℕ)) (sources : List ℕ) → All IsName names → AreNodes names sources → 1 ≤ length sources → (tokens : List TokenOf) × (tokens_of (source_list names sources ++ 41 ∷ []) ≡ Some tokens) × (name_list_of tokens ≡ Some (map (name_at names) sources))
+sources_tokens : (names : List (List ℕ)) (sources : List ℕ) → All IsName names → AreNodes names sources → 1 ≤ length sources → (tokens : List TokenOf) × (tokens_of (source_list names sources ++ 41 ∷ []) ≡ Some tokens) × (name_list_of tokens ≡ Some (map (node_name names) sources))
 sources_tokens names [] named below some = absurd (omega arith)
 sources_tokens names (first ∷ rest) named below some =
     let P : ℕ → Type 0 = λ node. node < length names in
-    let name = name_at names first in
+    let name = node_name names first in
     let word = node_written names first named (All-head P first rest below) in (
-      WordOf name ∷ further (map (name_at names) rest),
+      WordOf name ∷ further (map (node_name names) rest),
       ap tokens_of (append_assoc name (more_sources names rest) (41 ∷ []))
           ∙ tokens_of-word_before name (more_sources names rest ++ 41 ∷ []) word.some word.letters (further_begins names rest)
           ∙ ap (with_token (WordOf name)) (further_tokens names rest named (All-tail P first rest below)),
-      name_list_of-further name (map (name_at names) rest),
+      name_list_of-further name (map (node_name names) rest),
     )
 
 sources_inline : (names : List (List ℕ)) (sources : List ℕ) → All IsName names → AreNodes names sources → list_all is_inline (source_list names sources) ≡ true
@@ -189,7 +189,7 @@ sources_inline names [] named below = refl
 sources_inline names (first ∷ rest) named below =
     let P : ℕ → Type 0 = λ node. node < length names in
     let word = node_written names first named (All-head P first rest below) in
-    rw (list_all-append is_inline (name_at names first) (more_sources names rest), word.inline, further_inline names rest named (All-tail P first rest below)) refl
+    rw (list_all-append is_inline (node_name names first) (more_sources names rest), word.inline, further_inline names rest named (All-tail P first rest below)) refl
 
 -- the line of a flip-flop, before its line feed
 abbrev cut_body : List ℕ → List ℕ → List ℕ
@@ -228,7 +228,7 @@ cut_read name source rest first second =
 abbrev pub cut_statements : List (List ℕ) → ℕ → List (Option ℕ) → List Statement
 cut_statements names node [] = []
 cut_statements names node (None ∷ rest) = cut_statements names (suc node) rest
-cut_statements names node (Some source ∷ rest) = FlipFlop (name_at names node) (name_at names source ∷ []) ∷ cut_statements names (suc node) rest
+cut_statements names node (Some source ∷ rest) = FlipFlop (node_name names node) (node_name names source ∷ []) ∷ cut_statements names (suc node) rest
 
 cuts_read : (names : List (List ℕ)) (node : ℕ) (cuts : List (Option ℕ)) (rest : List ℕ) → All IsName names → node + length cuts ≤ length names → All (IsDataAmong (length names)) cuts
     → meanings_of (cut_lines names node cuts ++ rest) ≡ map Means (cut_statements names node cuts) ++ meanings_of rest
@@ -237,10 +237,10 @@ cuts_read names node (None ∷ cuts) rest named room among =
     cuts_read names (suc node) cuts rest named (omega (arith, room)) (All-tail (IsDataAmong (length names)) None cuts among)
 cuts_read names node (Some source ∷ cuts) rest named room among =
     let P = IsDataAmong (length names) in
-    ap meanings_of (append_assoc (cut_line (name_at names node) (name_at names source)) (cut_lines names (suc node) cuts) rest)
-    ∙ cut_read (name_at names node) (name_at names source) (cut_lines names (suc node) cuts ++ rest)
+    ap meanings_of (append_assoc (cut_line (node_name names node) (node_name names source)) (cut_lines names (suc node) cuts) rest)
+    ∙ cut_read (node_name names node) (node_name names source) (cut_lines names (suc node) cuts ++ rest)
     (node_written names node named (omega (arith, room))) (node_written names source named (All-head P (Some source) cuts among))
-    ∙ ap (λ later. Means (FlipFlop (name_at names node) (name_at names source ∷ [])) ∷ later)
+    ∙ ap (λ later. Means (FlipFlop (node_name names node) (node_name names source ∷ [])) ∷ later)
     (cuts_read names (suc node) cuts rest named (omega (arith, room)) (All-tail P (Some source) cuts among))
 
 head_tokens : (name rest : List ℕ) (kind : Kind) → IsWritten name → tokens_of (gate_head name kind ++ rest) ≡ with_token (WordOf name) (with_token (PunctuationOf Equals) (with_token (WordOf (kind_name kind)) (with_token (PunctuationOf Open) (tokens_of rest))))
@@ -271,7 +271,7 @@ gate_split names name gate =
 
 -- a gate as a statement
 abbrev pub gate_statement : List (List ℕ) → List ℕ → GateOf → Statement
-gate_statement names name gate = Gate name (Some gate.kind) (map (name_at names) gate.sources)
+gate_statement names name gate = Gate name (Some gate.kind) (map (node_name names) gate.sources)
 
 gate_meaning : (names : List (List ℕ)) (name : List ℕ) (gate : GateOf) → All IsName names → IsWritten name → AreNodes names gate.sources → 1 ≤ length gate.sources → bench_meaning (gate_body names name gate) ≡ Means (gate_statement names name gate)
 gate_meaning names name gate named written below some =
@@ -293,7 +293,7 @@ gate_read names name rest gate named written below some =
 -- gates as statements, the first of which is this node
 abbrev pub gate_statements : List (List ℕ) → ℕ → List GateOf → List Statement
 gate_statements names node [] = []
-gate_statements names node (gate ∷ rest) = gate_statement names (name_at names node) gate ∷ gate_statements names (suc node) rest
+gate_statements names node (gate ∷ rest) = gate_statement names (node_name names node) gate ∷ gate_statements names (suc node) rest
 
 -- the gate has a pin
 abbrev pub HasPin : GateOf → Type 0
@@ -304,15 +304,15 @@ gates_read names node [] named room among pins = refl
 gates_read names node (gate ∷ rest) named room among pins =
     let written = node_written names node named (omega (arith, room)) in
     let sound = All-head (IsGateAmong (length names)) gate rest among in
-    gate_read names (name_at names node) (gate_texts names (suc node) rest) gate named written sound.sources (All-head HasPin gate rest pins)
-    ∙ ap (λ later. Means (gate_statement names (name_at names node) gate) ∷ later)
+    gate_read names (node_name names node) (gate_texts names (suc node) rest) gate named written sound.sources (All-head HasPin gate rest pins)
+    ∙ ap (λ later. Means (gate_statement names (node_name names node) gate) ∷ later)
     (gates_read names (suc node) rest named (omega (arith, room)) (All-tail (IsGateAmong (length names)) gate rest among) (All-tail HasPin gate rest pins))
 
 -- a circuit as statements: its primary inputs, its outputs, its cuts and its gates
 abbrev pub statements_for : Netlist → List Statement
 statements_for netlist =
     ports InputPort (take (primary_inputs netlist) netlist.names)
-    ++ (ports OutputPort (map (name_at netlist.names) netlist.outputs)
+    ++ (ports OutputPort (map (node_name netlist.names) netlist.outputs)
     ++ (cut_statements netlist.names (primary_inputs netlist) netlist.cuts
     ++ gate_statements netlist.names netlist.inputs netlist.gates))
 
@@ -330,7 +330,7 @@ printed-IsReadAs netlist circuit whole =
     let primary = primary_inputs netlist in
     let end : List (Meaning Statement) = Nothing ∷ [] in
     let inputs = take primary names in
-    let outputs = map (name_at names) netlist.outputs in
+    let outputs = map (node_name names) netlist.outputs in
     let cuts = cut_statements names primary netlist.cuts in
     let gates = gate_statements names netlist.inputs netlist.gates in
     let input_lines = port_lines (codes "INPUT") inputs in
@@ -340,7 +340,7 @@ printed-IsReadAs netlist circuit whole =
     let last = gates_read names netlist.inputs netlist.gates circuit.names (omega (arith, circuit.nodes)) circuit.gates whole.gates in
     let third = cuts_read names primary netlist.cuts gate_text circuit.names (omega (arith, circuit.nodes, circuit.cuts)) circuit.data_nodes
     ∙ ap (λ later. map Means cuts ++ later) last in
-    let outputs_named = All-map IsName (name_at names) netlist.outputs (λ k d below. circuit.names _ [] (circuit.outputs k d below)) in
+    let outputs_named = All-map IsName (node_name names) netlist.outputs (λ k d below. circuit.names _ [] (circuit.outputs k d below)) in
     let second = ports_read (codes "OUTPUT") OutputPort outputs (cut_text ++ gate_text) output_word outputs_named
     ∙ ap (λ later. map Means (ports OutputPort outputs) ++ later) third in
     ap meanings_of (append_assoc (input_lines ++ output_lines) cut_text gate_text ∙ append_assoc input_lines output_lines (cut_text ++ gate_text))

@@ -8,11 +8,13 @@ use Rattle.std.proofs.lemmas.List.{append-nil, at_drop_more, get_or-map}
 use Rattle.std.proofs.lemmas.List.Quantifiers.{position-Some}
 use Rattle.std.proofs.lemmas.Slice.Eq.{bytes_eq-Decides}
 use Rattle.indexmap.proofs.MapLemmas.{some_index}
+use Rattle.hz_core.specs.Least.{option_min}
+use Rattle.hz_core.proofs.LeastLemmas.{option_min-none}
 use Rattle.hz_line.specs.Statement.{Numbered, first_passing_line}
 use Rattle.hz_bench.specs.declared.entry.Entry.{Entry}
 use Rattle.hz_bench.specs.declared.entry.OutputLine.{OutputLine}
 use Rattle.hz_bench.specs.declared.parse.Statements.{Statements}
-use Rattle.hz_bench.specs.Check.{reads_undefined, uses_undefined, earlier_of_lines, first_that}
+use Rattle.hz_bench.specs.Check.{reads_undefined, uses_undefined, first_that}
 use Rattle.hz_bench.specs.Definition.{Table, definer, defined_names, table_names, IsTableOf}
 use Rattle.hz_bench.specs.Entry.{numbered_list, numbered_output, numbered_outputs, statement_list, output_list, waiting_list}
 use Rattle.hz_bench.specs.Netlist.{node_names, output_names, number_in}
@@ -121,10 +123,10 @@ module _ (nodes outputs : List (Numbered Statement)) (lines : Table) (numbers : 
   pub resolved-line : (source output : Option ℕ)
       → source ≡ first_passing_line (λ statement. list_any (is_unnumbered (number_for lines numbers)) (sources_of statement)) nodes
       → output ≡ first_passing_line (λ statement. list_any (is_unnumbered (number_for lines numbers)) (used_names statement)) outputs
-      → earlier_of_lines source output ≡ undefined_line nodes outputs
+      → option_min source output ≡ undefined_line nodes outputs
   resolved-line source output first second =
-      ap (λ one. earlier_of_lines one output) (first ∙ ap (λ (test : List ℕ → Bool). first_passing_line (λ statement. list_any test (sources_of statement)) nodes) same_test)
-      ∙ ap (earlier_of_lines (first_passing_line (reads_undefined nodes) nodes)) (second ∙ ap (λ (test : List ℕ → Bool). first_passing_line (λ statement. list_any test (used_names statement)) outputs) same_test)
+      ap (λ one. option_min one output) (first ∙ ap (λ (test : List ℕ → Bool). first_passing_line (λ statement. list_any test (sources_of statement)) nodes) same_test)
+      ∙ ap (option_min (first_passing_line (reads_undefined nodes) nodes)) (second ∙ ap (λ (test : List ℕ → Bool). first_passing_line (λ statement. list_any test (used_names statement)) outputs) same_test)
 
   -- where there is none, the numbers are those of the nodes
   pub resolved-pins : first_passing_line (λ statement. list_any (is_unnumbered (number_for lines numbers)) (sources_of statement)) nodes ≡ None
@@ -134,13 +136,6 @@ module _ (nodes outputs : List (Numbered Statement)) (lines : Table) (numbers : 
   pub resolved-outputs : first_passing_line (λ statement. list_any (is_unnumbered (number_for lines numbers)) (used_names statement)) outputs ≡ None
       → numbers_of (number_for lines numbers) (output_names (plain outputs)) ≡ map (number_in (node_names (plain nodes))) (output_names (plain outputs))
   resolved-outputs none = output_numbers-known (number_for lines numbers) (node_names (plain nodes)) (known-number nodes lines numbers tells) (plain outputs) (no_line _ outputs none)
-
--- the earlier of two lines is none where both are
-pub earlier-none : (one other : Option ℕ) → earlier_of_lines one other ≡ None → (one ≡ None) × (other ≡ None)
-earlier-none None None h = (refl, refl)
-earlier-none None (Some other) h = cc
-earlier-none (Some one) None h = cc
-earlier-none (Some one) (Some other) h = cc
 
 pub tells-numbers : (entries : List Entry) (lines : Table) (numbers : List ℕ) → IsTableOf (numbered_list entries) lines → table_names lines ≡ defined_names (statement_list entries)
     → numbers ≡ map (number_in (node_names (statement_list entries))) (defined_names (statement_list entries)) → TellsNumbers (numbered_list entries) lines numbers
@@ -154,12 +149,12 @@ pub resolved : (entries : List Entry) (outputs : List OutputLine) (lines : Table
     → output ≡ first_passing_line (λ statement. list_any (is_unnumbered (number_for lines numbers)) (used_names statement)) (numbered_outputs outputs)
     → (source ≡ None → pins ≡ pin_numbers (number_for lines numbers) (statement_list entries))
     → (output ≡ None → found ≡ numbers_of (number_for lines numbers) (output_names (output_list outputs)))
-    → earlier_of_lines source output ≡ None
+    → option_min source output ≡ None
     → (undefined_line (numbered_list entries) (numbered_outputs outputs) ≡ None)
     × (pins ≡ pins_in (node_names (statement_list entries)) (statement_list entries))
     × (found ≡ map (number_in (node_names (statement_list entries))) (output_names (output_list outputs)))
 resolved entries outputs lines numbers pins found source output tells first second pins_are found_are none =
-    let parts = earlier-none source output none in
+    let parts = option_min-none source output none in
     let nodes = numbered_list entries in
     let list = numbered_outputs outputs in
     let same = statement_list-numbered entries in
@@ -175,7 +170,7 @@ resolved entries outputs lines numbers pins found source output tells first seco
 pub unknown-listed : (statements : Statements) → IsTableOf (numbered_list statements.nodes.items) statements.lines → statements.waiting.items ≡ []
     → unknown_line statements ≡ undefined_line (numbered_list statements.nodes.items) (numbered_outputs statements.outputs.items)
 unknown-listed statements table none_waits =
-    ap (λ (missing : List ℕ → Bool). earlier_of_lines (first_passing_line (λ statement. list_any missing (sources_of statement)) (source_statements statements)) (first_passing_line (λ statement. list_any missing (used_names statement)) (numbered_outputs statements.outputs.items)))
+    ap (λ (missing : List ℕ → Bool). option_min (first_passing_line (λ statement. list_any missing (sources_of statement)) (source_statements statements)) (first_passing_line (λ statement. list_any missing (used_names statement)) (numbered_outputs statements.outputs.items)))
     (λ j name. (ap (λ line. not (is_some line)) (table name)) j)
-    ∙ ap (λ list. earlier_of_lines (first_passing_line (reads_undefined (numbered_list statements.nodes.items)) list) (first_passing_line (uses_undefined (numbered_list statements.nodes.items)) (numbered_outputs statements.outputs.items)))
+    ∙ ap (λ list. option_min (first_passing_line (reads_undefined (numbered_list statements.nodes.items)) list) (first_passing_line (uses_undefined (numbered_list statements.nodes.items)) (numbered_outputs statements.outputs.items)))
     (ap (λ waiting. numbered_list statements.nodes.items ++ waiting_list waiting) none_waits ∙ append-nil (numbered_list statements.nodes.items))

@@ -1,5 +1,5 @@
 -- The checks of statements, and the first fault of all in the order of their numbers.
-use Rattle.std.specs.Prelude.{ℕ, min, Bool, not, nat_lt, List, find, Option, Some, None, is_some, if◌then◌else◌}
+use Rattle.std.specs.Prelude.{ℕ, Bool, not, nat_lt, List, find, Option, Some, None, is_some, if◌then◌else◌}
 use Rattle.std.specs.Option.{option_or}
 use Rattle.std.specs.List.{list_any}
 use Rattle.hz_line.specs.Statement.{Numbered}
@@ -40,9 +40,3 @@ first_fault statements =
     (fault_or (λ found. fault.Pins found.line (statement_pin_count found.statement)) (first_that has_wrong_pins statements)
     (fault_or (λ found. fault.Undefined found.line) (first_that (uses_undefined statements) statements)
     (too_many_fault (variable_total_among statements))))))
-
--- the earlier of two lines, where both are there
-abbrev pub earlier_of_lines : Option ℕ → Option ℕ → Option ℕ
-earlier_of_lines None other = other
-earlier_of_lines (Some one) None = Some one
-earlier_of_lines (Some one) (Some other) = Some (min one other)

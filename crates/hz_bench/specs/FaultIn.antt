@@ -2,13 +2,14 @@
 use Rattle.std.specs.Prelude.{ℕ, ◌++◌, Bool, List, Option, Some, option_map}
 use Rattle.std.specs.List.{list_any}
 use Rattle.std.specs.Option.{option_or}
+use Rattle.hz_core.specs.Least.{option_min}
 use Rattle.hz_line.specs.Statement.{Numbered, first_passing_line}
 use Rattle.hz_bench.specs.declared.fault.BenchFault.{BenchFault}
 use Rattle.hz_bench.specs.declared.fault.BenchFault.TheVariants as fault
 use Rattle.hz_bench.specs.declared.notes.Redefinition.{Redefinition}
 use Rattle.hz_bench.specs.declared.notes.WrongPins.{WrongPins}
 use Rattle.hz_bench.specs.declared.parse.Statements.{Statements}
-use Rattle.hz_bench.specs.Check.{earlier_of_lines, too_many_fault}
+use Rattle.hz_bench.specs.Check.{too_many_fault}
 use Rattle.hz_bench.specs.Definition.{Table, is_missing}
 use Rattle.hz_bench.specs.Entry.{numbered_list, numbered_outputs, waiting_list}
 use Rattle.hz_bench.specs.Statement.{Statement, sources_of, used_names}
@@ -39,7 +40,7 @@ unknown_source statements = first_passing_line (reads_missing statements.lines) 
 
 -- the first line, of those that were read, that uses a name which their table does not have
 abbrev pub unknown_line : Statements → Option ℕ
-unknown_line statements = earlier_of_lines (unknown_source statements) (first_passing_line (uses_missing statements.lines) (numbered_outputs statements.outputs.items))
+unknown_line statements = option_min (unknown_source statements) (first_passing_line (uses_missing statements.lines) (numbered_outputs statements.outputs.items))
 
 -- the fault of statements that have no other: an unknown name, or more variables than a circuit has
 abbrev pub last_fault : Statements → Option BenchFault

@@ -4,8 +4,8 @@ ghost use Rattle.std.specs.Prelude.{◌≡◌, ◌++◌, ◌<◌, All, IfOk, OnO
 ghost use Rattle.hz_bench.specs.Fault.{IsFaultless};
 ghost use Rattle.hz_bench.specs.Netlist.{circuit_of_statements};
 ghost use Rattle.hz_bench.specs.Text.{statements_of};
-ghost use Rattle.hz_core.specs.Netlist.{IsCircuit, IsGateNumber, IsWhole, data_of, gate_at, primary_inputs};
-ghost use Rattle.hz_bench.specs.Printed.{cut_line, cut_lines, cut_text, gate_head, gate_line, gate_texts, kind_name, more_sources, name_at, port_line, port_lines, netlist_text, source_list};
+ghost use Rattle.hz_core.specs.Netlist.{IsCircuit, IsGateNumber, IsWhole, data_of, gate_at, primary_inputs, node_name};
+ghost use Rattle.hz_bench.specs.Printed.{cut_line, cut_lines, cut_text, gate_head, gate_line, gate_texts, kind_name, more_sources, port_line, port_lines, netlist_text, source_list};
 
 use hz_core::{Circuit, Kind, Memory};
 use std::alloc::Global;
@@ -44,7 +44,7 @@ fn print_inputs(text: &mut Vec<u8>, circuit: &Circuit) -> Result<(), Memory>
 
 // Prints the outputs.
 fn print_outputs(text: &mut Vec<u8>, circuit: &Circuit) -> Result<(), Memory>
-    ensures { OnOk result (text.new.items ≡ text.old.items ++ port_lines (codes "OUTPUT") (map (name_at circuit.now.names) circuit.now.outputs)) }
+    ensures { OnOk result (text.new.items ≡ text.old.items ++ port_lines (codes "OUTPUT") (map (node_name circuit.now.names) circuit.now.outputs)) }
 {
     let outputs = circuit.outputs();
     for node in outputs {
@@ -60,7 +60,7 @@ fn print_outputs(text: &mut Vec<u8>, circuit: &Circuit) -> Result<(), Memory>
 #[tactic(auto, unfolding(crate::specs::Printed::port_line))]
 fn print_port(text: &mut Vec<u8>, word: &[u8], circuit: &Circuit, node: u32) -> Result<(), Memory>
     requires { node < length circuit.now.names }
-    ensures { OnOk result (text.new.items ≡ text.old.items ++ port_line word.now (name_at circuit.now.names node)) }
+    ensures { OnOk result (text.new.items ≡ text.old.items ++ port_line word.now (node_name circuit.now.names node)) }
 {
     put(text, word)?;
     put(text, b"(")?;
@@ -84,7 +84,7 @@ fn print_cuts(text: &mut Vec<u8>, circuit: &Circuit) -> Result<(), Memory>
 // Prints the line of a cut.
 fn print_cut(text: &mut Vec<u8>, circuit: &Circuit, cut: u32) -> Result<(), Memory>
     requires { cut < circuit.now.inputs }
-    ensures { OnOk result (text.new.items ≡ text.old.items ++ cut_text circuit.now.names (name_at circuit.now.names cut) (data_of circuit.now cut)) }
+    ensures { OnOk result (text.new.items ≡ text.old.items ++ cut_text circuit.now.names (node_name circuit.now.names cut) (data_of circuit.now cut)) }
 {
     match circuit.data_of(cut) {
         Some(node) => print_flip_flop(text, circuit.name(cut), circuit.name(node)),
@@ -120,7 +120,7 @@ fn print_gates(text: &mut Vec<u8>, circuit: &Circuit) -> Result<(), Memory>
 #[tactic(auto, unfolding(crate::specs::Printed::gate_line))]
 fn print_gate(text: &mut Vec<u8>, circuit: &Circuit, gate: u32) -> Result<(), Memory>
     requires { IsGateNumber circuit.now gate }
-    ensures { OnOk result (text.new.items ≡ text.old.items ++ gate_line circuit.now.names (name_at circuit.now.names gate) (gate_at circuit.now gate)) }
+    ensures { OnOk result (text.new.items ≡ text.old.items ++ gate_line circuit.now.names (node_name circuit.now.names gate) (gate_at circuit.now gate)) }
 {
     print_gate_head(text, circuit.name(gate), circuit.kind(gate))?;
     print_sources(text, circuit, circuit.sources(gate))?;
@@ -169,7 +169,7 @@ fn print_rest(text: &mut Vec<u8>, circuit: &Circuit, rest: &[u32]) -> Result<(),
 // Prints a comma, a space and the name of a source.
 fn print_more(text: &mut Vec<u8>, circuit: &Circuit, source: u32) -> Result<(), Memory>
     requires { source < length circuit.now.names }
-    ensures { OnOk result (text.new.items ≡ text.old.items ++ (codes ", " ++ name_at circuit.now.names source)) }
+    ensures { OnOk result (text.new.items ≡ text.old.items ++ (codes ", " ++ node_name circuit.now.names source)) }
 {
     put(text, b", ")?;
     put(text, circuit.name(source))

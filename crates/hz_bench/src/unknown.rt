@@ -13,7 +13,7 @@ use crate::definitions::{Definitions, is_defined};
 use crate::entry::{Entry, OutputLine, Waiting};
 use crate::parse::Statements;
 use crate::statement::punctuated_word;
-use crate::uses::earlier;
+use hz_core::lesser;
 
 /// The first line that uses a name which the table does not have.
 pub(crate) fn first_unknown(statements: &Statements) -> Option<u32>
@@ -21,7 +21,7 @@ pub(crate) fn first_unknown(statements: &Statements) -> Option<u32>
 {
     let source = first_unknown_source(statements);
     let output = first_unknown_output(statements.outputs.as_slice(), &statements.lines);
-    earlier(source, output)
+    lesser(source, output)
 }
 
 // The line of the first flip-flop or gate with a source that the table does not have. Those that wait come after all others.

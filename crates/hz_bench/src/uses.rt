@@ -3,7 +3,6 @@
 ghost use Rattle.std.specs.Prelude.{◌≡◌, ◌<◌, ◌≤◌, ◌^◌, ◌++◌, ◌∷◌, [], false, IfOk, MatchResult, None, length, map, option_map};
 ghost use Rattle.std.specs.List.{list_any};
 ghost use Rattle.hz_line.specs.Statement.{first_passing_line};
-ghost use Rattle.hz_bench.specs.Check.{earlier_of_lines};
 ghost use Rattle.hz_bench.specs.Definition.{defined_names};
 ghost use Rattle.hz_bench.specs.Entry.{statement_of_entry, numbered_list, numbered_outputs, statement_list, output_list};
 ghost use Rattle.hz_bench.specs.Netlist.{input_names, cut_names, node_names, output_names, number_in};
@@ -20,7 +19,7 @@ use crate::forms::Form;
 use crate::notes::Notes;
 use crate::parse::Statements;
 use crate::statement::punctuated_word;
-use hz_core::Memory;
+use hz_core::{Memory, lesser};
 use std::alloc::Global;
 
 /// The nodes that statements use, by their numbers.
@@ -59,20 +58,9 @@ pub(crate) fn resolve(alloc: Global, statements: &Statements) -> Result<Uses, Be
     ) else {
         return Err(BenchFault::Memory);
     };
-    match earlier(source, output) {
+    match lesser(source, output) {
         Some(line) => Err(BenchFault::Undefined { line }),
         None => Ok(uses),
-    }
-}
-
-/// The earlier of two lines, if both are there.
-pub(crate) fn earlier(one: Option<u32>, other: Option<u32>) -> Option<u32>
-    ensures { result ≡ earlier_of_lines one other }
-{
-    match (one, other) {
-        (Some(one), Some(other)) => Some(one.min(other)),
-        (Some(one), None) => Some(one),
-        (None, other) => other,
     }
 }
 

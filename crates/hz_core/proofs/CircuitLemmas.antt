@@ -208,6 +208,28 @@ takes-from_bounds Xnor pins some most = search (rules, nat_tests)
 takes-from_bounds Not pins some most = search (rules, nat_tests)
 takes-from_bounds Buff pins some most = search (rules, nat_tests)
 
+-- and the other way round: a kind takes at least one pin, and no more than its most
+pub bounds-from_takes : (kind : Kind) (pins : ℕ) → takes kind pins ≡ true → (1 ≤ pins) × (pins ≤ most_pins kind)
+bounds-from_takes And pins h = grind (arith, nat_tests, h)
+bounds-from_takes Nand pins h = grind (arith, nat_tests, h)
+bounds-from_takes Or pins h = grind (arith, nat_tests, h)
+bounds-from_takes Nor pins h = grind (arith, nat_tests, h)
+bounds-from_takes Xor pins h = grind (arith, nat_tests, h)
+bounds-from_takes Xnor pins h = grind (arith, nat_tests, h)
+bounds-from_takes Not pins h = grind (arith, nat_tests, h)
+bounds-from_takes Buff pins h = grind (arith, nat_tests, h)
+
+-- no kind takes more than 256 pins
+pub most_pins-bound : (kind : Kind) → most_pins kind ≤ 256
+most_pins-bound And = omega arith
+most_pins-bound Nand = omega arith
+most_pins-bound Or = omega arith
+most_pins-bound Nor = omega arith
+most_pins-bound Xor = omega arith
+most_pins-bound Xnor = omega arith
+most_pins-bound Not = omega arith
+most_pins-bound Buff = omega arith
+
 -- in a whole circuit each gate has a number of pins that its kind takes
 pub takes-from_whole :
     (netlist : Netlist) → IsCircuit netlist → IsWhole netlist →

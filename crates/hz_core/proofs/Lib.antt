@@ -1,3 +1,4 @@
+pub mod LeastLemmas
 pub mod ListLemmas
 pub mod ChainLemmas
 pub mod NameLemmas

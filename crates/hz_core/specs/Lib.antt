@@ -1,5 +1,7 @@
 -- Words, with their arguments, in the order in which one needs them.
 --
+-- IsLeast holds i, IsLeastOf holds found: the least number for which something holds
+-- option_min one other: the lesser of two numbers that may be there
 -- tri_of bit: the ternary value 0 or 1
 -- known_bit value: the bit of a value that is not X
 -- is_unknown value: the value is X
@@ -22,6 +24,7 @@
 -- HasBitOrSwitch kind value found: one of these two, which the answer tells
 -- Netlist: a circuit by its names, inputs, cuts, gates and outputs
 -- IsName name: 1 to 255 bytes that may stand in a name
+-- node_name names node: the name of a node
 -- node_named netlist name: the node with this name
 -- gate_at netlist node: the gate with this number
 -- IsGateNumber netlist node, IsCutNumber netlist node, IsPrimaryInput netlist node: what a node is
@@ -33,6 +36,7 @@
 -- AreLinked count links: each entry of a hash table is linked to the one before it in its bucket
 -- netlist_of_fields fields, HoldsCircuit fields: the circuit that the fields of the code's Circuit stand for
 
+pub mod Least
 pub mod Ternary
 pub mod Gate
 pub mod Extension

@@ -74,6 +74,10 @@ IsGateNumber netlist node = (netlist.inputs ≤ node) × (node < length netlist.
 abbrev pub gate_at : Netlist → ℕ → Gate
 gate_at netlist node = slice_index_or netlist.gates (node - netlist.inputs) (record { kind = And; sources = [] })
 
+-- the name of a node, by the list of names
+abbrev pub node_name : List (List ℕ) → ℕ → List ℕ
+node_name names node = slice_index_or names node []
+
 -- the node with this name, if there is one
 abbrev pub node_named : Netlist → List ℕ → Option ℕ
 node_named netlist name = position (bytes_eq name) netlist.names

@@ -3,6 +3,7 @@ use Rattle.std.proofs.Common.{◌≡◌, ℕ, zero, suc, ◌+◌, ◌<◌, ◌�
 use Rattle.std.specs.Prelude.{Contains}
 use Rattle.std.proofs.lemmas.Bool.{cases_Bool, cases_eq, cases_lt, or_cases, both_ways, eqb-true}
 use Rattle.std.proofs.lemmas.List.Elements.{All-cons, All-nil}
+use Rattle.hz_core.specs.Least.{IsLeast}
 use Rattle.hz_net.specs.Network.{Driver, External, Function, Source, driver_at}
 use Rattle.hz_net.specs.Reads.{Reads, IsWired}
 use Rattle.hz_gmw.specs.Runs.{is_listed, IsRepeatFree}
@@ -63,10 +64,6 @@ reads-or-not (Function kind first pins) j =
     ]
 
 -- the least number below a bound with a property, or none
-record IsLeast (Has : ℕ → Type 0) (j : ℕ) : Type 0 where
-  has : Has j
-  least : (k : ℕ) → k < j → Has k → ⊥
-
 least-search : (Has : ℕ → Type 0) → ((j : ℕ) → Has j ⊎ (Has j → ⊥)) → (below : ℕ) → ((j : ℕ) × IsLeast Has j) ⊎ ((j : ℕ) → j < below → Has j → ⊥)
 least-search Has each zero = inr (λ j few has. absurd (omega arith))
 least-search Has each (suc below) =
@@ -74,7 +71,7 @@ least-search Has each (suc below) =
       | inl found ↦ inl found
       | inr none ↦
           elim (each below) [
-            | inl here ↦ inl (below, record { has = here; least = none })
+            | inl here ↦ inl (below, record { here = here; least = λ j has. elim (cases_lt j below) [ inl less ↦ absurd (none j less has) | inr from ↦ from ] })
             | inr not_here ↦
                 inr (
                 λ j few has.
@@ -168,13 +165,13 @@ module _ (net : List Driver) (wired : IsWired net) where
             inl (
               found.0,
               record {
-                reads = found.1.has.0;
-                feeds = found.1.has.1;
+                reads = found.1.here.0;
+                feeds = found.1.here.1;
                 first =
                     λ other less reads.
                     elim (free-or-not other) [
                       | inl free ↦ free
-                      | inr not_free ↦ absurd (found.1.least other less (reads, not_free))
+                      | inr not_free ↦ let from = found.1.least other (reads, not_free) in absurd (omega (arith, less, from))
                     ];
               },
             )

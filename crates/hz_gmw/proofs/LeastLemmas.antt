@@ -1,5 +1,5 @@
 -- The least of listed numbers that pass a test, and the least that is listed twice.
-use Rattle.std.proofs.Common.{◌≡◌, ◌≢◌, ℕ, zero, suc, ◌+◌, ◌<◌, ◌≤◌, ◌⊎◌, Bool, true, false, cond, ◌||◌, List, [], ◌∷◌, ◌++◌, length, get_or, set, min, Option, Some, None, All, IsTrue, refl, sym, ap, ◌∙◌, subst, arith, inl, inr}
+use Rattle.std.proofs.Common.{◌≡◌, ◌≢◌, ℕ, zero, suc, ◌+◌, ◌<◌, ◌≤◌, ◌⊎◌, Bool, true, false, cond, ◌||◌, List, [], ◌∷◌, ◌++◌, length, get_or, set, Option, Some, None, All, IsTrue, refl, sym, ap, ◌∙◌, subst, arith, inl, inr}
 use Rattle.std.specs.Prelude.{nat_eq, Contains}
 use Rattle.std.proofs.lemmas.Bool.{cases_lt, cases_eq, cases_Bool, false≢true, eq-eqb, eqb-true, ne_eqb, or_left, or_right, or_cases, cond-true, cond-false, false_from_ne_true}
 use Rattle.std.proofs.lemmas.List.{append-nil, append_assoc, length-set, get_or-set_same, get_or-set_other}
@@ -7,7 +7,9 @@ use Rattle.std.proofs.lemmas.List.Elements.{All-head, All-tail}
 use Rattle.std.proofs.lemmas.List.Sums.{sum_by-cons, sum_by_push}
 use Rattle.hz_net.specs.Network.{bit_at}
 use Rattle.hz_gmw.specs.Runs.{is_listed, IsRepeatFree}
-use Rattle.hz_gmw.specs.Least.{IsLeast, IsLeastOf, min_with, least_from, least_repeat}
+use Rattle.hz_core.specs.Least.{IsLeast, IsLeastOf, option_min}
+use Rattle.hz_core.proofs.LeastLemmas.{IsLeastOf-same, IsLeastOf-either}
+use Rattle.hz_gmw.specs.LeastListed.{least_from, least_repeat}
 use Rattle.hz_gmw.specs.ReplayFaults.{times_listed}
 
 pub listed-head : (i x : ℕ) (list : List ℕ) → i ≡ x → is_listed (x ∷ list) i ≡ true
@@ -53,24 +55,9 @@ All-listed P (x ∷ list) i all there = elim (listed-cases i x list there) [
   | inr rest ↦ All-listed P list i (All-tail P x list all) rest
 ]
 
--- the least of two properties that hold for the same numbers
-pub IsLeastOf-same : (P Q : ℕ → Type 0) (found : Option ℕ) → ((i : ℕ) → P i → Q i) → ((i : ℕ) → Q i → P i) → IsLeastOf P found → IsLeastOf Q found
-IsLeastOf-same P Q None to back none = λ i q. none i (back i q)
-IsLeastOf-same P Q (Some i) to back is = record { here = to i is.here; least = λ j q. is.least j (back j q) }
-
 -- one number more
-IsLeastOf-lesser : (P : ℕ → Type 0) (found : Option ℕ) (x : ℕ) → IsLeastOf P found → IsLeastOf (λ i. P i ⊎ (i ≡ x)) (min_with found x)
-IsLeastOf-lesser P None x none = record { here = inr refl; least = λ j h. elim h [ inl p ↦ absurd (none j p) | inr e ↦ omega (arith, e) ] }
-IsLeastOf-lesser P (Some least) x is = elim (cases_lt x least) [
-  | inl lt ↦ (
-      let m : min least x ≡ x = omega (arith, lt) in
-      record { here = inr m; least = λ j h. elim h [ inl p ↦ (let below = is.least j p in omega (arith, lt, below)) | inr e ↦ omega (arith, e) ] }
-      )
-  | inr ge ↦ (
-      let m : min least x ≡ least = omega (arith, ge) in
-      record { here = inl (subst P (sym m) is.here); least = λ j h. elim h [ inl p ↦ (let below = is.least j p in omega (arith, below)) | inr e ↦ omega (arith, e) ] }
-      )
-]
+IsLeastOf-lesser : (P : ℕ → Type 0) (found : Option ℕ) (x : ℕ) → IsLeastOf P found → IsLeastOf (λ i. P i ⊎ (i ≡ x)) (option_min found (Some x))
+IsLeastOf-lesser P found x is = IsLeastOf-either P (λ i. i ≡ x) found (Some x) is (record { here = refl; least = λ j e. omega (arith, e) })
 
 -- what is listed and passes, or was there before
 abbrev Among : (ℕ → Type 0) → (ℕ → Bool) → List ℕ → ℕ → Type 0
@@ -102,8 +89,8 @@ among-rest P test x list fails i (inr h) = elim (listed-cases i x list h.0) [
 least-among : (P : ℕ → Type 0) (test : ℕ → Bool) (found : Option ℕ) (list : List ℕ) → IsLeastOf P found → IsLeastOf (Among P test list) (least_from found test list)
 least-among P test found [] is = IsLeastOf-same P (Among P test []) found (λ i p. inl p) (λ i h. elim h [ inl p ↦ p | inr none ↦ absurd (false≢true none.0) ]) is
 least-among P test found (x ∷ list) is = elim (cases_Bool (test x)) [
-  | inl passes ↦ subst (λ (f : Option ℕ). IsLeastOf (Among P test (x ∷ list)) (least_from f test list)) (sym (cond-true (test x) (min_with found x) found passes)) (IsLeastOf-same (Among (λ j. P j ⊎ (j ≡ x)) test list) (Among P test (x ∷ list)) (least_from (min_with found x) test list) (among-head P test x list passes) (among-split P test x list) (least-among (λ j. P j ⊎ (j ≡ x)) test (min_with found x) list (IsLeastOf-lesser P found x is)))
-  | inr fails ↦ subst (λ (f : Option ℕ). IsLeastOf (Among P test (x ∷ list)) (least_from f test list)) (sym (cond-false (test x) (min_with found x) found fails)) (IsLeastOf-same (Among P test list) (Among P test (x ∷ list)) (least_from found test list) (among-later P test x list) (among-rest P test x list fails) (least-among P test found list is))
+  | inl passes ↦ subst (λ (f : Option ℕ). IsLeastOf (Among P test (x ∷ list)) (least_from f test list)) (sym (cond-true (test x) (option_min found (Some x)) found passes)) (IsLeastOf-same (Among (λ j. P j ⊎ (j ≡ x)) test list) (Among P test (x ∷ list)) (least_from (option_min found (Some x)) test list) (among-head P test x list passes) (among-split P test x list) (least-among (λ j. P j ⊎ (j ≡ x)) test (option_min found (Some x)) list (IsLeastOf-lesser P found x is)))
+  | inr fails ↦ subst (λ (f : Option ℕ). IsLeastOf (Among P test (x ∷ list)) (least_from f test list)) (sym (cond-false (test x) (option_min found (Some x)) found fails)) (IsLeastOf-same (Among P test list) (Among P test (x ∷ list)) (least_from found test list) (among-later P test x list) (among-rest P test x list fails) (least-among P test found list is))
 ]
 
 -- the least listed number that passes
@@ -225,13 +212,13 @@ again-among earlier (x ∷ list) found named are all is =
     (elim (cases_Bool (bit_at named x)) [
       | inl again ↦ (
           let there : is_listed earlier x ≡ true = sym (are x within) ∙ again in
-          subst (λ (f : Option ℕ). IsLeastOf (λ i. 2 ≤ times_listed (next ++ list) i) (least_repeat f (set named x true) list)) (sym (cond-true (bit_at named x) (min_with found x) found again))
-          (again-among next list (min_with found x) (set named x true) (named-more earlier named x within are) rest
-          (IsLeastOf-same (λ i. (2 ≤ times_listed earlier i) ⊎ (i ≡ x)) (λ i. 2 ≤ times_listed next i) (min_with found x) (twice-more earlier x there) (twice-split earlier x) (IsLeastOf-lesser (λ i. 2 ≤ times_listed earlier i) found x is)))
+          subst (λ (f : Option ℕ). IsLeastOf (λ i. 2 ≤ times_listed (next ++ list) i) (least_repeat f (set named x true) list)) (sym (cond-true (bit_at named x) (option_min found (Some x)) found again))
+          (again-among next list (option_min found (Some x)) (set named x true) (named-more earlier named x within are) rest
+          (IsLeastOf-same (λ i. (2 ≤ times_listed earlier i) ⊎ (i ≡ x)) (λ i. 2 ≤ times_listed next i) (option_min found (Some x)) (twice-more earlier x there) (twice-split earlier x) (IsLeastOf-lesser (λ i. 2 ≤ times_listed earlier i) found x is)))
           )
       | inr fresh ↦ (
           let missing : is_listed earlier x ≡ false = sym (are x within) ∙ fresh in
-          subst (λ (f : Option ℕ). IsLeastOf (λ i. 2 ≤ times_listed (next ++ list) i) (least_repeat f (set named x true) list)) (sym (cond-false (bit_at named x) (min_with found x) found fresh))
+          subst (λ (f : Option ℕ). IsLeastOf (λ i. 2 ≤ times_listed (next ++ list) i) (least_repeat f (set named x true) list)) (sym (cond-false (bit_at named x) (option_min found (Some x)) found fresh))
           (again-among next list found (set named x true) (named-more earlier named x within are) rest
           (IsLeastOf-same (λ i. 2 ≤ times_listed earlier i) (λ i. 2 ≤ times_listed next i) found (λ i twice. omega (arith, twice, times_listed-push i x earlier)) (twice-before earlier x missing) is))
           )

@@ -9,7 +9,8 @@ use Rattle.hz_core.specs.Netlist.{Netlist}
 use Rattle.hz_gmw.specs.Runs.{is_listed, IsStep, state_after, end_of}
 use Rattle.hz_gmw.specs.Cycles.{WaitsAt, IsNontransient}
 use Rattle.hz_gmw.specs.Instability.{is_unstable, unstable_variables, unstable_count}
-use Rattle.hz_gmw.specs.Least.{IsLeast, IsLeastOf, least_from}
+use Rattle.hz_core.specs.Least.{IsLeast, IsLeastOf}
+use Rattle.hz_gmw.specs.LeastListed.{least_from}
 use Rattle.hz_gmw.specs.Replayer.{Replayer, StandsFor, replayer_at, watched_after, replayer_after}
 use Rattle.hz_gmw.specs.ReplayFaults.{times_listed, IsStepFault, IsCycleFault}
 use Rattle.hz_gmw.specs.declared.replay_fault.StepFault.{StepFault}
@@ -21,7 +22,8 @@ use Rattle.hz_gmw.specs.CurrentState.{with_marks, with_bits_of}
 use Rattle.hz_gmw.proofs.Flips.{length-state_after, at-state_after}
 use Rattle.hz_gmw.proofs.Paths.{end_of-append, IsRun-append}
 use Rattle.hz_gmw.proofs.CoverB.{length-end_of}
-use Rattle.hz_gmw.proofs.LeastLemmas.{listed-other, All-listed, IsLeastOf-same, least-listed, IsRepeatFree-times_listed, times_listed-IsRepeatFree}
+use Rattle.hz_core.proofs.LeastLemmas.{IsLeastOf-same}
+use Rattle.hz_gmw.proofs.LeastLemmas.{listed-other, All-listed, least-listed, IsRepeatFree-times_listed, times_listed-IsRepeatFree}
 use Rattle.hz_gmw.proofs.Bits.{beq-same, beq-refl}
 use Rattle.hz_gmw.proofs.Counting.{weight}
 use Rattle.hz_gmw.proofs.Counts.{one-bound}

@@ -3,7 +3,7 @@ use Rattle.std.specs.Prelude.{◌≡◌, ◌≢◌, ℕ, ◌<◌, ◌≤◌, Boo
 use Rattle.hz_net.specs.Network.{Driver, bit_at, excitation, IsUnstable}
 use Rattle.hz_gmw.specs.Runs.{is_listed, IsRepeatFree, end_of}
 use Rattle.hz_gmw.specs.Cycles.{WaitsAt}
-use Rattle.hz_gmw.specs.Least.{IsLeast}
+use Rattle.hz_core.specs.Least.{IsLeast}
 use Rattle.hz_gmw.specs.declared.replay_fault.StepFault.{StepFault}
 use Rattle.hz_gmw.specs.declared.replay_fault.StepFault.TheVariants.{Empty, Repeated, Stable}
 use Rattle.hz_gmw.specs.declared.replay_fault.CycleFault.{CycleFault}

@@ -17,12 +17,11 @@ ghost use Rattle.hz_net.specs.Reads.{IsWireInto};
 ghost use Rattle.hz_net.specs.Variables.{fan_out_of};
 ghost use Rattle.hz_gmw.specs.Runs.{is_listed, IsRepeatFree, state_after};
 ghost use Rattle.hz_gmw.specs.Instability.{is_unstable, unstable_count};
-ghost use Rattle.hz_gmw.specs.Least.{least_from};
+ghost use Rattle.hz_gmw.specs.LeastListed.{least_from};
 ghost use Rattle.hz_gmw.specs.CurrentState.{IsKindAt};
 
-use crate::least::lesser;
 use crate::ones::value_of_ones;
-use hz_core::Memory;
+use hz_core::{Memory, lesser};
 use hz_net::{Net, VarKind};
 use std::alloc::Global;
 
@@ -142,7 +141,7 @@ impl CurrentState {
         let mut found = None;
         for var in list {
             if !self.is_unstable(net, *var) {
-                found = lesser(found, *var);
+                found = lesser(found, Some(*var));
             }
         }
         found

@@ -2,19 +2,10 @@
 ghost use Rattle.std.specs.Prelude.{◌≡◌, ◌<◌, ℕ, Option, All, None, Bool, true, false, not, length, replicate};
 ghost use Rattle.std.specs.Bool.{beq};
 ghost use Rattle.hz_net.specs.Network.{bit_at};
-ghost use Rattle.hz_gmw.specs.Least.{min_with, least_from, least_repeat};
+ghost use Rattle.hz_gmw.specs.LeastListed.{least_from, least_repeat};
 
 use crate::variable_set::VariableSet;
-
-// The lesser of a variable and one that was found before.
-pub(crate) fn lesser(found: Option<u32>, var: u32) -> Option<u32>
-    ensures { result ≡ min_with found var }
-{
-    match found {
-        Some(least) => Some(least.min(var)),
-        None => Some(var),
-    }
-}
+use hz_core::lesser;
 
 // The least listed variable at which two states differ.
 pub(crate) fn least_differing(list: &[u32], left: &[bool], right: &[bool]) -> Option<u32>
@@ -25,7 +16,7 @@ pub(crate) fn least_differing(list: &[u32], left: &[bool], right: &[bool]) -> Op
     let mut found = None;
     for var in list {
         if left[*var as usize] != right[*var as usize] {
-            found = lesser(found, *var);
+            found = lesser(found, Some(*var));
         }
     }
     found
@@ -41,7 +32,7 @@ pub(crate) fn least_repeated(list: &[u32], named: &mut VariableSet) -> Option<u3
     let mut found = None;
     for var in list {
         if named.contains(*var) {
-            found = lesser(found, *var);
+            found = lesser(found, Some(*var));
         }
         named.insert(*var);
     }

@@ -8,8 +8,8 @@ use Rattle.std.proofs.lemmas.Bool.Decides.{nat_tests}
 use Rattle.std.proofs.lemmas.Bool.{cases_lt, ltb-false}
 use Rattle.std.specs.Prelude.{◌⊎◌}
 use Rattle.std.proofs.lemmas.Option.{same_Some}
-use Rattle.hz_core.specs.Netlist.{Netlist, node_named, primary_inputs}
-use Rattle.hz_gmw.specs.Least.{IsLeastOf}
+use Rattle.hz_core.specs.Netlist.{Netlist, node_named, primary_inputs, node_name}
+use Rattle.hz_core.specs.Least.{IsLeastOf}
 use Rattle.hz_line.specs.Line.{lines_of}
 use Rattle.hz_line.specs.Statement.{Numbered, PassesOn, first_passing_line, numbered_statements, first_malformed}
 use Rattle.hz_line.proofs.StatementLemmas.{Ascends, numbered_from-Ascends, PassesOn-above, first_passing_line-Some, first_passing_line-None, numbered_from-map}
@@ -158,17 +158,17 @@ line_beyond-ordered (first ∷ later) h =
 -- names of nodes are equal where the nodes are
 pub name-eq : (netlist : Netlist) (a b : List ℕ) (i j : ℕ) → node_named netlist a ≡ Some i → node_named netlist b ≡ Some j → nat_eq i j ≡ bytes_eq a b
 name-eq netlist a b i j ea eb =
-    let at = λ (name : List ℕ) (k : ℕ) (e : node_named netlist name ≡ Some k). (bytes_eq-Decides name (get_or netlist.names k [])).0 (position-Some (bytes_eq name) netlist.names k [] e).1 in
+    let at = λ (name : List ℕ) (k : ℕ) (e : node_named netlist name ≡ Some k). (bytes_eq-Decides name (node_name netlist.names k)).0 (position-Some (bytes_eq name) netlist.names k [] e).1 in
     by_test (bytes_eq a b) refl (at a i ea) (at b j eb)
   where
-    other : (t : Bool) → nat_eq i j ≡ t → bytes_eq a b ≡ false → a ≡ get_or netlist.names i [] → b ≡ get_or netlist.names j [] → t ≡ false
+    other : (t : Bool) → nat_eq i j ≡ t → bytes_eq a b ≡ false → a ≡ node_name netlist.names i → b ≡ node_name netlist.names j → t ≡ false
     other false t e na nb = refl
     other true t e na nb =
         let nodes : i ≡ j = grind (arith, nat_tests, t) in
-        let same : a ≡ b = na ∙ ap (λ k. get_or netlist.names k []) nodes ∙ sym nb in
+        let same : a ≡ b = na ∙ ap (λ k. node_name netlist.names k) nodes ∙ sym nb in
         let wrong : true ≡ false = sym ((bytes_eq-Decides a b).1 same) ∙ e in cc
 
-    by_test : (r : Bool) → bytes_eq a b ≡ r → a ≡ get_or netlist.names i [] → b ≡ get_or netlist.names j [] → nat_eq i j ≡ r
+    by_test : (r : Bool) → bytes_eq a b ≡ r → a ≡ node_name netlist.names i → b ≡ node_name netlist.names j → nat_eq i j ≡ r
     by_test true e na nb =
         let same : a ≡ b = (bytes_eq-Decides a b).0 e in
         let nodes : i ≡ j = same_Some i j (sym ea ∙ ap (node_named netlist) same ∙ eb) in

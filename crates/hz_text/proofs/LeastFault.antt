@@ -5,7 +5,7 @@ use Rattle.std.specs.Prelude.{◌⊎◌, ◌==◌, if◌then◌else◌, IfOk, Ma
 use Rattle.std.proofs.lemmas.Bool.{cases_lt, cases_eq}
 use Rattle.std.proofs.lemmas.Bool.Decides.{nat_tests}
 use Rattle.std.proofs.lemmas.Option.{same_Some, none-some}
-use Rattle.hz_gmw.specs.Least.{IsLeastOf}
+use Rattle.hz_core.specs.Least.{IsLeastOf}
 use Rattle.hz_line.specs.Reading.{AreStatementsOf}
 use Rattle.hz_line.specs.Token.{TokenOf}
 use Rattle.hz_line.specs.Statement.{Numbered, PassesOn, first_passing_line}
@@ -15,7 +15,6 @@ use Rattle.hz_text.specs.declared.fault.TextFault.TheVariants.{Form, Unknown, Tw
 use Rattle.hz_text.specs.declared.fault.Mismatch.{Mismatch as Wrong}
 use Rattle.hz_text.specs.Fault.{fault_number, place_of, ComesFirst, IsLeastFaultOf, IsLeastFaultOrMemory}
 use Rattle.hz_text.specs.Rules.{Rules, mismatch_at, first_fault_in, first_fault_of, IsFaultOrMemory, IsChecked}
-use Rattle.hz_text.specs.RunRules.{option_min}
 
 -- no fault with a number below this one stands
 abbrev pub NoneBelow : (TextFault → Type 0) → ℕ → Type 0
@@ -164,21 +163,6 @@ answers_first test statements (Some line) up e = let is = first_passing_line-Som
 pub answers_itself : (answer : Option ℕ) → IsLeastOf (λ place. answer ≡ Some place) answer
 answers_itself None = λ place e. none-some place e
 answers_itself (Some least) = record { here = refl; least = λ place e. omega (arith, same_Some least place e) }
-
--- the lesser of two answers
-pub answers_either : (first second : ℕ → Type 0) (a b : Option ℕ) → IsLeastOf first a → IsLeastOf second b → IsLeastOf (λ place. first place ⊎ second place) (option_min a b)
-answers_either first second None None p q = λ place h. elim h [ inl l ↦ p place l | inr r ↦ q place r ]
-answers_either first second None (Some b) p q = record { here = inr q.here; least = λ place h. elim h [ inl l ↦ absurd (p place l) | inr r ↦ q.least place r ] }
-answers_either first second (Some a) None p q = record { here = inl p.here; least = λ place h. elim h [ inl l ↦ p.least place l | inr r ↦ absurd (q place r) ] }
-answers_either first second (Some a) (Some b) p q = by_test (nat_le a b) refl
-  where
-    by_test : (test : Bool) → nat_le a b ≡ test → IsLeastOf (λ place. first place ⊎ second place) (cond test (Some a) (Some b))
-    by_test true t =
-        let low : a ≤ b = grind (arith, nat_tests, t) in
-        record { here = inl p.here; least = λ place h. elim h [ inl l ↦ p.least place l | inr r ↦ omega (arith, low, q.least place r) ] }
-    by_test false t =
-        let low : b ≤ a = grind (arith, nat_tests, t) in
-        record { here = inr q.here; least = λ place h. elim h [ inl l ↦ omega (arith, low, p.least place l) | inr r ↦ q.least place r ] }
 
 -- a fault by the number of those that carry counts
 is_mismatch : (fault : TextFault) → fault_number fault ≡ 9 → fault ≡ Mismatch (place_of fault) (told_of fault) (real_of fault)

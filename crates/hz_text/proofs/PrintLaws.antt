@@ -1,6 +1,6 @@
 -- A printed script has no fault, and stands for the script.
 use Rattle.std.proofs.Common.{◌≡◌, ◌∙◌, ℕ, ◌+◌, ◌<◌, ◌≤◌, Bool, true, false, not, ◌||◌, cond, nat_eq, nat_le, ltb, List, [], ◌∷◌, Option, Some, None, zero, suc, length, get_or, map, codes, refl, ap, sym, subst, arith, zero-add}
-use Rattle.std.specs.List.{list_any, flat_map, slice_index_or, position, range_with_len, All}
+use Rattle.std.specs.List.{list_any, flat_map, position, range_with_len, All}
 use Rattle.std.specs.Option.{option_map, IsSome}
 use Rattle.std.specs.Str.{bytes_eq}
 use Rattle.std.proofs.lemmas.Bool.Decides.{nat_tests}
@@ -11,7 +11,7 @@ use Rattle.std.proofs.lemmas.List.Sums.{position_or_len_is}
 use Rattle.std.proofs.lemmas.Map.Keys.{apart_from_distinct}
 use Rattle.std.proofs.lemmas.Option.{slice_get_past}
 use Rattle.std.proofs.lemmas.Slice.Eq.{bytes_eq-Decides}
-use Rattle.hz_core.specs.Netlist.{Netlist, IsCircuit, node_named, primary_inputs}
+use Rattle.hz_core.specs.Netlist.{Netlist, IsCircuit, node_named, primary_inputs, node_name}
 use Rattle.hz_line.specs.Line.{lines_of}
 use Rattle.hz_line.specs.Statement.{Numbered, numbered_from, first_passing_line, first_malformed}
 use Rattle.hz_line.proofs.StatementLemmas.{first_malformed-map}
@@ -39,10 +39,10 @@ bytes_eq-flip a b h = by_test (bytes_eq b a) refl
     by_test true e = let wrong : true ≡ false = sym ((bytes_eq-Decides a b).1 (sym ((bytes_eq-Decides b a).0 e))) ∙ h in cc
 
 -- a node is found by its name
-pub node_at : (netlist : Netlist) (node : ℕ) → IsCircuit netlist → node < length netlist.names → node_named netlist (slice_index_or netlist.names node []) ≡ Some node
+pub node_at : (netlist : Netlist) (node : ℕ) → IsCircuit netlist → node < length netlist.names → node_named netlist (node_name netlist.names node) ≡ Some node
 node_at netlist node whole l =
-    let name = slice_index_or netlist.names node [] in
-    let at = position_or_len_is (bytes_eq name) netlist.names node [] (omega arith) (λ k h. bytes_eq-flip (get_or netlist.names k []) name (apart_from_distinct bytes_eq netlist.names k node [] whole.names_distinct h l)) (λ h. (bytes_eq-Decides name name).1 refl) in
+    let name = node_name netlist.names node in
+    let at = position_or_len_is (bytes_eq name) netlist.names node [] (omega arith) (λ k h. bytes_eq-flip (node_name netlist.names k) name (apart_from_distinct bytes_eq netlist.names k node [] whole.names_distinct h l)) (λ h. (bytes_eq-Decides name name).1 refl) in
     let within : ltb node (length netlist.names) ≡ true = grind (arith, nat_tests, l) in
     rw (at, within) refl
 

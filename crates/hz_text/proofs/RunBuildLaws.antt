@@ -7,6 +7,7 @@ use Rattle.std.proofs.lemmas.List.{append-nil, map_push, length-map, drop_more, 
 use Rattle.std.proofs.lemmas.List.Elements.{All-nil, All-cons, All-tail}
 use Rattle.std.proofs.lemmas.List.FromFn.{length-range_with_len, get_or-map-range_with_len}
 use Rattle.std.proofs.lemmas.Grind.{flat_map-append}
+use Rattle.hz_core.proofs.LeastLemmas.{option_min-none}
 use Rattle.hz_core.specs.Netlist.{Netlist}
 use Rattle.hz_line.specs.Statement.{Numbered, first_passing_line}
 use Rattle.hz_text.specs.declared.run.order.Place.{Place}
@@ -23,7 +24,7 @@ use Rattle.hz_text.specs.RunValue.{RunOf, with_step_in, with_step}
 use Rattle.hz_text.specs.RunFault.{version_in, assignments_in, variables_in, names_unknown, lacks_bit, is_start_line, is_input_line, first_start, first_input}
 use Rattle.hz_text.specs.OrderPass.{is_net_line, is_end}
 use Rattle.hz_text.specs.OrderPass.{place_after, end_out_of_order, runs_out_of_order, out_of_order_with, start_out_of_order, input_out_of_order, net_out_of_order, version_out_of_order, first_misplaced}
-use Rattle.hz_text.specs.RunRules.{beyond_from, AssignsBelow, names_node_twice, least_left_out, option_min, least_missing_node, first_run_fault}
+use Rattle.hz_text.specs.RunRules.{beyond_from, AssignsBelow, names_node_twice, least_left_out, least_missing_node, first_run_fault}
 use Rattle.hz_text.specs.RunText.{step_of, run_statements}
 use Rattle.hz_text.specs.RunOrder.{header_lines, statements_without_lines}
 use Rattle.hz_text.specs.RunBuilt.{after_version, after_header, place_in, last_place, IsRunAdded}
@@ -289,15 +290,6 @@ pub record IsClearRun (netlist : Netlist) (statements : List (Numbered ResolvedR
   pub order : first_misplaced statements ≡ None
   pub few : beyond_from 0 0 statements ≡ None
 
-neither : (first second : Option ℕ) → option_min first second ≡ None → (first ≡ None) × (second ≡ None)
-neither None second e = (refl, e)
-neither (Some first) None e = cc
-neither (Some first) (Some second) e = by_test (nat_le first second) e
-  where
-    by_test : (b : Bool) → cond b (Some first) (Some second) ≡ None → (Some first ≡ None) × (Some second ≡ None)
-    by_test true w = cc
-    by_test false w = cc
-
 pub clear_run : (netlist : Netlist) (statements : List (Numbered ResolvedRunStatement)) → first_run_fault netlist statements ≡ None → IsClearRun netlist statements
 clear_run netlist statements h =
     let a = none_parts fault.Unknown (first_passing_line (names_unknown netlist.inputs) statements) _ h in
@@ -305,7 +297,7 @@ clear_run netlist statements h =
     let c = none_parts fault.Missing (least_missing_node netlist statements) _ b.1 in
     let d = none_parts fault.Bit (first_passing_line lacks_bit statements) _ c.1 in
     let e = none_parts fault.Order (first_misplaced statements) _ d.1 in
-    let m = neither (least_left_out (first_start statements) (length netlist.names)) (least_left_out (first_input statements) netlist.inputs) c.0 in
+    let m = option_min-none (least_left_out (first_start statements) (length netlist.names)) (least_left_out (first_input statements) netlist.inputs) c.0 in
     let f = none_parts fault.TooMany (beyond_from 0 0 statements) _ e.1 in
     record { names = record { unknown = a.0; twice = b.0; start = m.0; input = m.1; bit = d.0 }; order = e.0; few = f.0 }
 

@@ -1,7 +1,8 @@
 -- The first answer of the passes over a run text is its least fault.
 use Rattle.std.proofs.Common.{◌≡◌, ◌∙◌, ℕ, false, List, Option, Some, None, length, refl, sym, subst}
+use Rattle.hz_core.proofs.LeastLemmas.{IsLeastOf-either}
 use Rattle.hz_core.specs.Netlist.{Netlist}
-use Rattle.hz_gmw.specs.Least.{IsLeastOf}
+use Rattle.hz_core.specs.Least.{IsLeastOf}
 use Rattle.hz_line.specs.Line.{lines_of}
 use Rattle.hz_line.specs.Statement.{PassesOn, first_passing_line, numbered_statements, first_malformed}
 use Rattle.hz_line.proofs.StatementLemmas.{numbered_from-Ascends, numbered_from-map}
@@ -19,7 +20,7 @@ use Rattle.hz_text.proofs.FaultLaws.{unassigned-Some, unassigned-None, twice-nam
 use Rattle.std.specs.List.{All}
 use Rattle.hz_text.proofs.BeyondLaws.{answers_beyond}
 use Rattle.hz_text.proofs.OrderLaws.{answers_order}
-use Rattle.hz_text.proofs.LeastFault.{Outcome, answers_first, answers_either, answered, unanswered, checked-none, OneMismatch, AnswersMismatch}
+use Rattle.hz_text.proofs.LeastFault.{Outcome, answers_first, answered, unanswered, checked-none, OneMismatch, AnswersMismatch}
 use Rattle.hz_text.proofs.MismatchLaws.{mismatch-once, FindsMismatch, answers_mismatch}
 use Rattle.hz_text.proofs.TextLaws.{Judged, looked-Ascends, answers_malformed, text-outcome, twice-line}
 
@@ -67,7 +68,7 @@ judged netlist text =
           subst Q (sym same)
           (answers_first names_twice (run_statements_of text) (first_passing_line names_twice (run_statements_of text)) (numbered_from-Ascends run_statement_of 1 (lines_of text)) refl);
       missing =
-          answers_either (LeavesOut (first_start looked) (length netlist.names)) (LeavesOut (first_input looked) netlist.inputs) _ _
+          IsLeastOf-either (LeavesOut (first_start looked) (length netlist.names)) (LeavesOut (first_input looked) netlist.inputs) _ _
           (answers_left_out (first_start looked) (length netlist.names)) (answers_left_out (first_input looked) netlist.inputs);
       bit = answers_first lacks_bit looked (first_passing_line lacks_bit looked) up refl;
       order = answers_order looked;

@@ -7,7 +7,7 @@ use Rattle.std.proofs.lemmas.Bool.Decides.{nat_tests}
 use Rattle.std.proofs.lemmas.List.{map-append, append-nil}
 use Rattle.std.proofs.lemmas.List.Folds.{list_all-append}
 use Rattle.std.proofs.lemmas.List.Elements.{All-nil, All-cons, All-head, All-tail}
-use Rattle.hz_core.specs.Netlist.{Netlist, IsCircuit, gate_at, pin_count, variable_count}
+use Rattle.hz_core.specs.Netlist.{Netlist, IsCircuit, gate_at, pin_count, variable_count, node_name, is_name_byte}
 use Rattle.hz_net.specs.Network.{network_of}
 use Rattle.hz_net.proofs.Places.{length-network_of}
 use Rattle.hz_line.specs.declared.bytes.Punctuation.TheVariants.{Open, Close}
@@ -15,7 +15,7 @@ use Rattle.hz_line.specs.Byte.{class_of, is_word_byte}
 use Rattle.hz_line.specs.Line.{lines_of}
 use Rattle.hz_line.specs.Token.{TokenOf, WordOf, PunctuationOf, tokens_of, with_token, begins_in_word}
 use Rattle.hz_line.specs.Statement.{Meaning, Nothing, Means, meaning_of, meaning_of_tokens}
-use Rattle.hz_line.proofs.WrittenLemmas.{word_bytes, tokens_of-open, tokens_of-close, tokens_of-space, is_word_byte-separators, tokens_of-word_before, is_inline, lines_of-written}
+use Rattle.hz_line.proofs.WrittenLemmas.{is_word_byte-is, word_bytes, tokens_of-open, tokens_of-close, tokens_of-space, is_word_byte-separators, tokens_of-word_before, is_inline, lines_of-written}
 use Rattle.hz_write.specs.Writes.{line_of}
 use Rattle.hz_text.specs.declared.run.version.Version.TheVariants.{Two}
 use Rattle.hz_text.specs.RunSize.{size_of}
@@ -27,7 +27,7 @@ use Rattle.hz_text.specs.RunResolution.{ResolvedRunStatement, variable_named, re
 use Rattle.hz_text.specs.RunValue.{RunOf, RunTextOf, cycle_steps, all_steps}
 use Rattle.hz_text.specs.RunText.{step_of, cycle_statements, run_statements}
 use Rattle.hz_text.specs.RunPrinted.{wire_word, variable_word, spaced_word, step_text, cycle_text, run_text, all_listed, net_line, version_text, states_text, run_text_printed}
-use Rattle.hz_text.proofs.WordLaws.{AreNodes, no_word, name_at, pair_tokens, pairs_read, pairs_inline, assignments_read}
+use Rattle.hz_text.proofs.WordLaws.{AreNodes, no_word, IsName-node, pair_tokens, pairs_read, pairs_inline, assignments_read}
 use Rattle.hz_text.proofs.PrintLaws.{node_at, assigned_back}
 use Rattle.hz_text.proofs.DecimalLemmas.{decimal-digits, number_by-decimal, decimal-is_decimal, count_of-decimal, digits-name}
 use Rattle.hz_text.proofs.VariableWords.{wire_at, variable_word-node, variable_word-wire, wire_is_pin, pin-bound}
@@ -104,7 +104,7 @@ no_count = record { read = refl; ends = refl; inline = refl }
 one_count : (n : ℕ) (words : List ℕ) (tokens : List TokenOf) → n < 2 ^ 64 → IsCounted words tokens → IsCounted (32 ∷ decimal n ++ words) (WordOf (decimal n) ∷ tokens)
 one_count n words tokens small is =
     let digits = decimal n in
-    let bytes = word_bytes digits (digits-name digits (decimal-digits n small)) in
+    let bytes = word_bytes is_name_byte is_word_byte-is digits (digits-name digits (decimal-digits n small)) in
     record {
       read =
           tokens_of-space (digits ++ words)
@@ -181,11 +181,11 @@ record IsWritten (netlist : Netlist) (var : ℕ) (word : List ℕ) : Type 0 wher
   numbered : IsNumbered variable
   found : variable_named netlist variable ≡ Some var
 
-node_written : (netlist : Netlist) (var : ℕ) → IsCircuit netlist → var < length netlist.names → IsWritten netlist var (get_or netlist.names var [])
+node_written : (netlist : Netlist) (var : ℕ) → IsCircuit netlist → var < length netlist.names → IsWritten netlist var (node_name netlist.names var)
 node_written netlist var circuit below =
-    let name = get_or netlist.names var [] in
-    let is = name_at netlist var circuit below in
-    let words = word_bytes name is.bytes in
+    let name = node_name netlist.names var in
+    let is = IsName-node netlist var circuit below in
+    let words = word_bytes is_name_byte is_word_byte-is name is.bytes in
     record {
       variable = Node name;
       tokens = λ rest later ends read. tokens_of-word_before name rest (omega (arith, is.some)) words.0 ends ∙ ap (with_token (WordOf name)) read;
@@ -203,12 +203,12 @@ pin_written netlist var circuit above below =
     let pin = wire.pin in
     let is_gate = at.is_gate in
     let within = at.within in
-    let name = get_or netlist.names gate [] in
+    let name = node_name netlist.names gate in
     let digits = decimal (pin + 1) in
     let small : pin + 1 < 2 ^ 64 = omega (arith, pin-bound netlist var gate pin circuit at) in
-    let is = name_at netlist gate circuit is_gate.1 in
-    let words = word_bytes name is.bytes in
-    let numbers = word_bytes digits (digits-name digits (decimal-digits (pin + 1) small)) in
+    let is = IsName-node netlist gate circuit is_gate.1 in
+    let words = word_bytes is_name_byte is_word_byte-is name is.bytes in
+    let numbers = word_bytes is_name_byte is_word_byte-is digits (digits-name digits (decimal-digits (pin + 1) small)) in
     let some : 0 < length digits = decimal_nonempty (pin + 1) small in
     let high : nat_le netlist.inputs gate ≡ true = grind (arith, nat_tests, is_gate) in
     let low : nat_le 1 (pin + 1) ≡ true = grind (arith, nat_tests) in

@@ -4,9 +4,10 @@ use Rattle.std.specs.Option.{IfSome, option_map}
 use Rattle.std.specs.Str.{bytes_eq}
 use Rattle.std.proofs.lemmas.Bool.Decides.{nat_tests}
 use Rattle.std.proofs.lemmas.List.Quantifiers.{position-Some}
+use Rattle.hz_core.proofs.CircuitLemmas.{most_pins-bound}
 use Rattle.hz_core.specs.declared.kind.Kind.{Kind}
 use Rattle.hz_core.specs.declared.kind.Kind.TheVariants.{And, Nand, Or, Nor, Xor, Xnor, Not, Buff}
-use Rattle.hz_core.specs.Netlist.{Netlist, IsCircuit, most_pins, gate_at, node_named}
+use Rattle.hz_core.specs.Netlist.{Netlist, IsCircuit, gate_at, node_named}
 use Rattle.hz_net.specs.Variables.{first_wire}
 use Rattle.hz_line.specs.declared.tokens.Token.{Token}
 use Rattle.hz_line.specs.Token.{WordOf, token_of}
@@ -40,21 +41,11 @@ pub node_named-below : (netlist : Netlist) (name : List ℕ) (answer : Option �
 node_named-below netlist name None e = tt
 node_named-below netlist name (Some node) e = (position-Some (bytes_eq name) netlist.names node [] e).0
 
-pub few_pins : (kind : Kind) → most_pins kind ≤ 256
-few_pins And = omega arith
-few_pins Nand = omega arith
-few_pins Or = omega arith
-few_pins Nor = omega arith
-few_pins Xor = omega arith
-few_pins Xnor = omega arith
-few_pins Not = omega arith
-few_pins Buff = omega arith
-
 -- no gate has so many pins
 pub wire_into-above : (netlist : Netlist) (node pin : ℕ) → IsCircuit netlist → node < length netlist.names → netlist.inputs ≤ node → 256 < pin → wire_into netlist (Some node) pin ≡ None
 wire_into-above netlist node pin circuit within gate above =
     let few = circuit.gates (node - netlist.inputs) (record { kind = And; sources = [] }) (omega (arith, within, gate, circuit.nodes)) in
-    let most = few_pins (gate_at netlist node).kind in
+    let most = most_pins-bound (gate_at netlist node).kind in
     let beyond : nat_le pin (length (gate_at netlist node).sources) ≡ false = grind (arith, nat_tests, few.pins, most, above) in
     rw beyond (both-false (nat_le netlist.inputs node) (nat_le 1 pin))
   where

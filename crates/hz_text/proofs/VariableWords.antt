@@ -5,7 +5,8 @@ use Rattle.std.proofs.lemmas.Bool.{cases_lt}
 use Rattle.std.proofs.lemmas.List.{get_or-map, get_or_append_left, get_or-append_right, get_or_default}
 use Rattle.std.proofs.lemmas.List.Sums.{sum_by-cons}
 use Rattle.std.proofs.lemmas.Option.{same_Some, get_or_from_slice_get}
-use Rattle.hz_core.specs.Netlist.{Gate, Netlist, IsCircuit, IsWhole, IsGateNumber, gate_at, variable_count}
+use Rattle.hz_core.proofs.CircuitLemmas.{most_pins-bound}
+use Rattle.hz_core.specs.Netlist.{Gate, Netlist, IsCircuit, IsWhole, IsGateNumber, gate_at, variable_count, node_name}
 use Rattle.hz_net.specs.Network.{Wire, wires_of, network_of}
 use Rattle.hz_net.specs.Variables.{variable_kinds, first_wire}
 use Rattle.hz_net.specs.Entries.{entry_kind, entries_of, IsEntryAt}
@@ -16,14 +17,13 @@ use Rattle.hz_net.specs.declared.variable.VarKind.TheVariants.{Input as InputKin
 use Rattle.hz_net.proofs.Places.{no_gate, no_wire, pins_of, length-wires_of, length-network_of, length-entries_of, variable_kinds-entry, IsEntryAt-entries_of, wire_at-pin}
 use Rattle.hz_net.proofs.Wires.{variable_kinds-wire}
 use Rattle.hz_text.specs.RunPrinted.{wire_word, variable_word}
-use Rattle.hz_text.proofs.VariableLemmas.{few_pins}
 
 -- the wire that a variable past the nodes is
 abbrev pub wire_at : Netlist → ℕ → Wire
 wire_at netlist var = get_or (wires_of netlist) (var - length netlist.names) no_wire
 
 -- the word of a node is its name
-pub variable_word-node : (netlist : Netlist) (var : ℕ) → var < length netlist.names → variable_word netlist var ≡ get_or netlist.names var []
+pub variable_word-node : (netlist : Netlist) (var : ℕ) → var < length netlist.names → variable_word netlist var ≡ node_name netlist.names var
 unfolding variable_word
 variable_word-node netlist var below = get_or_append_left netlist.names (map (wire_word netlist) (wires_of netlist)) [] var below
 
@@ -91,7 +91,7 @@ pub pin-bound : (netlist : Netlist) (var gate pin : ℕ) → IsCircuit netlist �
 pin-bound netlist var gate pin circuit is =
     let is_gate = is.is_gate in
     let few = circuit.gates (gate - netlist.inputs) no_gate (omega (arith, is_gate, circuit.nodes)) in
-    omega (arith, is.within, few.pins, few_pins (gate_at netlist gate).kind)
+    omega (arith, is.within, few.pins, most_pins-bound (gate_at netlist gate).kind)
 
 -- what is told of a variable: it is a node
 abbrev pub IsNode : VarKind → Type 0
@@ -136,14 +136,14 @@ named_word netlist var name below named = variable_word-node netlist var below �
 pub told_word :
     (netlist : Netlist) (var gate pin source : ℕ) → IsCircuit netlist → IsWhole netlist → var < length (network_of netlist) →
     slice_get (variable_kinds netlist) var ≡ Some (WireKind gate pin source) →
-    variable_word netlist var ≡ get_or netlist.names gate [] ++ 40 ∷ decimal (pin + 1) ++ 41 ∷ []
+    variable_word netlist var ≡ node_name netlist.names gate ++ 40 ∷ decimal (pin + 1) ++ 41 ∷ []
 unfolding wire_word
 told_word netlist var gate pin source circuit whole there told =
     let is = wire_is_told netlist var gate pin source circuit whole there told in
     let wire = wire_at netlist var in
     variable_word-wire netlist var is.0 (omega (arith, there, length-network_of netlist circuit))
-    ∙ ap (λ (n : ℕ). get_or netlist.names n [] ++ 40 ∷ decimal (wire.pin + 1) ++ 41 ∷ []) is.1
-    ∙ ap (λ (n : ℕ). get_or netlist.names gate [] ++ 40 ∷ decimal (n + 1) ++ 41 ∷ []) is.2
+    ∙ ap (λ (n : ℕ). node_name netlist.names n ++ 40 ∷ decimal (wire.pin + 1) ++ 41 ∷ []) is.1
+    ∙ ap (λ (n : ℕ). node_name netlist.names gate ++ 40 ∷ decimal (n + 1) ++ 41 ∷ []) is.2
 
 -- what is told of a wire: it goes into a gate, and no gate has more than 256 pins
 pub told_bounds :

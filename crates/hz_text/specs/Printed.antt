@@ -1,7 +1,7 @@
 -- The printed text of a script.
 use Rattle.std.specs.Prelude.{ℕ, suc, Bool, true, false, List, [], ◌∷◌, ◌++◌, codes, Option, Some, None}
-use Rattle.std.specs.List.{flat_map, slice_index_or}
-use Rattle.hz_core.specs.Netlist.{Netlist}
+use Rattle.std.specs.List.{flat_map}
+use Rattle.hz_core.specs.Netlist.{Netlist, node_name}
 use Rattle.hz_text.specs.ScriptValue.{ScriptOf}
 
 -- the letter of a bit
@@ -11,7 +11,7 @@ letter_of true = 49
 
 -- a space, and the assignment of a bit to a node's name
 abbrev pub assignment_text : Netlist → ℕ × Bool → List ℕ
-assignment_text netlist pair = 32 ∷ slice_index_or netlist.names pair.0 [] ++ 61 ∷ letter_of pair.1 ∷ []
+assignment_text netlist pair = 32 ∷ node_name netlist.names pair.0 ++ 61 ∷ letter_of pair.1 ∷ []
 
 -- a statement on a line of its own: its keyword and its assignments
 unfoldable pub statement_text : Netlist → List ℕ → List (ℕ × Bool) → List ℕ

@@ -1,7 +1,7 @@
 -- The printed text of a run text.
 use Rattle.std.specs.Prelude.{ℕ, ◌+◌, Bool, List, [], ◌∷◌, ◌++◌, map, codes, decimal, Option, Some, None}
 use Rattle.std.specs.List.{flat_map, slice_index_or}
-use Rattle.hz_core.specs.Netlist.{Netlist}
+use Rattle.hz_core.specs.Netlist.{Netlist, node_name}
 use Rattle.hz_net.specs.Network.{Wire, wires_of}
 use Rattle.hz_write.specs.Writes.{line_of}
 use Rattle.hz_text.specs.declared.run.size.Size.{Size}
@@ -11,7 +11,7 @@ use Rattle.hz_text.specs.RunValue.{RunOf, RunTextOf}
 
 -- the word of a wire: the name of its gate and, in parentheses, its pin, counted from 1
 unfoldable pub wire_word : Netlist → Wire → List ℕ
-wire_word netlist wire = slice_index_or netlist.names wire.gate [] ++ 40 ∷ decimal (wire.pin + 1) ++ 41 ∷ []
+wire_word netlist wire = node_name netlist.names wire.gate ++ 40 ∷ decimal (wire.pin + 1) ++ 41 ∷ []
 
 -- the words of all variables: the names of the nodes, then the words of the wires
 abbrev pub variable_words : Netlist → List (List ℕ)

@@ -1,6 +1,7 @@
 -- What the passes over a run text's statements answer.
 use Rattle.std.specs.Prelude.{◌≡◌, ℕ, ◌+◌, Bool, ◌||◌, nat_le, nat_lt, List, [], ◌∷◌, length, All, Option, Some, None, if◌then◌else◌}
 use Rattle.std.specs.Option.{option_map}
+use Rattle.hz_core.specs.Least.{option_min}
 use Rattle.hz_core.specs.Netlist.{Netlist}
 use Rattle.hz_line.specs.Statement.{Numbered}
 use Rattle.hz_text.specs.Assignment.{Assigned}
@@ -25,12 +26,6 @@ AssignsBelow nodes entry = AreBelow nodes (assignments_in (run_resolution_of ent
 abbrev pub least_left_out : Option (List Assigned) → ℕ → Option ℕ
 least_left_out None nodes = None
 least_left_out (Some assigned) nodes = least_unassigned nodes assigned
-
--- the lesser of two numbers that may be there
-abbrev pub option_min : Option ℕ → Option ℕ → Option ℕ
-option_min None second = second
-option_min (Some first) None = Some first
-option_min (Some first) (Some second) = if nat_le first second then Some first else Some second
 
 -- the least node that the first start leaves out or input that the first input line leaves out
 abbrev pub least_missing_node : Netlist → List (Numbered ResolvedRunStatement) → Option ℕ

@@ -3,8 +3,7 @@ use Rattle.std.specs.Prelude.{ℕ, List, [], ◌∷◌, codes, decimal}
 use Rattle.hz_outside.specs.declared.fault.Place.{Place}
 use Rattle.hz_outside.specs.declared.fault.Place.TheVariants.{First, Second}
 use Rattle.hz_write.specs.Writes.{line_of}
-use Rattle.hz_core.specs.Netlist.{Netlist}
-use Rattle.hz_report.specs.Words.{node_name}
+use Rattle.hz_core.specs.Netlist.{Netlist, node_name}
 use Rattle.hz_bench.specs.declared.fault.BenchFault.{BenchFault}
 use Rattle.hz_bench.specs.declared.fault.BenchFault.TheVariants as bench
 use Rattle.hz_text.specs.declared.fault.TextFault.{TextFault}
@@ -43,7 +42,7 @@ variables_line variables = line_of (codes "refused: netlist: variables " ∷ dec
 -- a node for which a text has no value
 unfoldable pub missing_line : List ℕ → Netlist → ℕ → List ℕ
 missing_line called netlist node =
-    line_of (codes "refused: " ∷ called ∷ codes ": no value for " ∷ node_name netlist node ∷ [])
+    line_of (codes "refused: " ∷ called ∷ codes ": no value for " ∷ node_name netlist.names node ∷ [])
 
 -- a count of the network's size that a text tells wrongly
 unfoldable pub mismatch_line : List ℕ → ℕ → ℕ → ℕ → List ℕ
@@ -75,8 +74,8 @@ text_fault_line called netlist (fault.Mismatch line told real) = mismatch_line c
 
 -- a gate that the start leaves open
 unfoldable pub open_line : Netlist → ℕ → List ℕ
-open_line netlist gate = line_of (codes "refused: start: open " ∷ node_name netlist gate ∷ [])
+open_line netlist gate = line_of (codes "refused: start: open " ∷ node_name netlist.names gate ∷ [])
 
 -- a gate that is unstable at the start
 unfoldable pub unstable_line : Netlist → ℕ → List ℕ
-unstable_line netlist gate = line_of (codes "refused: start: unstable " ∷ node_name netlist gate ∷ [])
+unstable_line netlist gate = line_of (codes "refused: start: unstable " ∷ node_name netlist.names gate ∷ [])

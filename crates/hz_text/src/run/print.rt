@@ -1,9 +1,9 @@
 //! Printing run texts.
 
 ghost use Rattle.std.specs.Prelude.{◌≡◌, ◌+◌, ◌<◌, ◌≤◌, ◌∷◌, ◌++◌, [], length, All, IfOk, codes, decimal};
-ghost use Rattle.std.specs.List.{flat_map, slice_index_or};
+ghost use Rattle.std.specs.List.{flat_map};
 ghost use Rattle.std.specs.Option.{option_map};
-ghost use Rattle.hz_core.specs.Netlist.{IsCircuit};
+ghost use Rattle.hz_core.specs.Netlist.{IsCircuit, node_name};
 ghost use Rattle.hz_net.specs.Network.{network_of};
 ghost use Rattle.hz_write.specs.Writer.{Writes};
 ghost use Rattle.hz_write.specs.Writes.{Wrote};
@@ -193,7 +193,7 @@ fn write_wire<K: Sink>(writer: &mut Writer<'_, K>, circuit: &Circuit, gate: u32,
     requires gate { gate < length circuit.now.names }
     requires pin { pin < 256 }
     ensures { Writes K.written K.faults
-        (slice_index_or circuit.now.names gate [] ++ 40 ∷ decimal (pin + 1) ++ 41 ∷ []) writer.old writer.new }
+        (node_name circuit.now.names gate ++ 40 ∷ decimal (pin + 1) ++ 41 ∷ []) writer.old writer.new }
 {
     let name = circuit.name(gate);
     writer.add(&[Text(name), Text(b"("), Number(pin + 1), Text(b")")]);

@@ -5,7 +5,7 @@ ghost use Rattle.std.specs.List.{list_any};
 ghost use Rattle.std.specs.Option.{option_map};
 ghost use Rattle.hz_text.specs.RunResolution.{run_resolution_of, numbered_run_resolutions};
 ghost use Rattle.hz_text.specs.RunFault.{assignments_in, variables_in, names_unknown, first_start, first_input, steps_in, is_second, size_in, first_size};
-ghost use Rattle.hz_text.specs.RunRules.{least_left_out, option_min, least_missing_node, beyond_from, first_mismatch};
+ghost use Rattle.hz_text.specs.RunRules.{least_left_out, least_missing_node, beyond_from, first_mismatch};
 
 use crate::assignments::{Allowed, Assigned, any_unknown, least_unassigned};
 use crate::fault::Mismatch;
@@ -13,7 +13,7 @@ use crate::run::order::{is_input_line, is_start_line};
 use crate::run::size::{Size, difference};
 use crate::run::statement::{RunEntry, RunHeld};
 use crate::run::version::Version;
-use hz_core::{Circuit, Memory};
+use hz_core::{Circuit, Memory, lesser};
 use std::alloc::Global;
 
 /// The most steps of a run text, and the most variables in its steps.
@@ -60,18 +60,6 @@ pub(crate) fn least_missing_node(
     let start = least_left_out(alloc, first_start(entries), circuit.nodes())?;
     let input = least_left_out(alloc, first_input(entries), circuit.inputs())?;
     Ok(lesser(start, input))
-}
-
-// The lesser of two numbers that may be there.
-fn lesser(first: Option<u32>, second: Option<u32>) -> Option<u32>
-    ensures { result ≡ option_min first second }
-{
-    match (first, second) {
-        (None, None) => None,
-        (None, Some(second)) => Some(second),
-        (Some(first), None) => Some(first),
-        (Some(first), Some(second)) => Some(if first <= second { first } else { second }),
-    }
 }
 
 // The least of that many nodes that the assignments leave out, if they are there.

@@ -1,5 +1,5 @@
 use Rattle.std.proofs.Common.{◌≡◌, None, drop, length}
-use Rattle.hz_gmw.specs.Least.{least_repeat}
+use Rattle.hz_gmw.specs.LeastListed.{least_repeat}
 use Rattle.hz_gmw.proofs.least.least_repeated.Given as goal
 
 -- what was found and what is left make the whole

@@ -1,6 +1,6 @@
 use Rattle.std.proofs.Common.{◌≡◌, None, not, drop}
 use Rattle.hz_net.specs.Network.{network_of}
-use Rattle.hz_gmw.specs.Least.{least_from}
+use Rattle.hz_gmw.specs.LeastListed.{least_from}
 use Rattle.hz_gmw.specs.Instability.{is_unstable}
 use Rattle.hz_gmw.proofs.current_state.CurrentState.least_stable.Given as goal
 
