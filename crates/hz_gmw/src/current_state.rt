@@ -112,6 +112,22 @@ impl CurrentState {
         }
     }
 
+    // Takes over another state of the same network, with its counts.
+    pub(crate) fn copy_from(&mut self, net: &Net, other: &CurrentState)
+        requires exact { IsExact net.now self.old }
+        requires other { IsExact net.now other.now }
+        ensures exact { IsExact net.now self.new }
+        ensures input { self.new.input.items ≡ other.now.input.items }
+        ensures state { self.new.state.items ≡ other.now.state.items }
+    {
+        self.input.copy_from_slice(other.input.as_slice());
+        self.state.copy_from_slice(other.state.as_slice());
+        self.ones.copy_from_slice(other.ones.as_slice());
+        self.unstable_wires
+            .copy_from_slice(other.unstable_wires.as_slice());
+        self.unstable = other.unstable;
+    }
+
     // Turns the external input into a given one.
     pub(crate) fn turn_input(&mut self, net: &Net, input: &[bool])
         requires exact { IsExact net.now self.old }
