@@ -171,6 +171,13 @@ module _ (netlist : Netlist) (circuit : IsCircuit netlist) (input state : List B
           (ap (λ (b : Bool). not (beq (bit_at (set state wire bit) i) b)) (sym (get_or-set_other state wire node bit false low)) ∙
           sym (wire-unstable netlist input (set state wire bit) i node driver)))
 
+-- a wire into a gate stands behind the nodes
+pub wire-above : (netlist : Netlist) → IsCircuit netlist → (gate wire : ℕ) → IsWireInto (network_of netlist) gate wire → length netlist.names ≤ wire
+wire-above netlist circuit gate wire into =
+    let place = (is_gate_of netlist circuit gate into.kind into.first into.pins into.driven).first_is in
+    let lowest : into.first ≤ wire = into.above in
+    omega (arith, place, lowest)
+
 -- an input changes: the counts of nodes stay
 pub AreCounts-input : (netlist : Netlist) (input input' state : List Bool) (ones lagging : List ℕ) → IsCircuit netlist → AreCounts netlist input state ones lagging → AreCounts netlist input' state ones lagging
 AreCounts-input netlist input input' state ones lagging circuit counts = record {
@@ -220,6 +227,22 @@ unstable-flip netlist input state var circuit inside =
     let alone : is_listed (with_readers netlist var ++ []) i ≡ false = ap (λ (list : List ℕ). is_listed list i) (append-nil (with_readers netlist var)) ∙ apart in
     ap weight (sym (is_unstable-state_after netlist input state (var ∷ []) i circuit alone) ∙ ap (λ (s : List Bool). is_unstable net input s i) (state_after-one var state))) in
     omega (arith, sums, counted-unstable netlist input state, counted-unstable netlist input state')
+
+-- The same by what the variables around the changed one are, from the values after the change.
+pub mended : (netlist : Netlist) (input state input' state' : List Bool) (var : ℕ) (list : List ℕ) → IsCircuit netlist → var < length (network_of netlist) → with_readers netlist var ≡ list → input' ≡ input → state' ≡ set state var (not (bit_at state var)) → unstable_count (network_of netlist) input' state' + count_by (is_unstable (network_of netlist) input state) list ≡ unstable_count (network_of netlist) input state + count_by (is_unstable (network_of netlist) input' state') list
+mended netlist input state input' state' var list circuit inside around input_is state_is =
+    let net = network_of netlist in
+    let next = set state var (not (bit_at state var)) in
+    subst (λ (after : List Bool). unstable_count net after state' + count_by (is_unstable net input state) list ≡ unstable_count net input state + count_by (is_unstable net after state') list) (sym input_is)
+    (subst (λ (after : List Bool). unstable_count net input after + count_by (is_unstable net input state) list ≡ unstable_count net input state + count_by (is_unstable net input after) list) (sym state_is)
+    (subst (λ (vars : List ℕ). unstable_count net input next + count_by (is_unstable net input state) vars ≡ unstable_count net input state + count_by (is_unstable net input next) vars) around
+    (unstable-flip netlist input state var circuit inside)))
+
+-- how many of the variables around one are unstable is no more than how many are unstable in all
+pub some-around : (netlist : Netlist) (input state : List Bool) (var : ℕ) (list : List ℕ) → IsCircuit netlist → var < length (network_of netlist) → with_readers netlist var ≡ list → count_by (is_unstable (network_of netlist) input state) list ≤ unstable_count (network_of netlist) input state
+some-around netlist input state var list circuit inside around =
+    subst (λ (vars : List ℕ). count_by (is_unstable (network_of netlist) input state) vars ≤ unstable_count (network_of netlist) input state) around
+    (listed-bound netlist input state (with_readers netlist var) (around-once netlist circuit var inside) (around-inside netlist circuit var inside))
 
 -- the bits and counts as they are read
 bit-weight : (b : Bool) → cond (not b) 0 1 ≡ weight b

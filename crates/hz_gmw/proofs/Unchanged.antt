@@ -3,16 +3,17 @@ use Rattle.std.proofs.Common.{◌≡◌, ◌≢◌, ℕ, ◌<◌, ◌≤◌, ◌
 use Rattle.std.specs.Prelude.{flat_map}
 use Rattle.std.specs.Bool.{beq}
 use Rattle.std.proofs.lemmas.Bool.{cases_lt, false≢true, or_left, or_right, false_from_ne_true}
-use Rattle.std.proofs.lemmas.List.{get_or-set_other, get_or_past}
+use Rattle.std.proofs.lemmas.List.{get_or-set_other, get_or_past, length-set}
 use Rattle.hz_core.specs.Netlist.{Netlist, IsCircuit, variable_count}
-use Rattle.hz_net.specs.Network.{Driver, External, Function, Source, network_of, driver_at, driver_value, bit_at}
+use Rattle.hz_net.specs.Network.{Driver, External, Function, Source, network_of, driver_at, driver_value, bit_at, excitation}
 use Rattle.hz_net.specs.Reads.{Reads, readers_of}
 use Rattle.hz_net.proofs.Places.{driver_at-input, driver_at-gate, driver_at-wire}
-use Rattle.hz_net.proofs.Readers.{reads-or-not, driver_value-same, reads-reader}
+use Rattle.hz_net.proofs.Readers.{reads-or-not, driver_value-same, reads-reader, node-readers}
 use Rattle.hz_gmw.specs.Runs.{is_listed, state_after}
 use Rattle.hz_gmw.specs.Instability.{is_unstable}
 use Rattle.hz_gmw.specs.CurrentState.{with_readers}
 use Rattle.hz_gmw.proofs.Flips.{length-state_after, at-state_after}
+use Rattle.hz_gmw.proofs.DriverLemmas.{fan-above}
 use Rattle.hz_gmw.proofs.LeastLemmas.{listed-head, listed-tail, listed-cases, listed-append, listed-Contains}
 
 -- a driver reads a listed variable, or none
@@ -85,3 +86,12 @@ is_unstable-state_after netlist input state flips j circuit apart =
     is_unstable-unread (network_of netlist) input state flips j
     (false_from_ne_true (is_listed flips j) (λ there. false≢true (sym apart ∙ listed-flat (with_readers netlist) flips j j there (listed-head j j (readers_of netlist j) refl))))
     (λ i there reads. false≢true (sym apart ∙ listed-flat (with_readers netlist) flips i j there (listed-tail j i (readers_of netlist i) (listed-Contains (readers_of netlist i) j (reads-reader netlist circuit i j reads)))))
+
+-- A node doesn't read itself: when it changes, its excitation stays.
+pub excitation-node : (netlist : Netlist) (input state : List Bool) (node : ℕ) (bit : Bool) → IsCircuit netlist → node < length netlist.names → excitation (network_of netlist) input (set state node bit) node ≡ excitation (network_of netlist) input state node
+excitation-node netlist input state node bit circuit inside =
+    driver_value-same input (set state node bit) state (driver_at (network_of netlist) node) (length-set state node bit) (λ i reads. get_or-set_other state node i bit false (λ same.
+    let itself : Reads (driver_at (network_of netlist) node) node = subst (Reads (driver_at (network_of netlist) node)) same reads in
+    let there : is_listed (readers_of netlist node) node ≡ true = listed-Contains (readers_of netlist node) node (reads-reader netlist circuit node node itself) in
+    let above = fan-above netlist node node (ap (λ (list : List ℕ). is_listed list node) (sym (node-readers netlist circuit node inside)) ∙ there) in
+    omega (arith, above, inside)))

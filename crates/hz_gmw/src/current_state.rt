@@ -3,13 +3,14 @@
 //! The idea. A gate's value depends only on how many of its pins are 1, so one count for each gate gives its excitation.
 //! A wire is unstable if it differs from its source, so when a node changes, the stable wires from it become unstable and the
 //! others stable: one subtraction, whatever the fan-out. Only a variable and its readers can become stable or unstable when
-//! it changes, so the count of all unstable variables is mended by what is unstable among these before and after.
+//! it changes, so the count of all unstable variables is mended by what is unstable among these before and after. What they
+//! are is looked up once, and no excitation but that of a wire's gate changes.
 //!
 //! What must stay true: `IsCounted` after every write to `input` or `state`, so no one else writes to them; `IsExact` after
 //! every `flip` and `set_input`.
 //!
 //! What breaks if you add a kind: one that is not symmetric in its pins (a multiplexer) has no value by a count of ones. If you
-//! add a kind of variable with readers of its own: `change_node` and `unstable_around` do not count them.
+//! add a kind of variable with readers of its own: `change_node`, `unstable_from` and `unstable_into` do not count them.
 ghost use Rattle.std.specs.Prelude.{◌≡◌, ◌<◌, ◌≤◌, ◌-◌, ◌+◌, ◌∷◌, Bool, true, false, not, length, count_by, sum_by, All, IfOk, slice_set, slice_index_or, replicate, if◌then◌else◌};
 ghost use Rattle.hz_core.specs.Netlist.{IsCircuit, IsWhole};
 ghost use Rattle.hz_net.specs.Network.{network_of, driver_at, excitation, Source, bit_at};
@@ -110,6 +111,22 @@ impl CurrentState {
         }
     }
 
+    // Takes over another state of the same network, with its counts.
+    pub(crate) fn copy_from(&mut self, net: &Net, other: &CurrentState)
+        requires exact { IsExact net.now self.old }
+        requires other { IsExact net.now other.now }
+        ensures exact { IsExact net.now self.new }
+        ensures input { self.new.input.items ≡ other.now.input.items }
+        ensures state { self.new.state.items ≡ other.now.state.items }
+    {
+        self.input.copy_from_slice(other.input.as_slice());
+        self.state.copy_from_slice(other.state.as_slice());
+        self.ones.copy_from_slice(other.ones.as_slice());
+        self.unstable_wires
+            .copy_from_slice(other.unstable_wires.as_slice());
+        self.unstable = other.unstable;
+    }
+
     // Turns the external input into a given one.
     pub(crate) fn turn_input(&mut self, net: &Net, input: &[bool])
         requires exact { IsExact net.now self.old }
@@ -157,7 +174,8 @@ impl CurrentState {
         let mut left = number;
         for var in list {
             if *var < net.circuit().nodes() {
-                left = left.saturating_sub(self.unstable_from(net, *var));
+                let excited = self.excited(net, *var);
+                left = left.saturating_sub(self.unstable_from(net, *var, excited));
             }
         }
         left
@@ -197,25 +215,45 @@ impl CurrentState {
         ensures input { self.new.input.items ≡ self.old.input.items }
         ensures state { self.new.state.items ≡ slice_set self.old.state.items var (not (bit_at self.old.state.items var)) }
     {
-        self.unstable -= self.unstable_around(net, var);
-        self.change(net, var);
-        self.unstable += self.unstable_around(net, var);
+        let kind = kind_at(net, var);
+        match kind {
+            VarKind::Wire { gate, source, .. } => self.flip_wire(net, var, gate, source),
+            VarKind::Input { .. } => self.flip_node(net, var, kind),
+            VarKind::Gate { .. } => self.flip_node(net, var, kind),
+        }
     }
 
-    // Changes a variable, with the counts of nodes, and leaves the count of all unstable variables as it is.
-    fn change(&mut self, net: &Net, var: u32)
-        requires counted { IsCounted net.now self.old }
-        requires var { var < length (network_of net.now) }
-        ensures counted { IsCounted net.now self.new }
+    // Changes a node. Its excitation stays, since a node doesn't read itself.
+    fn flip_node(&mut self, net: &Net, node: u32, kind: VarKind)
+        requires exact { IsExact net.now self.old }
+        requires kind { IsKindAt net.now node kind }
+        requires node { node < length net.now.names }
+        ensures exact { IsExact net.now self.new }
         ensures input { self.new.input.items ≡ self.old.input.items }
-        ensures state { self.new.state.items ≡ slice_set self.old.state.items var (not (bit_at self.old.state.items var)) }
-        ensures unstable { self.new.unstable ≡ self.old.unstable }
+        ensures state { self.new.state.items ≡ slice_set self.old.state.items node (not (bit_at self.old.state.items node)) }
     {
-        match kind_at(net, var) {
-            VarKind::Wire { gate, source, .. } => self.change_wire(net, var, gate, source),
-            VarKind::Input { .. } => self.change_node(net, var),
-            VarKind::Gate { .. } => self.change_node(net, var),
-        }
+        let excited = self.excited_as(net, node, kind);
+        self.unstable -= self.unstable_from(net, node, excited);
+        self.change_node(net, node);
+        self.unstable += self.unstable_from(net, node, excited);
+    }
+
+    // Changes a wire. Only its gate reads it.
+    fn flip_wire(&mut self, net: &Net, wire: u32, gate: u32, source: u32)
+        requires exact { IsExact net.now self.old }
+        requires into { IsWireInto (network_of net.now) gate wire }
+        requires from { driver_at (network_of net.now) wire ≡ Source source }
+        requires gate { gate < length net.now.names }
+        requires source { source < length net.now.names }
+        requires wire { wire < length (network_of net.now) }
+        ensures exact { IsExact net.now self.new }
+        ensures input { self.new.input.items ≡ self.old.input.items }
+        ensures state { self.new.state.items ≡ slice_set self.old.state.items wire (not (bit_at self.old.state.items wire)) }
+    {
+        let kind = kind_at(net, gate);
+        self.unstable -= self.unstable_into(net, wire, source, gate, kind);
+        self.change_wire(net, wire, gate, source);
+        self.unstable += self.unstable_into(net, wire, source, gate, kind);
     }
 
     // A node changes: of the wires from it the stable ones become unstable, and the others stable.
@@ -261,7 +299,16 @@ impl CurrentState {
         requires var { var < length (network_of net.now) }
         ensures { result ≡ excitation (network_of net.now) self.now.input.items self.now.state.items var }
     {
-        match kind_at(net, var) {
+        self.excited_as(net, var, kind_at(net, var))
+    }
+
+    // The excitation of a variable of which it is known what it is.
+    fn excited_as(&self, net: &Net, var: u32, kind: VarKind) -> bool
+        requires counted { IsCounted net.now self.now }
+        requires kind { IsKindAt net.now var kind }
+        ensures { result ≡ excitation (network_of net.now) self.now.input.items self.now.state.items var }
+    {
+        match kind {
             VarKind::Input { number } => self.input[number as usize],
             VarKind::Gate { kind } => {
                 let (_, pins) = net.wires_in(var);
@@ -271,28 +318,30 @@ impl CurrentState {
         }
     }
 
-    // How many variables are unstable among a variable and those that read it.
-    fn unstable_around(&self, net: &Net, var: u32) -> u32
+    // How many variables are unstable among a wire and its gate.
+    fn unstable_into(&self, net: &Net, wire: u32, source: u32, gate: u32, kind: VarKind) -> u32
         requires counted { IsCounted net.now self.now }
-        requires var { var < length (network_of net.now) }
-        ensures { result ≡ count_by (is_unstable (network_of net.now) self.now.input.items self.now.state.items) (with_readers net.now var) }
+        requires into { IsWireInto (network_of net.now) gate wire }
+        requires from { driver_at (network_of net.now) wire ≡ Source source }
+        requires source { source < length net.now.names }
+        requires wire { wire < length (network_of net.now) }
+        requires kind { IsKindAt net.now gate kind }
+        requires gate { gate < length net.now.names }
+        ensures { result ≡ count_by (is_unstable (network_of net.now) self.now.input.items self.now.state.items) (with_readers net.now wire) }
     {
-        match kind_at(net, var) {
-            VarKind::Wire { gate, .. } => {
-                one_if(self.is_unstable(net, var)) + one_if(self.is_unstable(net, gate))
-            }
-            VarKind::Input { .. } => self.unstable_from(net, var),
-            VarKind::Gate { .. } => self.unstable_from(net, var),
-        }
+        let excited = self.excited_as(net, gate, kind);
+        one_if(self.state[wire as usize] != self.state[source as usize])
+            + one_if(self.state[gate as usize] != excited)
     }
 
-    // How many variables are unstable among a node and the wires from it.
-    fn unstable_from(&self, net: &Net, node: u32) -> u32
+    // How many variables are unstable among a node, with its excitation, and the wires from it.
+    fn unstable_from(&self, net: &Net, node: u32, excited: bool) -> u32
         requires counted { IsCounted net.now self.now }
         requires node { node < length net.now.names }
+        requires excited { excited ≡ excitation (network_of net.now) self.now.input.items self.now.state.items node }
         ensures { result ≡ count_by (is_unstable (network_of net.now) self.now.input.items self.now.state.items) (node ∷ fan_out_of net.now node) }
     {
-        one_if(self.is_unstable(net, node)) + self.unstable_wires[node as usize]
+        one_if(self.state[node as usize] != excited) + self.unstable_wires[node as usize]
     }
 
     // How many variables are unstable, by a look at each.
