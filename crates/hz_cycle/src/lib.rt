@@ -13,6 +13,6 @@ mod laws;
 mod passing;
 mod settling;
 
-pub use cycling::cycle_run;
+pub use cycling::{cycle_in_order, cycle_run};
 pub use laws::{b_is_exact, runs_show_b, settle_runs_exist};
-pub use settling::settle_run;
+pub use settling::{settle_in_order, settle_run};

@@ -7,7 +7,7 @@ ghost use Rattle.hz_core.specs.Pattern.{IsCandidate};
 ghost use Rattle.hz_net.specs.Network.{network_of, bit_at, value_at};
 ghost use Rattle.hz_net.specs.Passes.{IsUnknown};
 ghost use Rattle.hz_net.specs.Variables.{at_wires, first_wire};
-ghost use Rattle.hz_reach.specs.Order.{key_at};
+ghost use Rattle.hz_reach.specs.Order.{key_at, IsInKeyOrder};
 ghost use Rattle.hz_reach.specs.Room.{Spends};
 ghost use Rattle.hz_cycle.specs.Marks.{MarksPattern, ArePatternWires, with_fan_out};
 ghost use Rattle.hz_cycle.specs.Pass.{IsFixed, MayBegin, HasRoom, IsPassMade};
@@ -18,7 +18,7 @@ use hz_net::Net;
 use hz_reach::{Scratch, mark_changed, run_counts};
 
 // Each unsettled gate has its turn, by rank and then by number: the wires change that set its pattern, and then the gate
-// together with the wires of its fan-out that differ from it.
+// together with the wires of its fan-out that differ from it. The variables are sorted by rank, and stay so.
 pub(crate) fn make_pass(net: &Net, rank: &[u32], b: &[Tri], scratch: &mut Scratch, run: &mut Run)
     requires b { length b.now ≡ length (network_of net.now) }
     requires fixed { (input : List Bool) × IsFixed (network_of net.now) input b.now }
@@ -27,15 +27,16 @@ pub(crate) fn make_pass(net: &Net, rank: &[u32], b: &[Tri], scratch: &mut Scratc
     requires begins { MayBegin (network_of net.now) rank.now b.now scratch.old.state }
     requires scratch { length scratch.old.state ≡ length (network_of net.now) }
     requires none_marked { scratch.old.marked ≡ [] }
+    requires sorted { IsInKeyOrder rank.now scratch.old.sorted }
     requires room { HasRoom (network_of net.now) rank.now b.now scratch.old.state run.old }
     ensures pass { IsPassMade (network_of net.now) rank.now b.now scratch.old.state run.old.steps run.new.steps scratch.new.state }
     ensures marked { scratch.new.marked ≡ [] }
+    ensures sorted { IsInKeyOrder rank.now scratch.new.sorted }
     ensures room { Spends run.old run.new }
 {
     let circuit = net.circuit();
     // The room is told by how often each variable changes.
     run_counts();
-    scratch.sort(rank);
     for place in 0..scratch.sorted().len() {
         let var = scratch.sorted()[place];
         if circuit.inputs() <= var && var < circuit.nodes() && is_unsettled(b[var as usize]) {

@@ -16,7 +16,7 @@ use crate::passing::make_pass;
 use hz_core::Tri;
 use hz_gmw::Run;
 use hz_net::Net;
-use hz_reach::{Scratch, run_counts, run_ends, spread_run};
+use hz_reach::{Scratch, run_counts, run_ends, spread_in_order};
 
 /// The settle run: a run from a start that is stable under its own inputs, in whose last state each variable that is not X
 /// in the result of Algorithm B has its value there and is stable. That state is turned, so that a cycle may begin in it.
@@ -25,7 +25,8 @@ use hz_reach::{Scratch, run_counts, run_ends, spread_run};
 /// that it makes 0 or 1 take their values. Last comes one pass over the gates that are X.
 ///
 /// `a`, `rank`, `when` and `b` are what Algorithms A and B give for this start and input: their results, the ranks and the
-/// settling rounds. The last state stands in `scratch` afterwards. It takes no memory and cannot fail.
+/// settling rounds. The last state stands in `scratch` afterwards, and its variables are sorted by rank. It takes no memory and
+/// cannot fail.
 pub fn settle_run(
     net: &Net,
     start: &[bool],
@@ -52,6 +53,42 @@ pub fn settle_run(
     ensures turned { IsTurned (network_of net.now) rank.now b.now scratch.new.state }
     ensures state { scratch.new.state ≡ end_of start.now run.new.steps }
     ensures marked { scratch.new.marked ≡ [] }
+    ensures sorted { IsInKeyOrder rank.now scratch.new.sorted }
+    ensures room { Spends run.old run.new }
+{
+    scratch.sort(rank);
+    settle_in_order(net, start, input, a, rank, when, b, scratch, run);
+}
+
+/// The settle run, if the variables of `scratch` are sorted by rank already. They are so afterwards too.
+pub fn settle_in_order(
+    net: &Net,
+    start: &[bool],
+    input: &[bool],
+    a: &[Tri],
+    rank: &[u32],
+    when: &[u32],
+    b: &[Tri],
+    scratch: &mut Scratch,
+    run: &mut Run,
+)
+    requires start { IsStableStart net.now start.now }
+    requires input { length input.now ≡ net.now.inputs }
+    requires a { IsResult (algorithm_a (network_of net.now) input.now start.now) a.now }
+    requires rank { AreRanks (algorithm_a (network_of net.now) input.now start.now) a.now rank.now }
+    requires b { IsResult (algorithm_b (network_of net.now) input.now a.now) b.now }
+    requires when { AreSettlingRounds (algorithm_b (network_of net.now) input.now a.now) a.now b.now when.now }
+    requires scratch { length scratch.old.state ≡ length (network_of net.now) }
+    requires none_marked { scratch.old.marked ≡ [] }
+    requires sorted { IsInKeyOrder rank.now scratch.old.sorted }
+    requires empty { run.old.steps ≡ [] }
+    requires room_for_flips { 2 * length (network_of net.now) ≤ run.old.spare_flips }
+    requires room_for_steps { 2 * length (network_of net.now) ≤ run.old.spare_steps }
+    ensures run { IsSettleRun (network_of net.now) input.now start.now a.now b.now run.new.steps }
+    ensures turned { IsTurned (network_of net.now) rank.now b.now scratch.new.state }
+    ensures state { scratch.new.state ≡ end_of start.now run.new.steps }
+    ensures marked { scratch.new.marked ≡ [] }
+    ensures sorted { IsInKeyOrder rank.now scratch.new.sorted }
     ensures room { Spends run.old run.new }
 {
     // A getter of the network says that its circuit is one; the room and the bits are given by how often each variable
@@ -59,8 +96,9 @@ pub fn settle_run(
     let _variables = net.len();
     run_counts();
     run_ends();
-    spread_run(net, start, input, a, rank, true, scratch, run);
+    spread_in_order(net, start, input, a, rank, true, scratch, run);
     settle_rounds(when, b, scratch, run);
+    scratch.sort(rank);
     make_pass(net, rank, b, scratch, run);
 }
 

@@ -4,6 +4,7 @@ ghost use Rattle.hz_net.specs.Network.{network_of};
 ghost use Rattle.hz_net.specs.Passes.{algorithm_a, IsResult, AreRanks};
 ghost use Rattle.hz_net.specs.Starts.{IsStableStart};
 ghost use Rattle.hz_gmw.specs.Runs.{end_of};
+ghost use Rattle.hz_reach.specs.Order.{IsInKeyOrder};
 ghost use Rattle.hz_reach.specs.Spread.{IsSpreadRun};
 ghost use Rattle.hz_desk.specs.ResultsOfPasses.{HasPassResults};
 ghost use Rattle.hz_desk.specs.Filled.{AreRuns};
@@ -11,7 +12,7 @@ ghost use Rattle.hz_desk.specs.Room.{HasRunRoom, IsScratchFor};
 
 use crate::passes::Passes;
 use hz_core::Tri;
-use hz_cycle::{cycle_run, settle_run};
+use hz_cycle::{cycle_in_order, settle_in_order};
 use hz_gmw::Run;
 use hz_net::Net;
 use hz_reach::{Scratch, run_counts, spread_flips, spread_run};
@@ -50,12 +51,12 @@ pub(crate) fn make_runs(
     let when = passes.when.as_slice();
     make_spread(net, start, input, a, ranks, scratch, spread);
     settle.clear();
-    settle_run(net, start, input, a, ranks, when, b, scratch, settle);
+    settle_in_order(net, start, input, a, ranks, when, b, scratch, settle);
     cycle.clear();
-    cycle_run(net, input, ranks, b, scratch, cycle);
+    cycle_in_order(net, input, ranks, b, scratch, cycle);
 }
 
-// Makes the spread run in place of the run that was there.
+// Makes the spread run in place of the run that was there, and sorts the variables by rank.
 fn make_spread(
     net: &Net,
     start: &[bool],
@@ -74,6 +75,7 @@ fn make_spread(
     ensures run { IsSpreadRun (network_of net.now) input.now start.now a.now run.new.steps }
     ensures state { scratch.new.state ≡ end_of start.now run.new.steps }
     ensures marked { scratch.new.marked ≡ [] }
+    ensures sorted { IsInKeyOrder ranks.now scratch.new.sorted }
     ensures room { HasRunRoom (length (network_of net.now)) run.new }
 {
     run.clear();

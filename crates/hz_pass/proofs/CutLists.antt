@@ -1,11 +1,10 @@
 -- The lists of cuts by their data nodes: that a cut more keeps what is known of them.
-use Rattle.std.proofs.Common.{◌≡◌, ◌≢◌, ◌∙◌, ℕ, zero, suc, ◌+◌, ◌<◌, ◌≤◌, ◌⊎◌, Bool, Option, Some, None, List, [], ◌∷◌, ◌++◌, length, map, take, drop, get_or, set, replicate, slice_get, All, refl, sym, ap, subst, arith, inl, inr, Vec, Global}
+use Rattle.std.proofs.Common.{◌≡◌, ◌≢◌, ◌∙◌, ℕ, zero, suc, ◌+◌, ◌<◌, ◌≤◌, Bool, Option, Some, None, List, [], ◌∷◌, ◌++◌, length, map, take, drop, get_or, set, replicate, slice_get, All, refl, sym, ap, subst, arith, inl, inr, Vec, Global}
 use Rattle.std.specs.Prelude.{Contains}
-use Rattle.std.proofs.lemmas.Bool.{cases_eq, cases_lt}
-use Rattle.std.proofs.lemmas.List.{take_all, drop_all, append-nil, map-set, get_or-map, get_or-set_same, get_or-set_other, length-set, get_or-replicate, length-replicate}
+use Rattle.std.proofs.lemmas.Bool.{cases_eq}
+use Rattle.std.proofs.lemmas.List.{take_all, drop_all, append-nil, map-set, get_or-map, get_or-set_same, get_or-set_other, length-set, length-replicate}
 use Rattle.std.proofs.lemmas.List.Elements.{All-nil, All-push, Contains-append_left, Contains-push}
-use Rattle.hz_core.specs.Netlist.{Netlist, IsCircuit, IsCutNumber, primary_inputs, data_of}
-use Rattle.hz_core.proofs.CircuitLemmas.{data_of-node}
+use Rattle.hz_core.specs.Netlist.{Netlist, IsCutNumber, primary_inputs, data_of}
 use Rattle.hz_pass.specs.CutLists.{cuts_at, IsDataOf, AreDataCutsBelow, AreByData}
 
 -- what a push into one list makes of all

@@ -1,5 +1,5 @@
 -- One variable more in a round: what is known of the round stays known.
-use Rattle.std.proofs.Common.{◌≡◌, ◌≢◌, ℕ, ◌+◌, ◌<◌, Bool, List, [], ◌∷◌, ◌++◌, length, set, refl, sym, ap, ◌∙◌, subst, arith, inl, inr}
+use Rattle.std.proofs.Common.{◌≡◌, ◌≢◌, ℕ, ◌+◌, ◌<◌, Bool, true, false, List, [], ◌∷◌, ◌++◌, length, set, refl, sym, ap, ◌∙◌, subst, arith, inl, inr}
 use Rattle.std.specs.Prelude.{Contains}
 use Rattle.std.proofs.lemmas.Bool.{cases_eq}
 use Rattle.std.proofs.lemmas.List.{get_or-set_same, get_or-set_other, length-set}
@@ -10,7 +10,7 @@ use Rattle.hz_core.specs.declared.tri.Tri.TheVariants.{Zero}
 use Rattle.hz_net.specs.Network.{Driver, value_at, excitation3}
 use Rattle.hz_pass.specs.declared.round.Rule.{Rule}
 use Rattle.hz_pass.specs.Frontier.{next_value, Falls, IsMade, ListsChanges, is_open, open_weight, IsRoundSoFar}
-use Rattle.hz_pass.proofs.Values.{falls-at, closes, open_weight-set, open_weight-ones, sum_by-ones}
+use Rattle.hz_pass.proofs.Values.{same-or-differ, falls-at, closes, open_weight-set, open_weight-ones, sum_by-ones}
 
 -- no variable is evaluated
 pub round-begin :
@@ -25,6 +25,28 @@ round-begin rule net input state = record {
   };
   balance = λ weight. omega arith;
 }
+
+-- a final value is the one that the round makes
+pub made-final :
+    {rule : Rule} {net : List Driver} {input : List Bool} {state next : List Tri} {changed : List ℕ} {i : ℕ} →
+    length state ≡ length net → i < length net → Falls rule net input state → IsRoundSoFar rule net input state next changed →
+    is_open rule (value_at next i) ≡ false → IsMade rule net input state next i
+made-final {rule} {net} {input} {state} {next} {changed} {i} long inside falls so_far final =
+    let excited = excitation3 net input state i in
+    elim (so_far.either i) [
+      | inl was ↦ elim (same-or-differ (next_value rule (value_at state i) excited) (value_at state i)) [
+        | inl stays ↦ was ∙ sym stays
+        | inr changes ↦ (
+            let shut = closes rule (value_at state i) excited (falls-at rule net input state i inside falls) changes in
+            let both : true ≡ false = sym shut.0 ∙ (sym (ap (is_open rule) was) ∙ final) in
+            absurd (no-both both)
+            )
+      ]
+      | inr made ↦ made
+    ]
+  where
+    no-both : true ≡ false → ⊥
+    no-both e = cc
 
 -- a variable that changes is listed
 lists-more :

@@ -38,6 +38,11 @@ differ-by-test Unknown Zero test = λ e. cc
 differ-by-test Unknown One test = λ e. cc
 differ-by-test Unknown Unknown test = cc
 
+-- what a test for a value that is not open tells
+pub not-true : (b : Bool) → true ≡ not b → b ≡ false
+not-true true test = cc
+not-true false test = refl
+
 -- an excitation that takes the place of a value lies below it
 abbrev pub FallsAt : Rule → Tri → Tri → Type 0
 FallsAt Join value excited = Unit {0}

@@ -1,7 +1,7 @@
 -- Lists of cuts by their data nodes.
-use Rattle.std.specs.Prelude.{◌≡◌, ℕ, ◌<◌, ◌≤◌, Bool, Option, Some, None, List, [], length, All, Contains, slice_get}
+use Rattle.std.specs.Prelude.{◌≡◌, ℕ, ◌<◌, Bool, Option, Some, None, List, [], length, All, Contains, slice_get}
 use Rattle.std.specs.List.{slice_index_or}
-use Rattle.hz_core.specs.Netlist.{Netlist, IsCutNumber, primary_inputs, data_of}
+use Rattle.hz_core.specs.Netlist.{Netlist, IsCutNumber, data_of}
 
 -- the list of a node, empty where there is none
 abbrev pub cuts_at : List (List ℕ) → ℕ → List ℕ

@@ -1,8 +1,8 @@
 //! One round of a pass, which evaluates some of the variables.
-ghost use Rattle.std.specs.Prelude.{◌≡◌, ◌+◌, ◌<◌, ◌≤◌, ℕ, [], length, fold, slice_set, sum_by, vec_capacity, All};
+ghost use Rattle.std.specs.Prelude.{◌≡◌, ◌+◌, ◌<◌, ◌≤◌, ℕ, [], length, not, fold, slice_set, sum_by, vec_capacity, All};
 ghost use Rattle.hz_core.specs.Netlist.{IsCircuit};
 ghost use Rattle.hz_net.specs.Network.{network_of, value_at};
-ghost use Rattle.hz_pass.specs.Frontier.{next_value, Falls, IsMade, IsQuiet, IsRoundSoFar, IsRound, reader_count, with_values_of};
+ghost use Rattle.hz_pass.specs.Frontier.{next_value, is_open, Falls, IsMade, IsQuiet, IsRoundSoFar, IsRound, reader_count, with_values_of};
 
 use hz_core::Tri;
 use hz_net::Net;
@@ -25,6 +25,17 @@ impl Rule {
         match self {
             Rule::Join => value.join(excited),
             Rule::Replace => excited,
+        }
+    }
+
+    // Whether no round changes a value any more: a join with X is X, and what is put in the place of a known value is
+    // that value.
+    fn is_final(self, value: Tri) -> bool
+        ensures { result ≡ not (is_open self value) }
+    {
+        match self {
+            Rule::Join => value == Tri::Unknown,
+            Rule::Replace => value != Tri::Unknown,
         }
     }
 }
@@ -113,7 +124,8 @@ impl Round<'_> {
         }
     }
 
-    // Evaluates a variable, and lists it if this changes it. It may have been evaluated in this round already.
+    // Evaluates a variable, and lists it if this changes it. It may have been evaluated in this round already. Nothing
+    // is left to do for a final value, but it counts as an evaluation too.
     fn evaluate<L: Ledger>(
         &self,
         var: u32,
@@ -134,6 +146,10 @@ impl Round<'_> {
         ensures room { vec_capacity changed.new ≡ vec_capacity changed.old }
         ensures steps { steps.new ≡ steps.old + 1 }
     {
+        if self.rule.is_final(next[var as usize]) {
+            steps.tick();
+            return;
+        }
         let excited = self.net.excite3(self.input, self.state, var, steps);
         let value = self.rule.next(self.state[var as usize], excited);
         if next[var as usize] != value {

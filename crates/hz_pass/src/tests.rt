@@ -1,7 +1,9 @@
 //! Rows worked by hand: what the passes find on circuits of a few gates.
-ghost use Rattle.std.specs.Prelude.{◌≡◌, ◌<◌, length};
+ghost use Rattle.std.specs.Prelude.{◌≡◌, ◌+◌, ◌*◌, ◌<◌, ◌≤◌, length};
 ghost use Rattle.hz_core.specs.Netlist.{primary_inputs};
-ghost use Rattle.hz_net.specs.Network.{network_of};
+ghost use Rattle.hz_core.specs.Ternary.{AllBelow};
+ghost use Rattle.hz_net.specs.Network.{network_of, wires_of};
+ghost use Rattle.hz_net.specs.Passes.{algorithm_a, excitations, AreRounds};
 
 use super::{Front, StartFault, complete, settle, spread};
 use hz_core::Tri::{One, Unknown, Zero};
@@ -24,9 +26,11 @@ struct Found {
     rounds_b: u32,
 }
 
-fn find(alloc: Global, net: &Net, start: &[bool], input: &[bool]) -> Result<Found, Fail>
+// Runs both passes. Each makes at most `most` evaluations: one for each variable and two for each wire.
+fn find(alloc: Global, net: &Net, start: &[bool], input: &[bool], most: u32) -> Result<Found, Fail>
     requires start { length start.now ≡ length (network_of net.now) }
     requires input { length input.now ≡ net.now.inputs }
+    requires most { most ≡ length (network_of net.now) + 2 * length (wires_of net.now) }
 {
     let variables = net.len() as usize;
     let mut a = vec![in alloc; Zero; variables]?;
@@ -39,6 +43,7 @@ fn find(alloc: Global, net: &Net, start: &[bool], input: &[bool]) -> Result<Foun
         net,
         start,
         input,
+        most,
         &mut a,
         &mut ranks,
         &mut b,
@@ -62,6 +67,7 @@ fn pass<L: Ledger>(
     net: &Net,
     start: &[bool],
     input: &[bool],
+    most: u32,
     a: &mut [Tri],
     ranks: &mut [u32],
     b: &mut [Tri],
@@ -72,6 +78,7 @@ fn pass<L: Ledger>(
 ) -> (u32, u32)
     requires start { length start.now ≡ length (network_of net.now) }
     requires input { length input.now ≡ net.now.inputs }
+    requires most { most ≡ length (network_of net.now) + 2 * length (wires_of net.now) }
     requires a { length a.old ≡ length (network_of net.now) }
     requires ranks { length ranks.old ≡ length (network_of net.now) }
     requires b { length b.old ≡ length (network_of net.now) }
@@ -84,10 +91,67 @@ fn pass<L: Ledger>(
 {
     let (book, share) = ledger.open::<L>();
     let mut steps = Steps::new(book, share);
-    let rounds_a = spread(net, input, start, a, ranks, work, front, &mut steps);
+    let rounds_a = spread_counted(net, start, input, most, a, ranks, work, front, &mut steps);
     b.copy_from_slice(a);
-    let rounds_b = settle(net, input, b, settled, work, front, &mut steps);
+    let rounds_b = settle_counted(net, input, most, b, settled, work, front, &mut steps);
     (rounds_a, rounds_b)
+}
+
+// Algorithm A with a number that it adds to the count of evaluations at most.
+fn spread_counted<L: Ledger>(
+    net: &Net,
+    start: &[bool],
+    input: &[bool],
+    most: u32,
+    a: &mut [Tri],
+    ranks: &mut [u32],
+    work: &mut [Tri],
+    front: &mut Front,
+    steps: &mut Steps<L>,
+) -> u32
+    requires start { length start.now ≡ length (network_of net.now) }
+    requires input { length input.now ≡ net.now.inputs }
+    requires most { most ≡ length (network_of net.now) + 2 * length (wires_of net.now) }
+    requires a { length a.old ≡ length (network_of net.now) }
+    requires ranks { length ranks.old ≡ length (network_of net.now) }
+    requires work { length work.old ≡ length (network_of net.now) }
+    requires front { front.old ≡ length (network_of net.now) }
+    ensures rounds { AreRounds (algorithm_a (network_of net.now) input.now start.now) result }
+    ensures a { a.new ≡ algorithm_a (network_of net.now) input.now start.now result }
+    ensures front { front.new ≡ front.old }
+    ensures count { steps.new ≤ steps.old + most }
+{
+    spread(net, input, start, a, ranks, work, front, steps)
+}
+
+// The same of Algorithm B.
+fn settle_counted<L: Ledger>(
+    net: &Net,
+    input: &[bool],
+    most: u32,
+    b: &mut [Tri],
+    settled: &mut [u32],
+    work: &mut [Tri],
+    front: &mut Front,
+    steps: &mut Steps<L>,
+) -> u32
+    requires input { length input.now ≡ net.now.inputs }
+    requires most { most ≡ length (network_of net.now) + 2 * length (wires_of net.now) }
+    requires b { length b.old ≡ length (network_of net.now) }
+    requires settled { length settled.old ≡ length (network_of net.now) }
+    requires work { length work.old ≡ length (network_of net.now) }
+    requires below { AllBelow (excitations (network_of net.now) input.now b.old) b.old }
+    requires front { front.old ≡ length (network_of net.now) }
+    ensures count { steps.new ≤ steps.old + most }
+{
+    settle(net, input, b, settled, work, front, steps)
+}
+
+// The number of wires.
+fn wire_count(net: &Net) -> u32
+    ensures { result ≡ length (wires_of net.now) }
+{
+    net.len() - net.circuit().nodes()
 }
 
 // Two wires of one source: variables x, y, y(1), y(2).
@@ -132,7 +196,8 @@ fn passes_over_two_wires_of_one_source(rt: HostRuntime) -> Result<(), Fail> {
     let net = Net::build(rt.alloc(), circuit)?;
     assert_eq!(rt; net.len(), 4);
     assert_eq!(rt; net.circuit().inputs(), 1);
-    let found = find(rt.alloc(), &net, &[false; 4], &[true])?;
+    assert_eq!(rt; wire_count(&net), 2);
+    let found = find(rt.alloc(), &net, &[false; 4], &[true], 8)?;
     assert_eq!(rt; (found.rounds_a, found.rounds_b), (4, 4));
     assert_eq!(rt; found.a.as_slice(), [Unknown; 4].as_slice());
     assert_eq!(rt; found.ranks.as_slice(), [1, 3, 2, 2].as_slice());
@@ -150,7 +215,8 @@ fn passes_over_a_latch(rt: HostRuntime) -> Result<(), Fail> {
     assert_eq!(rt; net.len(), 8);
     assert_eq!(rt; net.circuit().inputs(), 2);
     let start = [true, true, false, false, true, false, true, false];
-    let found = find(rt.alloc(), &net, &start, &[false; 2])?;
+    assert_eq!(rt; wire_count(&net), 4);
+    let found = find(rt.alloc(), &net, &start, &[false; 2], 16)?;
     assert_eq!(rt; (found.rounds_a, found.rounds_b), (5, 3));
     assert_eq!(rt; found.ranks.as_slice(), [1, 1, 3, 3, 2, 4, 2, 4].as_slice());
     assert_eq!(rt;

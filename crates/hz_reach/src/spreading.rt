@@ -20,7 +20,7 @@ ghost use Rattle.hz_net.specs.Passes.{algorithm_a, IsResult, AreRanks};
 ghost use Rattle.hz_net.specs.Starts.{IsStableStart};
 ghost use Rattle.hz_net.specs.Variables.{first_wire, at_wires};
 ghost use Rattle.hz_gmw.specs.Runs.{end_of};
-ghost use Rattle.hz_reach.specs.Order.{key_at};
+ghost use Rattle.hz_reach.specs.Order.{key_at, IsInKeyOrder};
 ghost use Rattle.hz_reach.specs.Room.{Spends};
 ghost use Rattle.hz_reach.specs.Spread.{IsSpreadRun, IsSparingRun};
 ghost use Rattle.hz_reach.specs.Turn.{changed_inputs, free_pins, changed_wires, AreChangedWires, unchanged_wires};
@@ -38,8 +38,8 @@ use hz_net::Net;
 /// the canonical pattern says which of them change. Last come the wires that have not changed; `keep_unused` leaves them
 /// out. A step that would be empty is not made.
 ///
-/// `a` and `rank` are what Algorithm A gives for this start and input. The last state stands in `scratch` afterwards. It
-/// takes no memory and cannot fail.
+/// `a` and `rank` are what Algorithm A gives for this start and input. The last state stands in `scratch` afterwards, and
+/// its variables are sorted by rank. It takes no memory and cannot fail.
 pub fn spread_run(
     net: &Net,
     start: &[bool],
@@ -64,11 +64,44 @@ pub fn spread_run(
         (IsSpreadRun (network_of net.now) input.now start.now a.now run.new.steps) }
     ensures state { scratch.new.state ≡ end_of start.now run.new.steps }
     ensures marked { scratch.new.marked ≡ [] }
+    ensures sorted { IsInKeyOrder rank.now scratch.new.sorted }
+    ensures room { Spends run.old run.new }
+{
+    scratch.sort(rank);
+    spread_in_order(net, start, input, a, rank, keep_unused, scratch, run);
+}
+
+/// The spread run, if the variables of `scratch` are sorted by rank already. They stay so.
+pub fn spread_in_order(
+    net: &Net,
+    start: &[bool],
+    input: &[bool],
+    a: &[Tri],
+    rank: &[u32],
+    keep_unused: bool,
+    scratch: &mut Scratch,
+    run: &mut Run,
+)
+    requires start { IsStableStart net.now start.now }
+    requires input { length input.now ≡ net.now.inputs }
+    requires a { IsResult (algorithm_a (network_of net.now) input.now start.now) a.now }
+    requires rank { AreRanks (algorithm_a (network_of net.now) input.now start.now) a.now rank.now }
+    requires scratch { length scratch.old.state ≡ length (network_of net.now) }
+    requires none_marked { scratch.old.marked ≡ [] }
+    requires sorted { IsInKeyOrder rank.now scratch.old.sorted }
+    requires empty { run.old.steps ≡ [] }
+    requires room_for_flips { length (network_of net.now) ≤ run.old.spare_flips }
+    requires room_for_steps { length (network_of net.now) ≤ run.old.spare_steps }
+    ensures run { MatchBool keep_unused
+        (IsSparingRun (network_of net.now) input.now start.now a.now rank.now run.new.steps)
+        (IsSpreadRun (network_of net.now) input.now start.now a.now run.new.steps) }
+    ensures state { scratch.new.state ≡ end_of start.now run.new.steps }
+    ensures marked { scratch.new.marked ≡ [] }
+    ensures sorted { IsInKeyOrder rank.now scratch.new.sorted }
     ensures room { Spends run.old run.new }
 {
     let circuit = net.circuit();
     scratch.begin(start);
-    scratch.sort(rank);
     mark_inputs(net, start, input, scratch);
     scratch.step(run);
     for place in 0..scratch.sorted().len() {

@@ -1,5 +1,5 @@
 -- Each gate of the order has its turn; what is no unsettled gate has none.
-use Rattle.std.proofs.Common.{◌≡◌, ◌∙◌, ◌+◌, ◌<◌, ℕ, Bool, true, List, length, get_or, sym, ap, subst, arith}
+use Rattle.std.proofs.Common.{◌≡◌, ◌∙◌, ◌+◌, ◌<◌, ℕ, Bool, true, List, length, get_or, refl, sym, ap, subst, arith}
 use Rattle.std.proofs.lemmas.Bool.{both_ways}
 use Rattle.hz_core.specs.declared.tri.Tri.{Tri}
 use Rattle.hz_core.specs.declared.kind.Kind.{Kind}
@@ -33,7 +33,7 @@ loop-place-init c =
       begins = c.requires.begins;
       room = c.requires.room;
     } in
-    (passing-begin asked c.sort.ensures.sorted (c.sort.ensures.marked ∙ c.requires.none_marked) c.sort.ensures.state, ap (length {A = ℕ}) c.sorted-place-end.ensures)
+    (passing-begin asked c.requires.sorted c.requires.none_marked refl, ap (length {A = ℕ}) c.sorted-place-end.ensures)
 
 pub bounds-b-var : goal.bounds-b-var
 bounds-b-var c =
@@ -166,3 +166,6 @@ loop-place-preserved c =
 
 pub returns-clause-pass : goal.returns-clause-pass
 returns-clause-pass c = passing-end c.loop-place.invariant.0 (omega (arith, c.loop-place-test.false, c.loop-place.invariant.1))
+
+pub returns-clause-sorted : goal.returns-clause-sorted
+returns-clause-sorted c = c.loop-place.invariant.0.sorted

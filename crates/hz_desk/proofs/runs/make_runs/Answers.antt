@@ -6,22 +6,22 @@ use Rattle.hz_desk.proofs.RowFacts.{long-a, long-b}
 use Rattle.hz_desk.proofs.FewSteps.{are-runs}
 use Rattle.hz_desk.proofs.runs.make_runs.Goals as goal
 
-pub settle_run-requires-clause-when : goal.settle_run-requires-clause-when
-settle_run-requires-clause-when c =
+pub settle_in_order-requires-clause-when : goal.settle_in_order-requires-clause-when
+settle_in_order-requires-clause-when c =
     rw (c.as_slice-a.ensures.value, c.as_slice-b.ensures.value, c.as_slice-when.ensures.value) c.requires.passed.2.settling
 
-pub settle_run-requires-clause-scratch : goal.settle_run-requires-clause-scratch
-settle_run-requires-clause-scratch c =
+pub settle_in_order-requires-clause-scratch : goal.settle_in_order-requires-clause-scratch
+settle_in_order-requires-clause-scratch c =
     ap length c.make_spread.ensures.state ∙ (length-end_of c.args.start.now c.make_spread.new.run.steps ∙ c.requires.start.long)
 
 pub returns-clause-scratch : goal.returns-clause-scratch
 returns-clause-scratch c = record {
-  long = ap length (c.cycle_run.ensures.state ∙ c.settle_run.ensures.state) ∙ (length-end_of c.args.start.now c.settle_run.new.run.steps ∙ c.requires.start.long);
-  none_marked = c.cycle_run.ensures.marked;
+  long = ap length (c.cycle_in_order.ensures.state ∙ c.settle_in_order.ensures.state) ∙ (length-end_of c.args.start.now c.settle_in_order.new.run.steps ∙ c.requires.start.long);
+  none_marked = c.cycle_in_order.ensures.marked;
 }
 
-pub settle_run-requires-clause-b : goal.settle_run-requires-clause-b
-settle_run-requires-clause-b c =
+pub settle_in_order-requires-clause-b : goal.settle_in_order-requires-clause-b
+settle_in_order-requires-clause-b c =
     rw (c.as_slice-a.ensures.value, c.as_slice-b.ensures.value) (c.requires.passed.1, c.requires.passed.2.b_rounds, c.requires.passed.2.b_result)
 
 pub returns-clause-runs : goal.returns-clause-runs
@@ -31,12 +31,12 @@ returns-clause-runs c =
     let a_is = c.as_slice-a.ensures.value in
     let b_is = c.as_slice-b.ensures.value in
     let spread = c.make_spread.ensures.run in
-    let settle = c.settle_run.ensures.run in
-    let cycle = c.cycle_run.ensures.cycle in
+    let settle = c.settle_in_order.ensures.run in
+    let cycle = c.cycle_in_order.ensures.cycle in
     let few = c.len-variables.ensures.bound in
     are-runs c.run_counts.ensures.steps c.spread_flips.ensures (network_of c.args.net.now) c.args.input.now c.args.start.now passes.a.items passes.b.items
-    c.make_spread.new.run.steps c.settle_run.new.run.steps c.cycle_run.new.run.steps
+    c.make_spread.new.run.steps c.settle_in_order.new.run.steps c.cycle_in_order.new.run.steps
     (omega (arith, few, c.len-variables.ensures.len))
     (long-a c.args.net.now c.args.input.now c.args.start.now passes.a.items passes.ranks.items passes.b.items passes.when.items passed.0 passed.1 c.requires.start passed.2)
     (long-b c.args.net.now c.args.input.now c.args.start.now passes.a.items passes.ranks.items passes.b.items passes.when.items passed.0 passed.1 c.requires.start passed.2)
-    (rw a_is at spread) (rw (a_is, b_is) at settle) (rw (b_is, c.settle_run.ensures.state) at cycle)
+    (rw a_is at spread) (rw (a_is, b_is) at settle) (rw (b_is, c.settle_in_order.ensures.state) at cycle)

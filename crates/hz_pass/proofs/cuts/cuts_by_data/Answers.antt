@@ -1,5 +1,4 @@
-use Rattle.std.proofs.Common.{◌∙◌, ℕ, List, length, map, ap, sym, subst, arith, Vec, Global}
-use Rattle.std.proofs.lemmas.List.{length-map}
+use Rattle.std.proofs.Common.{ℕ, List, length, map, ap, sym, subst, arith, Vec, Global}
 use Rattle.hz_pass.specs.CutLists.{AreByData}
 use Rattle.hz_pass.proofs.CutLists.{by_data-filed, lists_back}
 use Rattle.hz_pass.proofs.cuts.cuts_by_data.Goals as goal

@@ -1,8 +1,7 @@
-use Rattle.std.proofs.Common.{◌≡◌, ◌∙◌, ◌<◌, ◌+◌, ◌++◌, ◌∷◌, [], ℕ, List, Some, None, length, map, set, sym, ap, subst, arith, Vec, Global}
-use Rattle.std.proofs.lemmas.List.{length-map}
+use Rattle.std.proofs.Common.{◌≡◌, ◌∙◌, ◌<◌, ◌+◌, ℕ, List, Some, length, map, sym, subst, arith, Vec, Global}
 use Rattle.hz_core.specs.Netlist.{IsCutNumber, data_of}
 use Rattle.hz_core.proofs.CircuitLemmas.{data_of-node}
-use Rattle.hz_pass.specs.CutLists.{IsDataOf, AreDataCutsBelow}
+use Rattle.hz_pass.specs.CutLists.{AreDataCutsBelow}
 use Rattle.hz_pass.proofs.CutLists.{filed-none, filed-more}
 use Rattle.hz_pass.proofs.cuts.file_cuts.Goals as goal
 use Rattle.hz_pass.proofs.cuts.file_cuts.Goals.{in-Some+in_ok-file, in_default}

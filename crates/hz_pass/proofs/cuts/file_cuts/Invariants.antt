@@ -1,6 +1,5 @@
 use Rattle.std.proofs.Common.{ℕ, map, Vec, Global}
 use Rattle.hz_pass.specs.CutLists.{AreDataCutsBelow}
-use Rattle.hz_pass.proofs.CutLists.{filed-begin}
 use Rattle.hz_pass.proofs.cuts.file_cuts.Given as goal
 
 -- the cuts so far are in their lists

@@ -1,5 +1,4 @@
 use Rattle.hz_pass.specs.Forcing.{IsTaken}
-use Rattle.hz_pass.proofs.Delivery.{taken-begin, taken-step}
 use Rattle.hz_pass.proofs.forcing.take_data.Given as goal
 
 -- the cuts so far have the value

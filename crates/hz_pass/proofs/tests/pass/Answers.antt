@@ -6,10 +6,10 @@ use Rattle.hz_net.specs.Passes.{excitations, algorithm_a}
 use Rattle.hz_net.proofs.Sequences.{AllBelow-closed, closed-result}
 use Rattle.hz_pass.proofs.tests.pass.Goals as goal
 
-pub settle-rounds_b-requires-clause-below : goal.settle-rounds_b-requires-clause-below
-settle-rounds_b-requires-clause-below g c =
+pub settle_counted-rounds_b-requires-clause-below : goal.settle_counted-rounds_b-requires-clause-below
+settle_counted-rounds_b-requires-clause-below g c =
     let net = network_of c.args.net.now in
     let input = c.args.input.now in
-    let result = algorithm_a net input c.args.start.now c.spread-rounds_a.result in
-    subst (λ (values : List Tri). AllBelow (excitations net input values) values) (sym (c.copy_from_slice.ensures.after ∙ c.spread-rounds_a.ensures.out))
-    (AllBelow-closed net input result (closed-result net input c.args.start.now c.spread-rounds_a.result c.requires.start c.spread-rounds_a.ensures.rounds))
+    let result = algorithm_a net input c.args.start.now c.spread_counted-rounds_a.result in
+    subst (λ (values : List Tri). AllBelow (excitations net input values) values) (sym (c.copy_from_slice.ensures.after ∙ c.spread_counted-rounds_a.ensures.a))
+    (AllBelow-closed net input result (closed-result net input c.args.start.now c.spread_counted-rounds_a.result c.requires.start c.spread_counted-rounds_a.ensures.rounds))

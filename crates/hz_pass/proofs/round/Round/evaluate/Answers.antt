@@ -1,9 +1,14 @@
 use Rattle.std.proofs.Common.{◌∙◌, subst, ap, sym, set, arith, List, ℕ}
 use Rattle.hz_net.specs.Network.{network_of, value_at}
-use Rattle.hz_pass.specs.Frontier.{next_value, IsRoundSoFar}
-use Rattle.hz_pass.proofs.Values.{differ-by-test}
-use Rattle.hz_pass.proofs.Evaluations.{room-for-change, round-more, made-still}
+use Rattle.hz_pass.specs.Frontier.{next_value, is_open, IsRoundSoFar}
+use Rattle.hz_pass.proofs.Values.{differ-by-test, not-true}
+use Rattle.hz_pass.proofs.Evaluations.{made-final, room-for-change, round-more, made-still}
 use Rattle.hz_pass.proofs.round.Round.evaluate.Goals as goal
+
+pub returns-then-is_final-clause-made : goal.returns-then-is_final-clause-made
+returns-then-is_final-clause-made g c =
+    made-final c.requires.state c.requires.var c.requires.falls c.requires.so_far
+    (not-true (is_open c.args.self.now.rule (value_at c.args.next.now c.args.var)) (sym (sym c.is_final.ensures ∙ c.if-is_final.true)))
 
 pub push_reserved-requires : goal.push_reserved-requires
 push_reserved-requires g c =
