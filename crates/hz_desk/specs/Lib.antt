@@ -15,7 +15,7 @@
 -- ArePassResults netlist input start a ranks b when rounds_a rounds_b: the results of both algorithms
 -- HavePassRoom, HasRunRoom, HasRooms, IsRoomFor: there is room for the analysis of every change
 -- DeskOf, LeavesDesk: what the code's Desk holds, and what it leaves behind
--- IsAlong net input start steps number races state: how far the replayer has gone along a run
+-- IsAlong net input start steps number races state: how far a follower has gone along a run
 
 pub mod Class
 pub mod Races

@@ -1,4 +1,4 @@
--- Runs of a length that a number of 32 bits counts, and how far a replayer went along one. Words about the inside of hz_desk.
+-- Runs of a length that a number of 32 bits counts, and how far a follower went along one. Words about the inside of hz_desk.
 use Rattle.std.specs.Prelude.{◌≡◌, ℕ, ◌+◌, ◌≤◌, Bool, List, length, drop}
 use Rattle.hz_net.specs.Network.{Driver}
 use Rattle.hz_gmw.specs.Runs.{IsRun, end_of}
@@ -9,7 +9,7 @@ pub record IsShortRun (net : List Driver) (input start : List Bool) (steps : Lis
   pub run : IsRun net input start steps
   pub short : length steps ≤ 1000000
 
--- After so many steps of a run the replayer is in a state from which the other steps go on, and has counted so many race
+-- After so many steps of a run the follower is in a state from which the other steps go on, and has counted so many race
 -- states before it.
 pub record IsAlong (net : List Driver) (input start : List Bool) (steps : List (List ℕ)) (number races : ℕ) (state : List Bool) : Type 0 where
   pub run : IsRun net input state (drop number steps)

@@ -9,7 +9,7 @@
 //! | `room` | what an analysis works with, and the analysis in it |
 //! | `passes` | both passes, and what they leave for the runs |
 //! | `runs` | the three runs |
-//! | `races` | race states, counted while the replayer goes along the runs |
+//! | `races` | race states, counted while a follower goes along the runs |
 #![tactic(auto)]
 
 mod class;

@@ -1,4 +1,4 @@
-//! Race states, counted while the replayer goes along the runs.
+//! Race states, counted while a follower goes along the runs.
 ghost use Rattle.std.specs.Prelude.{◌≡◌, ◌≤◌, length, if◌then◌else◌};
 ghost use Rattle.hz_net.specs.Network.{network_of};
 ghost use Rattle.hz_gmw.specs.Runs.{end_of};
@@ -7,7 +7,7 @@ ghost use Rattle.hz_desk.specs.Races.{is_race, race_count, states_before, cycle_
 ghost use Rattle.hz_desk.specs.RunProgress.{IsShortRun};
 ghost use Rattle.hz_desk.specs.Filled.{AreRacesOf};
 
-use hz_gmw::{Replay, Run};
+use hz_gmw::{Follower, Run};
 
 /// How many states of each run are race states.
 #[derive(Clone, Copy)]
@@ -19,24 +19,26 @@ pub(crate) struct Races {
 
 // Counts the race states of the three runs of a change.
 pub(crate) fn count_races(
-    replay: &mut Replay,
+    follower: &mut Follower,
     input: &[bool],
     start: &[bool],
     spread: &Run,
     settle: &Run,
     cycle: &Run,
 ) -> Races
-    requires input { length input.now ≡ replay.old.circuit.inputs }
-    requires start { length start.now ≡ length (network_of replay.old.circuit) }
-    requires spread { IsShortRun (network_of replay.old.circuit) input.now start.now spread.now.steps }
-    requires settle { IsShortRun (network_of replay.old.circuit) input.now start.now settle.now.steps }
-    requires cycle { IsShortRun (network_of replay.old.circuit) input.now (end_of start.now settle.now.steps) cycle.now.steps }
-    ensures races { AreRacesOf (network_of replay.old.circuit) input.now start.now spread.now.steps settle.now.steps cycle.now.steps result.spread result.settle result.cycle }
-    ensures circuit { replay.new.circuit ≡ replay.old.circuit }
+    requires input { length input.now ≡ follower.old.circuit.inputs }
+    requires start { length start.now ≡ length (network_of follower.old.circuit) }
+    requires spread { IsShortRun (network_of follower.old.circuit) input.now start.now spread.now.steps }
+    requires settle { IsShortRun (network_of follower.old.circuit) input.now start.now settle.now.steps }
+    requires cycle { IsShortRun (network_of follower.old.circuit) input.now (end_of start.now settle.now.steps) cycle.now.steps }
+    ensures races { AreRacesOf (network_of follower.old.circuit) input.now start.now spread.now.steps settle.now.steps cycle.now.steps result.spread result.settle result.cycle }
+    ensures circuit { follower.new.circuit ≡ follower.old.circuit }
 {
-    let spread = run_races(replay, input, start, spread);
-    let settle = run_races(replay, input, start, settle);
-    let cycle = cycle_races(replay, cycle);
+    follower.begin(input, start);
+    let spread = run_races(follower, spread);
+    follower.restart();
+    let settle = run_races(follower, settle);
+    let cycle = cycle_races(follower, cycle);
     Races {
         spread,
         settle,
@@ -44,53 +46,52 @@ pub(crate) fn count_races(
     }
 }
 
-// Counts the race states of a run from a state under an input. The replayer goes along it.
-fn run_races(replay: &mut Replay, input: &[bool], start: &[bool], run: &Run) -> u32
-    requires input { length input.now ≡ replay.old.circuit.inputs }
-    requires start { length start.now ≡ length (network_of replay.old.circuit) }
-    requires run { IsShortRun (network_of replay.old.circuit) input.now start.now run.now.steps }
-    ensures races { result ≡ race_count (network_of replay.old.circuit) input.now (states_of start.now run.now.steps) }
-    ensures circuit { replay.new.circuit ≡ replay.old.circuit }
-    ensures input { replay.new.input ≡ input.now }
-    ensures ends { replay.new.state ≡ end_of start.now run.now.steps }
+// Counts the race states of a run from the current state. The follower goes along it.
+fn run_races(follower: &mut Follower, run: &Run) -> u32
+    requires { IsShortRun (network_of follower.old.circuit) follower.old.input follower.old.state run.now.steps }
+    ensures races { result ≡ race_count (network_of follower.old.circuit) follower.old.input (states_of follower.old.state run.now.steps) }
+    ensures circuit { follower.new.circuit ≡ follower.old.circuit }
+    ensures input { follower.new.input ≡ follower.old.input }
+    ensures begun { follower.new.begun ≡ follower.old.begun }
+    ensures ends { follower.new.state ≡ end_of follower.old.state run.now.steps }
 {
-    replay.begin(input, start);
-    let before = races_before(replay, run);
-    before + race_here(replay)
+    let before = races_before(follower, run);
+    before + race_here(follower)
 }
 
-// Counts the race states of a cycle from the present state, without its last one, which is the first again.
-fn cycle_races(replay: &mut Replay, cycle: &Run) -> u32
-    requires { IsShortRun (network_of replay.old.circuit) replay.old.input replay.old.state cycle.now.steps }
-    ensures races { result ≡ race_count (network_of replay.old.circuit) replay.old.input (cycle_states replay.old.state cycle.now.steps) }
-    ensures circuit { replay.new.circuit ≡ replay.old.circuit }
+// Counts the race states of a cycle from the current state, without its last one, which is the first again.
+fn cycle_races(follower: &mut Follower, cycle: &Run) -> u32
+    requires { IsShortRun (network_of follower.old.circuit) follower.old.input follower.old.state cycle.now.steps }
+    ensures races { result ≡ race_count (network_of follower.old.circuit) follower.old.input (cycle_states follower.old.state cycle.now.steps) }
+    ensures circuit { follower.new.circuit ≡ follower.old.circuit }
 {
     if cycle.steps() == 0 {
-        return race_here(replay);
+        return race_here(follower);
     }
-    races_before(replay, cycle)
+    races_before(follower, cycle)
 }
 
 // Counts the race states in which the steps of a run begin, and makes these steps.
-fn races_before(replay: &mut Replay, run: &Run) -> u32
-    requires { IsShortRun (network_of replay.old.circuit) replay.old.input replay.old.state run.now.steps }
-    ensures races { result ≡ race_count (network_of replay.old.circuit) replay.old.input (states_before replay.old.state run.now.steps) }
+fn races_before(follower: &mut Follower, run: &Run) -> u32
+    requires { IsShortRun (network_of follower.old.circuit) follower.old.input follower.old.state run.now.steps }
+    ensures races { result ≡ race_count (network_of follower.old.circuit) follower.old.input (states_before follower.old.state run.now.steps) }
     ensures few { result ≤ 1000000 }
-    ensures circuit { replay.new.circuit ≡ replay.old.circuit }
-    ensures input { replay.new.input ≡ replay.old.input }
-    ensures ends { replay.new.state ≡ end_of replay.old.state run.now.steps }
+    ensures circuit { follower.new.circuit ≡ follower.old.circuit }
+    ensures input { follower.new.input ≡ follower.old.input }
+    ensures begun { follower.new.begun ≡ follower.old.begun }
+    ensures ends { follower.new.state ≡ end_of follower.old.state run.now.steps }
 {
     let mut races = 0;
     for number in 0..run.steps() {
-        races += race_here(replay);
-        replay.step(run.step(number)).unwrap();
+        races += race_here(follower);
+        follower.step(run.step(number));
     }
     races
 }
 
-// 1 if the present state is a race state, else 0.
-fn race_here(replay: &Replay) -> u32
-    ensures { result ≡ (if is_race (network_of replay.now.circuit) replay.now.input replay.now.state then 1 else 0) }
+// 1 if the current state is a race state, else 0.
+fn race_here(follower: &Follower) -> u32
+    ensures { result ≡ (if is_race (network_of follower.now.circuit) follower.now.input follower.now.state then 1 else 0) }
 {
-    if replay.unstable_count() >= 2 { 1 } else { 0 }
+    if follower.unstable_count() >= 2 { 1 } else { 0 }
 }

@@ -18,7 +18,7 @@ use crate::runs::make_runs;
 use hz_core::Memory;
 use hz_cycle::runs_show_b;
 use hz_free::{Free, words_change};
-use hz_gmw::{Replay, a_covers, b_covers};
+use hz_gmw::{Follower, a_covers, b_covers};
 use hz_net::Net;
 use hz_reach::{Scratch, a_is_exact};
 use hz_word::Word;
@@ -31,7 +31,7 @@ pub(crate) struct Room<'n> {
     pub passes: Passes,
     pub scratch: Scratch,
     pub words: Vec<Option<Word>>,
-    pub replay: Replay<'n>,
+    pub follower: Follower<'n>,
     pub finding: Finding,
 }
 
@@ -46,14 +46,14 @@ impl<'n> Room<'n> {
         let Ok(words) = vec![in alloc; None; net.len() as usize] else {
             return Err(Memory);
         };
-        let replay = Replay::new(alloc, net)?;
+        let follower = Follower::new(alloc, net)?;
         let finding = Finding::with_room(alloc, net.len(), net.circuit().inputs())?;
         Ok(Room {
             free,
             passes,
             scratch,
             words,
-            replay,
+            follower,
             finding,
         })
     }
@@ -96,7 +96,7 @@ impl<'n> Room<'n> {
             &mut self.finding.rows,
         );
         let races = count_races(
-            &mut self.replay,
+            &mut self.follower,
             input,
             start,
             &self.finding.spread,

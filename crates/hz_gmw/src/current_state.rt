@@ -112,6 +112,50 @@ impl CurrentState {
         }
     }
 
+    // The same state, with its counts, in room of its own.
+    pub(crate) fn copy(&self, alloc: Global, net: &Net) -> Result<CurrentState, Memory>
+        requires { IsExact net.now self.now }
+        ensures exact { IfOk result (λ other. IsExact net.now other) }
+        ensures input { IfOk result (λ other. other.input.items ≡ self.now.input.items) }
+        ensures state { IfOk result (λ other. other.state.items ≡ self.now.state.items) }
+    {
+        let Ok(input) = Vec::from_slice(alloc, self.input.as_slice()) else {
+            return Err(Memory);
+        };
+        let Ok(state) = Vec::from_slice(alloc, self.state.as_slice()) else {
+            return Err(Memory);
+        };
+        let Ok(ones) = Vec::from_slice(alloc, self.ones.as_slice()) else {
+            return Err(Memory);
+        };
+        let Ok(unstable_wires) = Vec::from_slice(alloc, self.unstable_wires.as_slice()) else {
+            return Err(Memory);
+        };
+        Ok(CurrentState {
+            input,
+            state,
+            ones,
+            unstable_wires,
+            unstable: self.unstable,
+        })
+    }
+
+    // Takes over another state of the same network, with its counts.
+    pub(crate) fn copy_from(&mut self, net: &Net, other: &CurrentState)
+        requires exact { IsExact net.now self.old }
+        requires other { IsExact net.now other.now }
+        ensures exact { IsExact net.now self.new }
+        ensures input { self.new.input.items ≡ other.now.input.items }
+        ensures state { self.new.state.items ≡ other.now.state.items }
+    {
+        self.input.copy_from_slice(other.input.as_slice());
+        self.state.copy_from_slice(other.state.as_slice());
+        self.ones.copy_from_slice(other.ones.as_slice());
+        self.unstable_wires
+            .copy_from_slice(other.unstable_wires.as_slice());
+        self.unstable = other.unstable;
+    }
+
     // Turns the external input into a given one.
     pub(crate) fn turn_input(&mut self, net: &Net, input: &[bool])
         requires exact { IsExact net.now self.old }

@@ -4,8 +4,9 @@
 //! |---|---|
 //! | `run` | [`Run`]: the steps of a run, with room that is taken once |
 //! | `replay` | [`Replay`]: checks steps and cycles |
+//! | `follower` | [`Follower`]: follows runs, and knows how many variables are unstable |
 //! | `replay_fault` | why a step or a cycle is refused |
-//! | `current_state` | the current state of a replayer, with what is counted of it |
+//! | `current_state` | the current state of a replayer or a follower, with what is counted of it |
 //! | `watch` | which variables may have waited since the mark |
 //! | `variable_set` | sets of variables |
 //! | `least` | the least listed variable with a property |
@@ -20,6 +21,7 @@ ghost use Rattle.hz_gmw.specs.Runs.{IsReachable};
 ghost use Rattle.hz_gmw.specs.Cycles.{IsOutcome};
 
 mod current_state;
+mod follower;
 mod least;
 mod ones;
 mod replay;
@@ -30,6 +32,7 @@ mod run;
 mod variable_set;
 mod watch;
 
+pub use follower::Follower;
 pub use replay::Replay;
 pub use replay_fault::{CycleFault, StepFault};
 pub use run::Run;

@@ -3,8 +3,8 @@ use Rattle.hz_net.specs.Network.{network_of}
 use Rattle.hz_desk.specs.RunProgress.{IsAlong}
 use Rattle.hz_desk.proofs.races.races_before.Given as goal
 
--- the replayer is on its way, on the same circuit and under the same input
+-- the follower is on its way, on the same circuit and under the same input, and has kept where it began
 abbrev pub invariant-loop-number : goal.invariant-loop-number
 invariant-loop-number l =
-    IsAlong (network_of l.fn.replay.circuit) l.fn.replay.input l.fn.replay.state l.run.steps l.number l.races l.replay.state
-    × (l.replay.circuit ≡ l.fn.replay.circuit) × (l.replay.input ≡ l.fn.replay.input)
+    IsAlong (network_of l.fn.follower.circuit) l.fn.follower.input l.fn.follower.state l.run.steps l.number l.races l.follower.state
+    × (l.follower.circuit ≡ l.fn.follower.circuit) × (l.follower.input ≡ l.fn.follower.input) × (l.follower.begun ≡ l.fn.follower.begun)

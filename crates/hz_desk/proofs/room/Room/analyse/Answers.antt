@@ -29,7 +29,7 @@ returns-clause-right c =
       are_words = c.fill_rows.ensures.words;
       rows = c.fill_rows.ensures.rows;
       races = subst (λ (n : Netlist). AreRacesOf (network_of n) input start c.make_runs.new.spread.steps c.make_runs.new.settle.steps c.make_runs.new.cycle.steps found.spread found.settle found.cycle)
-          c.requires.room.replay c.count_races-races.ensures.races;
+          c.requires.room.follower c.count_races-races.ensures.races;
     }
 
 pub returns-clause-room : goal.returns-clause-room
@@ -42,7 +42,7 @@ returns-clause-room c =
       passes = c.make-rounds.ensures.room;
       scratch = c.make_runs.ensures.scratch;
       words = ap length (with_items_is words c.fill_rows.new.words (omega (arith, long, c.requires.room.words, words.ok.0))) ∙ long;
-      replay = c.count_races-races.ensures.circuit ∙ c.requires.room.replay;
+      follower = c.count_races-races.ensures.circuit ∙ c.requires.room.follower;
       finding = record {
         variables_are = c.requires.room.finding.variables_are;
         rows = sym (length-map c.fill_rows.new.rows (λ (row : Row). row.start)) ∙ (ap length rows.starts ∙ c.requires.start.long);
