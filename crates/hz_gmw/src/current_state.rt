@@ -111,6 +111,34 @@ impl CurrentState {
         }
     }
 
+    // The same state, with its counts, in room of its own.
+    pub(crate) fn copy(&self, alloc: Global, net: &Net) -> Result<CurrentState, Memory>
+        requires { IsExact net.now self.now }
+        ensures exact { IfOk result (λ other. IsExact net.now other) }
+        ensures input { IfOk result (λ other. other.input.items ≡ self.now.input.items) }
+        ensures state { IfOk result (λ other. other.state.items ≡ self.now.state.items) }
+    {
+        let Ok(input) = Vec::from_slice(alloc, self.input.as_slice()) else {
+            return Err(Memory);
+        };
+        let Ok(state) = Vec::from_slice(alloc, self.state.as_slice()) else {
+            return Err(Memory);
+        };
+        let Ok(ones) = Vec::from_slice(alloc, self.ones.as_slice()) else {
+            return Err(Memory);
+        };
+        let Ok(unstable_wires) = Vec::from_slice(alloc, self.unstable_wires.as_slice()) else {
+            return Err(Memory);
+        };
+        Ok(CurrentState {
+            input,
+            state,
+            ones,
+            unstable_wires,
+            unstable: self.unstable,
+        })
+    }
+
     // Takes over another state of the same network, with its counts.
     pub(crate) fn copy_from(&mut self, net: &Net, other: &CurrentState)
         requires exact { IsExact net.now self.old }

@@ -43,7 +43,7 @@ impl<'n> Follower<'n> {
         ensures { IfOk result (λ follower. follower ≡ follower_at net.now (replicate net.now.inputs false) (replicate (length (network_of net.now)) false)) }
     {
         let current = CurrentState::new(alloc, net)?;
-        let begun = CurrentState::new(alloc, net)?;
+        let begun = current.copy(alloc, net)?;
         Ok(Follower {
             net,
             current,
