@@ -1,13 +1,11 @@
 -- A right finding for every change: each of its parts is there.
-use Rattle.std.proofs.Common.{◌≡◌, ◌≢◌, ◌∙◌, ℕ, zero, suc, ◌+◌, ◌<◌, ◌≤◌, Bool, true, false, not, List, [], ◌∷◌, map, length, get_or, Option, Some, None, All, refl, sym, ap, subst, arith}
+use Rattle.std.proofs.Common.{◌≡◌, ℕ, zero, suc, ◌<◌, Bool, true, false, not, List, [], ◌∷◌, length, get_or, Option, Some, None, refl, ap, arith}
 use Rattle.std.proofs.lemmas.List.Elements.{All-nil, All-cons}
 use Rattle.hz_core.specs.declared.tri.Tri.{Tri}
 use Rattle.hz_core.specs.declared.tri.Tri.TheVariants.{Zero, One, Unknown}
 use Rattle.hz_core.specs.Ternary.{tri_of}
-use Rattle.hz_core.specs.Netlist.{Netlist, IsCircuit, IsWhole}
 use Rattle.hz_net.specs.Network.{network_of, value_at}
-use Rattle.hz_net.specs.Passes.{algorithm_a, algorithm_b, IsKnown}
-use Rattle.hz_net.specs.Starts.{IsStableStart}
+use Rattle.hz_net.specs.Passes.{algorithm_a, algorithm_b}
 use Rattle.hz_net.proofs.Places.{length-network_of}
 use Rattle.hz_gmw.specs.Runs.{end_of}
 use Rattle.hz_gmw.specs.Cycles.{states_of}
@@ -28,7 +26,7 @@ use Rattle.hz_desk.specs.Finding.{FindingOf}
 use Rattle.hz_desk.specs.Filled.{FilledIsRight}
 use Rattle.hz_desk.specs.ResultsOfPasses.{ArePassResults}
 use Rattle.hz_desk.specs.Races.{race_count, cycle_states}
-use Rattle.hz_desk.specs.Rows.{MayBeRow, MayBeRows, AreRowsOf, changes_of}
+use Rattle.hz_desk.specs.Rows.{MayBeRow, AreRowsOf, changes_of}
 use Rattle.hz_desk.proofs.FewSteps.{are-runs}
 use Rattle.hz_desk.proofs.RowFacts.{WordsChange, may-be-rows, long-a, long-b}
 

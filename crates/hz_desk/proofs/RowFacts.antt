@@ -1,5 +1,5 @@
 -- What is known of each variable before its class is.
-use Rattle.std.proofs.Common.{◌≡◌, ◌∙◌, refl, sym, ap, subst, ℕ, ◌<◌, ◌≤◌, ◌↔◌, Bool, true, false, Option, Some, None, List, [], length, take, get_or, IsTrue, arith, inl, inr}
+use Rattle.std.proofs.Common.{◌≡◌, ◌∙◌, refl, sym, ap, subst, ℕ, ◌<◌, ◌≤◌, ◌↔◌, Bool, true, false, Option, Some, None, List, [], length, get_or, IsTrue, arith, inl, inr}
 use Rattle.std.proofs.lemmas.Bool.{cases_Bool, true≢false, false≢true}
 use Rattle.std.proofs.lemmas.Option.{get_or_from_slice_get, none-some}
 use Rattle.std.specs.Prelude.{nat_le, if◌then◌else◌}
@@ -8,7 +8,7 @@ use Rattle.hz_core.specs.declared.tri.Tri.TheVariants.{Zero, One, Unknown}
 use Rattle.hz_core.specs.Ternary.{AllBelow, is_below}
 use Rattle.hz_core.specs.Netlist.{Netlist, IsCircuit, IsWhole}
 use Rattle.hz_core.proofs.Refinements.{get_or-AllBelow}
-use Rattle.hz_net.specs.Network.{network_of, value_at, bit_at, IsStable}
+use Rattle.hz_net.specs.Network.{network_of, value_at, bit_at}
 use Rattle.hz_net.specs.Passes.{algorithm_a, AreRounds, IsKnown, IsResult}
 use Rattle.hz_net.specs.Starts.{IsStableStart}
 use Rattle.hz_net.proofs.Sequences.{length-algorithm_a, length-algorithm_b}

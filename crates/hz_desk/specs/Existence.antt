@@ -1,5 +1,5 @@
 -- What there is for every change.
-use Rattle.std.specs.Prelude.{◌≡◌, ℕ, Bool, List, length}
+use Rattle.std.specs.Prelude.{ℕ, Bool, List}
 use Rattle.hz_core.specs.Netlist.{Netlist, IsCircuit, IsWhole}
 use Rattle.hz_net.specs.Network.{network_of}
 use Rattle.hz_net.specs.Starts.{IsStableStart}

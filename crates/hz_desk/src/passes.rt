@@ -7,7 +7,7 @@ ghost use Rattle.hz_desk.specs.ResultsOfPasses.{ArePassResults, HavePassRoom};
 use hz_core::{Memory, Tri};
 use hz_net::Net;
 use hz_outside::Steps;
-use hz_pass::{Front, settle, spread};
+use hz_pass::{Front, settle, spread_stable};
 use std::alloc::Global;
 use std::marker::Brand;
 use std::sync::ledger::{Blank, Ledger};
@@ -99,7 +99,7 @@ fn make_both<L: Ledger>(
 {
     let (book, share) = ledger.open::<L>();
     let mut steps = Steps::new(book, share);
-    let rounds_a = spread(net, input, start, a, ranks, work, front, &mut steps);
+    let rounds_a = spread_stable(net, input, start, a, ranks, work, front, &mut steps);
     b.copy_from_slice(a);
     let rounds_b = settle(net, input, b, when, work, front, &mut steps);
     Rounds {

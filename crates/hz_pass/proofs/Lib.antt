@@ -5,6 +5,7 @@ pub mod WholeRounds
 pub mod PassLoop
 pub mod ChangedValues
 pub mod StepCounts
+pub mod StableStarts
 pub mod PassResults
 pub mod ForcingLoop
 pub mod AllOpen

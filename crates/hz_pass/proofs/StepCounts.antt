@@ -143,19 +143,19 @@ open-le-total rule weight first (value ∷ values) =
     at-most true = omega arith
     at-most false = omega arith
 
--- What a pass has counted: the first round, and for the later ones no more than the readers of what changed. Those of what
+-- What a pass has counted: the variables of the first round, and for the later ones no more than the readers of what changed. Those of what
 -- changed last, and of what may still change, are still to come.
-pub record StepsSoFar (rule : Rule) (netlist : Netlist) (begun now : ℕ) (next : List Tri) (changed : List ℕ) : Type 0 where
-  pub least : begun + length (network_of netlist) ≤ now
+pub record StepsSoFar (rule : Rule) (netlist : Netlist) (first begun now : ℕ) (next : List Tri) (changed : List ℕ) : Type 0 where
+  pub least : begun + first ≤ now
   pub most :
       now + sum_by (reader_count netlist) changed + open_weight rule (reader_count netlist) next ≤
-      begun + (length (network_of netlist) + 2 * length (wires_of netlist))
+      begun + (first + 2 * length (wires_of netlist))
 
 module _
     {rule : Rule} {input : List Bool} {state next : List Tri} {changed : List ℕ} (netlist : Netlist) (circuit : IsCircuit netlist)
     (round : IsRound rule (network_of netlist) input state next changed) where
-  pub steps-begin : {begun now : ℕ} → length state ≡ length (network_of netlist) → now ≡ begun + length (network_of netlist) →
-      StepsSoFar rule netlist begun now next changed
+  pub steps-begin : {first begun now : ℕ} → length state ≡ length (network_of netlist) → now ≡ begun + first →
+      StepsSoFar rule netlist first begun now next changed
   steps-begin long counted = record {
     least = omega (arith, counted);
     most = omega (
@@ -168,8 +168,8 @@ module _
     );
   }
 
-  pub steps-more : {begun before now : ℕ} {due : List ℕ} → StepsSoFar rule netlist begun before state due →
-      now ≡ before + sum_by (reader_count netlist) due → StepsSoFar rule netlist begun now next changed
+  pub steps-more : {first begun before now : ℕ} {due : List ℕ} → StepsSoFar rule netlist first begun before state due →
+      now ≡ before + sum_by (reader_count netlist) due → StepsSoFar rule netlist first begun now next changed
   steps-more so_far counted = record {
     least = omega (arith, counted, so_far.least);
     most = omega (arith, counted, so_far.most, round.balance (reader_count netlist));

@@ -3,6 +3,7 @@ ghost use Rattle.std.specs.Prelude.{◌≡◌, ◌+◌, ◌*◌, ◌≤◌, leng
 ghost use Rattle.hz_core.specs.Ternary.{tri_of};
 ghost use Rattle.hz_net.specs.Network.{network_of, wires_of};
 ghost use Rattle.hz_net.specs.Passes.{algorithm_a, AreRounds, AreRanks};
+ghost use Rattle.hz_net.specs.Starts.{IsStableStart};
 ghost use Rattle.hz_pass.specs.Changes.{differing_count};
 
 use crate::front::Front;
@@ -44,9 +45,60 @@ pub fn spread<L: Ledger>(
     ensures least_steps { steps.old + differing_count (map tri_of start.now) out.new ≤ steps.new }
     ensures most_steps { steps.new ≤ steps.old + (length (network_of net.now) + 2 * length (wires_of net.now)) }
 {
-    let _variables = net.len();
+    let variables = net.len();
     write_bits(start, out);
-    make_rounds(Rule::Join, net, input, out, rank, work, front, steps)
+    make_rounds(
+        Rule::Join,
+        net,
+        variables,
+        input,
+        out,
+        rank,
+        work,
+        front,
+        steps,
+    )
+}
+
+/// Algorithm A from a start that is stable under its own inputs. The first round changes inputs alone, so it evaluates no
+/// other variable. Else it is as `spread`.
+pub fn spread_stable<L: Ledger>(
+    net: &Net,
+    input: &[bool],
+    start: &[bool],
+    out: &mut [Tri],
+    rank: &mut [u32],
+    work: &mut [Tri],
+    front: &mut Front,
+    steps: &mut Steps<L>,
+) -> u32
+    requires start { IsStableStart net.now start.now }
+    requires input { length input.now ≡ net.now.inputs }
+    requires out { length out.old ≡ length (network_of net.now) }
+    requires rank { length rank.old ≡ length (network_of net.now) }
+    requires work { length work.old ≡ length (network_of net.now) }
+    requires front { front.old ≡ length (network_of net.now) }
+    ensures rounds { AreRounds (algorithm_a (network_of net.now) input.now start.now) result }
+    ensures out { out.new ≡ algorithm_a (network_of net.now) input.now start.now result }
+    ensures rank { AreRanks (algorithm_a (network_of net.now) input.now start.now) out.new rank.new }
+    ensures bound { result ≤ length (network_of net.now) + 1 }
+    ensures front { front.new ≡ front.old }
+    ensures most_steps { steps.new ≤ steps.old + (net.now.inputs + 2 * length (wires_of net.now)) }
+{
+    let _variables = net.len();
+    let inputs = net.circuit().inputs();
+    write_bits(start, out);
+    make_rounds(
+        Rule::Join,
+        net,
+        inputs,
+        input,
+        out,
+        rank,
+        work,
+        front,
+        steps,
+    )
 }
 
 // Writes the values of known bits.

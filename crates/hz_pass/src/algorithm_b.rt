@@ -45,6 +45,16 @@ pub fn settle<L: Ledger>(
     ensures least_steps { steps.old + differing_count state.old state.new ≤ steps.new }
     ensures most_steps { steps.new ≤ steps.old + (length (network_of net.now) + 2 * length (wires_of net.now)) }
 {
-    let _variables = net.len();
-    make_rounds(Rule::Replace, net, input, state, when, work, front, steps)
+    let variables = net.len();
+    make_rounds(
+        Rule::Replace,
+        net,
+        variables,
+        input,
+        state,
+        when,
+        work,
+        front,
+        steps,
+    )
 }

@@ -50,24 +50,27 @@ pub(crate) struct Round<'a> {
 }
 
 impl Round<'_> {
-    // Evaluates every variable.
-    pub(crate) fn evaluate_all<L: Ledger>(
+    // Evaluates the variables below a number. The round leaves all others as they are.
+    pub(crate) fn evaluate_first<L: Ledger>(
         &self,
+        count: u32,
         next: &mut [Tri],
         changed: &mut Vec<u32>,
         steps: &mut Steps<L>,
     )
         requires input { length self.now.input.now ≡ self.now.net.now.inputs }
         requires state { length self.now.state.now ≡ length (network_of self.now.net.now) }
+        requires count { count ≤ length (network_of self.now.net.now) }
+        requires rest { (i : ℕ) → count ≤ i → i < length (network_of self.now.net.now) → IsMade self.now.rule (network_of self.now.net.now) self.now.input.now self.now.state.now self.now.state.now i }
         requires falls { Falls self.now.rule (network_of self.now.net.now) self.now.input.now self.now.state.now }
         requires next { next.old ≡ self.now.state.now }
         requires none { changed.old.items ≡ [] }
         requires room { length (network_of self.now.net.now) ≤ vec_capacity changed.old }
         ensures round { IsRound self.now.rule (network_of self.now.net.now) self.now.input.now self.now.state.now next.new changed.new.items }
         ensures room { vec_capacity changed.new ≡ vec_capacity changed.old }
-        ensures steps { steps.new ≡ steps.old + length (network_of self.now.net.now) }
+        ensures steps { steps.new ≡ steps.old + count }
     {
-        for var in 0..self.net.len() {
+        for var in 0..count {
             self.evaluate(var, next, changed, steps);
         }
     }

@@ -8,8 +8,8 @@ use Rattle.hz_desk.proofs.passes.make_both.Goals as goal
 
 pub settle-rounds_b-requires-clause-below : goal.settle-rounds_b-requires-clause-below
 settle-rounds_b-requires-clause-below g c =
-    below-result (network_of c.args.net.now) c.args.input.now c.args.start.now c.spread-rounds_a.new.out c.copy_from_slice.new.self c.spread-rounds_a.result
-    c.requires.start.long c.spread-rounds_a.ensures.rounds c.spread-rounds_a.ensures.out c.copy_from_slice.ensures.after
+    below-result (network_of c.args.net.now) c.args.input.now c.args.start.now c.spread_stable-rounds_a.new.out c.copy_from_slice.new.self c.spread_stable-rounds_a.result
+    c.requires.start.long c.spread_stable-rounds_a.ensures.rounds c.spread_stable-rounds_a.ensures.out c.copy_from_slice.ensures.after
 
 pub returns-clause-passed : goal.returns-clause-passed
 returns-clause-passed g c =
@@ -17,10 +17,10 @@ returns-clause-passed g c =
     let input = c.args.input.now in
     let same = c.copy_from_slice.ensures.after in
     record {
-      a_rounds = c.spread-rounds_a.ensures.rounds;
-      a_result = c.spread-rounds_a.ensures.out;
-      a_bound = c.spread-rounds_a.ensures.bound;
-      ranked = c.spread-rounds_a.ensures.rank;
+      a_rounds = c.spread_stable-rounds_a.ensures.rounds;
+      a_result = c.spread_stable-rounds_a.ensures.out;
+      a_bound = c.spread_stable-rounds_a.ensures.bound;
+      ranked = c.spread_stable-rounds_a.ensures.rank;
       b_rounds = subst (λ (values : List Tri). AreRounds (algorithm_b net input values) c.settle-rounds_b.result) same c.settle-rounds_b.ensures.rounds;
       b_result = c.settle-rounds_b.ensures.state ∙ ap (λ (values : List Tri). algorithm_b net input values c.settle-rounds_b.result) same;
       b_bound = c.settle-rounds_b.ensures.bound;

@@ -1,9 +1,13 @@
-use Rattle.std.proofs.Common.{◌≤◌, ◌+◌, List, subst}
-use Rattle.hz_core.specs.declared.tri.Tri.{Tri}
+use Rattle.std.proofs.Common.{map, arith}
+use Rattle.std.proofs.lemmas.List.{length-map}
+use Rattle.hz_core.specs.Ternary.{tri_of}
 use Rattle.hz_net.specs.Network.{network_of}
-use Rattle.hz_pass.specs.Changes.{differing_count}
 use Rattle.hz_pass.proofs.PassResults.{rounds-a, result-a, ranks-a}
+use Rattle.hz_pass.proofs.StepCounts.{differing_count-le}
 use Rattle.hz_pass.proofs.algorithm_a.spread.Goals as goal
+
+pub make_rounds-requires-clause-rest : goal.make_rounds-requires-clause-rest
+make_rounds-requires-clause-rest g c = λ i above inside. absurd (omega (arith, above, inside, c.len-variables.ensures.len))
 
 pub returns-clause-rounds : goal.returns-clause-rounds
 returns-clause-rounds g c =
@@ -19,4 +23,11 @@ returns-clause-rank g c =
 
 pub returns-clause-least_steps : goal.returns-clause-least_steps
 returns-clause-least_steps g c =
-    subst (λ (values : List Tri). c.args.steps.now + differing_count values c.make_rounds.new.state ≤ c.make_rounds.new.steps) c.write_bits.ensures c.make_rounds.ensures.least_steps
+    omega (
+      arith,
+      c.make_rounds.ensures.least_steps,
+      differing_count-le (map tri_of c.args.start.now) c.make_rounds.new.state,
+      length-map c.args.start.now tri_of,
+      c.requires.start,
+      c.len-variables.ensures.len,
+    )

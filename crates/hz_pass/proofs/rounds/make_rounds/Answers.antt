@@ -6,7 +6,7 @@ use Rattle.hz_net.specs.Network.{network_of}
 use Rattle.hz_pass.specs.Frontier.{Falls, reader_count}
 use Rattle.hz_pass.proofs.PassLoop.{pass-begin, pass-long, pass-falls, pass-bound, pass-on, pass-done}
 use Rattle.hz_pass.proofs.Values.{falls-after}
-use Rattle.hz_pass.proofs.StepCounts.{StepsSoFar, steps-begin, steps-more, differing_count-le}
+use Rattle.hz_pass.proofs.StepCounts.{StepsSoFar, steps-begin, steps-more}
 use Rattle.hz_pass.proofs.ChangedValues.{length-noted, none-noted, state-after, noted-after, unchanged, differs, some-long, changed-all, next-long, quiet-list}
 use Rattle.hz_pass.proofs.rounds.make_rounds.Goals as goal
 
@@ -17,10 +17,10 @@ loop-rule-init g c =
       omega arith,
       omega (arith, c.len-variables.ensures.len, c.len-variables.ensures.bound),
       pass-begin c.requires.state c.requires.falls c.fill.new.self noted_long (none-noted c.fill.new.self _ (c.fill.ensures.after (λ y e. e))),
-      c.evaluate_all.ensures.round,
-      steps-begin c.args.net.now c.len-variables.ensures.circuit c.evaluate_all.ensures.round c.requires.state c.evaluate_all.ensures.steps,
+      c.evaluate_first.ensures.round,
+      steps-begin c.args.net.now c.len-variables.ensures.circuit c.evaluate_first.ensures.round c.requires.state c.evaluate_first.ensures.steps,
       c.front.invariant.room ∙ (c.front.view_is ∙ c.requires.front),
-      c.evaluate_all.ensures.room ∙ (c.front.view_is ∙ c.requires.front),
+      c.evaluate_first.ensures.room ∙ (c.front.view_is ∙ c.requires.front),
     )
 
 pub take_over-requires-clause-inside : goal.take_over-requires-clause-inside
@@ -83,7 +83,7 @@ loop-rule-preserved g c =
           (noted-after long round c.loop-rule.rounds c.loop-rule.noted noted_long c.as_slice.ensures.value c.take_over.ensures.noted),
       c.evaluate_readers.ensures.round,
       steps-more c.args.net.now c.len-variables.ensures.circuit c.evaluate_readers.ensures.round
-          (subst (λ (values : List Tri). StepsSoFar c.args.rule c.args.net.now c.args.steps.now c.loop-rule.steps values c.loop-rule.front-inside.changed.items) (sym state_is) c.loop-rule.invariant.4)
+          (subst (λ (values : List Tri). StepsSoFar c.args.rule c.args.net.now c.args.first c.args.steps.now c.loop-rule.steps values c.loop-rule.front-inside.changed.items) (sym state_is) c.loop-rule.invariant.4)
           (c.evaluate_readers.ensures.steps ∙ ap (λ (list : List ℕ). c.loop-rule.steps + sum_by (reader_count c.args.net.now) list) due_is),
       ap vec_capacity c.swap.ensures.x_after ∙ c.loop-rule.invariant.6,
       c.evaluate_readers.ensures.room ∙ (c.clear.ensures.capacity ∙ (ap vec_capacity c.swap.ensures.y_after ∙ c.loop-rule.invariant.5)),
@@ -114,7 +114,4 @@ returns-clause-bound g c =
     (unchanged (pass-long c.requires.state c.requires.falls c.loop-rule.invariant.2) round none)).2
 
 pub returns-clause-least_steps : goal.returns-clause-least_steps
-returns-clause-least_steps g c =
-    let net = network_of c.args.net.now in
-    let counted = c.loop-rule.invariant.4.least in
-    omega (arith, counted, differing_count-le c.args.state.now c.loop-rule.state, c.requires.state)
+returns-clause-least_steps g c = c.loop-rule.invariant.4.least

@@ -3,7 +3,7 @@ use Rattle.std.proofs.lemmas.Bool.{cases_lt}
 use Rattle.hz_net.specs.Network.{network_of}
 use Rattle.hz_pass.specs.Frontier.{IsMade}
 use Rattle.hz_pass.proofs.WholeRounds.{round-end}
-use Rattle.hz_pass.proofs.round.Round.evaluate_all.Goals as goal
+use Rattle.hz_pass.proofs.round.Round.evaluate_first.Goals as goal
 
 pub loop-var-preserved : goal.loop-var-preserved
 loop-var-preserved g c =
@@ -14,11 +14,18 @@ loop-var-preserved g c =
         | inl earlier ↦ c.evaluate.ensures.kept k (c.loop-var.invariant.1 k earlier)
         | inr last ↦ subst made (omega (arith, last, few)) c.evaluate.ensures.made
       ],
-      c.loop-var.invariant.2,
-      c.evaluate.ensures.room ∙ c.loop-var.invariant.3,
-      omega (arith, c.evaluate.ensures.steps, c.loop-var.invariant.4),
+      c.evaluate.ensures.room ∙ c.loop-var.invariant.2,
+      omega (arith, c.evaluate.ensures.steps, c.loop-var.invariant.3),
     )
 
 pub returns-clause-round : goal.returns-clause-round
 returns-clause-round g c =
-    round-end c.requires.state c.loop-var.invariant.0 (λ i inside. c.loop-var.invariant.1 i (omega (arith, inside, c.loop-var.invariant.2)))
+    let so_far = c.loop-var.invariant.0 in
+    round-end c.requires.state so_far
+    (λ i inside. elim (cases_lt i c.args.count) [
+      | inl earlier ↦ c.loop-var.invariant.1 i (omega (arith, earlier, c.loop-var-test.false))
+      | inr late ↦ elim (so_far.either i) [
+        | inl was ↦ was ∙ c.requires.rest i late inside
+        | inr made ↦ made
+      ]
+    ])
