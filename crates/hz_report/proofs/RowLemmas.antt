@@ -12,10 +12,9 @@ use Rattle.hz_report.specs.declared.show.Show.TheVariants.{Nodes, All}
 use Rattle.hz_report.specs.Report.{row_line, row_lines, shown_count, shown_rows}
 
 -- the pieces of a row's line, one after the other
-pub row-pieces : (variable start a b changes class : List ℕ)
-    → variable
-    ++ ((codes " start " ++ (start ++ (codes " A " ++ (a ++ (codes " B " ++ (b ++ (codes " changes " ++ (changes ++ 32 ∷ (class ++ []))))))))) ++ newline)
-    ≡ variable ++ codes " start " ++ start ++ codes " A " ++ a ++ codes " B " ++ b ++ codes " changes " ++ changes ++ 32 ∷ class ++ newline
+pub row-pieces : (variable : List ℕ) (start : ℕ) (a b changes class : List ℕ)
+    → (((variable ++ (codes " start " ++ start ∷ codes " A " ++ a ++ codes " B " ++ b ++ codes " changes ")) ++ changes) ++ (32 ∷ class)) ++ newline
+    ≡ variable ++ codes " start " ++ (start ∷ []) ++ codes " A " ++ a ++ codes " B " ++ b ++ codes " changes " ++ changes ++ 32 ∷ class ++ newline
 row-pieces variable start a b changes class = simp (append_assoc, append-nil)
 
 row_lines-append : (netlist : Netlist) (var : ℕ) (rows : List Row) (row : Row) → row_lines netlist var (rows ++ row ∷ []) ≡ row_lines netlist var rows ++ row_line netlist (var + length rows) row

@@ -1,21 +1,22 @@
 //! The lines of variables.
-ghost use Rattle.std.specs.Prelude.{◌≡◌, ◌<◌, length};
+ghost use Rattle.std.specs.Prelude.{◌≡◌, ◌<◌, ◌∷◌, ◌++◌, length, codes, decimal};
 ghost use Rattle.hz_core.specs.Netlist.{IsCircuit};
 ghost use Rattle.hz_net.specs.Network.{network_of};
-ghost use Rattle.hz_write.specs.Pieces.{piece_text};
+ghost use Rattle.hz_text.specs.Printed.{letter_of};
 ghost use Rattle.hz_write.specs.Writer.{Writes};
 ghost use Rattle.hz_report.specs.Report.{changes_word, class_word, row_line, row_lines, shown_count, shown_rows};
 ghost use Rattle.hz_report.specs.Words.{tri_letter};
 
 use crate::show::Show;
 use hz_core::Tri;
+use hz_core::Tri::{One, Unknown, Zero};
 use hz_desk::{Class, Row};
 use hz_net::Net;
 use hz_outside::Sink;
-use hz_text::{bit_letter, write_variable};
+use hz_text::write_variable;
 use hz_word::Count;
-use hz_write::Piece::{Long, Text};
-use hz_write::{Piece, Writer};
+use hz_write::Piece::Long;
+use hz_write::Writer;
 
 // Gives the line of each variable that is shown.
 pub(crate) fn write_rows<K: Sink>(writer: &mut Writer<'_, K>, net: &Net, rows: &[Row], show: Show)
@@ -46,52 +47,71 @@ pub(crate) fn write_row<K: Sink>(writer: &mut Writer<'_, K>, net: &Net, var: u32
     ensures { Writes K.written K.faults (row_line net.now var row) writer.old writer.new }
 {
     write_variable(writer, net, var);
-    writer.line(&[
-        Text(b" start "),
-        Text(bit_letter(row.start)),
-        Text(b" A "),
-        Text(tri_letter(row.a)),
-        Text(b" B "),
-        Text(tri_letter(row.b)),
-        Text(b" changes "),
-        changes_piece(row.changes),
-        Text(b" "),
-        Text(class_word(row.class)),
-    ]);
+    writer.text(values_text(row.start, row.a, row.b));
+    write_changes(writer, row.changes);
+    writer.text(spaced_class(row.class));
+    writer.end();
 }
 
-// The letter of a ternary value.
-fn tri_letter(value: Tri) -> &'static [u8]
-    ensures { result.now ≡ tri_letter value }
+// What stands between a variable and its number of changes: its values at the start, in A and in B. It is one piece, since each
+// piece of a line takes its time, and a report has millions of these lines.
+fn values_text(start: bool, a: Tri, b: Tri) -> &'static [u8]
+    ensures { result.now ≡ codes " start " ++ letter_of start ∷ codes " A " ++ tri_letter a ++ codes " B " ++ tri_letter b ++ codes " changes " }
 {
-    match value {
-        Tri::Zero => b"0",
-        Tri::One => b"1",
-        Tri::Unknown => b"X",
+    match (start, a, b) {
+        (false, Zero, Zero) => b" start 0 A 0 B 0 changes ",
+        (false, Zero, One) => b" start 0 A 0 B 1 changes ",
+        (false, Zero, Unknown) => b" start 0 A 0 B X changes ",
+        (false, One, Zero) => b" start 0 A 1 B 0 changes ",
+        (false, One, One) => b" start 0 A 1 B 1 changes ",
+        (false, One, Unknown) => b" start 0 A 1 B X changes ",
+        (false, Unknown, Zero) => b" start 0 A X B 0 changes ",
+        (false, Unknown, One) => b" start 0 A X B 1 changes ",
+        (false, Unknown, Unknown) => b" start 0 A X B X changes ",
+        (true, Zero, Zero) => b" start 1 A 0 B 0 changes ",
+        (true, Zero, One) => b" start 1 A 0 B 1 changes ",
+        (true, Zero, Unknown) => b" start 1 A 0 B X changes ",
+        (true, One, Zero) => b" start 1 A 1 B 0 changes ",
+        (true, One, One) => b" start 1 A 1 B 1 changes ",
+        (true, One, Unknown) => b" start 1 A 1 B X changes ",
+        (true, Unknown, Zero) => b" start 1 A X B 0 changes ",
+        (true, Unknown, One) => b" start 1 A X B 1 changes ",
+        (true, Unknown, Unknown) => b" start 1 A X B X changes ",
     }
 }
 
-// What stands for a number of changes.
-fn changes_piece(changes: Option<Count>) -> Piece<'static>
-    ensures { piece_text result ≡ changes_word changes }
+// Gives what stands for a number of changes.
+fn write_changes<K: Sink>(writer: &mut Writer<'_, K>, changes: Option<Count>)
+    ensures { Writes K.written K.faults (changes_word changes) writer.old writer.new }
 {
     match changes {
-        None => Text(b"-"),
-        Some(Count::Exact(changes)) => Long(changes),
-        Some(Count::Many) => Text(b"many"),
+        None => writer.text(b"-"),
+        Some(Count::Exact(changes)) => write_exact(writer, changes),
+        Some(Count::Many) => writer.text(b"many"),
     }
 }
 
-// The word of a class.
-pub(crate) fn class_word(class: Class) -> &'static [u8]
-    ensures { result.now ≡ class_word class }
+// Gives a number of changes in decimal digits. Most variables change at most once.
+fn write_exact<K: Sink>(writer: &mut Writer<'_, K>, changes: u64)
+    ensures { Writes K.written K.faults (decimal changes) writer.old writer.new }
+{
+    match changes {
+        0 => writer.text(b"0"),
+        1 => writer.text(b"1"),
+        _ => writer.add(&[Long(changes)]),
+    }
+}
+
+// The word of a class, after a space.
+pub(crate) fn spaced_class(class: Class) -> &'static [u8]
+    ensures { result.now ≡ 32 ∷ class_word class }
 {
     match class {
-        Class::Steady => b"steady",
-        Class::Single => b"single",
-        Class::Static => b"static",
-        Class::MaybeDynamic => b"maybe-dynamic",
-        Class::Change => b"change",
-        Class::Unsettled => b"unsettled",
+        Class::Steady => b" steady",
+        Class::Single => b" single",
+        Class::Static => b" static",
+        Class::MaybeDynamic => b" maybe-dynamic",
+        Class::Change => b" change",
+        Class::Unsettled => b" unsettled",
     }
 }

@@ -7,7 +7,7 @@ ghost use Rattle.hz_report.specs.Report.{class_place, class_total, classes_line,
 
 use crate::change::write_rounds;
 use crate::head::write_netlist;
-use crate::rows::class_word;
+use crate::rows::spaced_class;
 use hz_desk::{Class, Finding, Row};
 use hz_gmw::Run;
 use hz_net::Net;
@@ -54,12 +54,7 @@ fn write_totals<K: Sink>(writer: &mut Writer<'_, K>, rows: &[Row], classes: &[Cl
 {
     for class in classes {
         let total = count_class(rows, *class);
-        writer.add(&[
-            Text(b" "),
-            Text(class_word(*class)),
-            Text(b" "),
-            Count(total),
-        ]);
+        writer.add(&[Text(spaced_class(*class)), Text(b" "), Count(total)]);
     }
 }
 

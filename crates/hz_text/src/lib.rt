@@ -24,7 +24,7 @@ mod text;
 
 pub use fault::TextFault;
 pub use limit::MAX_TEXT;
-pub use printing::{bit_letter, write_assignments, write_bits};
+pub use printing::{write_assignments, write_bits};
 pub use run::{
     RunText, print_run, printed_runs_are_read, read_run, write_end, write_run, write_run_text,
     write_states, write_variable, write_version,

@@ -8,23 +8,23 @@ ghost use Rattle.hz_text.specs.RunPrinted.{all_listed};
 
 use hz_core::Circuit;
 use hz_outside::Sink;
-use hz_write::Piece::Text;
 use hz_write::Writer;
-
-/// The letter of a bit.
-pub fn bit_letter(bit: bool) -> &'static [u8]
-    ensures { result.now ≡ letter_of bit ∷ [] }
-{
-    if bit { b"1" } else { b"0" }
-}
 
 // Gives a space, and the assignment of a bit to a node.
 fn write_assignment<K: Sink>(writer: &mut Writer<'_, K>, circuit: &Circuit, node: u32, bit: bool)
     requires { node < length circuit.now.names }
     ensures { Writes K.written K.faults (assignment_text circuit.now (node, bit)) writer.old writer.new }
 {
-    let name = circuit.name(node);
-    writer.add(&[Text(b" "), Text(name), Text(b"="), Text(bit_letter(bit))]);
+    writer.text(b" ");
+    writer.text(circuit.name(node));
+    writer.text(assigned_text(bit));
+}
+
+// What stands after the name of a node to which a bit is assigned.
+fn assigned_text(bit: bool) -> &'static [u8]
+    ensures { result.now ≡ 61 ∷ letter_of bit ∷ [] }
+{
+    if bit { b"=1" } else { b"=0" }
 }
 
 /// Gives assignments of bits to nodes, each after a space.

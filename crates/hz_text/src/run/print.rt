@@ -195,6 +195,20 @@ fn write_wire<K: Sink>(writer: &mut Writer<'_, K>, circuit: &Circuit, gate: u32,
     ensures { Writes K.written K.faults
         (node_name circuit.now.names gate ++ 40 ∷ decimal (pin + 1) ++ 41 ∷ []) writer.old writer.new }
 {
-    let name = circuit.name(gate);
-    writer.add(&[Text(name), Text(b"("), Number(pin + 1), Text(b")")]);
+    writer.text(circuit.name(gate));
+    write_pin(writer, pin);
+}
+
+// Gives the number of a pin, which is counted from 0, in parentheses. Most gates have few pins.
+fn write_pin<K: Sink>(writer: &mut Writer<'_, K>, pin: u32)
+    requires { pin < 256 }
+    ensures { Writes K.written K.faults (40 ∷ decimal (pin + 1) ++ 41 ∷ []) writer.old writer.new }
+{
+    match pin {
+        0 => writer.text(b"(1)"),
+        1 => writer.text(b"(2)"),
+        2 => writer.text(b"(3)"),
+        3 => writer.text(b"(4)"),
+        _ => writer.add(&[Text(b"("), Number(pin + 1), Text(b")")]),
+    }
 }

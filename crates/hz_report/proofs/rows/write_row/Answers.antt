@@ -1,5 +1,5 @@
 -- The pieces of the line.
-use Rattle.std.proofs.Common.{[], ◌∷◌}
+use Rattle.std.proofs.Common.{refl}
 use Rattle.hz_text.specs.Printed.{letter_of}
 use Rattle.hz_text.specs.RunPrinted.{variable_word}
 use Rattle.hz_write.proofs.Writers.{writes_then}
@@ -12,8 +12,9 @@ pub returns : goal.returns
 unfolding row_line
 returns g c =
     let row = c.args.row in
-    let line =
-    rw (c.bit_letter.ensures, c.tri_letter.ensures, c.tri_letter-2.ensures, c.changes_piece.ensures, c.class_word.ensures) at c.line.ensures in
-    writes_then c.write_variable.ensures line
+    let values = rw c.values_text.ensures at c.text.ensures in
+    let class = rw c.spaced_class.ensures at c.text-2.ensures in
+    let changes = writes_then (writes_then c.write_variable.ensures values refl) c.write_changes.ensures refl in
+    writes_then (writes_then changes class refl) c.end.ensures
     (row-pieces
-    (variable_word c.args.net.now c.args.var) (letter_of row.start ∷ []) (tri_letter row.a) (tri_letter row.b) (changes_word row.changes) (class_word row.class))
+    (variable_word c.args.net.now c.args.var) (letter_of row.start) (tri_letter row.a) (tri_letter row.b) (changes_word row.changes) (class_word row.class))
