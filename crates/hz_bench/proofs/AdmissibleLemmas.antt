@@ -1,5 +1,5 @@
 -- The circuit of checked statements may be built, and each of its gates has a pin.
-use Rattle.std.proofs.Common.{◌≡◌, ◌∙◌, ℕ, ◌+◌, ◌-◌, ◌<◌, ◌≤◌, ◌++◌, ◌||◌, ◌==◌, Bool, true, false, cond, suc, nat_le, List, [], ◌∷◌, Option, Some, None, length, map, refl, ap, sym, subst, arith, append_assoc, add-zero, length-append}
+use Rattle.std.proofs.Common.{◌≡◌, ◌∙◌, ℕ, ◌+◌, ◌-◌, ◌<◌, ◌≤◌, ◌++◌, ◌||◌, ◌==◌, Bool, true, false, cond, suc, List, [], ◌∷◌, Option, Some, None, length, map, refl, ap, sym, subst, arith, append_assoc, add-zero, length-append}
 use Rattle.std.specs.Prelude.{IsSome, IsTrue, sum_by, All, position, nat_eq, fold}
 use Rattle.std.specs.List.{list_any, AllByRecursion}
 use Rattle.std.specs.Str.{bytes_eq}
@@ -11,11 +11,9 @@ use Rattle.std.proofs.lemmas.List.Quantifiers.{position-Some}
 use Rattle.std.proofs.lemmas.List.Sums.{sum_by-append, sum_by-cons}
 use Rattle.hz_core.proofs.CircuitLemmas.{bounds-from_takes}
 use Rattle.hz_core.specs.declared.kind.Kind.{Kind}
-use Rattle.hz_core.specs.declared.kind.Kind.TheVariants.{And, Nand, Or, Nor, Xor, Xnor, Not, Buff}
-use Rattle.hz_core.specs.Gate.{takes}
+use Rattle.hz_core.specs.declared.kind.Kind.TheVariants.{And}
 use Rattle.hz_core.specs.Netlist as netlist
 use Rattle.hz_core.proofs.ListLemmas.{list_any-from_position_none}
-use Rattle.hz_line.proofs.WrittenLemmas.{both}
 use Rattle.hz_bench.specs.BuiltNetlist.{AreAdmissibleSteps, MayAddInput, MayAddCut, MayAddGate, MayAddPinNamed, MayAddPins, MayAddOutput, MayBuild, initial_builder, with_input_of, with_cut_of, with_gate_of, with_pin_named, with_pins_of, with_output_of}
 use Rattle.hz_bench.specs.Netlist.{input_names, cut_names, data_name, data_nodes, gate_names, output_names, all_inputs, node_names, number_in, kind_of, gates_of, add_once, each_once, circuit_of_statements}
 use Rattle.hz_bench.specs.Statement.{Statement, Input, Output, FlipFlop, Gate, has_long_name, is_long, statement_variable_count, has_unknown_kind, has_wrong_pins}

@@ -1,5 +1,5 @@
 -- When a node or a pin may be added.
-use Rattle.std.proofs.Common.{Option, Some, ◌≡◌, ◌∙◌, ℕ, ◌+◌, ◌<◌, List, [], ◌∷◌, Bool, true, false, ◌++◌, ◌||◌, ◌&&◌, ◌==◌, cond, nat_le, None, length, map, take, drop, fold, get_or, refl, sym, ap, subst, arith}
+use Rattle.std.proofs.Common.{Option, Some, ◌≡◌, ◌∙◌, ℕ, ◌+◌, ◌<◌, List, [], ◌∷◌, true, false, ◌++◌, None, length, map, take, drop, fold, get_or, refl, sym, ap, subst, arith}
 use Rattle.std.specs.List.{list_all}
 use Rattle.std.proofs.lemmas.Bool.Decides.{nat_tests}
 use Rattle.hz_core.specs.declared.kind.Kind.{Kind}

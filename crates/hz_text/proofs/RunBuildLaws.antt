@@ -1,5 +1,5 @@
 -- Runs that are built statement by statement, and the prefix of a run text in order.
-use Rattle.std.proofs.Common.{◌≡◌, ◌∙◌, ℕ, ◌+◌, ◌<◌, ◌≤◌, Bool, true, false, cond, nat_le, List, [], ◌∷◌, ◌++◌, Option, Some, None, zero, suc, length, get_or, set, drop, map, refl, ap, sym, subst, arith, append_assoc, zero-add}
+use Rattle.std.proofs.Common.{◌≡◌, ◌∙◌, ℕ, ◌+◌, ◌<◌, ◌≤◌, Bool, true, false, cond, List, [], ◌∷◌, ◌++◌, Option, Some, None, zero, suc, length, get_or, set, drop, map, refl, ap, sym, subst, arith, append_assoc, zero-add}
 use Rattle.std.specs.List.{list_any, flat_map, range_with_len, All}
 use Rattle.std.specs.Option.{IsSome, IfSome, is_none, option_map_or}
 use Rattle.std.proofs.lemmas.Bool.Decides.{nat_tests}
