@@ -74,8 +74,8 @@ variables_by netlist tokens = option_map (map (variable_named netlist)) (variabl
 abbrev pub run_resolution_of : RunHeld → ResolvedRunStatement
 run_resolution_of (held.Header version) = Header version
 run_resolution_of (held.Net size) = Net size
-run_resolution_of (held.Start assigned) = Start assigned.items
-run_resolution_of (held.Input assigned) = Input assigned.items
+run_resolution_of (held.Start assigned) = Start assigned.value.items
+run_resolution_of (held.Input assigned) = Input assigned.value.items
 run_resolution_of held.Run = Run
 run_resolution_of (held.Step variables) = Step variables.now
 run_resolution_of held.Cycle = Cycle

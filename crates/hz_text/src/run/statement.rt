@@ -4,6 +4,7 @@ ghost use Rattle.std.specs.Prelude.{◌≡◌, length, map, IfOk, MatchResult, S
 ghost use Rattle.std.specs.Option.{option_map};
 ghost use Rattle.hz_line.specs.Reading.{numbered_by, IsUnread};
 ghost use Rattle.hz_line.specs.Token.{token_of};
+ghost use Rattle.hz_text.specs.Assignment.{assigned_by};
 ghost use Rattle.hz_text.specs.Rules.{AreBelow};
 ghost use Rattle.hz_text.specs.RunStatement.{run_keyword_of};
 ghost use Rattle.hz_text.specs.RunResolution.{resolve_run_tokens, resolve_run_keyword, run_resolution_of, run_keyword_by};
@@ -22,18 +23,19 @@ use crate::run::variables::read_variables;
 use crate::run::version::{Version, read_version};
 use crate::text::Text;
 use bumpalo::Bump;
-use hz_core::Memory;
+use hz_core::{Circuit, Memory};
 use hz_line::{Numbered, StatementFault, Token, is_keyword};
 use hz_net::Net;
 use std::alloc::Global;
 
-/// A statement of a run text, looked up in a network. The variables of steps stand in an arena.
+/// A statement of a run text, looked up in a network. The variables of steps stand in an arena. Assignments are apart: a text has
+/// millions of steps, and two statements with assignments.
 #[derive(Debug, Drop)]
 pub(crate) enum RunHeld<'a> {
     Header(Version),
     Net(Size),
-    Start(Vec<Assigned>),
-    Input(Vec<Assigned>),
+    Start(Box<Vec<Assigned>>),
+    Input(Box<Vec<Assigned>>),
     Run,
     Step(&'a [Option<u32>]),
     Cycle,
@@ -146,8 +148,8 @@ fn read_statement_of<'a>(
     match keyword {
         RunKeyword::Runs => Ok(RunHeld::Header(read_version(rest)?)),
         RunKeyword::Net => Ok(RunHeld::Net(read_size(rest)?)),
-        RunKeyword::Start => Ok(RunHeld::Start(read_assignments(alloc, net.circuit(), rest)?)),
-        RunKeyword::Input => Ok(RunHeld::Input(read_assignments(alloc, net.circuit(), rest)?)),
+        RunKeyword::Start => Ok(RunHeld::Start(boxed_assignments(alloc, net.circuit(), rest)?)),
+        RunKeyword::Input => Ok(RunHeld::Input(boxed_assignments(alloc, net.circuit(), rest)?)),
         RunKeyword::Run if rest.is_empty() => Ok(RunHeld::Run),
         RunKeyword::Run => Err(StatementFault::Form),
         RunKeyword::Step => Ok(RunHeld::Step(read_variables(arena, net, rest, variables)?)),
@@ -156,6 +158,21 @@ fn read_statement_of<'a>(
         RunKeyword::End if rest.is_empty() => Ok(RunHeld::End),
         RunKeyword::End => Err(StatementFault::Form),
     }
+}
+
+// The assignments that tokens are, on the heap.
+fn boxed_assignments(
+    alloc: Global,
+    circuit: &Circuit,
+    tokens: &[Token],
+) -> Result<Box<Vec<Assigned>>, StatementFault>
+    ensures read { MatchResult result
+        (λ read. assigned_by circuit.now (map token_of tokens.now) ≡ Some read.value.items)
+        (λ why. IsUnread (assigned_by circuit.now (map token_of tokens.now)) why) }
+    ensures below { IfOk result (λ read. AreBelow (length circuit.now.names) read.value.items) }
+{
+    let read = read_assignments(alloc, circuit, tokens)?;
+    Ok(Box::new(alloc, read)?)
 }
 
 // The keyword that a word is, in any letter case.
