@@ -139,7 +139,7 @@ pub record MaySetData (cut : ℕ) (netlist : Netlist) (sources : List (List ℕ)
 abbrev pub HasNode : Netlist → ℕ → Type 0
 HasNode netlist node = node < length netlist.names
 
--- there is punctuation for each node, and the marked nodes are outputs
+-- there is a mark for each node, and the marked nodes are outputs
 pub record AreMarked (netlist : Netlist) (marks : List Bool) : Type 0 where
   pub long : length marks ≡ length netlist.names
   pub listed : (node : ℕ) → node < length marks → slice_index_or marks node false ≡ true → list_any (nat_eq node) netlist.outputs ≡ true
