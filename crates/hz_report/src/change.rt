@@ -2,7 +2,7 @@
 ghost use Rattle.std.specs.Prelude.{◌≡◌, ◌<◌, ◌++◌, length, take, map, codes, All};
 ghost use Rattle.std.specs.List.{flat_map};
 ghost use Rattle.hz_net.specs.Network.{network_of};
-ghost use Rattle.hz_write.specs.Writer.{Writes};
+ghost use Rattle.hz_write.specs.Writer.{Writes, NoneWaits};
 ghost use Rattle.hz_write.specs.Writes.{newline};
 ghost use Rattle.hz_text.specs.Printed.{assignment_text};
 ghost use Rattle.hz_text.specs.RunPrinted.{spaced_word, all_listed, run_text_printed};
@@ -37,8 +37,9 @@ pub fn write_change<K: Sink>(
     requires spread { All (All (λ var. var < length (network_of net.now))) finding.now.spread.steps }
     requires settle { All (All (λ var. var < length (network_of net.now))) finding.now.settle.steps }
     requires cycle { All (All (λ var. var < length (network_of net.now))) finding.now.cycle.steps }
-    ensures { Writes K.written K.faults
+    ensures gave { Writes K.written K.faults
         (change_text net.now show number change.now (finding_of finding.now)) writer.old writer.new }
+    ensures none_waits { NoneWaits writer.new }
 {
     write_assigned(writer, net, number, change);
     write_rounds(writer, finding);
@@ -60,7 +61,8 @@ pub fn write_stopped<K: Sink>(
 )
     requires change { All (λ pair. pair.0 < length net.now.names) change.now }
     requires var { var < length (network_of net.now) }
-    ensures { Writes K.written K.faults (stopped_text net.now number change.now var) writer.old writer.new }
+    ensures gave { Writes K.written K.faults (stopped_text net.now number change.now var) writer.old writer.new }
+    ensures none_waits { NoneWaits writer.new }
 {
     write_assigned(writer, net, number, change);
     write_stop(writer, net, var);
@@ -85,7 +87,8 @@ fn write_assigned<K: Sink>(
 // Gives the variable that stops a change.
 fn write_stop<K: Sink>(writer: &mut Writer<'_, K>, net: &Net, var: u32)
     requires { var < length (network_of net.now) }
-    ensures { Writes K.written K.faults (codes "stopped" ++ spaced_word net.now var ++ newline) writer.old writer.new }
+    ensures gave { Writes K.written K.faults (codes "stopped" ++ spaced_word net.now var ++ newline) writer.old writer.new }
+    ensures none_waits { NoneWaits writer.new }
 {
     writer.text(b"stopped ");
     write_variable(writer, net, var);
@@ -127,8 +130,9 @@ fn write_runs<K: Sink>(writer: &mut Writer<'_, K>, net: &Net, finding: &Finding)
     requires spread { All (All (λ var. var < length (network_of net.now))) finding.now.spread.steps }
     requires settle { All (All (λ var. var < length (network_of net.now))) finding.now.settle.steps }
     requires cycle { All (All (λ var. var < length (network_of net.now))) finding.now.cycle.steps }
-    ensures { Writes K.written K.faults
+    ensures gave { Writes K.written K.faults
         (run_text_printed net.now (runs_of_finding net.now (finding_of finding.now))) writer.old writer.new }
+    ensures none_waits { NoneWaits writer.new }
 {
     write_version(writer, net.circuit());
     write_start(writer, net, finding.rows.as_slice());

@@ -3,7 +3,7 @@ ghost use Rattle.std.specs.Prelude.{◌≡◌, ◌<◌, length, All};
 ghost use Rattle.std.specs.List.{flat_map};
 ghost use Rattle.hz_net.specs.Network.{network_of};
 ghost use Rattle.hz_free.specs.FreePart.{IsFreePart};
-ghost use Rattle.hz_write.specs.Writer.{Writes};
+ghost use Rattle.hz_write.specs.Writer.{Writes, NoneWaits};
 ghost use Rattle.hz_text.specs.RunPrinted.{spaced_word};
 ghost use Rattle.hz_report.specs.Report.{netlist_line, feedback_line, start_line, head_text};
 
@@ -20,7 +20,8 @@ use hz_write::Writer;
 pub fn write_head<K: Sink>(writer: &mut Writer<'_, K>, net: &Net, free: &Free, start: &[bool])
     requires part { IsFreePart net.now free.now }
     requires start { length start.now ≡ length (network_of net.now) }
-    ensures { Writes K.written K.faults (head_text net.now free.now.cycles start.now) writer.old writer.new }
+    ensures gave { Writes K.written K.faults (head_text net.now free.now.cycles start.now) writer.old writer.new }
+    ensures none_waits { NoneWaits writer.new }
 {
     write_netlist(writer, net);
     write_feedback(writer, net, free);
@@ -82,7 +83,8 @@ fn write_variables<K: Sink>(writer: &mut Writer<'_, K>, net: &Net, variables: &[
 // Gives the value of each node at the start.
 fn write_start<K: Sink>(writer: &mut Writer<'_, K>, net: &Net, start: &[bool])
     requires { length start.now ≡ length (network_of net.now) }
-    ensures { Writes K.written K.faults (start_line net.now start.now) writer.old writer.new }
+    ensures gave { Writes K.written K.faults (start_line net.now start.now) writer.old writer.new }
+    ensures none_waits { NoneWaits writer.new }
 {
     let circuit = net.circuit();
     let nodes = circuit.nodes() as usize;

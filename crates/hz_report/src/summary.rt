@@ -1,7 +1,7 @@
 //! The summary of a change.
 ghost use Rattle.std.specs.Prelude.{◌≡◌, ◌++◌, [], ◌∷◌, length, codes, count_by, nat_eq};
 ghost use Rattle.std.specs.List.{flat_map};
-ghost use Rattle.hz_write.specs.Writer.{Writes};
+ghost use Rattle.hz_write.specs.Writer.{Writes, NoneWaits};
 ghost use Rattle.hz_desk.specs.Finding.{finding_of};
 ghost use Rattle.hz_report.specs.Report.{class_place, class_total, classes_line, run_line, summary_text};
 
@@ -18,7 +18,8 @@ use hz_write::Writer;
 /// Gives the size of the network, the rounds of Algorithms A and B, how many variables have each class, and the number of steps
 /// and of flips of each run.
 pub fn write_summary<K: Sink>(writer: &mut Writer<'_, K>, net: &Net, finding: &Finding)
-    ensures { Writes K.written K.faults (summary_text net.now (finding_of finding.now)) writer.old writer.new }
+    ensures gave { Writes K.written K.faults (summary_text net.now (finding_of finding.now)) writer.old writer.new }
+    ensures none_waits { NoneWaits writer.new }
 {
     write_netlist(writer, net);
     write_rounds(writer, finding);
@@ -68,7 +69,8 @@ fn count_class(rows: &[Row], class: Class) -> usize
 // Gives how many steps and flips a run has.
 #[tactic(auto, using(hz_write::proofs::Writers::writes_same), unfolding(crate::specs::Report::run_line))]
 pub(crate) fn write_size<K: Sink>(writer: &mut Writer<'_, K>, name: &[u8], run: &Run)
-    ensures { Writes K.written K.faults (run_line name.now run.now.steps) writer.old writer.new }
+    ensures gave { Writes K.written K.faults (run_line name.now run.now.steps) writer.old writer.new }
+    ensures none_waits { NoneWaits writer.new }
 {
     writer.line(&[
         Text(name),

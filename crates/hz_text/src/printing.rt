@@ -2,7 +2,7 @@
 ghost use Rattle.std.specs.Prelude.{◌≡◌, ◌<◌, ◌≤◌, ◌∷◌, [], length, All};
 ghost use Rattle.std.specs.List.{flat_map};
 ghost use Rattle.hz_core.specs.Netlist.{IsCircuit};
-ghost use Rattle.hz_write.specs.Writer.{Writes};
+ghost use Rattle.hz_write.specs.Writer.{Writes, NoneWaits};
 ghost use Rattle.hz_text.specs.Printed.{letter_of, assignment_text, statement_text, listed_from};
 ghost use Rattle.hz_text.specs.RunPrinted.{all_listed};
 
@@ -95,7 +95,8 @@ pub fn write_bits<K: Sink>(
 )
     requires circuit { IsCircuit circuit.now }
     requires nodes { length bits.now ≤ length circuit.now.names }
-    ensures { Writes K.written K.faults (statement_text circuit.now keyword.now (all_listed bits.now)) writer.old writer.new }
+    ensures gave { Writes K.written K.faults (statement_text circuit.now keyword.now (all_listed bits.now)) writer.old writer.new }
+    ensures none_waits { NoneWaits writer.new }
 {
     writer.text(keyword);
     write_all(writer, circuit, bits);

@@ -4,7 +4,7 @@ ghost use Rattle.hz_core.specs.Netlist.{IsCircuit};
 ghost use Rattle.hz_net.specs.Network.{network_of};
 ghost use Rattle.hz_net.specs.Starts.{IsStableStart};
 ghost use Rattle.hz_text.specs.ScriptText.{IsScriptFor};
-ghost use Rattle.hz_write.specs.Writer.{Writes};
+ghost use Rattle.hz_write.specs.Writer.{Writes, NoneWaits};
 ghost use Rattle.hz_write.specs.Writes.{Wrote};
 ghost use Rattle.hz_seq.specs.Analyses.{Analysis, AreAnalyses, GoesOn};
 ghost use Rattle.hz_words.specs.Values.{IsCap};
@@ -114,7 +114,7 @@ fn write_changes<K: Sink>(
     }
 }
 
-// Makes the next change, and writes its outcome.
+// Makes the next change, and writes its outcome. No line of it waits for what comes next.
 fn write_next<K: Sink>(
     writer: &mut Writer<'_, K>,
     net: &Net,
@@ -130,8 +130,9 @@ fn write_next<K: Sink>(
     requires net { sequence.old.desk.netlist ≡ net.now }
     requires stable { sequence.old.stopped ≡ None → IsStableStart net.now sequence.old.start }
     requires inside { IfSome sequence.old.stopped (λ var. var < length (network_of net.now)) }
-    ensures { (analysis : Analysis) × GoesOn cap change.now analysis sequence.old sequence.new
+    ensures gave { (analysis : Analysis) × GoesOn cap change.now analysis sequence.old sequence.new
         × Writes K.written K.faults (analysis_text net.now show number change.now analysis) writer.old writer.new }
+    ensures none_waits { NoneWaits writer.new }
 {
     match sequence.next(change, cap) {
         Ok(finding) => write_change(writer, net, number, change, finding, show),

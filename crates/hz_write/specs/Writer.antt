@@ -1,5 +1,5 @@
 -- What was given to a writer that keeps its first fault, and what the sink has of it.
-use Rattle.std.specs.Prelude.{◌≡◌, ℕ, List, [], ◌++◌, Option, Some, None, Result}
+use Rattle.std.specs.Prelude.{◌≡◌, Bool, ℕ, List, [], ◌++◌, Option, Some, None, is_some, Result}
 use Rattle.hz_outside.specs.declared.fault.PutFault.{PutFault}
 use Rattle.hz_write.specs.declared.writer.Writer.{Writer}
 use Rattle.hz_write.specs.Writes.{IsBuffered, Stops, Wrote}
@@ -22,6 +22,14 @@ pub record Writes {S : Type 0} (written : S → Option (List ℕ)) (faults : S �
   pub sink : now.out.ghost_name ≡ was.out.ghost_name
   pub gave : (start : S) (before : List ℕ) → Given written faults start before was.line was.fault was.out.now
       → Given written faults start (before ++ text) now.line now.fault now.out.now
+
+-- whether a put failed
+abbrev pub has_failed : {S : Type 0} → Writer S → Bool
+has_failed writer = is_some writer.fault
+
+-- Unless a put failed, no byte waits for a put: all that was given is written. So the next put carries none of it.
+abbrev pub NoneWaits : {S : Type 0} → Writer S → Type 0
+NoneWaits writer = writer.fault ≡ None → writer.line ≡ []
 
 -- the answer at the end of a writer: that of all that was given to it
 pub record Finishes {S : Type 0} (written : S → Option (List ℕ)) (faults : S → ℕ) (writer : Writer S) (now : S) (result : Result (Unit {0}) PutFault) : Type 0 where

@@ -1,8 +1,8 @@
 //! A writer of lines, which keeps its first fault.
-ghost use Rattle.std.specs.Prelude.{◌≡◌, ◌++◌, map, decimal, is_some};
+ghost use Rattle.std.specs.Prelude.{◌≡◌, ◌++◌, map, decimal};
 ghost use Rattle.std.specs.List.{flat_map};
 ghost use Rattle.hz_write.specs.Pieces.{piece_text};
-ghost use Rattle.hz_write.specs.Writer.{Begins, Writes, Finishes};
+ghost use Rattle.hz_write.specs.Writer.{Begins, Writes, NoneWaits, Finishes, has_failed};
 ghost use Rattle.hz_write.specs.Writes.{newline, line_of, Wrote};
 
 use super::line::Line;
@@ -92,7 +92,8 @@ impl<'k, K: Sink> Writer<'k, K> {
 
     /// Gives pieces, and ends the line.
     pub fn line(&mut self, pieces: &[Piece<'_>])
-        ensures { Writes K.written K.faults (flat_map piece_text pieces.now ++ newline) self.old self.new }
+        ensures gave { Writes K.written K.faults (flat_map piece_text pieces.now ++ newline) self.old self.new }
+        ensures none_waits { NoneWaits self.new }
     {
         self.add(pieces);
         self.end();
@@ -100,7 +101,8 @@ impl<'k, K: Sink> Writer<'k, K> {
 
     /// Ends the line, and puts what waits.
     pub fn end(&mut self)
-        ensures { Writes K.written K.faults newline self.old self.new }
+        ensures gave { Writes K.written K.faults newline self.old self.new }
+        ensures none_waits { NoneWaits self.new }
     {
         if self.fault.is_some() {
             return;
@@ -112,7 +114,7 @@ impl<'k, K: Sink> Writer<'k, K> {
 
     /// Whether a put failed. From then on nothing is put.
     pub fn has_failed(&self) -> bool
-        ensures { result ≡ is_some self.now.fault }
+        ensures { result ≡ has_failed self.now }
     {
         self.fault.is_some()
     }

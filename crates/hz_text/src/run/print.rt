@@ -5,7 +5,7 @@ ghost use Rattle.std.specs.List.{flat_map};
 ghost use Rattle.std.specs.Option.{option_map};
 ghost use Rattle.hz_core.specs.Netlist.{IsCircuit, node_name};
 ghost use Rattle.hz_net.specs.Network.{network_of};
-ghost use Rattle.hz_write.specs.Writer.{Writes};
+ghost use Rattle.hz_write.specs.Writer.{Writes, NoneWaits};
 ghost use Rattle.hz_write.specs.Writes.{Wrote};
 ghost use Rattle.hz_text.specs.RunFault.{IsRunFaultless};
 ghost use Rattle.hz_text.specs.RunPrinted.{spaced_word, variable_word, step_text, cycle_text, run_text, net_line, version_text, states_text, run_text_printed};
@@ -102,7 +102,8 @@ fn write_net<K: Sink>(writer: &mut Writer<'_, K>, size: Size)
 /// Gives the line after the runs of a run text.
 #[tactic(auto, using(hz_write::proofs::Writers::writes_then))]
 pub fn write_end<K: Sink>(writer: &mut Writer<'_, K>)
-    ensures { Writes K.written K.faults (codes "end\n") writer.old writer.new }
+    ensures gave { Writes K.written K.faults (codes "end\n") writer.old writer.new }
+    ensures none_waits { NoneWaits writer.new }
 {
     writer.line(&[Text(b"end")]);
 }

@@ -18,4 +18,4 @@ returns g c =
     gates-counted net c.inputs-inputs.result c.nodes-nodes.result c.circuit-circuit.ensures.circuit of_inputs of_nodes in
     let of_wires : c.variables-variables.result - c.nodes-nodes.result ≡ pin_count net =
     wires-counted net c.nodes-nodes.result c.variables-variables.result of_nodes of_variables in
-    writes_same c.line.ensures (simp (append_assoc, append-nil) (cc (of_inputs, of_gates, of_wires, of_variables)))
+    writes_same c.line.ensures.gave (simp (append_assoc, append-nil) (cc (of_inputs, of_gates, of_wires, of_variables)))

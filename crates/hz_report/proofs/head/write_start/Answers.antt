@@ -9,8 +9,8 @@ slice_bounds-write_bits-end-2 g c =
     let end : c.nodes-nodes.result ≡ length c.args.net.now.names = rw c.circuit-circuit.ensures.same at c.nodes-nodes.ensures.nodes in
     sym (length-nodes c.args.net.now c.args.start.now c.nodes-nodes.result c.circuit-circuit.ensures.circuit c.requires end)
 
-pub returns : goal.returns
+pub returns-clause-gave : goal.returns-clause-gave
 unfolding start_line
-returns g c =
+returns-clause-gave g c =
     let end : c.nodes-nodes.result ≡ length c.args.net.now.names = rw c.circuit-circuit.ensures.same at c.nodes-nodes.ensures.nodes in
-    rw (end, c.circuit-circuit.ensures.same) at c.write_bits.ensures
+    rw (end, c.circuit-circuit.ensures.same) at c.write_bits.ensures.gave

@@ -15,6 +15,6 @@ returns g c =
     let values = rw c.values_text.ensures at c.text.ensures in
     let class = rw c.spaced_class.ensures at c.text-2.ensures in
     let changes = writes_then (writes_then c.write_variable.ensures values refl) c.write_changes.ensures refl in
-    writes_then (writes_then changes class refl) c.end.ensures
+    writes_then (writes_then changes class refl) c.end.ensures.gave
     (row-pieces
     (variable_word c.args.net.now c.args.var) (letter_of row.start) (tri_letter row.a) (tri_letter row.b) (changes_word row.changes) (class_word row.class))

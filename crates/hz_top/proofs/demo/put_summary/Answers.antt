@@ -5,5 +5,5 @@ use Rattle.hz_top.proofs.demo.put_summary.Goals as goal
 
 pub returns : goal.returns
 returns g c =
-    let wrote = wrote_whole _ _ _ _ _ _ _ _ c.new-writer.ensures.begins c.write_summary.ensures c.finish.ensures in
+    let wrote = wrote_whole _ _ _ _ _ _ _ _ c.new-writer.ensures.begins c.write_summary.ensures.gave c.finish.ensures in
     search rules

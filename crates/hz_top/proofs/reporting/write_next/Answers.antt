@@ -34,10 +34,10 @@ write_stopped-requires-clause-change g c = below-names c.args.net.now c.args.cha
 pub write_stopped-requires-clause-var : goal.write_stopped-requires-clause-var
 write_stopped-requires-clause-var g c = subst (λ (stopped : Option ℕ). IsStopInside c.args.net.now stopped) c.in-Err.ensures.finding c.requires.inside
 
-pub returns-in-Ok : goal.returns-in-Ok
-returns-in-Ok g c =
-    (Found (finding_of c.in-Ok.finding.now), (c.in-Ok.ensures.finding.0, c.in-Ok.ensures.finding.1, rw c.in-Ok.is at c.next.follows.holds-at-none), c.write_change.ensures)
+pub returns-in-Ok-clause-gave : goal.returns-in-Ok-clause-gave
+returns-in-Ok-clause-gave g c =
+    (Found (finding_of c.in-Ok.finding.now), (c.in-Ok.ensures.finding.0, c.in-Ok.ensures.finding.1, rw c.in-Ok.is at c.next.follows.holds-at-none), c.write_change.ensures.gave)
 
-pub returns-in-Err : goal.returns-in-Err
-returns-in-Err g c =
-    (Stopped c.in-Err.stopped.var, (c.in-Err.ensures.finding, rw c.in-Err.is at c.next.follows.holds-at-none), c.write_stopped.ensures)
+pub returns-in-Err-clause-gave : goal.returns-in-Err-clause-gave
+returns-in-Err-clause-gave g c =
+    (Stopped c.in-Err.stopped.var, (c.in-Err.ensures.finding, rw c.in-Err.is at c.next.follows.holds-at-none), c.write_stopped.ensures.gave)

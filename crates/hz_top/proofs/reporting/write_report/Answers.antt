@@ -20,7 +20,7 @@ returns g c =
     let same : c.desk.result.now.netlist ≡ netlist = ap (λ (desk : DeskOf). desk.netlist) c.desk.ensures ∙ c.requires.net in
     let are : AreAnalyses netlist c.args.cap c.args.start.now changes made.0 =
     subst (λ (start : List Bool). AreAnalyses netlist c.args.cap start changes made.0) c.requires.begins made.1 in
-    let lines = writes_then c.write_head.ensures made.2 refl in
+    let lines = writes_then c.write_head.ensures.gave made.2 refl in
     let wrote = wrote_whole _ _ _ _ _ _ _ _ c.new-writer.ensures.begins lines c.finish.ensures in (
       head_text netlist cycles c.args.start.now ++ analyses_text netlist c.args.show 1 changes made.0,
       record {

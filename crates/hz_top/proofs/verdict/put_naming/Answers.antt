@@ -9,6 +9,6 @@ pub returns : goal.returns
 unfolding naming_line
 returns g c =
     let words = writes_same c.add.ensures (sym (concat-texts piece_text c.args.words.now)) in
-    let line = writes_then (writes_then words c.write_variable.ensures refl) c.end.ensures refl in
+    let line = writes_then (writes_then words c.write_variable.ensures refl) c.end.ensures.gave refl in
     let wrote = wrote_whole _ _ _ _ _ _ _ _ c.new-writer.ensures.begins line c.finish.ensures in
     search rules

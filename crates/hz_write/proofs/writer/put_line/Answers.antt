@@ -8,6 +8,6 @@ use Rattle.hz_write.proofs.writer.put_line.Goals as goal
 pub returns : goal.returns
 unfolding line_of
 returns g c =
-    let line = writes_same c.line.ensures (ap (λ (text : List ℕ). text ++ newline) (sym (concat-texts piece_text c.args.pieces.now))) in
+    let line = writes_same c.line.ensures.gave (ap (λ (text : List ℕ). text ++ newline) (sym (concat-texts piece_text c.args.pieces.now))) in
     let wrote = wrote_whole _ _ _ _ _ _ _ _ c.new-writer.ensures.begins line c.finish.ensures in
     search rules

@@ -4,12 +4,12 @@ use Rattle.hz_write.specs.Writes.{newline}
 use Rattle.hz_write.proofs.Writers.{writes_failed, writes_ended, writes_stopped}
 use Rattle.hz_write.proofs.writer.Writer.end.Goals as goal
 
-pub returns-then-is_some : goal.returns-then-is_some
-returns-then-is_some g c = writes_failed newline (sym c.is_some.ensures ∙ c.if-is_some.true)
+pub returns-then-is_some-clause-gave : goal.returns-then-is_some-clause-gave
+returns-then-is_some-clause-gave g c = writes_failed newline (sym c.is_some.ensures ∙ c.if-is_some.true)
 
-pub returns-in-Err : goal.returns-in-Err
-returns-in-Err g c = writes_stopped newline refl (sym c.is_some.ensures ∙ c.if-is_some.false) refl c.in-Err.ensures.wrote
+pub returns-in-Err-clause-gave : goal.returns-in-Err-clause-gave
+returns-in-Err-clause-gave g c = writes_stopped newline refl (sym c.is_some.ensures ∙ c.if-is_some.false) refl c.in-Err.ensures.wrote
 
-pub returns-in_default : goal.returns-in_default
-returns-in_default g c =
+pub returns-in_default-clause-gave : goal.returns-in_default-clause-gave
+returns-in_default-clause-gave g c =
     writes_ended newline refl (sym c.is_some.ensures ∙ c.if-is_some.false) refl c.in_default.ensures.emptied c.in_default.ensures.wrote
