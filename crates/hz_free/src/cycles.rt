@@ -1,5 +1,5 @@
 //! A list of cycles, laid one after the other into one vector.
-ghost use Rattle.std.specs.Prelude.{◌≡◌, ◌<◌, [], ◌∷◌, ◌++◌, length, slice_index_or, OnOk};
+ghost use Rattle.std.specs.Prelude.{◌≡◌, ◌<◌, [], ◌∷◌, ◌++◌, length, slice_index_or, OnOk, OnErr};
 
 use hz_core::Memory;
 use hz_net::part_at;
@@ -49,9 +49,10 @@ impl Cycles {
         part_at(self.variables.as_slice(), self.ends.as_slice(), number)
     }
 
-    // Adds a cycle. If there is no memory, nothing is added.
+    // Adds a cycle.
     pub(crate) fn push(&mut self, cycle: &[u32]) -> Result<(), Memory>
-        ensures { OnOk result (self.new ≡ self.old ++ cycle.now ∷ []) }
+        ensures ok { OnOk result (self.new ≡ self.old ++ cycle.now ∷ []) }
+        ensures err { OnErr result (self.new ≡ self.old) }
     {
         let Ok(()) = self.ends.reserve(1) else {
             return Err(Memory);

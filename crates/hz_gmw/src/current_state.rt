@@ -40,7 +40,7 @@ pub(crate) struct CurrentState {
 }
 
 impl CurrentState {
-    ghost use Rattle.hz_gmw.specs.CurrentState.{IsCounted, IsExact, with_readers, with_bits_of, unstable_from};
+    ghost use Rattle.hz_gmw.specs.CurrentState.{IsCounted, IsExact, AreSame, AreAsLong, with_readers, with_bits_of, unstable_from};
 
     // Every input and every variable is 0.
     pub(crate) fn new(alloc: Global, net: &Net) -> Result<CurrentState, Memory>
@@ -113,11 +113,8 @@ impl CurrentState {
     }
 
     // The same state, with its counts, in room of its own.
-    pub(crate) fn copy(&self, alloc: Global, net: &Net) -> Result<CurrentState, Memory>
-        requires { IsExact net.now self.now }
-        ensures exact { IfOk result (λ other. IsExact net.now other) }
-        ensures input { IfOk result (λ other. other.input.items ≡ self.now.input.items) }
-        ensures state { IfOk result (λ other. other.state.items ≡ self.now.state.items) }
+    pub(crate) fn copy(&self, alloc: Global) -> Result<CurrentState, Memory>
+        ensures { IfOk result (AreSame self.now) }
     {
         let Ok(input) = Vec::from_slice(alloc, self.input.as_slice()) else {
             return Err(Memory);
@@ -140,13 +137,10 @@ impl CurrentState {
         })
     }
 
-    // Takes over another state of the same network, with its counts.
-    pub(crate) fn copy_from(&mut self, net: &Net, other: &CurrentState)
-        requires exact { IsExact net.now self.old }
-        requires other { IsExact net.now other.now }
-        ensures exact { IsExact net.now self.new }
-        ensures input { self.new.input.items ≡ other.now.input.items }
-        ensures state { self.new.state.items ≡ other.now.state.items }
+    // Takes over another state, with its counts, into the room that is there.
+    pub(crate) fn copy_from(&mut self, other: &CurrentState)
+        requires { AreAsLong other.now self.old }
+        ensures { AreSame other.now self.new }
     {
         self.input.copy_from_slice(other.input.as_slice());
         self.state.copy_from_slice(other.state.as_slice());

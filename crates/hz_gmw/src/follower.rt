@@ -43,7 +43,7 @@ impl<'n> Follower<'n> {
         ensures { IfOk result (λ follower. follower ≡ follower_at net.now (replicate net.now.inputs false) (replicate (length (network_of net.now)) false)) }
     {
         let current = CurrentState::new(alloc, net)?;
-        let begun = current.copy(alloc, net)?;
+        let begun = current.copy(alloc)?;
         Ok(Follower {
             net,
             current,
@@ -59,14 +59,14 @@ impl<'n> Follower<'n> {
     {
         self.current.turn_input(self.net, input);
         self.current.turn_to(self.net, state);
-        self.begun.copy_from(self.net, &self.current);
+        self.begun.copy_from(&self.current);
     }
 
     /// Goes back to the state in which it began last.
     pub fn restart(&mut self)
         ensures { self.new ≡ follower_at self.old.circuit self.old.input self.old.begun }
     {
-        self.current.copy_from(self.net, &self.begun);
+        self.current.copy_from(&self.begun);
     }
 
     /// Makes a step: changes the listed variables, each of which is listed once.

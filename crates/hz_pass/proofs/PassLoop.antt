@@ -1,12 +1,13 @@
 -- The rounds of a pass: what is known after some of them, and that a round more keeps it.
-use Rattle.std.proofs.Common.{◌≡◌, ◌≢◌, ℕ, zero, suc, ◌+◌, ◌-◌, ◌<◌, ◌≤◌, Bool, false, List, length, slice_index, refl, sym, ap, ◌∙◌, subst, arith, inl, inr}
+use Rattle.std.proofs.Common.{◌≡◌, ◌≢◌, ℕ, zero, suc, ◌+◌, ◌-◌, ◌<◌, ◌≤◌, ◌⊎◌, Bool, true, false, List, length, slice_index, refl, sym, ap, ◌∙◌, subst, arith, inl, inr}
 use Rattle.std.proofs.lemmas.Bool.{cases_lt, false≢true}
 use Rattle.hz_core.specs.declared.tri.Tri.{Tri}
 use Rattle.hz_net.specs.Network.{Driver, value_at, excitation3}
 use Rattle.hz_net.specs.Passes.{AreRounds, IsFirstRound}
 use Rattle.hz_pass.specs.declared.round.Rule.{Rule}
+use Rattle.hz_pass.specs.Changes.{differing_count}
 use Rattle.hz_pass.specs.Frontier.{next_value, next_state, round_states, AreFirstRounds, Falls, is_open, open_weight, IsRound}
-use Rattle.hz_pass.proofs.Values.{same-or-differ, falls-at, falls-after, length-next_state, at-next_state, closes, open_weight-ones, sum_by-ones}
+use Rattle.hz_pass.proofs.Values.{same-or-differ, falls-at, falls-after, length-next_state, at-next_state, closes, open_weight-ones, sum_by-ones, differing-open}
 
 -- what a round leaves noted of variable i: its number where it changed the variable, else what was noted
 pub record IsNotedAfter (number : ℕ) (state next : List Tri) (i before after : ℕ) : Type 0 where
@@ -66,6 +67,28 @@ module _
       ap (λ (n : ℕ). value_at (round_states rule net input first n) i) (let sum : later ≡ (later - round) + round = omega (arith, order) in sum)
       ∙ closed-on i round (later - round) inside closed
 
+  -- a variable that has changed could change at first, and can't any more
+  pub changed-closed :
+      (i round : ℕ) → i < length net →
+      (value_at (round_states rule net input first round) i ≡ value_at first i)
+      ⊎ ((is_open rule (value_at first i) ≡ true) × (is_open rule (value_at (round_states rule net input first round) i) ≡ false))
+  changed-closed i zero inside = inl refl
+  changed-closed i (suc round) inside =
+      let state = round_states rule net input first round in
+      let is = at-next_state rule net input state i (length-states round) inside in
+      elim (same-or-differ (value_at (round_states rule net input first (suc round)) i) (value_at state i)) [
+        | inl same ↦ elim (changed-closed i round inside) [
+          | inl was ↦ inl (same ∙ was)
+          | inr before ↦ inr (before.0, ap (is_open rule) same ∙ before.1)
+        ]
+        | inr differ ↦ (
+            let shut = closes rule (value_at state i) (excitation3 net input state i) (falls-at rule net input state i inside (falls-states round)) (λ e. differ (is ∙ e)) in
+            elim (changed-closed i round inside) [
+              | inl was ↦ inr (sym (ap (is_open rule) was) ∙ shut.0, ap (is_open rule) is ∙ shut.1)
+              | inr before ↦ absurd (false≢true (sym before.1 ∙ shut.0))
+            ])
+      ]
+
 module _
     {rule : Rule} {net : List Driver} {input : List Bool} {first : List Tri} (long : length first ≡ length net)
     (falls : Falls rule net input first) where
@@ -84,6 +107,15 @@ module _
       {round : ℕ} {state : List Tri} {noted : List ℕ} → PassSoFar rule net input first round state noted →
       round ≤ length net
   pass-bound so_far = omega (arith, so_far.few)
+
+  -- the rounds so far changed no more variables than can't change any more
+  pub pass-changes :
+      {round : ℕ} {state : List Tri} {noted : List ℕ} → PassSoFar rule net input first round state noted →
+      differing_count first state + open_weight rule (λ i. 1) state ≤ open_weight rule (λ i. 1) first
+  pass-changes {round} so_far =
+      subst (λ (values : List Tri). differing_count first values + open_weight rule (λ i. 1) values ≤ open_weight rule (λ i. 1) first) (sym so_far.now)
+      (differing-open rule 0 first (round_states rule net input first round) (length-states rule net input first long falls round ∙ sym long)
+      (λ i few. changed-closed rule net input first long falls i round (omega (arith, few, long))))
 
   pub pass-begin :
       (noted : List ℕ) → length noted ≡ length net → ((i : ℕ) → slice_index noted i ≡ 0) →

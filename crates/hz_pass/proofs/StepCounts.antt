@@ -1,4 +1,5 @@
--- How many evaluations a pass makes: the first round's, and one for each reader of each variable that changes.
+-- How many evaluations a pass makes: the first round's, and one for each reader of each variable that changes. They are no
+-- fewer than the variables that it changes.
 use Rattle.std.proofs.Common.{◌≡◌, ◌≢◌, ℕ, zero, suc, ◌+◌, ◌*◌, ◌<◌, ◌≤◌, Bool, true, false, cond, List, [], ◌∷◌, length, refl, ap, arith, inl, inr}
 use Rattle.std.specs.Prelude.{sum_by, nat_eq}
 use Rattle.std.proofs.lemmas.Bool.{cases_eq}
@@ -10,8 +11,8 @@ use Rattle.hz_net.specs.Variables.{readers_from, fan_out_of}
 use Rattle.hz_net.proofs.Places.{length-network_of, length-wires_of}
 use Rattle.hz_net.proofs.Readers.{node-readers, wire-readers}
 use Rattle.hz_pass.specs.declared.round.Rule.{Rule}
-use Rattle.hz_pass.specs.Changes.{is_change, differing_count}
 use Rattle.hz_pass.specs.Frontier.{is_open, open_weight_from, open_weight, reader_count, IsRound}
+use Rattle.hz_pass.proofs.Values.{sum_by-ones}
 
 -- the sum of a function over so many numbers from one on
 abbrev total_from : (ℕ → ℕ) → ℕ → ℕ → ℕ
@@ -143,10 +144,10 @@ open-le-total rule weight first (value ∷ values) =
     at-most true = omega arith
     at-most false = omega arith
 
--- What a pass has counted: the variables of the first round, and for the later ones no more than the readers of what changed. Those of what
--- changed last, and of what may still change, are still to come.
-pub record StepsSoFar (rule : Rule) (netlist : Netlist) (first begun now : ℕ) (next : List Tri) (changed : List ℕ) : Type 0 where
-  pub least : begun + first ≤ now
+-- What a pass has counted: no less than the variables that can't change any more, and no more than the variables of the first round and the
+-- readers of what changed. Those of what changed last, and of what may still change, are still to come.
+pub record StepsSoFar (rule : Rule) (netlist : Netlist) (start : List Tri) (first begun now : ℕ) (next : List Tri) (changed : List ℕ) : Type 0 where
+  pub least : begun + open_weight rule (λ i. 1) start ≤ now + open_weight rule (λ i. 1) next
   pub most :
       now + sum_by (reader_count netlist) changed + open_weight rule (reader_count netlist) next ≤
       begun + (first + 2 * length (wires_of netlist))
@@ -154,10 +155,10 @@ pub record StepsSoFar (rule : Rule) (netlist : Netlist) (first begun now : ℕ) 
 module _
     {rule : Rule} {input : List Bool} {state next : List Tri} {changed : List ℕ} (netlist : Netlist) (circuit : IsCircuit netlist)
     (round : IsRound rule (network_of netlist) input state next changed) where
-  pub steps-begin : {first begun now : ℕ} → length state ≡ length (network_of netlist) → now ≡ begun + first →
-      StepsSoFar rule netlist first begun now next changed
-  steps-begin long counted = record {
-    least = omega (arith, counted);
+  pub steps-begin : {first begun now : ℕ} → length state ≡ length (network_of netlist) → now ≡ begun + first → begun + length changed ≤ now →
+      StepsSoFar rule netlist state first begun now next changed
+  steps-begin long counted some = record {
+    least = omega (arith, some, round.balance (λ i. 1), sum_by-ones changed);
     most = omega (
       arith,
       counted,
@@ -168,19 +169,9 @@ module _
     );
   }
 
-  pub steps-more : {first begun before now : ℕ} {due : List ℕ} → StepsSoFar rule netlist first begun before state due →
-      now ≡ before + sum_by (reader_count netlist) due → StepsSoFar rule netlist first begun now next changed
-  steps-more so_far counted = record {
-    least = omega (arith, counted, so_far.least);
+  pub steps-more : {start : List Tri} {first begun before now : ℕ} {due : List ℕ} → StepsSoFar rule netlist start first begun before state due →
+      now ≡ before + sum_by (reader_count netlist) due → before + length changed ≤ now → StepsSoFar rule netlist start first begun now next changed
+  steps-more so_far counted some = record {
+    least = omega (arith, some, so_far.least, round.balance (λ i. 1), sum_by-ones changed);
     most = omega (arith, counted, so_far.most, round.balance (reader_count netlist));
   }
-
--- no more variables change than there are
-pub differing_count-le : (values others : List Tri) → differing_count values others ≤ length values
-differing_count-le [] others = omega arith
-differing_count-le (value ∷ values) [] = omega arith
-differing_count-le (value ∷ values) (other ∷ others) = omega (arith, at-most (is_change value other), differing_count-le values others)
-  where
-    at-most : (b : Bool) → cond b 1 0 ≤ 1
-    at-most true = omega arith
-    at-most false = omega arith

@@ -12,6 +12,7 @@ use Rattle.hz_net.specs.Passes.{excitations}
 use Rattle.hz_net.proofs.Excitations.{length-excitations, at-excitations, length-join_each, at-join_each, AllBelow-excitations}
 use Rattle.hz_pass.specs.declared.round.Rule.{Rule}
 use Rattle.hz_pass.specs.declared.round.Rule.TheVariants.{Join, Replace}
+use Rattle.hz_pass.specs.Changes.{is_change, differing_count}
 use Rattle.hz_pass.specs.Frontier.{next_value, next_state, Falls, is_open, open_weight_from}
 
 -- two values are the same or differ
@@ -148,6 +149,47 @@ open_weight-ones rule first (value ∷ values) =
     at-most-one : (b : Bool) → cond b 1 0 ≤ 1
     at-most-one true = omega arith
     at-most-one false = omega arith
+
+-- a value doesn't differ from itself
+no-change : (value : Tri) → is_change value value ≡ false
+no-change Zero = refl
+no-change One = refl
+no-change Unknown = refl
+
+-- Values that differ from others could change, and can't any more: there are no more of them than values that could
+-- change, less those that still can.
+pub differing-open :
+    (rule : Rule) (first : ℕ) (values others : List Tri) → length others ≡ length values →
+    ((i : ℕ) → i < length values → (value_at others i ≡ value_at values i) ⊎ ((is_open rule (value_at values i) ≡ true) × (is_open rule (value_at others i) ≡ false))) →
+    differing_count values others + open_weight_from rule (λ i. 1) first others ≤ open_weight_from rule (λ i. 1) first values
+differing-open rule first [] [] long each = omega arith
+differing-open rule first [] (other ∷ others) long each = cc
+differing-open rule first (value ∷ values) [] long each = cc
+differing-open rule first (value ∷ values) (other ∷ others) long each =
+    omega (
+      arith,
+      at-first value other (each 0 (omega arith)),
+      differing-open rule (suc first) values others (omega (arith, long)) (λ i few. each (suc i) (omega (arith, few))),
+    )
+  where
+    one_if : Bool → ℕ
+    one_if b = cond b 1 0
+
+    at-most-one : (b : Bool) → cond b 1 0 ≤ 1
+    at-most-one true = omega arith
+    at-most-one false = omega arith
+
+    at-first :
+        (value other : Tri) → (other ≡ value) ⊎ ((is_open rule value ≡ true) × (is_open rule other ≡ false)) →
+        cond (is_change value other) 1 0 + cond (is_open rule other) 1 0 ≤ cond (is_open rule value) 1 0
+    at-first value other (inl same) =
+        omega (
+          arith,
+          ap one_if (ap (is_change value) same ∙ no-change value),
+          ap one_if (ap (is_open rule) same),
+        )
+    at-first value other (inr shut) =
+        omega (arith, at-most-one (is_change value other), ap one_if shut.0, ap one_if shut.1)
 
 pub sum_by-ones : (list : List ℕ) → sum_by (λ i. 1) list ≡ length list
 sum_by-ones [] = refl

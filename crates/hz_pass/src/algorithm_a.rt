@@ -83,6 +83,7 @@ pub fn spread_stable<L: Ledger>(
     ensures rank { AreRanks (algorithm_a (network_of net.now) input.now start.now) out.new rank.new }
     ensures bound { result ≤ length (network_of net.now) + 1 }
     ensures front { front.new ≡ front.old }
+    ensures least_steps { steps.old + differing_count (map tri_of start.now) out.new ≤ steps.new }
     ensures most_steps { steps.new ≤ steps.old + (net.now.inputs + 2 * length (wires_of net.now)) }
 {
     let _variables = net.len();

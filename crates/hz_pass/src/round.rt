@@ -69,6 +69,7 @@ impl Round<'_> {
         ensures round { IsRound self.now.rule (network_of self.now.net.now) self.now.input.now self.now.state.now next.new changed.new.items }
         ensures room { vec_capacity changed.new ≡ vec_capacity changed.old }
         ensures steps { steps.new ≡ steps.old + count }
+        ensures counted { steps.old + length changed.new.items ≤ steps.new }
     {
         for var in 0..count {
             self.evaluate(var, next, changed, steps);
@@ -95,6 +96,7 @@ impl Round<'_> {
         ensures round { IsRound self.now.rule (network_of self.now.net.now) self.now.input.now self.now.state.now next.new changed.new.items }
         ensures room { vec_capacity changed.new ≡ vec_capacity changed.old }
         ensures steps { steps.new ≡ steps.old + sum_by (reader_count self.now.net.now) due.now }
+        ensures counted { steps.old + length changed.new.items ≤ steps.new }
     {
         for source in due {
             self.evaluate_each(self.net.readers(*source), next, changed, steps);
@@ -121,6 +123,7 @@ impl Round<'_> {
             → IsMade self.now.rule (network_of self.now.net.now) self.now.input.now self.now.state.now next.new var }
         ensures room { vec_capacity changed.new ≡ vec_capacity changed.old }
         ensures steps { steps.new ≡ steps.old + length list.now }
+        ensures counted { steps.old + length changed.new.items ≤ steps.new + length changed.old.items }
     {
         for var in list {
             self.evaluate(*var, next, changed, steps);
@@ -148,6 +151,7 @@ impl Round<'_> {
             → IsMade self.now.rule (network_of self.now.net.now) self.now.input.now self.now.state.now next.new other }
         ensures room { vec_capacity changed.new ≡ vec_capacity changed.old }
         ensures steps { steps.new ≡ steps.old + 1 }
+        ensures counted { steps.old + length changed.new.items ≤ steps.new + length changed.old.items }
     {
         if self.rule.is_final(next[var as usize]) {
             steps.tick();

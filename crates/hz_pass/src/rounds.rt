@@ -2,6 +2,7 @@
 ghost use Rattle.std.specs.Prelude.{◌≡◌, ℕ, ◌+◌, ◌*◌, ◌<◌, ◌≤◌, length};
 ghost use Rattle.hz_net.specs.Network.{network_of, wires_of};
 ghost use Rattle.hz_net.specs.Passes.{AreRounds};
+ghost use Rattle.hz_pass.specs.Changes.{differing_count};
 ghost use Rattle.hz_pass.specs.Frontier.{Falls, IsMade, round_states, AreFirstRounds};
 
 use crate::front::Front;
@@ -39,7 +40,7 @@ pub(crate) fn make_rounds<L: Ledger>(
     ensures noted { AreFirstRounds (round_states rule (network_of net.now) input.now state.old) state.new noted.new }
     ensures bound { result ≤ length (network_of net.now) + 1 }
     ensures front { front.new ≡ front.old }
-    ensures least_steps { steps.old + first ≤ steps.new }
+    ensures least_steps { steps.old + differing_count state.old state.new ≤ steps.new }
     ensures most_steps { steps.new ≤ steps.old + (first + 2 * length (wires_of net.now)) }
 {
     let _variables = net.len();

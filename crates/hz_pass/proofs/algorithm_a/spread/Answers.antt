@@ -1,9 +1,6 @@
-use Rattle.std.proofs.Common.{map, arith}
-use Rattle.std.proofs.lemmas.List.{length-map}
-use Rattle.hz_core.specs.Ternary.{tri_of}
+use Rattle.std.proofs.Common.{arith}
 use Rattle.hz_net.specs.Network.{network_of}
 use Rattle.hz_pass.proofs.PassResults.{rounds-a, result-a, ranks-a}
-use Rattle.hz_pass.proofs.StepCounts.{differing_count-le}
 use Rattle.hz_pass.proofs.algorithm_a.spread.Goals as goal
 
 pub make_rounds-requires-clause-rest : goal.make_rounds-requires-clause-rest
@@ -20,14 +17,3 @@ returns-clause-out g c =
 pub returns-clause-rank : goal.returns-clause-rank
 returns-clause-rank g c =
     ranks-a (network_of c.args.net.now) c.args.input.now c.args.start.now c.requires.start c.write_bits.new.values c.make_rounds.new.state c.make_rounds.new.noted c.make_rounds.result c.write_bits.ensures c.make_rounds.ensures.state c.make_rounds.ensures.noted
-
-pub returns-clause-least_steps : goal.returns-clause-least_steps
-returns-clause-least_steps g c =
-    omega (
-      arith,
-      c.make_rounds.ensures.least_steps,
-      differing_count-le (map tri_of c.args.start.now) c.make_rounds.new.state,
-      length-map c.args.start.now tri_of,
-      c.requires.start,
-      c.len-variables.ensures.len,
-    )

@@ -1,21 +1,10 @@
 use Rattle.std.proofs.Common.{arith}
 use Rattle.hz_net.specs.Network.{network_of}
 use Rattle.hz_pass.proofs.PassResults.{rounds-b, result-b, settling-b}
-use Rattle.hz_pass.proofs.StepCounts.{differing_count-le}
 use Rattle.hz_pass.proofs.algorithm_b.settle.Goals as goal
 
 pub make_rounds-requires-clause-rest : goal.make_rounds-requires-clause-rest
 make_rounds-requires-clause-rest g c = λ i above inside. absurd (omega (arith, above, inside, c.len-variables.ensures.len))
-
-pub returns-clause-least_steps : goal.returns-clause-least_steps
-returns-clause-least_steps g c =
-    omega (
-      arith,
-      c.make_rounds.ensures.least_steps,
-      differing_count-le c.args.state.now c.make_rounds.new.state,
-      c.requires.state,
-      c.len-variables.ensures.len,
-    )
 
 pub returns-clause-rounds : goal.returns-clause-rounds
 returns-clause-rounds g c =

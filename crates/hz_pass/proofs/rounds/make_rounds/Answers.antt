@@ -3,8 +3,8 @@ use Rattle.std.specs.Prelude.{sum_by, vec_capacity}
 use Rattle.std.proofs.lemmas.List.{nil_from_length}
 use Rattle.hz_core.specs.declared.tri.Tri.{Tri}
 use Rattle.hz_net.specs.Network.{network_of}
-use Rattle.hz_pass.specs.Frontier.{Falls, reader_count}
-use Rattle.hz_pass.proofs.PassLoop.{pass-begin, pass-long, pass-falls, pass-bound, pass-on, pass-done}
+use Rattle.hz_pass.specs.Frontier.{Falls, open_weight, reader_count}
+use Rattle.hz_pass.proofs.PassLoop.{pass-begin, pass-long, pass-falls, pass-bound, pass-changes, pass-on, pass-done}
 use Rattle.hz_pass.proofs.Values.{falls-after}
 use Rattle.hz_pass.proofs.StepCounts.{StepsSoFar, steps-begin, steps-more}
 use Rattle.hz_pass.proofs.ChangedValues.{length-noted, none-noted, state-after, noted-after, unchanged, differs, some-long, changed-all, next-long, quiet-list}
@@ -18,7 +18,7 @@ loop-rule-init g c =
       omega (arith, c.len-variables.ensures.len, c.len-variables.ensures.bound),
       pass-begin c.requires.state c.requires.falls c.fill.new.self noted_long (none-noted c.fill.new.self _ (c.fill.ensures.after (λ y e. e))),
       c.evaluate_first.ensures.round,
-      steps-begin c.args.net.now c.len-variables.ensures.circuit c.evaluate_first.ensures.round c.requires.state c.evaluate_first.ensures.steps,
+      steps-begin c.args.net.now c.len-variables.ensures.circuit c.evaluate_first.ensures.round c.requires.state c.evaluate_first.ensures.steps c.evaluate_first.ensures.counted,
       c.front.invariant.room ∙ (c.front.view_is ∙ c.requires.front),
       c.evaluate_first.ensures.room ∙ (c.front.view_is ∙ c.requires.front),
     )
@@ -83,8 +83,9 @@ loop-rule-preserved g c =
           (noted-after long round c.loop-rule.rounds c.loop-rule.noted noted_long c.as_slice.ensures.value c.take_over.ensures.noted),
       c.evaluate_readers.ensures.round,
       steps-more c.args.net.now c.len-variables.ensures.circuit c.evaluate_readers.ensures.round
-          (subst (λ (values : List Tri). StepsSoFar c.args.rule c.args.net.now c.args.first c.args.steps.now c.loop-rule.steps values c.loop-rule.front-inside.changed.items) (sym state_is) c.loop-rule.invariant.4)
-          (c.evaluate_readers.ensures.steps ∙ ap (λ (list : List ℕ). c.loop-rule.steps + sum_by (reader_count c.args.net.now) list) due_is),
+          (subst (λ (values : List Tri). StepsSoFar c.args.rule c.args.net.now c.args.state.now c.args.first c.args.steps.now c.loop-rule.steps values c.loop-rule.front-inside.changed.items) (sym state_is) c.loop-rule.invariant.4)
+          (c.evaluate_readers.ensures.steps ∙ ap (λ (list : List ℕ). c.loop-rule.steps + sum_by (reader_count c.args.net.now) list) due_is)
+          c.evaluate_readers.ensures.counted,
       ap vec_capacity c.swap.ensures.x_after ∙ c.loop-rule.invariant.6,
       c.evaluate_readers.ensures.room ∙ (c.clear.ensures.capacity ∙ (ap vec_capacity c.swap.ensures.y_after ∙ c.loop-rule.invariant.5)),
     )
@@ -114,4 +115,13 @@ returns-clause-bound g c =
     (unchanged (pass-long c.requires.state c.requires.falls c.loop-rule.invariant.2) round none)).2
 
 pub returns-clause-least_steps : goal.returns-clause-least_steps
-returns-clause-least_steps g c = c.loop-rule.invariant.4.least
+returns-clause-least_steps g c =
+    let round = c.loop-rule.invariant.3 in
+    let none : c.loop-rule.front-inside.changed.items ≡ [] = nil_from_length c.loop-rule.front-inside.changed.items (search rules) in
+    let same = unchanged (pass-long c.requires.state c.requires.falls c.loop-rule.invariant.2) round none in
+    omega (
+      arith,
+      c.loop-rule.invariant.4.least,
+      pass-changes c.requires.state c.requires.falls c.loop-rule.invariant.2,
+      ap (open_weight c.args.rule (λ i. 1)) same,
+    )

@@ -13,7 +13,7 @@ invariant-loop-rule g l =
     (1 ≤ l.rounds) × (length (network_of l.net) ≤ most_variables)
     × PassSoFar l.rule (network_of l.net) l.input l.fn.state (l.rounds - 1) l.state l.noted
     × IsRound l.rule (network_of l.net) l.input l.state l.work l.front-inside.changed.items
-    × StepsSoFar l.rule l.net l.first l.fn.steps l.steps l.work l.front-inside.changed.items
+    × StepsSoFar l.rule l.net l.fn.state l.first l.fn.steps l.steps l.work l.front-inside.changed.items
     × (vec_capacity l.front-inside.due ≡ length (network_of l.net)) × (vec_capacity l.front-inside.changed ≡ length (network_of l.net))
 
 -- a round changes something only as long as some variable may still change

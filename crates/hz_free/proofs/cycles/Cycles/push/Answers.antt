@@ -11,8 +11,8 @@ invariant_of-self-2 c =
     let ends = c.in-Ok.ensures.items in
     rw (c.push_reserved.ensures.items, last, ends) (EndsAt-push 0 c.self.inside.ends.items (length variables) (length c.extend_from_slice.new.self.items) c.self.invariant (omega (arith, long)))
 
-pub returns : goal.returns
-returns c =
+pub returns-clause-ok : goal.returns-clause-ok
+returns-clause-ok c =
     let variables = c.self.inside.variables.items in
     let ends = c.self.inside.ends.items in
     let items = c.in-Ok-extend_from_slice.ensures.items in

@@ -17,6 +17,7 @@ loop-var-preserved g c =
       λ var there. c.evaluate.ensures.kept var (c.loop-var.invariant.2 var there),
       c.evaluate.ensures.room ∙ c.loop-var.invariant.3,
       omega (arith, c.evaluate.ensures.steps, c.loop-var.invariant.4),
+      omega (arith, c.evaluate.ensures.counted, c.loop-var.invariant.5),
     )
 
 pub returns-clause-made : goal.returns-clause-made

@@ -1,4 +1,4 @@
-use Rattle.std.proofs.Common.{◌≡◌, ◌+◌, ◌<◌, ℕ, get_or}
+use Rattle.std.proofs.Common.{◌≡◌, ◌+◌, ◌<◌, ◌≤◌, ℕ, get_or, length}
 use Rattle.std.specs.Prelude.{vec_capacity}
 use Rattle.hz_net.specs.Network.{network_of}
 use Rattle.hz_pass.specs.Frontier.{IsMade, IsRoundSoFar}
@@ -12,3 +12,4 @@ invariant-loop-var g l =
     × ((var : ℕ) → IsMade l.self.rule (network_of l.self.net.now) l.self.input.now l.self.state.now l.fn.next var → IsMade l.self.rule (network_of l.self.net.now) l.self.input.now l.self.state.now l.next var)
     × (vec_capacity l.changed ≡ vec_capacity l.fn.changed)
     × (l.steps ≡ l.fn.steps + l.var-index)
+    × (l.fn.steps + length l.changed.items ≤ l.steps + length l.fn.changed.items)

@@ -16,6 +16,7 @@ loop-var-preserved g c =
       ],
       c.evaluate.ensures.room ∙ c.loop-var.invariant.2,
       omega (arith, c.evaluate.ensures.steps, c.loop-var.invariant.3),
+      omega (arith, c.evaluate.ensures.counted, c.loop-var.invariant.4),
     )
 
 pub returns-clause-round : goal.returns-clause-round

@@ -1,4 +1,4 @@
-use Rattle.std.proofs.Common.{◌≡◌, ◌+◌, ◌<◌, ℕ}
+use Rattle.std.proofs.Common.{◌≡◌, ◌+◌, ◌<◌, ◌≤◌, ℕ, length}
 use Rattle.std.specs.Prelude.{vec_capacity}
 use Rattle.hz_net.specs.Network.{network_of}
 use Rattle.hz_pass.specs.Frontier.{IsMade, IsRoundSoFar}
@@ -11,3 +11,4 @@ invariant-loop-var g l =
     × ((k : ℕ) → k < l.var → IsMade l.self.rule (network_of l.self.net.now) l.self.input.now l.self.state.now l.next k)
     × (vec_capacity l.changed ≡ vec_capacity l.fn.changed)
     × (l.steps ≡ l.fn.steps + l.var)
+    × (l.fn.steps + length l.changed.items ≤ l.steps + length l.fn.changed.items)

@@ -33,6 +33,7 @@ loop-source-preserved g c =
         ap (length {A = ℕ}) c.readers.ensures.readers,
         sum_by_more (reader_count netlist) c.args.due.now c.loop-source.source-index 0 (omega arith),
       ),
+      omega (arith, c.evaluate_each.ensures.counted, c.loop-source.invariant.4),
     )
 
 pub returns-clause-round : goal.returns-clause-round

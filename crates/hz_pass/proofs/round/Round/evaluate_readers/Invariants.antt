@@ -1,4 +1,4 @@
-use Rattle.std.proofs.Common.{◌≡◌, ◌+◌, ◌<◌, ℕ, get_or, take}
+use Rattle.std.proofs.Common.{◌≡◌, ◌+◌, ◌<◌, ◌≤◌, ℕ, get_or, length, take}
 use Rattle.std.specs.Prelude.{Contains, sum_by, vec_capacity}
 use Rattle.hz_net.specs.Network.{network_of}
 use Rattle.hz_net.specs.Reads.{readers_of}
@@ -12,3 +12,4 @@ invariant-loop-source g l =
     × ((k reader : ℕ) → k < l.source-index → Contains (readers_of l.self.net.now (get_or l.due k 0)) reader → IsMade l.self.rule (network_of l.self.net.now) l.self.input.now l.self.state.now l.next reader)
     × (vec_capacity l.changed ≡ vec_capacity l.fn.changed)
     × (l.steps ≡ l.fn.steps + sum_by (reader_count l.self.net.now) (take l.source-index l.due))
+    × (l.fn.steps + length l.changed.items ≤ l.steps + length l.fn.changed.items)

@@ -24,7 +24,7 @@ invariant_of-self c =
     let given : length c.as_slice-3.result.now ≡ c.self.inside.desk.netlist.inputs = ap length c.as_slice-3.ensures.value ∙ input in
     let circuit : IsCircuit c.self.inside.desk.netlist = subst IsCircuit c.net.ensures c.len-variables.ensures.circuit in
     let rows : c.as_slice-rows.result.now ≡ (finding_of c.change.result.now).rows =
-    c.as_slice-rows.ensures ∙ ap (λ (f : FindingOf). f.rows) (c.finding.ensures ∙ c.change.follows.holds-at-none.1) in
+    c.as_slice-rows.ensures ∙ ap (λ (f : FindingOf). f.rows) (c.finding.ensures.same ∙ c.change.follows.holds-at-none.1) in
     let settled : MatchOption c.settle-self-inside.result (IsSettledAt (values_b (finding_of c.change.result.now).rows) state) (IsFirstUnknown (values_b (finding_of c.change.result.now).rows)) =
     subst (λ (list : List Row). MatchOption c.settle-self-inside.result (IsSettledAt (values_b list) state) (IsFirstUnknown (values_b list))) rows c.settle-self-inside.ensures in
     record {
@@ -45,7 +45,7 @@ returns-clause-after c =
     let long : length state ≡ c.self.inside.start.len = omega (arith, c.settle-self-inside.auto.state, c.as_mut_slice-2.ensures.len) in
     let items : (with_items c.self.inside.start state).items ≡ state = with_items_is c.self.inside.start state long in
     let rows : c.as_slice-rows.result.now ≡ c.change.follows.lender-at-none.finding.rows =
-    c.as_slice-rows.ensures ∙ ap (λ (f : FindingOf). f.rows) c.finding.ensures in
+    c.as_slice-rows.ensures ∙ ap (λ (f : FindingOf). f.rows) c.finding.ensures.same in
     let settled : MatchOption c.settle-self-inside.result (IsSettledAt (values_b c.change.follows.lender-at-none.finding.rows) (with_items c.self.inside.start state).items) (IsFirstUnknown (values_b c.change.follows.lender-at-none.finding.rows)) =
     subst (λ (bits : List Bool). MatchOption c.settle-self-inside.result (IsSettledAt (values_b c.change.follows.lender-at-none.finding.rows) bits) (IsFirstUnknown (values_b c.change.follows.lender-at-none.finding.rows))) (sym items)
     (subst (λ (list : List Row). MatchOption c.settle-self-inside.result (IsSettledAt (values_b list) state) (IsFirstUnknown (values_b list))) rows c.settle-self-inside.ensures) in (
