@@ -1,6 +1,7 @@
 -- Words, with their arguments, in the order in which one needs them. A variable is settled if it is not X in the result b of
 -- Algorithm B, else unsettled.
 --
+-- AreResultsOfBoth netlist input start a ranks when b: a change, and what both algorithms give for it
 -- AreOfChange netlist input ranks b: the result of Algorithm B and the ranks of Algorithm A are those of a change
 -- IsTurned net ranks b state: a turned state: a pass may begin there and end there
 -- IsSettleRun net input start a b steps: a run to a turned state

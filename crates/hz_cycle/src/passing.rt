@@ -9,6 +9,7 @@ ghost use Rattle.hz_net.specs.Passes.{IsUnknown};
 ghost use Rattle.hz_net.specs.Variables.{at_wires, first_wire};
 ghost use Rattle.hz_reach.specs.Order.{key_at, IsInKeyOrder};
 ghost use Rattle.hz_reach.specs.Room.{Spends};
+ghost use Rattle.hz_reach.specs.Given.{IsScratchFor};
 ghost use Rattle.hz_cycle.specs.Marks.{MarksPattern, ArePatternWires, with_fan_out};
 ghost use Rattle.hz_cycle.specs.Pass.{IsFixed, MayBegin, HasRoom, IsPassMade};
 
@@ -25,8 +26,7 @@ pub(crate) fn make_pass(net: &Net, rank: &[u32], b: &[Tri], scratch: &mut Scratc
     requires rank { length rank.now ≡ length (network_of net.now) }
     requires ranked { (i : ℕ) → IsUnknown (value_at b.now i) → key_at rank.now i ≢ 0 }
     requires begins { MayBegin (network_of net.now) rank.now b.now scratch.old.state }
-    requires scratch { length scratch.old.state ≡ length (network_of net.now) }
-    requires none_marked { scratch.old.marked ≡ [] }
+    requires scratch { IsScratchFor net.now scratch.old }
     requires sorted { IsInKeyOrder rank.now scratch.old.sorted }
     requires room { HasRoom (network_of net.now) rank.now b.now scratch.old.state run.old }
     ensures pass { IsPassMade (network_of net.now) rank.now b.now scratch.old.state run.old.steps run.new.steps scratch.new.state }
@@ -67,8 +67,7 @@ fn mark_pattern(net: &Net, b: &[Tri], gate: u32, scratch: &mut Scratch)
     requires possible { (list : List Bool) × IsCandidate (gate_at net.now gate).kind
         (at_wires net.now gate scratch.old.state) (map is_unknown (at_wires net.now gate b.now))
         (not (bit_at scratch.old.state gate)) list }
-    requires scratch { length scratch.old.state ≡ length (network_of net.now) }
-    requires none_marked { scratch.old.marked ≡ [] }
+    requires scratch { IsScratchFor net.now scratch.old }
     ensures marked { ArePatternWires net.now b.now scratch.old.state gate scratch.new.marked }
     ensures state { scratch.new.state ≡ scratch.old.state }
     ensures sorted { scratch.new.sorted ≡ scratch.old.sorted }
@@ -123,8 +122,7 @@ fn list_unsettled(values: &[Tri], free: &mut [bool])
 fn mark_with_fan_out(net: &Net, gate: u32, scratch: &mut Scratch)
     requires circuit { IsCircuit net.now }
     requires gate { IsGateNumber net.now gate }
-    requires scratch { length scratch.old.state ≡ length (network_of net.now) }
-    requires none_marked { scratch.old.marked ≡ [] }
+    requires scratch { IsScratchFor net.now scratch.old }
     ensures marked { scratch.new.marked ≡ with_fan_out net.now scratch.old.state gate }
     ensures state { scratch.new.state ≡ scratch.old.state }
     ensures sorted { scratch.new.sorted ≡ scratch.old.sorted }
