@@ -7,6 +7,7 @@
 -- IsSettleRun net input start a b steps: a run to a turned state
 -- IsCycleOf net input b state steps: a nontransient cycle in which each unsettled variable takes both values
 -- IsPass net input ranks b start steps state: a pass: each unsettled gate has a turn
+-- AreFixedAndRanked net ranks b: what a pass is given of a change
 -- MayBegin net ranks b state: a pass may begin in this state
 -- AreEnough net ranks b state most, HasRoom net ranks b state run: a run has the room for a pass
 -- ArePatternWires netlist a state gate wires: the wires that change first in a gate's turn

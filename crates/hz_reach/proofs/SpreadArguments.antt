@@ -30,15 +30,8 @@ pub record IsAsked (netlist : Netlist) (input start : List Bool) (a : List Tri) 
 pub asked-by :
     (netlist : Netlist) (input start : List Bool) (a : List Tri) (ranks : List ℕ) (run : RunRecord) → IsCircuit netlist →
     AreResultsOfA netlist input start a ranks → IsEmptyRun (length (network_of netlist)) run → IsAsked netlist input start a ranks run
-asked-by netlist input start a ranks run circuit change room = record {
-  circuit = circuit;
-  begins = change.begins;
-  result = change.a_result;
-  ranked = change.ranked;
-  empty = room.empty;
-  flips = room.flips;
-  steps = room.steps;
-}
+asked-by netlist input start a ranks run circuit change room =
+    record { circuit = circuit; begins = change.begins; result = change.a_result; ranked = change.ranked; empty = room.empty; flips = room.flips; steps = room.steps }
 
 module _ (netlist : Netlist) (input start : List Bool) (a : List Tri) (ranks : List ℕ) (run : RunRecord) (asked : IsAsked netlist input start a ranks run) where
   pub ranked_rounds : AreRanks (algorithm_a (network_of netlist) input start) (algorithm_a (network_of netlist) input start asked.result.0) ranks

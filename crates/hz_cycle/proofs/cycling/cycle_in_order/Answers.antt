@@ -4,24 +4,15 @@ use Rattle.hz_core.proofs.Refinements.{length-Refines}
 use Rattle.hz_net.specs.Network.{network_of}
 use Rattle.hz_net.proofs.Wired.{wired-network_of}
 use Rattle.hz_cycle.specs.Cycles.{IsCycleOf}
-use Rattle.hz_cycle.proofs.Change.{of-change, change-fixed, unsettled-ranked, ranks-long}
+use Rattle.hz_cycle.proofs.Change.{of-change, change-fixed, fixed-and-ranked}
 use Rattle.hz_cycle.proofs.CycleExists.{cycle-found, returned}
 use Rattle.hz_cycle.proofs.CycleRoom.{room-twice, room-left}
 use Rattle.hz_cycle.proofs.WireTargets.{goes-somewhere}
 use Rattle.hz_cycle.proofs.TurnedStates.{turned-may-begin}
 use Rattle.hz_cycle.proofs.cycling.cycle_in_order.Goals as goal
 
-pub make_pass-requires-clause-b : goal.make_pass-requires-clause-b
-make_pass-requires-clause-b c = (change-fixed (of-change c.requires.change)).long
-
-pub make_pass-requires-clause-fixed : goal.make_pass-requires-clause-fixed
-make_pass-requires-clause-fixed c = (c.args.input.now, change-fixed (of-change c.requires.change))
-
-pub make_pass-requires-clause-rank : goal.make_pass-requires-clause-rank
-make_pass-requires-clause-rank c = ranks-long (of-change c.requires.change)
-
-pub make_pass-requires-clause-ranked : goal.make_pass-requires-clause-ranked
-make_pass-requires-clause-ranked c = unsettled-ranked (of-change c.requires.change)
+pub make_pass-requires-clause-given : goal.make_pass-requires-clause-given
+make_pass-requires-clause-given c = fixed-and-ranked (of-change c.requires.change)
 
 pub make_pass-requires-clause-begins : goal.make_pass-requires-clause-begins
 make_pass-requires-clause-begins c = turned-may-begin c.requires.turned
@@ -37,17 +28,8 @@ make_pass-requires-clause-room c =
     room-twice (network_of c.args.net.now) c.args.rank.now c.args.b.now c.args.scratch.now.state c.args.run.now
     (omega (arith, c.requires.run.flips)) (omega (arith, c.requires.run.steps))
 
-pub make_pass-requires-2-clause-b : goal.make_pass-requires-2-clause-b
-make_pass-requires-2-clause-b c = (change-fixed (of-change c.requires.change)).long
-
-pub make_pass-requires-2-clause-fixed : goal.make_pass-requires-2-clause-fixed
-make_pass-requires-2-clause-fixed c = (c.args.input.now, change-fixed (of-change c.requires.change))
-
-pub make_pass-requires-2-clause-rank : goal.make_pass-requires-2-clause-rank
-make_pass-requires-2-clause-rank c = ranks-long (of-change c.requires.change)
-
-pub make_pass-requires-2-clause-ranked : goal.make_pass-requires-2-clause-ranked
-make_pass-requires-2-clause-ranked c = unsettled-ranked (of-change c.requires.change)
+pub make_pass-requires-2-clause-given : goal.make_pass-requires-2-clause-given
+make_pass-requires-2-clause-given c = fixed-and-ranked (of-change c.requires.change)
 
 pub make_pass-requires-2-clause-begins : goal.make_pass-requires-2-clause-begins
 make_pass-requires-2-clause-begins c =

@@ -27,9 +27,7 @@ pub loop-place-init : goal.loop-place-init
 loop-place-init c =
     let asked : IsPassAsked c.args.net.now c.args.rank.now c.args.b.now c.args.scratch.now.state c.args.run.now = record {
       circuit = c.circuit-circuit.ensures.circuit;
-      fixed = c.requires.fixed;
-      long = c.requires.rank;
-      ranked = c.requires.ranked;
+      given = c.requires.given;
       begins = c.requires.begins;
       room = c.requires.room;
     } in
@@ -38,7 +36,7 @@ loop-place-init c =
 pub bounds-b-var : goal.bounds-b-var
 bounds-b-var c =
     let nodes = ap (λ (n : Netlist). length n.names) c.circuit-circuit.ensures.same in
-    omega (arith, c.if-var-nodes.true, c.nodes.ensures.nodes, nodes, c.requires.b, length-network_of c.args.net.now c.circuit-circuit.ensures.circuit)
+    omega (arith, c.if-var-nodes.true, c.nodes.ensures.nodes, nodes, c.requires.given.fixed.long, length-network_of c.args.net.now c.circuit-circuit.ensures.circuit)
 
 pub mark_pattern-requires-clause-possible : goal.mark_pattern-requires-clause-possible
 mark_pattern-requires-clause-possible c =

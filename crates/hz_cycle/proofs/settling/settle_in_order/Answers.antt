@@ -8,7 +8,7 @@ use Rattle.hz_gmw.proofs.CoverB.{length-end_of}
 use Rattle.hz_reach.specs.Room.{Spends}
 use Rattle.hz_cycle.specs.Cycles.{IsSettleRun}
 use Rattle.hz_cycle.specs.Pass.{IsPassMade}
-use Rattle.hz_cycle.proofs.Change.{of-both, a-long, change-fixed, unsettled-ranked, ranks-long}
+use Rattle.hz_cycle.proofs.Change.{of-both, a-long, change-fixed, fixed-and-ranked, ranks-long}
 use Rattle.hz_cycle.proofs.SettleRunExists.{before-pass, rounds-may-begin, rounds-room, pass-may-begin, pass-room, settle-found, settle-end}
 use Rattle.hz_cycle.proofs.settling.settle_in_order.Goals as goal
 
@@ -49,17 +49,8 @@ sort-requires c =
     let before = before-pass c.len-variables.ensures.circuit c.requires.change.of_a.begins change c.requires.change.settling c.spread_in_order.ensures.run c.spread_in_order.ensures.state c.settle_rounds.ensures.rounds in
     ranks-long change ∙ sym (length-Refines c.settle_rounds.new.scratch.state c.args.b.now before.settling.values ∙ (change-fixed change).long)
 
-pub make_pass-requires-clause-b : goal.make_pass-requires-clause-b
-make_pass-requires-clause-b c = (change-fixed (of-both c.requires.change)).long
-
-pub make_pass-requires-clause-fixed : goal.make_pass-requires-clause-fixed
-make_pass-requires-clause-fixed c = (c.args.input.now, change-fixed (of-both c.requires.change))
-
-pub make_pass-requires-clause-rank : goal.make_pass-requires-clause-rank
-make_pass-requires-clause-rank c = ranks-long (of-both c.requires.change)
-
-pub make_pass-requires-clause-ranked : goal.make_pass-requires-clause-ranked
-make_pass-requires-clause-ranked c = unsettled-ranked (of-both c.requires.change)
+pub make_pass-requires-clause-given : goal.make_pass-requires-clause-given
+make_pass-requires-clause-given c = fixed-and-ranked (of-both c.requires.change)
 
 pub make_pass-requires-clause-begins : goal.make_pass-requires-clause-begins
 make_pass-requires-clause-begins c =
