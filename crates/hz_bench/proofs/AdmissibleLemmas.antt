@@ -12,6 +12,7 @@ use Rattle.std.proofs.lemmas.List.Sums.{sum_by-append, sum_by-cons}
 use Rattle.hz_core.proofs.CircuitLemmas.{bounds-from_takes}
 use Rattle.hz_core.specs.declared.kind.Kind.{Kind}
 use Rattle.hz_core.specs.declared.kind.Kind.TheVariants.{And}
+use Rattle.hz_core.specs.Gate.{most_pins}
 use Rattle.hz_core.specs.Netlist as netlist
 use Rattle.hz_core.proofs.ListLemmas.{list_any-from_position_none}
 use Rattle.hz_bench.specs.BuiltNetlist.{AreAdmissibleSteps, MayAddInput, MayAddCut, MayAddGate, MayAddPinNamed, MayAddPins, MayAddOutput, MayBuild, initial_builder, with_input_of, with_cut_of, with_gate_of, with_pin_named, with_pins_of, with_output_of}
@@ -20,6 +21,7 @@ use Rattle.hz_bench.specs.Statement.{Statement, Input, Output, FlipFlop, Gate, h
 use Rattle.hz_bench.specs.Text.{variable_total}
 use Rattle.hz_bench.proofs.CheckedLemmas.{Apart, UsesKnown, IsChecked, either, not-false}
 use Rattle.hz_bench.proofs.NetlistLemmas.{bare, bare_cuts, bare_gates, bare_inputs, only_inputs, with_gates, with_parts, cuts_of, connected_circuit, data_set, next_cut, pin_added, pins_added, each_once-append, inputs-is, inputs_of-is, unconnected_netlist-is, connected-is}
+use Rattle.hz_core.specs.Limits.{most_variables}
 
 -- a name that is absent has no node, and one that is present has one
 absent-unnamed : (names : List (List ℕ)) (name : List ℕ) → list_any (bytes_eq name) names ≡ false → position (bytes_eq name) names ≡ None
@@ -65,7 +67,7 @@ pins_of-cons gate rest = sum_by-cons (λ (gate : netlist.Gate). length gate.sour
 
 -- the inputs may be added
 inputs_may : (all : netlist.Netlist) (statements : List Statement) → all.cuts ≡ [] → all.gates ≡ [] → AllByRecursion (λ statement. has_long_name statement ≡ false) statements → Apart all.names (input_names statements)
-    → length all.names + pins_of all.gates + length (input_names statements) ≤ 200000 → AreAdmissibleSteps MayAddInput with_input_of all statements
+    → length all.names + pins_of all.gates + length (input_names statements) ≤ most_variables → AreAdmissibleSteps MayAddInput with_input_of all statements
 inputs_may all [] uncut none short apart room = tt
 inputs_may all (Input name ∷ rest) uncut none short apart room = (
   (record { short = (either (is_long name) _ short.0).0; fresh = absent-unnamed all.names name apart.0; room = omega (arith, room) }, uncut, none),
@@ -77,7 +79,7 @@ inputs_may all (Gate name kind sources ∷ rest) uncut none short apart room = (
 
 -- the cuts may be added
 cuts_may : (all : netlist.Netlist) (statements : List Statement) → all.gates ≡ [] → AllByRecursion (λ statement. has_long_name statement ≡ false) statements → Apart all.names (cut_names statements)
-    → length all.names + pins_of all.gates + length (cut_names statements) ≤ 200000 → AreAdmissibleSteps MayAddCut with_cut_of all statements
+    → length all.names + pins_of all.gates + length (cut_names statements) ≤ most_variables → AreAdmissibleSteps MayAddCut with_cut_of all statements
 cuts_may all [] none short apart room = tt
 cuts_may all (Input name ∷ rest) none short apart room = (tt, cuts_may all rest none short.1 apart room)
 cuts_may all (Output name ∷ rest) none short apart room = (tt, cuts_may all rest none short.1 apart room)
@@ -89,7 +91,7 @@ cuts_may all (Gate name kind sources ∷ rest) none short apart room = (tt, cuts
 
 -- the gates may be added
 gates_may : (all : netlist.Netlist) (statements : List Statement) → AllByRecursion (λ statement. has_long_name statement ≡ false) statements → Apart all.names (gate_names statements)
-    → length all.names + pins_of all.gates + length (gate_names statements) ≤ 200000 → AreAdmissibleSteps MayAddGate with_gate_of all statements
+    → length all.names + pins_of all.gates + length (gate_names statements) ≤ most_variables → AreAdmissibleSteps MayAddGate with_gate_of all statements
 gates_may all [] short apart room = tt
 gates_may all (Input name ∷ rest) short apart room = (tt, gates_may all rest short.1 apart room)
 gates_may all (Output name ∷ rest) short apart room = (tt, gates_may all rest short.1 apart room)
@@ -102,7 +104,7 @@ gates_may all (Gate name kind sources ∷ rest) short apart room =
     )
 
 -- the pins of a gate statement that passed the check
-gate_count : (name : List ℕ) (kind : Option Kind) (sources : List (List ℕ)) → has_unknown_kind (Gate name kind sources) ≡ false → has_wrong_pins (Gate name kind sources) ≡ false → (1 ≤ length sources) × (length sources ≤ netlist.most_pins (kind_of kind))
+gate_count : (name : List ℕ) (kind : Option Kind) (sources : List (List ℕ)) → has_unknown_kind (Gate name kind sources) ≡ false → has_wrong_pins (Gate name kind sources) ≡ false → (1 ≤ length sources) × (length sources ≤ most_pins (kind_of kind))
 gate_count name (Some kind) sources known pins = bounds-from_takes kind (length sources) (not-false _ pins)
 gate_count name None sources known pins = cc
 
@@ -112,8 +114,8 @@ cut_count name sources pins = let one = not-false (length sources == 1) pins in 
 
 -- the pins of one gate may be added
 gate_may : (all : netlist.Netlist) (number : ℕ) (done more : List netlist.Gate) (kind : Kind) (sources : List ℕ) (names : List (List ℕ)) → number ≡ all.inputs + length done → number < length all.names
-    → AllByRecursion (λ name. list_any (bytes_eq name) all.names ≡ true) names → length sources + length names ≤ netlist.most_pins kind
-    → length all.names + pins_of done + length sources + length names + pins_of more ≤ 200000
+    → AllByRecursion (λ name. list_any (bytes_eq name) all.names ≡ true) names → length sources + length names ≤ most_pins kind
+    → length all.names + pins_of done + length sources + length names + pins_of more ≤ most_variables
     → AreAdmissibleSteps (MayAddPinNamed number) (with_pin_named number) (with_gates all (done ++ record { kind = kind; sources = sources } ∷ more)) names
 gate_may all number done more kind sources [] place inside known few room = tt
 gate_may all number done more kind sources (name ∷ names) place inside known few room =
@@ -124,7 +126,7 @@ gate_may all number done more kind sources (name ∷ names) place inside known f
       record {
         gate_is = (omega (arith, place), inside);
         source_is = present-named all.names name known.0;
-        pins = subst (λ (one : netlist.Gate). length one.sources < netlist.most_pins one.kind) (sym found) (omega (arith, few));
+        pins = subst (λ (one : netlist.Gate). length one.sources < most_pins one.kind) (sym found) (omega (arith, few));
         room = omega (arith, count, room);
       },
       subst (λ now. AreAdmissibleSteps (MayAddPinNamed number) (with_pin_named number) now names) (sym (pin_added all number done more kind sources name place))
@@ -159,7 +161,7 @@ pins_may : (all : netlist.Netlist) (cut number : ℕ) (made : List (Option ℕ))
     → cut ≡ (all.inputs - length (made ++ bare_cuts statements)) + length made → length (made ++ bare_cuts statements) ≤ all.inputs
     → number ≡ all.inputs + length done → number + length (gate_names statements) ≤ length all.names
     → AllByRecursion (λ statement. has_unknown_kind statement ≡ false) statements → AllByRecursion (λ statement. has_wrong_pins statement ≡ false) statements
-    → AllByRecursion (UsesKnown all.names) statements → length all.names + pins_of done + pins_in statements ≤ 200000
+    → AllByRecursion (UsesKnown all.names) statements → length all.names + pins_of done + pins_in statements ≤ most_variables
     → AreAdmissibleSteps MayAddPins with_pins_of (record { netlist = with_parts all (made ++ bare_cuts statements) (done ++ bare_gates statements); cut = cut; gate = number }) statements
 unfolding bare_cuts bare_gates pins_in
 pins_may all cut number made done [] at fits place inside known pins defined room = tt

@@ -15,6 +15,7 @@ use Rattle.hz_bench.specs.declared.forms.Form.TheVariants as form
 use Rattle.hz_bench.specs.Form.{form_of}
 use Rattle.hz_bench.specs.Statement.{Statement, Input, Output, FlipFlop, Gate, name_of, is_long}
 use Rattle.hz_bench.proofs.EntryLemmas.{entry-formed, entry-named}
+use Rattle.hz_core.specs.Limits.{most_variables}
 
 -- word bytes may stand in a name
 name_bytes : (word : List ℕ) → list_all is_word_byte word ≡ true → list_all is_name_byte word ≡ true
@@ -33,7 +34,7 @@ IsName-word name word h =
 pub record IsAddable (netlist : Netlist) (name : List ℕ) : Type 0 where
   pub name_is : IsName name
   pub fresh : node_named netlist name ≡ None
-  pub room : variable_count netlist < 200000
+  pub room : variable_count netlist < most_variables
 
 addable : (netlist : Netlist) (entry : Entry) (name : List ℕ) → entry.name.now ≡ name → MayAddNode netlist name → IsAddable netlist entry.name.now
 addable netlist entry name is may =

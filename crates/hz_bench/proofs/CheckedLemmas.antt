@@ -19,6 +19,7 @@ use Rattle.hz_bench.specs.Text.{variable_total, variable_total_among}
 use Rattle.hz_bench.specs.Twice.{twice_or, earlier_line, twice_after, twice_fault}
 use Rattle.hz_bench.proofs.DefinitionLemmas.{plain, definer-cons, defined_names-push}
 use Rattle.hz_bench.proofs.NoteLemmas.{variable_total-statements}
+use Rattle.hz_core.specs.Limits.{most_variables}
 
 -- the names are new where they come: none is among these or among those before it
 abbrev pub Apart : List (List ℕ) → List (List ℕ) → Type 0
@@ -38,7 +39,7 @@ pub record IsChecked (statements : List Statement) : Type 0 where
   pub gates_apart : Apart (all_inputs statements) (gate_names statements)
   pub pins : AllByRecursion (λ statement. has_wrong_pins statement ≡ false) statements
   pub defined : AllByRecursion (UsesKnown (node_names statements)) statements
-  pub few : variable_total statements ≤ 200000
+  pub few : variable_total statements ≤ most_variables
 
 -- no statement passes a test that finds none
 pub each_fails : (test : Statement → Bool) (statements : List (Numbered Statement)) → first_that test statements ≡ None → AllByRecursion (λ statement. test statement ≡ false) (plain statements)
@@ -256,10 +257,10 @@ option_or-none : (answer rest : Option BenchFault) → option_or answer rest ≡
 option_or-none None rest h = (refl, h)
 option_or-none (Some found) rest h = cc
 
-few_enough : (variables : ℕ) → too_many_fault variables ≡ None → variables ≤ 200000
-few_enough variables h = by_test (nat_lt 200000 variables) refl h
+few_enough : (variables : ℕ) → too_many_fault variables ≡ None → variables ≤ most_variables
+few_enough variables h = by_test (nat_lt most_variables variables) refl h
   where
-    by_test : (b : Bool) → nat_lt 200000 variables ≡ b → cond b (Some (fault.TooMany variables)) None ≡ None → variables ≤ 200000
+    by_test : (b : Bool) → nat_lt most_variables variables ≡ b → cond b (Some (fault.TooMany variables)) None ≡ None → variables ≤ most_variables
     by_test true t h = cc
     by_test false t h = grind (arith, nat_tests, t)
 

@@ -18,6 +18,7 @@ use Rattle.hz_bench.specs.Uses.{pins_in}
 use Rattle.hz_bench.proofs.EntryLemmas.{entry-formed}
 use Rattle.hz_bench.proofs.BuildLemmas.{entries_may}
 use Rattle.hz_bench.proofs.NetlistLemmas.{unconnected_netlist-is, connected-is}
+use Rattle.hz_core.specs.Limits.{most_variables}
 
 -- the number of a name that a node has is that of a node
 pub number-below : (names : List (List ℕ)) (name : List ℕ) → IsSome (position (bytes_eq name) names) → number_in names name < length names
@@ -47,7 +48,7 @@ names-kept gate netlist (node ∷ nodes) = names-kept gate (with_pin_from gate n
 -- a gate whose pins come next, which read the first of the nodes that are left
 record IsGateNow (now : BuilderState) (pins : ℕ) (left : List ℕ) (statement : Statement) (rest : List Statement) : Type 0 where
   enough : pins ≤ length left
-  room : now.gate < 200000
+  room : now.gate < most_variables
   may : AreAdmissibleSteps (MayAddPinFrom now.gate) (with_pin_from now.gate) now.netlist (take pins left)
   next : with_pins_of now statement ≡ record now { netlist = fold (with_pin_from now.gate) now.netlist (take pins left); gate = suc now.gate }
   left_next : drop pins left ≡ pins_in now.netlist.names rest
@@ -73,7 +74,7 @@ gate_now now pins left kind (Gate name word sources) rest h count may is =
 -- a cut whose data node comes next: the first of the nodes that are left
 record IsCutNow (now : BuilderState) (left : List ℕ) (statement : Statement) (rest : List Statement) : Type 0 where
   enough : 1 ≤ length left
-  room : now.cut < 200000
+  room : now.cut < most_variables
   cut_is : IsCutNumber now.netlist now.cut
   node_is : get_or left 0 0 < length now.netlist.names
   next : with_pins_of now statement ≡ record now { netlist = with_data now.netlist now.cut (get_or left 0 0); cut = suc now.cut }
@@ -147,7 +148,7 @@ module _ (whole : Netlist) (entries : List Entry) (index : ℕ) (circuit : Netli
   pub gate-may : (kind : Option Kind) → entry.form ≡ form.Gate kind → AreAdmissibleSteps (MayAddPinFrom gate) (with_pin_from gate) circuit (take entry.pins left)
   gate-may kind h = (gate_of kind h).may
 
-  pub gate-room : (kind : Option Kind) → entry.form ≡ form.Gate kind → gate < 200000
+  pub gate-room : (kind : Option Kind) → entry.form ≡ form.Gate kind → gate < most_variables
   gate-room kind h = (gate_of kind h).room
 
   pub gate-connected : (kind : Option Kind) (new : Netlist) → entry.form ≡ form.Gate kind → new ≡ fold (with_pin_from gate) circuit (take entry.pins left)
@@ -171,7 +172,7 @@ module _ (whole : Netlist) (entries : List Entry) (index : ℕ) (circuit : Netli
   pub cut-node : entry.form ≡ form.FlipFlop → get_or left 0 0 < length circuit.names
   cut-node h = (cut_of h).node_is
 
-  pub cut-room : entry.form ≡ form.FlipFlop → cut < 200000
+  pub cut-room : entry.form ≡ form.FlipFlop → cut < most_variables
   cut-room h = (cut_of h).room
 
   pub cut-connected : (new : Netlist) → entry.form ≡ form.FlipFlop → new ≡ with_data circuit cut (get_or left 0 0)

@@ -20,6 +20,7 @@ use Rattle.hz_bench.specs.Text.{bench_meaning_at, bench_statements, statements_o
 use Rattle.hz_bench.specs.Twice.{twice_or, earlier_line, twice_after, twice_fault}
 use Rattle.hz_bench.proofs.DefinitionLemmas.{definer-append, definer-cons}
 use Rattle.hz_bench.proofs.NoteLemmas.{variable_total-statements}
+use Rattle.hz_core.specs.Limits.{most_variables}
 
 ascending : (text : List ℕ) → Ascends 1 (bench_statements text)
 ascending text = numbered_from-Ascends statement_of 1 (lines_of text)
@@ -38,7 +39,7 @@ ByNumber text (suc (suc (suc (suc zero)))) line = ⊥
 ByNumber text (suc (suc (suc (suc (suc zero))))) line = (first : ℕ) × ((name : List ℕ) × IsSecond text line first name)
 ByNumber text (suc (suc (suc (suc (suc (suc zero)))))) line = HasThat has_wrong_pins text line
 ByNumber text (suc (suc (suc (suc (suc (suc (suc zero))))))) line = (name : List ℕ) × Uses text line name × ((other : ℕ) → ¬ Defines text other name)
-ByNumber text (suc (suc (suc (suc (suc (suc (suc (suc zero)))))))) line = 200000 < variable_total (statements_of text)
+ByNumber text (suc (suc (suc (suc (suc (suc (suc (suc zero)))))))) line = most_variables < variable_total (statements_of text)
 ByNumber text (suc (suc (suc (suc (suc (suc (suc (suc (suc more))))))))) line = ⊥
 
 by_number : (text : List ℕ) (fault : BenchFault) → HasFault text fault → ByNumber text (fault_number fault) (fault_line_number fault)
@@ -130,14 +131,14 @@ form-none text e = none_below-next text 1 (none_below-one text) (meaning_at-none
 
 -- the count of variables comes last
 outcome-many : (text : List ℕ) (variables : ℕ) → variable_total (statements_of text) ≡ variables → NoneBelow text 8 → Outcome text (too_many_fault variables)
-outcome-many text variables is low = by_test (nat_lt 200000 variables) refl
+outcome-many text variables is low = by_test (nat_lt most_variables variables) refl
   where
-    by_test : (b : Bool) → nat_lt 200000 variables ≡ b → Outcome text (cond b (Some (TooMany variables)) None)
+    by_test : (b : Bool) → nat_lt most_variables variables ≡ b → Outcome text (cond b (Some (TooMany variables)) None)
     by_test true t =
-        let many : 200000 < variables = grind (arith, nat_tests, t) in
+        let many : most_variables < variables = grind (arith, nat_tests, t) in
         IsLeastFault-from text 8 (TooMany variables) refl (many, is) low (λ line p. omega arith)
     by_test false t =
-        let few : variables ≤ 200000 = grind (arith, nat_tests, t) in
+        let few : variables ≤ most_variables = grind (arith, nat_tests, t) in
         none_below-end text (none_below-next text 8 low (λ line p. omega (arith, p, is, few)))
 
 -- the statement defines the name exactly where the test says so

@@ -30,6 +30,7 @@ use Rattle.hz_bench.specs.Text.{bench_statements, statements_of, nodes_among, ou
 use Rattle.hz_bench.specs.Twice.{twice_or, earlier_line, twice_after, twice_fault}
 use Rattle.hz_bench.proofs.DefinitionLemmas.{plain, any-same, option_or-none, definer-append, definer-push, undefined-no_node}
 use Rattle.hz_bench.proofs.NetlistLemmas.{statement_list-numbered, output_list-numbered}
+use Rattle.hz_core.specs.Limits.{most_variables}
 
 -- the first line that uses a name which no node defines
 abbrev pub undefined_line : List (Numbered Statement) → List (Numbered Statement) → Option ℕ
@@ -346,7 +347,7 @@ nodes_few (first ∷ rest) = by_statement first.statement (nodes_few rest) (sum_
     by_statement (Gate name kind sources) h e = omega (arith, h, e)
 
 -- where there are not too many variables, and no name is defined again, the nodes that were read are all, with a table of their names
-pub listed : (text : List ℕ) (statements : Statements) → IsParsed text statements → statements.again ≡ None → statements.notes.variables ≤ 200000 → HasAllNodes statements
+pub listed : (text : List ℕ) (statements : Statements) → IsParsed text statements → statements.again ≡ None → statements.notes.variables ≤ most_variables → HasAllNodes statements
 listed text statements parsed once few =
     let all = bench_statements text in
     let gathered = parsed.gathered in

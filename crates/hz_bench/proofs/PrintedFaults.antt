@@ -23,6 +23,7 @@ use Rattle.hz_bench.specs.Text.{bench_meaning, bench_meaning_at, variable_total}
 use Rattle.hz_bench.specs.Printed.{netlist_text}
 use Rattle.hz_bench.proofs.PrintedLines.{ports, HasPin, cut_statements, gate_statement, gate_statements, statements_for, IsReadAs, printed-IsReadAs}
 use Rattle.hz_bench.proofs.PrintedCircuit.{IsReadAs-statements, named_from, named_from-drop, set_nodes}
+use Rattle.hz_core.specs.Limits.{most_variables}
 
 -- what a line is, where the lines are these statements
 abbrev line_at : List Statement → ℕ → Meaning Statement
@@ -149,7 +150,7 @@ undefined_none names text statements line name read sound defined (statement, st
     none (suc place.0) (get_or statements place.0 statement, meaning_read text statements place.0 read ∙ there statements place.0 statement place.1, place.2)
 
 -- statements without faults make a text without one
-faultless : (names : List (List ℕ)) (text : List ℕ) (statements : List Statement) → IsReadAs text statements → All (IsSound names) statements → defined_names statements ≡ names → IsDistinct bytes_eq names → variable_total statements ≤ 200000 → IsFaultless text
+faultless : (names : List (List ℕ)) (text : List ℕ) (statements : List Statement) → IsReadAs text statements → All (IsSound names) statements → defined_names statements ≡ names → IsDistinct bytes_eq names → variable_total statements ≤ most_variables → IsFaultless text
 faultless names text statements read sound defined distinct few (Form zero) h = cc
 faultless names text statements read sound defined distinct few (Form (suc above)) h = formed statements above (sym (meaning_read text statements above read) ∙ h)
 faultless names text statements read sound defined distinct few (Name line) h = passes_none names text statements has_long_name line read sound (λ statement is. is.short) h

@@ -21,6 +21,7 @@ use Rattle.hz_bench.specs.Twice.{twice_or, earlier_line, twice_fault}
 use Rattle.hz_bench.proofs.CheckedLemmas.{either, neither}
 use Rattle.hz_bench.proofs.DefinitionLemmas.{defined_names-push, definer-push, earlier_line-table, put, twice_fault-push, undefined-table}
 use Rattle.hz_bench.proofs.NoteLemmas.{notes_of-push}
+use Rattle.hz_core.specs.Limits.{most_variables}
 
 -- what is noted is the fault of the first line that defines a name again
 noted_fault : (again : Option Redefinition) (line : ℕ) (first : Option ℕ) → option_map redefinition_fault (redefinition_with again line first) ≡ option_or (option_map redefinition_fault again) (twice_or line first None)
@@ -103,7 +104,7 @@ module _ (test : List (List ℕ) → Bool) where
       by_test false h = let also = ap test (sym same) ∙ h in rw (h, also) refl
 
   -- with one statement more, the first line is the one so far, or that of the statement
-  placed-line : (one : Numbered Statement) (statements more : Statements) → (statements.notes.variables ≤ more.notes.variables) → (statements.notes.variables ≤ 200000 → statements.waiting.items ≡ [])
+  placed-line : (one : Numbered Statement) (statements more : Statements) → (statements.notes.variables ≤ more.notes.variables) → (statements.notes.variables ≤ most_variables → statements.waiting.items ≡ [])
       → (IsForgotten statements one more → test (sources_of one.statement) ≡ false) → PlacesStatement statements one more
       → first_source (source_statements more) ≡ option_or (first_source (source_statements statements)) (first_source (nodes_among (one ∷ [])))
   placed-line one statements more grows none fails (inl kept) =
@@ -143,16 +144,16 @@ telling-more done one statements more once table was telling sorted = λ test fa
     ∙ sym (ap (first_source test) (nodes_among-push done one))
 
 nodes-more : (done : List (Numbered Statement)) (one : Numbered Statement) (statements more : Statements) → AreGathered done statements → more.notes ≡ notes_with statements.notes one
-    → PlacesStatement statements one more → more.notes.variables ≤ 200000 → (numbered_list more.nodes.items ≡ nodes_among (done ++ one ∷ [])) × (more.waiting.items ≡ [])
+    → PlacesStatement statements one more → more.notes.variables ≤ most_variables → (numbered_list more.nodes.items ≡ nodes_among (done ++ one ∷ [])) × (more.waiting.items ≡ [])
 nodes-more done one statements more was notes (inl kept) few =
     let sum = ap (λ (notes : Notes). notes.variables) notes in
-    let few_before : statements.notes.variables ≤ 200000 = omega (arith, sum, few) in (
+    let few_before : statements.notes.variables ≤ most_variables = omega (arith, sum, few) in (
       kept.nodes ∙ ap (λ (list : List (Numbered Statement)). list ++ nodes_among (one ∷ [])) (was.nodes few_before) ∙ sym (nodes_among-push done one),
       kept.waiting ∙ was.none_waits few_before,
     )
 nodes-more done one statements more was notes (inr (inl aside)) few =
     let sum = ap (λ (notes : Notes). notes.variables) notes in
-    let few_before : statements.notes.variables ≤ 200000 = omega (arith, sum, few) in (
+    let few_before : statements.notes.variables ≤ most_variables = omega (arith, sum, few) in (
       ap numbered_list aside.nodes ∙ was.nodes few_before
           ∙ sym (nodes_among-push done one ∙ ap (λ list. nodes_among done ++ list) aside.none ∙ append-nil (nodes_among done)),
       aside.waiting ∙ was.none_waits few_before,

@@ -1,9 +1,11 @@
 -- A circuit that is built statement by statement: inputs, cuts, gates, pins and data nodes, outputs.
 use Rattle.std.specs.Prelude.{◌≡◌, ℕ, suc, ◌<◌, Bool, true, false, nat_eq, List, [], ◌∷◌, length, fold, Option, Some, None, IsSome}
 use Rattle.std.specs.List.{list_any, slice_index_or}
-use Rattle.hz_core.specs.Netlist.{Netlist, empty_netlist, with_input, with_cut, with_data, with_gate, with_pin, with_output, node_named, variable_count, primary_inputs, IsCutNumber, IsGateNumber, gate_at, most_pins}
+use Rattle.hz_core.specs.Gate.{most_pins}
+use Rattle.hz_core.specs.Netlist.{Netlist, empty_netlist, with_input, with_cut, with_data, with_gate, with_pin, with_output, node_named, variable_count, primary_inputs, IsCutNumber, IsGateNumber, gate_at}
 use Rattle.hz_bench.specs.Netlist.{kind_of, data_name, number_in}
 use Rattle.hz_bench.specs.Statement.{Statement, Input, Output, FlipFlop, Gate, is_long}
+use Rattle.hz_core.specs.Limits.{most_variables}
 
 -- the input of a statement, if it is one
 abbrev pub with_input_of : Netlist → Statement → Netlist
@@ -92,7 +94,7 @@ AreAdmissibleSteps May step now (first ∷ rest) = May now first × AreAdmissibl
 pub record MayAddNode (netlist : Netlist) (name : List ℕ) : Type 0 where
   pub short : is_long name ≡ false
   pub fresh : node_named netlist name ≡ None
-  pub room : variable_count netlist < 200000
+  pub room : variable_count netlist < most_variables
 
 -- the input of a statement may be added, if it is one: inputs come before cuts and gates
 abbrev pub MayAddInput : Netlist → Statement → Type 0
@@ -120,14 +122,14 @@ pub record MayAddPinNamed (gate : ℕ) (netlist : Netlist) (source : List ℕ) :
   pub gate_is : IsGateNumber netlist gate
   pub source_is : IsSome (node_named netlist source)
   pub pins : length (gate_at netlist gate).sources < most_pins (gate_at netlist gate).kind
-  pub room : variable_count netlist < 200000
+  pub room : variable_count netlist < most_variables
 
 -- the gate may have a pin more, which reads this node
 pub record MayAddPinFrom (gate : ℕ) (netlist : Netlist) (node : ℕ) : Type 0 where
   pub gate_is : IsGateNumber netlist gate
   pub node_is : node < length netlist.names
   pub pins : length (gate_at netlist gate).sources < most_pins (gate_at netlist gate).kind
-  pub room : variable_count netlist < 200000
+  pub room : variable_count netlist < most_variables
 
 -- the cut may have a data node, the node with the one name that its flip-flop reads
 pub record MaySetData (cut : ℕ) (netlist : Netlist) (sources : List (List ℕ)) : Type 0 where
@@ -148,9 +150,9 @@ pub record AreMarked (netlist : Netlist) (marks : List Bool) : Type 0 where
 abbrev pub MayAddPins : BuilderState → Statement → Type 0
 MayAddPins now (Input name) = Unit {0}
 MayAddPins now (Output name) = Unit {0}
-MayAddPins now (FlipFlop name sources) = (now.cut < 200000) × MaySetData now.cut now.netlist sources
+MayAddPins now (FlipFlop name sources) = (now.cut < most_variables) × MaySetData now.cut now.netlist sources
 MayAddPins now (Gate name kind sources) =
-    (now.gate < 200000) × AreAdmissibleSteps (MayAddPinNamed now.gate) (with_pin_named now.gate) now.netlist sources
+    (now.gate < most_variables) × AreAdmissibleSteps (MayAddPinNamed now.gate) (with_pin_named now.gate) now.netlist sources
 
 -- the output of a statement may be added, if it is one
 abbrev pub MayAddOutput : Netlist → Statement → Type 0

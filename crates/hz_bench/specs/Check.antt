@@ -9,6 +9,7 @@ use Rattle.hz_bench.specs.Text.{variable_total_among}
 use Rattle.hz_bench.specs.Twice.{twice_fault}
 use Rattle.hz_bench.specs.declared.fault.BenchFault.{BenchFault}
 use Rattle.hz_bench.specs.declared.fault.BenchFault.TheVariants as fault
+use Rattle.hz_core.specs.Limits.{most_variables}
 
 -- the statement uses a name that none of these defines
 abbrev pub uses_undefined : List (Numbered Statement) → Statement → Bool
@@ -29,7 +30,7 @@ fault_or fault (Some found) later = Some (fault found)
 
 -- more inputs, gates and pins than a circuit has
 abbrev pub too_many_fault : ℕ → Option BenchFault
-too_many_fault variables = if nat_lt 200000 variables then Some (fault.TooMany variables) else None
+too_many_fault variables = if nat_lt most_variables variables then Some (fault.TooMany variables) else None
 
 -- the fault of statements, none of which is malformed: the least number and, of this number, the first line
 abbrev pub first_fault : List (Numbered Statement) → Option BenchFault

@@ -5,6 +5,7 @@ use Rattle.hz_bench.specs.declared.fault.BenchFault.{BenchFault}
 use Rattle.hz_bench.specs.declared.fault.BenchFault.TheVariants.{Form, Name, KindUnknown, Twice, Pins, Undefined, TooMany, Memory}
 use Rattle.hz_bench.specs.Statement.{Statement, defined_name, used_names, has_long_name, has_unknown_kind, has_wrong_pins, statement_pin_count}
 use Rattle.hz_bench.specs.Text.{bench_meaning_at, statements_of, variable_total}
+use Rattle.hz_core.specs.Limits.{most_variables}
 
 -- the line has a statement
 abbrev pub States : List ℕ → ℕ → Statement → Type 0
@@ -37,7 +38,7 @@ HasFault text (KindUnknown line) = HasThat has_unknown_kind text line
 HasFault text (Twice line first) = (name : List ℕ) × IsSecond text line first name
 HasFault text (Pins line count) = (statement : Statement) × States text line statement × (has_wrong_pins statement ≡ true) × (statement_pin_count statement ≡ count)
 HasFault text (Undefined line) = (name : List ℕ) × Uses text line name × ((other : ℕ) → ¬ Defines text other name)
-HasFault text (TooMany variables) = (200000 < variables) × (variable_total (statements_of text) ≡ variables)
+HasFault text (TooMany variables) = (most_variables < variables) × (variable_total (statements_of text) ≡ variables)
 HasFault text Memory = ⊥
 
 -- the number of a fault; 4 is not used

@@ -12,6 +12,7 @@ use Rattle.hz_bench.specs.FaultNotes.{notes_with, no_notes, notes_of}
 use Rattle.hz_bench.specs.Statement.{Statement, Gate, defined_name, sources_of}
 use Rattle.hz_bench.specs.Text.{nodes_among, outputs_among}
 use Rattle.hz_bench.specs.Twice.{twice_fault}
+use Rattle.hz_core.specs.Limits.{most_variables}
 
 -- no statement was read
 pub record IsNothingRead (statements : Statements) : Type 0 where
@@ -50,13 +51,13 @@ pub record AddsNoNode (old : Statements) (next : Numbered Statement) (new : Stat
 
 -- the next statement was added to the nodes, since there are not too many variables so far
 pub record AddsNode (old : Statements) (next : Numbered Statement) (new : Statements) : Type 0 where
-  pub few : new.notes.variables ≤ 200000
+  pub few : new.notes.variables ≤ most_variables
   pub nodes : numbered_list new.nodes.items ≡ numbered_list old.nodes.items ++ nodes_among (next ∷ [])
   pub waiting : new.waiting.items ≡ old.waiting.items
 
 -- there are too many variables, and the next statement, a node, waits with its sources
 pub record AddsWaiting (old : Statements) (next : Numbered Statement) (new : Statements) : Type 0 where
-  pub many : 200000 < new.notes.variables
+  pub many : most_variables < new.notes.variables
   pub node : nodes_among (next ∷ []) ≡ next ∷ []
   pub nodes : new.nodes.items ≡ old.nodes.items
   pub waiting : waiting_list new.waiting.items ≡ waiting_list old.waiting.items ++ record { line = next.line; statement = Gate [] None (sources_of next.statement) } ∷ []
@@ -64,7 +65,7 @@ pub record AddsWaiting (old : Statements) (next : Numbered Statement) (new : Sta
 -- there are too many variables, and the next statement was left out: the table has all names that it reads, or a name is defined
 -- again, and it does not matter any more which are not
 pub record IsForgotten (old : Statements) (next : Numbered Statement) (new : Statements) : Type 0 where
-  pub many : 200000 < new.notes.variables
+  pub many : most_variables < new.notes.variables
   pub nodes : new.nodes.items ≡ old.nodes.items
   pub waiting : new.waiting.items ≡ old.waiting.items
   pub known : new.again ≡ None → reads_missing new.lines next.statement ≡ false
@@ -101,5 +102,5 @@ pub record AreGathered (done : List (Numbered Statement)) (statements : Statemen
   pub table : statements.again ≡ None → IsTableOf done statements.lines
   pub names : statements.again ≡ None → table_names statements.lines ≡ defined_names (map (λ numbered. numbered.statement) done)
   pub telling : statements.again ≡ None → HaveSameUndefined done (source_statements statements)
-  pub nodes : statements.notes.variables ≤ 200000 → numbered_list statements.nodes.items ≡ nodes_among done
-  pub none_waits : statements.notes.variables ≤ 200000 → statements.waiting.items ≡ []
+  pub nodes : statements.notes.variables ≤ most_variables → numbered_list statements.nodes.items ≡ nodes_among done
+  pub none_waits : statements.notes.variables ≤ most_variables → statements.waiting.items ≡ []

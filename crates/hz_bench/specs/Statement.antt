@@ -7,6 +7,7 @@ use Rattle.hz_core.specs.Gate.{takes}
 use Rattle.hz_line.specs.declared.bytes.Punctuation.TheVariants.{Open, Close, Comma, Equals}
 use Rattle.hz_line.specs.Keyword.{is_keyword}
 use Rattle.hz_line.specs.Token.{TokenOf, WordOf, PunctuationOf, tokens_of}
+use Rattle.hz_core.specs.Limits.{longest_name, most_gate_pins}
 
 -- an input or an output
 pub data Port : Type 0 where
@@ -105,9 +106,9 @@ used_names (Output name) = name ∷ []
 used_names (FlipFlop name sources) = sources
 used_names (Gate name kind sources) = sources
 
--- a name of more than 255 bytes
+-- a name that is longer than a name may be
 abbrev pub is_long : List ℕ → Bool
-is_long name = nat_lt 255 (length name)
+is_long name = nat_lt longest_name (length name)
 
 -- some name of the statement is too long
 abbrev pub has_long_name : Statement → Bool
@@ -123,7 +124,7 @@ has_unknown_kind (Gate name kind sources) = not (is_some kind)
 -- a gate of this kind does not take so many pins; without a kind, it takes no more than 256
 abbrev pub refuses_pin_count : Option Kind → ℕ → Bool
 refuses_pin_count (Some kind) pins = not (takes kind pins)
-refuses_pin_count None pins = nat_lt 256 pins
+refuses_pin_count None pins = nat_lt most_gate_pins pins
 
 -- how many names a flip-flop reads, or how many pins a gate has
 abbrev pub statement_pin_count : Statement → ℕ

@@ -17,6 +17,7 @@ ghost use Rattle.hz_bench.specs.Entry.{statement_of_entry, numbered_line, number
 ghost use Rattle.hz_bench.specs.Statement.{statement_variable_count};
 ghost use Rattle.hz_bench.specs.ReaderState.{DefinesName, IsNothingRead, AddsStatement};
 ghost use Rattle.hz_bench.specs.Pass.{IsParsed, IsParseFault};
+ghost use Rattle.hz_line.specs.Line.{most_text_bytes};
 
 use crate::definitions::{Definitions, define, make_room};
 use crate::entry::{Entry, Line, OutputLine, Waiting};
@@ -48,7 +49,7 @@ pub struct Statements<'a> {
 
 /// The statements of a text, or the first line that is malformed.
 pub(crate) fn parse<'a>(alloc: Global, text: &'a [u8]) -> Result<Statements<'a>, BenchFault>
-    requires { length text.now ≤ 16777216 }
+    requires { length text.now ≤ most_text_bytes }
     ensures { MatchResult result
         (λ statements. IsParsed text.now statements)
         (λ fault. IsParseFault text.now fault) }

@@ -10,6 +10,8 @@ ghost use Rattle.hz_bench.specs.FaultIn.{fault_in, many_fault};
 ghost use Rattle.hz_bench.specs.Text.{statements_of};
 ghost use Rattle.hz_bench.specs.Twice.{IsFoundOrMemory};
 ghost use Rattle.hz_bench.specs.Uses.{AreUses};
+ghost use Rattle.hz_line.specs.Line.{most_text_bytes};
+ghost use Rattle.hz_core.specs.Limits.{most_variables};
 
 use crate::build::build;
 use crate::fault::BenchFault;
@@ -28,7 +30,7 @@ use std::alloc::Global;
 /// the gates and the outputs each in the order of the text. A flip-flop is cut: it is an input after all others, and the node that it
 /// reads is an output after all others. It takes time linear in the text.
 pub fn read(alloc: Global, text: &[u8]) -> Result<Circuit, BenchFault>
-    requires { length text.now ≤ 16777216 }
+    requires { length text.now ≤ most_text_bytes }
     ensures circuit { IfOk result (λ circuit. circuit ≡ circuit_of_statements (statements_of text.now)) }
     ensures whole { IfOk result (λ circuit. IsWhole circuit) }
     ensures faultless { OnOk result (IsFaultless text.now) }
@@ -52,7 +54,7 @@ struct Accepted<'a> {
 
 // Reads and checks the statements of a text.
 fn read_accepted<'a>(alloc: Global, text: &'a [u8]) -> Result<Accepted<'a>, BenchFault>
-    requires { length text.now ≤ 16777216 }
+    requires { length text.now ≤ most_text_bytes }
     ensures { MatchResult result
         (λ accepted. IsAccepted text.now accepted.statements × AreUses (statement_list accepted.statements.nodes.items) (output_list accepted.statements.outputs.items) accepted.uses)
         (λ fault. IsNetlistRefusal text.now fault) }
@@ -64,7 +66,7 @@ fn read_accepted<'a>(alloc: Global, text: &'a [u8]) -> Result<Accepted<'a>, Benc
 
 // Checks the statements, in the order of the faults, and returns the nodes that they use.
 fn check(alloc: Global, statements: &Statements) -> Result<Uses, BenchFault>
-    requires { statements.now.again ≡ None → statements.now.notes.variables ≤ 200000 → HasAllNodes statements.now }
+    requires { statements.now.again ≡ None → statements.now.notes.variables ≤ most_variables → HasAllNodes statements.now }
     ensures { MatchResult result
         (λ uses. (fault_in statements.now ≡ None) × AreUses (statement_list statements.now.nodes.items) (output_list statements.now.outputs.items) uses)
         (λ fault. IsFoundOrMemory (fault_in statements.now) fault) }

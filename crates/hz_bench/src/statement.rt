@@ -7,6 +7,7 @@ ghost use Rattle.hz_bench.specs.Statement.{is_long};
 
 use crate::entry::{Entry, Line, OutputLine};
 use crate::forms::{Form, form_named};
+use hz_core::MAX_NAME;
 use hz_line::{Punctuation, first_punctuation, first_word, is_blank_line, is_keyword};
 
 /// The statement of a line, if it has one. It takes no memory.
@@ -180,9 +181,9 @@ impl NameList {
     }
 }
 
-/// Whether a name has more than 255 bytes.
+/// Whether a name has more than [`MAX_NAME`] bytes.
 pub(crate) fn is_long(name: &[u8]) -> bool
     ensures { result ≡ is_long name.now }
 {
-    name.len() > 255
+    name.len() > MAX_NAME
 }

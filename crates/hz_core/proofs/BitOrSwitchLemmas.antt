@@ -1,5 +1,6 @@
 -- By kind: a value that one bit at every pin gives, and a value that any one pin changed gives.
-use Rattle.std.proofs.Common.{◌≡◌, ℕ, zero, suc, ◌<◌, Bool, true, false, not, List, [], ◌∷◌, ◌==◌, length, get_or, set, replicate, None, refl, sym, ap, ◌∙◌, arith}
+use Rattle.std.proofs.Common.{◌≡◌, ℕ, zero, suc, ◌<◌, Bool, true, false, not, List, [], ◌∷◌, ◌==◌, ◌&&◌, nat_le, length, get_or, set, replicate, None, refl, sym, ap, ◌∙◌, arith}
+use Rattle.std.proofs.lemmas.Bool.Decides.{nat_tests}
 use Rattle.std.proofs.lemmas.Bool.{false≢true, true≢false, not-true, not-false, eqb-true}
 use Rattle.std.specs.Bool.{then_some}
 use Rattle.hz_core.specs.declared.kind.Kind.TheVariants.{And, Nand, Or, Nor, Xor, Xnor, Not, Buff}
@@ -79,11 +80,15 @@ reached-xor value = λ list takes e pin within. turned (odd_pins list) _ value e
 pub reached-xnor : (value : Bool) → HasBitOrSwitch Xnor value None
 reached-xnor value = λ list takes e pin within. turned (not (odd_pins list)) _ value e (ap not (odd_pins-set list pin within))
 
+-- one pin or more, and at most one
+one_pin : (pins : ℕ) → (nat_le 1 pins && nat_le pins 1) ≡ true → (pins == 1) ≡ true
+one_pin pins h = grind (arith, nat_tests, h)
+
 pub reached-not : (value : Bool) → HasBitOrSwitch Not value None
-reached-not value = λ list takes e pin within. turned (not (only_pin list)) _ value e (ap not (only_pin-set list pin takes within))
+reached-not value = λ list takes e pin within. turned (not (only_pin list)) _ value e (ap not (only_pin-set list pin (one_pin (length list) takes) within))
 
 pub reached-buff : (value : Bool) → HasBitOrSwitch Buff value None
-reached-buff value = λ list takes e pin within. turned (only_pin list) _ value e (only_pin-set list pin takes within)
+reached-buff value = λ list takes e pin within. turned (only_pin list) _ value e (only_pin-set list pin (one_pin (length list) takes) within)
 
 -- the same, for the search
 pub ruleset reached = (reached-and, reached-nand, reached-or, reached-nor, reached-xor, reached-xnor, reached-not, reached-buff)

@@ -11,9 +11,10 @@ use Rattle.std.proofs.lemmas.Cmp.{nat_eq_equiv}
 use Rattle.std.proofs.lemmas.Map.Keys.{IsDistinct-push}
 use Rattle.hz_core.specs.declared.kind.Kind.{Kind}
 use Rattle.hz_core.specs.declared.kind.Kind.TheVariants.{And, Nand, Or, Nor, Xor, Xnor, Not, Buff}
-use Rattle.hz_core.specs.Gate.{takes}
-use Rattle.hz_core.specs.Netlist.{Gate, Netlist, IsName, IsCircuit, IsGateAmong, IsDataAmong, IsCutNumber, IsGateNumber, IsWhole, pin_count, variable_count, most_pins, primary_inputs, data_of, gate_at, node_named, empty_netlist, with_input, with_cut, with_data, with_gate, with_source, with_pin, with_output}
+use Rattle.hz_core.specs.Gate.{takes, most_pins}
+use Rattle.hz_core.specs.Netlist.{Gate, Netlist, IsName, IsCircuit, IsGateAmong, IsDataAmong, IsCutNumber, IsGateNumber, IsWhole, pin_count, variable_count, primary_inputs, data_of, gate_at, node_named, empty_netlist, with_input, with_cut, with_data, with_gate, with_source, with_pin, with_output}
 use Rattle.hz_core.proofs.ListLemmas.{list_any-from_position_none}
+use Rattle.hz_core.specs.Limits.{most_gate_pins, most_variables}
 
 -- what `new` makes
 pub IsCircuit-empty : IsCircuit empty_netlist
@@ -85,7 +86,7 @@ pin_count-with_gate netlist name kind =
 -- what `add_input` makes
 pub IsCircuit-with_input :
     (netlist : Netlist) (name : List ℕ) → IsCircuit netlist → IsName name → node_named netlist name ≡ None → netlist.gates ≡ [] →
-    variable_count netlist < 200000 → IsCircuit (with_input netlist name)
+    variable_count netlist < most_variables → IsCircuit (with_input netlist name)
 IsCircuit-with_input netlist name circuit is_name fresh no_gate room =
     record {
       names = All-push IsName netlist.names name circuit.names is_name;
@@ -102,7 +103,7 @@ IsCircuit-with_input netlist name circuit is_name fresh no_gate room =
 -- what `add_cut` makes
 pub IsCircuit-with_cut :
     (netlist : Netlist) (name : List ℕ) → IsCircuit netlist → IsName name → node_named netlist name ≡ None → netlist.gates ≡ [] →
-    variable_count netlist < 200000 → IsCircuit (with_cut netlist name)
+    variable_count netlist < most_variables → IsCircuit (with_cut netlist name)
 IsCircuit-with_cut netlist name circuit is_name fresh no_gate room =
     let no_data : Option ℕ = None in
     let nodes = length (netlist.names ++ name ∷ []) in
@@ -140,7 +141,7 @@ IsCircuit-with_data netlist cut node circuit is_cut is_node =
 -- what `add_gate` makes
 pub IsCircuit-with_gate :
     (netlist : Netlist) (name : List ℕ) (kind : Kind) → IsCircuit netlist → IsName name → node_named netlist name ≡ None →
-    variable_count netlist < 200000 → IsCircuit (with_gate netlist name kind)
+    variable_count netlist < most_variables → IsCircuit (with_gate netlist name kind)
 IsCircuit-with_gate netlist name kind circuit is_name fresh room =
     let gate : Gate = record { kind = kind; sources = [] } in
     let none : IsGateAmong (length (netlist.names ++ name ∷ [])) gate =
@@ -174,7 +175,7 @@ pin_count-with_pin netlist node source circuit is_gate =
 -- what `connect` makes
 pub IsCircuit-with_pin :
     (netlist : Netlist) (node source : ℕ) → IsCircuit netlist → IsGateNumber netlist node → source < length netlist.names →
-    length (gate_at netlist node).sources < most_pins (gate_at netlist node).kind → variable_count netlist < 200000 →
+    length (gate_at netlist node).sources < most_pins (gate_at netlist node).kind → variable_count netlist < most_variables →
     IsCircuit (with_pin netlist node source)
 IsCircuit-with_pin netlist node source circuit is_gate is_node free room =
     let gate = gate_at netlist node in
@@ -199,28 +200,14 @@ IsCircuit-with_pin netlist node source circuit is_gate is_node free room =
 
 -- a number of pins between 1 and the most is one that the kind takes
 pub takes-from_bounds : (kind : Kind) (pins : ℕ) → 1 ≤ pins → pins ≤ most_pins kind → IsTrue (takes kind pins)
-takes-from_bounds And pins some most = search (rules, nat_tests)
-takes-from_bounds Nand pins some most = search (rules, nat_tests)
-takes-from_bounds Or pins some most = search (rules, nat_tests)
-takes-from_bounds Nor pins some most = search (rules, nat_tests)
-takes-from_bounds Xor pins some most = search (rules, nat_tests)
-takes-from_bounds Xnor pins some most = search (rules, nat_tests)
-takes-from_bounds Not pins some most = search (rules, nat_tests)
-takes-from_bounds Buff pins some most = search (rules, nat_tests)
+takes-from_bounds kind pins some most = search (rules, nat_tests)
 
 -- and the other way round: a kind takes at least one pin, and no more than its most
 pub bounds-from_takes : (kind : Kind) (pins : ℕ) → takes kind pins ≡ true → (1 ≤ pins) × (pins ≤ most_pins kind)
-bounds-from_takes And pins h = grind (arith, nat_tests, h)
-bounds-from_takes Nand pins h = grind (arith, nat_tests, h)
-bounds-from_takes Or pins h = grind (arith, nat_tests, h)
-bounds-from_takes Nor pins h = grind (arith, nat_tests, h)
-bounds-from_takes Xor pins h = grind (arith, nat_tests, h)
-bounds-from_takes Xnor pins h = grind (arith, nat_tests, h)
-bounds-from_takes Not pins h = grind (arith, nat_tests, h)
-bounds-from_takes Buff pins h = grind (arith, nat_tests, h)
+bounds-from_takes kind pins h = grind (arith, nat_tests, h)
 
--- no kind takes more than 256 pins
-pub most_pins-bound : (kind : Kind) → most_pins kind ≤ 256
+-- no kind takes more pins than any gate may have
+pub most_pins-bound : (kind : Kind) → most_pins kind ≤ most_gate_pins
 most_pins-bound And = omega arith
 most_pins-bound Nand = omega arith
 most_pins-bound Or = omega arith

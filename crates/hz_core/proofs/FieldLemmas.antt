@@ -7,10 +7,12 @@ use Rattle.hz_core.specs.declared.kind.Kind.{Kind}
 use Rattle.hz_core.specs.declared.kind.Kind.TheVariants.{And}
 use Rattle.hz_core.specs.declared.circuit.Circuit.TheInside.{Inside}
 use Rattle.hz_core.specs.Inside.{netlist_of_fields, HoldsCircuit}
-use Rattle.hz_core.specs.Netlist.{Gate, Netlist, IsName, IsCircuit, IsGateNumber, pin_count, variable_count, most_pins, gate_at, node_named, empty_netlist, with_input, with_cut, with_gate, with_source, with_pin}
+use Rattle.hz_core.specs.Gate.{most_pins}
+use Rattle.hz_core.specs.Netlist.{Gate, Netlist, IsName, IsCircuit, IsGateNumber, pin_count, variable_count, gate_at, node_named, empty_netlist, with_input, with_cut, with_gate, with_source, with_pin}
 use Rattle.std.proofs.lemmas.List.{map-append}
 use Rattle.hz_core.proofs.ListLemmas.{get_or-default}
 use Rattle.hz_core.proofs.CircuitLemmas.{IsCircuit-empty, IsCircuit-with_input, IsCircuit-with_cut, IsCircuit-with_gate, IsCircuit-with_pin, pin_count-with_gate, pin_count-with_pin, same_netlist}
+use Rattle.hz_core.specs.Limits.{most_variables}
 
 -- the hashes on the chains after a new name came
 name_hashed :
@@ -66,7 +68,7 @@ view-InputComes old new netlist name same fresh comes =
 pub HoldsCircuit-InputComes :
     (old new : Inside) (netlist : Netlist) (name : List ℕ) → netlist_of_fields old ≡ netlist →
     node_named netlist name ≡ None → InputComes old new name → HoldsCircuit old → IsName name →
-    netlist.gates ≡ [] → variable_count netlist < 200000 → HoldsCircuit new
+    netlist.gates ≡ [] → variable_count netlist < most_variables → HoldsCircuit new
 HoldsCircuit-InputComes old new netlist name same fresh comes holds is_name no_gate room =
     holds_circuit new (with_input netlist name) (view-InputComes old new netlist name same fresh comes)
     (IsCircuit-with_input netlist name (circuit_of old netlist same holds) is_name fresh no_gate room)
@@ -95,7 +97,7 @@ view-CutComes old new netlist name same fresh comes =
 pub HoldsCircuit-CutComes :
     (old new : Inside) (netlist : Netlist) (name : List ℕ) → netlist_of_fields old ≡ netlist →
     node_named netlist name ≡ None → CutComes old new name → HoldsCircuit old → IsName name →
-    netlist.gates ≡ [] → variable_count netlist < 200000 → HoldsCircuit new
+    netlist.gates ≡ [] → variable_count netlist < most_variables → HoldsCircuit new
 HoldsCircuit-CutComes old new netlist name same fresh comes holds is_name no_gate room =
     holds_circuit new (with_cut netlist name) (view-CutComes old new netlist name same fresh comes)
     (IsCircuit-with_cut netlist name (circuit_of old netlist same holds) is_name fresh no_gate room)
@@ -124,7 +126,7 @@ view-GateComes old new netlist name kind same fresh comes =
 pub HoldsCircuit-GateComes :
     (old new : Inside) (netlist : Netlist) (name : List ℕ) (kind : Kind) → netlist_of_fields old ≡ netlist →
     node_named netlist name ≡ None → GateComes old new name kind → HoldsCircuit old → IsName name →
-    variable_count netlist < 200000 → HoldsCircuit new
+    variable_count netlist < most_variables → HoldsCircuit new
 HoldsCircuit-GateComes old new netlist name kind same fresh comes holds is_name room =
     holds_circuit new (with_gate netlist name kind) (view-GateComes old new netlist name kind same fresh comes)
     (IsCircuit-with_gate netlist name kind (circuit_of old netlist same holds) is_name fresh room)
@@ -160,7 +162,7 @@ view-PinComes old new netlist was node source same holds is_gate comes =
 pub HoldsCircuit-PinComes :
     (old new : Inside) (netlist : Netlist) (was : Gate) (node source : ℕ) → netlist_of_fields old ≡ netlist → HoldsCircuit old →
     IsGateNumber netlist node → PinComes old new was node source → source < length netlist.names →
-    length (gate_at netlist node).sources < most_pins (gate_at netlist node).kind → variable_count netlist < 200000 →
+    length (gate_at netlist node).sources < most_pins (gate_at netlist node).kind → variable_count netlist < most_variables →
     HoldsCircuit new
 HoldsCircuit-PinComes old new netlist was node source same holds is_gate comes is_node free room =
     let circuit = circuit_of old netlist same holds in

@@ -3,17 +3,22 @@ use Rattle.std.specs.Prelude.{ℕ, ◌%◌, Bool, true, false, not, ◌&&◌, Li
 use Rattle.std.specs.List.{list_any, list_all, count_by, slice_index_or}
 use Rattle.hz_core.specs.declared.kind.Kind.{Kind}
 use Rattle.hz_core.specs.declared.kind.Kind.TheVariants.{And, Nand, Or, Nor, Xor, Xnor, Not, Buff}
+use Rattle.hz_core.specs.Limits.{most_gate_pins}
 
--- one pin for an inverter or a buffer, 1 to 256 pins for any other gate
+-- the most pins that a kind takes: one for an inverter or a buffer
+abbrev pub most_pins : Kind → ℕ
+most_pins Not = 1
+most_pins Buff = 1
+most_pins And = most_gate_pins
+most_pins Nand = most_gate_pins
+most_pins Or = most_gate_pins
+most_pins Nor = most_gate_pins
+most_pins Xor = most_gate_pins
+most_pins Xnor = most_gate_pins
+
+-- a gate of a kind has at least one pin, and at most as many as its kind takes
 abbrev pub takes : Kind → ℕ → Bool
-takes Not pins = pins == 1
-takes Buff pins = pins == 1
-takes And pins = nat_le 1 pins && nat_le pins 256
-takes Nand pins = nat_le 1 pins && nat_le pins 256
-takes Or pins = nat_le 1 pins && nat_le pins 256
-takes Nor pins = nat_le 1 pins && nat_le pins 256
-takes Xor pins = nat_le 1 pins && nat_le pins 256
-takes Xnor pins = nat_le 1 pins && nat_le pins 256
+takes kind pins = nat_le 1 pins && nat_le pins (most_pins kind)
 
 -- every pin is 1
 abbrev pub every_pin : List Bool → Bool

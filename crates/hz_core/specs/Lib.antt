@@ -10,6 +10,8 @@
 -- is_below small large: every bit that refines the first value refines the second
 -- join_of value other: the least value above both
 -- IsJoinOf set value: the value is the join of a nonempty set of bits
+-- most_variables, most_gate_pins, longest_name: the limits of a circuit
+-- most_pins kind: the most pins that a kind takes
 -- takes kind pins: a gate of this kind may have so many pins
 -- connective kind, inverts kind: a kind is a connective, and may complement its outcome
 -- gate_value kind bits: the gate function
@@ -23,7 +25,7 @@
 -- IsSwitchedByAnyPin kind value: any one pin, changed, gives the gate this value
 -- HasBitOrSwitch kind value found: one of these two, which the answer tells
 -- Netlist: a circuit by its names, inputs, cuts, gates and outputs
--- IsName name: 1 to 255 bytes that may stand in a name
+-- IsName name: bytes that may stand in a name
 -- node_name names node: the name of a node
 -- node_named netlist name: the node with this name
 -- gate_at netlist node: the gate with this number
@@ -37,6 +39,7 @@
 -- netlist_of_fields fields, HoldsCircuit fields: the circuit that the fields of the code's Circuit stand for
 
 pub mod Least
+pub mod Limits
 pub mod Ternary
 pub mod Gate
 pub mod Extension

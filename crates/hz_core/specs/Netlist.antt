@@ -4,6 +4,8 @@ use Rattle.std.specs.List.{slice_index_or, list_any, list_all, IsDistinct}
 use Rattle.std.specs.Str.{bytes_eq}
 use Rattle.hz_core.specs.declared.kind.Kind.{Kind}
 use Rattle.hz_core.specs.declared.kind.Kind.TheVariants.{And, Nand, Or, Nor, Xor, Xnor, Not, Buff}
+use Rattle.hz_core.specs.Gate.{most_pins}
+use Rattle.hz_core.specs.Limits.{most_variables, longest_name}
 
 -- a gate: its kind, and the node that each of its pins reads, in the order of the pins
 pub record Gate : Type 0 where
@@ -24,10 +26,10 @@ abbrev pub is_name_byte : ℕ → Bool
 is_name_byte byte =
     nat_le 33 byte && nat_le byte 126 && not (byte == 40 || byte == 41 || byte == 44 || byte == 61 || byte == 35)
 
--- a name is 1 to 255 such bytes
+-- a name is one such byte or more, and no longer than a name may be
 pub record IsName (name : List ℕ) : Type 0 where
   pub some : 1 ≤ length name
-  pub short : length name ≤ 255
+  pub short : length name ≤ longest_name
   pub bytes : IsTrue (list_all is_name_byte name)
 
 -- how many pins the gates have in all
@@ -37,17 +39,6 @@ pin_count netlist = sum_by (λ gate. length gate.sources) netlist.gates
 -- how many variables the complete network has: one for each node, and one wire for each pin
 abbrev pub variable_count : Netlist → ℕ
 variable_count netlist = length netlist.names + pin_count netlist
-
--- the most pins that a kind takes
-abbrev pub most_pins : Kind → ℕ
-most_pins Not = 1
-most_pins Buff = 1
-most_pins And = 256
-most_pins Nand = 256
-most_pins Or = 256
-most_pins Nor = 256
-most_pins Xor = 256
-most_pins Xnor = 256
 
 -- how many inputs are no cuts: these, the primary inputs, come first
 abbrev pub primary_inputs : Netlist → ℕ
@@ -145,7 +136,7 @@ pub record IsCircuit (netlist : Netlist) : Type 0 where
   pub gates : All (IsGateAmong (length netlist.names)) netlist.gates
   pub outputs : All (λ node. node < length netlist.names) netlist.outputs
   pub outputs_distinct : IsDistinct nat_eq netlist.outputs
-  pub variables : variable_count netlist ≤ 200000
+  pub variables : variable_count netlist ≤ most_variables
 
 -- a cut has a data node, which is one of the outputs
 abbrev pub has_output : List ℕ → Option ℕ → Bool

@@ -2,7 +2,9 @@
 ghost use Rattle.std.specs.Prelude.{◌≡◌, ◌+◌, ◌<◌, ◌≤◌, ◌↔◌, length, slice_get, Some, None, IsTrue, IfOk, IsOk, OnOk, OnErr, [], ◌∷◌, ◌++◌, All, nat_eq};
 ghost use Rattle.std.specs.List.{list_any};
 ghost use Rattle.hz_core.specs.NameHash.{hash_of};
-ghost use Rattle.hz_core.specs.Netlist.{IsName, IsCircuit, IsCutNumber, IsGateNumber, IsWhole, node_named, variable_count, primary_inputs, most_pins, data_of, has_output, gate_at, empty_netlist, with_input, with_cut, with_data, with_gate, with_pin, with_output};
+ghost use Rattle.hz_core.specs.Gate.{most_pins};
+ghost use Rattle.hz_core.specs.Netlist.{IsName, IsCircuit, IsCutNumber, IsGateNumber, IsWhole, node_named, variable_count, primary_inputs, data_of, has_output, gate_at, empty_netlist, with_input, with_cut, with_data, with_gate, with_pin, with_output};
+ghost use Rattle.hz_core.specs.Limits.{most_variables};
 
 use crate::gate::GateEntry;
 use crate::name::{NameEntry, find_name};
@@ -86,7 +88,7 @@ impl Circuit {
         requires fresh { node_named self.old name.now ≡ None }
         requires no_cut { self.old.cuts ≡ [] }
         requires no_gate { self.old.gates ≡ [] }
-        requires room { variable_count self.old < 200000 }
+        requires room { variable_count self.old < most_variables }
         ensures ok { IfOk result (λ number. (number ≡ length self.old.names) × (self.new ≡ with_input self.old name.now)) }
         ensures err { OnErr result (self.new ≡ self.old) }
     {
@@ -101,7 +103,7 @@ impl Circuit {
         requires name { IsName name.now }
         requires fresh { node_named self.old name.now ≡ None }
         requires no_gate { self.old.gates ≡ [] }
-        requires room { variable_count self.old < 200000 }
+        requires room { variable_count self.old < most_variables }
         ensures ok { IfOk result (λ number. (number ≡ length self.old.names) × (self.new ≡ with_cut self.old name.now)) }
         ensures err { OnErr result (self.new ≡ self.old) }
     {
@@ -129,7 +131,7 @@ impl Circuit {
     pub fn add_gate(&mut self, name: &[u8], kind: Kind) -> Result<u32, Memory>
         requires name { IsName name.now }
         requires fresh { node_named self.old name.now ≡ None }
-        requires room { variable_count self.old < 200000 }
+        requires room { variable_count self.old < most_variables }
         ensures ok { IfOk result (λ number. (number ≡ length self.old.names) × (self.new ≡ with_gate self.old name.now kind)) }
         ensures err { OnErr result (self.new ≡ self.old) }
     {
@@ -148,7 +150,7 @@ impl Circuit {
         requires gate { IsGateNumber self.old gate }
         requires source { source < length self.old.names }
         requires pins { length (gate_at self.old gate).sources < most_pins (gate_at self.old gate).kind }
-        requires room { variable_count self.old < 200000 }
+        requires room { variable_count self.old < most_variables }
         ensures ok { OnOk result (self.new ≡ with_pin self.old gate source) }
         ensures err { OnErr result (self.new ≡ self.old) }
     {

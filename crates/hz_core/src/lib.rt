@@ -28,6 +28,6 @@ pub use circuit::{Circuit, MAX_VARIABLES};
 pub use kind::{Kind, MAX_PINS};
 pub use least::lesser;
 pub use memory::Memory;
-pub use name::{Named, find_name};
+pub use name::{MAX_NAME, Named, find_name};
 pub use name_hashing::NameHashing;
 pub use tri::Tri;

@@ -8,6 +8,9 @@ use crate::{Chains, Memory, NameHashing};
 use std::alloc::Global;
 use std::marker::Model;
 
+/// The most bytes of a name.
+pub const MAX_NAME: usize = 255;
+
 /// What has a name.
 pub trait Named {
     ghost use Rattle.std.specs.Prelude.{ℕ, List};

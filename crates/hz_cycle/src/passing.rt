@@ -11,6 +11,7 @@ ghost use Rattle.hz_reach.specs.Room.{Spends};
 ghost use Rattle.hz_reach.specs.Given.{IsScratchFor};
 ghost use Rattle.hz_cycle.specs.Marks.{MarksPattern, ArePatternWires, with_fan_out};
 ghost use Rattle.hz_cycle.specs.Pass.{AreFixedAndRanked, MayBegin, HasRoom, IsPassMade};
+ghost use Rattle.hz_core.specs.Limits.{most_variables};
 
 use hz_core::{Kind, MAX_PINS, Tri};
 use hz_gmw::Run;
@@ -90,7 +91,7 @@ fn mark_changes(
     requires values { length values.now ≡ length now.now }
     requires possible { (list : List Bool) × IsCandidate kind now.now (map is_unknown values.now) want list }
     requires inside { first + length now.now ≤ length scratch.old.state }
-    requires small { first + length now.now ≤ 200000 }
+    requires small { first + length now.now ≤ most_variables }
     requires none_marked { scratch.old.marked ≡ [] }
     ensures marked { MarksPattern kind first now.now (map is_unknown values.now) want scratch.new.marked }
     ensures state { scratch.new.state ≡ scratch.old.state }

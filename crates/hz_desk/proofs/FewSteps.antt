@@ -10,10 +10,11 @@ use Rattle.hz_reach.specs.Spread.{IsSpreadRun}
 use Rattle.hz_reach.specs.Counts.{StepsAreNoMoreThanFlips, FlipsOfSpreadRun}
 use Rattle.hz_cycle.specs.Cycles.{IsSettleRun, IsCycleOf}
 use Rattle.hz_desk.specs.Filled.{AreRuns}
+use Rattle.hz_core.specs.Limits.{most_variables}
 
 pub are-runs :
     StepsAreNoMoreThanFlips → FlipsOfSpreadRun →
-    (net : List Driver) (input start : List Bool) (a b : List Tri) (spread settle cycle : List (List ℕ)) → length net ≤ 200000 →
+    (net : List Driver) (input start : List Bool) (a b : List Tri) (spread settle cycle : List (List ℕ)) → length net ≤ most_variables →
     length a ≡ length net → length b ≡ length net → IsSpreadRun net input start a spread → IsSettleRun net input start a b settle →
     IsCycleOf net input b (end_of start settle) cycle → AreRuns net input start a b spread settle cycle
 are-runs steps flips net input start a b spread settle cycle few long_a long_b is_spread is_settle is_cycle = record {

@@ -4,10 +4,14 @@ use Rattle.hz_net.specs.Network.{Driver}
 use Rattle.hz_gmw.specs.Runs.{IsRun, end_of}
 use Rattle.hz_desk.specs.Races.{race_count, states_before}
 
--- a run of at most a million steps
+-- the most steps of a short run
+abbrev pub most_short_steps : ℕ
+most_short_steps = 1000000
+
+-- a short run
 pub record IsShortRun (net : List Driver) (input start : List Bool) (steps : List (List ℕ)) : Type 0 where
   pub run : IsRun net input start steps
-  pub short : length steps ≤ 1000000
+  pub short : length steps ≤ most_short_steps
 
 -- After so many steps of a run the follower is in a state from which the other steps go on, and has counted so many race
 -- states before it.

@@ -5,6 +5,7 @@ ghost use Rattle.hz_net.specs.Starts.{IsStableStart};
 ghost use Rattle.hz_free.specs.FreePart.{IsFreePart};
 ghost use Rattle.hz_desk.specs.Finding.{finding_of};
 ghost use Rattle.hz_desk.specs.RightFinding.{IsRightFinding};
+ghost use Rattle.hz_word.specs.Capped.{greatest_cap};
 
 use crate::finding::Finding;
 use crate::room::Room;
@@ -67,7 +68,7 @@ impl<'n> Desk<'n> {
         requires start { IsStableStart self.old.netlist start.now }
         requires input { length input.now ≡ self.old.netlist.inputs }
         requires cap_low { 1 ≤ cap }
-        requires cap_high { cap ≤ 1000000 }
+        requires cap_high { cap ≤ greatest_cap }
         ensures right { IsRightFinding (network_of self.old.netlist) input.now start.now cap (finding_of result.now) }
         ensures* after { sem 𝓛 (LeavesDesk self.entry
             (λ last. (last.netlist ≡ self.old.netlist) × (last.finding ≡ finding_of result.now))) }

@@ -2,6 +2,7 @@
 ghost use Rattle.std.specs.Prelude.{◌≡◌, ◌≤◌, length, IfOk};
 ghost use Rattle.hz_desk.specs.Rows.{MayBeRow, MayBeRows, IsRowOf, AreRowsOf, changes_of};
 ghost use Rattle.hz_desk.specs.FindingRoom.{HasRooms};
+ghost use Rattle.hz_core.specs.Limits.{most_variables};
 
 use crate::class::{Class, class_of};
 use hz_core::{Memory, Tri};
@@ -184,7 +185,7 @@ pub struct Finding {
 impl Finding {
     // Room for the finding of a change, in which nothing is found.
     pub(crate) fn with_room(alloc: Global, variables: u32, inputs: u32) -> Result<Finding, Memory>
-        requires { variables ≤ 200000 }
+        requires { variables ≤ most_variables }
         ensures { IfOk result (HasRooms variables inputs) }
     {
         let room = variables as usize;

@@ -4,7 +4,7 @@ ghost use Rattle.hz_net.specs.Network.{network_of};
 ghost use Rattle.hz_gmw.specs.Runs.{end_of};
 ghost use Rattle.hz_gmw.specs.Cycles.{states_of};
 ghost use Rattle.hz_desk.specs.Races.{is_race, race_count, states_before, cycle_states};
-ghost use Rattle.hz_desk.specs.RunProgress.{IsShortRun};
+ghost use Rattle.hz_desk.specs.RunProgress.{IsShortRun, most_short_steps};
 ghost use Rattle.hz_desk.specs.Filled.{AreRacesOf};
 
 use hz_gmw::{Follower, Run};
@@ -75,7 +75,7 @@ fn cycle_races(follower: &mut Follower, cycle: &Run) -> u32
 fn races_before(follower: &mut Follower, run: &Run) -> u32
     requires { IsShortRun (network_of follower.old.circuit) follower.old.input follower.old.state run.now.steps }
     ensures races { result ≡ race_count (network_of follower.old.circuit) follower.old.input (states_before follower.old.state run.now.steps) }
-    ensures few { result ≤ 1000000 }
+    ensures few { result ≤ most_short_steps }
     ensures circuit { follower.new.circuit ≡ follower.old.circuit }
     ensures input { follower.new.input ≡ follower.old.input }
     ensures begun { follower.new.begun ≡ follower.old.begun }

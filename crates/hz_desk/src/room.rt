@@ -10,6 +10,7 @@ ghost use Rattle.hz_desk.specs.Rows.{AreRowsOf};
 ghost use Rattle.hz_desk.specs.ResultsOfPasses.{HasPassResults};
 ghost use Rattle.hz_desk.specs.Filled.{FilledIsRight};
 ghost use Rattle.hz_desk.specs.RoomFor.{IsRoomFor};
+ghost use Rattle.hz_word.specs.Capped.{greatest_cap};
 
 use crate::finding::{Finding, Rows};
 use crate::passes::Passes;
@@ -64,7 +65,7 @@ impl<'n> Room<'n> {
         requires start { IsStableStart net.now start.now }
         requires input { length input.now ≡ net.now.inputs }
         requires cap_low { 1 ≤ cap }
-        requires cap_high { cap ≤ 1000000 }
+        requires cap_high { cap ≤ greatest_cap }
         ensures right { IsRightFinding (network_of net.now) input.now start.now cap (finding_of self.new.finding) }
         ensures room { IsRoomFor net.now self.new }
     {
@@ -124,7 +125,7 @@ fn fill_rows(
     requires start { IsStableStart net.now start.now }
     requires input { length input.now ≡ net.now.inputs }
     requires cap_low { 1 ≤ cap }
-    requires cap_high { cap ≤ 1000000 }
+    requires cap_high { cap ≤ greatest_cap }
     requires passed { HasPassResults net.now input.now start.now passes.now }
     requires words { length words.old ≡ length (network_of net.now) }
     requires rows { length rows.old ≡ length (network_of net.now) }

@@ -9,6 +9,8 @@ ghost use Rattle.hz_free.specs.Order.{AreReads};
 ghost use Rattle.hz_free.specs.FreePart.{IsFreePart};
 ghost use Rattle.hz_free.specs.CappedWords.{IsReady, IsNextWord};
 ghost use Rattle.hz_free.specs.VariableWords.{AreCappedWords};
+ghost use Rattle.hz_word.specs.Capped.{greatest_cap};
+ghost use Rattle.hz_core.specs.Limits.{most_gate_pins};
 
 use crate::feedback::{Feedback, find_feedback};
 use crate::order::{count_reads, place_all};
@@ -118,7 +120,7 @@ impl Free {
         requires start { IsStableStart net.now start.now }
         requires input { length input.now ≡ net.now.inputs }
         requires cap_low { 1 ≤ cap }
-        requires cap_high { cap ≤ 1000000 }
+        requires cap_high { cap ≤ greatest_cap }
         requires out { length out.old ≡ length (network_of net.now) }
         ensures { AreCappedWords (network_of net.now) input.now start.now cap out.new }
     {
@@ -139,7 +141,7 @@ fn write_words(
     requires start { length start.now ≡ length (network_of net.now) }
     requires input { length input.now ≡ net.now.inputs }
     requires cap_low { 1 ≤ cap }
-    requires cap_high { cap ≤ 1000000 }
+    requires cap_high { cap ≤ greatest_cap }
     requires out { length out.old ≡ length (network_of net.now) }
     ensures { AreCappedWords (network_of net.now) input.now start.now cap out.new }
 {
@@ -180,8 +182,8 @@ fn word_of(
     requires start { length start.now ≡ length (network_of net.now) }
     requires input { length input.now ≡ net.now.inputs }
     requires cap_low { 1 ≤ cap }
-    requires cap_high { cap ≤ 1000000 }
-    requires room { 256 ≤ length pins.old }
+    requires cap_high { cap ≤ greatest_cap }
+    requires room { most_gate_pins ≤ length pins.old }
     requires ready { IsReady (network_of net.now) input.now start.now cap out.now var }
     ensures { IsNextWord (network_of net.now) input.now start.now cap out.now var result }
 {

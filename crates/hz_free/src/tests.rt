@@ -1,6 +1,7 @@
 //! Circuits worked by hand: their feedback cycles, and the words of their variables.
 ghost use Rattle.std.specs.Prelude.{◌≡◌, ◌+◌, ◌<◌, ◌≤◌, [], ◌∷◌, None, IsTrue, length};
-ghost use Rattle.hz_core.specs.Netlist.{IsName, IsGateNumber, gate_at, most_pins, node_named, variable_count};
+ghost use Rattle.hz_core.specs.Gate.{most_pins};
+ghost use Rattle.hz_core.specs.Netlist.{IsName, IsGateNumber, gate_at, node_named, variable_count};
 ghost use Rattle.hz_net.specs.Network.{network_of};
 
 use super::Free;

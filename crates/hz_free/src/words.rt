@@ -7,6 +7,7 @@ ghost use Rattle.hz_gmw.specs.Runs.{is_listed};
 ghost use Rattle.hz_word.specs.Capped.{capped_word};
 ghost use Rattle.hz_free.specs.VariableWords.{input_word};
 ghost use Rattle.hz_free.specs.CappedWords.{AreWordsSoFar, HasCountedWord, IsGateWord};
+ghost use Rattle.hz_word.specs.Capped.{greatest_cap};
 
 use hz_core::Kind;
 use hz_word::{Count, Word, fold};
@@ -26,7 +27,7 @@ pub(crate) fn gate_word(kind: Kind, wires: &[Option<Word>], cap: u64, pins: &mut
     requires takes { IsTrue (takes kind (length wires.now)) }
     requires counted { All (HasCountedWord cap) wires.now }
     requires cap_low { 1 ≤ cap }
-    requires cap_high { cap ≤ 1000000 }
+    requires cap_high { cap ≤ greatest_cap }
     requires room { length wires.now ≤ length pins.old }
     ensures { IsGateWord kind wires.now cap result }
 {

@@ -5,8 +5,10 @@ use Rattle.std.proofs.lemmas.List.{take_more, length-take-le}
 use Rattle.std.proofs.lemmas.List.Sums.{sum_by_push}
 use Rattle.hz_core.specs.declared.kind.Kind.{Kind}
 use Rattle.hz_core.specs.declared.kind.Kind.TheVariants.{And}
-use Rattle.hz_core.specs.Netlist.{Gate, Netlist, IsGateNumber, gate_at, most_pins, variable_count, with_pin, with_source}
+use Rattle.hz_core.specs.Gate.{most_pins}
+use Rattle.hz_core.specs.Netlist.{Gate, Netlist, IsGateNumber, gate_at, variable_count, with_pin, with_source}
 use Rattle.hz_gen.specs.BuiltDemo.{MayAddWiredGate, with_wired_gate}
+use Rattle.hz_core.specs.Limits.{most_variables}
 
 module _ (netlist : Netlist) (name : List ℕ) (kind : Kind) (gate : ℕ) where
   -- the last gate is the one that was added
@@ -51,7 +53,7 @@ pub record MayConnect (netlist : Netlist) (gate source : ℕ) : Type 0 where
   pub gate_is : IsGateNumber netlist gate
   pub source_is : source < length netlist.names
   pub pins : length (gate_at netlist gate).sources < most_pins (gate_at netlist gate).kind
-  pub room : variable_count netlist < 200000
+  pub room : variable_count netlist < most_variables
 
 -- the next pin may be added
 pub next-may :

@@ -11,6 +11,7 @@ use Rattle.hz_gen.specs.BuiltDemo.{ring_gates, buffer_gate, multiplexer_gates, l
 use Rattle.hz_gen.proofs.Counts.{length-chain_names, count-chain}
 use Rattle.hz_gen.proofs.Numbers.{demo-built}
 use Rattle.hz_gen.proofs.Scripts.{script-built, script-fits}
+use Rattle.hz_gen.specs.Demo.{most_demo_number}
 
 -- a gate has a pin
 abbrev HasPin : Gate → Type 0
@@ -57,7 +58,7 @@ ring_whole n buffers =
     (map buffer_gate (range_with_len 2 buffers)) (buffers_whole 2 buffers)
 
 -- each gate has a pin
-pub demo-whole : (n : ℕ) → 1 ≤ n → n ≤ 18000 → IsWhole (demo_netlist n)
+pub demo-whole : (n : ℕ) → 1 ≤ n → n ≤ most_demo_number → IsWhole (demo_netlist n)
 demo-whole n least most =
     rw (demo-built n least most)
     (record {
@@ -68,13 +69,13 @@ demo-whole n least most =
     })
 
 -- how many nodes there are
-pub demo-nodes : (n : ℕ) → 1 ≤ n → n ≤ 18000 → length (demo_netlist n).names ≡ 4 * n + 4
+pub demo-nodes : (n : ℕ) → 1 ≤ n → n ≤ most_demo_number → length (demo_netlist n).names ≡ 4 * n + 4
 demo-nodes n least most = rw (demo-built n least most) (length-chain_names n n least ∙ omega arith)
 
 -- how many variables there are
-pub demo-variables : (n : ℕ) → 1 ≤ n → n ≤ 18000 → variable_count (demo_netlist n) ≡ 11 * n + 8
+pub demo-variables : (n : ℕ) → 1 ≤ n → n ≤ most_demo_number → variable_count (demo_netlist n) ≡ 11 * n + 8
 demo-variables n least most = rw (demo-built n least most) (count-chain n n least ∙ omega arith)
 
 -- the script is one of the circuit
-pub demo-fits : (n : ℕ) → 1 ≤ n → n ≤ 18000 → IsScriptFor (demo_netlist n) (demo_script n)
+pub demo-fits : (n : ℕ) → 1 ≤ n → n ≤ most_demo_number → IsScriptFor (demo_netlist n) (demo_script n)
 demo-fits n least most = rw (demo-built n least most, script-built n least most) (script-fits n least)

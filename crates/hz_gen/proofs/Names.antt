@@ -8,6 +8,7 @@ use Rattle.std.proofs.lemmas.Fmt.{decimal_injective, length-decimal-le, digits_d
 use Rattle.std.proofs.lemmas.Slice.Eq.{bytes_eq-Decides}
 use Rattle.std.proofs.lemmas.Str.Parse.{tells_by_index, numerals_by_value}
 use Rattle.hz_core.specs.Netlist.{IsName, is_name_byte}
+use Rattle.hz_gen.specs.Demo.{most_demo_number}
 
 -- a digit may stand in a name
 digit_byte : (byte : ℕ) → IsInRange 48 57 byte → is_name_byte byte ≡ true
@@ -35,7 +36,7 @@ decimal-bytes number small =
 
 -- a letter and a number are a name
 pub numbered-IsName :
-    (letter number : ℕ) → is_name_byte letter ≡ true → number ≤ 18000 → IsName (letter ∷ decimal number)
+    (letter number : ℕ) → is_name_byte letter ≡ true → number ≤ most_demo_number → IsName (letter ∷ decimal number)
 numbered-IsName letter number is_letter most =
     let short : length (decimal number) ≤ 5 = length-decimal-le 5 number (omega arith) (omega arith) (omega arith) in
     record {
@@ -58,7 +59,7 @@ same-name name = (bytes_eq-Decides name name).1 refl
 
 -- a name differs from those with the same letter and a lesser number
 pub earlier-differ :
-    (letter number earlier : ℕ) → number ≤ 18000 → earlier < number →
+    (letter number earlier : ℕ) → number ≤ most_demo_number → earlier < number →
     bytes_eq (letter ∷ decimal number) (letter ∷ decimal earlier) ≡ false
 earlier-differ letter number earlier most less =
     differs (letter ∷ decimal number) (letter ∷ decimal earlier) not_same

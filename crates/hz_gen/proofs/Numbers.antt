@@ -12,6 +12,7 @@ use Rattle.hz_gen.specs.BuiltDemo.{ring_names, buffer_gate, multiplexer_names, m
 use Rattle.hz_gen.proofs.Names.{earlier-differ}
 use Rattle.hz_gen.proofs.FreshNames.{none_in-range, none_in-lists, place-after, place-of, range-split}
 use Rattle.hz_gen.proofs.Counts.{length-chain_names}
+use Rattle.hz_gen.specs.Demo.{most_demo_number}
 
 none_of_three : (x y z : Bool) → x ≡ false → y ≡ false → z ≡ false → (x || (y || (z || false))) ≡ false
 none_of_three x y z e f g = rw (e, f, g) refl
@@ -25,12 +26,12 @@ abbrev pub chain_names : ℕ → ℕ → List (List ℕ)
 chain_names n multiplexers = (chain_netlist n multiplexers).names
 
 -- a gate of the ring has a new name
-r-fresh : (k before : ℕ) → before < k → k ≤ 18000 → list_any (bytes_eq (r_name k)) (ring_front before) ≡ false
+r-fresh : (k before : ℕ) → before < k → k ≤ most_demo_number → list_any (bytes_eq (r_name k)) (ring_front before) ≡ false
 r-fresh k before later most =
     none_in-range (bytes_eq (r_name k)) r_name 1 before
     (λ j low high. earlier-differ 114 k j most (omega (arith, high)))
 
-pub r-new : (buffers k : ℕ) → buffers + 2 ≤ k → k ≤ 18000 → list_any (bytes_eq (r_name k)) (ring_names buffers) ≡ false
+pub r-new : (buffers k : ℕ) → buffers + 2 ≤ k → k ≤ most_demo_number → list_any (bytes_eq (r_name k)) (ring_names buffers) ≡ false
 r-new buffers k later most = r-fresh k (suc buffers) (omega arith) most
 
 -- the multiplexers' names differ from the names of the ring
@@ -52,13 +53,13 @@ b-m : (k j : ℕ) → bytes_eq (b_name k) (m_name j) ≡ false
 b-m k zero = refl
 b-m k (suc j) = refl
 
-m-m : (i j : ℕ) → 1 ≤ j → j < suc i → suc i ≤ 18000 → bytes_eq (m_name (suc i)) (m_name j) ≡ false
+m-m : (i j : ℕ) → 1 ≤ j → j < suc i → suc i ≤ most_demo_number → bytes_eq (m_name (suc i)) (m_name j) ≡ false
 m-m i zero low high most = absurd (omega (arith, low))
 m-m i (suc j) low high most =
     earlier-differ 109 (suc i) (suc j) most high
 
 -- a multiplexer's gates have new names
-pub a-new : (n i : ℕ) → suc i ≤ 18000 → list_any (bytes_eq (a_name (suc i))) (chain_names n i) ≡ false
+pub a-new : (n i : ℕ) → suc i ≤ most_demo_number → list_any (bytes_eq (a_name (suc i))) (chain_names n i) ≡ false
 a-new n i most =
     list_any-append (bytes_eq (a_name (suc i))) (ring_names (n - 1)) (flat_map multiplexer_names (range_with_len 1 i))
     ∙ rw (
@@ -67,7 +68,7 @@ a-new n i most =
           (λ j low high. none_of_three _ _ _ (earlier-differ 97 (suc i) j most (omega (arith, high))) refl (a-m (suc i) j)),
     ) refl
 
-pub b-new : (n i : ℕ) → suc i ≤ 18000 → list_any (bytes_eq (b_name (suc i))) (chain_names n i) ≡ false
+pub b-new : (n i : ℕ) → suc i ≤ most_demo_number → list_any (bytes_eq (b_name (suc i))) (chain_names n i) ≡ false
 b-new n i most =
     list_any-append (bytes_eq (b_name (suc i))) (ring_names (n - 1)) (flat_map multiplexer_names (range_with_len 1 i))
     ∙ rw (
@@ -76,7 +77,7 @@ b-new n i most =
           (λ j low high. none_of_three _ _ _ refl (earlier-differ 98 (suc i) j most (omega (arith, high))) (b-m (suc i) j)),
     ) refl
 
-pub m-new : (n i : ℕ) → suc i ≤ 18000 → list_any (bytes_eq (m_name (suc i))) (chain_names n i) ≡ false
+pub m-new : (n i : ℕ) → suc i ≤ most_demo_number → list_any (bytes_eq (m_name (suc i))) (chain_names n i) ≡ false
 m-new n i most =
     list_any-append (bytes_eq (m_name (suc i))) (ring_names (n - 1)) (flat_map multiplexer_names (range_with_len 1 i))
     ∙ rw (
@@ -115,7 +116,7 @@ chain-split n i j is =
     ∙ sym (append_assoc (ring_names (n - 1)) front (multiplexer_names (suc i) ++ rest))
 
 -- the number of a gate of the ring
-pub r-node : (n k : ℕ) → 1 ≤ k → k ≤ n → n ≤ 18000 → node_in (chain_names n n) (r_name k) ≡ k + 3
+pub r-node : (n k : ℕ) → 1 ≤ k → k ≤ n → n ≤ most_demo_number → node_in (chain_names n n) (r_name k) ≡ k + 3
 r-node n zero some within most = absurd (omega (arith, some))
 r-node n (suc i) some within most =
     let rest = flat_map multiplexer_names (range_with_len 1 n) in
@@ -142,21 +143,21 @@ chain_node n i place name within new behind =
     ∙ omega (arith, length-chain_names n i (omega arith), behind rest)
 
 -- the numbers of the gates of a multiplexer
-pub a-node : (n k : ℕ) → 1 ≤ k → k ≤ n → n ≤ 18000 → node_in (chain_names n n) (a_name k) ≡ n + 3 * k + 1
+pub a-node : (n k : ℕ) → 1 ≤ k → k ≤ n → n ≤ most_demo_number → node_in (chain_names n n) (a_name k) ≡ n + 3 * k + 1
 a-node n zero some within most = absurd (omega (arith, some))
 a-node n (suc i) some within most =
     let behind : IsBehind (suc i) (a_name (suc i)) 0 =
     λ rest. place-of (a_name (suc i)) [] (b_name (suc i) ∷ m_name (suc i) ∷ rest) refl in
     chain_node n i 0 (a_name (suc i)) within (a-new n i (omega arith)) behind ∙ omega arith
 
-pub b-node : (n k : ℕ) → 1 ≤ k → k ≤ n → n ≤ 18000 → node_in (chain_names n n) (b_name k) ≡ n + 3 * k + 2
+pub b-node : (n k : ℕ) → 1 ≤ k → k ≤ n → n ≤ most_demo_number → node_in (chain_names n n) (b_name k) ≡ n + 3 * k + 2
 b-node n zero some within most = absurd (omega (arith, some))
 b-node n (suc i) some within most =
     let behind : IsBehind (suc i) (b_name (suc i)) 1 =
     λ rest. place-of (b_name (suc i)) (a_name (suc i) ∷ []) (m_name (suc i) ∷ rest) refl in
     chain_node n i 1 (b_name (suc i)) within (b-new n i (omega arith)) behind ∙ omega arith
 
-pub m-node : (n k : ℕ) → k ≤ n → n ≤ 18000 → node_in (chain_names n n) (m_name k) ≡ last_gate n k
+pub m-node : (n k : ℕ) → k ≤ n → n ≤ most_demo_number → node_in (chain_names n n) (m_name k) ≡ last_gate n k
 m-node n zero within most = refl
 m-node n (suc i) within most =
     let behind : IsBehind (suc i) (m_name (suc i)) 2 =
@@ -215,7 +216,7 @@ gates_of-lists gate lines gates first (suc count) same =
 
 -- a buffer reads the gate before it
 buffer_reads :
-    (n k : ℕ) → 2 ≤ k → k ≤ n → n ≤ 18000 → gate_in (chain_names n n) (buffer_line k) ≡ buffer_gate k
+    (n k : ℕ) → 2 ≤ k → k ≤ n → n ≤ most_demo_number → gate_in (chain_names n n) (buffer_line k) ≡ buffer_gate k
 buffer_reads n k low within most =
     let source : node_in (chain_names n n) (r_name (k - 1)) ≡ k + 2 =
     r-node n (k - 1) (omega arith) (omega arith) most ∙ omega arith in
@@ -223,13 +224,13 @@ buffer_reads n k low within most =
 
 -- a multiplexer reads the one before it
 multiplexer_reads :
-    (n k : ℕ) → 1 ≤ k → k ≤ n → n ≤ 18000 →
+    (n k : ℕ) → 1 ≤ k → k ≤ n → n ≤ most_demo_number →
     map (gate_in (chain_names n n)) (multiplexer_lines k) ≡ multiplexer_gates n k
 multiplexer_reads n k low within most =
     rw (m-node n (k - 1) (omega arith) most, a-node n k low within most, b-node n k low within most) refl
 
 gates-built :
-    (n : ℕ) → 1 ≤ n → n ≤ 18000 → map (gate_in (chain_names n n)) (demo_gate_lines n) ≡ (chain_netlist n n).gates
+    (n : ℕ) → 1 ≤ n → n ≤ most_demo_number → map (gate_in (chain_names n n)) (demo_gate_lines n) ≡ (chain_netlist n n).gates
 gates-built n least most =
     let gate = gate_in (chain_names n n) in
     let ring = range_with_len 2 (n - 1) in
@@ -247,7 +248,7 @@ gates-built n least most =
     rw (r-node n n least (omega arith) most, rest) refl
 
 -- the circuit of a number is the one that is built
-pub demo-built : (n : ℕ) → 1 ≤ n → n ≤ 18000 → demo_netlist n ≡ chain_netlist n n
+pub demo-built : (n : ℕ) → 1 ≤ n → n ≤ most_demo_number → demo_netlist n ≡ chain_netlist n n
 unfolding demo_netlist
 demo-built n least most =
     let with_lists : List (List ℕ) → List Gate → Netlist =

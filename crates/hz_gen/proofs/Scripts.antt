@@ -11,6 +11,7 @@ use Rattle.hz_gen.specs.Demo.{r_name, node_in, with_listed, demo_script}
 use Rattle.hz_gen.specs.BuiltDemo.{chain_netlist}
 use Rattle.hz_gen.proofs.Counts.{length-chain_names}
 use Rattle.hz_gen.proofs.Numbers.{chain_names, names-built, r-node}
+use Rattle.hz_gen.specs.Demo.{most_demo_number}
 
 -- the start, by the number of the ring's last gate
 abbrev pub start_of : ℕ → ℕ → List (Option Bool)
@@ -19,7 +20,7 @@ start_of nodes last = set (set (set (replicate nodes None) 0 (Some false)) 1 (So
 abbrev pub script_by : ℕ → ℕ → ScriptOf
 script_by nodes last = record { start = start_of nodes last; changes = ((0, true) ∷ []) ∷ [] }
 
-pub script-built : (n : ℕ) → 1 ≤ n → n ≤ 18000 → demo_script n ≡ script_by (4 * n + 4) (n + 3)
+pub script-built : (n : ℕ) → 1 ≤ n → n ≤ most_demo_number → demo_script n ≡ script_by (4 * n + 4) (n + 3)
 unfolding demo_script
 script-built n least most =
     let by_names : List (List ℕ) → ScriptOf = λ names.

@@ -8,7 +8,8 @@ use Rattle.std.proofs.lemmas.List.Elements.{All-nil, All-cons}
 use Rattle.std.proofs.lemmas.Grind.{flat_map-append}
 use Rattle.hz_core.specs.declared.kind.Kind.{Kind}
 use Rattle.hz_core.specs.declared.kind.Kind.TheVariants.{And, Or, Not, Buff}
-use Rattle.hz_core.specs.Netlist.{Gate, Netlist, variable_count, most_pins, empty_netlist}
+use Rattle.hz_core.specs.Gate.{most_pins}
+use Rattle.hz_core.specs.Netlist.{Gate, Netlist, variable_count, empty_netlist}
 use Rattle.hz_gen.specs.Demo.{r_name, a_name, b_name, m_name}
 use Rattle.hz_gen.specs.BuiltDemo.{MayAddWiredGate, with_wired_gate, ring_names, ring_gates, ring_netlist, buffer_gate, multiplexer_names, multiplexer_gates, last_gate, chain_netlist}
 use Rattle.hz_gen.proofs.Gates.{count-added}
@@ -16,6 +17,7 @@ use Rattle.hz_gen.proofs.Names.{numbered-IsName}
 use Rattle.hz_gen.proofs.FreshNames.{range-split, unnamed}
 use Rattle.hz_gen.proofs.Counts.{nodes-ring, nodes-chain, length-ring_names, length-chain_names, count-ring, count-chain}
 use Rattle.hz_gen.proofs.Numbers.{chain_names, r-new, a-new, b-new, m-new}
+use Rattle.hz_gen.specs.Demo.{most_demo_number}
 
 -- the node is one of so many
 abbrev IsBelow : ℕ → ℕ → Type 0
@@ -30,7 +32,7 @@ two_below nodes first second below after =
 
 -- a buffer may be added
 pub buffer-may :
-    (circuit : Netlist) (number source : ℕ) (kind : Kind) → 1 ≤ most_pins kind → 2 ≤ number → number ≤ 18000 →
+    (circuit : Netlist) (number source : ℕ) (kind : Kind) → 1 ≤ most_pins kind → 2 ≤ number → number ≤ most_demo_number →
     circuit ≡ ring_netlist (3 ∷ []) (number - 2) → source ≡ number + 2 →
     MayAddWiredGate circuit (114 ∷ decimal number) kind (source ∷ [])
 buffer-may circuit number source kind takes some most so_far is =
@@ -99,7 +101,7 @@ ring-may =
       room = omega arith;
     }
 
-module _ (n i : ℕ) (least : 1 ≤ n) (within : suc i ≤ n) (most : n ≤ 18000) where
+module _ (n i : ℕ) (least : 1 ≤ n) (within : suc i ≤ n) (most : n ≤ most_demo_number) where
   -- the circuit so far, and its nodes
   abbrev names : List (List ℕ)
   names = chain_names n i
@@ -224,7 +226,7 @@ module _ (n i : ℕ) (least : 1 ≤ n) (within : suc i ≤ n) (most : n ≤ 1800
 -- what holds while a multiplexer is added: its number, the node before it, and the circuit that it is added to
 pub record IsNext (n number before : ℕ) (circuit : Netlist) : Type 0 where
   pub least : 1 ≤ n
-  pub most : n ≤ 18000
+  pub most : n ≤ most_demo_number
   pub some : 1 ≤ number
   pub within : number ≤ n
   pub so_far : circuit ≡ chain_netlist n (number - 1)

@@ -3,8 +3,10 @@ use Rattle.std.specs.Prelude.{◌≡◌, ℕ, zero, suc, ◌+◌, ◌-◌, ◌*�
 use Rattle.std.specs.List.{range_with_len, flat_map}
 use Rattle.hz_core.specs.declared.kind.Kind.{Kind}
 use Rattle.hz_core.specs.declared.kind.Kind.TheVariants.{And, Or, Not, Buff}
-use Rattle.hz_core.specs.Netlist.{Gate, Netlist, IsName, empty_netlist, node_named, most_pins, variable_count}
+use Rattle.hz_core.specs.Gate.{most_pins}
+use Rattle.hz_core.specs.Netlist.{Gate, Netlist, IsName, empty_netlist, node_named, variable_count}
 use Rattle.hz_gen.specs.Demo.{r_name, a_name, b_name, m_name}
+use Rattle.hz_core.specs.Limits.{most_variables}
 
 -- the circuit with one gate more, whose pins read these nodes
 abbrev pub with_wired_gate : Netlist → List ℕ → Kind → List ℕ → Netlist
@@ -21,7 +23,7 @@ pub record MayAddWiredGate (netlist : Netlist) (name : List ℕ) (kind : Kind) (
   pub nodes : length netlist.names ≡ netlist.inputs + length netlist.gates
   pub reads : All (λ source. source < length netlist.names) sources
   pub pins : length sources ≤ most_pins kind
-  pub room : variable_count netlist + 1 + length sources ≤ 200000
+  pub room : variable_count netlist + 1 + length sources ≤ most_variables
 
 -- the inputs alone
 abbrev pub inputs_netlist : Netlist

@@ -7,10 +7,14 @@ use Rattle.hz_core.specs.declared.kind.Kind.TheVariants.{And, Or, Not, Buff}
 use Rattle.hz_core.specs.Netlist.{Gate, Netlist, empty_netlist}
 use Rattle.hz_text.specs.ScriptValue.{ScriptOf}
 
+-- the greatest number that has a circuit
+abbrev pub most_demo_number : ℕ
+most_demo_number = 18000
+
 -- a number that has a circuit
 pub record IsDemoNumber (n : ℕ) : Type 0 where
   pub least : 1 ≤ n
-  pub most : n ≤ 18000
+  pub most : n ≤ most_demo_number
 
 -- a gate's line: its name, its kind, and the names of the nodes that its pins read
 pub record GateLine : Type 0 where

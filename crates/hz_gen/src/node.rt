@@ -1,6 +1,7 @@
 // The numbers of the nodes that others read.
 
 ghost use Rattle.std.specs.Prelude.{◌≡◌, ◌+◌, ◌≤◌};
+ghost use Rattle.hz_gen.specs.Demo.{most_demo_number};
 
 // The input `go`.
 pub(crate) const GO: u32 = 0;
@@ -16,7 +17,7 @@ pub(crate) const PULSE: u32 = 3;
 
 // The gate of the ring with this number, counted from 1.
 pub(crate) fn ring_gate(number: u32) -> u32
-    requires { number ≤ 18000 }
+    requires { number ≤ most_demo_number }
     ensures { result ≡ number + 3 }
 {
     PULSE + number

@@ -23,6 +23,7 @@ use Rattle.hz_gmw.proofs.Counting.{weight, range-term, list-term, range-same, ra
 use Rattle.hz_gmw.proofs.DriverLemmas.{fan-driver, fan-above, fan-length, driver-fan, fan-once, around-once, around-inside}
 use Rattle.hz_gmw.proofs.Unchanged.{is_unstable-state_after, is_unstable-input}
 use Rattle.hz_gmw.proofs.SetLemmas.{unmarked}
+use Rattle.hz_core.specs.Limits.{most_variables}
 
 -- a wire is unstable where it differs from its source
 pub wire-unstable : (netlist : Netlist) (input state : List Bool) (wire source : ℕ) → driver_at (network_of netlist) wire ≡ Source source → is_unstable (network_of netlist) input state wire ≡ not (beq (bit_at state wire) (bit_at state source))
@@ -274,21 +275,21 @@ nodes-among netlist circuit = omega (arith, length-network_of netlist circuit)
 pub inputs-among : (netlist : Netlist) → IsCircuit netlist → netlist.inputs ≤ length (network_of netlist)
 inputs-among netlist circuit = omega (arith, length-network_of netlist circuit, circuit.nodes)
 
-pub network-bound : (netlist : Netlist) → IsCircuit netlist → length (network_of netlist) ≤ 200000
+pub network-bound : (netlist : Netlist) → IsCircuit netlist → length (network_of netlist) ≤ most_variables
 network-bound netlist circuit = omega (arith, length-network_of netlist circuit, circuit.variables)
 
 -- the fan-out of a node is short
-pub fan-bound : (netlist : Netlist) (node : ℕ) → IsCircuit netlist → length (fan_out_of netlist node) ≤ 200000
+pub fan-bound : (netlist : Netlist) (node : ℕ) → IsCircuit netlist → length (fan_out_of netlist node) ≤ most_variables
 fan-bound netlist node circuit = omega (arith, fan-length netlist node, length-wires_of netlist, circuit.variables)
 
 -- a count of ones and one of unstable wires are small
-pub ones-bound : (netlist : Netlist) (input state : List Bool) (ones lagging : List ℕ) (gate wire : ℕ) → IsCircuit netlist → AreCounts netlist input state ones lagging → IsWireInto (network_of netlist) gate wire → get_or ones gate 0 ≤ 200000
+pub ones-bound : (netlist : Netlist) (input state : List Bool) (ones lagging : List ℕ) (gate wire : ℕ) → IsCircuit netlist → AreCounts netlist input state ones lagging → IsWireInto (network_of netlist) gate wire → get_or ones gate 0 ≤ most_variables
 ones-bound netlist input state ones lagging gate wire circuit counts into =
     let is = is_gate_of netlist circuit gate into.kind into.first into.pins into.driven in
     let few = count_by-le-length (bit_at state) (range_with_len into.first into.pins) in
     omega (arith, counts.ones gate into.kind into.first into.pins into.driven, few, length-range_with_len into.first into.pins, is.pins_are, first_wire-bound netlist gate circuit is.is_gate, circuit.variables)
 
-pub lag-bound : (netlist : Netlist) (input state : List Bool) (ones lagging : List ℕ) (node : ℕ) → IsCircuit netlist → AreCounts netlist input state ones lagging → node < length netlist.names → get_or lagging node 0 ≤ 200000
+pub lag-bound : (netlist : Netlist) (input state : List Bool) (ones lagging : List ℕ) (node : ℕ) → IsCircuit netlist → AreCounts netlist input state ones lagging → node < length netlist.names → get_or lagging node 0 ≤ most_variables
 lag-bound netlist input state ones lagging node circuit counts inside =
     omega (arith, counts.wires node inside, count_by-le-length (is_unstable (network_of netlist) input state) (fan_out_of netlist node), fan-bound netlist node circuit)
 

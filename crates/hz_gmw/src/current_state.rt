@@ -20,6 +20,7 @@ ghost use Rattle.hz_gmw.specs.Runs.{is_listed, IsRepeatFree, state_after};
 ghost use Rattle.hz_gmw.specs.Instability.{is_unstable, unstable_count};
 ghost use Rattle.hz_gmw.specs.LeastListed.{least_from};
 ghost use Rattle.hz_gmw.specs.CurrentState.{IsKindAt};
+ghost use Rattle.hz_core.specs.Limits.{most_variables};
 
 use crate::ones::value_of_ones;
 use hz_core::{Memory, lesser};
@@ -390,7 +391,7 @@ pub(crate) fn kind_at(net: &Net, var: u32) -> VarKind
     requires { var < length (network_of net.now) }
     ensures kind { IsKindAt net.now var result }
     ensures circuit { IsCircuit net.now }
-    ensures bound { length (network_of net.now) ≤ 200000 }
+    ensures bound { length (network_of net.now) ≤ most_variables }
 {
     let _variables = net.len();
     net.kind_of(var)

@@ -1,6 +1,7 @@
 -- Words, with their arguments, in the order in which one needs them.
 --
 -- is_word_byte byte, is_blank byte, is_punctuation byte: what a byte does in a line
+-- most_text_bytes: the most bytes of a text
 -- lines_of text: a text is cut at each line feed
 -- TokenOf: a token: a word or punctuation
 -- tokens_of line: the tokens of a line, or none if a forbidden byte stands before its comment

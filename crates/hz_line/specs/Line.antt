@@ -4,6 +4,10 @@ use Rattle.std.specs.List.{slice_split}
 use Rattle.std.specs.Str.Lines.{strip_carriage_return}
 use Rattle.std.specs.Borrow.{Bor}
 
+-- the most bytes of a text
+abbrev pub most_text_bytes : ℕ
+most_text_bytes = 16777216
+
 -- the byte ends a line
 abbrev pub is_line_feed : ℕ → Bool
 is_line_feed byte = byte == 10

@@ -12,6 +12,7 @@
 //!
 //! | Module | What lives in it |
 //! |---|---|
+//! | `limit` | how long a text may be |
 //! | `lines` | [`split_line`]: one line off a text |
 //! | `bytes` | what a byte does in a line |
 //! | `tokens` | the tokens of a line, all of them or one after the other |
@@ -21,12 +22,14 @@
 
 mod bytes;
 mod keywords;
+mod limit;
 mod lines;
 mod statements;
 mod tokens;
 
 pub use bytes::Punctuation;
 pub use keywords::is_keyword;
+pub use limit::MAX_TEXT;
 pub use lines::{Cut, split_line};
 pub use statements::{Grammar, Numbered, StatementFault, StatementsFault, read_statements};
 pub use tokens::{

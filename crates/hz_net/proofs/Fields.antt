@@ -12,6 +12,7 @@ use Rattle.hz_net.specs.declared.entry.Entry.{Entry}
 use Rattle.hz_net.proofs.Places.{length-entries_of, length-network_of, driver_at-entry, variable_kinds-entry, IsEntryAt-entries_of}
 use Rattle.hz_net.proofs.PartLemmas.{length-parts_from, IsPart, is_part}
 use Rattle.hz_net.proofs.FanOutLemmas.{length-readers_by_node, at-readers_by_node}
+use Rattle.hz_core.specs.Limits.{most_variables}
 
 -- the fields hold this circuit
 pub circuit_of : (fields : Inside) (netlist : Netlist) → fields.circuit ≡ netlist → HoldsNetwork fields → IsCircuit netlist
@@ -36,7 +37,7 @@ pub network_length_is :
 network_length_is fields netlist same holds = length-network_of netlist (circuit_of fields netlist same holds)
 
 pub network_bound_is :
-    (fields : Inside) (netlist : Netlist) → fields.circuit ≡ netlist → HoldsNetwork fields → length (network_of netlist) ≤ 200000
+    (fields : Inside) (netlist : Netlist) → fields.circuit ≡ netlist → HoldsNetwork fields → length (network_of netlist) ≤ most_variables
 network_bound_is fields netlist same holds =
     let circuit : IsCircuit netlist = circuit_of fields netlist same holds in
     omega (arith, length-network_of netlist circuit, circuit.variables)

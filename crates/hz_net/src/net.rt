@@ -5,6 +5,7 @@ ghost use Rattle.hz_net.specs.Network.{network_of, driver_at, bit_at, excitation
 ghost use Rattle.hz_net.specs.Variables.{variable_kinds, first_wire, fan_out_of, expansion_of};
 ghost use Rattle.hz_net.specs.Reads.{readers_of};
 ghost use Rattle.hz_net.specs.Entries.{driver_of, entry_kind, IsEntryAt};
+ghost use Rattle.hz_core.specs.Limits.{most_variables};
 
 use crate::VarKind;
 use crate::entry::{Entry, list_entries};
@@ -69,7 +70,7 @@ impl Net {
     pub fn len(&self) -> u32
         ensures len { result ≡ length (network_of self.now) }
         ensures variables { result ≡ variable_count self.now }
-        ensures bound { result ≤ 200000 }
+        ensures bound { result ≤ most_variables }
         ensures circuit { IsCircuit self.now }
         ensures whole { IsWhole self.now }
     {
@@ -210,7 +211,7 @@ impl Net {
         ensures driver { driver_at (network_of self.now) var ≡ driver_of result }
         ensures seen { slice_get (variable_kinds self.now) var ≡ Some (entry_kind result) }
         ensures place { IsEntryAt self.now var result }
-        ensures bound { length (network_of self.now) ≤ 200000 }
+        ensures bound { length (network_of self.now) ≤ most_variables }
         ensures circuit { IsCircuit self.now }
     {
         self.entries[var as usize]

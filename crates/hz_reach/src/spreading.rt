@@ -23,6 +23,7 @@ ghost use Rattle.hz_reach.specs.Room.{Spends};
 ghost use Rattle.hz_reach.specs.Given.{AreResultsOfA, IsScratchFor, IsEmptyRun};
 ghost use Rattle.hz_reach.specs.Spread.{IsSpreadRun, IsSparingRun};
 ghost use Rattle.hz_reach.specs.Turn.{changed_inputs, free_pins, changed_wires, AreChangedWires, unchanged_wires};
+ghost use Rattle.hz_core.specs.Limits.{most_variables};
 
 use crate::Scratch;
 use hz_core::{Kind, MAX_PINS, Tri};
@@ -171,7 +172,7 @@ fn list_free(own: u32, ranks: &[u32], free: &mut [bool])
 pub fn mark_changed(first: u32, now: &[bool], pattern: &[bool], scratch: &mut Scratch)
     requires pattern { length pattern.now ≡ length now.now }
     requires inside { first + length now.now ≤ length scratch.old.state }
-    requires small { first + length now.now ≤ 200000 }
+    requires small { first + length now.now ≤ most_variables }
     requires none_marked { scratch.old.marked ≡ [] }
     ensures marked { scratch.new.marked ≡ changed_wires first now.now pattern.now }
     ensures state { scratch.new.state ≡ scratch.old.state }

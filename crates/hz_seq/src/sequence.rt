@@ -3,6 +3,7 @@ ghost use Rattle.std.specs.Prelude.{◌≡◌, ◌<◌, ◌≤◌, Some, None, l
 ghost use Rattle.hz_net.specs.Starts.{IsStableStart};
 ghost use Rattle.hz_desk.specs.Finding.{finding_of};
 ghost use Rattle.hz_seq.specs.Sequence.{IsFindingOfChange, IsLeftBy, changed_input};
+ghost use Rattle.hz_word.specs.Capped.{greatest_cap};
 
 use crate::settled::settle;
 use hz_core::Memory;
@@ -82,7 +83,7 @@ impl<'n> Sequence<'n> {
     pub fn next(&mut self, change: &[(u32, bool)], cap: u64) -> Result<&Finding, Stopped>
         requires inputs { All (λ pair. pair.0 < self.old.desk.netlist.inputs) change.now }
         requires cap_low { 1 ≤ cap }
-        requires cap_high { cap ≤ 1000000 }
+        requires cap_high { cap ≤ greatest_cap }
         ensures finding { MatchResult result
             (λ finding. (self.old.stopped ≡ None) × IsFindingOfChange self.old.desk.netlist cap self.old.start change.now (finding_of finding.now))
             (λ fault. self.old.stopped ≡ Some fault.var) }
@@ -97,7 +98,7 @@ impl<'n> Sequence<'n> {
     fn make(&mut self, change: &[(u32, bool)], cap: u64) -> Result<(), Stopped>
         requires inputs { All (λ pair. pair.0 < self.old.desk.netlist.inputs) change.now }
         requires cap_low { 1 ≤ cap }
-        requires cap_high { cap ≤ 1000000 }
+        requires cap_high { cap ≤ greatest_cap }
         ensures finding { MatchResult result
             (λ _. (self.old.stopped ≡ None) × IsFindingOfChange self.old.desk.netlist cap self.old.start change.now self.new.desk.finding)
             (λ fault. self.old.stopped ≡ Some fault.var) }

@@ -2,6 +2,7 @@
 ghost use Rattle.std.specs.Prelude.{◌≡◌, ◌≤◌, length, MatchOption};
 ghost use Rattle.hz_desk.specs.Finding.{values_b};
 ghost use Rattle.hz_seq.specs.Sequence.{IsFirstUnknown, IsSettledAt};
+ghost use Rattle.hz_core.specs.Limits.{most_variables};
 
 use hz_desk::Row;
 
@@ -10,7 +11,7 @@ use hz_desk::Row;
 #[tactic(auto, using(crate::proofs::Settling::one_more, crate::proofs::Settling::first_without, crate::proofs::Settling::settled_at))]
 pub(crate) fn settle(rows: &[Row], state: &mut [bool]) -> Option<u32>
     requires rows { length rows.now ≡ length state.old }
-    requires few { length rows.now ≤ 200000 }
+    requires few { length rows.now ≤ most_variables }
     ensures { MatchOption result (IsSettledAt (values_b rows.now) state.new) (IsFirstUnknown (values_b rows.now)) }
 {
     for (var, row) in rows.iter().enumerate() {

@@ -9,6 +9,7 @@ use Rattle.hz_line.specs.Statement.{Numbered}
 use Rattle.hz_text.specs.RunResolution.{ResolvedRunStatement}
 use Rattle.hz_text.specs.RunFault.{variables_in, steps_in, statement_step_count, named_count, IsBeyond}
 use Rattle.hz_text.specs.RunRules.{beyond_from}
+use Rattle.hz_text.specs.Limits.{most_steps}
 
 -- how many steps a numbered statement is, and how many variables it names
 abbrev steps_at : Numbered ResolvedRunStatement → ℕ
@@ -19,7 +20,7 @@ names_at numbered = length (variables_in numbered.statement)
 
 -- too many, where there were so many before
 abbrev AreTooManyFrom : ℕ → ℕ → List (Numbered ResolvedRunStatement) → Type 0
-AreTooManyFrom steps names statements = (2000000 < steps + statement_step_count statements) ⊎ (2000000 < names + named_count statements)
+AreTooManyFrom steps names statements = (most_steps < steps + statement_step_count statements) ⊎ (most_steps < names + named_count statements)
 
 record IsBeyondFrom (steps names : ℕ) (statements : List (Numbered ResolvedRunStatement)) (line : ℕ) : Type 0 where
   before : List (Numbered ResolvedRunStatement)
@@ -45,24 +46,24 @@ less steps names first later h = elim h [
 
 -- the test of one statement
 abbrev is_over : ℕ → ℕ → Bool
-is_over steps names = nat_lt 2000000 steps || nat_lt 2000000 names
+is_over steps names = nat_lt most_steps steps || nat_lt most_steps names
 
-over-parts : (steps names : ℕ) → is_over steps names ≡ true → (2000000 < steps) ⊎ (2000000 < names)
-over-parts steps names t = by_test (nat_lt 2000000 steps) refl t
+over-parts : (steps names : ℕ) → is_over steps names ≡ true → (most_steps < steps) ⊎ (most_steps < names)
+over-parts steps names t = by_test (nat_lt most_steps steps) refl t
   where
-    by_test : (b : Bool) → nat_lt 2000000 steps ≡ b → (b || nat_lt 2000000 names) ≡ true → (2000000 < steps) ⊎ (2000000 < names)
+    by_test : (b : Bool) → nat_lt most_steps steps ≡ b → (b || nat_lt most_steps names) ≡ true → (most_steps < steps) ⊎ (most_steps < names)
     by_test true s w = inl (grind (arith, nat_tests, s))
     by_test false s w = inr (grind (arith, nat_tests, w))
 
-under-parts : (steps names : ℕ) → is_over steps names ≡ false → (steps ≤ 2000000) × (names ≤ 2000000)
-under-parts steps names t = by_test (nat_lt 2000000 steps) refl t
+under-parts : (steps names : ℕ) → is_over steps names ≡ false → (steps ≤ most_steps) × (names ≤ most_steps)
+under-parts steps names t = by_test (nat_lt most_steps steps) refl t
   where
-    by_test : (b : Bool) → nat_lt 2000000 steps ≡ b → (b || nat_lt 2000000 names) ≡ false → (steps ≤ 2000000) × (names ≤ 2000000)
+    by_test : (b : Bool) → nat_lt most_steps steps ≡ b → (b || nat_lt most_steps names) ≡ false → (steps ≤ most_steps) × (names ≤ most_steps)
     by_test true s w = cc
     by_test false s w = (grind (arith, nat_tests, s), grind (arith, nat_tests, w))
 
 -- a line that is found is the first beyond the limits
-found : (steps names line : ℕ) (statements : List (Numbered ResolvedRunStatement)) → steps ≤ 2000000 → names ≤ 2000000 → beyond_from steps names statements ≡ Some line → IsBeyondFrom steps names statements line
+found : (steps names line : ℕ) (statements : List (Numbered ResolvedRunStatement)) → steps ≤ most_steps → names ≤ most_steps → beyond_from steps names statements ≡ Some line → IsBeyondFrom steps names statements line
 found steps names line [] s n e = cc
 found steps names line (first ∷ later) s n e =
     by_test (is_over (steps + steps_at first) (names + names_at first)) refl e (found (steps + steps_at first) (names + names_at first) line later)
@@ -70,7 +71,7 @@ found steps names line (first ∷ later) s n e =
     by_test :
         (b : Bool) → is_over (steps + steps_at first) (names + names_at first) ≡ b →
         cond b (Some first.line) (beyond_from (steps + steps_at first) (names + names_at first) later) ≡ Some line →
-        (steps + steps_at first ≤ 2000000 → names + names_at first ≤ 2000000 → beyond_from (steps + steps_at first) (names + names_at first) later ≡ Some line → IsBeyondFrom (steps + steps_at first) (names + names_at first) later line) →
+        (steps + steps_at first ≤ most_steps → names + names_at first ≤ most_steps → beyond_from (steps + steps_at first) (names + names_at first) later ≡ Some line → IsBeyondFrom (steps + steps_at first) (names + names_at first) later line) →
         IsBeyondFrom steps names (first ∷ later) line
     by_test true t w ih = record {
       before = [];

@@ -35,6 +35,7 @@ use Rattle.hz_text.proofs.PrintLemmas.{listed-below}
 use Rattle.hz_text.proofs.PrintLaws.{start-known, all-bits, inputs-known, listed-fresh, listed-whole, listed-back}
 use Rattle.hz_text.proofs.RunFaultLaws.{looked_runs-read, clear-faultless}
 use Rattle.hz_text.proofs.RunPrintedLines.{sent, IsReadAsRun, printed-IsReadAsRun}
+use Rattle.hz_text.specs.Limits.{most_steps}
 
 -- statements, each on a line of its own, the first of which has this number
 abbrev numbered : ℕ → List ResolvedRunStatement → List (Numbered ResolvedRunStatement)
@@ -234,15 +235,15 @@ sent-count netlist value =
     (plain-count start (input ∷ runs) steps refl refl (plain-count input runs steps refl refl (runs-count value.runs))))
 
 -- statements with few steps and few variables are not too many
-none-beyond : (steps variables line : ℕ) (statements : List ResolvedRunStatement) → steps + sum_by steps_in statements ≤ 2000000 → variables + sum_by variables_count statements ≤ 2000000 → beyond_from steps variables (numbered line statements) ≡ None
+none-beyond : (steps variables line : ℕ) (statements : List ResolvedRunStatement) → steps + sum_by steps_in statements ≤ most_steps → variables + sum_by variables_count statements ≤ most_steps → beyond_from steps variables (numbered line statements) ≡ None
 none-beyond steps variables line [] few few' = refl
 none-beyond steps variables line (statement ∷ later) few few' =
     let first = sum_by-cons steps_in statement later in
     let first' = sum_by-cons variables_count statement later in
-    let low : steps + steps_in statement ≤ 2000000 = omega (arith, few, first) in
-    let low' : variables + variables_count statement ≤ 2000000 = omega (arith, few', first') in
-    let a : nat_lt 2000000 (steps + steps_in statement) ≡ false = grind (arith, nat_tests, low) in
-    let b : nat_lt 2000000 (variables + variables_count statement) ≡ false = grind (arith, nat_tests, low') in
+    let low : steps + steps_in statement ≤ most_steps = omega (arith, few, first) in
+    let low' : variables + variables_count statement ≤ most_steps = omega (arith, few', first') in
+    let a : nat_lt most_steps (steps + steps_in statement) ≡ false = grind (arith, nat_tests, low) in
+    let b : nat_lt most_steps (variables + variables_count statement) ≡ false = grind (arith, nat_tests, low') in
     rw (a, b) (none-beyond (steps + steps_in statement) (variables + variables_count statement) (suc line) later (omega (arith, few, first)) (omega (arith, few', first')))
 
 -- each of the first so many is listed

@@ -32,6 +32,7 @@ use Rattle.hz_text.proofs.PrintLaws.{node_at, assigned_back}
 use Rattle.hz_text.proofs.DecimalLemmas.{decimal-digits, number_by-decimal, decimal-is_decimal, count_of-decimal, digits-name}
 use Rattle.hz_text.proofs.VariableWords.{wire_at, variable_word-node, variable_word-wire, wire_is_pin, pin-bound}
 use Rattle.hz_text.proofs.RunPrintLemmas.{All-front, All-back}
+use Rattle.hz_core.specs.Limits.{most_variables}
 
 -- what the lines of a text are, looked up
 abbrev pub meanings_of : Netlist → List ℕ → List (Meaning ResolvedRunStatement)
@@ -119,7 +120,7 @@ net_reads netlist circuit =
     let inputs = netlist.inputs in
     let gates = length netlist.gates in
     let wires = pin_count netlist in
-    let few : inputs + gates + wires ≤ 200000 = omega (arith, circuit.nodes, circuit.variables) in
+    let few : inputs + gates + wires ≤ most_variables = omega (arith, circuit.nodes, circuit.variables) in
     let one = one_count wires [] [] (omega (arith, few)) no_count in
     let two = one_count gates (32 ∷ decimal wires ++ []) _ (omega (arith, few)) one in
     let three = one_count inputs (32 ∷ decimal gates ++ (32 ∷ decimal wires ++ [])) _ (omega (arith, few)) two in

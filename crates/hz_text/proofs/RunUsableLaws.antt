@@ -30,6 +30,7 @@ use Rattle.hz_text.proofs.VariableLemmas.{node_named-below}
 use Rattle.hz_text.proofs.BuildLemmas.{or_parts}
 use Rattle.hz_text.proofs.ReadLaws.{All-unmap}
 use Rattle.hz_text.proofs.RunBuildLaws.{clear_run}
+use Rattle.hz_text.specs.Limits.{most_steps}
 
 wire-below : (netlist : Netlist) (node : Option ℕ) (pin var : ℕ) → IsCircuit netlist → IfSome node (λ node. node < length netlist.names) → wire_into netlist node pin ≡ Some var → var < variable_count netlist
 wire-below netlist None pin var circuit within e = cc
@@ -121,26 +122,26 @@ steps_of statement = steps_in statement
 -- so many steps and variables, and those of the statements after them, are within the limits
 abbrev AreFew : ℕ → ℕ → List (Numbered ResolvedRunStatement) → Type 0
 AreFew steps variables statements =
-    (steps + sum_by steps_of (statements_without_lines statements) ≤ 2000000) × (variables + sum_by names_in (statements_without_lines statements) ≤ 2000000)
+    (steps + sum_by steps_of (statements_without_lines statements) ≤ most_steps) × (variables + sum_by names_in (statements_without_lines statements) ≤ most_steps)
 
 -- where no line is beyond the limits, neither is the whole
 within_limits :
-    (steps variables : ℕ) (statements : List (Numbered ResolvedRunStatement)) → steps ≤ 2000000 → variables ≤ 2000000 → beyond_from steps variables statements ≡ None → AreFew steps variables statements
+    (steps variables : ℕ) (statements : List (Numbered ResolvedRunStatement)) → steps ≤ most_steps → variables ≤ most_steps → beyond_from steps variables statements ≡ None → AreFew steps variables statements
 within_limits steps variables [] s v e = (omega (arith, s), omega (arith, v))
 within_limits steps variables (first ∷ later) s v e =
-    by_test (nat_lt 2000000 (steps + steps_of first.statement) || nat_lt 2000000 (variables + names_in first.statement)) refl e
+    by_test (nat_lt most_steps (steps + steps_of first.statement) || nat_lt most_steps (variables + names_in first.statement)) refl e
     (within_limits (steps + steps_of first.statement) (variables + names_in first.statement) later)
   where
     by_test :
-        (b : Bool) → (nat_lt 2000000 (steps + steps_of first.statement) || nat_lt 2000000 (variables + names_in first.statement)) ≡ b →
+        (b : Bool) → (nat_lt most_steps (steps + steps_of first.statement) || nat_lt most_steps (variables + names_in first.statement)) ≡ b →
         cond b (Some first.line) (beyond_from (steps + steps_of first.statement) (variables + names_in first.statement) later) ≡ None →
-        (steps + steps_of first.statement ≤ 2000000 → variables + names_in first.statement ≤ 2000000 → beyond_from (steps + steps_of first.statement) (variables + names_in first.statement) later ≡ None → AreFew (steps + steps_of first.statement) (variables + names_in first.statement) later) →
+        (steps + steps_of first.statement ≤ most_steps → variables + names_in first.statement ≤ most_steps → beyond_from (steps + steps_of first.statement) (variables + names_in first.statement) later ≡ None → AreFew (steps + steps_of first.statement) (variables + names_in first.statement) later) →
         AreFew steps variables (first ∷ later)
     by_test true t w ih = cc
     by_test false t w ih =
-        let parts = or_parts (nat_lt 2000000 (steps + steps_of first.statement)) _ t in
-        let few_steps : steps + steps_of first.statement ≤ 2000000 = grind (arith, nat_tests, parts.0) in
-        let few_variables : variables + names_in first.statement ≤ 2000000 = grind (arith, nat_tests, parts.1) in
+        let parts = or_parts (nat_lt most_steps (steps + steps_of first.statement)) _ t in
+        let few_steps : steps + steps_of first.statement ≤ most_steps = grind (arith, nat_tests, parts.0) in
+        let few_variables : variables + names_in first.statement ≤ most_steps = grind (arith, nat_tests, parts.1) in
         let rest = ih few_steps few_variables w in (
           omega (arith, rest.0, sum_by-cons steps_of first.statement (statements_without_lines later)),
           omega (arith, rest.1, sum_by-cons names_in first.statement (statements_without_lines later)),

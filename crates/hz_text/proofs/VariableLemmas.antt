@@ -12,6 +12,7 @@ use Rattle.hz_line.specs.declared.tokens.Token.{Token}
 use Rattle.hz_line.specs.Token.{WordOf, token_of}
 use Rattle.hz_text.specs.RunStatement.{Variable, Pin, variables_of_tokens, with_first, number_by}
 use Rattle.hz_text.specs.RunResolution.{wire_into, variable_named, variables_by}
+use Rattle.hz_core.specs.Limits.{most_gate_pins}
 
 -- the number that digits stand for after a number before them
 abbrev pub number_after : ℕ → List ℕ → ℕ
@@ -41,7 +42,7 @@ node_named-below netlist name None e = tt
 node_named-below netlist name (Some node) e = (position-Some (bytes_eq name) netlist.names node [] e).0
 
 -- no gate has so many pins
-pub wire_into-above : (netlist : Netlist) (node pin : ℕ) → IsCircuit netlist → node < length netlist.names → netlist.inputs ≤ node → 256 < pin → wire_into netlist (Some node) pin ≡ None
+pub wire_into-above : (netlist : Netlist) (node pin : ℕ) → IsCircuit netlist → node < length netlist.names → netlist.inputs ≤ node → most_gate_pins < pin → wire_into netlist (Some node) pin ≡ None
 wire_into-above netlist node pin circuit within gate above =
     let few = circuit.gates (node - netlist.inputs) (record { kind = And; sources = [] }) (omega (arith, within, gate, circuit.nodes)) in
     let most = most_pins-bound (gate_at netlist node).kind in

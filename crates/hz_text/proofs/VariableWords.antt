@@ -17,6 +17,7 @@ use Rattle.hz_net.specs.declared.variable.VarKind.TheVariants.{Input as InputKin
 use Rattle.hz_net.proofs.Places.{no_gate, no_wire, pins_of, length-wires_of, length-network_of, length-entries_of, variable_kinds-entry, IsEntryAt-entries_of, wire_at-pin}
 use Rattle.hz_net.proofs.Wires.{variable_kinds-wire}
 use Rattle.hz_text.specs.RunPrinted.{wire_word, variable_word}
+use Rattle.hz_core.specs.Limits.{most_gate_pins}
 
 -- the wire that a variable past the nodes is
 abbrev pub wire_at : Netlist → ℕ → Wire
@@ -87,7 +88,7 @@ wire_is_pin netlist var circuit above below =
     })
 
 -- no gate has more than 256 pins
-pub pin-bound : (netlist : Netlist) (var gate pin : ℕ) → IsCircuit netlist → IsPinOf netlist var gate pin → pin < 256
+pub pin-bound : (netlist : Netlist) (var gate pin : ℕ) → IsCircuit netlist → IsPinOf netlist var gate pin → pin < most_gate_pins
 pin-bound netlist var gate pin circuit is =
     let is_gate = is.is_gate in
     let few = circuit.gates (gate - netlist.inputs) no_gate (omega (arith, is_gate, circuit.nodes)) in
@@ -148,7 +149,7 @@ told_word netlist var gate pin source circuit whole there told =
 -- what is told of a wire: it goes into a gate, and no gate has more than 256 pins
 pub told_bounds :
     (netlist : Netlist) (var gate pin source : ℕ) → IsCircuit netlist → IsWhole netlist → var < length (network_of netlist) →
-    slice_get (variable_kinds netlist) var ≡ Some (WireKind gate pin source) → (gate < length netlist.names) × (pin < 256)
+    slice_get (variable_kinds netlist) var ≡ Some (WireKind gate pin source) → (gate < length netlist.names) × (pin < most_gate_pins)
 told_bounds netlist var gate pin source circuit whole there told =
     let is = wire_is_told netlist var gate pin source circuit whole there told in
     let at = wire_is_pin netlist var circuit is.0 (omega (arith, there, length-network_of netlist circuit)) in

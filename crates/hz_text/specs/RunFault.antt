@@ -15,6 +15,7 @@ use Rattle.hz_text.specs.RunStatement.{StatementOf, Header, Net, Start, Input, S
 use Rattle.hz_text.specs.RunSize.{size_of, counts_of, DifferFirst}
 use Rattle.hz_text.specs.RunResolution.{ResolvedRunStatement, resolve_numbered_run}
 use Rattle.hz_text.specs.RunOrder.{BreaksOrder}
+use Rattle.hz_text.specs.Limits.{most_steps}
 
 -- the statements of a run text, looked up in a network
 abbrev pub resolved_run_statements : Netlist → List ℕ → List (Numbered ResolvedRunStatement)
@@ -93,7 +94,7 @@ named_count statements = sum_by (λ numbered. length (variables_in numbered.stat
 
 -- there are more than 2,000,000 steps, or more than 2,000,000 variables in steps
 abbrev pub AreTooMany : List (Numbered ResolvedRunStatement) → Type 0
-AreTooMany statements = (2000000 < statement_step_count statements) ⊎ (2000000 < named_count statements)
+AreTooMany statements = (most_steps < statement_step_count statements) ⊎ (most_steps < named_count statements)
 
 -- up to the statement on this line there are too many, and before it there are not
 pub record IsBeyond (statements : List (Numbered ResolvedRunStatement)) (line : ℕ) : Type 0 where

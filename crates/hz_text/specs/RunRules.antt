@@ -13,6 +13,7 @@ use Rattle.hz_text.specs.Rules.{repeats_node, least_unassigned, AreBelow, Rules,
 use Rattle.hz_text.specs.RunResolution.{ResolvedRunStatement, RunEntry, run_resolution_of, numbered_run_resolutions}
 use Rattle.hz_text.specs.RunFault.{resolved_run_statements, IsRunFaultless, assignments_in, variables_in, steps_in, names_unknown, lacks_bit, first_start, first_input, is_second, first_size}
 use Rattle.hz_text.specs.OrderPass.{first_misplaced}
+use Rattle.hz_text.specs.Limits.{most_steps}
 
 -- the statement assigns a node twice
 abbrev pub names_node_twice : ResolvedRunStatement → Bool
@@ -37,7 +38,7 @@ least_missing_node netlist statements =
 abbrev pub beyond_from : ℕ → ℕ → List (Numbered ResolvedRunStatement) → Option ℕ
 beyond_from steps variables [] = None
 beyond_from steps variables (first ∷ later) =
-    if nat_lt 2000000 (steps + steps_in first.statement) || nat_lt 2000000 (variables + length (variables_in first.statement))
+    if nat_lt most_steps (steps + steps_in first.statement) || nat_lt most_steps (variables + length (variables_in first.statement))
     then Some first.line
     else beyond_from (steps + steps_in first.statement) (variables + length (variables_in first.statement)) later
 

@@ -11,6 +11,7 @@ use Rattle.hz_text.specs.RunResolution.{ResolvedRunStatement}
 use Rattle.hz_text.specs.RunFault.{resolved_run_statements}
 use Rattle.hz_text.specs.RunOrder.{header_lines, cycle_lines, run_lines, statements_without_lines}
 use Rattle.hz_text.specs.RunValue.{RunOf, RunTextOf, all_steps}
+use Rattle.hz_text.specs.Limits.{most_steps}
 
 -- the statement of a step
 abbrev pub step_of : List ℕ → ResolvedRunStatement
@@ -43,5 +44,5 @@ pub record IsRunTextFor (netlist : Netlist) (value : RunTextOf) : Type 0 where
   pub nodes : length value.nodes ≡ length netlist.names
   pub inputs : length value.input ≡ netlist.inputs
   pub variables : All (λ flips. All (λ var. var < length (network_of netlist)) flips) (all_steps value.runs)
-  pub few_steps : length (all_steps value.runs) ≤ 2000000
-  pub few_variables : flip_count (all_steps value.runs) ≤ 2000000
+  pub few_steps : length (all_steps value.runs) ≤ most_steps
+  pub few_variables : flip_count (all_steps value.runs) ≤ most_steps

@@ -9,6 +9,7 @@ use Rattle.hz_text.specs.Assignment.{Allowed, Nodes, Inputs, any_unknown, any_tw
 use Rattle.hz_text.specs.Fault.{IsLeastFaultOf, IsLeastFaultOrMemory}
 use Rattle.hz_text.specs.Statement.{Keyword, Start, Change, ScriptStatement, script_statement_of, script_statements_of}
 use Rattle.hz_text.specs.Resolution.{ResolvedStatement, resolve_numbered}
+use Rattle.hz_text.specs.Limits.{most_changes}
 
 -- the statements of a script's text, looked up in a circuit
 abbrev pub resolved_statements : Netlist → List ℕ → List (Numbered ResolvedStatement)
@@ -55,7 +56,7 @@ IsOutOfOrder (first ∷ later) line =
 -- the line of the change 10,001, if there are so many
 abbrev pub line_beyond : List (Numbered ResolvedStatement) → Option ℕ
 line_beyond statements =
-    option_map (λ numbered. numbered.line) (slice_get (filter (λ numbered. not (is_start numbered.statement)) statements) 10000)
+    option_map (λ numbered. numbered.line) (slice_get (filter (λ numbered. not (is_start numbered.statement)) statements) most_changes)
 
 -- the fault stands in the text
 abbrev pub HasScriptFault : Netlist → List ℕ → TextFault → Type 0

@@ -7,6 +7,7 @@ use Rattle.hz_text.specs.Assignment.{assignment_to, assigned_bit}
 use Rattle.hz_text.specs.Resolution.{ResolvedStatement}
 use Rattle.hz_text.specs.ScriptFault.{resolved_statements}
 use Rattle.hz_text.specs.ScriptValue.{ScriptOf, IsChange}
+use Rattle.hz_text.specs.Limits.{most_changes}
 
 -- the script of a start and changes: at each node the start's bit, and the assignments of each change in their order
 pub record IsScriptBy (nodes : ℕ) (first : ResolvedStatement) (later : List (Numbered ResolvedStatement)) (script : ScriptOf) : Type 0 where
@@ -27,4 +28,4 @@ pub record IsScriptFor (netlist : Netlist) (script : ScriptOf) : Type 0 where
   pub nodes : length script.start ≡ length netlist.names
   pub inputs : All IsSome (take (primary_inputs netlist) script.start)
   pub changes : All (IsChange netlist.inputs) script.changes
-  pub few : length script.changes ≤ 10000
+  pub few : length script.changes ≤ most_changes

@@ -7,7 +7,6 @@
 //! | `assignments` | assignments `name = word`, looked up in a circuit |
 //! | `bits` | the bits that assignments give to nodes |
 //! | `fault` | [`TextFault`]: why a text is refused |
-//! | `limit` | how long a text may be |
 //! | `printing` | assignments, as scripts and run texts print them |
 //! | `script` | [`Script`]: [`read_script`] and [`print_script`] |
 //! | `run` | [`RunText`]: [`read_run`] and [`print_run`] |
@@ -16,14 +15,12 @@
 mod assignments;
 mod bits;
 mod fault;
-mod limit;
 mod printing;
 mod run;
 mod script;
 mod text;
 
 pub use fault::TextFault;
-pub use limit::MAX_TEXT;
 pub use printing::{write_assignments, write_bits};
 pub use run::{
     RunText, print_run, printed_runs_are_read, read_run, write_end, write_run, write_run_text,

@@ -10,6 +10,7 @@
 
 ghost use Rattle.std.specs.Prelude.{◌≡◌, ◌<◌, ◌++◌, ◌∷◌, [], length, replicate, slice_get, slice_set, Some, None, IfOk, OnOk, OnErr};
 ghost use Rattle.hz_text.specs.ScriptValue.{IsChange, IsScript};
+ghost use Rattle.hz_text.specs.Limits.{most_changes};
 
 use hz_core::Memory;
 use hz_net::part_at;
@@ -83,7 +84,7 @@ impl Script {
     /// Adds a change after the last one: numbers of inputs with their bits, in any order.
     pub fn add_change(&mut self, change: &[(u32, bool)]) -> Result<(), Memory>
         requires change { IsChange (length self.old.start) change.now }
-        requires few { length self.old.changes < 10000 }
+        requires few { length self.old.changes < most_changes }
         ensures ok { OnOk result (self.new ≡ record self.old { changes = self.old.changes ++ change.now ∷ [] }) }
         ensures err { OnErr result (self.new ≡ self.old) }
     {

@@ -1,8 +1,9 @@
 // Texts that are read and printed, and texts that are refused, with ample memory. Those that the program refuses stand in
 // `tests/run`.
 
-use crate::{MAX_TEXT, TextFault, print_run, print_script, read_run, read_script};
+use crate::{TextFault, print_run, print_script, read_run, read_script};
 use hz_core::{Circuit, Kind, Memory};
+use hz_line::MAX_TEXT;
 use hz_net::Net;
 use std::alloc::Global;
 use std::test::Fail;

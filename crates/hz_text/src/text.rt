@@ -5,10 +5,10 @@ ghost use Rattle.hz_line.specs.Reading.{numbered_by, IsUnread};
 ghost use Rattle.hz_line.specs.Statement.{first_passing_line};
 ghost use Rattle.hz_line.specs.Token.{token_of};
 ghost use Rattle.hz_text.specs.Rules.{AreBelow, repeats_node, first_fault_in, first_fault_of, IsFaultOrMemory, IsChecked};
+ghost use Rattle.hz_line.specs.Line.{most_text_bytes};
 
 use crate::assignments::{Assigned, repeats};
 use crate::fault::{Mismatch, TextFault, refuse};
-use crate::limit::MAX_TEXT;
 use hz_core::Memory;
 use hz_line::{Grammar, Numbered, StatementFault, Token, read_statements};
 use std::alloc::Global;
@@ -118,7 +118,7 @@ pub(crate) fn read_text<'t, T: Text<'t>>(
     reader: T,
     text: &'t [u8],
 ) -> Result<Vec<Numbered<T::Held>>, TextFault>
-    requires { length text.now ≤ MAX_TEXT }
+    requires { length text.now ≤ most_text_bytes }
     ensures checked { MatchResult result
         (λ read. IsChecked (T.grammar (T.context reader)) (T.rules (T.context reader)) text.now (map (numbered_by T.stated) read.items))
         (λ fault. IsFaultOrMemory (first_fault_of (T.grammar (T.context reader)) (T.rules (T.context reader)) text.now) fault) }

@@ -23,7 +23,8 @@ use Rattle.hz_text.specs.declared.fault.TextFault.TheVariants as reading
 use Rattle.hz_text.specs.Fault.{IsLeastFaultOf, IsLeastFaultOrMemory}
 use Rattle.hz_top.specs.declared.status.Status.{Status}
 use Rattle.hz_top.specs.declared.status.Status.TheVariants as status
-use Rattle.hz_top.specs.Outcome.{StartRefused, most_bytes, FileRefused, Observation, observation_of, IsSecondFileOutcome}
+use Rattle.hz_line.specs.Line.{most_text_bytes}
+use Rattle.hz_top.specs.Outcome.{StartRefused, FileRefused, Observation, observation_of, IsSecondFileOutcome}
 use Rattle.hz_top.specs.Refusal.{unread_line, long_line}
 use Rattle.hz_top.specs.Inside.{LoadPrints, StartPrints}
 
@@ -36,7 +37,7 @@ pub LoadPrints-long : (place : Place) (fault : LoadFault) → fault ≡ load.Too
 LoadPrints-long place fault is = subst (λ (fault : LoadFault). LoadPrints place fault status.TooLong (long_line place)) (sym is) (refl, refl)
 
 -- what is said of a load that gave no file is said of a file that was not read, where the counts show it
-pub FileRefused-load : (told : Observation) (place : Place) (name : List ℕ) (fault : LoadFault) → (fault ≡ load.Failed → Rose (told.faults place) (told.faults_after place)) → (fault ≡ load.TooLong → Rose (told.longs place) (told.longs_after place)) → (fault ≡ load.TooLong → IfSome told.held (λ bytes_of. most_bytes < length (bytes_of name))) → (own : Status) (text : List ℕ) → LoadPrints place fault own text → FileRefused told place name own text
+pub FileRefused-load : (told : Observation) (place : Place) (name : List ℕ) (fault : LoadFault) → (fault ≡ load.Failed → Rose (told.faults place) (told.faults_after place)) → (fault ≡ load.TooLong → Rose (told.longs place) (told.longs_after place)) → (fault ≡ load.TooLong → IfSome told.held (λ bytes_of. most_text_bytes < length (bytes_of name))) → (own : Status) (text : List ℕ) → LoadPrints place fault own text → FileRefused told place name own text
 FileRefused-load told place name load.Failed failed long over own text says = inl (failed refl, says)
 FileRefused-load told place name load.TooLong failed long over own text says = inr (long refl, over refl, says)
 FileRefused-load told place name load.Memory failed long over own text says = elim says [ ]
@@ -78,7 +79,7 @@ pub IsSecondFileOutcome-before : {S : Type 0} (held : S → Option (List ℕ →
 IsSecondFileOutcome-before held faults longs was mid now comes name same few short own text (inl (inl (rose, says))) =
     inl (inl (subst (λ (count : ℕ). Rose count (faults now Second)) few rose, says))
 IsSecondFileOutcome-before held faults longs was mid now comes name same few short own text (inl (inr (rose, over, says))) =
-    inl (inr (subst (λ (count : ℕ). Rose count (longs now Second)) short rose, subst (λ (told : Option (List ℕ → List ℕ)). IfSome told (λ bytes_of. most_bytes < length (bytes_of name))) same over, says))
+    inl (inr (subst (λ (count : ℕ). Rose count (longs now Second)) short rose, subst (λ (told : Option (List ℕ → List ℕ)). IfSome told (λ bytes_of. most_text_bytes < length (bytes_of name))) same over, says))
 IsSecondFileOutcome-before held faults longs was mid now comes name same few short own text (inr (bytes, (is, most), says)) =
     inr (bytes, (subst (λ (told : Option (List ℕ → List ℕ)). IfSome told (λ bytes_of. bytes ≡ bytes_of name)) same is, most), says)
 

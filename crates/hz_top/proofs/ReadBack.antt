@@ -29,6 +29,8 @@ use Rattle.hz_top.specs.Replaying.{IsAcceptedRun, start_of, AreAccepted}
 use Rattle.hz_top.specs.Reports.{AnalysisReplays}
 use Rattle.hz_top.specs.RunTexts.{ReplaysAs}
 use Rattle.hz_top.proofs.Writable.{run-inside, fits}
+use Rattle.hz_text.specs.Limits.{most_steps}
+use Rattle.hz_core.specs.Limits.{most_variables}
 
 -- Bits of one length that are the same at each place are the same.
 same-bits : (xs ys : List Bool) → length xs ≡ length ys → ((k : ℕ) → k < length xs → bit_at xs k ≡ bit_at ys k) → xs ≡ ys
@@ -81,7 +83,7 @@ all-inside net input start (run ∷ runs) accepted =
 pub accepted-replays :
     PrintedRunsAreRead →
     (netlist : Netlist) (value : RunTextOf) → IsCircuit netlist → length value.nodes ≡ length netlist.names → length value.input ≡ netlist.inputs →
-    length (all_steps value.runs) ≤ 2000000 → flip_count (all_steps value.runs) ≤ 2000000 → AreAccepted netlist value →
+    length (all_steps value.runs) ≤ most_steps → flip_count (all_steps value.runs) ≤ most_steps → AreAccepted netlist value →
     ReplaysAs netlist (run_text_printed netlist value) value.runs
 accepted-replays read netlist value circuit nodes inputs steps flips accepted =
     let usable : IsRunTextFor netlist value = record {
@@ -124,7 +126,7 @@ finding-replays read no_more netlist cap start change finding circuit begins rig
     let net = network_of netlist in
     let value = runs_of_finding netlist finding in
     let input = changed_input (take netlist.inputs start) change in
-    let few : length (network_of netlist) ≤ 200000 = omega (arith, length-network_of netlist circuit, circuit.variables) in
+    let few : length (network_of netlist) ≤ most_variables = omega (arith, length-network_of netlist circuit, circuit.variables) in
     let fit = fits netlist netlist cap start change finding refl circuit begins right in
     let rows_a = length-map finding.rows (λ (row : Row). row.a) in
     let rows_b = length-map finding.rows (λ (row : Row). row.b) in
@@ -136,9 +138,9 @@ finding-replays read no_more netlist cap start change finding circuit begins rig
     let spread_steps = no_more net input start finding.spread right.spread.run in
     let settle_steps = no_more net input start finding.settle right.settle.run in
     let cycle_steps = no_more net input (end_of start finding.settle) finding.cycle right.cycle.nontransient.cycle.run in
-    let flips : flip_count (all_steps value.runs) ≤ 2000000 =
+    let flips : flip_count (all_steps value.runs) ≤ most_steps =
     omega (arith, two-flips finding.spread finding.settle finding.cycle, few, fit.rows, rows_a, rows_b, unknown_a, unknown_b, spread_flips, settle_flips, cycle_flips) in
-    let steps : length (all_steps value.runs) ≤ 2000000 =
+    let steps : length (all_steps value.runs) ≤ most_steps =
     omega (arith, two-long finding.spread finding.settle finding.cycle, few, fit.rows, rows_a, rows_b, unknown_a, unknown_b, spread_flips, settle_flips, cycle_flips, spread_steps, settle_steps, cycle_steps) in
     let nodes : length value.nodes ≡ length netlist.names =
     length-take-le (length netlist.names) (map (λ (row : Row). row.start) finding.rows)

@@ -17,6 +17,7 @@ use Rattle.hz_top.specs.Replaying.{steps_of, total_steps, IsAcceptedRun, IsRefus
 use Rattle.hz_top.specs.ReplayerSteps.{AreVariables, run_of, KeepsInitialState, MakesSteps, IsRefusedFrom}
 use Rattle.hz_top.specs.Inside.{no_run}
 use Rattle.hz_top.proofs.ReplayerStepLemmas.{cut-at, run-refused}
+use Rattle.hz_text.specs.Limits.{most_steps}
 
 -- the steps behind others name variables too
 behind-variables : (netlist : Netlist) (lead steps : List (List ℕ)) → AreVariables netlist (lead ++ steps) → AreVariables netlist steps
@@ -61,7 +62,7 @@ run-variables netlist other runs number run is below same all =
         subst (All (λ var. var < length (network_of netlist))) (get_or-flat_map steps_of runs number k no_run d below within) (all place d at)
 
 -- and there are no more of them
-pub run-few : (runs : List RunOf) (number : ℕ) (run : RunOf) → run ≡ get_or runs number no_run → number < length runs → total_steps runs ≤ 2000000 → length (steps_of run) ≤ 2000000
+pub run-few : (runs : List RunOf) (number : ℕ) (run : RunOf) → run ≡ get_or runs number no_run → number < length runs → total_steps runs ≤ most_steps → length (steps_of run) ≤ most_steps
 run-few runs number run is below few =
     omega (arith, ap (λ (r : RunOf). length (steps_of r)) is, length-flat_map-take steps_of runs number no_run below, few)
 

@@ -28,10 +28,7 @@ use Rattle.hz_words.specs.declared.job.Task.{Task}
 use Rattle.hz_words.specs.declared.job.Task.TheVariants.{Analyse, Replay, Convert}
 use Rattle.hz_words.specs.Job.{JobOf, OnFiles, Demo}
 use Rattle.hz_top.specs.Refusal.{words_line, unread_line, long_line, netlist_fault_line, text_fault_line, open_line, unstable_line}
-
--- the most bytes of a file
-abbrev pub most_bytes : ℕ
-most_bytes = 16777216
+use Rattle.hz_line.specs.Line.{most_text_bytes}
 
 -- the start of a script is refused
 abbrev pub StartRefused : Netlist → List (Option Bool) → List ℕ → Type 0
@@ -98,7 +95,7 @@ abbrev pub FileRefused : Observation → Place → List ℕ → Status → List 
 FileRefused told place name own text =
     (Rose (told.faults place) (told.faults_after place) × Prints status.File (unread_line place) own text)
     ⊎ (Rose (told.longs place) (told.longs_after place)
-    × IfSome told.held (λ bytes_of. most_bytes < length (bytes_of name)) × Prints status.TooLong (long_line place) own text)
+    × IfSome told.held (λ bytes_of. most_text_bytes < length (bytes_of name)) × Prints status.TooLong (long_line place) own text)
 
 -- what the files tell and count before a call and after it
 abbrev pub observation_of : {S : Type 0} → (S → Option (List ℕ → List ℕ)) → (S → Place → ℕ) → (S → Place → ℕ) → S → S → Observation
@@ -107,7 +104,7 @@ observation_of held faults longs was now =
 
 -- the bytes are those of the file, where they are told, and not too many
 abbrev pub IsFileContents : Observation → List ℕ → List ℕ → Type 0
-IsFileContents told name bytes = IfSome told.held (λ bytes_of. bytes ≡ bytes_of name) × (length bytes ≤ most_bytes)
+IsFileContents told name bytes = IfSome told.held (λ bytes_of. bytes ≡ bytes_of name) × (length bytes ≤ most_text_bytes)
 
 -- what the second file comes to, if this comes of its text
 abbrev pub IsSecondFileOutcome : Observation → (List ℕ → Status → List ℕ → Type 0) → List ℕ → Status → List ℕ → Type 0
@@ -137,5 +134,5 @@ IsJobOutcome told (Some (Demo number cap)) own text = ((place : Place) → Count
 -- the loads that a job may make: each of its two files at its place, with the limit
 abbrev pub MayLoad : (Place → List ℕ → ℕ → Type 0) → Option JobOf → Type 0
 MayLoad granted None = Unit {0}
-MayLoad granted (Some (OnFiles task first second)) = granted First first most_bytes × granted Second second most_bytes
+MayLoad granted (Some (OnFiles task first second)) = granted First first most_text_bytes × granted Second second most_text_bytes
 MayLoad granted (Some (Demo number cap)) = Unit {0}

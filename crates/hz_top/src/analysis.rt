@@ -4,7 +4,8 @@ ghost use Rattle.hz_core.specs.Netlist.{IsCircuit};
 ghost use Rattle.hz_text.specs.ScriptText.{IsScriptFor};
 ghost use Rattle.hz_words.specs.Values.{IsCap};
 ghost use Rattle.hz_top.specs.Answer.{Answers};
-ghost use Rattle.hz_top.specs.Outcome.{most_bytes, IsScriptTextOutcome, IsScriptOutcome};
+ghost use Rattle.hz_line.specs.Line.{most_text_bytes};
+ghost use Rattle.hz_top.specs.Outcome.{IsScriptTextOutcome, IsScriptOutcome};
 
 use crate::refusal::{refuse_start, refuse_text};
 use crate::reporting::report;
@@ -26,7 +27,7 @@ pub(crate) fn analyse_text<K: Sink>(
     out: &mut K,
 ) -> Status
     requires cap { IsCap cap }
-    requires text { length text.now ≤ most_bytes }
+    requires text { length text.now ≤ most_text_bytes }
     ensures { Answers K.written K.faults (IsScriptTextOutcome (IsScriptOutcome cap show) net.now text.now) out.old out.new result }
 {
     let circuit = net.circuit();

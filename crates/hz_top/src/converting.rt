@@ -2,7 +2,7 @@
 ghost use Rattle.std.specs.Prelude.{◌≤◌, length};
 ghost use Rattle.hz_text.specs.RunText.{IsRunTextFor};
 ghost use Rattle.hz_top.specs.Answer.{Answers};
-ghost use Rattle.hz_top.specs.Outcome.{most_bytes};
+ghost use Rattle.hz_line.specs.Line.{most_text_bytes};
 ghost use Rattle.hz_top.specs.RunTexts.{IsRunTextOutcome, IsConvertOutcome};
 
 use crate::refusal::refuse_text;
@@ -14,7 +14,7 @@ use std::alloc::Global;
 
 // Writes the run text of a text anew. Its runs are not replayed.
 pub(crate) fn convert_text<K: Sink>(alloc: Global, net: &Net, text: &[u8], out: &mut K) -> Status
-    requires { length text.now ≤ most_bytes }
+    requires { length text.now ≤ most_text_bytes }
     ensures { Answers K.written K.faults (IsRunTextOutcome IsConvertOutcome net.now text.now) out.old out.new result }
 {
     match read_run(alloc, net, text) {

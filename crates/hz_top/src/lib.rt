@@ -29,7 +29,6 @@ mod status;
 mod tests;
 mod verdict;
 
-pub use order::MAX_BYTES;
 pub use reading_back::accepted_runs_replay;
 pub use replaying::RunRefusal;
 pub use running::run;

@@ -3,20 +3,19 @@ ghost use Rattle.std.specs.Prelude.{◌≡◌, ◌≤◌, length};
 ghost use Rattle.hz_outside.specs.declared.fault.Place.TheVariants.{First, Second};
 ghost use Rattle.hz_words.specs.Job.{HasCap};
 ghost use Rattle.hz_top.specs.Answer.{Answers};
-ghost use Rattle.hz_top.specs.Outcome.{most_bytes, observation_of, IsTaskOutcome, IsFilesOutcome, IsSecondFileOutcome};
+ghost use Rattle.hz_line.specs.Line.{most_text_bytes};
+ghost use Rattle.hz_top.specs.Outcome.{observation_of, IsTaskOutcome, IsFilesOutcome, IsSecondFileOutcome};
 
 use crate::analysis::analyse_text;
 use crate::converting::convert_text;
 use crate::refusal::{refuse_load, refuse_netlist};
 use crate::replaying::replay_text;
 use crate::status::Status;
+use hz_line::MAX_TEXT;
 use hz_net::Net;
 use hz_outside::{Files, Place, Sink};
 use hz_words::Task;
 use std::alloc::Global;
-
-/// The most bytes of a file.
-pub const MAX_BYTES: usize = 16_777_216;
 
 // Does a task on two files.
 pub(crate) fn work_on_files<F: Files, K: Sink>(
@@ -28,15 +27,15 @@ pub(crate) fn work_on_files<F: Files, K: Sink>(
     out: &mut K,
 ) -> Status
     requires cap { HasCap task }
-    requires first { F.granted files.old First first.now most_bytes }
-    requires second { F.granted files.old Second second.now most_bytes }
+    requires first { F.granted files.old First first.now most_text_bytes }
+    requires second { F.granted files.old Second second.now most_text_bytes }
     ensures { Answers K.written K.faults
         (IsFilesOutcome (observation_of F.held F.faults F.longs files.old files.new) (IsTaskOutcome task) first.now second.now)
         out.old out.new result }
 {
     // The bytes of the first file are freed before the second is loaded.
     let circuit = {
-        let text = match files.load(alloc, Place::First, first, MAX_BYTES) {
+        let text = match files.load(alloc, Place::First, first, MAX_TEXT) {
             Ok(text) => text,
             Err(fault) => return refuse_load(out, Place::First, fault),
         };
@@ -61,11 +60,11 @@ fn work_on_second<F: Files, K: Sink>(
     out: &mut K,
 ) -> Status
     requires cap { HasCap task }
-    requires second { F.granted files.old Second second.now most_bytes }
+    requires second { F.granted files.old Second second.now most_text_bytes }
     ensures { Answers K.written K.faults
         (IsSecondFileOutcome (observation_of F.held F.faults F.longs files.old files.new) (IsTaskOutcome task net.now) second.now) out.old out.new result }
 {
-    match files.load(alloc, Place::Second, second, MAX_BYTES) {
+    match files.load(alloc, Place::Second, second, MAX_TEXT) {
         Ok(text) => work_on_text(alloc, net, task, text.as_slice(), out),
         Err(fault) => refuse_load(out, Place::Second, fault),
     }
@@ -74,7 +73,7 @@ fn work_on_second<F: Files, K: Sink>(
 // Does a task on a network and the second text.
 fn work_on_text<K: Sink>(alloc: Global, net: &Net, task: Task, text: &[u8], out: &mut K) -> Status
     requires cap { HasCap task }
-    requires text { length text.now ≤ most_bytes }
+    requires text { length text.now ≤ most_text_bytes }
     ensures { Answers K.written K.faults (IsTaskOutcome task net.now text.now) out.old out.new result }
 {
     match task {

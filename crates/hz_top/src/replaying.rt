@@ -6,11 +6,12 @@ ghost use Rattle.hz_net.specs.Variables.{expansion_of};
 ghost use Rattle.hz_gmw.specs.Cycles.{IsNontransient};
 ghost use Rattle.hz_text.specs.RunText.{IsRunTextFor};
 ghost use Rattle.hz_top.specs.Answer.{Answers};
-ghost use Rattle.hz_top.specs.Outcome.{most_bytes};
+ghost use Rattle.hz_line.specs.Line.{most_text_bytes};
 ghost use Rattle.hz_top.specs.RunTexts.{IsRunTextOutcome};
 ghost use Rattle.hz_top.specs.Replaying.{steps_of, IsAcceptedRun, IsRefusedRun, IsRefusedStep, IsFirstRefusal};
 ghost use Rattle.hz_top.specs.ReplayerSteps.{AreVariables, run_of, KeepsInitialState, MakesSteps, IsRefusedFrom};
 ghost use Rattle.hz_top.specs.Verdict.{IsReplayOutcome};
+ghost use Rattle.hz_text.specs.Limits.{most_steps};
 
 use crate::refusal::refuse_text;
 use crate::status::{Status, status_after};
@@ -46,7 +47,7 @@ pub(crate) struct FirstRefusal {
 
 // Replays the runs of a text on a network.
 pub(crate) fn replay_text<K: Sink>(alloc: Global, net: &Net, text: &[u8], out: &mut K) -> Status
-    requires { length text.now ≤ most_bytes }
+    requires { length text.now ≤ most_text_bytes }
     ensures { Answers K.written K.faults (IsRunTextOutcome IsReplayOutcome net.now text.now) out.old out.new result }
 {
     match read_run(alloc, net, text) {
@@ -111,7 +112,7 @@ fn replay_runs(replay: &mut Replay, text: &RunText, start: &[bool]) -> Result<()
 // Replays a run from the present state.
 fn replay_run(replay: &mut Replay, lead: &Run, cycle: Option<&Run>) -> Result<(), RunRefusal>
     requires variables { AreVariables replay.old.circuit (steps_of (run_of lead.now.steps (option_map (λ run. run.now.steps) cycle))) }
-    requires few { length (steps_of (run_of lead.now.steps (option_map (λ run. run.now.steps) cycle))) ≤ 2000000 }
+    requires few { length (steps_of (run_of lead.now.steps (option_map (λ run. run.now.steps) cycle))) ≤ most_steps }
     ensures begin { KeepsInitialState replay.old replay.new }
     ensures outcome { MatchResult result
         (λ _. IsAcceptedRun (network_of replay.old.circuit) replay.old.input replay.old.state (run_of lead.now.steps (option_map (λ run. run.now.steps) cycle.entry)))
@@ -135,7 +136,7 @@ fn replay_run(replay: &mut Replay, lead: &Run, cycle: Option<&Run>) -> Result<()
 // Replays a cycle from the present state, after that many steps of its run.
 fn replay_cycle(replay: &mut Replay, cycle: &Run, before: usize) -> Result<(), RunRefusal>
     requires variables { AreVariables replay.old.circuit cycle.now.steps }
-    requires few { before + length cycle.now.steps ≤ 2000000 }
+    requires few { before + length cycle.now.steps ≤ most_steps }
     ensures begin { KeepsInitialState replay.old replay.new }
     ensures outcome { MatchResult result
         (λ _. IsNontransient (network_of replay.old.circuit) replay.old.input replay.old.state cycle.now.steps)

@@ -6,6 +6,7 @@ ghost use Rattle.hz_write.specs.Writes.{Wrote};
 ghost use Rattle.hz_top.specs.Replaying.{total_steps, total_cycles, steps_of};
 ghost use Rattle.hz_top.specs.Verdict.{yes_line, naming_line, step_line, cycle_line, no_line, accepted_line};
 ghost use Rattle.hz_top.specs.Inside.{no_run, step_variable, cycle_variable, named_variable, NamesVariable};
+ghost use Rattle.hz_text.specs.Limits.{most_steps};
 
 use crate::replaying::RunRefusal;
 use hz_gmw::{CycleFault, StepFault};
@@ -17,7 +18,7 @@ use hz_write::{Piece, Writer, put_line};
 
 // All runs are accepted.
 pub(crate) fn put_yes<K: Sink>(out: &mut K, text: &RunText) -> Result<(), PutFault>
-    requires { total_steps text.now.runs ≤ 2000000 }
+    requires { total_steps text.now.runs ≤ most_steps }
     ensures { Wrote K.written K.faults (accepted_line text.now.runs) out.old out.new result }
 {
     put_counts(out, text.runs(), count_steps(text), count_cycles(text))
@@ -25,7 +26,7 @@ pub(crate) fn put_yes<K: Sink>(out: &mut K, text: &RunText) -> Result<(), PutFau
 
 // How many steps all runs have.
 fn count_steps(text: &RunText) -> usize
-    requires { total_steps text.now.runs ≤ 2000000 }
+    requires { total_steps text.now.runs ≤ most_steps }
     ensures { result ≡ total_steps text.now.runs }
 {
     let mut steps = 0;
@@ -38,7 +39,7 @@ fn count_steps(text: &RunText) -> usize
 // How many steps a run has, those of its cycle with them.
 fn steps_in(text: &RunText, number: usize) -> usize
     requires number { number < length text.now.runs }
-    requires few { total_steps text.now.runs ≤ 2000000 }
+    requires few { total_steps text.now.runs ≤ most_steps }
     ensures { result ≡ length (steps_of (slice_index_or text.now.runs number no_run)) }
 {
     let lead = text.lead(number).steps();

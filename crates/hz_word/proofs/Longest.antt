@@ -1,6 +1,7 @@
 -- The word of a kind over words: there is one, and it is the longest for parts of walks too.
 use Rattle.std.proofs.Common.{◌≡◌, ℕ, zero, suc, ◌≤◌, Bool, true, false, not, List, [], ◌∷◌, length, IsTrue, refl, sym, ap, ◌∙◌, arith}
-use Rattle.std.proofs.lemmas.Bool.{eqb-true, false≢true, true≢false}
+use Rattle.std.proofs.lemmas.Bool.{false≢true, true≢false}
+use Rattle.std.proofs.lemmas.Bool.Decides.{nat_tests}
 use Rattle.hz_core.specs.declared.kind.Kind.{Kind}
 use Rattle.hz_core.specs.declared.kind.Kind.TheVariants.{And, Nand, Or, Nor, Xor, Xnor, Not, Buff}
 use Rattle.hz_core.specs.Gate.{takes, Connective, conjunction, disjunction, parity, copy, connective, inverts, connective_value, complemented_if, gate_value, only_pin, odd_pins}
@@ -50,8 +51,8 @@ takes-HasPins Or pins takes = tt
 takes-HasPins Nor pins takes = tt
 takes-HasPins Xor pins takes = tt
 takes-HasPins Xnor pins takes = tt
-takes-HasPins Not pins takes = eqb-true pins 1 takes
-takes-HasPins Buff pins takes = eqb-true pins 1 takes
+takes-HasPins Not pins takes = grind (arith, nat_tests, takes)
+takes-HasPins Buff pins takes = grind (arith, nat_tests, takes)
 
 -- the most changes, by connective
 abbrev pub longest : Connective → List (List Bool) → ℕ

@@ -7,6 +7,10 @@ use Rattle.hz_word.specs.declared.word.Word.{Word}
 use Rattle.hz_word.specs.Word.{AreWords, first_letter, change_count}
 use Rattle.hz_word.specs.Walk.{IsWordOf}
 
+-- the greatest cap
+abbrev pub greatest_cap : ℕ
+greatest_cap = 1000000
+
 -- a number of changes under a cap
 abbrev pub capped_count : ℕ → ℕ → Count
 capped_count cap changes = if nat_le changes cap then Exact changes else Many

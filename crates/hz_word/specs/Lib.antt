@@ -10,6 +10,7 @@
 -- IsWalk words moves: moves that lead to all last letters
 -- walk_changes gate words moves: how often the gate value changes on the way
 -- IsWordOf kind words word: the word of a gate over the words of its pins: no walk has more changes, and one has as many
+-- greatest_cap: the greatest cap on numbers of changes
 -- capped_word cap word: the first letter, and the number of changes if it is at most the cap
 -- IsFold kind pins cap outcome: the capped word of a gate, for all words whose capped forms are the pins
 -- history_of values: the values of a variable, with equal neighbours reduced to one

@@ -1,6 +1,7 @@
 ghost use Rattle.std.specs.Prelude.{◌≡◌, ◌≤◌};
 ghost use Rattle.hz_word.specs.Capped.{capped_count, IsWithinCap};
 ghost use Rattle.hz_word.specs.Pairs.{sum_count};
+ghost use Rattle.hz_word.specs.Capped.{greatest_cap};
 
 /// How often a word changes: an exact number, or more often than the cap allows to count.
 #[derive(Clone, Copy, Debug, PartialEq, Eq)]
@@ -26,7 +27,7 @@ impl Count {
     pub(crate) fn plus(self, other: Count, cap: u64) -> Count
         requires counted { IsWithinCap cap self }
         requires counted_other { IsWithinCap cap other }
-        requires cap_high { cap ≤ 1000000 }
+        requires cap_high { cap ≤ greatest_cap }
         ensures value { result ≡ sum_count cap self other }
         ensures counted { IsWithinCap cap result }
     {

@@ -3,6 +3,7 @@ ghost use Rattle.std.specs.List.{fold, All};
 ghost use Rattle.hz_core.specs.Gate.{takes};
 ghost use Rattle.hz_word.specs.Capped.{IsWithinCap, IsFold};
 ghost use Rattle.hz_word.specs.Pairs.{controlled_count, controlled_pair, constant_word, is_constant, kind_word, parity_pair};
+ghost use Rattle.hz_word.specs.Capped.{greatest_cap};
 
 use crate::count::Count;
 use crate::word::{Word, last_after};
@@ -14,7 +15,7 @@ pub fn fold(kind: Kind, pins: &[Word], cap: u64) -> Word
     requires pins { IsTrue (takes kind (length pins.now)) }
     requires counted { All (λ pin. IsWithinCap cap pin.changes) pins.now }
     requires cap_low { 1 ≤ cap }
-    requires cap_high { cap ≤ 1000000 }
+    requires cap_high { cap ≤ greatest_cap }
     ensures { IsFold kind pins.now cap result }
 {
     pin_by_pin(kind, pins, cap)
@@ -24,7 +25,7 @@ pub fn fold(kind: Kind, pins: &[Word], cap: u64) -> Word
 fn pin_by_pin(kind: Kind, pins: &[Word], cap: u64) -> Word
     requires pins { IsTrue (takes kind (length pins.now)) }
     requires counted { All (λ pin. IsWithinCap cap pin.changes) pins.now }
-    requires cap_high { cap ≤ 1000000 }
+    requires cap_high { cap ≤ greatest_cap }
     ensures { result ≡ kind_word kind cap pins.now }
 {
     match kind {
@@ -42,7 +43,7 @@ fn pin_by_pin(kind: Kind, pins: &[Word], cap: u64) -> Word
 // A gate with a controlling letter, which alone gives the gate its value: 0 for AND, 1 for OR.
 fn controlled(controlling: bool, pins: &[Word], cap: u64) -> Word
     requires counted { All (λ pin. IsWithinCap cap pin.changes) pins.now }
-    requires cap_high { cap ≤ 1000000 }
+    requires cap_high { cap ≤ greatest_cap }
     ensures { result ≡ fold (controlled_pair controlling cap) (constant_word (not controlling)) pins.now }
 {
     let mut so_far = Word::constant(!controlling);
@@ -55,7 +56,7 @@ fn controlled(controlling: bool, pins: &[Word], cap: u64) -> Word
 // The parity of the pins.
 fn parity(pins: &[Word], cap: u64) -> Word
     requires counted { All (λ pin. IsWithinCap cap pin.changes) pins.now }
-    requires cap_high { cap ≤ 1000000 }
+    requires cap_high { cap ≤ greatest_cap }
     ensures { result ≡ fold (parity_pair cap) (constant_word false) pins.now }
 {
     let mut so_far = Word::constant(false);
@@ -69,7 +70,7 @@ fn parity(pins: &[Word], cap: u64) -> Word
 fn controlled_pair(left: Word, right: Word, controlling: bool, cap: u64) -> Word
     requires counted_left { IsWithinCap cap left.changes }
     requires counted_right { IsWithinCap cap right.changes }
-    requires cap_high { cap ≤ 1000000 }
+    requires cap_high { cap ≤ greatest_cap }
     ensures value { result ≡ controlled_pair controlling cap left right }
     ensures counted { IsWithinCap cap result.changes }
 {
@@ -93,7 +94,7 @@ fn controlled_pair(left: Word, right: Word, controlling: bool, cap: u64) -> Word
 fn controlled_count(left: Word, right: Word, controlling: bool, cap: u64) -> Count
     requires counted_left { IsWithinCap cap left.changes }
     requires counted_right { IsWithinCap cap right.changes }
-    requires cap_high { cap ≤ 1000000 }
+    requires cap_high { cap ≤ greatest_cap }
     requires free_left { is_constant controlling left ≡ false }
     requires free_right { is_constant controlling right ≡ false }
     ensures value { result ≡ controlled_count controlling cap left.first right.first left.changes right.changes }
@@ -118,7 +119,7 @@ fn controlled_count(left: Word, right: Word, controlling: bool, cap: u64) -> Cou
 fn parity_pair(left: Word, right: Word, cap: u64) -> Word
     requires counted_left { IsWithinCap cap left.changes }
     requires counted_right { IsWithinCap cap right.changes }
-    requires cap_high { cap ≤ 1000000 }
+    requires cap_high { cap ≤ greatest_cap }
     ensures value { result ≡ parity_pair cap left right }
     ensures counted { IsWithinCap cap result.changes }
 {

@@ -5,6 +5,8 @@ use Rattle.std.specs.Str.Parse.{digits_value, without_leading_plus}
 use Rattle.clap.specs.ValueTests.{is_unsigned_in}
 use Rattle.hz_report.specs.declared.show.Show.{Show}
 use Rattle.hz_report.specs.declared.show.Show.TheVariants.{Nodes, All}
+use Rattle.hz_word.specs.Capped.{greatest_cap}
+use Rattle.hz_gen.specs.Demo.{most_demo_number}
 
 -- a number of 1 to a greatest one, as `clap` reads numbers, in decimal digits that a `+` may precede
 abbrev pub number_up_to : ℕ → List ℕ → Option ℕ
@@ -13,11 +15,11 @@ number_up_to most text =
 
 -- a cap
 abbrev pub cap_of : List ℕ → Option ℕ
-cap_of text = number_up_to 1000000 text
+cap_of text = number_up_to greatest_cap text
 
 -- a number is a cap
 abbrev pub IsCap : ℕ → Type 0
-IsCap cap = (1 ≤ cap) × (cap ≤ 1000000)
+IsCap cap = (1 ≤ cap) × (cap ≤ greatest_cap)
 
 -- whether the first byte is a digit other than 0
 abbrev pub begins_with_digit : List ℕ → Bool
@@ -26,7 +28,7 @@ begins_with_digit (byte ∷ bytes) = nat_le 49 byte && nat_le byte 57
 
 -- the number of a generated circuit: digits of which the first is not 0
 abbrev pub demo_of : List ℕ → Option ℕ
-demo_of text = if begins_with_digit text then number_up_to 18000 text else None
+demo_of text = if begins_with_digit text then number_up_to most_demo_number text else None
 
 -- which variables have a line
 abbrev pub show_of : List ℕ → Option Show

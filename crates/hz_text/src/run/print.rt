@@ -11,6 +11,7 @@ ghost use Rattle.hz_text.specs.RunFault.{IsRunFaultless};
 ghost use Rattle.hz_text.specs.RunPrinted.{spaced_word, variable_word, step_text, cycle_text, run_text, net_line, version_text, states_text, run_text_printed};
 ghost use Rattle.hz_text.specs.RunText.{IsRunTextFor, IsRunValue};
 ghost use Rattle.hz_text.specs.RunValue.{all_steps, cycle_steps};
+ghost use Rattle.hz_core.specs.Limits.{most_gate_pins};
 
 use crate::printing::write_bits;
 use crate::run::size::{Size, size_of};
@@ -191,7 +192,7 @@ pub fn write_variable<K: Sink>(writer: &mut Writer<'_, K>, net: &Net, var: u32)
 // Gives the word of the wire into a pin of a gate. The pin is counted from 0.
 fn write_wire<K: Sink>(writer: &mut Writer<'_, K>, circuit: &Circuit, gate: u32, pin: u32)
     requires gate { gate < length circuit.now.names }
-    requires pin { pin < 256 }
+    requires pin { pin < most_gate_pins }
     ensures { Writes K.written K.faults
         (node_name circuit.now.names gate ++ 40 ∷ decimal (pin + 1) ++ 41 ∷ []) writer.old writer.new }
 {
@@ -201,7 +202,7 @@ fn write_wire<K: Sink>(writer: &mut Writer<'_, K>, circuit: &Circuit, gate: u32,
 
 // Gives the number of a pin, which is counted from 0, in parentheses. Most gates have few pins.
 fn write_pin<K: Sink>(writer: &mut Writer<'_, K>, pin: u32)
-    requires { pin < 256 }
+    requires { pin < most_gate_pins }
     ensures { Writes K.written K.faults (40 ∷ decimal (pin + 1) ++ 41 ∷ []) writer.old writer.new }
 {
     match pin {

@@ -4,6 +4,7 @@ ghost use Rattle.std.specs.Prelude.{◌≡◌, ◌≤◌, ◌⊎◌, length, Non
 ghost use Rattle.hz_text.specs.RunFault.{IsLeastRunFault, IsRunFaultless, IsRunRefusal};
 ghost use Rattle.hz_text.specs.RunRules.{IsAcceptedRunText};
 ghost use Rattle.hz_text.specs.RunText.{IsRunValue, IsRunTextFor};
+ghost use Rattle.hz_line.specs.Line.{most_text_bytes};
 
 use crate::fault::TextFault;
 use crate::run::build::build_runs;
@@ -22,7 +23,7 @@ use std::alloc::Global;
 ///
 /// It takes time linear in the text and the circuit, if the names are not chosen to collide.
 pub fn read_run(alloc: Global, net: &Net, text: &[u8]) -> Result<RunText, TextFault>
-    requires { length text.now ≤ 16777216 }
+    requires { length text.now ≤ most_text_bytes }
     ensures value { IfOk result (IsRunValue net.now text.now) }
     ensures usable { IfOk result (IsRunTextFor net.now) }
     ensures faultless { OnOk result (IsRunFaultless net.now text.now) }
@@ -43,7 +44,7 @@ fn read_accepted_runs<'a>(
     net: &Net,
     text: &[u8],
 ) -> Result<Vec<RunEntry<'a>>, TextFault>
-    requires { length text.now ≤ 16777216 }
+    requires { length text.now ≤ most_text_bytes }
     ensures { MatchResult result
         (λ entries. IsAcceptedRunText net.now text.now entries.items)
         (λ fault. IsRunRefusal net.now text.now fault) }

@@ -12,11 +12,9 @@ ghost use Rattle.hz_text.specs.VariablesRead.{IsPinAfter, IsFirstVariable};
 
 use crate::run::number::{is_decimal, number_within};
 use bumpalo::Bump;
+use hz_core::MAX_PINS;
 use hz_line::{Punctuation, StatementFault, Token};
 use hz_net::Net;
-
-// The most pins of a gate.
-const MAX_PIN: u32 = 256;
 
 // What stands after a name: no pin, what is none, or a pin with this number.
 #[derive(Clone, Copy)]
@@ -128,7 +126,7 @@ fn wire_into(net: &Net, node: Option<u32>, digits: &[u8]) -> Option<u32>
     if node < net.circuit().inputs() {
         return None;
     }
-    let pin = number_within(digits, MAX_PIN)?;
+    let pin = number_within(digits, MAX_PINS as u32)?;
     let (first, pins) = net.wires_in(node);
     if 1 <= pin && pin <= pins {
         Some(first + (pin - 1))

@@ -5,6 +5,7 @@ ghost use Rattle.hz_text.specs.Assignment.{assignment_to};
 ghost use Rattle.hz_text.specs.Resolution.{resolution_of, numbered_resolutions};
 ghost use Rattle.hz_text.specs.ScriptReading.{IsSound};
 ghost use Rattle.hz_text.specs.ScriptText.{IsScriptOf};
+ghost use Rattle.hz_text.specs.Limits.{most_changes};
 
 use crate::bits::{bits_of, read_pairs};
 use crate::script::Script;
@@ -36,7 +37,7 @@ fn add_changes(
     pairs: &mut Vec<(u32, bool)>,
 ) -> Result<(), Memory>
     requires none { script.old.changes ≡ [] }
-    requires few { length entries.now ≤ 10000 }
+    requires few { length entries.now ≤ most_changes }
     requires sound { All (λ entry. IsSound (length script.old.start) (resolution_of entry.held)) entries.now }
     ensures start { OnOk result (script.new.start ≡ script.old.start) }
     ensures changes { OnOk result

@@ -4,6 +4,7 @@ ghost use Rattle.std.specs.Prelude.{◌≡◌, ◌≤◌, ◌⊎◌, length, IfO
 ghost use Rattle.hz_text.specs.ScriptFault.{IsLeastScriptFault, IsScriptFaultless, IsScriptRefusal};
 ghost use Rattle.hz_text.specs.ScriptReading.{IsAcceptedScript};
 ghost use Rattle.hz_text.specs.ScriptText.{IsValue, IsScriptFor};
+ghost use Rattle.hz_line.specs.Line.{most_text_bytes};
 
 use crate::fault::TextFault;
 use crate::script::Script;
@@ -18,7 +19,7 @@ use std::alloc::Global;
 ///
 /// It takes time linear in the text and the circuit, if the names are not chosen to collide.
 pub fn read_script(alloc: Global, circuit: &Circuit, text: &[u8]) -> Result<Script, TextFault>
-    requires { length text.now ≤ 16777216 }
+    requires { length text.now ≤ most_text_bytes }
     ensures value { IfOk result (IsValue circuit.now text.now) }
     ensures usable { IfOk result (IsScriptFor circuit.now) }
     ensures faultless { OnOk result (IsScriptFaultless circuit.now text.now) }
@@ -33,7 +34,7 @@ pub fn read_script(alloc: Global, circuit: &Circuit, text: &[u8]) -> Result<Scri
 
 // The statements of a text in which no fault stands.
 fn read_accepted(alloc: Global, circuit: &Circuit, text: &[u8]) -> Result<Vec<Entry>, TextFault>
-    requires { length text.now ≤ 16777216 }
+    requires { length text.now ≤ most_text_bytes }
     ensures { MatchResult result
         (λ entries. IsAcceptedScript circuit.now text.now entries.items)
         (λ fault. IsScriptRefusal circuit.now text.now fault) }

@@ -5,11 +5,12 @@ use Rattle.hz_pass.specs.Frontier.{IsRound}
 use Rattle.hz_pass.proofs.PassLoop.{PassSoFar}
 use Rattle.hz_pass.proofs.StepCounts.{StepsSoFar}
 use Rattle.hz_pass.proofs.rounds.make_rounds.Given as goal
+use Rattle.hz_core.specs.Limits.{most_variables}
 
 -- each round before the last one changed something, what was found is noted, and what the last one changed is listed
 abbrev pub invariant-loop-rule : goal.invariant-loop-rule
 invariant-loop-rule g l =
-    (1 ≤ l.rounds) × (length (network_of l.net) ≤ 200000)
+    (1 ≤ l.rounds) × (length (network_of l.net) ≤ most_variables)
     × PassSoFar l.rule (network_of l.net) l.input l.fn.state (l.rounds - 1) l.state l.noted
     × IsRound l.rule (network_of l.net) l.input l.state l.work l.front-inside.changed.items
     × StepsSoFar l.rule l.net l.first l.fn.steps l.steps l.work l.front-inside.changed.items

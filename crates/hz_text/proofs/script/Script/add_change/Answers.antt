@@ -6,6 +6,7 @@ use Rattle.hz_net.proofs.PartLemmas.{EndsAt-push}
 use Rattle.hz_text.proofs.PartLemmas.{parts-grown}
 use Rattle.hz_text.proofs.ScriptLemmas.{IsScript-add}
 use Rattle.hz_text.proofs.script.Script.add_change.Goals as goal
+use Rattle.hz_text.specs.Limits.{most_changes}
 
 pub invariant_of-self-2 : goal.invariant_of-self-2
 invariant_of-self-2 c =
@@ -16,7 +17,7 @@ invariant_of-self-2 c =
     let ends : c.push_reserved.new.self.items ≡ inside.ends.items ++ length c.extend_from_slice.new.self.items ∷ [] = rw (← long, ← c.reserve.ensures.items) c.push_reserved.ensures.items in
     let grown = parts-grown inside.ends.items c.push_reserved.new.self.items inside.assignments.items c.extend_from_slice.new.self.items change items ends c.self.invariant.ends in
     let fits : IsChange (length inside.start.items) change = rw (← c.self.view_is) at c.requires.change in
-    let few : length (parts_from 0 inside.ends.items inside.assignments.items) < 10000 = rw (← c.self.view_is) at c.requires.few in
+    let few : length (parts_from 0 inside.ends.items inside.assignments.items) < most_changes = rw (← c.self.view_is) at c.requires.few in
     record {
       ends = rw ends (EndsAt-push 0 inside.ends.items (length inside.assignments.items) _ c.self.invariant.ends (omega (arith, ap length items, length-append inside.assignments.items change)));
       script = rw grown (IsScript-add (script_of inside) change c.self.invariant.script fits few);

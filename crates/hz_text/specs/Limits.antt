@@ -1,0 +1,10 @@
+-- The limits of scripts and run texts.
+use Rattle.std.specs.Prelude.{ℕ}
+
+-- the most changes of a script
+abbrev pub most_changes : ℕ
+most_changes = 10000
+
+-- the most steps of a run text, and the most variables that its steps name
+abbrev pub most_steps : ℕ
+most_steps = 2000000
