@@ -12,8 +12,8 @@ use Rattle.hz_net.specs.Passes.{excitations, algorithm_a, algorithm_b, IsUnknown
 use Rattle.hz_net.proofs.Ranks.{at-tri_of}
 use Rattle.hz_net.proofs.Sequences.{length-algorithm_a, AllBelow-closed, closed-result, AllBelow-algorithm_b}
 use Rattle.hz_reach.specs.Order.{key_at}
-use Rattle.hz_cycle.specs.Pass.{IsFixed}
-use Rattle.hz_cycle.specs.Cycles.{AreOfChange}
+use Rattle.hz_cycle.specs.Pass.{IsFixed, AreFixedAndRanked}
+use Rattle.hz_cycle.specs.Cycles.{AreOfChange, AreResultsOfBoth}
 use Rattle.hz_cycle.proofs.SettledVariables.{fixed-result}
 
 -- a value above X is X
@@ -79,5 +79,13 @@ module _ {net : List Driver} {input start : List Bool} {a b : List Tri} {ranks :
   pub ranks-long : length ranks ≡ length net
   ranks-long = change.ranked.long ∙ a-long
 
+  pub fixed-and-ranked : AreFixedAndRanked net ranks b
+  fixed-and-ranked = record { input = input; fixed = change-fixed; long = ranks-long; ranked = unsettled-ranked }
+
 pub of-change : {netlist : Netlist} {input : List Bool} {ranks : List ℕ} {b : List Tri} (change : AreOfChange netlist input ranks b) → IsChange (network_of netlist) input change.start change.a ranks b
-of-change change = record { long = change.begins.long; a_result = change.a_result; ranked = change.ranked; b_result = change.b_result }
+of-change change = record { long = change.of_a.begins.long; a_result = change.of_a.a_result; ranked = change.of_a.ranked; b_result = change.b_result }
+
+pub of-both :
+    {netlist : Netlist} {input start : List Bool} {a b : List Tri} {ranks when : List ℕ} (change : AreResultsOfBoth netlist input start a ranks when b) →
+    IsChange (network_of netlist) input start a ranks b
+of-both change = record { long = change.of_a.begins.long; a_result = change.of_a.a_result; ranked = change.of_a.ranked; b_result = change.b_result }

@@ -77,13 +77,13 @@ module _ {netlist : Netlist} {ranks : List ℕ} {b : List Tri} {begun : List Boo
     now-long = length-part scratch.state (first_wire netlist gate) pins (λ pin few. omega (arith, few, bound, passing-long passing))
 
     values-long : length (at_wires netlist gate b) ≡ pins
-    values-long = length-part b (first_wire netlist gate) pins (λ pin few. omega (arith, few, bound, passing.asked.fixed.1.long))
+    values-long = length-part b (first_wire netlist gate) pins (λ pin few. omega (arith, few, bound, passing.asked.given.fixed.long))
 
     -- what the gate's pins may hold, for either bit
     possible : (want : Bool) → (list : List Bool) × IsCandidate (gate_at netlist gate).kind (at_wires netlist gate scratch.state) (map is_unknown (at_wires netlist gate b)) want list
     possible want =
-        gate-possible passing.asked.fixed.1 scratch.state gate (gate_at netlist gate).kind (first_wire netlist gate) pins want
-        (passing.underway passing.asked.fixed.0 passing.asked.fixed.1).inside.settled
+        gate-possible passing.asked.given.fixed scratch.state gate (gate_at netlist gate).kind (first_wire netlist gate) pins want
+        (passing.underway passing.asked.given.input passing.asked.given.fixed).inside.settled
         (driver_at-gate netlist gate passing.asked.circuit is_gate) unknown (λ pin few. omega (arith, few, bound))
 
     -- so it has pins
@@ -175,9 +175,7 @@ pass-found {netlist} {input} {ranks} {b} {begun} circuit fixed long ranked chang
     let first : RunRecord = record { steps = []; spare_flips = 2 * variables; spare_steps = 2 * variables } in
     let asked : IsPassAsked netlist ranks b begun first = record {
       circuit = circuit;
-      fixed = (input, fixed);
-      long = long;
-      ranked = ranked;
+      given = record { input = input; fixed = fixed; long = long; ranked = ranked };
       begins = begins;
       room = room-twice (network_of netlist) ranks b begun first (omega arith) (omega arith);
     } in

@@ -19,7 +19,7 @@ use Rattle.hz_net.proofs.Places.{driver_at-gate}
 use Rattle.hz_gmw.specs.Runs.{is_listed, state_after}
 use Rattle.hz_gmw.specs.RunRecord.{RunRecord, flip_count}
 use Rattle.hz_reach.specs.Counts.{FlipsAreChanges, StepsAreNoMoreThanFlips}
-use Rattle.hz_reach.specs.Order.{key_at, IsEarlier, IsInKeyOrder}
+use Rattle.hz_reach.specs.Order.{IsEarlier, IsInKeyOrder}
 use Rattle.hz_reach.specs.Room.{with_step_if_any, Spends}
 use Rattle.hz_reach.specs.ScratchState.{ScratchState}
 use Rattle.hz_net.specs.Reads.{IsWired}
@@ -29,7 +29,7 @@ use Rattle.hz_reach.proofs.FilteredRangeLemmas.{only-one, is-one}
 use Rattle.hz_reach.proofs.ListPlaces.{listed-at, listed-place}
 use Rattle.hz_net.proofs.Wired.{is_gate_of, wired-network_of}
 use Rattle.hz_cycle.specs.Marks.{ArePatternWires, with_fan_out}
-use Rattle.hz_cycle.specs.Pass.{IsFixed, MayBegin, HasRoom, IsPassMade}
+use Rattle.hz_cycle.specs.Pass.{IsFixed, AreFixedAndRanked, MayBegin, HasRoom, IsPassMade}
 use Rattle.hz_cycle.proofs.SettledVariables.{gate-possible}
 use Rattle.hz_cycle.proofs.KeyOrder.{not-earlier, not-both}
 use Rattle.hz_cycle.proofs.FanOut.{marks-with-fan_out}
@@ -48,9 +48,7 @@ had_before place list i = is_listed (take place list) i
 -- what a call of `make_pass` is given
 pub record IsPassAsked (netlist : Netlist) (ranks : List ℕ) (b : List Tri) (begun : List Bool) (first : RunRecord) : Type 0 where
   pub circuit : IsCircuit netlist
-  pub fixed : (input : List Bool) × IsFixed (network_of netlist) input b
-  pub long : length ranks ≡ length (network_of netlist)
-  pub ranked : (i : ℕ) → IsUnknown (value_at b i) → key_at ranks i ≢ 0
+  pub given : AreFixedAndRanked (network_of netlist) ranks b
   pub begins : MayBegin (network_of netlist) ranks b begun
   pub room : HasRoom (network_of netlist) ranks b begun first
 
@@ -115,7 +113,7 @@ module _ {netlist : Netlist} {ranks : List ℕ} {b : List Tri} {begun : List Boo
 
   earlier-before : (i : ℕ) → IsUnknown (value_at b i) → IsEarlier ranks i var → had_before place scratch.sorted i ≡ true
   earlier-before i unknown earlier =
-      let at = listed-place scratch.sorted i ((passing.sorted.keyed i).1 (passing.asked.ranked i unknown)) in
+      let at = listed-place scratch.sorted i ((passing.sorted.keyed i).1 (passing.asked.given.ranked i unknown)) in
       elim (cases_order at.0 place) [
         | inl here ↦ absurd (not-earlier ranks i (subst (IsEarlier ranks i) (ap (λ (n : ℕ). get_or scratch.sorted n 0) (sym here) ∙ at.2) earlier))
         | inr (inl before) ↦
@@ -178,13 +176,13 @@ module _ {netlist : Netlist} {ranks : List ℕ} {b : List Tri} {begun : List Boo
       only = before-earlier;
     }
 
-    under : IsUnderway (network_of netlist) passing.asked.fixed.0 ranks b begun (had_before place scratch.sorted) passing.made scratch.state
-    under = passing.underway passing.asked.fixed.0 passing.asked.fixed.1
+    under : IsUnderway (network_of netlist) passing.asked.given.input ranks b begun (had_before place scratch.sorted) passing.made scratch.state
+    under = passing.underway passing.asked.given.input passing.asked.given.fixed
 
     pub turn-possible : (list : List Bool) × IsCandidate (gate_at netlist (get_or scratch.sorted place 0)).kind (at_wires netlist (get_or scratch.sorted place 0) scratch.state) (map is_unknown (at_wires netlist (get_or scratch.sorted place 0) b)) (not (bit_at scratch.state (get_or scratch.sorted place 0))) list
     turn-possible =
-        gate-possible passing.asked.fixed.1 scratch.state var kind start pins (not (bit_at scratch.state var)) under.inside.settled next.drives unknown
-        (pin-inside wired passing.asked.fixed.1 under.inside next)
+        gate-possible passing.asked.given.fixed scratch.state var kind start pins (not (bit_at scratch.state var)) under.inside.settled next.drives unknown
+        (pin-inside wired passing.asked.given.fixed under.inside next)
 
     module _ {wires : List ℕ} (marks : ArePatternWires netlist b scratch.state (get_or scratch.sorted place 0) wires) where
       same-wires : wires ≡ turn_wires scratch.state start pins marks.pattern
@@ -208,18 +206,18 @@ module _ {netlist : Netlist} {ranks : List ℕ} {b : List Tri} {begun : List Boo
       -- the flips of the turn fit into the room
       turn-flips : FlipsAreChanges → flip_count made_after ≤ sum_by passing.asked.room.most (range_with_len 0 (length net))
       turn-flips changes =
-          let turned = underway-turn passing.asked.fixed.0 passing.asked.fixed.1 in
+          let turned = underway-turn passing.asked.given.input passing.asked.given.fixed in
           omega (
             arith,
-            changes net passing.asked.fixed.0 begun made_after turned.run,
+            changes net passing.asked.given.input begun made_after turned.run,
             sum_by-le-sum_by (changes_in made_after) passing.asked.room.most (range_with_len 0 (length net))
-                (underway-few wired passing.asked.fixed.1 (goes-somewhere netlist passing.asked.circuit) turned passing.asked.room.most passing.asked.room.enough),
+                (underway-few wired passing.asked.given.fixed (goes-somewhere netlist passing.asked.circuit) turned passing.asked.room.most passing.asked.room.enough),
           )
 
       turn-steps : FlipsAreChanges → StepsAreNoMoreThanFlips → length made_after ≤ sum_by passing.asked.room.most (range_with_len 0 (length net))
       turn-steps changes fewer =
-          let turned = underway-turn passing.asked.fixed.0 passing.asked.fixed.1 in
-          omega (arith, fewer net passing.asked.fixed.0 begun made_after turned.run, turn-flips changes)
+          let turned = underway-turn passing.asked.given.input passing.asked.given.fixed in
+          omega (arith, fewer net passing.asked.given.input begun made_after turned.run, turn-flips changes)
 
       flips-so-far : flip_count now.steps ≡ flip_count first.steps + flip_count passing.made
       flips-so-far = ap flip_count passing.steps ∙ flips-append first.steps passing.made
@@ -344,7 +342,7 @@ passing-end {netlist} {ranks} {b} {begun} {first} {place} {scratch} {now} passin
   whole = passing.steps;
   pass = λ input fixed. underway-pass (wired-network_of netlist passing.asked.circuit) fixed (goes-somewhere netlist passing.asked.circuit) (passing.underway input fixed)
       (λ gate kind start pins drives unsettled.
-      ap (λ (part : List ℕ). is_listed part gate) (take_all place scratch.sorted end) ∙ (passing.sorted.keyed gate).1 (passing.asked.ranked gate unsettled));
+      ap (λ (part : List ℕ). is_listed part gate) (take_all place scratch.sorted end) ∙ (passing.sorted.keyed gate).1 (passing.asked.given.ranked gate unsettled));
 }
 
 -- What a variable of the order is
@@ -363,4 +361,4 @@ driven-gate netlist gate kind start pins circuit drives = (is_gate_of netlist ci
 -- a state has a bit for each variable
 pub passing-long : {netlist : Netlist} {ranks : List ℕ} {b : List Tri} {begun : List Bool} {first : RunRecord} {place : ℕ} {scratch : ScratchState} {now : RunRecord} → IsPassing netlist ranks b begun first place scratch now → length scratch.state ≡ length (network_of netlist)
 passing-long {netlist} {ranks} {b} {begun} {first} {place} {scratch} passing =
-    length-Refines scratch.state b (passing.underway passing.asked.fixed.0 passing.asked.fixed.1).inside.settled ∙ passing.asked.fixed.1.long
+    length-Refines scratch.state b (passing.underway passing.asked.given.input passing.asked.given.fixed).inside.settled ∙ passing.asked.given.fixed.long

@@ -4,19 +4,23 @@ use Rattle.hz_core.specs.declared.tri.Tri.{Tri}
 use Rattle.hz_core.specs.Ternary.{unknown_count, Refines}
 use Rattle.hz_core.specs.Netlist.{Netlist}
 use Rattle.hz_net.specs.Network.{Driver, network_of, bit_at, value_at, excitation}
-use Rattle.hz_net.specs.Passes.{algorithm_a, algorithm_b, IsKnown, IsUnknown, IsResult, AreRanks}
-use Rattle.hz_net.specs.Starts.{IsStableStart}
+use Rattle.hz_net.specs.Passes.{algorithm_b, IsKnown, IsUnknown, IsResult, AreSettlingRounds}
 use Rattle.hz_gmw.specs.Runs.{IsRun, end_of}
 use Rattle.hz_gmw.specs.RunRecord.{flip_count}
 use Rattle.hz_gmw.specs.Cycles.{states_of, IsNontransient}
+use Rattle.hz_reach.specs.Given.{AreResultsOfA}
+
+-- What both algorithms give for a change: their results, the ranks and the settling rounds.
+pub record AreResultsOfBoth (netlist : Netlist) (input start : List Bool) (a : List Tri) (ranks when : List ℕ) (b : List Tri) : Type 0 where
+  pub of_a : AreResultsOfA netlist input start a ranks
+  pub b_result : IsResult (algorithm_b (network_of netlist) input a) b
+  pub settling : AreSettlingRounds (algorithm_b (network_of netlist) input a) a b when
 
 -- The result of Algorithm B and the ranks of Algorithm A are those of some change: of a stable start under this input.
 pub record AreOfChange (netlist : Netlist) (input : List Bool) (ranks : List ℕ) (b : List Tri) : Type 0 where
   pub start : List Bool
   pub a : List Tri
-  pub begins : IsStableStart netlist start
-  pub a_result : IsResult (algorithm_a (network_of netlist) input start) a
-  pub ranked : AreRanks (algorithm_a (network_of netlist) input start) a ranks
+  pub of_a : AreResultsOfA netlist input start a ranks
   pub b_result : IsResult (algorithm_b (network_of netlist) input a) b
 
 -- The settle run: a run from the start in whose last state each variable that is not X in the result of Algorithm B has

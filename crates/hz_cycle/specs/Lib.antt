@@ -1,11 +1,13 @@
 -- Words, with their arguments, in the order in which one needs them. A variable is settled if it is not X in the result b of
 -- Algorithm B, else unsettled.
 --
+-- AreResultsOfBoth netlist input start a ranks when b: a change, and what both algorithms give for it
 -- AreOfChange netlist input ranks b: the result of Algorithm B and the ranks of Algorithm A are those of a change
 -- IsTurned net ranks b state: a turned state: a pass may begin there and end there
 -- IsSettleRun net input start a b steps: a run to a turned state
 -- IsCycleOf net input b state steps: a nontransient cycle in which each unsettled variable takes both values
 -- IsPass net input ranks b start steps state: a pass: each unsettled gate has a turn
+-- AreFixedAndRanked net ranks b: what a pass is given of a change
 -- MayBegin net ranks b state: a pass may begin in this state
 -- AreEnough net ranks b state most, HasRoom net ranks b state run: a run has the room for a pass
 -- ArePatternWires netlist a state gate wires: the wires that change first in a gate's turn

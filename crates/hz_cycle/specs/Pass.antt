@@ -10,7 +10,7 @@ use Rattle.hz_net.specs.Passes.{IsKnown, IsUnknown}
 use Rattle.hz_gmw.specs.Runs.{IsRun, end_of}
 use Rattle.hz_gmw.specs.RunRecord.{RunRecord}
 use Rattle.hz_gmw.specs.Cycles.{states_of}
-use Rattle.hz_reach.specs.Order.{IsEarlier}
+use Rattle.hz_reach.specs.Order.{key_at, IsEarlier}
 use Rattle.hz_net.specs.Reads.{IsWireInto}
 use Rattle.hz_reach.specs.Spread.{changes_in}
 use Rattle.hz_cycle.specs.Turned.{IsTurned}
@@ -19,6 +19,14 @@ use Rattle.hz_cycle.specs.Turned.{IsTurned}
 pub record IsFixed (net : List Driver) (input : List Bool) (b : List Tri) : Type 0 where
   pub long : length b ≡ length net
   pub same : (i : ℕ) → i < length net → value_at b i ≡ driver_value3 input b (driver_at net i)
+
+-- What a pass is given of a change: values that one round of Algorithm B leaves as they are, under some input, and ranks of
+-- which none is 0 where the value is X.
+pub record AreFixedAndRanked (net : List Driver) (ranks : List ℕ) (b : List Tri) : Type 0 where
+  pub input : List Bool
+  pub fixed : IsFixed net input b
+  pub long : length ranks ≡ length net
+  pub ranked : (i : ℕ) → IsUnknown (value_at b i) → key_at ranks i ≢ 0
 
 -- A state in which a pass may begin: each settled variable has its value, and an unsettled wire into an unsettled gate
 -- differs from its source if the source is not earlier.

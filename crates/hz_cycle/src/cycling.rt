@@ -3,6 +3,7 @@ ghost use Rattle.std.specs.Prelude.{◌≡◌, ◌*◌, ◌≤◌, [], length};
 ghost use Rattle.hz_net.specs.Network.{network_of};
 ghost use Rattle.hz_reach.specs.Order.{IsInKeyOrder};
 ghost use Rattle.hz_reach.specs.Room.{Spends};
+ghost use Rattle.hz_reach.specs.Given.{IsEmptyRun};
 ghost use Rattle.hz_cycle.specs.Cycles.{AreOfChange, IsCycleOf};
 ghost use Rattle.hz_cycle.specs.Turned.{IsTurned};
 
@@ -25,13 +26,10 @@ pub fn cycle_run(
     scratch: &mut Scratch,
     run: &mut Run,
 )
-    requires input { length input.now ≡ net.now.inputs }
     requires change { AreOfChange net.now input.now rank.now b.now }
     requires turned { IsTurned (network_of net.now) rank.now b.now scratch.old.state }
     requires none_marked { scratch.old.marked ≡ [] }
-    requires empty { run.old.steps ≡ [] }
-    requires room_for_flips { 4 * length (network_of net.now) ≤ run.old.spare_flips }
-    requires room_for_steps { 4 * length (network_of net.now) ≤ run.old.spare_steps }
+    requires run { IsEmptyRun (4 * length (network_of net.now)) run.old }
     ensures cycle { IsCycleOf (network_of net.now) input.now b.now scratch.old.state run.new.steps }
     ensures state { scratch.new.state ≡ scratch.old.state }
     ensures marked { scratch.new.marked ≡ [] }
@@ -50,14 +48,11 @@ pub fn cycle_in_order(
     scratch: &mut Scratch,
     run: &mut Run,
 )
-    requires input { length input.now ≡ net.now.inputs }
     requires change { AreOfChange net.now input.now rank.now b.now }
     requires turned { IsTurned (network_of net.now) rank.now b.now scratch.old.state }
     requires none_marked { scratch.old.marked ≡ [] }
     requires sorted { IsInKeyOrder rank.now scratch.old.sorted }
-    requires empty { run.old.steps ≡ [] }
-    requires room_for_flips { 4 * length (network_of net.now) ≤ run.old.spare_flips }
-    requires room_for_steps { 4 * length (network_of net.now) ≤ run.old.spare_steps }
+    requires run { IsEmptyRun (4 * length (network_of net.now)) run.old }
     ensures cycle { IsCycleOf (network_of net.now) input.now b.now scratch.old.state run.new.steps }
     ensures state { scratch.new.state ≡ scratch.old.state }
     ensures marked { scratch.new.marked ≡ [] }

@@ -4,13 +4,13 @@ ghost use Rattle.hz_core.specs.Gate.{takes};
 ghost use Rattle.hz_core.specs.Ternary.{is_unknown};
 ghost use Rattle.hz_core.specs.Netlist.{IsCircuit, IsWhole, IsGateNumber, gate_at};
 ghost use Rattle.hz_core.specs.Pattern.{IsCandidate};
-ghost use Rattle.hz_net.specs.Network.{network_of, bit_at, value_at};
-ghost use Rattle.hz_net.specs.Passes.{IsUnknown};
+ghost use Rattle.hz_net.specs.Network.{network_of, bit_at};
 ghost use Rattle.hz_net.specs.Variables.{at_wires, first_wire};
-ghost use Rattle.hz_reach.specs.Order.{key_at, IsInKeyOrder};
+ghost use Rattle.hz_reach.specs.Order.{IsInKeyOrder};
 ghost use Rattle.hz_reach.specs.Room.{Spends};
+ghost use Rattle.hz_reach.specs.Given.{IsScratchFor};
 ghost use Rattle.hz_cycle.specs.Marks.{MarksPattern, ArePatternWires, with_fan_out};
-ghost use Rattle.hz_cycle.specs.Pass.{IsFixed, MayBegin, HasRoom, IsPassMade};
+ghost use Rattle.hz_cycle.specs.Pass.{AreFixedAndRanked, MayBegin, HasRoom, IsPassMade};
 ghost use Rattle.hz_core.specs.Limits.{most_variables};
 
 use hz_core::{Kind, MAX_PINS, Tri};
@@ -21,13 +21,9 @@ use hz_reach::{Scratch, mark_changed, run_counts};
 // Each unsettled gate has its turn, by rank and then by number: the wires change that set its pattern, and then the gate
 // together with the wires of its fan-out that differ from it. The variables are sorted by rank, and stay so.
 pub(crate) fn make_pass(net: &Net, rank: &[u32], b: &[Tri], scratch: &mut Scratch, run: &mut Run)
-    requires b { length b.now ≡ length (network_of net.now) }
-    requires fixed { (input : List Bool) × IsFixed (network_of net.now) input b.now }
-    requires rank { length rank.now ≡ length (network_of net.now) }
-    requires ranked { (i : ℕ) → IsUnknown (value_at b.now i) → key_at rank.now i ≢ 0 }
+    requires given { AreFixedAndRanked (network_of net.now) rank.now b.now }
     requires begins { MayBegin (network_of net.now) rank.now b.now scratch.old.state }
-    requires scratch { length scratch.old.state ≡ length (network_of net.now) }
-    requires none_marked { scratch.old.marked ≡ [] }
+    requires scratch { IsScratchFor net.now scratch.old }
     requires sorted { IsInKeyOrder rank.now scratch.old.sorted }
     requires room { HasRoom (network_of net.now) rank.now b.now scratch.old.state run.old }
     ensures pass { IsPassMade (network_of net.now) rank.now b.now scratch.old.state run.old.steps run.new.steps scratch.new.state }
@@ -68,8 +64,7 @@ fn mark_pattern(net: &Net, b: &[Tri], gate: u32, scratch: &mut Scratch)
     requires possible { (list : List Bool) × IsCandidate (gate_at net.now gate).kind
         (at_wires net.now gate scratch.old.state) (map is_unknown (at_wires net.now gate b.now))
         (not (bit_at scratch.old.state gate)) list }
-    requires scratch { length scratch.old.state ≡ length (network_of net.now) }
-    requires none_marked { scratch.old.marked ≡ [] }
+    requires scratch { IsScratchFor net.now scratch.old }
     ensures marked { ArePatternWires net.now b.now scratch.old.state gate scratch.new.marked }
     ensures state { scratch.new.state ≡ scratch.old.state }
     ensures sorted { scratch.new.sorted ≡ scratch.old.sorted }
@@ -124,8 +119,7 @@ fn list_unsettled(values: &[Tri], free: &mut [bool])
 fn mark_with_fan_out(net: &Net, gate: u32, scratch: &mut Scratch)
     requires circuit { IsCircuit net.now }
     requires gate { IsGateNumber net.now gate }
-    requires scratch { length scratch.old.state ≡ length (network_of net.now) }
-    requires none_marked { scratch.old.marked ≡ [] }
+    requires scratch { IsScratchFor net.now scratch.old }
     ensures marked { scratch.new.marked ≡ with_fan_out net.now scratch.old.state gate }
     ensures state { scratch.new.state ≡ scratch.old.state }
     ensures sorted { scratch.new.sorted ≡ scratch.old.sorted }

@@ -3,12 +3,11 @@ ghost use Rattle.std.specs.Prelude.{◌≡◌, ◌≢◌, ℕ, ◌+◌, ◌*◌,
 ghost use Rattle.std.specs.List.{slice_range};
 ghost use Rattle.hz_core.specs.declared.tri.Tri.{Tri};
 ghost use Rattle.hz_net.specs.Network.{Driver, network_of};
-ghost use Rattle.hz_net.specs.Passes.{algorithm_a, algorithm_b, IsResult, AreRanks, AreSettlingRounds};
-ghost use Rattle.hz_net.specs.Starts.{IsStableStart};
 ghost use Rattle.hz_gmw.specs.Runs.{end_of};
 ghost use Rattle.hz_reach.specs.Order.{IsInKeyOrder};
 ghost use Rattle.hz_reach.specs.Room.{Spends};
-ghost use Rattle.hz_cycle.specs.Cycles.{IsSettleRun};
+ghost use Rattle.hz_reach.specs.Given.{IsScratchFor, IsEmptyRun};
+ghost use Rattle.hz_cycle.specs.Cycles.{AreResultsOfBoth, IsSettleRun};
 ghost use Rattle.hz_cycle.specs.Rounds.{differing_variables, IsOneRound, AreRoundsOf, AreRoundsMade};
 ghost use Rattle.hz_cycle.specs.Turned.{IsTurned};
 
@@ -38,17 +37,9 @@ pub fn settle_run(
     scratch: &mut Scratch,
     run: &mut Run,
 )
-    requires start { IsStableStart net.now start.now }
-    requires input { length input.now ≡ net.now.inputs }
-    requires a { IsResult (algorithm_a (network_of net.now) input.now start.now) a.now }
-    requires rank { AreRanks (algorithm_a (network_of net.now) input.now start.now) a.now rank.now }
-    requires b { IsResult (algorithm_b (network_of net.now) input.now a.now) b.now }
-    requires when { AreSettlingRounds (algorithm_b (network_of net.now) input.now a.now) a.now b.now when.now }
-    requires scratch { length scratch.old.state ≡ length (network_of net.now) }
-    requires none_marked { scratch.old.marked ≡ [] }
-    requires empty { run.old.steps ≡ [] }
-    requires room_for_flips { 2 * length (network_of net.now) ≤ run.old.spare_flips }
-    requires room_for_steps { 2 * length (network_of net.now) ≤ run.old.spare_steps }
+    requires change { AreResultsOfBoth net.now input.now start.now a.now rank.now when.now b.now }
+    requires scratch { IsScratchFor net.now scratch.old }
+    requires run { IsEmptyRun (2 * length (network_of net.now)) run.old }
     ensures run { IsSettleRun (network_of net.now) input.now start.now a.now b.now run.new.steps }
     ensures turned { IsTurned (network_of net.now) rank.now b.now scratch.new.state }
     ensures state { scratch.new.state ≡ end_of start.now run.new.steps }
@@ -72,18 +63,10 @@ pub fn settle_in_order(
     scratch: &mut Scratch,
     run: &mut Run,
 )
-    requires start { IsStableStart net.now start.now }
-    requires input { length input.now ≡ net.now.inputs }
-    requires a { IsResult (algorithm_a (network_of net.now) input.now start.now) a.now }
-    requires rank { AreRanks (algorithm_a (network_of net.now) input.now start.now) a.now rank.now }
-    requires b { IsResult (algorithm_b (network_of net.now) input.now a.now) b.now }
-    requires when { AreSettlingRounds (algorithm_b (network_of net.now) input.now a.now) a.now b.now when.now }
-    requires scratch { length scratch.old.state ≡ length (network_of net.now) }
-    requires none_marked { scratch.old.marked ≡ [] }
+    requires change { AreResultsOfBoth net.now input.now start.now a.now rank.now when.now b.now }
+    requires scratch { IsScratchFor net.now scratch.old }
     requires sorted { IsInKeyOrder rank.now scratch.old.sorted }
-    requires empty { run.old.steps ≡ [] }
-    requires room_for_flips { 2 * length (network_of net.now) ≤ run.old.spare_flips }
-    requires room_for_steps { 2 * length (network_of net.now) ≤ run.old.spare_steps }
+    requires run { IsEmptyRun (2 * length (network_of net.now)) run.old }
     ensures run { IsSettleRun (network_of net.now) input.now start.now a.now b.now run.new.steps }
     ensures turned { IsTurned (network_of net.now) rank.now b.now scratch.new.state }
     ensures state { scratch.new.state ≡ end_of start.now run.new.steps }

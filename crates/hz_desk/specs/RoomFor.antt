@@ -3,8 +3,8 @@ use Rattle.std.specs.Prelude.{◌≡◌, length}
 use Rattle.hz_core.specs.Netlist.{Netlist}
 use Rattle.hz_net.specs.Network.{network_of}
 use Rattle.hz_free.specs.FreePart.{IsFreePart}
+use Rattle.hz_reach.specs.Given.{IsScratchFor}
 use Rattle.hz_desk.specs.ResultsOfPasses.{HavePassRoom}
-use Rattle.hz_desk.specs.Room.{IsScratchFor}
 use Rattle.hz_desk.specs.FindingRoom.{HasRooms}
 use Rattle.hz_desk.specs.declared.room.Room.{Room}
 

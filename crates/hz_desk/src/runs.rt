@@ -1,14 +1,14 @@
 //! The three runs of a change.
 ghost use Rattle.std.specs.Prelude.{◌≡◌, ◌*◌, ◌≤◌, [], length};
 ghost use Rattle.hz_net.specs.Network.{network_of};
-ghost use Rattle.hz_net.specs.Passes.{algorithm_a, IsResult, AreRanks};
 ghost use Rattle.hz_net.specs.Starts.{IsStableStart};
 ghost use Rattle.hz_gmw.specs.Runs.{end_of};
+ghost use Rattle.hz_reach.specs.Given.{AreResultsOfA, IsScratchFor};
 ghost use Rattle.hz_reach.specs.Order.{IsInKeyOrder};
 ghost use Rattle.hz_reach.specs.Spread.{IsSpreadRun};
 ghost use Rattle.hz_desk.specs.ResultsOfPasses.{HasPassResults};
 ghost use Rattle.hz_desk.specs.Filled.{AreRuns};
-ghost use Rattle.hz_desk.specs.Room.{HasRunRoom, IsScratchFor};
+ghost use Rattle.hz_desk.specs.Room.{HasRunRoom};
 
 use crate::passes::Passes;
 use hz_core::Tri;
@@ -66,10 +66,7 @@ fn make_spread(
     scratch: &mut Scratch,
     run: &mut Run,
 )
-    requires start { IsStableStart net.now start.now }
-    requires input { length input.now ≡ net.now.inputs }
-    requires a { IsResult (algorithm_a (network_of net.now) input.now start.now) a.now }
-    requires ranks { AreRanks (algorithm_a (network_of net.now) input.now start.now) a.now ranks.now }
+    requires change { AreResultsOfA net.now input.now start.now a.now ranks.now }
     requires scratch { IsScratchFor net.now scratch.old }
     requires room { HasRunRoom (length (network_of net.now)) run.old }
     ensures run { IsSpreadRun (network_of net.now) input.now start.now a.now run.new.steps }

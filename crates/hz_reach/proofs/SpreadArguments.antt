@@ -9,6 +9,7 @@ use Rattle.hz_net.specs.Starts.{IsStableStart}
 use Rattle.hz_net.proofs.Sequences.{length-algorithm_a}
 use Rattle.hz_gmw.specs.RunRecord.{RunRecord}
 use Rattle.hz_reach.specs.Order.{key_at}
+use Rattle.hz_reach.specs.Given.{AreResultsOfA, IsEmptyRun}
 use Rattle.hz_reach.specs.Spread.{IsSpreadRun, IsSparingRun}
 use Rattle.hz_reach.proofs.TurnsByRank.{AreTurns}
 use Rattle.hz_reach.proofs.SpreadLoop.{HadTurns}
@@ -25,6 +26,12 @@ pub record IsAsked (netlist : Netlist) (input start : List Bool) (a : List Tri) 
   pub empty : run.steps ≡ []
   pub flips : length (network_of netlist) ≤ run.spare_flips
   pub steps : length (network_of netlist) ≤ run.spare_steps
+
+pub asked-by :
+    (netlist : Netlist) (input start : List Bool) (a : List Tri) (ranks : List ℕ) (run : RunRecord) → IsCircuit netlist →
+    AreResultsOfA netlist input start a ranks → IsEmptyRun (length (network_of netlist)) run → IsAsked netlist input start a ranks run
+asked-by netlist input start a ranks run circuit change room =
+    record { circuit = circuit; begins = change.begins; result = change.a_result; ranked = change.ranked; empty = room.empty; flips = room.flips; steps = room.steps }
 
 module _ (netlist : Netlist) (input start : List Bool) (a : List Tri) (ranks : List ℕ) (run : RunRecord) (asked : IsAsked netlist input start a ranks run) where
   pub ranked_rounds : AreRanks (algorithm_a (network_of netlist) input start) (algorithm_a (network_of netlist) input start asked.result.0) ranks

@@ -16,12 +16,11 @@ ghost use Rattle.hz_core.specs.Gate.{takes};
 ghost use Rattle.hz_core.specs.Netlist.{IsCircuit, IsWhole, IsGateNumber, gate_at};
 ghost use Rattle.hz_core.specs.Pattern.{differs, IsCandidate, IsPattern};
 ghost use Rattle.hz_net.specs.Network.{network_of, bit_at, value_at};
-ghost use Rattle.hz_net.specs.Passes.{algorithm_a, IsResult, AreRanks};
-ghost use Rattle.hz_net.specs.Starts.{IsStableStart};
 ghost use Rattle.hz_net.specs.Variables.{first_wire, at_wires};
 ghost use Rattle.hz_gmw.specs.Runs.{end_of};
 ghost use Rattle.hz_reach.specs.Order.{key_at, IsInKeyOrder};
 ghost use Rattle.hz_reach.specs.Room.{Spends};
+ghost use Rattle.hz_reach.specs.Given.{AreResultsOfA, IsScratchFor, IsEmptyRun};
 ghost use Rattle.hz_reach.specs.Spread.{IsSpreadRun, IsSparingRun};
 ghost use Rattle.hz_reach.specs.Turn.{changed_inputs, free_pins, changed_wires, AreChangedWires, unchanged_wires};
 ghost use Rattle.hz_core.specs.Limits.{most_variables};
@@ -51,15 +50,9 @@ pub fn spread_run(
     scratch: &mut Scratch,
     run: &mut Run,
 )
-    requires start { IsStableStart net.now start.now }
-    requires input { length input.now ≡ net.now.inputs }
-    requires a { IsResult (algorithm_a (network_of net.now) input.now start.now) a.now }
-    requires rank { AreRanks (algorithm_a (network_of net.now) input.now start.now) a.now rank.now }
-    requires scratch { length scratch.old.state ≡ length (network_of net.now) }
-    requires none_marked { scratch.old.marked ≡ [] }
-    requires empty { run.old.steps ≡ [] }
-    requires room_for_flips { length (network_of net.now) ≤ run.old.spare_flips }
-    requires room_for_steps { length (network_of net.now) ≤ run.old.spare_steps }
+    requires change { AreResultsOfA net.now input.now start.now a.now rank.now }
+    requires scratch { IsScratchFor net.now scratch.old }
+    requires run { IsEmptyRun (length (network_of net.now)) run.old }
     ensures run { MatchBool keep_unused
         (IsSparingRun (network_of net.now) input.now start.now a.now rank.now run.new.steps)
         (IsSpreadRun (network_of net.now) input.now start.now a.now run.new.steps) }
@@ -83,16 +76,10 @@ pub fn spread_in_order(
     scratch: &mut Scratch,
     run: &mut Run,
 )
-    requires start { IsStableStart net.now start.now }
-    requires input { length input.now ≡ net.now.inputs }
-    requires a { IsResult (algorithm_a (network_of net.now) input.now start.now) a.now }
-    requires rank { AreRanks (algorithm_a (network_of net.now) input.now start.now) a.now rank.now }
-    requires scratch { length scratch.old.state ≡ length (network_of net.now) }
-    requires none_marked { scratch.old.marked ≡ [] }
+    requires change { AreResultsOfA net.now input.now start.now a.now rank.now }
+    requires scratch { IsScratchFor net.now scratch.old }
     requires sorted { IsInKeyOrder rank.now scratch.old.sorted }
-    requires empty { run.old.steps ≡ [] }
-    requires room_for_flips { length (network_of net.now) ≤ run.old.spare_flips }
-    requires room_for_steps { length (network_of net.now) ≤ run.old.spare_steps }
+    requires run { IsEmptyRun (length (network_of net.now)) run.old }
     ensures run { MatchBool keep_unused
         (IsSparingRun (network_of net.now) input.now start.now a.now rank.now run.new.steps)
         (IsSpreadRun (network_of net.now) input.now start.now a.now run.new.steps) }
@@ -125,8 +112,7 @@ fn mark_inputs(net: &Net, start: &[bool], input: &[bool], scratch: &mut Scratch)
     requires circuit { IsCircuit net.now }
     requires start { length start.now ≡ length (network_of net.now) }
     requires input { length input.now ≡ net.now.inputs }
-    requires scratch { length scratch.old.state ≡ length (network_of net.now) }
-    requires none_marked { scratch.old.marked ≡ [] }
+    requires scratch { IsScratchFor net.now scratch.old }
     ensures marked { scratch.new.marked ≡ changed_inputs net.now start.now input.now }
     ensures state { scratch.new.state ≡ scratch.old.state }
     ensures sorted { scratch.new.sorted ≡ scratch.old.sorted }
@@ -147,8 +133,7 @@ fn mark_wires(net: &Net, start: &[bool], rank: &[u32], gate: u32, scratch: &mut 
     requires gate { IsGateNumber net.now gate }
     requires possible { (list : List Bool) × IsCandidate (gate_at net.now gate).kind (at_wires net.now gate start.now)
         (free_pins (key_at rank.now gate) (at_wires net.now gate rank.now)) (not (bit_at start.now gate)) list }
-    requires scratch { length scratch.old.state ≡ length (network_of net.now) }
-    requires none_marked { scratch.old.marked ≡ [] }
+    requires scratch { IsScratchFor net.now scratch.old }
     ensures marked { AreChangedWires net.now start.now rank.now gate scratch.new.marked }
     ensures state { scratch.new.state ≡ scratch.old.state }
     ensures sorted { scratch.new.sorted ≡ scratch.old.sorted }
@@ -205,8 +190,7 @@ fn mark_unchanged(net: &Net, start: &[bool], a: &[Tri], scratch: &mut Scratch)
     requires circuit { IsCircuit net.now }
     requires start { length start.now ≡ length (network_of net.now) }
     requires a { length a.now ≡ length (network_of net.now) }
-    requires scratch { length scratch.old.state ≡ length (network_of net.now) }
-    requires none_marked { scratch.old.marked ≡ [] }
+    requires scratch { IsScratchFor net.now scratch.old }
     ensures marked { scratch.new.marked ≡ unchanged_wires net.now a.now start.now scratch.old.state }
     ensures state { scratch.new.state ≡ scratch.old.state }
     ensures sorted { scratch.new.sorted ≡ scratch.old.sorted }

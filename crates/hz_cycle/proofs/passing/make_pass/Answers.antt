@@ -27,18 +27,16 @@ pub loop-place-init : goal.loop-place-init
 loop-place-init c =
     let asked : IsPassAsked c.args.net.now c.args.rank.now c.args.b.now c.args.scratch.now.state c.args.run.now = record {
       circuit = c.circuit-circuit.ensures.circuit;
-      fixed = c.requires.fixed;
-      long = c.requires.rank;
-      ranked = c.requires.ranked;
+      given = c.requires.given;
       begins = c.requires.begins;
       room = c.requires.room;
     } in
-    (passing-begin asked c.requires.sorted c.requires.none_marked refl, ap (length {A = ℕ}) c.sorted-place-end.ensures)
+    (passing-begin asked c.requires.sorted c.requires.scratch.none_marked refl, ap (length {A = ℕ}) c.sorted-place-end.ensures)
 
 pub bounds-b-var : goal.bounds-b-var
 bounds-b-var c =
     let nodes = ap (λ (n : Netlist). length n.names) c.circuit-circuit.ensures.same in
-    omega (arith, c.if-var-nodes.true, c.nodes.ensures.nodes, nodes, c.requires.b, length-network_of c.args.net.now c.circuit-circuit.ensures.circuit)
+    omega (arith, c.if-var-nodes.true, c.nodes.ensures.nodes, nodes, c.requires.given.fixed.long, length-network_of c.args.net.now c.circuit-circuit.ensures.circuit)
 
 pub mark_pattern-requires-clause-possible : goal.mark_pattern-requires-clause-possible
 mark_pattern-requires-clause-possible c =
@@ -50,7 +48,7 @@ mark_pattern-requires-clause-possible c =
     rw here (turn-possible passing inside is_gate unknown)
 
 pub mark_pattern-requires-clause-scratch : goal.mark_pattern-requires-clause-scratch
-mark_pattern-requires-clause-scratch c = passing-long c.loop-place.invariant.0
+mark_pattern-requires-clause-scratch c = record { long = passing-long c.loop-place.invariant.0; none_marked = c.loop-place.invariant.0.marked }
 
 pub step-requires-clause-room_for_flips : goal.step-requires-clause-room_for_flips
 step-requires-clause-room_for_flips c =
@@ -73,10 +71,13 @@ step-requires-clause-room_for_steps c =
     wires-steps passing inside is_gate unknown marks c.run_counts.ensures.changes c.run_counts.ensures.steps
 
 pub mark_with_fan_out-requires-clause-scratch : goal.mark_with_fan_out-requires-clause-scratch
-mark_with_fan_out-requires-clause-scratch c =
-    ap (length {A = Bool}) c.step.ensures.state
-    ∙ (length-state_after c.mark_pattern.new.scratch.marked c.mark_pattern.new.scratch.state
-    ∙ (ap (length {A = Bool}) c.mark_pattern.ensures.state ∙ passing-long c.loop-place.invariant.0))
+mark_with_fan_out-requires-clause-scratch c = record {
+  long =
+      ap (length {A = Bool}) c.step.ensures.state
+      ∙ (length-state_after c.mark_pattern.new.scratch.marked c.mark_pattern.new.scratch.state
+      ∙ (ap (length {A = Bool}) c.mark_pattern.ensures.state ∙ passing-long c.loop-place.invariant.0));
+  none_marked = c.step.ensures.marked;
+}
 
 pub step-requires-then-is_unsettled-clause-room_for_flips : goal.step-requires-then-is_unsettled-clause-room_for_flips
 step-requires-then-is_unsettled-clause-room_for_flips c =

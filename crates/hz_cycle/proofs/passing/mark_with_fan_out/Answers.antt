@@ -8,11 +8,11 @@ use Rattle.hz_cycle.proofs.passing.mark_with_fan_out.Goals as goal
 
 pub bounds-state-gate : goal.bounds-state-gate
 bounds-state-gate c =
-    omega (arith, c.requires.gate.1, c.requires.scratch, length-network_of c.args.net.now c.requires.circuit, ap (length {A = Bool}) c.state.ensures)
+    omega (arith, c.requires.gate.1, c.requires.scratch.long, length-network_of c.args.net.now c.requires.circuit, ap (length {A = Bool}) c.state.ensures)
 
 pub mark-requires-clause-inside : goal.mark-requires-clause-inside
 mark-requires-clause-inside c =
-    omega (arith, c.requires.gate.1, c.requires.scratch, length-network_of c.args.net.now c.requires.circuit)
+    omega (arith, c.requires.gate.1, c.requires.scratch.long, length-network_of c.args.net.now c.requires.circuit)
 
 pub bounds-state-wire : goal.bounds-state-wire
 bounds-state-wire c =
@@ -20,7 +20,7 @@ bounds-state-wire c =
     let below = fan_out-inside c.args.net.now c.args.gate c.loop-wire.wire-index c.requires.circuit inside in
     let here : get_or c.fan_out-wire-items.result.now c.loop-wire.wire-index 0 ≡ get_or (fan_out_of c.args.net.now c.args.gate) c.loop-wire.wire-index 0 =
     ap (λ (list : List ℕ). get_or list c.loop-wire.wire-index 0) c.fan_out-wire-items.ensures in
-    omega (arith, below, here, c.requires.scratch, ap (length {A = Bool}) (c.state-in-loop-wire.ensures ∙ c.loop-wire.invariant.1))
+    omega (arith, below, here, c.requires.scratch.long, ap (length {A = Bool}) (c.state-in-loop-wire.ensures ∙ c.loop-wire.invariant.1))
 
 pub mark-requires-then-state-wire-clause-inside : goal.mark-requires-then-state-wire-clause-inside
 mark-requires-then-state-wire-clause-inside c =
@@ -28,7 +28,7 @@ mark-requires-then-state-wire-clause-inside c =
     let below = fan_out-inside c.args.net.now c.args.gate c.loop-wire.wire-index c.requires.circuit inside in
     let here : get_or c.fan_out-wire-items.result.now c.loop-wire.wire-index 0 ≡ get_or (fan_out_of c.args.net.now c.args.gate) c.loop-wire.wire-index 0 =
     ap (λ (list : List ℕ). get_or list c.loop-wire.wire-index 0) c.fan_out-wire-items.ensures in
-    omega (arith, below, here, c.requires.scratch, ap (length {A = Bool}) c.loop-wire.invariant.1)
+    omega (arith, below, here, c.requires.scratch.long, ap (length {A = Bool}) c.loop-wire.invariant.1)
 
 pub mark-requires-then-state-wire-clause-ascending : goal.mark-requires-then-state-wire-clause-ascending
 mark-requires-then-state-wire-clause-ascending c =

@@ -8,8 +8,8 @@ use Rattle.hz_gmw.proofs.CoverB.{length-end_of}
 use Rattle.hz_reach.specs.Room.{Spends}
 use Rattle.hz_cycle.specs.Cycles.{IsSettleRun}
 use Rattle.hz_cycle.specs.Pass.{IsPassMade}
-use Rattle.hz_cycle.proofs.Change.{a-long, change-fixed, unsettled-ranked, ranks-long}
-use Rattle.hz_cycle.proofs.SettleRunExists.{given-change, before-pass, rounds-may-begin, rounds-room, pass-may-begin, pass-room, settle-found, settle-end}
+use Rattle.hz_cycle.proofs.Change.{of-both, a-long, change-fixed, fixed-and-ranked, ranks-long}
+use Rattle.hz_cycle.proofs.SettleRunExists.{before-pass, rounds-may-begin, rounds-room, pass-may-begin, pass-room, settle-found, settle-end}
 use Rattle.hz_cycle.proofs.settling.settle_in_order.Goals as goal
 
 -- what is spent in two parts is spent
@@ -18,74 +18,68 @@ spent-more first middle last here there = record { flips = there.flips ∙ here.
 
 pub settle_rounds-requires-clause-when : goal.settle_rounds-requires-clause-when
 settle_rounds-requires-clause-when c =
-    let change = given-change c.requires.start c.requires.a c.requires.rank c.requires.b in
-    c.requires.when.long ∙ (a-long change ∙ (sym c.requires.start.long ∙ (sym (length-end_of c.args.start.now c.spread_in_order.new.run.steps) ∙ sym (ap (length {A = Bool}) c.spread_in_order.ensures.state))))
+    let change = of-both c.requires.change in
+    c.requires.change.settling.long ∙ (a-long change ∙ (sym c.requires.change.of_a.begins.long ∙ (sym (length-end_of c.args.start.now c.spread_in_order.new.run.steps) ∙ sym (ap (length {A = Bool}) c.spread_in_order.ensures.state))))
 
 pub settle_rounds-requires-clause-b : goal.settle_rounds-requires-clause-b
 settle_rounds-requires-clause-b c =
-    let change = given-change c.requires.start c.requires.a c.requires.rank c.requires.b in
-    (change-fixed change).long ∙ (sym c.requires.start.long ∙ (sym (length-end_of c.args.start.now c.spread_in_order.new.run.steps) ∙ sym (ap (length {A = Bool}) c.spread_in_order.ensures.state)))
+    let change = of-both c.requires.change in
+    (change-fixed change).long ∙ (sym c.requires.change.of_a.begins.long ∙ (sym (length-end_of c.args.start.now c.spread_in_order.new.run.steps) ∙ sym (ap (length {A = Bool}) c.spread_in_order.ensures.state)))
 
 pub settle_rounds-requires-clause-rounds : goal.settle_rounds-requires-clause-rounds
 settle_rounds-requires-clause-rounds c =
-    let change = given-change c.requires.start c.requires.a c.requires.rank c.requires.b in
-    (network_of c.args.net.now, c.args.input.now, c.args.a.now, rounds-may-begin change c.requires.when c.spread_in_order.ensures.run c.spread_in_order.ensures.state)
+    let change = of-both c.requires.change in
+    (network_of c.args.net.now, c.args.input.now, c.args.a.now, rounds-may-begin change c.requires.change.settling c.spread_in_order.ensures.run c.spread_in_order.ensures.state)
 
 pub settle_rounds-requires-clause-room_for_flips : goal.settle_rounds-requires-clause-room_for_flips
 settle_rounds-requires-clause-room_for_flips c =
-    let change = given-change c.requires.start c.requires.a c.requires.rank c.requires.b in
-    let room = rounds-room c.run_counts.ensures.variables c.run_counts.ensures.steps c.spread_in_order.ensures.run c.requires.empty refl c.spread_in_order.ensures.room c.requires.room_for_flips c.requires.room_for_steps in
-    omega (arith, room.0, c.requires.when.long, a-long change)
+    let change = of-both c.requires.change in
+    let room = rounds-room c.run_counts.ensures.variables c.run_counts.ensures.steps c.spread_in_order.ensures.run c.requires.run.empty refl c.spread_in_order.ensures.room c.requires.run.flips c.requires.run.steps in
+    omega (arith, room.0, c.requires.change.settling.long, a-long change)
 
 pub settle_rounds-requires-clause-room_for_steps : goal.settle_rounds-requires-clause-room_for_steps
 settle_rounds-requires-clause-room_for_steps c =
-    let change = given-change c.requires.start c.requires.a c.requires.rank c.requires.b in
-    let room = rounds-room c.run_counts.ensures.variables c.run_counts.ensures.steps c.spread_in_order.ensures.run c.requires.empty refl c.spread_in_order.ensures.room c.requires.room_for_flips c.requires.room_for_steps in
-    omega (arith, room.1, c.requires.when.long, a-long change)
+    let change = of-both c.requires.change in
+    let room = rounds-room c.run_counts.ensures.variables c.run_counts.ensures.steps c.spread_in_order.ensures.run c.requires.run.empty refl c.spread_in_order.ensures.room c.requires.run.flips c.requires.run.steps in
+    omega (arith, room.1, c.requires.change.settling.long, a-long change)
 
 pub sort-requires : goal.sort-requires
 sort-requires c =
-    let change = given-change c.requires.start c.requires.a c.requires.rank c.requires.b in
-    let before = before-pass c.len-variables.ensures.circuit c.requires.start change c.requires.when c.spread_in_order.ensures.run c.spread_in_order.ensures.state c.settle_rounds.ensures.rounds in
+    let change = of-both c.requires.change in
+    let before = before-pass c.len-variables.ensures.circuit c.requires.change.of_a.begins change c.requires.change.settling c.spread_in_order.ensures.run c.spread_in_order.ensures.state c.settle_rounds.ensures.rounds in
     ranks-long change ∙ sym (length-Refines c.settle_rounds.new.scratch.state c.args.b.now before.settling.values ∙ (change-fixed change).long)
 
-pub make_pass-requires-clause-b : goal.make_pass-requires-clause-b
-make_pass-requires-clause-b c = (change-fixed (given-change c.requires.start c.requires.a c.requires.rank c.requires.b)).long
-
-pub make_pass-requires-clause-fixed : goal.make_pass-requires-clause-fixed
-make_pass-requires-clause-fixed c = (c.args.input.now, change-fixed (given-change c.requires.start c.requires.a c.requires.rank c.requires.b))
-
-pub make_pass-requires-clause-rank : goal.make_pass-requires-clause-rank
-make_pass-requires-clause-rank c = ranks-long (given-change c.requires.start c.requires.a c.requires.rank c.requires.b)
-
-pub make_pass-requires-clause-ranked : goal.make_pass-requires-clause-ranked
-make_pass-requires-clause-ranked c = unsettled-ranked (given-change c.requires.start c.requires.a c.requires.rank c.requires.b)
+pub make_pass-requires-clause-given : goal.make_pass-requires-clause-given
+make_pass-requires-clause-given c = fixed-and-ranked (of-both c.requires.change)
 
 pub make_pass-requires-clause-begins : goal.make_pass-requires-clause-begins
 make_pass-requires-clause-begins c =
-    let change = given-change c.requires.start c.requires.a c.requires.rank c.requires.b in
+    let change = of-both c.requires.change in
     rw c.sort.ensures.state
-    (pass-may-begin (before-pass c.len-variables.ensures.circuit c.requires.start change c.requires.when c.spread_in_order.ensures.run c.spread_in_order.ensures.state c.settle_rounds.ensures.rounds) c.run_ends.ensures)
+    (pass-may-begin (before-pass c.len-variables.ensures.circuit c.requires.change.of_a.begins change c.requires.change.settling c.spread_in_order.ensures.run c.spread_in_order.ensures.state c.settle_rounds.ensures.rounds) c.run_ends.ensures)
 
 pub make_pass-requires-clause-scratch : goal.make_pass-requires-clause-scratch
 make_pass-requires-clause-scratch c =
-    let change = given-change c.requires.start c.requires.a c.requires.rank c.requires.b in
-    let before = before-pass c.len-variables.ensures.circuit c.requires.start change c.requires.when c.spread_in_order.ensures.run c.spread_in_order.ensures.state c.settle_rounds.ensures.rounds in
-    ap (length {A = Bool}) c.sort.ensures.state ∙ length-Refines c.settle_rounds.new.scratch.state c.args.b.now before.settling.values ∙ (change-fixed change).long
+    let change = of-both c.requires.change in
+    let before = before-pass c.len-variables.ensures.circuit c.requires.change.of_a.begins change c.requires.change.settling c.spread_in_order.ensures.run c.spread_in_order.ensures.state c.settle_rounds.ensures.rounds in
+    record {
+      long = ap (length {A = Bool}) c.sort.ensures.state ∙ length-Refines c.settle_rounds.new.scratch.state c.args.b.now before.settling.values ∙ (change-fixed change).long;
+      none_marked = c.sort.ensures.marked ∙ c.settle_rounds.ensures.marked;
+    }
 
 pub make_pass-requires-clause-room : goal.make_pass-requires-clause-room
 make_pass-requires-clause-room c =
-    let change = given-change c.requires.start c.requires.a c.requires.rank c.requires.b in
-    let before = before-pass c.len-variables.ensures.circuit c.requires.start change c.requires.when c.spread_in_order.ensures.run c.spread_in_order.ensures.state c.settle_rounds.ensures.rounds in
+    let change = of-both c.requires.change in
+    let before = before-pass c.len-variables.ensures.circuit c.requires.change.of_a.begins change c.requires.change.settling c.spread_in_order.ensures.run c.spread_in_order.ensures.state c.settle_rounds.ensures.rounds in
     rw c.sort.ensures.state
-    (pass-room before c.run_counts.ensures.changes c.run_counts.ensures.steps c.run_ends.ensures c.requires.empty c.settle_rounds.ensures.rounds.whole
+    (pass-room before c.run_counts.ensures.changes c.run_counts.ensures.steps c.run_ends.ensures c.requires.run.empty c.settle_rounds.ensures.rounds.whole
     (spent-more c.args.run.now c.spread_in_order.new.run c.settle_rounds.new.run c.spread_in_order.ensures.room c.settle_rounds.ensures.room)
-    c.requires.room_for_flips c.requires.room_for_steps)
+    c.requires.run.flips c.requires.run.steps)
 
 pub returns-clause-run : goal.returns-clause-run
 returns-clause-run c =
-    let change = given-change c.requires.start c.requires.a c.requires.rank c.requires.b in
-    let before = before-pass c.len-variables.ensures.circuit c.requires.start change c.requires.when c.spread_in_order.ensures.run c.spread_in_order.ensures.state c.settle_rounds.ensures.rounds in
+    let change = of-both c.requires.change in
+    let before = before-pass c.len-variables.ensures.circuit c.requires.change.of_a.begins change c.requires.change.settling c.spread_in_order.ensures.run c.spread_in_order.ensures.state c.settle_rounds.ensures.rounds in
     let passed : IsPassMade (network_of c.args.net.now) c.args.rank.now c.args.b.now c.settle_rounds.new.scratch.state c.settle_rounds.new.run.steps c.make_pass.new.run.steps c.make_pass.new.scratch.state =
     subst (λ (state : List Bool). IsPassMade (network_of c.args.net.now) c.args.rank.now c.args.b.now state c.settle_rounds.new.run.steps c.make_pass.new.run.steps c.make_pass.new.scratch.state) c.sort.ensures.state c.make_pass.ensures.pass in
     let pass = passed.pass c.args.input.now (change-fixed change) in
@@ -96,13 +90,13 @@ returns-clause-run c =
 
 pub returns-clause-turned : goal.returns-clause-turned
 returns-clause-turned c =
-    let change = given-change c.requires.start c.requires.a c.requires.rank c.requires.b in
+    let change = of-both c.requires.change in
     (c.make_pass.ensures.pass.pass c.args.input.now (change-fixed change)).turned
 
 pub returns-clause-state : goal.returns-clause-state
 returns-clause-state c =
-    let change = given-change c.requires.start c.requires.a c.requires.rank c.requires.b in
-    let before = before-pass c.len-variables.ensures.circuit c.requires.start change c.requires.when c.spread_in_order.ensures.run c.spread_in_order.ensures.state c.settle_rounds.ensures.rounds in
+    let change = of-both c.requires.change in
+    let before = before-pass c.len-variables.ensures.circuit c.requires.change.of_a.begins change c.requires.change.settling c.spread_in_order.ensures.run c.spread_in_order.ensures.state c.settle_rounds.ensures.rounds in
     let passed : IsPassMade (network_of c.args.net.now) c.args.rank.now c.args.b.now c.settle_rounds.new.scratch.state c.settle_rounds.new.run.steps c.make_pass.new.run.steps c.make_pass.new.scratch.state =
     subst (λ (state : List Bool). IsPassMade (network_of c.args.net.now) c.args.rank.now c.args.b.now state c.settle_rounds.new.run.steps c.make_pass.new.run.steps c.make_pass.new.scratch.state) c.sort.ensures.state c.make_pass.ensures.pass in
     let pass = passed.pass c.args.input.now (change-fixed change) in

@@ -6,13 +6,11 @@ use Rattle.hz_desk.proofs.RowFacts.{long-a, long-b}
 use Rattle.hz_desk.proofs.FewSteps.{are-runs}
 use Rattle.hz_desk.proofs.runs.make_runs.Goals as goal
 
-pub settle_in_order-requires-clause-when : goal.settle_in_order-requires-clause-when
-settle_in_order-requires-clause-when c =
-    rw (c.as_slice-a.ensures.value, c.as_slice-b.ensures.value, c.as_slice-when.ensures.value) c.requires.passed.2.settling
-
 pub settle_in_order-requires-clause-scratch : goal.settle_in_order-requires-clause-scratch
-settle_in_order-requires-clause-scratch c =
-    ap length c.make_spread.ensures.state ∙ (length-end_of c.args.start.now c.make_spread.new.run.steps ∙ c.requires.start.long)
+settle_in_order-requires-clause-scratch c = record {
+  long = ap length c.make_spread.ensures.state ∙ (length-end_of c.args.start.now c.make_spread.new.run.steps ∙ c.requires.start.long);
+  none_marked = c.make_spread.ensures.marked;
+}
 
 pub returns-clause-scratch : goal.returns-clause-scratch
 returns-clause-scratch c = record {
@@ -20,9 +18,20 @@ returns-clause-scratch c = record {
   none_marked = c.cycle_in_order.ensures.marked;
 }
 
-pub settle_in_order-requires-clause-b : goal.settle_in_order-requires-clause-b
-settle_in_order-requires-clause-b c =
-    rw (c.as_slice-a.ensures.value, c.as_slice-b.ensures.value) (c.requires.passed.1, c.requires.passed.2.b_rounds, c.requires.passed.2.b_result)
+pub settle_in_order-requires-clause-change : goal.settle_in_order-requires-clause-change
+settle_in_order-requires-clause-change c =
+    let passed = c.requires.passed in
+    rw (c.as_slice-a.ensures.value, c.as_slice-ranks.ensures.value, c.as_slice-b.ensures.value, c.as_slice-when.ensures.value)
+    record {
+      of_a = record {
+        begins = c.requires.start;
+        input_long = c.requires.input;
+        a_result = (passed.0, passed.2.a_rounds, passed.2.a_result);
+        ranked = passed.2.ranked;
+      };
+      b_result = (passed.1, passed.2.b_rounds, passed.2.b_result);
+      settling = passed.2.settling;
+    }
 
 pub returns-clause-runs : goal.returns-clause-runs
 returns-clause-runs c =

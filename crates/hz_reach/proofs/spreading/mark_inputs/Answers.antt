@@ -17,7 +17,7 @@ pub mark-requires-clause-inside : goal.mark-requires-clause-inside
 mark-requires-clause-inside c =
     let inputs = ap (λ (netlist : Netlist). netlist.inputs) c.circuit.ensures.same in
     rw c.loop-var.invariant.1
-    (omega (arith, c.loop-var-test.true, inputs, c.inputs-var-end.ensures.inputs, c.requires.circuit.nodes, c.requires.scratch, length-network_of c.args.net.now c.requires.circuit))
+    (omega (arith, c.loop-var-test.true, inputs, c.inputs-var-end.ensures.inputs, c.requires.circuit.nodes, c.requires.scratch.long, length-network_of c.args.net.now c.requires.circuit))
 
 pub mark-requires-clause-ascending : goal.mark-requires-clause-ascending
 mark-requires-clause-ascending c =

@@ -7,7 +7,7 @@ use Rattle.hz_gmw.proofs.Flips.{length-state_after}
 use Rattle.hz_reach.specs.Room.{with_step_if_any}
 use Rattle.hz_reach.specs.ScratchState.{ScratchState}
 use Rattle.hz_reach.specs.Turn.{changed_inputs, AreChangedWires}
-use Rattle.hz_reach.proofs.SpreadArguments.{IsAsked, asked-turns, asked-a, asked-ranks}
+use Rattle.hz_reach.proofs.SpreadArguments.{asked-by, asked-turns, asked-a, asked-ranks}
 use Rattle.hz_reach.proofs.SpreadRoom.{spends-more, end_of-after}
 use Rattle.hz_reach.proofs.SpreadSteps.{inputs-flips, inputs-steps, underway-begin, length-state, wires-flips, wires-steps, gate-flips, gate-steps, run-sparing, rest-flips, rest-steps, run-whole}
 use Rattle.hz_reach.proofs.GateLoop.{IsUnderway, turn-possible, place-ranked, underway-next, underway-turn}
@@ -23,17 +23,17 @@ gate-at shown netlist inputs nodes var there same inputs_are nodes_are here abov
 
 pub step-requires-clause-room_for_flips : goal.step-requires-clause-room_for_flips
 step-requires-clause-room_for_flips c =
-    let asked : IsAsked c.args.net.now c.args.input.now c.args.start.now c.args.a.now c.args.rank.now c.args.run.now = record { circuit = c.circuit-circuit.ensures.circuit; begins = c.requires.start; result = c.requires.a; ranked = c.requires.rank; empty = c.requires.empty; flips = c.requires.room_for_flips; steps = c.requires.room_for_steps } in
+    let asked = asked-by c.args.net.now c.args.input.now c.args.start.now c.args.a.now c.args.rank.now c.args.run.now c.circuit-circuit.ensures.circuit c.requires.change c.requires.run in
     rw c.mark_inputs.ensures.marked (inputs-flips c.args.net.now c.args.input.now c.args.start.now c.args.a.now c.args.rank.now c.args.run.now asked)
 
 pub step-requires-clause-room_for_steps : goal.step-requires-clause-room_for_steps
 step-requires-clause-room_for_steps c =
-    let asked : IsAsked c.args.net.now c.args.input.now c.args.start.now c.args.a.now c.args.rank.now c.args.run.now = record { circuit = c.circuit-circuit.ensures.circuit; begins = c.requires.start; result = c.requires.a; ranked = c.requires.rank; empty = c.requires.empty; flips = c.requires.room_for_flips; steps = c.requires.room_for_steps } in
+    let asked = asked-by c.args.net.now c.args.input.now c.args.start.now c.args.a.now c.args.rank.now c.args.run.now c.circuit-circuit.ensures.circuit c.requires.change c.requires.run in
     rw c.mark_inputs.ensures.marked (inputs-steps c.args.net.now c.args.input.now c.args.start.now c.args.a.now c.args.rank.now c.args.run.now asked)
 
 pub loop-place-init : goal.loop-place-init
 loop-place-init c =
-    let asked : IsAsked c.args.net.now c.args.input.now c.args.start.now c.args.a.now c.args.rank.now c.args.run.now = record { circuit = c.circuit-circuit.ensures.circuit; begins = c.requires.start; result = c.requires.a; ranked = c.requires.rank; empty = c.requires.empty; flips = c.requires.room_for_flips; steps = c.requires.room_for_steps } in
+    let asked = asked-by c.args.net.now c.args.input.now c.args.start.now c.args.a.now c.args.rank.now c.args.run.now c.circuit-circuit.ensures.circuit c.requires.change c.requires.run in
     let flips = changed_inputs c.args.net.now c.args.start.now c.args.input.now in
     let state : c.step.new.self.state ≡ state_after flips c.args.start.now =
     c.step.ensures.state
@@ -63,8 +63,10 @@ mark_wires-requires-clause-possible c =
     (place-ranked netlist underway.asked.circuit c.args.input.now c.args.start.now c.args.rank.now long turns c.args.a.now c.loop-place.place c.loop-place.scratch c.args.run.now c.loop-place.run underway inside))
 
 pub mark_wires-requires-clause-scratch : goal.mark_wires-requires-clause-scratch
-mark_wires-requires-clause-scratch c =
-    length-state c.args.net.now c.args.input.now c.args.start.now c.args.a.now c.args.rank.now c.loop-place.place c.loop-place.scratch c.args.run.now c.loop-place.run c.loop-place.invariant.0
+mark_wires-requires-clause-scratch c = record {
+  long = length-state c.args.net.now c.args.input.now c.args.start.now c.args.a.now c.args.rank.now c.loop-place.place c.loop-place.scratch c.args.run.now c.loop-place.run c.loop-place.invariant.0;
+  none_marked = c.loop-place.invariant.0.marked;
+}
 
 pub step-requires-then-var-nodes-clause-room_for_flips : goal.step-requires-then-var-nodes-clause-room_for_flips
 step-requires-then-var-nodes-clause-room_for_flips c =
@@ -178,8 +180,10 @@ mark_unchanged-requires-clause-a c =
     asked-a c.args.net.now c.args.input.now c.args.start.now c.args.a.now c.args.rank.now c.args.run.now c.loop-place.invariant.0.asked
 
 pub mark_unchanged-requires-clause-scratch : goal.mark_unchanged-requires-clause-scratch
-mark_unchanged-requires-clause-scratch c =
-    length-state c.args.net.now c.args.input.now c.args.start.now c.args.a.now c.args.rank.now c.loop-place.place c.loop-place.scratch c.args.run.now c.loop-place.run c.loop-place.invariant.0
+mark_unchanged-requires-clause-scratch c = record {
+  long = length-state c.args.net.now c.args.input.now c.args.start.now c.args.a.now c.args.rank.now c.loop-place.place c.loop-place.scratch c.args.run.now c.loop-place.run c.loop-place.invariant.0;
+  none_marked = c.loop-place.invariant.0.marked;
+}
 
 pub step-requires-then-not-keep_unused-clause-room_for_flips : goal.step-requires-then-not-keep_unused-clause-room_for_flips
 step-requires-then-not-keep_unused-clause-room_for_flips c =

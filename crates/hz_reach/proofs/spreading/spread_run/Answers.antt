@@ -7,6 +7,6 @@ use Rattle.hz_reach.proofs.spreading.spread_run.Goals as goal
 -- there are as many ranks as variables
 pub sort-requires : goal.sort-requires
 sort-requires c =
-    c.requires.rank.long
-    ∙ (ap (length {A = Tri}) c.requires.a.2
-    ∙ (length-algorithm_a (network_of c.args.net.now) c.args.input.now c.args.start.now c.requires.start.long c.requires.a.0 ∙ sym c.requires.scratch))
+    c.requires.change.ranked.long
+    ∙ (ap (length {A = Tri}) c.requires.change.a_result.2
+    ∙ (length-algorithm_a (network_of c.args.net.now) c.args.input.now c.args.start.now c.requires.change.begins.long c.requires.change.a_result.0 ∙ sym c.requires.scratch.long))
