@@ -1,6 +1,6 @@
 // What is noted of statements while they are read.
 
-ghost use Rattle.std.specs.Prelude.{◌≡◌, ◌+◌, ◌<◌, ◌≤◌, ◌^◌, [], None, if◌then◌else◌, Some};
+ghost use Rattle.std.specs.Prelude.{◌≡◌, ◌+◌, ◌<◌, ◌≤◌, ◌^◌, None, Some};
 ghost use Rattle.hz_bench.specs.Entry.{statement_of_entry, numbered_of, numbered_output};
 ghost use Rattle.hz_bench.specs.FaultNotes.{notes_with, no_notes, first_of, wrong_or};
 ghost use Rattle.hz_bench.specs.Statement.{statement_variable_count};

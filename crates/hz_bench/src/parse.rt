@@ -12,7 +12,7 @@
 //! one whose number lies between two others needs its place in `fault_in`. A new kind of statement needs a list, and a case
 //! of `PlacesStatement`.
 
-ghost use Rattle.std.specs.Prelude.{◌≡◌, ◌+◌, ◌<◌, ◌≤◌, ◌^◌, IfOk, length, MatchResult, OnOk};
+ghost use Rattle.std.specs.Prelude.{◌+◌, ◌<◌, ◌≤◌, ◌^◌, length, MatchResult, OnOk};
 ghost use Rattle.hz_bench.specs.Entry.{statement_of_entry, numbered_line, numbered_of, numbered_output};
 ghost use Rattle.hz_bench.specs.Statement.{statement_variable_count};
 ghost use Rattle.hz_bench.specs.ReaderState.{DefinesName, IsNothingRead, AddsStatement};

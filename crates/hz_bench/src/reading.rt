@@ -1,6 +1,6 @@
 // Reading a netlist.
 
-ghost use Rattle.std.specs.Prelude.{◌≡◌, ◌<◌, ◌≤◌, ◌^◌, ◌⊎◌, IfOk, IfErr, OnOk, IsErrOf, MatchResult, None, Some, length};
+ghost use Rattle.std.specs.Prelude.{◌≡◌, ◌<◌, ◌≤◌, ◌⊎◌, IfOk, IfErr, OnOk, IsErrOf, MatchResult, None, Some, length};
 ghost use Rattle.hz_core.specs.Netlist.{IsWhole};
 ghost use Rattle.hz_bench.specs.Entry.{statement_list, output_list};
 ghost use Rattle.hz_bench.specs.Fault.{IsNetlistRefusal, IsFaultless, IsLeastFault};

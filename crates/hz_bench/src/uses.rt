@@ -1,6 +1,6 @@
 // The nodes that the names in statements stand for.
 
-ghost use Rattle.std.specs.Prelude.{◌≡◌, ◌<◌, ◌≤◌, ◌^◌, ◌++◌, ◌∷◌, [], false, IfOk, MatchResult, None, length, map, option_map};
+ghost use Rattle.std.specs.Prelude.{◌≡◌, ◌<◌, ◌^◌, ◌++◌, ◌∷◌, [], false, IfOk, MatchResult, None, length, map, option_map};
 ghost use Rattle.std.specs.List.{list_any};
 ghost use Rattle.hz_line.specs.Statement.{first_passing_line};
 ghost use Rattle.hz_bench.specs.Definition.{defined_names};

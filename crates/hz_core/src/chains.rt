@@ -3,7 +3,7 @@
 //! Entries are numbered from 0 in the order in which they come, and known by their hashes alone. A search walks one chain, so the
 //! longest chain bounds what it costs. Hashes that are no better than chance make no long chain if there are as many buckets as
 //! entries; one is the sign that names were chosen to collide.
-ghost use Rattle.std.specs.Prelude.{◌≡◌, ◌+◌, ◌-◌, ◌<◌, ◌≤◌, ◌^◌, ◌++◌, ◌∷◌, [], length, map, replicate, IfOk, OnOk, OnErr, slice_get};
+ghost use Rattle.std.specs.Prelude.{◌≡◌, ◌+◌, ◌-◌, ◌<◌, ◌≤◌, ◌^◌, ◌++◌, ◌∷◌, [], length, replicate, OnOk, OnErr};
 ghost use Rattle.std.specs.List.{slice_index_or};
 ghost use Rattle.hz_core.specs.Chains.{bucket, hashes_of, previous_passing, has_hash, AreLinked, IsOnChain, IsChainedTo};
 

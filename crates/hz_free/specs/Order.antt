@@ -1,5 +1,5 @@
 -- A topological order in the making: which variables are placed, and how many of those that a variable reads are not.
-use Rattle.std.specs.Prelude.{◌≡◌, ℕ, zero, suc, ◌+◌, ◌-◌, ◌<◌, ◌≤◌, Bool, List, [], ◌∷◌, ◌++◌, length, take, slice_index, slice_set, IsTrue, if◌then◌else◌, nat_eq, ◌==◌}
+use Rattle.std.specs.Prelude.{◌≡◌, ℕ, zero, suc, ◌+◌, ◌-◌, ◌<◌, ◌≤◌, List, [], ◌∷◌, ◌++◌, length, take, slice_index, slice_set, IsTrue, if◌then◌else◌, nat_eq, ◌==◌}
 use Rattle.hz_gmw.specs.Runs.{is_listed, IsRepeatFree}
 
 -- how often a list has a number

@@ -1,14 +1,13 @@
 //! The feedback cycles. Each variable that is not feedback-free chooses one of the variables that it reads; the way back from
 //! choice to choice comes around in a cycle, which is the core of the variable.
-ghost use Rattle.std.specs.Prelude.{◌≡◌, ℕ, ◌+◌, ◌^◌, ◌<◌, ◌≤◌, Bool, false, true, List, None, [], length, map, IfOk, OnOk, MatchOption, IsTrue, All, nat_eq, position, slice_index_or};
-ghost use Rattle.hz_core.specs.Netlist.{Netlist};
+ghost use Rattle.std.specs.Prelude.{◌≡◌, ℕ, ◌+◌, ◌^◌, ◌<◌, ◌≤◌, true, List, None, length, map, IfOk, OnOk, MatchOption, IsTrue, All, nat_eq, position};
 ghost use Rattle.hz_net.specs.Network.{Driver, network_of, bit_at};
 ghost use Rattle.hz_net.specs.Reads.{IsWired};
 ghost use Rattle.hz_gmw.specs.Runs.{is_listed};
 ghost use Rattle.hz_free.specs.Chains.{IsFeedbackFree};
 ghost use Rattle.hz_free.specs.Feedback.{IsChoice};
 ghost use Rattle.hz_free.specs.FreePart.{AreMarks, AreFeedback};
-ghost use Rattle.hz_free.specs.Paths.{LeadsTo, IsLink, AreLinks, IsPath, IsPathToMark, AreChoices, AreRooted, AreChoosers, AreNumbered, HasRoot, HaveValue, HaveChoosers, IsFeeding, HasNoLinks, IsInside, AddsCycle, core_by};
+ghost use Rattle.hz_free.specs.Paths.{IsLink, AreLinks, IsPathToMark, AreChoices, AreRooted, AreChoosers, AreNumbered, HasRoot, HaveValue, HaveChoosers, IsFeeding, HasNoLinks, IsInside, AddsCycle, core_by};
 
 use crate::cycles::Cycles;
 use hz_core::Memory;

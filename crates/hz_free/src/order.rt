@@ -1,5 +1,5 @@
 //! The feedback-free variables in a topological order (Kahn): each stands after the variables that it reads.
-ghost use Rattle.std.specs.Prelude.{◌≡◌, ◌+◌, ◌<◌, ◌≤◌, [], length, IfOk, OnOk, slice_index};
+ghost use Rattle.std.specs.Prelude.{◌+◌, ◌<◌, ◌≤◌, [], length, IfOk, OnOk, slice_index};
 ghost use Rattle.hz_net.specs.Network.{network_of};
 ghost use Rattle.hz_net.specs.Reads.{readers_of};
 ghost use Rattle.hz_free.specs.Order.{IsOrdering, AreReads, ReducesReader};

@@ -1,12 +1,9 @@
 //! The words of the feedback-free variables, one after the other in their order.
-ghost use Rattle.std.specs.Prelude.{◌≡◌, ℕ, ◌<◌, ◌≤◌, List, Bool, Some, length, map, take, IsTrue, IsSome, All, slice_index};
+ghost use Rattle.std.specs.Prelude.{◌≡◌, ℕ, ◌<◌, ◌≤◌, Some, length, map, IsTrue, All};
 ghost use Rattle.hz_core.specs.Gate.{takes};
-ghost use Rattle.hz_net.specs.Network.{network_of, driver_at};
-ghost use Rattle.hz_net.specs.Reads.{Reads};
-ghost use Rattle.hz_gmw.specs.Runs.{is_listed};
 ghost use Rattle.hz_word.specs.Capped.{capped_word};
 ghost use Rattle.hz_free.specs.VariableWords.{input_word};
-ghost use Rattle.hz_free.specs.CappedWords.{AreWordsSoFar, HasCountedWord, IsGateWord};
+ghost use Rattle.hz_free.specs.CappedWords.{HasCountedWord, IsGateWord};
 ghost use Rattle.hz_word.specs.Capped.{greatest_cap};
 
 use hz_core::Kind;

@@ -1,16 +1,16 @@
 -- The start of the script of a number leaves the circuit at rest.
-use Rattle.std.proofs.Common.{◌≡◌, ◌≢◌, ◌∙◌, ap, sym, refl, subst, ℕ, zero, suc, ◌+◌, ◌-◌, ◌*◌, ◌<◌, ◌≤◌, Bool, true, false, Option, Some, None, List, [], ◌∷◌, ◌++◌, length, map, get_or, set, replicate, arith, inl, inr, slice_get, length-set, length-append, get_or-set_same, get_or-set_other}
+use Rattle.std.proofs.Common.{◌≡◌, ◌≢◌, ◌∙◌, ap, sym, refl, subst, ℕ, zero, suc, ◌+◌, ◌-◌, ◌*◌, ◌<◌, ◌≤◌, Bool, true, false, Option, Some, None, List, [], ◌∷◌, ◌++◌, length, get_or, set, replicate, arith, inl, inr, slice_get, length-set, get_or-set_same, get_or-set_other}
 use Rattle.std.specs.List.{range_with_len, flat_map}
 use Rattle.std.proofs.lemmas.Bool.{cases_lt, cases_eq}
 use Rattle.std.proofs.lemmas.List.{get_or_append_left, get_or-append_right, get_or-replicate, length-replicate}
-use Rattle.std.proofs.lemmas.List.FromFn.{get_or-map-range_with_len, length-map-range_with_len}
+use Rattle.std.proofs.lemmas.List.FromFn.{get_or-map-range_with_len}
 use Rattle.std.proofs.lemmas.Option.{slice_get-get_or}
-use Rattle.hz_core.specs.declared.kind.Kind.TheVariants.{And, Or, Not, Buff}
+use Rattle.hz_core.specs.declared.kind.Kind.TheVariants.{And, Or, Not}
 use Rattle.hz_core.specs.Gate.{gate_value}
-use Rattle.hz_core.specs.Netlist.{Gate, Netlist, IsCircuit, IsGateNumber, gate_at}
-use Rattle.hz_net.specs.Starts.{IsForced, IsLeastOpen, IsLeastUnstable}
+use Rattle.hz_core.specs.Netlist.{Gate, IsCircuit, IsGateNumber, gate_at}
+use Rattle.hz_net.specs.Starts.{IsForced}
 use Rattle.hz_net.proofs.Derivations.{forced-listed}
-use Rattle.hz_gen.specs.Demo.{IsDemoNumber, demo_netlist, demo_script}
+use Rattle.hz_gen.specs.Demo.{demo_script}
 use Rattle.hz_gen.specs.BuiltDemo.{buffer_gate, ring_gates, multiplexer_gates, last_gate, chain_netlist}
 use Rattle.hz_gen.specs.Starts.{DemoStarts}
 use Rattle.hz_gen.proofs.Counts.{length-chain_names, length-ring_gates}

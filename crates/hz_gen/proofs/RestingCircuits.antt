@@ -1,19 +1,16 @@
 -- Circuits at rest: every node is forced, and every gate to the value of its gate function of its sources' forced values.
-use Rattle.std.proofs.Common.{◌≡◌, ◌∙◌, ap, sym, refl, subst, ℕ, zero, suc, ◌+◌, ◌-◌, ◌<◌, ◌≤◌, Bool, true, false, Option, Some, None, List, [], ◌∷◌, length, map, take, get_or, arith, slice_get}
-use Rattle.std.specs.Prelude.{slice_range}
+use Rattle.std.proofs.Common.{◌≡◌, ◌∙◌, ap, sym, refl, subst, ℕ, zero, suc, ◌+◌, ◌-◌, ◌<◌, Bool, true, false, Option, Some, None, List, [], ◌∷◌, length, map, take, get_or, arith, slice_get}
 use Rattle.std.proofs.lemmas.List.{get_or-take, ext_get_or, length-take-le}
-use Rattle.hz_core.specs.declared.tri.Tri.{Tri}
-use Rattle.hz_core.specs.declared.kind.Kind.{Kind}
 use Rattle.hz_core.specs.Ternary.{tri_of}
 use Rattle.hz_core.specs.Gate.{gate_value}
 use Rattle.hz_core.specs.Netlist.{Netlist, Gate, IsCircuit, IsGateNumber, gate_at}
 use Rattle.hz_core.proofs.Extensions.{extension-map}
 use Rattle.hz_core.proofs.CircuitLemmas.{sources-at_gate}
-use Rattle.hz_net.specs.Network.{Driver, network_of, driver_at, driver_value, bit_at, excitation}
+use Rattle.hz_net.specs.Network.{network_of, driver_value, bit_at, excitation}
 use Rattle.hz_net.specs.Starts.{IsForced, IsCompletedStart, IsLeastOpen, IsLeastUnstable}
-use Rattle.hz_net.specs.Variables.{expansion_of, first_wire, at_wires}
+use Rattle.hz_net.specs.Variables.{first_wire, at_wires}
 use Rattle.hz_net.proofs.Derivations.{AreForced, forced-extension, forced-listed, forced_once}
-use Rattle.hz_net.proofs.Places.{driver_at-gate, bit_at-expansion_of-wire, wire_at-pin, first_wire-bound, no_wire, length-network_of}
+use Rattle.hz_net.proofs.Places.{driver_at-gate, bit_at-expansion_of-wire, wire_at-pin, first_wire-bound, length-network_of}
 use Rattle.hz_net.proofs.Wires.{length-at_wires, get_or-at_wires}
 
 -- sources are forced to bits, one for each

@@ -11,12 +11,12 @@
 //!
 //! What breaks if you add a kind: one that is not symmetric in its pins (a multiplexer) has no value by a count of ones. If you
 //! add a kind of variable with readers of its own: `change_node`, `unstable_from` and `unstable_into` do not count them.
-ghost use Rattle.std.specs.Prelude.{◌≡◌, ◌<◌, ◌≤◌, ◌-◌, ◌+◌, ◌∷◌, Bool, true, false, not, length, count_by, sum_by, All, IfOk, slice_set, slice_index_or, replicate, if◌then◌else◌};
-ghost use Rattle.hz_core.specs.Netlist.{IsCircuit, IsWhole};
+ghost use Rattle.std.specs.Prelude.{◌≡◌, ◌<◌, ◌≤◌, ◌-◌, ◌+◌, ◌∷◌, true, false, not, length, count_by, sum_by, All, IfOk, slice_set, replicate, if◌then◌else◌};
+ghost use Rattle.hz_core.specs.Netlist.{IsCircuit};
 ghost use Rattle.hz_net.specs.Network.{network_of, driver_at, excitation, Source, bit_at};
 ghost use Rattle.hz_net.specs.Reads.{IsWireInto};
 ghost use Rattle.hz_net.specs.Variables.{fan_out_of};
-ghost use Rattle.hz_gmw.specs.Runs.{is_listed, IsRepeatFree, state_after};
+ghost use Rattle.hz_gmw.specs.Runs.{IsRepeatFree, state_after};
 ghost use Rattle.hz_gmw.specs.Instability.{is_unstable, unstable_count};
 ghost use Rattle.hz_gmw.specs.LeastListed.{least_from};
 ghost use Rattle.hz_gmw.specs.CurrentState.{IsKindAt};

@@ -1,5 +1,5 @@
 // The least of listed variables with some property.
-ghost use Rattle.std.specs.Prelude.{◌≡◌, ◌<◌, ℕ, Option, All, None, Bool, true, false, not, length, replicate};
+ghost use Rattle.std.specs.Prelude.{◌≡◌, ◌<◌, Option, All, None, false, not, length, replicate};
 ghost use Rattle.std.specs.Bool.{beq};
 ghost use Rattle.hz_net.specs.Network.{bit_at};
 ghost use Rattle.hz_gmw.specs.LeastListed.{least_from, least_repeat};

@@ -1,6 +1,6 @@
 -- What a driver asks for depends on what it reads alone; and the readers of a variable are the wires from a node, or the gate
 -- of a wire.
-use Rattle.std.proofs.Common.{◌≡◌, ℕ, zero, suc, ◌+◌, ◌-◌, ◌<◌, ◌≤◌, ◌⊎◌, Bool, false, Option, List, [], ◌∷◌, length, get_or, All, Some, slice_get, refl, sym, ap, ◌∙◌, subst, arith, inl, inr}
+use Rattle.std.proofs.Common.{◌≡◌, ℕ, zero, suc, ◌+◌, ◌-◌, ◌<◌, ◌≤◌, ◌⊎◌, Bool, false, List, [], ◌∷◌, length, get_or, All, Some, refl, sym, ap, ◌∙◌, subst, arith, inl, inr}
 use Rattle.std.specs.Prelude.{Contains}
 use Rattle.std.proofs.lemmas.Bool.{cases_lt, cases_eq}
 use Rattle.std.proofs.lemmas.List.{get_or_past}
@@ -11,20 +11,18 @@ use Rattle.hz_core.specs.Netlist.{Netlist, IsCircuit, IsGateNumber, gate_at, var
 use Rattle.hz_core.specs.Gate.{gate_value}
 use Rattle.hz_core.specs.Extension.{extension}
 use Rattle.hz_net.specs.Network.{Driver, External, Function, Source, network_of, wires_of, driver_at, driver_value, driver_value3, bit_at, value_at}
-use Rattle.hz_net.specs.Variables.{variable_kinds, first_wire, fan_out_of}
+use Rattle.hz_net.specs.Variables.{first_wire, fan_out_of}
 use Rattle.hz_net.specs.Reads.{Reads, AreReaders, readers_by, readers_of, IsWireInto}
-use Rattle.hz_net.specs.declared.variable.VarKind.{VarKind}
-use Rattle.hz_net.specs.declared.variable.VarKind.TheVariants.{Input as InputKind, Gate as GateKind, Wire as WireKind}
 use Rattle.hz_net.specs.Entries.{entry_kind, IsEntryAt}
 use Rattle.hz_net.specs.declared.entry.Entry.{Entry}
-use Rattle.hz_net.specs.declared.entry.Entry.TheVariants.{Input as InputEntry, Gate as GateEntry, Wire as WireEntry}
+use Rattle.hz_net.specs.declared.entry.Entry.TheVariants.{Input as InputEntry, Gate as GateEntry}
 use Rattle.hz_net.proofs.PartLemmas.{same-parts}
-use Rattle.hz_net.proofs.Places.{no_wire, length-network_of, driver_at-input, driver_at-gate, driver_at-wire, first_wire-bound, at-entries_of-input, at-entries_of-gate, at-entries_of-wire, variable_kinds-entry}
+use Rattle.hz_net.proofs.Places.{no_wire, length-network_of, driver_at-input, driver_at-gate, driver_at-wire, first_wire-bound, at-entries_of-input, at-entries_of-gate, variable_kinds-entry}
 use Rattle.hz_net.proofs.Wires.{IsWireFrom, IsWireFrom-node, IsWireFrom-fan_out_of, Contains-fan_out_of, driver_at-IsWireFrom, variable_kinds-wire}
 use Rattle.hz_net.specs.Inside.{HoldsNetwork}
 use Rattle.hz_net.specs.declared.net.Net.TheInside.{Inside}
 use Rattle.hz_net.proofs.Fields.{circuit_of, network_length_is, seen_is, place_is}
-use Rattle.hz_net.proofs.Wired.{IsGateOf, is_gate_of, gate-named, named-into, pin-into, wired-network_of}
+use Rattle.hz_net.proofs.Wired.{gate-named, named-into, pin-into}
 
 -- a driver reads a variable or not
 pub reads-or-not : (driver : Driver) (i : ℕ) → Reads driver i ⊎ (Reads driver i → ⊥)

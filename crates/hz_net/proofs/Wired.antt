@@ -1,16 +1,16 @@
 -- The network of a circuit is wired: each wire comes from one node and goes into one gate.
-use Rattle.std.proofs.Common.{◌≡◌, ◌≢◌, ℕ, zero, suc, ◌+◌, ◌-◌, ◌<◌, ◌≤◌, List, [], ◌∷◌, length, get_or, take, Some, slice_get, refl, sym, ap, ◌∙◌, subst, arith, inl, inr}
+use Rattle.std.proofs.Common.{◌≡◌, ◌≢◌, ℕ, zero, suc, ◌+◌, ◌-◌, ◌<◌, ◌≤◌, List, [], ◌∷◌, length, get_or, take, Some, slice_get, sym, ap, ◌∙◌, subst, arith, inl, inr}
 use Rattle.std.specs.List.{sum_by}
 use Rattle.std.proofs.lemmas.Bool.{cases_lt}
 use Rattle.std.proofs.lemmas.List.{get_or_past}
 use Rattle.std.proofs.lemmas.List.Sums.{sum_by-cons}
 use Rattle.hz_core.specs.declared.kind.Kind.{Kind}
-use Rattle.hz_core.specs.Netlist.{Gate, Netlist, IsCircuit, IsGateNumber, gate_at, variable_count, pin_count}
+use Rattle.hz_core.specs.Netlist.{Gate, Netlist, IsCircuit, IsGateNumber, gate_at, variable_count}
 use Rattle.hz_net.specs.Network.{Wire, wires_of, External, Function, Source, network_of, driver_at}
 use Rattle.hz_net.specs.Variables.{variable_kinds, first_wire}
 use Rattle.hz_net.specs.Reads.{IsWireInto, IsWired}
 use Rattle.hz_net.specs.declared.variable.VarKind.TheVariants.{Wire as WireKind}
-use Rattle.hz_net.proofs.Places.{no_gate, no_wire, pins_of, length-network_of, length-wires_of, driver_at-input, driver_at-gate, driver_at-wire, driver_at-pin, wire_at-pin}
+use Rattle.hz_net.proofs.Places.{no_gate, no_wire, pins_of, length-network_of, driver_at-input, driver_at-gate, driver_at-wire, driver_at-pin, wire_at-pin}
 use Rattle.hz_net.proofs.Wires.{IsWireFrom, IsWireFrom-driver_at, IsWireFrom-node, variable_kinds-wire}
 
 -- what drives a gate is its gate function, of the wires that its place gives it

@@ -1,16 +1,15 @@
 -- Wires by the node that drives them; what a list has at a gate's wires.
-use Rattle.std.proofs.Common.{◌≡◌, ◌∙◌, sym, ap, suc, zero, ℕ, ◌+◌, ◌-◌, ◌<◌, ◌≤◌, true, false, List, [], ◌∷◌, length, Some, All, get_or, arith, subst, slice_get, inl, inr}
+use Rattle.std.proofs.Common.{◌≡◌, ◌∙◌, sym, ap, suc, zero, ℕ, ◌+◌, ◌-◌, ◌<◌, ◌≤◌, true, false, List, [], ◌∷◌, length, Some, get_or, arith, subst, slice_get, inl, inr}
 use Rattle.std.specs.Prelude.{Contains, nat_eq}
 use Rattle.std.proofs.lemmas.Bool.{cases_lt, cases_eq, eq-eqb}
 use Rattle.std.proofs.lemmas.Bool.Decides.{nat_tests}
 use Rattle.std.proofs.lemmas.List.{get_or_past}
-use Rattle.std.proofs.lemmas.List.Elements.{All-nil, All-cons, All-append}
-use Rattle.hz_core.specs.Netlist.{Gate, Netlist, IsCircuit, IsGateNumber, gate_at, variable_count}
-use Rattle.hz_net.specs.Network.{Wire, gate_wires, wires_from, wires_of, External, Source, network_of, driver_at}
+use Rattle.hz_core.specs.Netlist.{Netlist, IsCircuit, IsGateNumber, gate_at, variable_count}
+use Rattle.hz_net.specs.Network.{Wire, wires_of, External, Source, network_of, driver_at}
 use Rattle.hz_net.specs.Variables.{variable_kinds, first_wire, at_wires, readers_from, fan_out_of}
 use Rattle.hz_net.specs.declared.variable.VarKind.TheVariants.{Wire as WireKind}
 use Rattle.hz_net.specs.Entries.{wire_entry}
-use Rattle.hz_net.proofs.Places.{no_wire, All-wires_of, length-network_of, length-wires_of, driver_at-input, driver_at-gate, driver_at-wire, wire_at-pin, at-entries_of-wire, variable_kinds-entry, first_wire-bound}
+use Rattle.hz_net.proofs.Places.{no_wire, All-wires_of, length-network_of, length-wires_of, driver_at-input, driver_at-gate, driver_at-wire, at-entries_of-wire, variable_kinds-entry, first_wire-bound}
 use Rattle.hz_net.proofs.PartLemmas.{length-part, at-part}
 
 -- a variable is a wire from a node

@@ -1,5 +1,5 @@
 //! The complete network of a circuit.
-ghost use Rattle.std.specs.Prelude.{◌≡◌, ◌+◌, ◌<◌, ◌≤◌, ◌↔◌, length, slice_get, slice_range, Some, All, IfOk, IsTrue};
+ghost use Rattle.std.specs.Prelude.{◌≡◌, ◌+◌, ◌<◌, ◌≤◌, ◌↔◌, length, slice_get, Some, All, IfOk, IsTrue};
 ghost use Rattle.hz_core.specs.Netlist.{IsCircuit, IsWhole, IsGateNumber, variable_count, gate_at};
 ghost use Rattle.hz_net.specs.Network.{network_of, driver_at, bit_at, excitation, excitation3, IsStable};
 ghost use Rattle.hz_net.specs.Variables.{variable_kinds, first_wire, fan_out_of, expansion_of};

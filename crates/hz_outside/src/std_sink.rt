@@ -1,5 +1,5 @@
 //! Standard output: the trusted edge.
-ghost use Rattle.std.specs.Prelude.{◌≡◌, ◌+◌, ◌≤◌, length, MatchResult};
+ghost use Rattle.std.specs.Prelude.{◌≡◌, ◌+◌, ◌≤◌, MatchResult};
 ghost use Rattle.hz_outside.specs.Counts.{count_after};
 
 use super::fault::PutFault;

@@ -2,7 +2,7 @@
 ghost use Rattle.std.specs.Prelude.{◌≡◌, ◌≢◌, ℕ, ◌<◌, ◌≤◌, length, map, take, MatchResult, MatchOption, IfOk};
 ghost use Rattle.hz_core.specs.declared.tri.Tri.TheVariants.{Unknown};
 ghost use Rattle.hz_core.specs.Netlist.{IsCircuit, IsGateNumber, primary_inputs};
-ghost use Rattle.hz_net.specs.Network.{network_of, value_at, bit_at, excitation, IsUnstable};
+ghost use Rattle.hz_net.specs.Network.{network_of, value_at, bit_at, excitation};
 ghost use Rattle.hz_net.specs.Variables.{expansion_of};
 ghost use Rattle.hz_net.specs.Starts.{ListsInputs, IsAcceptedStart};
 ghost use Rattle.hz_pass.specs.Completed.{IsStartFault, bit_or_zero, IsLeastUnknown, IsLeastUnstableIn};

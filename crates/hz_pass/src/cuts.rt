@@ -1,5 +1,5 @@
 //! The cuts of a circuit by their data nodes.
-ghost use Rattle.std.specs.Prelude.{◌≡◌, ◌≢◌, ◌++◌, ◌∷◌, ◌<◌, ◌≤◌, [], ℕ, None, Some, IfOk, IsTrue, OnOk, length, map, replicate, slice_get, slice_set};
+ghost use Rattle.std.specs.Prelude.{◌≡◌, ◌≢◌, ◌++◌, ◌∷◌, ◌<◌, [], ℕ, None, Some, IfOk, IsTrue, OnOk, length, map, replicate, slice_get, slice_set};
 ghost use Rattle.hz_core.specs.Netlist.{IsCutNumber};
 ghost use Rattle.hz_pass.specs.CutLists.{cuts_at, AreByData, AreDataCutsBelow};
 

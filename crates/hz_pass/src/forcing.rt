@@ -11,7 +11,7 @@
 //!
 //! What breaks if you add a way to force a node: it needs a case in `IsGiven`, a list of those who wait for it, and a field in
 //! `ForcedSoFar` for what is still due, as cuts have. A value that is taken back breaks everything.
-ghost use Rattle.std.specs.Prelude.{◌≡◌, ◌≢◌, ◌+◌, ◌<◌, ◌≤◌, ◌^◌, [], ◌∷◌, List, Option, Bool, All, length, replicate, IfOk, OnOk};
+ghost use Rattle.std.specs.Prelude.{◌≡◌, ◌≢◌, ◌+◌, ◌<◌, ◌≤◌, ◌^◌, [], List, Option, Bool, All, length, replicate, IfOk, OnOk};
 ghost use Rattle.hz_core.specs.declared.tri.Tri.TheVariants.{Unknown};
 ghost use Rattle.hz_core.specs.Ternary.{unknown_count};
 ghost use Rattle.hz_core.specs.Netlist.{IsCircuit, IsGateNumber};

@@ -1,7 +1,7 @@
 //! One round of a pass, which evaluates some of the variables.
 ghost use Rattle.std.specs.Prelude.{◌≡◌, ◌+◌, ◌<◌, ◌≤◌, ℕ, [], length, not, fold, slice_set, sum_by, vec_capacity, All};
 ghost use Rattle.hz_core.specs.Netlist.{IsCircuit};
-ghost use Rattle.hz_net.specs.Network.{network_of, value_at};
+ghost use Rattle.hz_net.specs.Network.{network_of};
 ghost use Rattle.hz_pass.specs.Frontier.{next_value, is_open, Falls, IsMade, IsQuiet, IsRoundSoFar, IsRound, reader_count, with_values_of};
 
 use hz_core::Tri;

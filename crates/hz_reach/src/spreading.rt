@@ -10,13 +10,13 @@
 //!
 //! What breaks if you add a change: a wire before its source, or a gate before its wires, is stable then, and the step is
 //! none. A second change of a variable falsifies `IsSpreadRun`, and the room. A new kind of gate needs its canonical pattern.
-ghost use Rattle.std.specs.Prelude.{◌≡◌, ℕ, ◌+◌, ◌<◌, ◌≤◌, Bool, true, false, not, ◌&&◌, List, [], length, take, IsTrue, MatchBool};
+ghost use Rattle.std.specs.Prelude.{◌≡◌, ◌+◌, ◌<◌, ◌≤◌, Bool, true, false, not, ◌&&◌, List, [], length, MatchBool};
 ghost use Rattle.hz_core.specs.Ternary.{is_unknown};
 ghost use Rattle.hz_core.specs.Gate.{takes};
 ghost use Rattle.hz_core.specs.Netlist.{IsCircuit, IsWhole, IsGateNumber, gate_at};
-ghost use Rattle.hz_core.specs.Pattern.{differs, IsCandidate, IsPattern};
-ghost use Rattle.hz_net.specs.Network.{network_of, bit_at, value_at};
-ghost use Rattle.hz_net.specs.Variables.{first_wire, at_wires};
+ghost use Rattle.hz_core.specs.Pattern.{differs, IsCandidate};
+ghost use Rattle.hz_net.specs.Network.{network_of, bit_at};
+ghost use Rattle.hz_net.specs.Variables.{at_wires};
 ghost use Rattle.hz_gmw.specs.Runs.{end_of};
 ghost use Rattle.hz_reach.specs.Order.{key_at, IsInKeyOrder};
 ghost use Rattle.hz_reach.specs.Room.{Spends};

@@ -1,5 +1,5 @@
 //! The summary of a change.
-ghost use Rattle.std.specs.Prelude.{◌≡◌, ◌++◌, [], ◌∷◌, length, codes, count_by, nat_eq};
+ghost use Rattle.std.specs.Prelude.{◌≡◌, count_by, nat_eq};
 ghost use Rattle.std.specs.List.{flat_map};
 ghost use Rattle.hz_write.specs.Writer.{Writes, NoneWaits};
 ghost use Rattle.hz_desk.specs.Finding.{finding_of};

@@ -1,6 +1,6 @@
 // Assignments `name = word`, looked up in a circuit, and what each text asks of them.
 
-ghost use Rattle.std.specs.Prelude.{◌≡◌, ◌<◌, ◌≤◌, All, length, map, Some, None, IfOk, IfSome, MatchResult, vec_len, slice_index, EachIndex, not, position};
+ghost use Rattle.std.specs.Prelude.{◌≡◌, ◌<◌, ◌≤◌, length, map, Some, None, IfOk, IfSome, MatchResult, vec_len, slice_index, EachIndex, not, position};
 ghost use Rattle.std.specs.List.{range_with_len};
 ghost use Rattle.hz_line.specs.Reading.{IsUnread};
 ghost use Rattle.hz_line.specs.Token.{token_of};

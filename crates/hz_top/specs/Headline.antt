@@ -2,11 +2,11 @@
 -- prints of each variable, as A, the join of the values that it takes in all states that runs of the multiple-winner model reach,
 -- and as B, the join over the states that are reached from the nontransient cycles of these runs. Both algorithms end after at most
 -- one round more than there are variables. Every X comes with printed runs that show both values, and that `replay` accepts.
-use Rattle.std.specs.Prelude.{◌≡◌, ◌≢◌, ℕ, zero, suc, ◌+◌, ◌<◌, ◌≤◌, Bool, List, ◌++◌, length, take, map, Contains, Option, Some, slice_get}
+use Rattle.std.specs.Prelude.{◌≡◌, ◌≢◌, ℕ, zero, suc, ◌+◌, ◌<◌, ◌≤◌, Bool, List, ◌++◌, length, take, Contains, Option, Some, slice_get}
 use Rattle.hz_outside.specs.Counts.{Rose}
 use Rattle.hz_outside.specs.WrittenText.{extended_text}
 use Rattle.hz_core.specs.Netlist.{Netlist}
-use Rattle.hz_net.specs.Network.{Driver, network_of, bit_at, value_at}
+use Rattle.hz_net.specs.Network.{network_of, bit_at, value_at}
 use Rattle.hz_net.specs.Passes.{algorithm_a, algorithm_b, IsUnknown, AreRounds}
 use Rattle.hz_net.specs.Starts.{IsStableStart, IsAcceptedStart}
 use Rattle.hz_gmw.specs.Runs.{IsRun, end_of, IsReachable, JoinsTo}

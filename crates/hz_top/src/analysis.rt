@@ -1,5 +1,5 @@
 //! The job `analyse`: the text of a script, and its start.
-ghost use Rattle.std.specs.Prelude.{◌≡◌, ◌≤◌, length};
+ghost use Rattle.std.specs.Prelude.{◌≤◌, length};
 ghost use Rattle.hz_core.specs.Netlist.{IsCircuit};
 ghost use Rattle.hz_text.specs.ScriptText.{IsScriptFor};
 ghost use Rattle.hz_words.specs.Values.{IsCap};

@@ -1,5 +1,5 @@
 //! The order of work on two files: the first file, its netlist, the second file, and then what the task does with its text.
-ghost use Rattle.std.specs.Prelude.{◌≡◌, ◌≤◌, length};
+ghost use Rattle.std.specs.Prelude.{◌≤◌, length};
 ghost use Rattle.hz_outside.specs.declared.fault.Place.TheVariants.{First, Second};
 ghost use Rattle.hz_words.specs.Job.{HasCap};
 ghost use Rattle.hz_top.specs.Answer.{Answers};

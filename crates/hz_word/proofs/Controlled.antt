@@ -7,7 +7,7 @@ use Rattle.hz_word.specs.Word.{IsWord, AreWords}
 use Rattle.hz_word.specs.Walk.{current_letters, MayAdvance, after_move, AreAtTheirEnds, change_between}
 use Rattle.hz_word.proofs.Moves.{after_move-AreWords, length-after_move}
 use Rattle.hz_word.proofs.Potentials.{IsTight, IsPotential}
-use Rattle.hz_word.proofs.Totals.{Totals, others, final, is_zero, less_one, bit, of_word, plus, nothing, totals, most_by, most_of, IsSound, IsMoved, or-false-left, or-false-right, plus-IsSound, plus-IsMoved, same-IsMoved, bound}
+use Rattle.hz_word.proofs.Totals.{Totals, others, final, is_zero, less_one, of_word, plus, nothing, totals, most_by, most_of, IsSound, IsMoved, or-false-left, or-false-right, plus-IsSound, plus-IsMoved, same-IsMoved, bound}
 use Rattle.hz_word.proofs.Search.{Found, NonePasses, search_words, ends-from_none}
 use Rattle.hz_word.proofs.Parity.{change-complemented}
 

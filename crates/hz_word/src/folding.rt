@@ -1,4 +1,4 @@
-ghost use Rattle.std.specs.Prelude.{◌≡◌, ℕ, ◌≤◌, Bool, false, not, IsTrue, length};
+ghost use Rattle.std.specs.Prelude.{◌≡◌, ◌≤◌, false, not, IsTrue, length};
 ghost use Rattle.std.specs.List.{fold, All};
 ghost use Rattle.hz_core.specs.Gate.{takes};
 ghost use Rattle.hz_word.specs.Capped.{IsWithinCap, IsFold};

@@ -1,5 +1,5 @@
 //! What the arguments may be.
-ghost use Rattle.std.specs.Prelude.{◌≡◌, ◌≤◌, ◌^◌, ◌<◌, IfSome};
+ghost use Rattle.std.specs.Prelude.{◌≡◌, ◌≤◌, ◌<◌, IfSome};
 ghost use Rattle.hz_gen.specs.Demo.{IsDemoNumber};
 ghost use Rattle.hz_words.specs.Values.{number_up_to, cap_of, show_of, demo_of, begins_with_digit, IsCap};
 

@@ -8,7 +8,7 @@ ghost use Rattle.hz_text.specs.RunResolution.{run_resolution_of, numbered_run_re
 ghost use Rattle.hz_text.specs.RunFault.{variables_in};
 ghost use Rattle.hz_text.specs.OrderPass.{place_after, runs_out_of_order};
 ghost use Rattle.hz_text.specs.RunRules.{AssignsBelow, first_run_fault};
-ghost use Rattle.hz_text.specs.RunText.{IsRunTextBy, step_of, run_statements};
+ghost use Rattle.hz_text.specs.RunText.{IsRunTextBy, run_statements};
 ghost use Rattle.hz_text.specs.RunOrder.{statements_without_lines};
 ghost use Rattle.hz_text.specs.RunBuilt.{after_header, last_place, IsRunAdded};
 ghost use Rattle.hz_text.specs.Assignment.{assigned_bit};

@@ -1,6 +1,6 @@
 //! Reading run texts.
 
-ghost use Rattle.std.specs.Prelude.{◌≡◌, ◌≤◌, ◌⊎◌, length, None, IfOk, IfErr, OnOk, IsErrOf, MatchResult};
+ghost use Rattle.std.specs.Prelude.{◌≤◌, ◌⊎◌, length, IfOk, IfErr, OnOk, IsErrOf, MatchResult};
 ghost use Rattle.hz_text.specs.RunFault.{IsLeastRunFault, IsRunFaultless, IsRunRefusal};
 ghost use Rattle.hz_text.specs.RunRules.{IsAcceptedRunText};
 ghost use Rattle.hz_text.specs.RunText.{IsRunValue, IsRunTextFor};

@@ -2,7 +2,7 @@
 
 ghost use Rattle.std.specs.Prelude.{◌≡◌, length, map, IfOk, MatchResult, Some};
 ghost use Rattle.std.specs.Option.{option_map};
-ghost use Rattle.hz_line.specs.Reading.{numbered_by, IsUnread};
+ghost use Rattle.hz_line.specs.Reading.{IsUnread};
 ghost use Rattle.hz_line.specs.Token.{token_of};
 ghost use Rattle.hz_text.specs.Assignment.{assigned_by};
 ghost use Rattle.hz_text.specs.Rules.{AreBelow};

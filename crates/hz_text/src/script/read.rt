@@ -1,6 +1,6 @@
 //! Reading scripts.
 
-ghost use Rattle.std.specs.Prelude.{◌≡◌, ◌≤◌, ◌⊎◌, length, IfOk, IfErr, OnOk, IsErrOf, MatchResult};
+ghost use Rattle.std.specs.Prelude.{◌≤◌, ◌⊎◌, length, IfOk, IfErr, OnOk, IsErrOf, MatchResult};
 ghost use Rattle.hz_text.specs.ScriptFault.{IsLeastScriptFault, IsScriptFaultless, IsScriptRefusal};
 ghost use Rattle.hz_text.specs.ScriptReading.{IsAcceptedScript};
 ghost use Rattle.hz_text.specs.ScriptText.{IsValue, IsScriptFor};

@@ -1,10 +1,7 @@
 // The statements of a script, looked up in a circuit.
 
-ghost use Rattle.std.specs.Prelude.{◌≡◌, IsSome, length, map, IfOk, MatchResult, Some};
+ghost use Rattle.std.specs.Prelude.{◌≡◌, length, Some};
 ghost use Rattle.std.specs.Option.{option_map};
-ghost use Rattle.hz_line.specs.Reading.{numbered_by, IsUnread};
-ghost use Rattle.hz_line.specs.Token.{token_of};
-ghost use Rattle.hz_text.specs.Rules.{AreBelow};
 ghost use Rattle.hz_text.specs.Statement.{keyword_of};
 ghost use Rattle.hz_text.specs.Resolution.{resolution_of, keyword_by, resolve_tokens};
 ghost use Rattle.hz_text.specs.ScriptRules.{script_rules};

@@ -1,4 +1,4 @@
-use Rattle.std.proofs.Common.{◌≡◌, ◌<◌, ◌∙◌, ℕ, length, All, sym, subst, arith}
+use Rattle.std.proofs.Common.{◌<◌, ◌∙◌, ℕ, length, All, sym, subst, arith}
 use Rattle.hz_core.specs.Netlist.{IsCircuit}
 use Rattle.hz_net.specs.Network.{network_of}
 use Rattle.hz_net.specs.declared.entry.Entry.TheVariants.{Input, Gate, Wire}

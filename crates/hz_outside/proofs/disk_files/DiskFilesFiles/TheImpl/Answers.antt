@@ -1,5 +1,5 @@
 -- What the files of the file system count gives what every store of files ensures; they tell no content.
-use Rattle.std.proofs.Common.{◌≡◌, rules, refl}
+use Rattle.std.proofs.Common.{rules, refl}
 use Rattle.hz_outside.proofs.CountLemmas.{kept, failed-rose, long-rose}
 use Rattle.hz_outside.proofs.disk_files.DiskFilesFiles.TheImpl.Goals as goal
 

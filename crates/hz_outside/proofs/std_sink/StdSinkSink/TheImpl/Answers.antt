@@ -1,8 +1,8 @@
 -- What standard output counts gives what every sink ensures; it tells nothing of what was written.
-use Rattle.std.proofs.Common.{◌≡◌, ◌≤◌, ℕ, rules, arith, sym, Ok, Err, Result, MatchResult}
+use Rattle.std.proofs.Common.{◌≡◌, ◌≤◌, ℕ, rules, arith, Ok, Err, Result, MatchResult}
 use Rattle.hz_outside.specs.Counts.{count_after}
 use Rattle.hz_outside.specs.declared.fault.PutFault.{PutFault}
-use Rattle.hz_outside.specs.declared.fault.PutFault.TheVariants.{Failed, Memory}
+use Rattle.hz_outside.specs.declared.fault.PutFault.TheVariants.{Failed}
 use Rattle.hz_outside.proofs.CountLemmas.{rose}
 use Rattle.hz_outside.proofs.WrittenLemmas.{extended_text-untold, GrewByPrefix-untold}
 use Rattle.hz_outside.proofs.std_sink.StdSinkSink.TheImpl.Goals as goal
