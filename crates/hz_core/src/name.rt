@@ -5,6 +5,7 @@ ghost use Rattle.std.specs.Str.{bytes_eq};
 ghost use Rattle.hz_core.specs.NameHash.{hash_of};
 
 use crate::{Chains, Memory, NameHashing};
+use smallvec::SmallVec;
 use std::alloc::Global;
 use std::marker::Model;
 
@@ -44,10 +45,10 @@ pub fn find_name<N: Named>(
     None
 }
 
-// A name that a circuit keeps.
+// A name that a circuit keeps. Most names are short, and need no allocation.
 #[derive(Debug, Drop)]
 pub(crate) struct NameEntry {
-    bytes: Vec<u8>,
+    bytes: SmallVec<u8, 16>,
 }
 
 impl Model for NameEntry {
@@ -63,7 +64,7 @@ impl NameEntry {
     pub(crate) fn new(alloc: Global, name: &[u8]) -> Result<NameEntry, Memory>
         ensures { IfOk result (λ entry. entry ≡ name.now) }
     {
-        let Ok(bytes) = Vec::from_slice(alloc, name) else {
+        let Ok(bytes) = SmallVec::from_slice(alloc, name) else {
             return Err(Memory);
         };
         Ok(NameEntry { bytes })
