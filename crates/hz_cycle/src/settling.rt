@@ -1,11 +1,13 @@
 //! The settle run.
-ghost use Rattle.std.specs.Prelude.{◌≡◌, ◌*◌, ◌<◌, ◌≤◌, Bool, List, [], length};
+ghost use Rattle.std.specs.Prelude.{◌≡◌, ◌+◌, ◌*◌, ◌<◌, ◌≤◌, Bool, List, [], length};
 ghost use Rattle.std.specs.List.{slice_range};
 ghost use Rattle.hz_core.specs.declared.tri.Tri.{Tri};
 ghost use Rattle.hz_net.specs.Network.{Driver, network_of};
+ghost use Rattle.hz_gmw.specs.RunRecord.{flip_count};
 ghost use Rattle.hz_gmw.specs.Runs.{end_of};
 ghost use Rattle.hz_reach.specs.Order.{IsInKeyOrder};
 ghost use Rattle.hz_reach.specs.Room.{Spends};
+ghost use Rattle.hz_reach.specs.Spread.{IsSparingRun};
 ghost use Rattle.hz_reach.specs.Given.{IsScratchFor, IsEmptyRun};
 ghost use Rattle.hz_cycle.specs.Cycles.{AreResultsOfBoth, IsSettleRun};
 ghost use Rattle.hz_cycle.specs.Rounds.{differing_variables, IsOneRound, AreRoundsOf, AreRoundsMade};
@@ -15,7 +17,7 @@ use crate::passing::make_pass;
 use hz_core::Tri;
 use hz_gmw::Run;
 use hz_net::Net;
-use hz_reach::{Scratch, run_counts, run_ends, spread_in_order};
+use hz_reach::{Scratch, run_counts, run_ends, sparing_in_order};
 
 /// The settle run: a run from a start that is stable under its own inputs, in whose last state each variable that is not X
 /// in the result of Algorithm B has its value there and is stable. That state is turned, so that a cycle may begin in it.
@@ -48,11 +50,13 @@ pub fn settle_run(
     ensures room { Spends run.old run.new }
 {
     scratch.sort(rank);
-    settle_in_order(net, start, input, a, rank, when, b, scratch, run);
+    sparing_in_order(net, start, input, a, rank, scratch, run);
+    settle_from(net, start, input, a, rank, when, b, scratch, run);
 }
 
-/// The settle run, if the variables of `scratch` are sorted by rank already. They are so afterwards too.
-pub fn settle_in_order(
+/// The settle run, if the run has its beginning already, the spread run without the wires that it does not need, and `scratch`
+/// has the last state of that. Afterwards the variables of `scratch` are sorted by rank.
+pub fn settle_from(
     net: &Net,
     start: &[bool],
     input: &[bool],
@@ -64,9 +68,11 @@ pub fn settle_in_order(
     run: &mut Run,
 )
     requires change { AreResultsOfBoth net.now input.now start.now a.now rank.now when.now b.now }
-    requires scratch { IsScratchFor net.now scratch.old }
-    requires sorted { IsInKeyOrder rank.now scratch.old.sorted }
-    requires run { IsEmptyRun (2 * length (network_of net.now)) run.old }
+    requires begun { IsSparingRun (network_of net.now) input.now start.now a.now rank.now run.old.steps }
+    requires state { scratch.old.state ≡ end_of start.now run.old.steps }
+    requires none_marked { scratch.old.marked ≡ [] }
+    requires room_for_flips { 2 * length (network_of net.now) ≤ run.old.spare_flips + flip_count run.old.steps }
+    requires room_for_steps { 2 * length (network_of net.now) ≤ run.old.spare_steps + length run.old.steps }
     ensures run { IsSettleRun (network_of net.now) input.now start.now a.now b.now run.new.steps }
     ensures turned { IsTurned (network_of net.now) rank.now b.now scratch.new.state }
     ensures state { scratch.new.state ≡ end_of start.now run.new.steps }
@@ -79,7 +85,6 @@ pub fn settle_in_order(
     let _variables = net.len();
     run_counts();
     run_ends();
-    spread_in_order(net, start, input, a, rank, true, scratch, run);
     settle_rounds(when, b, scratch, run);
     scratch.sort(rank);
     make_pass(net, rank, b, scratch, run);

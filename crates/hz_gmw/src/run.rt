@@ -104,6 +104,21 @@ impl Run {
         self.ends.clear();
     }
 
+    /// Takes over the steps of another run, in place of those that were there. What these took is room again.
+    pub fn copy_from(&mut self, other: &Run)
+        requires room_for_flips { flip_count other.now.steps ≤ self.old.spare_flips + flip_count self.old.steps }
+        requires room_for_steps { length other.now.steps ≤ self.old.spare_steps + length self.old.steps }
+        ensures steps { self.new.steps ≡ other.now.steps }
+        ensures spare_flips { self.new.spare_flips + flip_count other.now.steps ≡ self.old.spare_flips + flip_count self.old.steps }
+        ensures spare_steps { self.new.spare_steps + length other.now.steps ≡ self.old.spare_steps + length self.old.steps }
+    {
+        self.clear();
+        append(&mut self.flips, other.flips.as_slice());
+        append(&mut self.ends, other.ends.as_slice());
+        self.spare_flips -= other.flips.len();
+        self.spare_steps -= other.ends.len();
+    }
+
     /// The number of steps.
     pub fn steps(&self) -> usize
         ensures { result ≡ length self.now.steps }
@@ -128,7 +143,7 @@ impl Run {
 }
 
 // Appends. There is room.
-fn append(list: &mut Vec<u32>, more: &[u32])
+fn append<T: Copy>(list: &mut Vec<T>, more: &[T])
     requires { vec_len list.old + length more.now ≤ vec_capacity list.old }
     ensures items { list.new.items ≡ list.old.items ++ more.now }
     ensures len { vec_len list.new ≡ vec_len list.old + length more.now }

@@ -19,7 +19,7 @@ ghost use Rattle.hz_net.specs.Network.{network_of, bit_at};
 ghost use Rattle.hz_net.specs.Variables.{at_wires};
 ghost use Rattle.hz_gmw.specs.Runs.{end_of};
 ghost use Rattle.hz_reach.specs.Order.{key_at, IsInKeyOrder};
-ghost use Rattle.hz_reach.specs.Room.{Spends};
+ghost use Rattle.hz_reach.specs.Room.{Spends, with_step_if_any, HasRoomForStep};
 ghost use Rattle.hz_reach.specs.Given.{AreResultsOfA, IsScratchFor, IsEmptyRun};
 ghost use Rattle.hz_reach.specs.Spread.{IsSpreadRun, IsSparingRun};
 ghost use Rattle.hz_reach.specs.Turn.{changed_inputs, free_pins, changed_wires, AreChangedWires, unchanged_wires};
@@ -88,6 +88,39 @@ pub fn spread_in_order(
     ensures sorted { IsInKeyOrder rank.now scratch.new.sorted }
     ensures room { Spends run.old run.new }
 {
+    // A getter of the network says that its circuit is one.
+    let _variables = net.len();
+    sparing_in_order(net, start, input, a, rank, scratch, run);
+    if !keep_unused {
+        mark_unchanged(net, start, a, scratch);
+        scratch.step(run);
+    }
+}
+
+/// The spread run without the wires that it does not need, if the variables of `scratch` are sorted by rank already. They stay
+/// so. With the wires that have not changed as one more step, it is the whole spread run: [`add_unused`] adds them.
+pub fn sparing_in_order(
+    net: &Net,
+    start: &[bool],
+    input: &[bool],
+    a: &[Tri],
+    rank: &[u32],
+    scratch: &mut Scratch,
+    run: &mut Run,
+)
+    requires change { AreResultsOfA net.now input.now start.now a.now rank.now }
+    requires scratch { IsScratchFor net.now scratch.old }
+    requires sorted { IsInKeyOrder rank.now scratch.old.sorted }
+    requires run { IsEmptyRun (length (network_of net.now)) run.old }
+    ensures sparing { IsSparingRun (network_of net.now) input.now start.now a.now rank.now run.new.steps }
+    ensures whole { IsSpreadRun (network_of net.now) input.now start.now a.now
+        (with_step_if_any run.new.steps (unchanged_wires net.now a.now start.now scratch.new.state)) }
+    ensures room_for_unused { HasRoomForStep (unchanged_wires net.now a.now start.now scratch.new.state) run.new }
+    ensures state { scratch.new.state ≡ end_of start.now run.new.steps }
+    ensures marked { scratch.new.marked ≡ [] }
+    ensures sorted { IsInKeyOrder rank.now scratch.new.sorted }
+    ensures room { Spends run.old run.new }
+{
     let circuit = net.circuit();
     scratch.begin(start);
     mark_inputs(net, start, input, scratch);
@@ -101,10 +134,23 @@ pub fn spread_in_order(
             scratch.step(run);
         }
     }
-    if !keep_unused {
-        mark_unchanged(net, start, a, scratch);
-        scratch.step(run);
-    }
+}
+
+/// Adds the last step of the spread run to the run of [`sparing_in_order`]: the wires that are X in the result of Algorithm A and
+/// have not changed. The scratch stays as it is, in the state before that step.
+pub fn add_unused(net: &Net, start: &[bool], a: &[Tri], scratch: &mut Scratch, run: &mut Run)
+    requires start { length start.now ≡ length (network_of net.now) }
+    requires a { length a.now ≡ length (network_of net.now) }
+    requires scratch { IsScratchFor net.now scratch.old }
+    requires room { HasRoomForStep (unchanged_wires net.now a.now start.now scratch.old.state) run.old }
+    ensures steps { run.new.steps ≡ with_step_if_any run.old.steps (unchanged_wires net.now a.now start.now scratch.old.state) }
+    ensures room { Spends run.old run.new }
+    ensures same { scratch.new ≡ scratch.old }
+{
+    // A getter of the network says that its circuit is one.
+    let _variables = net.len();
+    mark_unchanged(net, start, a, scratch);
+    scratch.list_step(run);
 }
 
 // Marks the inputs that differ from the new input.

@@ -1,6 +1,6 @@
 use Rattle.std.proofs.Common.{◌≡◌, length}
 use Rattle.hz_reach.proofs.GateLoop.{IsUnderway}
-use Rattle.hz_reach.proofs.spreading.spread_in_order.Given as goal
+use Rattle.hz_reach.proofs.spreading.sparing_in_order.Given as goal
 
 -- the gates so far have had their turns
 abbrev pub invariant-loop-place : goal.invariant-loop-place
