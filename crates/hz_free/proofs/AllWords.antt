@@ -1,7 +1,6 @@
 -- The words one after the other: one more, and all.
-use Rattle.std.proofs.Common.{◌≡◌, ℕ, zero, suc, ◌+◌, ◌<◌, ◌≤◌, ◌≢◌, Bool, true, false, List, [], ◌∷◌, ◌++◌, length, take, get_or, set, replicate, Option, Some, None, refl, sym, ap, ◌∙◌, subst, arith, inl, inr, add-one, get_or-set_same, get_or-set_other, length-set}
+use Rattle.std.proofs.Common.{◌≡◌, ℕ, zero, suc, ◌+◌, ◌<◌, ◌≤◌, ◌≢◌, Bool, true, false, List, [], ◌∷◌, ◌++◌, length, take, get_or, set, Option, Some, None, refl, sym, ap, ◌∙◌, subst, arith, inl, inr, add-one, get_or-set_same, get_or-set_other, length-set}
 use Rattle.std.proofs.lemmas.Bool.{cases_Bool, cases_eq, both_ways}
-use Rattle.std.proofs.lemmas.List.{length-replicate}
 use Rattle.std.proofs.lemmas.Option.{slice_get-get_or}
 use Rattle.std.proofs.Math.Seq.{take-suc}
 use Rattle.hz_core.specs.Netlist.{Netlist}
@@ -16,7 +15,7 @@ use Rattle.hz_word.specs.Capped.{capped_word}
 use Rattle.hz_free.specs.Chains.{IsFeedbackFree}
 use Rattle.hz_free.specs.FreePart.{FreePart, IsFreePart, AreMarks}
 use Rattle.hz_free.specs.VariableWords.{IsDrivenWord, AreCappedWords}
-use Rattle.hz_free.specs.CappedWords.{AreWordsSoFar, IsReady, IsNextWord}
+use Rattle.hz_free.specs.CappedWords.{AreWordsSoFar, IsReady}
 use Rattle.hz_free.proofs.Lists.{listed-cases, listed-left, listed-one, unlisted-before}
 use Rattle.hz_free.proofs.Kahn.{listed-push-same, listed-push-other, at-listed}
 
@@ -58,7 +57,7 @@ module _ (netlist : Netlist) (input start : List Bool) (cap : ℕ) (part : FreeP
       ]
 
   module _ (place : ℕ) (few : place < length part.order) (told : List (Option Word)) (words : List (List Bool)) (are : AreWordsSoFar (network_of netlist) input start cap (take place part.order) told words) where
-    pub ready-words : IsReady (network_of netlist) input start cap told (get_or part.order place 0)
+    unfoldable pub ready-words : IsReady (network_of netlist) input start cap told (get_or part.order place 0)
     ready-words = record {
       placed = take place part.order;
       words = words;
@@ -155,26 +154,12 @@ module _ (netlist : Netlist) (input start : List Bool) (cap : ℕ) (part : FreeP
           ]
 
 -- none yet
-pub no-words : (netlist : Netlist) (input start : List Bool) (cap : ℕ) (told : List (Option Word)) → length told ≡ length (network_of netlist) → ((i : ℕ) → get_or told i None ≡ None) → (words : List (List Bool)) × AreWordsSoFar (network_of netlist) input start cap [] told words
-no-words netlist input start cap told long none = (
-  replicate (length (network_of netlist)) [],
-  record {
-    long = length-replicate (length (network_of netlist)) [];
-    told_long = long;
-    is_word = λ i there. absurd (both_ways false refl there);
-    driven = λ i there. absurd (both_ways false refl there);
-    tells = λ i there. absurd (both_ways false refl there);
-    others = λ i out. none i;
-  },
-)
-
--- the next one, as the loop has it
-pub next-words : (netlist : Netlist) (input start : List Bool) (cap : ℕ) (part : FreePart) → IsOrdered netlist part → (place : ℕ) → place < length part.order → (told : List (Option Word)) → (words : List (List Bool)) × AreWordsSoFar (network_of netlist) input start cap (take place part.order) told words → (var : ℕ) → var ≡ get_or part.order place 0 → (outcome : Word) → IsNextWord (network_of netlist) input start cap told var outcome → (words : List (List Bool)) × AreWordsSoFar (network_of netlist) input start cap (take (place + 1) part.order) (set told var (Some outcome)) words
-unfolding ready-words
-next-words netlist input start cap part is place few told (words, are) var at outcome is_next =
-    let next = subst (λ (i : ℕ). IsNextWord (network_of netlist) input start cap told i outcome) at is_next (ready-words netlist input start cap part is place few told words are) in (
-      set words (get_or part.order place 0) next.0,
-      subst (λ (i : ℕ). AreWordsSoFar (network_of netlist) input start cap (take (place + 1) part.order) (set told i (Some outcome)) (set words (get_or part.order place 0) next.0)) (sym at)
-          (subst (λ (word : Word). AreWordsSoFar (network_of netlist) input start cap (take (place + 1) part.order) (set told (get_or part.order place 0) (Some word)) (set words (get_or part.order place 0) next.0)) next.3
-          (one-more netlist input start cap part is place few told words are next.0 next.1 next.2)),
-    )
+pub none-told : (netlist : Netlist) (input start : List Bool) (cap : ℕ) (told : List (Option Word)) (words : List (List Bool)) → length words ≡ length (network_of netlist) → length told ≡ length (network_of netlist) → ((i : ℕ) → get_or told i None ≡ None) → AreWordsSoFar (network_of netlist) input start cap [] told words
+none-told netlist input start cap told words long told_long none = record {
+  long = long;
+  told_long = told_long;
+  is_word = λ i there. absurd (both_ways false refl there);
+  driven = λ i there. absurd (both_ways false refl there);
+  tells = λ i there. absurd (both_ways false refl there);
+  others = λ i out. none i;
+}

@@ -25,3 +25,4 @@ pub mod Agreement
 pub mod Changing
 pub mod Laws
 pub mod WordsExist
+pub mod ToldWords

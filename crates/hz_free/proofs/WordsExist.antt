@@ -31,7 +31,7 @@ use Rattle.hz_free.proofs.Counting.{first-more, first-same, first-ordering}
 use Rattle.hz_free.proofs.Chains.{reads-inside}
 use Rattle.hz_free.proofs.Parts.{free-AreMarks, marks-listed, after-reads}
 use Rattle.hz_free.proofs.NextWord.{AreWords-each, input_word-IsWord}
-use Rattle.hz_free.proofs.AllWords.{IsOrdered, no-words, one-more, all-words}
+use Rattle.hz_free.proofs.AllWords.{IsOrdered, none-told, one-more, all-words}
 
 -- an order that is finished
 record Ordered (readers : ℕ → List ℕ) (variables : ℕ) : Type 0 where
@@ -167,9 +167,12 @@ module _ (netlist : Netlist) (circuit : IsCircuit netlist) (whole : IsWhole netl
   -- one variable of the order after the other
   words-to : (place : ℕ) → place ≤ length part.order → (told : List (Option Word)) × (words : List (List Bool)) × AreWordsSoFar (network_of netlist) input start cap (take place part.order) told words
   words-to zero within =
-      let none : List (Option Word) = replicate (length (network_of netlist)) None in
-      let empty = no-words netlist input start cap none (length-replicate (length (network_of netlist)) None) (λ i. none-at (length (network_of netlist)) i) in
-      (none, empty.0, empty.1)
+      let told : List (Option Word) = replicate (length (network_of netlist)) None in
+      let empty : List (List Bool) = replicate (length (network_of netlist)) [] in (
+        told,
+        empty,
+        none-told netlist input start cap told empty (length-replicate (length (network_of netlist)) []) (length-replicate (length (network_of netlist)) None) (λ i. none-at (length (network_of netlist)) i),
+      )
   words-to (suc place) within =
       let few : place < length part.order = omega arith in
       let so_far = words-to place (omega arith) in

@@ -1,6 +1,8 @@
-ghost use Rattle.std.specs.Prelude.{◌≡◌, ◌==◌, ◌<◌, ◌≤◌, ◌↔◌, ℕ, Bool, false, Option, List, [], length, map, Contains, IfOk, IsTrue, None, slice_index_or};
+ghost use Rattle.std.specs.Prelude.{◌≡◌, ◌==◌, ◌<◌, ◌≤◌, ◌↔◌, ℕ, Bool, true, false, Option, List, [], length, map, Contains, IfOk, IfSome, IsTrue, MatchOption, None, slice_index_or};
 ghost use Rattle.hz_core.specs.Netlist.{Netlist};
-ghost use Rattle.hz_net.specs.Network.{network_of, bit_at};
+ghost use Rattle.hz_core.specs.Ternary.{is_unknown};
+ghost use Rattle.hz_net.specs.Network.{network_of, bit_at, value_at};
+ghost use Rattle.hz_net.specs.Passes.{algorithm_a, IsResult};
 ghost use Rattle.hz_net.specs.Starts.{IsStableStart};
 ghost use Rattle.hz_net.specs.Reads.{readers_of};
 ghost use Rattle.hz_free.specs.Chains.{IsFeedbackFree};
@@ -14,8 +16,8 @@ ghost use Rattle.hz_core.specs.Limits.{most_gate_pins};
 
 use crate::feedback::{Feedback, find_feedback};
 use crate::order::{count_reads, place_all};
-use crate::words::{gate_word, input_word};
-use hz_core::{MAX_PINS, Memory};
+use crate::words::{constant_word, gate_word, input_word};
+use hz_core::{MAX_PINS, Memory, Tri};
 use hz_net::{Net, VarKind};
 use hz_word::{Count, Word};
 use std::alloc::Global;
@@ -124,32 +126,75 @@ impl Free {
         requires out { length out.old ≡ length (network_of net.now) }
         ensures { AreCappedWords (network_of net.now) input.now start.now cap out.new }
     {
-        write_words(net, self.order.as_slice(), start, input, cap, out);
+        write_words(net, self.order.as_slice(), start, input, cap, None, out);
+    }
+
+    /// Writes the same words as [`words`](Free::words), given the result of Algorithm A: it folds only those of the variables that
+    /// are X there, since the others do not change.
+    pub fn words_given_a(
+        &self,
+        net: &Net,
+        start: &[bool],
+        input: &[bool],
+        cap: u64,
+        a: &[Tri],
+        out: &mut [Option<Word>],
+    )
+        requires part { IsFreePart net.now self.now }
+        requires start { IsStableStart net.now start.now }
+        requires input { length input.now ≡ net.now.inputs }
+        requires cap_low { 1 ≤ cap }
+        requires cap_high { cap ≤ greatest_cap }
+        requires a { IsResult (algorithm_a (network_of net.now) input.now start.now) a.now }
+        requires out { length out.old ≡ length (network_of net.now) }
+        ensures { AreCappedWords (network_of net.now) input.now start.now cap out.new }
+    {
+        write_words(net, self.order.as_slice(), start, input, cap, Some(a), out);
     }
 }
 
-// The words of the variables of an order, one after the other.
+// The words of the variables of an order, one after the other. If the result of Algorithm A is given, a variable that is 0 or 1
+// there is known not to change.
 fn write_words(
     net: &Net,
     order: &[u32],
     start: &[bool],
     input: &[bool],
     cap: u64,
+    a: Option<&[Tri]>,
     out: &mut [Option<Word>],
 )
     requires part { (free : List Bool) × (cycles : List (List ℕ)) × (cores : List (Option ℕ)) × IsFreePart net.now (record { free = free; order = order.now; cycles = cycles; cores = cores }) }
-    requires start { length start.now ≡ length (network_of net.now) }
+    requires start { IsStableStart net.now start.now }
     requires input { length input.now ≡ net.now.inputs }
     requires cap_low { 1 ≤ cap }
     requires cap_high { cap ≤ greatest_cap }
+    requires a { IfSome a (λ a. IsResult (algorithm_a (network_of net.now) input.now start.now) a.now) }
     requires out { length out.old ≡ length (network_of net.now) }
     ensures { AreCappedWords (network_of net.now) input.now start.now cap out.new }
 {
+    // A getter of the network says that its circuit is one.
+    let _variables = net.len();
     clear(out);
     let mut pins = [NO_WORD; MAX_PINS];
     for var in order {
-        let word = word_of(net, start, input, cap, out, &mut pins, *var);
+        let word = if may_change(a, *var) {
+            word_of(net, start, input, cap, out, &mut pins, *var)
+        } else {
+            constant_word(start[*var as usize])
+        };
         out[*var as usize] = Some(word);
+    }
+}
+
+// Whether a variable may change: if the result of Algorithm A is given, where it is X.
+fn may_change(a: Option<&[Tri]>, var: u32) -> bool
+    requires { IfSome a (λ a. var < length a.now) }
+    ensures { MatchOption a.entry (result ≡ true) (λ a. result ≡ is_unknown (value_at a.now var)) }
+{
+    match a {
+        Some(a) => a[var as usize] == Tri::Unknown,
+        None => true,
     }
 }
 

@@ -1,5 +1,5 @@
 //! The words of the feedback-free variables, one after the other in their order.
-ghost use Rattle.std.specs.Prelude.{◌≡◌, ℕ, ◌<◌, ◌≤◌, Some, length, map, IsTrue, All};
+ghost use Rattle.std.specs.Prelude.{◌≡◌, ℕ, ◌<◌, ◌≤◌, Some, [], ◌∷◌, length, map, IsTrue, All};
 ghost use Rattle.hz_core.specs.Gate.{takes};
 ghost use Rattle.hz_word.specs.Capped.{capped_word};
 ghost use Rattle.hz_free.specs.VariableWords.{input_word};
@@ -8,6 +8,16 @@ ghost use Rattle.hz_word.specs.Capped.{greatest_cap};
 
 use hz_core::Kind;
 use hz_word::{Count, Word, fold};
+
+// The word of a variable that keeps its value.
+pub(crate) fn constant_word(value: bool) -> Word
+    ensures { (cap : ℕ) → capped_word cap (value ∷ []) ≡ result }
+{
+    Word {
+        first: value,
+        changes: Count::Exact(0),
+    }
+}
 
 // The word of an input: its value at the start, and one change if the new input differs.
 pub(crate) fn input_word(old: bool, new: bool) -> Word
