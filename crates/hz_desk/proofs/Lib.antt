@@ -1,4 +1,4 @@
-pub mod RowLoop
+pub mod RowLists
 pub mod RaceLoop
 pub mod BelowA
 pub mod FewSteps

@@ -26,15 +26,6 @@ IsClass start a b changes Single = IsUnknown a × (b ≡ tri_of (not start)) × 
 IsClass start a b changes MaybeDynamic = IsUnknown a × (b ≡ tri_of (not start)) × ChangesAgain changes
 IsClass start a b changes Change = IsUnknown a × (b ≡ tri_of (not start)) × (changes ≡ None)
 
--- the class of a variable that settles at another value than at the start
-abbrev pub IsClassOfChange : Option Count → Class → Type 0
-IsClassOfChange changes Single = changes ≡ Some (Exact 1)
-IsClassOfChange changes MaybeDynamic = ChangesAgain changes
-IsClassOfChange changes Change = changes ≡ None
-IsClassOfChange changes Steady = ⊥
-IsClassOfChange changes Static = ⊥
-IsClassOfChange changes Unsettled = ⊥
-
 -- no two classes are those of the same variable
 abbrev pub OneClass : Type 0
 OneClass =

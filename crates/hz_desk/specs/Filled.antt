@@ -12,12 +12,19 @@ use Rattle.hz_reach.specs.Spread.{IsSpreadRun}
 use Rattle.hz_cycle.specs.Cycles.{IsSettleRun, IsCycleOf}
 use Rattle.hz_word.specs.declared.word.Word.{Word}
 use Rattle.hz_free.specs.VariableWords.{AreCappedWords}
-use Rattle.hz_desk.specs.Finding.{FindingOf}
+use Rattle.hz_desk.specs.declared.finding.Row.{Row}
+use Rattle.hz_desk.specs.Finding.{FindingOf, values_a, values_b}
 use Rattle.hz_desk.specs.Races.{race_count, cycle_states}
 use Rattle.hz_desk.specs.RunProgress.{IsShortRun}
 use Rattle.hz_desk.specs.ResultsOfPasses.{ArePassResults}
 use Rattle.hz_desk.specs.Rows.{AreRowsOf}
 use Rattle.hz_desk.specs.RightFinding.{IsRightFinding}
+
+-- the rows are those of a change: their words are the words of the variables
+pub record AreRowsOfChange (net : List Driver) (input start : List Bool) (cap : ℕ) (rows : List Row) : Type 0 where
+  pub words : List (Option Word)
+  pub are_words : AreCappedWords net input start cap words
+  pub are_rows : AreRowsOf start (values_a rows) (values_b rows) words rows
 
 -- The three runs of a change, for the results of Algorithms A and B. Their steps can be counted.
 pub record AreRuns (net : List Driver) (input start : List Bool) (a b : List Tri) (spread settle cycle : List (List ℕ)) : Type 0 where

@@ -2,13 +2,16 @@
 --
 -- FindingOf: what is found of a change: rows, rounds, the new input, three runs, race counts
 -- IsClass start a b changes class: the class of a variable
--- IsRowOf start a b word row, AreRowsOf start a b words rows: the values of variables and their classes
+-- AreRowsOf start a b words rows: the values of variables and their classes
 -- is_race net input state, race_count net input states: two or more variables are unstable
 -- AreChanges net input start cap changes: the numbers of changes of the feedback-free variables
 -- IsRightFinding net input start cap finding: every part of it is right for this change
 -- FindingsExist: there always is one
 -- OneClass: no variable has two classes
 -- finding_of finding: what the fields of the code's Finding stand for
+-- class_in_table start a b changes: the class that the code gives a variable
+-- rows_of start a b words: the rows that the lists of a finding stand for
+-- AreRowsOfChange net input start cap rows: the rows hold the words of the variables
 -- IsFilled netlist input start cap finding: what the analysis leaves in it, which makes it right
 -- AreRuns net input start a b spread settle cycle: the three runs of a change
 -- AreRacesOf net input start spread settle cycle ..: their race states
@@ -22,6 +25,8 @@ pub mod Races
 pub mod Finding
 pub mod RightFinding
 pub mod Rows
+pub mod ClassTable
+pub mod RowsOf
 pub mod ResultsOfPasses
 pub mod Room
 pub mod RoomFor

@@ -8,9 +8,7 @@ use Rattle.hz_desk.specs.declared.passes.Passes.{Passes}
 
 -- there is a place for each variable
 pub record HavePassRoom (netlist : Netlist) (passes : Passes) : Type 0 where
-  pub a : length passes.a.items ≡ length (network_of netlist)
   pub ranks : length passes.ranks.items ≡ length (network_of netlist)
-  pub b : length passes.b.items ≡ length (network_of netlist)
   pub when : length passes.when.items ≡ length (network_of netlist)
   pub work : length passes.work.items ≡ length (network_of netlist)
   pub front : passes.front ≡ length (network_of netlist)
@@ -26,7 +24,7 @@ pub record ArePassResults (netlist : Netlist) (input start : List Bool) (a : Lis
   pub b_bound : rounds_b ≤ length (network_of netlist) + 1
   pub settling : AreSettlingRounds (algorithm_b (network_of netlist) input a) a b when
 
--- what a room for passes holds is the results of both passes
-abbrev pub HasPassResults : Netlist → List Bool → List Bool → Passes → Type 0
-HasPassResults netlist input start passes =
-    (rounds_a rounds_b : ℕ) × ArePassResults netlist input start passes.a.items passes.ranks.items passes.b.items passes.when.items rounds_a rounds_b
+-- these are the results of both passes, and a room for passes holds the rest
+abbrev pub HasPassResults : Netlist → List Bool → List Bool → List Tri → List Tri → Passes → Type 0
+HasPassResults netlist input start a b passes =
+    (rounds_a rounds_b : ℕ) × ArePassResults netlist input start a passes.ranks.items b passes.when.items rounds_a rounds_b

@@ -13,6 +13,5 @@ pub record IsRoomFor (netlist : Netlist) (room : Room) : Type 0 where
   pub free : IsFreePart netlist room.free
   pub passes : HavePassRoom netlist room.passes
   pub scratch : IsScratchFor netlist room.scratch
-  pub words : length room.words.items ≡ length (network_of netlist)
   pub follower : room.follower.circuit ≡ netlist
   pub finding : HasRooms (length (network_of netlist)) netlist.inputs room.finding

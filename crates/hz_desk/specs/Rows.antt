@@ -1,4 +1,4 @@
--- The rows of a finding: what is known of a variable before its class is, and what a row holds.
+-- The rows of a finding: what is known of a variable before its class is, and what the rows hold.
 use Rattle.std.specs.Prelude.{◌≡◌, ℕ, ◌<◌, Bool, Option, Some, None, List, length, map, All}
 use Rattle.std.specs.Option.{option_map}
 use Rattle.std.specs.List.{slice_index_or}
@@ -29,14 +29,6 @@ pub record MayBeRows (variables : ℕ) (start : List Bool) (a b : List Tri) (wor
   pub b_long : length b ≡ variables
   pub words_long : length words ≡ variables
   pub each : (i : ℕ) → i < variables → MayBeRow (value_at a i) (value_at b i) (changes_of (slice_index_or words i None))
-
--- the row of a variable: these values, and their class
-pub record IsRowOf (start : Bool) (a b : Tri) (word : Option Word) (row : Row) : Type 0 where
-  pub start_is : row.start ≡ start
-  pub a_is : row.a ≡ a
-  pub b_is : row.b ≡ b
-  pub changes_is : row.changes ≡ changes_of word
-  pub class_is : IsClass row.start row.a row.b row.changes row.class
 
 -- the rows of all variables
 pub record AreRowsOf (start : List Bool) (a b : List Tri) (words : List (Option Word)) (rows : List Row) : Type 0 where

@@ -1,8 +1,7 @@
 //! Classes of variables.
-ghost use Rattle.std.specs.Prelude.{◌≢◌, Some};
-ghost use Rattle.hz_word.specs.declared.count.Count.TheVariants.{Exact};
-ghost use Rattle.hz_desk.specs.Class.{IsClass, IsClassOfChange, OneClass};
-ghost use Rattle.hz_desk.specs.Rows.{MayBeRow};
+ghost use Rattle.std.specs.Prelude.{◌≡◌};
+ghost use Rattle.hz_desk.specs.Class.{OneClass};
+ghost use Rattle.hz_desk.specs.ClassTable.{class_by_changes, class_in_table};
 
 use hz_core::Tri;
 use hz_word::Count;
@@ -35,8 +34,7 @@ pub fn one_class()
 
 // The class of a variable by its value at the start, its values in Algorithms A and B and the changes of its word.
 pub(crate) fn class_of(start: bool, a: Tri, b: Tri, changes: Option<Count>) -> Class
-    requires { MayBeRow a b changes }
-    ensures { IsClass start a b changes result }
+    ensures { result ≡ class_in_table start a b changes }
 {
     match (a, b.bit()) {
         (Tri::Zero, _) => Class::Steady,
@@ -54,8 +52,7 @@ pub(crate) fn class_of(start: bool, a: Tri, b: Tri, changes: Option<Count>) -> C
 
 // The class of a variable that goes to another value.
 fn class_of_change(changes: Option<Count>) -> Class
-    requires { changes ≢ Some (Exact 0) }
-    ensures { IsClassOfChange changes result }
+    ensures { result ≡ class_by_changes changes }
 {
     match changes {
         None => Class::Change,

@@ -1,6 +1,9 @@
 //! What is found of one change.
-ghost use Rattle.std.specs.Prelude.{◌≡◌, ◌≤◌, length, IfOk};
-ghost use Rattle.hz_desk.specs.Rows.{MayBeRow, MayBeRows, IsRowOf, AreRowsOf, changes_of};
+ghost use Rattle.std.specs.Prelude.{◌≡◌, ◌<◌, ◌≤◌, Some, length, map, IfOk};
+ghost use Rattle.std.specs.List.{slice_get};
+ghost use Rattle.hz_desk.specs.Finding.{values_a, values_b};
+ghost use Rattle.hz_desk.specs.Rows.{changes_of};
+ghost use Rattle.hz_desk.specs.RowsOf.{row_with};
 ghost use Rattle.hz_desk.specs.FindingRoom.{HasRooms};
 ghost use Rattle.hz_core.specs.Limits.{most_variables};
 
@@ -26,10 +29,14 @@ pub struct Row {
     pub class: Class,
 }
 
-/// A row for each variable, in the order of the network's variables.
+/// A row for each variable, in the order of the network's variables. The values of all rows are kept in a list for each kind, and
+/// a row is made when it is asked for.
 #[derive(Debug, Drop)]
 pub struct Rows {
-    pub(crate) rows: Vec<Row>,
+    pub(crate) start: Vec<bool>,
+    pub(crate) a: Vec<Tri>,
+    pub(crate) b: Vec<Tri>,
+    pub(crate) words: Vec<Option<Word>>,
 }
 
 impl Model for Rows {
@@ -38,33 +45,60 @@ impl Model for Rows {
 
     ghost Value = { List Row };
 
-    ghost view = { λ fields. fields.rows.items };
+    ghost use Rattle.hz_desk.specs.RowsOf.{rows_of, AreEquallyLong};
+
+    ghost view = { λ fields. rows_of fields.start.items fields.a.items fields.b.items fields.words.items };
+
+    ghost invariant = { λ fields. AreEquallyLong fields.start.items fields.a.items fields.b.items fields.words.items };
 }
 
 impl Rows {
-    // As many rows, of no change.
+    // As many rows, of variables that stay 0.
     pub(crate) fn with_room(alloc: Global, variables: usize) -> Result<Rows, Memory>
         ensures { IfOk result (λ rows. length rows ≡ variables) }
     {
-        let Ok(rows) = vec![in alloc; NO_CHANGE; variables] else {
-            return Err(Memory);
-        };
-        Ok(Rows { rows })
+        Ok(Rows {
+            start: vec![in alloc; false; variables]?,
+            a: vec![in alloc; Tri::Zero; variables]?,
+            b: vec![in alloc; Tri::Zero; variables]?,
+            words: vec![in alloc; None; variables]?,
+        })
     }
 
-    // Writes a row for each variable.
-    pub(crate) fn write(&mut self, start: &[bool], a: &[Tri], b: &[Tri], words: &[Option<Word>])
-        requires { MayBeRows (length self.old) start.now a.now b.now words.now }
-        ensures { AreRowsOf start.now a.now b.now words.now self.new }
+    /// How many rows there are.
+    pub fn len(&self) -> usize
+        ensures { result ≡ length self.now }
     {
-        write_rows(self.rows.as_mut_slice(), start, a, b, words);
+        self.start.len()
     }
 
-    /// The rows.
-    pub fn as_slice(&self) -> &[Row]
-        ensures { result.now ≡ self.now }
+    /// The row of a variable.
+    pub fn row(&self, var: usize) -> Row
+        requires { var < length self.now }
+        ensures { slice_get self.now var ≡ Some result }
     {
-        self.rows.as_slice()
+        row_of(self.start[var], self.a[var], self.b[var], self.words[var])
+    }
+
+    /// The values of all variables at the start.
+    pub fn starts(&self) -> &[bool]
+        ensures { result.now ≡ map (λ row. row.start) self.now }
+    {
+        self.start.as_slice()
+    }
+
+    /// The values of all variables in the result of Algorithm A.
+    pub fn values_a(&self) -> &[Tri]
+        ensures { result.now ≡ values_a self.now }
+    {
+        self.a.as_slice()
+    }
+
+    /// The values of all variables in the result of Algorithm B.
+    pub fn values_b(&self) -> &[Tri]
+        ensures { result.now ≡ values_b self.now }
+    {
+        self.b.as_slice()
     }
 }
 
@@ -82,29 +116,9 @@ impl Model for Bits {
     ghost view = { λ fields. fields.bits.items };
 }
 
-// The row of a variable that stays 0.
-const NO_CHANGE: Row = Row {
-    start: false,
-    a: Tri::Zero,
-    b: Tri::Zero,
-    changes: None,
-    class: Class::Steady,
-};
-
-// Writes a row for each variable.
-fn write_rows(rows: &mut [Row], start: &[bool], a: &[Tri], b: &[Tri], words: &[Option<Word>])
-    requires { MayBeRows (length rows.old) start.now a.now b.now words.now }
-    ensures { AreRowsOf start.now a.now b.now words.now rows.new }
-{
-    for i in 0..rows.len() {
-        rows[i] = row_of(start[i], a[i], b[i], words[i]);
-    }
-}
-
 // The row of a variable.
 fn row_of(start: bool, a: Tri, b: Tri, word: Option<Word>) -> Row
-    requires { MayBeRow a b (changes_of word) }
-    ensures { IsRowOf start a b word result }
+    ensures { result ≡ row_with start a b word }
 {
     let changes = changes_of(word);
     Row {

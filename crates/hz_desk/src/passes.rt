@@ -12,12 +12,10 @@ use std::alloc::Global;
 use std::marker::Brand;
 use std::sync::ledger::{Blank, Ledger};
 
-/// The results of Algorithms A and B, the ranks and the settling rounds, and room for a pass.
+/// The ranks and the settling rounds, and room for a pass.
 #[derive(Drop)]
 pub(crate) struct Passes {
-    pub a: Vec<Tri>,
     pub ranks: Vec<u32>,
-    pub b: Vec<Tri>,
     /// In which round of Algorithm B each variable settles.
     pub when: Vec<u32>,
     pub work: Vec<Tri>,
@@ -38,30 +36,37 @@ impl Passes {
     {
         let variables = net.len() as usize;
         Ok(Passes {
-            a: all_unknown(alloc, variables)?,
-            ranks: all_zero(alloc, variables)?,
-            b: all_unknown(alloc, variables)?,
-            when: all_zero(alloc, variables)?,
-            work: all_unknown(alloc, variables)?,
+            ranks: vec![in alloc; 0; variables]?,
+            when: vec![in alloc; 0; variables]?,
+            work: vec![in alloc; Tri::Unknown; variables]?,
             front: Front::new(alloc, net)?,
         })
     }
 
-    // Runs both passes from a stable start under a new input.
-    pub(crate) fn make(&mut self, net: &Net, start: &[bool], input: &[bool]) -> Rounds
+    // Runs both passes from a stable start under a new input, and writes their results.
+    pub(crate) fn make(
+        &mut self,
+        net: &Net,
+        start: &[bool],
+        input: &[bool],
+        a: &mut [Tri],
+        b: &mut [Tri],
+    ) -> Rounds
         requires start { IsStableStart net.now start.now }
         requires input { length input.now ≡ net.now.inputs }
         requires room { HavePassRoom net.now self.old }
-        ensures passed { ArePassResults net.now input.now start.now self.new.a.items self.new.ranks.items self.new.b.items self.new.when.items result.a result.b }
+        requires a { length a.old ≡ length (network_of net.now) }
+        requires b { length b.old ≡ length (network_of net.now) }
+        ensures passed { ArePassResults net.now input.now start.now a.new self.new.ranks.items b.new self.new.when.items result.a result.b }
         ensures room { HavePassRoom net.now self.new }
     {
         make_both::<Brand>(
             net,
             start,
             input,
-            self.a.as_mut_slice(),
+            a,
             self.ranks.as_mut_slice(),
-            self.b.as_mut_slice(),
+            b,
             self.when.as_mut_slice(),
             self.work.as_mut_slice(),
             &mut self.front,
@@ -106,24 +111,4 @@ fn make_both<L: Ledger>(
         a: rounds_a,
         b: rounds_b,
     }
-}
-
-// As many values, all X.
-fn all_unknown(alloc: Global, variables: usize) -> Result<Vec<Tri>, Memory>
-    ensures { IfOk result (λ values. length values.items ≡ variables) }
-{
-    let Ok(values) = vec![in alloc; Tri::Unknown; variables] else {
-        return Err(Memory);
-    };
-    Ok(values)
-}
-
-// As many numbers, all 0.
-fn all_zero(alloc: Global, variables: usize) -> Result<Vec<u32>, Memory>
-    ensures { IfOk result (λ numbers. length numbers.items ≡ variables) }
-{
-    let Ok(numbers) = vec![in alloc; 0u32; variables] else {
-        return Err(Memory);
-    };
-    Ok(numbers)
 }

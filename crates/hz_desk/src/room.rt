@@ -2,18 +2,16 @@
 ghost use Rattle.std.specs.Prelude.{◌≡◌, ◌≤◌, length, IfOk};
 ghost use Rattle.hz_net.specs.Network.{network_of};
 ghost use Rattle.hz_net.specs.Starts.{IsStableStart};
-ghost use Rattle.hz_desk.specs.Finding.{finding_of};
+ghost use Rattle.hz_desk.specs.Finding.{finding_of, values_a, values_b};
 ghost use Rattle.hz_desk.specs.RightFinding.{IsRightFinding};
 ghost use Rattle.hz_free.specs.FreePart.{IsFreePart};
-ghost use Rattle.hz_free.specs.VariableWords.{AreCappedWords};
-ghost use Rattle.hz_desk.specs.Rows.{AreRowsOf};
-ghost use Rattle.hz_desk.specs.ResultsOfPasses.{HasPassResults};
-ghost use Rattle.hz_desk.specs.Filled.{FilledIsRight};
+ghost use Rattle.hz_desk.specs.ResultsOfPasses.{ArePassResults, HavePassRoom};
+ghost use Rattle.hz_desk.specs.Filled.{AreRowsOfChange, FilledIsRight};
 ghost use Rattle.hz_desk.specs.RoomFor.{IsRoomFor};
 ghost use Rattle.hz_word.specs.Capped.{greatest_cap};
 
 use crate::finding::{Finding, Rows};
-use crate::passes::Passes;
+use crate::passes::{Passes, Rounds};
 use crate::races::count_races;
 use crate::runs::make_runs;
 use hz_core::Memory;
@@ -22,7 +20,6 @@ use hz_free::{Free, words_change};
 use hz_gmw::{Follower, a_covers, b_covers};
 use hz_net::Net;
 use hz_reach::{Scratch, a_is_exact};
-use hz_word::Word;
 use std::alloc::Global;
 
 /// What an analysis works with, and the finding that it fills.
@@ -31,7 +28,6 @@ pub(crate) struct Room<'n> {
     pub free: Free,
     pub passes: Passes,
     pub scratch: Scratch,
-    pub words: Vec<Option<Word>>,
     pub follower: Follower<'n>,
     pub finding: Finding,
 }
@@ -44,16 +40,12 @@ impl<'n> Room<'n> {
         let free = Free::build(alloc, net)?;
         let passes = Passes::new(alloc, net)?;
         let scratch = Scratch::new(alloc, net)?;
-        let Ok(words) = vec![in alloc; None; net.len() as usize] else {
-            return Err(Memory);
-        };
         let follower = Follower::new(alloc, net)?;
         let finding = Finding::with_room(alloc, net.len(), net.circuit().inputs())?;
         Ok(Room {
             free,
             passes,
             scratch,
-            words,
             follower,
             finding,
         })
@@ -72,7 +64,15 @@ impl<'n> Room<'n> {
         // A getter of the network says that its circuit is one.
         let _variables = net.len();
         filled_is_right();
-        let rounds = self.passes.make(net, start, input);
+        let rounds = fill_rows(
+            net,
+            &self.free,
+            start,
+            input,
+            cap,
+            &mut self.passes,
+            &mut self.finding.rows,
+        );
         self.finding.rounds_a = rounds.a;
         self.finding.rounds_b = rounds.b;
         self.finding.input.write(input);
@@ -81,20 +81,11 @@ impl<'n> Room<'n> {
             start,
             input,
             &self.passes,
+            &self.finding.rows,
             &mut self.scratch,
             &mut self.finding.spread,
             &mut self.finding.settle,
             &mut self.finding.cycle,
-        );
-        fill_rows(
-            net,
-            &self.free,
-            start,
-            input,
-            cap,
-            &self.passes,
-            self.words.as_mut_slice(),
-            &mut self.finding.rows,
         );
         let races = count_races(
             &mut self.follower,
@@ -110,33 +101,47 @@ impl<'n> Room<'n> {
     }
 }
 
-// Writes the words, and a row for each variable.
+// Writes what the rows are made of: the start, the results of both passes and the words.
 fn fill_rows(
     net: &Net,
     free: &Free,
     start: &[bool],
     input: &[bool],
     cap: u64,
-    passes: &Passes,
-    words: &mut [Option<Word>],
+    passes: &mut Passes,
     rows: &mut Rows,
-)
+) -> Rounds
     requires free { IsFreePart net.now free.now }
     requires start { IsStableStart net.now start.now }
     requires input { length input.now ≡ net.now.inputs }
     requires cap_low { 1 ≤ cap }
     requires cap_high { cap ≤ greatest_cap }
-    requires passed { HasPassResults net.now input.now start.now passes.now }
-    requires words { length words.old ≡ length (network_of net.now) }
+    requires passes { HavePassRoom net.now passes.old }
     requires rows { length rows.old ≡ length (network_of net.now) }
-    ensures words { AreCappedWords (network_of net.now) input.now start.now cap words.new }
-    ensures rows { AreRowsOf start.now passes.now.a.items passes.now.b.items words.new rows.new }
+    ensures passed { ArePassResults net.now input.now start.now (values_a rows.new) passes.new.ranks.items (values_b rows.new) passes.new.when.items result.a result.b }
+    ensures passes { HavePassRoom net.now passes.new }
+    ensures rows { AreRowsOfChange (network_of net.now) input.now start.now cap rows.new }
 {
     // A getter of the network says that its circuit is one; the law says which words have a change.
     let _variables = net.len();
     words_change();
-    free.words(net, start, input, cap, words);
-    rows.write(start, passes.a.as_slice(), passes.b.as_slice(), words);
+    rows.start.as_mut_slice().copy_from_slice(start);
+    let rounds = passes.make(
+        net,
+        start,
+        input,
+        rows.a.as_mut_slice(),
+        rows.b.as_mut_slice(),
+    );
+    free.words_given_a(
+        net,
+        start,
+        input,
+        cap,
+        rows.a.as_slice(),
+        rows.words.as_mut_slice(),
+    );
+    rounds
 }
 
 // The laws of both algorithms, for a finding that is filled.

@@ -5,17 +5,19 @@ ghost use Rattle.hz_net.specs.Starts.{IsStableStart};
 ghost use Rattle.hz_gmw.specs.Runs.{end_of};
 ghost use Rattle.hz_reach.specs.Given.{AreResultsOfA, IsScratchFor};
 ghost use Rattle.hz_reach.specs.Order.{IsInKeyOrder};
-ghost use Rattle.hz_reach.specs.Spread.{IsSpreadRun};
+ghost use Rattle.hz_reach.specs.Spread.{IsSpreadRun, IsSparingRun};
+ghost use Rattle.hz_desk.specs.Finding.{values_a, values_b};
 ghost use Rattle.hz_desk.specs.ResultsOfPasses.{HasPassResults};
 ghost use Rattle.hz_desk.specs.Filled.{AreRuns};
 ghost use Rattle.hz_desk.specs.Room.{HasRunRoom};
 
+use crate::finding::Rows;
 use crate::passes::Passes;
 use hz_core::Tri;
-use hz_cycle::{cycle_in_order, settle_in_order};
+use hz_cycle::{cycle_in_order, settle_from};
 use hz_gmw::Run;
 use hz_net::Net;
-use hz_reach::{Scratch, run_counts, spread_flips, spread_run};
+use hz_reach::{Scratch, add_unused, run_counts, sparing_in_order, spread_flips};
 
 // Makes the three runs in place of those that were there, by what both passes gave.
 pub(crate) fn make_runs(
@@ -23,6 +25,7 @@ pub(crate) fn make_runs(
     start: &[bool],
     input: &[bool],
     passes: &Passes,
+    rows: &Rows,
     scratch: &mut Scratch,
     spread: &mut Run,
     settle: &mut Run,
@@ -30,12 +33,12 @@ pub(crate) fn make_runs(
 )
     requires start { IsStableStart net.now start.now }
     requires input { length input.now ≡ net.now.inputs }
-    requires passed { HasPassResults net.now input.now start.now passes.now }
+    requires passed { HasPassResults net.now input.now start.now (values_a rows.now) (values_b rows.now) passes.now }
     requires scratch { IsScratchFor net.now scratch.old }
     requires spread { HasRunRoom (length (network_of net.now)) spread.old }
     requires settle { HasRunRoom (2 * length (network_of net.now)) settle.old }
     requires cycle { HasRunRoom (4 * length (network_of net.now)) cycle.old }
-    ensures runs { AreRuns (network_of net.now) input.now start.now passes.now.a.items passes.now.b.items spread.new.steps settle.new.steps cycle.new.steps }
+    ensures runs { AreRuns (network_of net.now) input.now start.now (values_a rows.now) (values_b rows.now) spread.new.steps settle.new.steps cycle.new.steps }
     ensures scratch { IsScratchFor net.now scratch.new }
     ensures spread_room { HasRunRoom (length (network_of net.now)) spread.new }
     ensures settle_room { HasRunRoom (2 * length (network_of net.now)) settle.new }
@@ -45,18 +48,18 @@ pub(crate) fn make_runs(
     let _variables = net.len();
     run_counts();
     spread_flips();
-    let a = passes.a.as_slice();
+    let a = rows.values_a();
+    let b = rows.values_b();
     let ranks = passes.ranks.as_slice();
-    let b = passes.b.as_slice();
     let when = passes.when.as_slice();
-    make_spread(net, start, input, a, ranks, scratch, spread);
-    settle.clear();
-    settle_in_order(net, start, input, a, ranks, when, b, scratch, settle);
+    make_spread(net, start, input, a, ranks, scratch, spread, settle);
+    settle_from(net, start, input, a, ranks, when, b, scratch, settle);
     cycle.clear();
     cycle_in_order(net, input, ranks, b, scratch, cycle);
 }
 
-// Makes the spread run in place of the run that was there, and sorts the variables by rank.
+// Makes the spread run in place of the run that was there, and the beginning that the settle run has in common with it. Sorts the
+// variables by rank.
 fn make_spread(
     net: &Net,
     start: &[bool],
@@ -64,17 +67,25 @@ fn make_spread(
     a: &[Tri],
     ranks: &[u32],
     scratch: &mut Scratch,
-    run: &mut Run,
+    spread: &mut Run,
+    settle: &mut Run,
 )
     requires change { AreResultsOfA net.now input.now start.now a.now ranks.now }
     requires scratch { IsScratchFor net.now scratch.old }
-    requires room { HasRunRoom (length (network_of net.now)) run.old }
-    ensures run { IsSpreadRun (network_of net.now) input.now start.now a.now run.new.steps }
-    ensures state { scratch.new.state ≡ end_of start.now run.new.steps }
+    requires spread_room { HasRunRoom (length (network_of net.now)) spread.old }
+    requires settle_room { HasRunRoom (2 * length (network_of net.now)) settle.old }
+    ensures spread { IsSpreadRun (network_of net.now) input.now start.now a.now spread.new.steps }
+    ensures begun { IsSparingRun (network_of net.now) input.now start.now a.now ranks.now settle.new.steps }
+    ensures state { scratch.new.state ≡ end_of start.now settle.new.steps }
     ensures marked { scratch.new.marked ≡ [] }
-    ensures sorted { IsInKeyOrder ranks.now scratch.new.sorted }
-    ensures room { HasRunRoom (length (network_of net.now)) run.new }
+    ensures spread_room { HasRunRoom (length (network_of net.now)) spread.new }
+    ensures settle_room { HasRunRoom (2 * length (network_of net.now)) settle.new }
 {
-    run.clear();
-    spread_run(net, start, input, a, ranks, false, scratch, run);
+    // The room is told by how often each variable changes.
+    run_counts();
+    spread.clear();
+    scratch.sort(ranks);
+    sparing_in_order(net, start, input, a, ranks, scratch, spread);
+    settle.copy_from(spread);
+    add_unused(net, start, a, scratch, spread);
 }

@@ -111,8 +111,8 @@ impl<'n> Sequence<'n> {
         write_input(self.start.as_slice(), change, self.input.as_mut_slice());
         self.desk
             .change(self.start.as_slice(), self.input.as_slice(), cap);
-        let rows = self.desk.finding().rows.as_slice();
-        self.stopped = settle(rows, self.start.as_mut_slice());
+        let values = self.desk.finding().rows.values_b();
+        self.stopped = settle(values, self.start.as_mut_slice());
         Ok(())
     }
 }

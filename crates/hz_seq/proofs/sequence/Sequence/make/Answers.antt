@@ -2,10 +2,10 @@ use Rattle.std.proofs.Common.{◌≡◌, ◌∙◌, Bool, List, length, refl, sy
 use Rattle.std.specs.Prelude.{MatchOption}
 use Rattle.std.specs.Vec.{with_items}
 use Rattle.std.proofs.lemmas.List.{with_items_is}
+use Rattle.hz_core.specs.declared.tri.Tri.{Tri}
 use Rattle.hz_core.specs.Netlist.{Netlist, IsCircuit}
 use Rattle.hz_net.specs.Network.{network_of}
 use Rattle.hz_net.specs.Starts.{IsStableStart}
-use Rattle.hz_desk.specs.declared.finding.Row.{Row}
 use Rattle.hz_desk.specs.Finding.{FindingOf, finding_of, values_b}
 use Rattle.hz_seq.specs.Sequence.{IsSettledAt, IsFirstUnknown}
 use Rattle.hz_seq.proofs.FindingEffects.{left-by, stable-left}
@@ -23,10 +23,10 @@ invariant_of-self c =
     ∙ (c.write_input.auto.input ∙ (ap length c.as_mut_slice.ensures.value ∙ c.self.invariant.input)) in
     let given : length c.as_slice-3.result.now ≡ c.self.inside.desk.netlist.inputs = ap length c.as_slice-3.ensures.value ∙ input in
     let circuit : IsCircuit c.self.inside.desk.netlist = subst IsCircuit c.net.ensures c.len-variables.ensures.circuit in
-    let rows : c.as_slice-rows.result.now ≡ (finding_of c.change.result.now).rows =
-    c.as_slice-rows.ensures ∙ ap (λ (f : FindingOf). f.rows) (c.finding.ensures.same ∙ c.change.follows.holds-at-none.1) in
+    let values : c.values_b-values.result.now ≡ values_b (finding_of c.change.result.now).rows =
+    c.values_b-values.ensures ∙ ap (λ (f : FindingOf). values_b f.rows) (c.finding.ensures.same ∙ c.change.follows.holds-at-none.1) in
     let settled : MatchOption c.settle-self-inside.result (IsSettledAt (values_b (finding_of c.change.result.now).rows) state) (IsFirstUnknown (values_b (finding_of c.change.result.now).rows)) =
-    subst (λ (list : List Row). MatchOption c.settle-self-inside.result (IsSettledAt (values_b list) state) (IsFirstUnknown (values_b list))) rows c.settle-self-inside.ensures in
+    subst (λ (list : List Tri). MatchOption c.settle-self-inside.result (IsSettledAt list state) (IsFirstUnknown list)) values c.settle-self-inside.ensures in
     record {
       start = ap length items
           ∙ (c.settle-self-inside.auto.state
@@ -44,11 +44,11 @@ returns-clause-after c =
     let state : List Bool = c.settle-self-inside.new.state in
     let long : length state ≡ c.self.inside.start.len = omega (arith, c.settle-self-inside.auto.state, c.as_mut_slice-2.ensures.len) in
     let items : (with_items c.self.inside.start state).items ≡ state = with_items_is c.self.inside.start state long in
-    let rows : c.as_slice-rows.result.now ≡ c.change.follows.lender-at-none.finding.rows =
-    c.as_slice-rows.ensures ∙ ap (λ (f : FindingOf). f.rows) c.finding.ensures.same in
+    let values : c.values_b-values.result.now ≡ values_b c.change.follows.lender-at-none.finding.rows =
+    c.values_b-values.ensures ∙ ap (λ (f : FindingOf). values_b f.rows) c.finding.ensures.same in
     let settled : MatchOption c.settle-self-inside.result (IsSettledAt (values_b c.change.follows.lender-at-none.finding.rows) (with_items c.self.inside.start state).items) (IsFirstUnknown (values_b c.change.follows.lender-at-none.finding.rows)) =
     subst (λ (bits : List Bool). MatchOption c.settle-self-inside.result (IsSettledAt (values_b c.change.follows.lender-at-none.finding.rows) bits) (IsFirstUnknown (values_b c.change.follows.lender-at-none.finding.rows))) (sym items)
-    (subst (λ (list : List Row). MatchOption c.settle-self-inside.result (IsSettledAt (values_b list) state) (IsFirstUnknown (values_b list))) rows c.settle-self-inside.ensures) in (
+    (subst (λ (list : List Tri). MatchOption c.settle-self-inside.result (IsSettledAt list state) (IsFirstUnknown list)) values c.settle-self-inside.ensures) in (
       c.change.follows.holds-at-none.0 ∙ ap (λ s. s.desk.netlist) c.self.view_is,
       refl,
       left-by c.settle-self-inside.result (values_b c.change.follows.lender-at-none.finding.rows) (with_items c.self.inside.start state).items settled,

@@ -1,0 +1,11 @@
+-- These are the values of all rows.
+use Rattle.std.proofs.Common.{◌∙◌, sym, ap}
+use Rattle.hz_desk.specs.Finding.{values_b}
+use Rattle.hz_desk.proofs.RowLists.{b-are}
+use Rattle.hz_desk.proofs.finding.Rows.values_b.Goals as goal
+
+pub returns : goal.returns
+returns c =
+    let rows = c.self.inside in
+    c.as_slice.ensures.value
+    ∙ (sym (b-are rows.start.items rows.a.items rows.b.items rows.words.items c.self.invariant) ∙ ap values_b c.self.view_is)
