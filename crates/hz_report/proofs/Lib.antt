@@ -1,3 +1,4 @@
 pub mod Lines
 pub mod RowLemmas
 pub mod CycleLemmas
+pub mod ClassLemmas

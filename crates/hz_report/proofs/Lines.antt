@@ -1,5 +1,5 @@
 -- The size of a network by the counts of its circuit, and its nodes.
-use Rattle.std.proofs.Common.{◌≡◌, ℕ, ◌-◌, ◌<◌, ◌≤◌, Bool, List, length, take, arith}
+use Rattle.std.proofs.Common.{◌≡◌, ℕ, ◌-◌, ◌≤◌, Bool, List, length, take, arith}
 use Rattle.std.proofs.lemmas.List.{length-take-le}
 use Rattle.hz_core.specs.Netlist.{Netlist, IsCircuit, pin_count, variable_count}
 use Rattle.hz_net.specs.Network.{network_of}
@@ -13,10 +13,6 @@ gates-counted netlist inputs nodes circuit of_inputs of_nodes = omega (arith, ci
 pub wires-counted : (netlist : Netlist) (nodes variables : ℕ) → nodes ≡ length netlist.names → variables ≡ variable_count netlist
     → variables - nodes ≡ pin_count netlist
 wires-counted netlist nodes variables of_nodes of_variables = omega arith
-
--- each node is a variable
-pub node_is_variable : (netlist : Netlist) (node : ℕ) → IsCircuit netlist → node < length netlist.names → node < length (network_of netlist)
-node_is_variable netlist node circuit within = omega (arith, length-network_of netlist circuit)
 
 -- the nodes come first in a state
 pub nodes-within : (netlist : Netlist) (start : List Bool) (nodes : ℕ) → IsCircuit netlist → length start ≡ length (network_of netlist)

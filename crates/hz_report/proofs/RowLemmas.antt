@@ -1,6 +1,7 @@
 -- The lines of rows, row by row, and which rows are shown.
-use Rattle.std.proofs.Common.{◌≡◌, ◌∙◌, refl, sym, ap, ℕ, ◌+◌, ◌<◌, ◌≤◌, List, [], ◌∷◌, ◌++◌, length, take, suc, get_or, arith, append_assoc, codes}
+use Rattle.std.proofs.Common.{◌≡◌, ◌∙◌, refl, sym, ap, ℕ, ◌+◌, ◌≤◌, List, [], ◌∷◌, ◌++◌, length, take, suc, get_or, slice_get, Some, arith, append_assoc, codes}
 use Rattle.std.proofs.lemmas.List.{append-nil, take_more, length-take-le}
+use Rattle.std.proofs.lemmas.Option.{get_or_from_slice_get, slice_get_within}
 use Rattle.std.proofs.Math.Seq.{take-length}
 use Rattle.hz_write.specs.Writes.{newline}
 use Rattle.hz_core.specs.Netlist.{Netlist, IsCircuit}
@@ -11,11 +12,17 @@ use Rattle.hz_report.specs.declared.show.Show.{Show}
 use Rattle.hz_report.specs.declared.show.Show.TheVariants.{Nodes, All}
 use Rattle.hz_report.specs.Report.{row_line, row_lines, shown_count, shown_rows}
 
--- the pieces of a row's line, one after the other
-pub row-pieces : (variable : List ℕ) (start : ℕ) (a b changes class : List ℕ)
-    → (((variable ++ (codes " start " ++ start ∷ codes " A " ++ a ++ codes " B " ++ b ++ codes " changes ")) ++ changes) ++ (32 ∷ class)) ++ newline
+-- a row's line by its parts
+pub row-line : (variable : List ℕ) (start : ℕ) (a b changes class : List ℕ)
+    → (variable ++ (codes " start " ++ (start ∷ []) ++ codes " A " ++ a ++ codes " B " ++ b ++ codes " changes " ++ changes ++ 32 ∷ class)) ++ newline
     ≡ variable ++ codes " start " ++ (start ∷ []) ++ codes " A " ++ a ++ codes " B " ++ b ++ codes " changes " ++ changes ++ 32 ∷ class ++ newline
-row-pieces variable start a b changes class = simp (append_assoc, append-nil)
+row-line variable start a b changes class = simp append_assoc
+
+-- the pieces of what stands after the variable
+pub row-pieces : (start : ℕ) (a b changes class : List ℕ)
+    → ((codes " start " ++ start ∷ codes " A " ++ a ++ codes " B " ++ b ++ codes " changes ") ++ changes) ++ (32 ∷ class)
+    ≡ codes " start " ++ (start ∷ []) ++ codes " A " ++ a ++ codes " B " ++ b ++ codes " changes " ++ changes ++ 32 ∷ class
+row-pieces start a b changes class = simp append_assoc
 
 row_lines-append : (netlist : Netlist) (var : ℕ) (rows : List Row) (row : Row) → row_lines netlist var (rows ++ row ∷ []) ≡ row_lines netlist var rows ++ row_line netlist (var + length rows) row
 row_lines-append netlist var [] row =
@@ -28,12 +35,15 @@ row_lines-append netlist var (first ∷ rows) row =
     ∙ ap (λ (n : ℕ). (row_line netlist var first ++ row_lines netlist (var + 1) rows) ++ row_line netlist n row) here
 
 -- one row more
-pub row_lines_more : (netlist : Netlist) (rows : List Row) (i : ℕ) (row : Row) → i < length rows
-    → row_lines netlist 0 (take (i + 1) rows) ≡ row_lines netlist 0 (take i rows) ++ row_line netlist i (get_or rows i row)
-row_lines_more netlist rows i row within =
+pub row_lines_more : (netlist : Netlist) (rows : List Row) (i : ℕ) (row : Row) → slice_get rows i ≡ Some row
+    → row_lines netlist 0 (take (i + 1) rows) ≡ row_lines netlist 0 (take i rows) ++ row_line netlist i row
+row_lines_more netlist rows i row there =
+    let within = slice_get_within rows i row there in
+    let is = get_or_from_slice_get rows i row row there in
     let number : 0 + length (take i rows) ≡ i = omega (arith, length-take-le i rows (omega arith)) in
     ap (row_lines netlist 0) (take_more rows i row within) ∙ row_lines-append netlist 0 (take i rows) (get_or rows i row)
     ∙ ap (λ (n : ℕ). row_lines netlist 0 (take i rows) ++ row_line netlist n (get_or rows i row)) number
+    ∙ ap (λ (last : Row). row_lines netlist 0 (take i rows) ++ row_line netlist i last) is
 
 -- what is shown is a variable
 pub shown-within : (netlist : Netlist) (show : Show) → IsCircuit netlist → shown_count netlist show ≤ length (network_of netlist)

@@ -5,12 +5,13 @@
 -- head_text netlist cycles start: what a report begins with
 -- change_line netlist number change, rounds_line finding: how the lines of a change begin
 -- changes_word changes, class_word class: the words in a row
--- row_line netlist i row: the line of a variable
+-- row_line netlist i row: the line of a variable; row_text row: what it has after the variable
 -- shown_rows netlist show rows: the rows that are shown
 -- races_line finding: the race states of the three runs
 -- runs_of_finding netlist finding: the run text that shows them
 -- change_text netlist show number change finding: the lines of a change
 -- stopped_text netlist number change i: the lines of a change that a variable stops
+-- class_place class, count_at rows place: the place of a class, and how many rows have the class of a place
 -- classes_line rows, run_line name steps: the lines of a summary
 -- summary_text netlist finding: the summary of a change
 

@@ -73,6 +73,15 @@ row_line netlist var row =
     ++ 32 ∷ class_word row.class
     ++ newline
 
+-- what stands after the variable in the line of a row
+abbrev pub row_text : Row → List ℕ
+row_text row =
+    codes " start " ++ (letter_of row.start ∷ [])
+    ++ codes " A " ++ tri_letter row.a
+    ++ codes " B " ++ tri_letter row.b
+    ++ codes " changes " ++ changes_word row.changes
+    ++ 32 ∷ class_word row.class
+
 -- rows of variables, the first of which has a number
 abbrev pub row_lines : Netlist → ℕ → List Row → List ℕ
 row_lines netlist var [] = []
@@ -126,6 +135,10 @@ class_place Static = 2
 class_place MaybeDynamic = 3
 class_place Change = 4
 class_place Unsettled = 5
+
+-- how many rows have the class of a place
+abbrev pub count_at : List Row → ℕ → ℕ
+count_at rows place = count_by (λ row. nat_eq (class_place row.class) place) rows
 
 -- a class, and how many rows have it
 abbrev pub class_total : List Row → Class → List ℕ

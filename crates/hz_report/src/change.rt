@@ -1,17 +1,16 @@
 //! The lines of a change.
-ghost use Rattle.std.specs.Prelude.{◌≡◌, ◌<◌, ◌++◌, length, take, map, codes, All};
-ghost use Rattle.std.specs.List.{flat_map};
+ghost use Rattle.std.specs.Prelude.{◌≡◌, ◌<◌, ◌++◌, length, codes, All};
 ghost use Rattle.hz_net.specs.Network.{network_of};
 ghost use Rattle.hz_write.specs.Writer.{Writes, NoneWaits};
 ghost use Rattle.hz_write.specs.Writes.{newline};
-ghost use Rattle.hz_text.specs.Printed.{assignment_text};
-ghost use Rattle.hz_text.specs.RunPrinted.{spaced_word, all_listed, run_text_printed};
+ghost use Rattle.hz_text.specs.RunPrinted.{spaced_word, run_text_printed};
 ghost use Rattle.hz_desk.specs.Finding.{finding_of};
-ghost use Rattle.hz_report.specs.Report.{change_line, rounds_line, races_line, start_line, runs_of_finding, change_text, stopped_text};
+ghost use Rattle.hz_report.specs.Report.{change_line, rounds_line, races_line, runs_of_finding, change_text, stopped_text};
 
+use crate::head::write_start;
 use crate::rows::write_rows;
 use crate::show::Show;
-use hz_desk::{Finding, Row};
+use hz_desk::Finding;
 use hz_net::Net;
 use hz_outside::Sink;
 use hz_text::{write_assignments, write_bits, write_end, write_run, write_variable, write_version};
@@ -43,7 +42,7 @@ pub fn write_change<K: Sink>(
 {
     write_assigned(writer, net, number, change);
     write_rounds(writer, finding);
-    write_rows(writer, net, finding.rows.as_slice(), show);
+    write_rows(writer, net, &finding.rows, show);
     write_races(writer, finding);
     write_runs(writer, net, finding);
 }
@@ -135,34 +134,9 @@ fn write_runs<K: Sink>(writer: &mut Writer<'_, K>, net: &Net, finding: &Finding)
     ensures none_waits { NoneWaits writer.new }
 {
     write_version(writer, net.circuit());
-    write_start(writer, net, finding.rows.as_slice());
+    write_start(writer, net, finding.rows.starts());
     write_bits(writer, net.circuit(), b"input", finding.input.as_slice());
     write_run(writer, net, &finding.spread, None);
     write_run(writer, net, &finding.settle, Some(&finding.cycle));
     write_end(writer);
-}
-
-// Gives the value of each node at the start.
-#[tactic(auto, using(hz_write::proofs::Writers::writes_then), unfolding(crate::specs::Report::start_line, hz_text::specs::Printed::statement_text))]
-pub(crate) fn write_start<K: Sink>(writer: &mut Writer<'_, K>, net: &Net, rows: &[Row])
-    requires { length rows.now ≡ length (network_of net.now) }
-    ensures { Writes K.written K.faults (start_line net.now (map (λ row. row.start) rows.now)) writer.old writer.new }
-{
-    writer.text(b"start");
-    write_values(writer, net, rows);
-    writer.end();
-}
-
-// Gives each node with its value at the start.
-fn write_values<K: Sink>(writer: &mut Writer<'_, K>, net: &Net, rows: &[Row])
-    requires { length rows.now ≡ length (network_of net.now) }
-    ensures { Writes K.written K.faults
-        (flat_map (assignment_text net.now) (all_listed (take (length net.now.names) (map (λ row. row.start) rows.now))))
-        writer.old writer.new }
-{
-    let circuit = net.circuit();
-    let nodes = circuit.nodes();
-    for node in 0..nodes {
-        write_assignments(writer, circuit, &[(node, rows[node as usize].start)]);
-    }
 }

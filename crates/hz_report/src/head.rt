@@ -81,7 +81,7 @@ fn write_variables<K: Sink>(writer: &mut Writer<'_, K>, net: &Net, variables: &[
 }
 
 // Gives the value of each node at the start.
-fn write_start<K: Sink>(writer: &mut Writer<'_, K>, net: &Net, start: &[bool])
+pub(crate) fn write_start<K: Sink>(writer: &mut Writer<'_, K>, net: &Net, start: &[bool])
     requires { length start.now ≡ length (network_of net.now) }
     ensures gave { Writes K.written K.faults (start_line net.now start.now) writer.old writer.new }
     ensures none_waits { NoneWaits writer.new }

@@ -1,32 +1,34 @@
 //! The lines of variables.
-ghost use Rattle.std.specs.Prelude.{◌≡◌, ◌<◌, ◌∷◌, ◌++◌, length, codes, decimal};
+ghost use Rattle.std.specs.Prelude.{◌≡◌, ◌<◌, ◌∷◌, ◌++◌, length, codes, decimal, IfSome};
 ghost use Rattle.hz_core.specs.Netlist.{IsCircuit};
 ghost use Rattle.hz_net.specs.Network.{network_of};
 ghost use Rattle.hz_text.specs.Printed.{letter_of};
 ghost use Rattle.hz_write.specs.Writer.{Writes};
-ghost use Rattle.hz_report.specs.Report.{changes_word, class_word, row_line, row_lines, shown_count, shown_rows};
+ghost use Rattle.hz_report.specs.Report.{changes_word, class_word, row_line, row_lines, row_text, shown_count, shown_rows};
 ghost use Rattle.hz_report.specs.Words.{tri_letter};
 
 use crate::show::Show;
 use hz_core::Tri;
 use hz_core::Tri::{One, Unknown, Zero};
-use hz_desk::{Class, Row};
+use hz_desk::Class::{Single, Steady};
+use hz_desk::{Class, Row, Rows};
 use hz_net::Net;
 use hz_outside::Sink;
 use hz_text::write_variable;
 use hz_word::Count;
+use hz_word::Count::{Exact, Many};
 use hz_write::Piece::Long;
 use hz_write::Writer;
 
 // Gives the line of each variable that is shown.
-pub(crate) fn write_rows<K: Sink>(writer: &mut Writer<'_, K>, net: &Net, rows: &[Row], show: Show)
+pub(crate) fn write_rows<K: Sink>(writer: &mut Writer<'_, K>, net: &Net, rows: &Rows, show: Show)
     requires { length rows.now ≡ length (network_of net.now) }
     ensures { Writes K.written K.faults
         (row_lines net.now 0 (shown_rows net.now show rows.now)) writer.old writer.new }
 {
     let count = shown_count(net, show);
     for var in 0..count {
-        write_row(writer, net, var, rows[var as usize]);
+        write_row(writer, net, var, rows.row(var as usize));
     }
 }
 
@@ -47,14 +49,44 @@ pub(crate) fn write_row<K: Sink>(writer: &mut Writer<'_, K>, net: &Net, var: u32
     ensures { Writes K.written K.faults (row_line net.now var row) writer.old writer.new }
 {
     write_variable(writer, net, var);
-    writer.text(values_text(row.start, row.a, row.b));
-    write_changes(writer, row.changes);
-    writer.text(spaced_class(row.class));
+    write_row_text(writer, row);
     writer.end();
 }
 
-// What stands between a variable and its number of changes: its values at the start, in A and in B. It is one piece, since each
-// piece of a line takes its time, and a report has millions of these lines.
+// Gives what stands after the variable of a row. It is one piece for nearly every row, since each piece of a line takes its time,
+// and a report has millions of these lines.
+fn write_row_text<K: Sink>(writer: &mut Writer<'_, K>, row: Row)
+    ensures { Writes K.written K.faults (row_text row) writer.old writer.new }
+{
+    match common_text(row) {
+        Some(text) => writer.text(text),
+        None => write_pieces(writer, row),
+    }
+}
+
+// What stands after the variable of a row as most are: it never changes, or it changes just once.
+fn common_text(row: Row) -> Option<&'static [u8]>
+    ensures { IfSome result (λ text. text.now ≡ row_text row) }
+{
+    match (row.start, row.a, row.b, row.changes, row.class) {
+        (false, Zero, Zero, Some(Exact(0)), Steady) => Some(b" start 0 A 0 B 0 changes 0 steady"),
+        (true, One, One, Some(Exact(0)), Steady) => Some(b" start 1 A 1 B 1 changes 0 steady"),
+        (false, Unknown, One, Some(Exact(1)), Single) => Some(b" start 0 A X B 1 changes 1 single"),
+        (true, Unknown, Zero, Some(Exact(1)), Single) => Some(b" start 1 A X B 0 changes 1 single"),
+        _ => None,
+    }
+}
+
+// Gives what stands after the variable of a row, piece by piece.
+fn write_pieces<K: Sink>(writer: &mut Writer<'_, K>, row: Row)
+    ensures { Writes K.written K.faults (row_text row) writer.old writer.new }
+{
+    writer.text(values_text(row.start, row.a, row.b));
+    write_changes(writer, row.changes);
+    writer.text(spaced_class(row.class));
+}
+
+// What stands between a variable and its number of changes: its values at the start, in A and in B.
 fn values_text(start: bool, a: Tri, b: Tri) -> &'static [u8]
     ensures { result.now ≡ codes " start " ++ letter_of start ∷ codes " A " ++ tri_letter a ++ codes " B " ++ tri_letter b ++ codes " changes " }
 {
@@ -86,8 +118,8 @@ fn write_changes<K: Sink>(writer: &mut Writer<'_, K>, changes: Option<Count>)
 {
     match changes {
         None => writer.text(b"-"),
-        Some(Count::Exact(changes)) => write_exact(writer, changes),
-        Some(Count::Many) => writer.text(b"many"),
+        Some(Exact(changes)) => write_exact(writer, changes),
+        Some(Many) => writer.text(b"many"),
     }
 }
 
@@ -103,7 +135,7 @@ fn write_exact<K: Sink>(writer: &mut Writer<'_, K>, changes: u64)
 }
 
 // The word of a class, after a space.
-pub(crate) fn spaced_class(class: Class) -> &'static [u8]
+fn spaced_class(class: Class) -> &'static [u8]
     ensures { result.now ≡ 32 ∷ class_word class }
 {
     match class {

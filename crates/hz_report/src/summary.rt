@@ -1,14 +1,12 @@
 //! The summary of a change.
-ghost use Rattle.std.specs.Prelude.{◌≡◌, count_by, nat_eq};
-ghost use Rattle.std.specs.List.{flat_map};
+ghost use Rattle.std.specs.Prelude.{◌≡◌, ◌<◌, EachIndex, slice_index};
 ghost use Rattle.hz_write.specs.Writer.{Writes, NoneWaits};
 ghost use Rattle.hz_desk.specs.Finding.{finding_of};
-ghost use Rattle.hz_report.specs.Report.{class_place, class_total, classes_line, run_line, summary_text};
+ghost use Rattle.hz_report.specs.Report.{class_place, classes_line, count_at, run_line, summary_text};
 
 use crate::change::write_rounds;
 use crate::head::write_netlist;
-use crate::rows::spaced_class;
-use hz_desk::{Class, Finding, Row};
+use hz_desk::{Class, Finding, Rows};
 use hz_gmw::Run;
 use hz_net::Net;
 use hz_outside::Sink;
@@ -23,47 +21,64 @@ pub fn write_summary<K: Sink>(writer: &mut Writer<'_, K>, net: &Net, finding: &F
 {
     write_netlist(writer, net);
     write_rounds(writer, finding);
-    write_classes(writer, finding.rows.as_slice());
+    write_classes(writer, &finding.rows);
     write_size(writer, b"spread", &finding.spread);
     write_size(writer, b"settle", &finding.settle);
     write_size(writer, b"cycle", &finding.cycle);
 }
 
-// The classes, in the order of their line.
-const CLASSES: [Class; 6] = [
-    Class::Steady,
-    Class::Single,
-    Class::Static,
-    Class::MaybeDynamic,
-    Class::Change,
-    Class::Unsettled,
-];
-
 // Gives how many variables have each class.
-#[tactic(auto, using(hz_write::proofs::Writers::writes_then), unfolding(crate::specs::Report::classes_line))]
-pub(crate) fn write_classes<K: Sink>(writer: &mut Writer<'_, K>, rows: &[Row])
+pub(crate) fn write_classes<K: Sink>(writer: &mut Writer<'_, K>, rows: &Rows)
     ensures { Writes K.written K.faults (classes_line rows.now) writer.old writer.new }
 {
-    writer.text(b"classes");
-    write_totals(writer, rows, &CLASSES);
-    writer.end();
+    let [
+        steady,
+        single,
+        static_hazards,
+        maybe_dynamic,
+        change,
+        unsettled,
+    ] = count_classes(rows);
+    writer.line(&[
+        Text(b"classes steady "),
+        Count(steady),
+        Text(b" single "),
+        Count(single),
+        Text(b" static "),
+        Count(static_hazards),
+        Text(b" maybe-dynamic "),
+        Count(maybe_dynamic),
+        Text(b" change "),
+        Count(change),
+        Text(b" unsettled "),
+        Count(unsettled),
+    ]);
 }
 
-// Gives each class with the number of rows that have it.
-fn write_totals<K: Sink>(writer: &mut Writer<'_, K>, rows: &[Row], classes: &[Class])
-    ensures { Writes K.written K.faults (flat_map (class_total rows.now) classes.now) writer.old writer.new }
+// How many rows have each class, in the order of the line. One pass counts them all.
+fn count_classes(rows: &Rows) -> [usize; 6]
+    ensures { EachIndex result (λ place. slice_index result place ≡ count_at rows.now place) }
 {
-    for class in classes {
-        let total = count_class(rows, *class);
-        writer.add(&[Text(spaced_class(*class)), Text(b" "), Count(total)]);
+    let mut totals = [0; 6];
+    for var in 0..rows.len() {
+        totals[class_place(rows.row(var).class)] += 1;
     }
+    totals
 }
 
-// How many rows have a class.
-fn count_class(rows: &[Row], class: Class) -> usize
-    ensures { result ≡ count_by (λ row. nat_eq (class_place row.class) (class_place class)) rows.now }
+// The place of a class in the line of classes.
+fn class_place(class: Class) -> usize
+    ensures place { result ≡ class_place class }
+    ensures within { result < 6 }
 {
-    rows.iter().filter(|row| row.class == class).count()
+    match class {
+        Class::Steady => 0,
+        Class::Single => 1,
+        Class::Static => 2,
+        Class::MaybeDynamic => 3,
+        Class::Change => 4,
+        Class::Unsettled => 5,
+    }
 }
 
 // Gives how many steps and flips a run has.

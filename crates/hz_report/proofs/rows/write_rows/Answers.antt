@@ -1,20 +1,19 @@
 -- One row after the other.
-use Rattle.std.proofs.Common.{◌≡◌, ◌<◌, sym, length, arith}
+use Rattle.std.proofs.Common.{◌≡◌, sym, arith}
 use Rattle.hz_write.proofs.Writers.{writes_then}
 use Rattle.hz_report.specs.Report.{shown_count}
 use Rattle.hz_report.proofs.RowLemmas.{row_lines_more, shown-within, take-shown}
 use Rattle.hz_report.proofs.rows.write_rows.Goals as goal
 
-pub bounds-rows-var : goal.bounds-rows-var
-bounds-rows-var g c = omega (arith, shown-within c.args.net.now c.args.show c.shown_count-count.ensures.circuit)
+pub row-requires : goal.row-requires
+row-requires g c = omega (arith, shown-within c.args.net.now c.args.show c.shown_count-count.ensures.circuit)
 
 pub write_row-requires : goal.write_row-requires
 write_row-requires g c = omega (arith, shown-within c.args.net.now c.args.show c.shown_count-count.ensures.circuit)
 
 pub loop-var-preserved : goal.loop-var-preserved
 loop-var-preserved g c =
-    let within : c.loop-var.var < length c.args.rows.now = omega (arith, shown-within c.args.net.now c.args.show c.shown_count-count.ensures.circuit) in
-    writes_then c.loop-var.invariant c.write_row.ensures (sym (row_lines_more c.args.net.now c.args.rows.now c.loop-var.var _ within))
+    writes_then c.loop-var.invariant c.write_row.ensures (sym (row_lines_more c.args.net.now c.args.rows.now c.loop-var.var c.row.result c.row.ensures))
 
 pub returns : goal.returns
 returns g c =
