@@ -119,7 +119,7 @@ module _ {netlist : Netlist} {ranks : List ℕ} {b : List Tri} {begun : List Boo
         let wires = changed_wires (first_wire netlist gate) (at_wires netlist gate scratch.state) found.0 in
         let marks : ArePatternWires netlist b scratch.state gate wires = record { pattern = found.0; canonical = found.1; marks = refl } in
         let then = stepped now wires in
-        let later : ScratchState = record { state = state_after wires scratch.state; sorted = scratch.sorted; marked = [] } in
+        let later : ScratchState = record { state = state_after wires scratch.state; sorted = scratch.sorted; by_round = scratch.by_round; marked = [] } in
         let pair = with_fan_out netlist later.state gate in
         let half : IsHalfTurned netlist gate wires scratch now later then pair = record {
           sorted = refl;
@@ -128,7 +128,7 @@ module _ {netlist : Netlist} {ranks : List ℕ} {b : List Tri} {begun : List Boo
           spent = stepped-spends now wires (wires-flips passing inside is_gate unknown marks changes) (wires-steps passing inside is_gate unknown marks changes fewer);
           pair_is = refl;
         } in
-        let last : ScratchState = record { state = state_after pair later.state; sorted = scratch.sorted; marked = [] } in
+        let last : ScratchState = record { state = state_after pair later.state; sorted = scratch.sorted; by_round = scratch.by_round; marked = [] } in
         record {
           scratch = last;
           now = stepped then pair;
@@ -154,7 +154,7 @@ module _ {netlist : Netlist} {ranks : List ℕ} {b : List Tri} {begun : List Boo
 module _ {netlist : Netlist} {ranks : List ℕ} {b : List Tri} {begun : List Bool} {first : RunRecord} (asked : IsPassAsked netlist ranks b begun first) (order : List ℕ) (sorted : IsInKeyOrder ranks order) (changes : FlipsAreChanges) (fewer : StepsAreNoMoreThanFlips) where
   passed-to : (place : ℕ) → place ≤ length order → IsPassedTo netlist ranks b begun first order place
   passed-to zero few =
-      let scratch : ScratchState = record { state = begun; sorted = order; marked = [] } in
+      let scratch : ScratchState = record { state = begun; sorted = order; by_round = []; marked = [] } in
       record { scratch = scratch; now = first; in_order = refl; passing = passing-begin asked sorted refl refl }
   passed-to (suc place) few =
       let before = passed-to place (omega (arith, few)) in

@@ -73,18 +73,18 @@ pub record AreRoundsAsked (when : List ℕ) (b : List Tri) (begun : List Bool) (
 
 pub record AreRoundsUnderway (when : List ℕ) (b : List Tri) (begun : List Bool) (first : RunRecord) (place : ℕ) (scratch : ScratchState) (now : RunRecord) : Type 0 where
   pub asked : AreRoundsAsked when b begun first
-  pub sorted : IsInKeyOrder when scratch.sorted
+  pub sorted : IsInKeyOrder when scratch.by_round
   pub marked : scratch.marked ≡ []
   pub long : length scratch.state ≡ length begun
   pub made : List (List ℕ)
   pub steps : now.steps ≡ first.steps ++ made
   pub spent : Spends first now
-  pub starts : IsRoundStart when scratch.sorted place
+  pub starts : IsRoundStart when scratch.by_round place
   pub settled :
       (net : List Driver) (input : List Bool) (a : List Tri) → AreRoundsOf net input a when b begun →
-      IsSettledTo net input b begun scratch.sorted place made scratch.state
+      IsSettledTo net input b begun scratch.by_round place made scratch.state
 
-pub rounds-begin : {when : List ℕ} {b : List Tri} {begun : List Bool} {first : RunRecord} {scratch : ScratchState} → AreRoundsAsked when b begun first → IsInKeyOrder when scratch.sorted → scratch.marked ≡ [] → scratch.state ≡ begun → AreRoundsUnderway when b begun first 0 scratch first
+pub rounds-begin : {when : List ℕ} {b : List Tri} {begun : List Bool} {first : RunRecord} {scratch : ScratchState} → AreRoundsAsked when b begun first → IsInKeyOrder when scratch.by_round → scratch.marked ≡ [] → scratch.state ≡ begun → AreRoundsUnderway when b begun first 0 scratch first
 rounds-begin {when} {b} {begun} {first} {scratch} asked sorted marked state = record {
   asked = asked;
   sorted = sorted;
@@ -93,16 +93,16 @@ rounds-begin {when} {b} {begun} {first} {scratch} asked sorted marked state = re
   made = [];
   steps = sym (append-nil first.steps);
   spent = record { flips = refl; steps = refl };
-  starts = starts-begin when scratch.sorted;
-  settled = λ net input a rounds. subst (IsSettledTo net input b begun scratch.sorted 0 []) (sym state) (settled-begin net input b begun scratch.sorted);
+  starts = starts-begin when scratch.by_round;
+  settled = λ net input a rounds. subst (IsSettledTo net input b begun scratch.by_round 0 []) (sym state) (settled-begin net input b begun scratch.by_round);
 }
 
 module _ {when : List ℕ} {b : List Tri} {begun : List Bool} {first : RunRecord} {place : ℕ} {scratch : ScratchState} {now : RunRecord} (underway : AreRoundsUnderway when b begun first place scratch now) where
-  module _ {next : ℕ} {flips : List ℕ} (one : IsOneRound when scratch.sorted place next) (marks : flips ≡ differing_variables b scratch.state (slice_range scratch.sorted place next)) where
+  module _ {next : ℕ} {flips : List ℕ} (one : IsOneRound when scratch.by_round place next) (marks : flips ≡ differing_variables b scratch.state (slice_range scratch.by_round place next)) where
     abbrev made_after : List (List ℕ)
-    made_after = with_step_if_any underway.made (differing_variables b scratch.state (slice_range scratch.sorted place next))
+    made_after = with_step_if_any underway.made (differing_variables b scratch.state (slice_range scratch.by_round place next))
 
-    settled-next : (net : List Driver) (input : List Bool) (a : List Tri) → AreRoundsOf net input a when b begun → IsSettledTo net input b begun scratch.sorted next made_after (state_after (differing_variables b scratch.state (slice_range scratch.sorted place next)) scratch.state)
+    settled-next : (net : List Driver) (input : List Bool) (a : List Tri) → AreRoundsOf net input a when b begun → IsSettledTo net input b begun scratch.by_round next made_after (state_after (differing_variables b scratch.state (slice_range scratch.by_round place next)) scratch.state)
     settled-next net input a rounds = settled-after rounds underway.sorted (underway.settled net input a rounds) one underway.starts
 
     few-flips : FlipsPerVariable → flip_count made_after ≤ length when
@@ -111,7 +111,7 @@ module _ {when : List ℕ} {b : List Tri} {begun : List Bool} {first : RunRecord
         let input = underway.asked.rounds.1 in
         let rounds = underway.asked.rounds.3 in
         let settled = settled-next net input underway.asked.rounds.2 rounds in
-        omega (arith, per_variable net input begun made_after 1 settled.run (λ i. omega (arith, settled.once i, at-most (had_before next scratch.sorted i))), rounds.long, rounds.rounds.long)
+        omega (arith, per_variable net input begun made_after 1 settled.run (λ i. omega (arith, settled.once i, at-most (had_before next scratch.by_round i))), rounds.long, rounds.rounds.long)
       where
         at-most : (bit : Bool) → cond bit 1 0 ≤ 1
         at-most false = omega arith
@@ -130,29 +130,29 @@ module _ {when : List ℕ} {b : List Tri} {begun : List Bool} {first : RunRecord
 
     pub round-flips : FlipsPerVariable → length flips ≤ now.spare_flips
     round-flips per_variable =
-        omega (arith, few-flips per_variable, flips-after underway.made (differing_variables b scratch.state (slice_range scratch.sorted place next)), ap (length {A = ℕ}) marks, flips-so-far, underway.spent.flips, underway.asked.flips)
+        omega (arith, few-flips per_variable, flips-after underway.made (differing_variables b scratch.state (slice_range scratch.by_round place next)), ap (length {A = ℕ}) marks, flips-so-far, underway.spent.flips, underway.asked.flips)
 
     pub round-steps : FlipsPerVariable → StepsAreNoMoreThanFlips → flips ≢ [] → 1 ≤ now.spare_steps
     round-steps per_variable no_more some =
         omega (
           arith,
           few-steps per_variable no_more,
-          length-after underway.made (differing_variables b scratch.state (slice_range scratch.sorted place next)) (λ none. some (marks ∙ none)),
+          length-after underway.made (differing_variables b scratch.state (slice_range scratch.by_round place next)) (λ none. some (marks ∙ none)),
           steps-so-far,
           underway.spent.steps,
           underway.asked.steps,
         )
 
-    pub rounds-next : {last : ScratchState} {end : RunRecord} → last.sorted ≡ scratch.sorted → last.marked ≡ [] → last.state ≡ state_after flips scratch.state → end.steps ≡ with_step_if_any now.steps flips → Spends now end → AreRoundsUnderway when b begun first next last end
+    pub rounds-next : {last : ScratchState} {end : RunRecord} → last.by_round ≡ scratch.by_round → last.marked ≡ [] → last.state ≡ state_after flips scratch.state → end.steps ≡ with_step_if_any now.steps flips → Spends now end → AreRoundsUnderway when b begun first next last end
     rounds-next {last} {end} sorted marked state steps spent =
-        let here : last.state ≡ state_after (differing_variables b scratch.state (slice_range scratch.sorted place next)) scratch.state =
+        let here : last.state ≡ state_after (differing_variables b scratch.state (slice_range scratch.by_round place next)) scratch.state =
         state ∙ ap (λ (list : List ℕ). state_after list scratch.state) marks in
         let rounds = underway.asked.rounds in
         record {
           asked = underway.asked;
           sorted = subst (IsInKeyOrder when) (sym sorted) underway.sorted;
           marked = marked;
-          long = ap (length {A = Bool}) here ∙ (length-state_after (differing_variables b scratch.state (slice_range scratch.sorted place next)) scratch.state ∙ underway.long);
+          long = ap (length {A = Bool}) here ∙ (length-state_after (differing_variables b scratch.state (slice_range scratch.by_round place next)) scratch.state ∙ underway.long);
           made = made_after;
           steps =
               steps
@@ -162,10 +162,10 @@ module _ {when : List ℕ} {b : List Tri} {begun : List Bool} {first : RunRecord
           starts = subst (λ (list : List ℕ). IsRoundStart when list next) (sym sorted) (starts-after rounds.3 underway.sorted (underway.settled rounds.0 rounds.1 rounds.2 rounds.3) one underway.starts);
           settled = λ net input a given.
               subst (λ (list : List ℕ). IsSettledTo net input b begun list next made_after last.state) (sym sorted)
-              (subst (IsSettledTo net input b begun scratch.sorted next made_after) (sym here) (settled-next net input a given));
+              (subst (IsSettledTo net input b begun scratch.by_round next made_after) (sym here) (settled-next net input a given));
         }
 
-  pub rounds-end : length scratch.sorted ≤ place → AreRoundsMade when b begun first.steps now.steps scratch.state
+  pub rounds-end : length scratch.by_round ≤ place → AreRoundsMade when b begun first.steps now.steps scratch.state
   rounds-end end = record {
     made = underway.made;
     whole = underway.steps;

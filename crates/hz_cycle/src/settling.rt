@@ -1,5 +1,5 @@
 //! The settle run.
-ghost use Rattle.std.specs.Prelude.{◌≡◌, ◌+◌, ◌*◌, ◌<◌, ◌≤◌, Bool, List, [], length};
+ghost use Rattle.std.specs.Prelude.{◌≡◌, ◌+◌, ◌*◌, ◌<◌, ◌≤◌, Bool, ℕ, List, [], ◌++◌, length};
 ghost use Rattle.std.specs.List.{slice_range};
 ghost use Rattle.hz_core.specs.declared.tri.Tri.{Tri};
 ghost use Rattle.hz_net.specs.Network.{Driver, network_of};
@@ -55,7 +55,7 @@ pub fn settle_run(
 }
 
 /// The settle run, if the run has its beginning already, the spread run without the wires that it does not need, and `scratch`
-/// has the last state of that. Afterwards the variables of `scratch` are sorted by rank.
+/// has the last state of that. The variables of `scratch` are sorted by rank, and stay so.
 pub fn settle_from(
     net: &Net,
     start: &[bool],
@@ -71,6 +71,7 @@ pub fn settle_from(
     requires begun { IsSparingRun (network_of net.now) input.now start.now a.now rank.now run.old.steps }
     requires state { scratch.old.state ≡ end_of start.now run.old.steps }
     requires none_marked { scratch.old.marked ≡ [] }
+    requires sorted { IsInKeyOrder rank.now scratch.old.sorted }
     requires room_for_flips { 2 * length (network_of net.now) ≤ run.old.spare_flips + flip_count run.old.steps }
     requires room_for_steps { 2 * length (network_of net.now) ≤ run.old.spare_steps + length run.old.steps }
     ensures run { IsSettleRun (network_of net.now) input.now start.now a.now b.now run.new.steps }
@@ -78,6 +79,7 @@ pub fn settle_from(
     ensures state { scratch.new.state ≡ end_of start.now run.new.steps }
     ensures marked { scratch.new.marked ≡ [] }
     ensures sorted { IsInKeyOrder rank.now scratch.new.sorted }
+    ensures goes_on { (made : List (List ℕ)) × (run.new.steps ≡ run.old.steps ++ made) }
     ensures room { Spends run.old run.new }
 {
     // A getter of the network says that its circuit is one; the room and the bits are given by how often each variable
@@ -86,7 +88,6 @@ pub fn settle_from(
     run_counts();
     run_ends();
     settle_rounds(when, b, scratch, run);
-    scratch.sort(rank);
     make_pass(net, rank, b, scratch, run);
 }
 
@@ -100,13 +101,14 @@ fn settle_rounds(when: &[u32], b: &[Tri], scratch: &mut Scratch, run: &mut Run)
     requires room_for_steps { length when.now ≤ run.old.spare_steps }
     ensures rounds { AreRoundsMade when.now b.now scratch.old.state run.old.steps run.new.steps scratch.new.state }
     ensures marked { scratch.new.marked ≡ [] }
+    ensures sorted { scratch.new.sorted ≡ scratch.old.sorted }
     ensures room { Spends run.old run.new }
 {
     // The room is told by how often each variable changes.
     run_counts();
-    scratch.sort(when);
+    scratch.sort_rounds(when);
     let mut place = 0;
-    while place < scratch.sorted().len() {
+    while place < scratch.by_round().len() {
         place = mark_round(when, b, place, scratch);
         scratch.step(run);
     }
@@ -116,18 +118,19 @@ fn settle_rounds(when: &[u32], b: &[Tri], scratch: &mut Scratch, run: &mut Run)
 fn mark_round(when: &[u32], b: &[Tri], from: usize, scratch: &mut Scratch) -> usize
     requires when { length when.now ≡ length scratch.old.state }
     requires b { length b.now ≡ length scratch.old.state }
-    requires sorted { IsInKeyOrder when.now scratch.old.sorted }
-    requires from { from < length scratch.old.sorted }
+    requires by_round { IsInKeyOrder when.now scratch.old.by_round }
+    requires from { from < length scratch.old.by_round }
     requires none_marked { scratch.old.marked ≡ [] }
-    ensures round { IsOneRound when.now scratch.old.sorted from result }
-    ensures marked { scratch.new.marked ≡ differing_variables b.now scratch.old.state (slice_range scratch.old.sorted from result) }
+    ensures round { IsOneRound when.now scratch.old.by_round from result }
+    ensures marked { scratch.new.marked ≡ differing_variables b.now scratch.old.state (slice_range scratch.old.by_round from result) }
     ensures state { scratch.new.state ≡ scratch.old.state }
+    ensures by_round { scratch.new.by_round ≡ scratch.old.by_round }
     ensures sorted { scratch.new.sorted ≡ scratch.old.sorted }
 {
-    let places = scratch.sorted().len();
-    let round = when[scratch.sorted()[from] as usize];
+    let places = scratch.by_round().len();
+    let round = when[scratch.by_round()[from] as usize];
     for place in from..places {
-        let var = scratch.sorted()[place];
+        let var = scratch.by_round()[place];
         if when[var as usize] != round {
             return place;
         }

@@ -1,5 +1,6 @@
 pub mod RowLists
 pub mod RaceLoop
+pub mod CommonSteps
 pub mod BelowA
 pub mod FewSteps
 pub mod RowFacts

@@ -18,7 +18,8 @@
 -- ArePassResults netlist input start a ranks b when rounds_a rounds_b: the results of both algorithms
 -- HavePassRoom, HasRunRoom, HasRooms, IsRoomFor: there is room for the analysis of every change
 -- DeskOf, LeavesDesk: what the code's Desk holds, and what it leaves behind
--- IsAlong net input start steps number races state: how far a follower has gone along a run
+-- IsAlong net input start steps rest races state: how far a follower has gone along a run
+-- BeginAlike first second common: two runs begin with the same steps
 
 pub mod Class
 pub mod Races

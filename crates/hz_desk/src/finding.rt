@@ -9,6 +9,7 @@ ghost use Rattle.hz_core.specs.Limits.{most_variables};
 
 use crate::class::{Class, class_of};
 use hz_core::{Memory, Tri};
+use hz_free::PackedWord;
 use hz_gmw::Run;
 use hz_word::{Count, Word};
 use std::alloc::Global;
@@ -36,7 +37,7 @@ pub struct Rows {
     pub(crate) start: Vec<bool>,
     pub(crate) a: Vec<Tri>,
     pub(crate) b: Vec<Tri>,
-    pub(crate) words: Vec<Option<Word>>,
+    pub(crate) words: Vec<PackedWord>,
 }
 
 impl Model for Rows {
@@ -61,7 +62,7 @@ impl Rows {
             start: vec![in alloc; false; variables]?,
             a: vec![in alloc; Tri::Zero; variables]?,
             b: vec![in alloc; Tri::Zero; variables]?,
-            words: vec![in alloc; None; variables]?,
+            words: vec![in alloc; PackedWord::none(); variables]?,
         })
     }
 
@@ -77,7 +78,12 @@ impl Rows {
         requires { var < length self.now }
         ensures { slice_get self.now var ≡ Some result }
     {
-        row_of(self.start[var], self.a[var], self.b[var], self.words[var])
+        row_of(
+            self.start[var],
+            self.a[var],
+            self.b[var],
+            self.words[var].get(),
+        )
     }
 
     /// The values of all variables at the start.

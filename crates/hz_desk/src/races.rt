@@ -1,10 +1,11 @@
 //! Race states, counted while a follower goes along the runs.
-ghost use Rattle.std.specs.Prelude.{◌≡◌, ◌≤◌, length, if◌then◌else◌};
+ghost use Rattle.std.specs.Prelude.{◌≡◌, ◌≤◌, ◌+◌, length, drop, if◌then◌else◌};
+ghost use Rattle.std.specs.List.{slice_range};
 ghost use Rattle.hz_net.specs.Network.{network_of};
-ghost use Rattle.hz_gmw.specs.Runs.{end_of};
+ghost use Rattle.hz_gmw.specs.Runs.{IsRun, end_of};
 ghost use Rattle.hz_gmw.specs.Cycles.{states_of};
 ghost use Rattle.hz_desk.specs.Races.{is_race, race_count, states_before, cycle_states};
-ghost use Rattle.hz_desk.specs.RunProgress.{IsShortRun, most_short_steps};
+ghost use Rattle.hz_desk.specs.RunProgress.{IsShortRun, BeginAlike, most_short_steps};
 ghost use Rattle.hz_desk.specs.Filled.{AreRacesOf};
 
 use hz_gmw::{Follower, Run};
@@ -17,7 +18,8 @@ pub(crate) struct Races {
     pub cycle: u32,
 }
 
-// Counts the race states of the three runs of a change.
+// Counts the race states of the three runs of a change. The spread run and the settle run begin with the same steps, which the
+// follower makes once.
 pub(crate) fn count_races(
     follower: &mut Follower,
     input: &[bool],
@@ -25,19 +27,21 @@ pub(crate) fn count_races(
     spread: &Run,
     settle: &Run,
     cycle: &Run,
+    common: usize,
 ) -> Races
     requires input { length input.now ≡ follower.old.circuit.inputs }
     requires start { length start.now ≡ length (network_of follower.old.circuit) }
     requires spread { IsShortRun (network_of follower.old.circuit) input.now start.now spread.now.steps }
     requires settle { IsShortRun (network_of follower.old.circuit) input.now start.now settle.now.steps }
     requires cycle { IsShortRun (network_of follower.old.circuit) input.now (end_of start.now settle.now.steps) cycle.now.steps }
+    requires common { BeginAlike spread.now.steps settle.now.steps common }
     ensures races { AreRacesOf (network_of follower.old.circuit) input.now start.now spread.now.steps settle.now.steps cycle.now.steps result.spread result.settle result.cycle }
     ensures circuit { follower.new.circuit ≡ follower.old.circuit }
 {
     follower.begin(input, start);
-    let spread = run_races(follower, spread);
-    follower.restart();
-    let settle = run_races(follower, settle);
+    let shared = races_before(follower, settle, 0, common);
+    let spread = shared + last_races(follower, spread, common);
+    let settle = shared + run_races(follower, settle, common);
     let cycle = cycle_races(follower, cycle);
     Races {
         spread,
@@ -46,17 +50,40 @@ pub(crate) fn count_races(
     }
 }
 
-// Counts the race states of a run from the current state. The follower goes along it.
-fn run_races(follower: &mut Follower, run: &Run) -> u32
-    requires { IsShortRun (network_of follower.old.circuit) follower.old.input follower.old.state run.now.steps }
-    ensures races { result ≡ race_count (network_of follower.old.circuit) follower.old.input (states_of follower.old.state run.now.steps) }
+// Counts the race states of the rest of a run, which begins in the current state with the step that has a number. The follower
+// goes along it.
+fn run_races(follower: &mut Follower, run: &Run, from: usize) -> u32
+    requires from { from ≤ length run.now.steps }
+    requires run { IsShortRun (network_of follower.old.circuit) follower.old.input follower.old.state (drop from run.now.steps) }
+    ensures races { result ≡ race_count (network_of follower.old.circuit) follower.old.input (states_of follower.old.state (drop from run.now.steps)) }
+    ensures few { result ≤ most_short_steps + 1 }
     ensures circuit { follower.new.circuit ≡ follower.old.circuit }
     ensures input { follower.new.input ≡ follower.old.input }
-    ensures begun { follower.new.begun ≡ follower.old.begun }
-    ensures ends { follower.new.state ≡ end_of follower.old.state run.now.steps }
+    ensures ends { follower.new.state ≡ end_of follower.old.state (drop from run.now.steps) }
 {
-    let before = races_before(follower, run);
+    let before = races_before(follower, run, from, run.steps());
     before + race_here(follower)
+}
+
+// Counts the race states of the rest of a run, which begins in the current state and has at most one step. The follower comes
+// back.
+fn last_races(follower: &mut Follower, run: &Run, from: usize) -> u32
+    requires few { length run.now.steps ≤ from + 1 }
+    requires run { IsRun (network_of follower.old.circuit) follower.old.input follower.old.state (drop from run.now.steps) }
+    ensures races { result ≡ race_count (network_of follower.old.circuit) follower.old.input (states_of follower.old.state (drop from run.now.steps)) }
+    ensures few { result ≤ 2 }
+    ensures back { follower.new ≡ follower.old }
+{
+    let here = race_here(follower);
+    if run.steps() <= from {
+        return here;
+    }
+    let flips = run.step(from);
+    follower.step(flips);
+    let after = race_here(follower);
+    // The same step again undoes it.
+    follower.step(flips);
+    here + after
 }
 
 // Counts the race states of a cycle from the current state, without its last one, which is the first again.
@@ -68,21 +95,22 @@ fn cycle_races(follower: &mut Follower, cycle: &Run) -> u32
     if cycle.steps() == 0 {
         return race_here(follower);
     }
-    races_before(follower, cycle)
+    races_before(follower, cycle, 0, cycle.steps())
 }
 
-// Counts the race states in which the steps of a run begin, and makes these steps.
-fn races_before(follower: &mut Follower, run: &Run) -> u32
-    requires { IsShortRun (network_of follower.old.circuit) follower.old.input follower.old.state run.now.steps }
-    ensures races { result ≡ race_count (network_of follower.old.circuit) follower.old.input (states_before follower.old.state run.now.steps) }
+// Counts the race states in which the steps of a run from one number to another begin, and makes these steps.
+fn races_before(follower: &mut Follower, run: &Run, from: usize, to: usize) -> u32
+    requires from { from ≤ to }
+    requires to { to ≤ length run.now.steps }
+    requires run { IsShortRun (network_of follower.old.circuit) follower.old.input follower.old.state (slice_range run.now.steps from to) }
+    ensures races { result ≡ race_count (network_of follower.old.circuit) follower.old.input (states_before follower.old.state (slice_range run.now.steps from to)) }
     ensures few { result ≤ most_short_steps }
     ensures circuit { follower.new.circuit ≡ follower.old.circuit }
     ensures input { follower.new.input ≡ follower.old.input }
-    ensures begun { follower.new.begun ≡ follower.old.begun }
-    ensures ends { follower.new.state ≡ end_of follower.old.state run.now.steps }
+    ensures ends { follower.new.state ≡ end_of follower.old.state (slice_range run.now.steps from to) }
 {
     let mut races = 0;
-    for number in 0..run.steps() {
+    for number in from..to {
         races += race_here(follower);
         follower.step(run.step(number));
     }

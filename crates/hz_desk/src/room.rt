@@ -76,7 +76,7 @@ impl<'n> Room<'n> {
         self.finding.rounds_a = rounds.a;
         self.finding.rounds_b = rounds.b;
         self.finding.input.write(input);
-        make_runs(
+        let common = make_runs(
             net,
             start,
             input,
@@ -94,6 +94,7 @@ impl<'n> Room<'n> {
             &self.finding.spread,
             &self.finding.settle,
             &self.finding.cycle,
+            common,
         );
         self.finding.spread_races = races.spread;
         self.finding.settle_races = races.settle;

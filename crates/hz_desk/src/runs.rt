@@ -9,6 +9,7 @@ ghost use Rattle.hz_reach.specs.Spread.{IsSpreadRun, IsSparingRun};
 ghost use Rattle.hz_desk.specs.Finding.{values_a, values_b};
 ghost use Rattle.hz_desk.specs.ResultsOfPasses.{HasPassResults};
 ghost use Rattle.hz_desk.specs.Filled.{AreRuns};
+ghost use Rattle.hz_desk.specs.RunProgress.{BeginAlike};
 ghost use Rattle.hz_desk.specs.Room.{HasRunRoom};
 
 use crate::finding::Rows;
@@ -19,7 +20,8 @@ use hz_gmw::Run;
 use hz_net::Net;
 use hz_reach::{Scratch, add_unused, run_counts, sparing_in_order, spread_flips};
 
-// Makes the three runs in place of those that were there, by what both passes gave.
+// Makes the three runs in place of those that were there, by what both passes gave. Returns how many steps the spread run and the
+// settle run have in common at their beginning.
 pub(crate) fn make_runs(
     net: &Net,
     start: &[bool],
@@ -30,7 +32,7 @@ pub(crate) fn make_runs(
     spread: &mut Run,
     settle: &mut Run,
     cycle: &mut Run,
-)
+) -> usize
     requires start { IsStableStart net.now start.now }
     requires input { length input.now ≡ net.now.inputs }
     requires passed { HasPassResults net.now input.now start.now (values_a rows.now) (values_b rows.now) passes.now }
@@ -39,6 +41,7 @@ pub(crate) fn make_runs(
     requires settle { HasRunRoom (2 * length (network_of net.now)) settle.old }
     requires cycle { HasRunRoom (4 * length (network_of net.now)) cycle.old }
     ensures runs { AreRuns (network_of net.now) input.now start.now (values_a rows.now) (values_b rows.now) spread.new.steps settle.new.steps cycle.new.steps }
+    ensures common { BeginAlike spread.new.steps settle.new.steps result }
     ensures scratch { IsScratchFor net.now scratch.new }
     ensures spread_room { HasRunRoom (length (network_of net.now)) spread.new }
     ensures settle_room { HasRunRoom (2 * length (network_of net.now)) settle.new }
@@ -53,9 +56,11 @@ pub(crate) fn make_runs(
     let ranks = passes.ranks.as_slice();
     let when = passes.when.as_slice();
     make_spread(net, start, input, a, ranks, scratch, spread, settle);
+    let common = settle.steps();
     settle_from(net, start, input, a, ranks, when, b, scratch, settle);
     cycle.clear();
     cycle_in_order(net, input, ranks, b, scratch, cycle);
+    common
 }
 
 // Makes the spread run in place of the run that was there, and the beginning that the settle run has in common with it. Sorts the
@@ -76,8 +81,10 @@ fn make_spread(
     requires settle_room { HasRunRoom (2 * length (network_of net.now)) settle.old }
     ensures spread { IsSpreadRun (network_of net.now) input.now start.now a.now spread.new.steps }
     ensures begun { IsSparingRun (network_of net.now) input.now start.now a.now ranks.now settle.new.steps }
+    ensures beginning { BeginAlike spread.new.steps settle.new.steps (length settle.new.steps) }
     ensures state { scratch.new.state ≡ end_of start.now settle.new.steps }
     ensures marked { scratch.new.marked ≡ [] }
+    ensures sorted { IsInKeyOrder ranks.now scratch.new.sorted }
     ensures spread_room { HasRunRoom (length (network_of net.now)) spread.new }
     ensures settle_room { HasRunRoom (2 * length (network_of net.now)) settle.new }
 {

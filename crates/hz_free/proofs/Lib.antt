@@ -1,4 +1,5 @@
 pub mod Lists
+pub mod KeptWords
 pub mod Kahn
 pub mod Counting
 pub mod Chains

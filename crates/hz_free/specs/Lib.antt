@@ -10,6 +10,7 @@
 -- AreFeedbackCycles net cycles: all of them, by their least variables
 -- IsWayBack net i way end: from choice to choice
 -- IsCore net i cycle: the feedback cycle in which the way back ends
+-- word_of_packed packed: the word that is packed, if there is one
 -- FreePart: what the code's Free keeps
 -- IsFreePart netlist part: it is that of the network
 -- MarksExist, WordsExist: there always are such marks and words
@@ -26,5 +27,6 @@ pub mod VariableWords
 pub mod Order
 pub mod FreePart
 pub mod CappedWords
+pub mod PackedWords
 pub mod Feedback
 pub mod Paths

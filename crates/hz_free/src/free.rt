@@ -1,4 +1,4 @@
-ghost use Rattle.std.specs.Prelude.{◌≡◌, ◌==◌, ◌<◌, ◌≤◌, ◌↔◌, ℕ, Bool, true, false, Option, List, [], length, map, Contains, IfOk, IfSome, IsTrue, MatchOption, None, slice_index_or};
+ghost use Rattle.std.specs.Prelude.{◌≡◌, ◌==◌, ◌<◌, ◌≤◌, ◌↔◌, ℕ, Bool, true, false, Option, List, [], length, map, Contains, IfOk, IfSome, IsTrue, MatchOption, Some, None, slice_index_or, slice_set};
 ghost use Rattle.hz_core.specs.Netlist.{Netlist};
 ghost use Rattle.hz_core.specs.Ternary.{is_unknown};
 ghost use Rattle.hz_net.specs.Network.{network_of, bit_at, value_at};
@@ -11,11 +11,12 @@ ghost use Rattle.hz_free.specs.Order.{AreReads};
 ghost use Rattle.hz_free.specs.FreePart.{IsFreePart};
 ghost use Rattle.hz_free.specs.CappedWords.{IsReady, IsNextWord};
 ghost use Rattle.hz_free.specs.VariableWords.{AreCappedWords};
-ghost use Rattle.hz_word.specs.Capped.{greatest_cap};
+ghost use Rattle.hz_word.specs.Capped.{greatest_cap, IsWithinCap};
 ghost use Rattle.hz_core.specs.Limits.{most_gate_pins};
 
 use crate::feedback::{Feedback, find_feedback};
 use crate::order::{count_reads, place_all};
+use crate::packed::{PackedWord, StoredWord};
 use crate::words::{constant_word, gate_word, input_word};
 use hz_core::{MAX_PINS, Memory, Tri};
 use hz_net::{Net, VarKind};
@@ -138,7 +139,7 @@ impl Free {
         input: &[bool],
         cap: u64,
         a: &[Tri],
-        out: &mut [Option<Word>],
+        out: &mut [PackedWord],
     )
         requires part { IsFreePart net.now self.now }
         requires start { IsStableStart net.now start.now }
@@ -155,14 +156,14 @@ impl Free {
 
 // The words of the variables of an order, one after the other. If the result of Algorithm A is given, a variable that is 0 or 1
 // there is known not to change.
-fn write_words(
+fn write_words<S: StoredWord>(
     net: &Net,
     order: &[u32],
     start: &[bool],
     input: &[bool],
     cap: u64,
     a: Option<&[Tri]>,
-    out: &mut [Option<Word>],
+    out: &mut [S],
 )
     requires part { (free : List Bool) × (cycles : List (List ℕ)) × (cores : List (Option ℕ)) × IsFreePart net.now (record { free = free; order = order.now; cycles = cycles; cores = cores }) }
     requires start { IsStableStart net.now start.now }
@@ -171,7 +172,7 @@ fn write_words(
     requires cap_high { cap ≤ greatest_cap }
     requires a { IfSome a (λ a. IsResult (algorithm_a (network_of net.now) input.now start.now) a.now) }
     requires out { length out.old ≡ length (network_of net.now) }
-    ensures { AreCappedWords (network_of net.now) input.now start.now cap out.new }
+    ensures { AreCappedWords (network_of net.now) input.now start.now cap (map S.word_in out.new) }
 {
     // A getter of the network says that its circuit is one.
     let _variables = net.len();
@@ -183,8 +184,17 @@ fn write_words(
         } else {
             constant_word(start[*var as usize])
         };
-        out[*var as usize] = Some(word);
+        keep(out, *var, word);
     }
+}
+
+// Keeps the word of a variable.
+fn keep<S: StoredWord>(out: &mut [S], var: u32, word: Word)
+    requires var { var < length out.old }
+    requires counted { IsWithinCap greatest_cap word.changes }
+    ensures { map S.word_in out.new ≡ slice_set (map S.word_in out.old) var (Some word) }
+{
+    out[var as usize] = S::of(word);
 }
 
 // Whether a variable may change: if the result of Algorithm A is given, where it is X.
@@ -205,21 +215,21 @@ const NO_WORD: Word = Word {
 };
 
 // No variable has a word.
-fn clear(out: &mut [Option<Word>])
-    ensures { (i : ℕ) → slice_index_or out.new i None ≡ None }
+fn clear<S: StoredWord>(out: &mut [S])
+    ensures { (i : ℕ) → slice_index_or (map S.word_in out.new) i None ≡ None }
 {
     for word in out.iter_mut() {
-        *word = None;
+        *word = S::none();
     }
 }
 
 // The word of a variable, once all that it reads have one.
-fn word_of(
+fn word_of<S: StoredWord>(
     net: &Net,
     start: &[bool],
     input: &[bool],
     cap: u64,
-    out: &[Option<Word>],
+    out: &[S],
     pins: &mut [Word],
     var: u32,
 ) -> Word
@@ -229,8 +239,8 @@ fn word_of(
     requires cap_low { 1 ≤ cap }
     requires cap_high { cap ≤ greatest_cap }
     requires room { most_gate_pins ≤ length pins.old }
-    requires ready { IsReady (network_of net.now) input.now start.now cap out.now var }
-    ensures { IsNextWord (network_of net.now) input.now start.now cap out.now var result }
+    requires ready { IsReady (network_of net.now) input.now start.now cap (map S.word_in out.now) var }
+    ensures { IsNextWord (network_of net.now) input.now start.now cap (map S.word_in out.now) var result }
 {
     let _variables = net.len();
     match net.kind_of(var) {
@@ -244,7 +254,7 @@ fn word_of(
                 pins,
             )
         }
-        VarKind::Wire { source, .. } => out[source as usize].unwrap(),
+        VarKind::Wire { source, .. } => out[source as usize].get().unwrap(),
     }
 }
 

@@ -4,6 +4,7 @@
 //! |---|---|
 //! | `free` | `Free`, which is made for a network once, and gives its words for each change |
 //! | `order` | the feedback-free variables in a topological order |
+//! | `packed` | `PackedWord`, a word or none in eight bytes |
 //! | `words` | the words of an input and of a gate |
 //! | `feedback` | the feedback cycles, and the core of each variable that is not feedback-free |
 //! | `cycles` | a list of cycles |
@@ -30,11 +31,13 @@ mod cycles;
 mod feedback;
 mod free;
 mod order;
+mod packed;
 #[cfg(test)]
 mod tests;
 mod words;
 
 pub use free::Free;
+pub use packed::PackedWord;
 
 /// Along every run from a stable start under the new input, the word of a feedback-free variable covers its history.
 pub fn words_cover()

@@ -4,7 +4,7 @@ ghost use Rattle.hz_core.specs.Gate.{most_pins};
 ghost use Rattle.hz_core.specs.Netlist.{IsName, IsGateNumber, gate_at, node_named, variable_count};
 ghost use Rattle.hz_net.specs.Network.{network_of};
 
-use super::Free;
+use super::{Free, PackedWord};
 use hz_core::{Circuit, Kind, MAX_PINS, MAX_VARIABLES};
 use hz_net::Net;
 use hz_word::{Count, Word};
@@ -356,5 +356,22 @@ fn words_at_the_cap(rt: HostRuntime) -> Result<(), Fail> {
         out.as_slice(),
         [exact(false, 1), exact(false, 10), exact(false, 100), many].as_slice()
     );
+    Ok(())
+}
+
+// A word that is packed comes back, whether its number of changes is exact or not.
+#[test]
+fn packed_words(rt: HostRuntime) -> Result<(), Fail> {
+    let most = Word {
+        first: true,
+        changes: Count::Exact(1_000_000),
+    };
+    let many = Word {
+        first: true,
+        changes: Count::Many,
+    };
+    assert_eq!(rt; PackedWord::none().get(), None);
+    assert_eq!(rt; PackedWord::of(most).get(), Some(most));
+    assert_eq!(rt; PackedWord::of(many).get(), Some(many));
     Ok(())
 }

@@ -6,6 +6,7 @@ ghost use Rattle.hz_free.specs.VariableWords.{input_word};
 ghost use Rattle.hz_free.specs.CappedWords.{HasCountedWord, IsGateWord};
 ghost use Rattle.hz_word.specs.Capped.{greatest_cap};
 
+use crate::packed::StoredWord;
 use hz_core::Kind;
 use hz_word::{Count, Word, fold};
 
@@ -30,13 +31,13 @@ pub(crate) fn input_word(old: bool, new: bool) -> Word
 }
 
 // The word of a gate, given those of its wires. The pins are room for them.
-pub(crate) fn gate_word(kind: Kind, wires: &[Option<Word>], cap: u64, pins: &mut [Word]) -> Word
+pub(crate) fn gate_word<S: StoredWord>(kind: Kind, wires: &[S], cap: u64, pins: &mut [Word]) -> Word
     requires takes { IsTrue (takes kind (length wires.now)) }
-    requires counted { All (HasCountedWord cap) wires.now }
+    requires counted { All (HasCountedWord cap) (map S.word_in wires.now) }
     requires cap_low { 1 ≤ cap }
     requires cap_high { cap ≤ greatest_cap }
     requires room { length wires.now ≤ length pins.old }
-    ensures { IsGateWord kind wires.now cap result }
+    ensures { IsGateWord kind (map S.word_in wires.now) cap result }
 {
     let pins = &mut pins[..wires.len()];
     gather(wires, pins, cap);
@@ -44,12 +45,12 @@ pub(crate) fn gate_word(kind: Kind, wires: &[Option<Word>], cap: u64, pins: &mut
 }
 
 // The words of wires that all have one.
-fn gather(wires: &[Option<Word>], pins: &mut [Word], cap: u64)
-    requires counted { All (HasCountedWord cap) wires.now }
+fn gather<S: StoredWord>(wires: &[S], pins: &mut [Word], cap: u64)
+    requires counted { All (HasCountedWord cap) (map S.word_in wires.now) }
     requires room { length pins.old ≡ length wires.now }
-    ensures { map Some pins.new ≡ wires.now }
+    ensures { map Some pins.new ≡ map S.word_in wires.now }
 {
     for pin in 0..wires.len() {
-        pins[pin] = wires[pin].unwrap();
+        pins[pin] = wires[pin].get().unwrap();
     }
 }

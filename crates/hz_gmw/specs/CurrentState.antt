@@ -50,21 +50,6 @@ pub record IsExact (netlist : Netlist) (current : CurrentState) : Type 0 where
   pub counted : IsCounted netlist current
   pub unstable : current.unstable ≡ unstable_count (network_of netlist) current.input.items current.state.items
 
--- two states are the same, and so is what is counted of them
-pub record AreSame (current other : CurrentState) : Type 0 where
-  pub input : other.input.items ≡ current.input.items
-  pub state : other.state.items ≡ current.state.items
-  pub ones : other.ones.items ≡ current.ones.items
-  pub wires : other.unstable_wires.items ≡ current.unstable_wires.items
-  pub unstable : other.unstable ≡ current.unstable
-
--- the lists of two states are as long
-pub record AreAsLong (current other : CurrentState) : Type 0 where
-  pub input : length other.input.items ≡ length current.input.items
-  pub state : length other.state.items ≡ length current.state.items
-  pub ones : length other.ones.items ≡ length current.ones.items
-  pub wires : length other.unstable_wires.items ≡ length current.unstable_wires.items
-
 -- a variable and those that read it: what may become stable or unstable when it changes
 abbrev pub with_readers : Netlist → ℕ → List ℕ
 with_readers netlist var = var ∷ readers_of netlist var

@@ -3,16 +3,15 @@ use Rattle.std.specs.Prelude.{ℕ, Bool, List}
 use Rattle.hz_core.specs.Netlist.{Netlist}
 use Rattle.hz_gmw.specs.Runs.{state_after}
 
--- the circuit, the external input, the state in which the follower began, and the current state
+-- the circuit, the external input and the current state
 pub record FollowerOf : Type 0 where
   pub circuit : Netlist
   pub input : List Bool
-  pub begun : List Bool
   pub state : List Bool
 
--- a follower that begins in a state
+-- a follower in a state
 abbrev pub follower_at : Netlist → List Bool → List Bool → FollowerOf
-follower_at circuit input state = record { circuit = circuit; input = input; begun = state; state = state }
+follower_at circuit input state = record { circuit = circuit; input = input; state = state }
 
 -- a follower after one step more
 abbrev pub follower_after : FollowerOf → List ℕ → FollowerOf

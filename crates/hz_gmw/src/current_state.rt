@@ -40,7 +40,7 @@ pub(crate) struct CurrentState {
 }
 
 impl CurrentState {
-    ghost use Rattle.hz_gmw.specs.CurrentState.{IsCounted, IsExact, AreSame, AreAsLong, with_readers, with_bits_of, unstable_from};
+    ghost use Rattle.hz_gmw.specs.CurrentState.{IsCounted, IsExact, with_readers, with_bits_of, unstable_from};
 
     // Every input and every variable is 0.
     pub(crate) fn new(alloc: Global, net: &Net) -> Result<CurrentState, Memory>
@@ -110,44 +110,6 @@ impl CurrentState {
         for var in list {
             self.turn(net, *var, state[*var as usize]);
         }
-    }
-
-    // The same state, with its counts, in room of its own.
-    pub(crate) fn copy(&self, alloc: Global) -> Result<CurrentState, Memory>
-        ensures { IfOk result (AreSame self.now) }
-    {
-        let Ok(input) = Vec::from_slice(alloc, self.input.as_slice()) else {
-            return Err(Memory);
-        };
-        let Ok(state) = Vec::from_slice(alloc, self.state.as_slice()) else {
-            return Err(Memory);
-        };
-        let Ok(ones) = Vec::from_slice(alloc, self.ones.as_slice()) else {
-            return Err(Memory);
-        };
-        let Ok(unstable_wires) = Vec::from_slice(alloc, self.unstable_wires.as_slice()) else {
-            return Err(Memory);
-        };
-        Ok(CurrentState {
-            input,
-            state,
-            ones,
-            unstable_wires,
-            unstable: self.unstable,
-        })
-    }
-
-    // Takes over another state, with its counts, into the room that is there.
-    pub(crate) fn copy_from(&mut self, other: &CurrentState)
-        requires { AreAsLong other.now self.old }
-        ensures { AreSame other.now self.new }
-    {
-        self.input.copy_from_slice(other.input.as_slice());
-        self.state.copy_from_slice(other.state.as_slice());
-        self.ones.copy_from_slice(other.ones.as_slice());
-        self.unstable_wires
-            .copy_from_slice(other.unstable_wires.as_slice());
-        self.unstable = other.unstable;
     }
 
     // Turns the external input into a given one.

@@ -15,14 +15,11 @@ use std::marker::Model;
 /// [`Replay`](crate::Replay) does.
 ///
 /// A step costs the variables that it changes, whatever their fan-out, and the number of unstable ones takes constant time.
-/// `begin` costs the whole network and what it changes. `restart` copies the counts of the whole network, and changes nothing
-/// one by one. Only `new` takes memory.
+/// `begin` costs the whole network and what it changes. Only `new` takes memory.
 #[derive(Debug, Drop)]
 pub struct Follower<'n> {
     net: &'n Net,
     current: CurrentState,
-    // The state in which it began.
-    begun: CurrentState,
 }
 
 impl<'n> Model for Follower<'n> {
@@ -43,12 +40,7 @@ impl<'n> Follower<'n> {
         ensures { IfOk result (λ follower. follower ≡ follower_at net.now (replicate net.now.inputs false) (replicate (length (network_of net.now)) false)) }
     {
         let current = CurrentState::new(alloc, net)?;
-        let begun = current.copy(alloc)?;
-        Ok(Follower {
-            net,
-            current,
-            begun,
-        })
+        Ok(Follower { net, current })
     }
 
     /// Sets the external input and the state, one bit for each input and each variable.
@@ -59,14 +51,6 @@ impl<'n> Follower<'n> {
     {
         self.current.turn_input(self.net, input);
         self.current.turn_to(self.net, state);
-        self.begun.copy_from(&self.current);
-    }
-
-    /// Goes back to the state in which it began last.
-    pub fn restart(&mut self)
-        ensures { self.new ≡ follower_at self.old.circuit self.old.input self.old.begun }
-    {
-        self.current.copy_from(&self.begun);
     }
 
     /// Makes a step: changes the listed variables, each of which is listed once.

@@ -10,6 +10,7 @@ scratch_state_of fields =
     record {
       state = fields.state.items;
       sorted = fields.sorted.items;
+      by_round = fields.by_round.items;
       marked = fields.marked.items;
     }
 
@@ -20,6 +21,7 @@ pub record HoldsScratch (fields : Inside) : Type 0 where
   pub next_long : length fields.next.items ≡ length fields.state.items
   pub keyed_fit : length fields.state.items ≤ vec_capacity fields.keyed
   pub sorted_fit : length fields.state.items ≤ vec_capacity fields.sorted
+  pub by_round_fit : length fields.state.items ≤ vec_capacity fields.by_round
   pub marked_fit : length fields.state.items ≤ vec_capacity fields.marked
   pub once : IsRepeatFree fields.marked.items
   pub inside : (i : ℕ) → IsTrue (is_listed fields.marked.items i) → i < length fields.state.items

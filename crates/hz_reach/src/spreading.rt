@@ -240,6 +240,7 @@ fn mark_unchanged(net: &Net, start: &[bool], a: &[Tri], scratch: &mut Scratch)
     ensures marked { scratch.new.marked ≡ unchanged_wires net.now a.now start.now scratch.old.state }
     ensures state { scratch.new.state ≡ scratch.old.state }
     ensures sorted { scratch.new.sorted ≡ scratch.old.sorted }
+    ensures by_round { scratch.new.by_round ≡ scratch.old.by_round }
 {
     for wire in net.circuit().nodes()..net.len() {
         let place = wire as usize;

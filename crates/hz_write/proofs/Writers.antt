@@ -52,6 +52,13 @@ unfolding Given
 given_longer written faults start text waiting None now more failed given = absurd (cc)
 given_longer written faults start text waiting (Some fault) now more failed given = Stops-longer more given
 
+-- more of a line, all of which waits; after a fault it is never put
+given_waiting : {S : Type 0} (written : S → Option (List ℕ)) (faults : S → ℕ) (start : S) (text waiting : List ℕ) (fault : Option PutFault) (now : S) (more : List ℕ)
+    → Given written faults start text waiting fault now → Given written faults start (text ++ more) (waiting ++ more) fault now
+unfolding Given
+given_waiting written faults start text waiting None now more given = IsBuffered-append more given (IsBuffered-start (waiting ++ more) now)
+given_waiting written faults start text waiting (Some fault) now more given = Stops-longer more given
+
 module _ {S : Type 0} {written : S → Option (List ℕ)} {faults : S → ℕ} where
   -- no call
   pub writes_nothing : (writer : Writer S) → Writes written faults [] writer writer
@@ -84,6 +91,14 @@ module _ {S : Type 0} {written : S → Option (List ℕ)} {faults : S → ℕ} w
   writes_cut text_of items i p failed =
       writes_then p (writes_failed (flat_map text_of (drop i items)) failed)
       (sym (flat_map-append text_of (take i items) (drop i items)) ∙ ap (flat_map text_of) (take-append-drop i items))
+
+  -- a piece of a line, all of which waits
+  pub writes_waiting : {a b : Writer S} (text : List ℕ) → b.out.ghost_name ≡ a.out.ghost_name → b.out.now ≡ a.out.now → b.fault ≡ a.fault
+      → b.line ≡ a.line ++ text → Writes written faults text a b
+  writes_waiting {a} text sink out same waits = record {
+    sink = sink;
+    gave = λ start before given. rw (same, waits, out) (given_waiting written faults start before a.line a.fault a.out.now text given);
+  }
 
   -- a piece of a line: all of it waits or was put
   pub writes_added : {a b : Writer S} (text : List ℕ) → b.out.ghost_name ≡ a.out.ghost_name → is_some a.fault ≡ false → b.fault ≡ a.fault

@@ -40,6 +40,7 @@ impl Line {
     /// Adds a piece to the line, and puts what waits each time that the buffer is full and more comes.
     ///
     /// After a refusal the line is dropped: nothing waits.
+    #[inline(never)]
     pub fn add<K: Sink>(&mut self, out: &mut K, piece: &[u8]) -> Result<(), PutFault>
         ensures added { WroteBuffered K.written K.faults (self.old ++ piece.now) out.old out.new self.new result }
         ensures dropped { OnErr result (self.new ≡ []) }
@@ -60,19 +61,23 @@ impl Line {
         ensures wrote { Wrote K.written K.faults (self.old ++ newline) out.old out.new result }
         ensures emptied { self.new ≡ [] }
     {
-        self.add(out, b"\n")?;
+        if self.room() > 0 {
+            self.push(b"\n");
+        } else {
+            self.add(out, b"\n")?;
+        }
         self.put_waiting(out)
     }
 
     /// How many bytes fit until the buffer is full.
-    fn room(&self) -> usize
+    pub(crate) fn room(&self) -> usize
         ensures room { result + length self.now ≡ BUFFER_SIZE }
     {
         BUFFER_SIZE - self.len
     }
 
     /// Lets more bytes wait.
-    fn push(&mut self, piece: &[u8])
+    pub(crate) fn push(&mut self, piece: &[u8])
         requires { length self.old + length piece.now ≤ BUFFER_SIZE }
         ensures { self.new ≡ self.old ++ piece.now }
     {

@@ -37,6 +37,19 @@ impl<'k, K: Sink> Writer<'k, K> {
     pub fn text(&mut self, text: &[u8])
         ensures { Writes K.written K.faults text.now self.old self.new }
     {
+        if text.len() <= self.line.room() {
+            self.line.push(text);
+        } else {
+            self.overflow(text);
+        }
+    }
+
+    // Gives bytes of one line for which the buffer has no room. Few pieces are so: kept apart, `text` is short enough to be inlined.
+    #[cold]
+    #[inline(never)]
+    fn overflow(&mut self, text: &[u8])
+        ensures { Writes K.written K.faults text.now self.old self.new }
+    {
         if self.fault.is_some() {
             return;
         }

@@ -183,15 +183,31 @@ pub fn write_variable<K: Sink>(writer: &mut Writer<'_, K>, net: &Net, var: u32)
     requires { var < length (network_of net.now) }
     ensures { Writes K.written K.faults (variable_word net.now var) writer.old writer.new }
 {
-    match net.kind_of(var) {
-        VarKind::Input { .. } => writer.text(net.circuit().name(var)),
-        VarKind::Gate { .. } => writer.text(net.circuit().name(var)),
-        VarKind::Wire { gate, pin, .. } => write_wire(writer, net.circuit(), gate, pin),
+    let circuit = net.circuit();
+    if var < circuit.nodes() {
+        writer.text(circuit.name(var));
+    } else {
+        write_wire(writer, net, var);
     }
 }
 
-// Gives the word of the wire into a pin of a gate. The pin is counted from 0.
-fn write_wire<K: Sink>(writer: &mut Writer<'_, K>, circuit: &Circuit, gate: u32, pin: u32)
+// Gives the word of a wire. It is kept apart, so that `write_variable` is short enough to be inlined: most words are nodes' names.
+#[inline(never)]
+fn write_wire<K: Sink>(writer: &mut Writer<'_, K>, net: &Net, wire: u32)
+    requires node { length net.now.names ≤ wire }
+    requires within { wire < length (network_of net.now) }
+    ensures { Writes K.written K.faults (variable_word net.now wire) writer.old writer.new }
+{
+    let circuit = net.circuit();
+    match net.kind_of(wire) {
+        VarKind::Wire { gate, pin, .. } => write_gate_pin(writer, circuit, gate, pin),
+        VarKind::Input { .. } => unreachable!(),
+        VarKind::Gate { .. } => unreachable!(),
+    }
+}
+
+// Gives the name of a gate and the number of a pin of it, which is counted from 0.
+fn write_gate_pin<K: Sink>(writer: &mut Writer<'_, K>, circuit: &Circuit, gate: u32, pin: u32)
     requires gate { gate < length circuit.now.names }
     requires pin { pin < most_gate_pins }
     ensures { Writes K.written K.faults

@@ -19,38 +19,38 @@ same-more when order from place before here k above few =
       | inr late ↦ (let same : place ≡ k = omega (arith, late, few) in subst (λ (n : ℕ). key_at when (get_or order n 0) ≡ key_at when (get_or order from 0)) same here)
     ]
 
-pub bounds-when-sorted : goal.bounds-when-sorted
-bounds-when-sorted c =
-    rw c.sorted.ensures (order-inside c.args.when.now c.args.scratch.now.sorted c.args.from c.requires.sorted c.requires.from)
+pub bounds-when-by_round : goal.bounds-when-by_round
+bounds-when-by_round c =
+    rw c.by_round.ensures (order-inside c.args.when.now c.args.scratch.now.by_round c.args.from c.requires.by_round c.requires.from)
 
 pub bounds-when-var : goal.bounds-when-var
 bounds-when-var c =
-    let order : c.sorted-in-loop-place.result.now ≡ c.args.scratch.now.sorted = c.sorted-in-loop-place.ensures ∙ c.loop-place.invariant.2 in
-    let inside : c.loop-place.place < length c.args.scratch.now.sorted = omega (arith, c.loop-place-test.true, ap (length {A = ℕ}) c.sorted-places.ensures) in
-    rw order (order-inside c.args.when.now c.args.scratch.now.sorted c.loop-place.place c.requires.sorted inside)
+    let order : c.by_round-in-loop-place.result.now ≡ c.args.scratch.now.by_round = c.by_round-in-loop-place.ensures ∙ c.loop-place.invariant.2 in
+    let inside : c.loop-place.place < length c.args.scratch.now.by_round = omega (arith, c.loop-place-test.true, ap (length {A = ℕ}) c.by_round-places.ensures) in
+    rw order (order-inside c.args.when.now c.args.scratch.now.by_round c.loop-place.place c.requires.by_round inside)
 
 pub mark-requires-clause-ascending : goal.mark-requires-clause-ascending
 mark-requires-clause-ascending c =
-    let sorted = c.args.scratch.now.sorted in
-    let order : c.sorted-in-loop-place.result.now ≡ sorted = c.sorted-in-loop-place.ensures ∙ c.loop-place.invariant.2 in
-    let inside : c.loop-place.place < length sorted = omega (arith, c.loop-place-test.true, ap (length {A = ℕ}) c.sorted-places.ensures) in
-    let here : key_at c.args.when.now (get_or sorted c.loop-place.place 0) ≡ key_at c.args.when.now (get_or sorted c.args.from 0) =
-    omega (arith, c.if-when-var.false, ap (λ (list : List ℕ). key_at c.args.when.now (get_or list c.loop-place.place 0)) order, ap (λ (list : List ℕ). key_at c.args.when.now (get_or list c.args.from 0)) c.sorted.ensures) in
+    let by_round = c.args.scratch.now.by_round in
+    let order : c.by_round-in-loop-place.result.now ≡ by_round = c.by_round-in-loop-place.ensures ∙ c.loop-place.invariant.2 in
+    let inside : c.loop-place.place < length by_round = omega (arith, c.loop-place-test.true, ap (length {A = ℕ}) c.by_round-places.ensures) in
+    let here : key_at c.args.when.now (get_or by_round c.loop-place.place 0) ≡ key_at c.args.when.now (get_or by_round c.args.from 0) =
+    omega (arith, c.if-when-var.false, ap (λ (list : List ℕ). key_at c.args.when.now (get_or list c.loop-place.place 0)) order, ap (λ (list : List ℕ). key_at c.args.when.now (get_or list c.args.from 0)) c.by_round.ensures) in
     rw (c.loop-place.invariant.0, order)
-    (λ i there. round-ascends c.args.when.now sorted c.args.b.now c.args.scratch.now.state c.args.from c.loop-place.place i c.requires.sorted inside
-    (same-more c.args.when.now sorted c.args.from c.loop-place.place c.loop-place.invariant.3 here) there)
+    (λ i there. round-ascends c.args.when.now by_round c.args.b.now c.args.scratch.now.state c.args.from c.loop-place.place i c.requires.by_round inside
+    (same-more c.args.when.now by_round c.args.from c.loop-place.place c.loop-place.invariant.4 here) there)
 
 pub loop-place-preserved : goal.loop-place-preserved
 loop-place-preserved c =
-    let sorted = c.args.scratch.now.sorted in
+    let by_round = c.args.scratch.now.by_round in
     let place = c.loop-place.place in
-    let order : c.sorted-in-loop-place.result.now ≡ sorted = c.sorted-in-loop-place.ensures ∙ c.loop-place.invariant.2 in
-    let inside : place < length sorted = omega (arith, c.loop-place-test.true, ap (length {A = ℕ}) c.sorted-places.ensures) in
-    let here : key_at c.args.when.now (get_or sorted place 0) ≡ key_at c.args.when.now (get_or sorted c.args.from 0) =
-    omega (arith, c.if-when-var.false, ap (λ (list : List ℕ). key_at c.args.when.now (get_or list place 0)) order, ap (λ (list : List ℕ). key_at c.args.when.now (get_or list c.args.from 0)) c.sorted.ensures) in
+    let order : c.by_round-in-loop-place.result.now ≡ by_round = c.by_round-in-loop-place.ensures ∙ c.loop-place.invariant.2 in
+    let inside : place < length by_round = omega (arith, c.loop-place-test.true, ap (length {A = ℕ}) c.by_round-places.ensures) in
+    let here : key_at c.args.when.now (get_or by_round place 0) ≡ key_at c.args.when.now (get_or by_round c.args.from 0) =
+    omega (arith, c.if-when-var.false, ap (λ (list : List ℕ). key_at c.args.when.now (get_or list place 0)) order, ap (λ (list : List ℕ). key_at c.args.when.now (get_or list c.args.from 0)) c.by_round.ensures) in
     let above : c.args.from ≤ place = omega (arith, c.loop-place.auto.place) in
-    let var = get_or sorted place 0 in
-    let more : slice_range sorted c.args.from (place + 1) ≡ slice_range sorted c.args.from place ++ var ∷ [] = slice-more sorted c.args.from place above inside in
+    let var = get_or by_round place 0 in
+    let more : slice_range by_round c.args.from (place + 1) ≡ slice_range by_round c.args.from place ++ var ∷ [] = slice-more by_round c.args.from place above inside in
     let is : c.admits.result ≡ admits (value_at c.args.b.now var) (bit_at c.args.scratch.now.state var) =
     c.admits.ensures
     ∙ (ap (λ (list : List ℕ). admits (value_at c.args.b.now (get_or list place 0)) (bit_at c.state.result.now (get_or list place 0))) order
@@ -59,21 +59,23 @@ loop-place-preserved c =
       | then-not-admits w ↦ (
         ap (λ (s : ScratchState). s.marked) w.scratch-is
             ∙ (w.mark.ensures.marked
-            ∙ (ap (λ (list : List ℕ). list ++ get_or c.sorted-in-loop-place.result.now place 0 ∷ []) c.loop-place.invariant.0
-            ∙ (ap (λ (list : List ℕ). differing_variables c.args.b.now c.args.scratch.now.state (slice_range sorted c.args.from place) ++ get_or list place 0 ∷ []) order
-            ∙ (sym (differing-more c.args.b.now c.args.scratch.now.state (slice_range sorted c.args.from place) var (sym is ∙ w.if-not-admits.true))
+            ∙ (ap (λ (list : List ℕ). list ++ get_or c.by_round-in-loop-place.result.now place 0 ∷ []) c.loop-place.invariant.0
+            ∙ (ap (λ (list : List ℕ). differing_variables c.args.b.now c.args.scratch.now.state (slice_range by_round c.args.from place) ++ get_or list place 0 ∷ []) order
+            ∙ (sym (differing-more c.args.b.now c.args.scratch.now.state (slice_range by_round c.args.from place) var (sym is ∙ w.if-not-admits.true))
             ∙ ap (differing_variables c.args.b.now c.args.scratch.now.state) (sym more))))),
         ap (λ (s : ScratchState). s.state) w.scratch-is ∙ (w.mark.ensures.state ∙ c.loop-place.invariant.1),
-        ap (λ (s : ScratchState). s.sorted) w.scratch-is ∙ (w.mark.ensures.sorted ∙ c.loop-place.invariant.2),
-        same-more c.args.when.now sorted c.args.from place c.loop-place.invariant.3 here,
+        ap (λ (s : ScratchState). s.by_round) w.scratch-is ∙ (w.mark.ensures.by_round ∙ c.loop-place.invariant.2),
+        ap (λ (s : ScratchState). s.sorted) w.scratch-is ∙ (w.mark.ensures.sorted ∙ c.loop-place.invariant.3),
+        same-more c.args.when.now by_round c.args.from place c.loop-place.invariant.4 here,
       )
       | else-not-admits w ↦ (
         ap (λ (s : ScratchState). s.marked) w.scratch-is
             ∙ (c.loop-place.invariant.0
-            ∙ (sym (differing-skip c.args.b.now c.args.scratch.now.state (slice_range sorted c.args.from place) var (sym is ∙ w.if-not-admits.false))
+            ∙ (sym (differing-skip c.args.b.now c.args.scratch.now.state (slice_range by_round c.args.from place) var (sym is ∙ w.if-not-admits.false))
             ∙ ap (differing_variables c.args.b.now c.args.scratch.now.state) (sym more))),
         ap (λ (s : ScratchState). s.state) w.scratch-is ∙ c.loop-place.invariant.1,
-        ap (λ (s : ScratchState). s.sorted) w.scratch-is ∙ c.loop-place.invariant.2,
-        same-more c.args.when.now sorted c.args.from place c.loop-place.invariant.3 here,
+        ap (λ (s : ScratchState). s.by_round) w.scratch-is ∙ c.loop-place.invariant.2,
+        ap (λ (s : ScratchState). s.sorted) w.scratch-is ∙ c.loop-place.invariant.3,
+        same-more c.args.when.now by_round c.args.from place c.loop-place.invariant.4 here,
       )
     ]

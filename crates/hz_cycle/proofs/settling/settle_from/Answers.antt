@@ -1,5 +1,5 @@
 -- The rounds begin where the run so far ends, the pass where they end; the three are the settle run.
-use Rattle.std.proofs.Common.{◌≡◌, ◌∙◌, ◌+◌, [], ◌++◌, add-zero, ℕ, Bool, List, length, sym, ap, subst, refl, arith}
+use Rattle.std.proofs.Common.{◌≡◌, ◌∙◌, ◌+◌, [], ◌++◌, append_assoc, add-zero, ℕ, Bool, List, length, sym, ap, subst, refl, arith}
 use Rattle.hz_core.proofs.Refinements.{length-Refines}
 use Rattle.hz_net.specs.Network.{network_of}
 use Rattle.hz_gmw.specs.Runs.{end_of}
@@ -7,8 +7,7 @@ use Rattle.hz_gmw.specs.RunRecord.{RunRecord, flip_count}
 use Rattle.hz_gmw.proofs.CoverB.{length-end_of}
 use Rattle.hz_reach.specs.Room.{Spends}
 use Rattle.hz_cycle.specs.Cycles.{IsSettleRun}
-use Rattle.hz_cycle.specs.Pass.{IsPassMade}
-use Rattle.hz_cycle.proofs.Change.{of-both, a-long, change-fixed, fixed-and-ranked, ranks-long}
+use Rattle.hz_cycle.proofs.Change.{of-both, a-long, change-fixed, fixed-and-ranked}
 use Rattle.hz_cycle.proofs.SettleRunExists.{before-pass, rounds-may-begin, rounds-room, pass-may-begin, pass-room, settle-found, settle-end}
 use Rattle.hz_cycle.proofs.settling.settle_from.Goals as goal
 
@@ -50,45 +49,36 @@ settle_rounds-requires-clause-room_for_steps c =
     let room = rounds-room c.run_counts.ensures.variables c.run_counts.ensures.steps c.requires.begun refl refl (spent-so-far c.args.run.now) c.requires.room_for_flips c.requires.room_for_steps in
     omega (arith, room.1, c.requires.change.settling.long, a-long change)
 
-pub sort-requires : goal.sort-requires
-sort-requires c =
-    let change = of-both c.requires.change in
-    let before = before-pass c.len-variables.ensures.circuit c.requires.change.of_a.begins change c.requires.change.settling c.requires.begun c.requires.state c.settle_rounds.ensures.rounds in
-    ranks-long change ∙ sym (length-Refines c.settle_rounds.new.scratch.state c.args.b.now before.settling.values ∙ (change-fixed change).long)
-
 pub make_pass-requires-clause-given : goal.make_pass-requires-clause-given
 make_pass-requires-clause-given c = fixed-and-ranked (of-both c.requires.change)
 
 pub make_pass-requires-clause-begins : goal.make_pass-requires-clause-begins
 make_pass-requires-clause-begins c =
     let change = of-both c.requires.change in
-    rw c.sort.ensures.state
-    (pass-may-begin (before-pass c.len-variables.ensures.circuit c.requires.change.of_a.begins change c.requires.change.settling c.requires.begun c.requires.state c.settle_rounds.ensures.rounds) c.run_ends.ensures)
+    pass-may-begin (before-pass c.len-variables.ensures.circuit c.requires.change.of_a.begins change c.requires.change.settling c.requires.begun c.requires.state c.settle_rounds.ensures.rounds) c.run_ends.ensures
 
 pub make_pass-requires-clause-scratch : goal.make_pass-requires-clause-scratch
 make_pass-requires-clause-scratch c =
     let change = of-both c.requires.change in
     let before = before-pass c.len-variables.ensures.circuit c.requires.change.of_a.begins change c.requires.change.settling c.requires.begun c.requires.state c.settle_rounds.ensures.rounds in
     record {
-      long = ap (length {A = Bool}) c.sort.ensures.state ∙ length-Refines c.settle_rounds.new.scratch.state c.args.b.now before.settling.values ∙ (change-fixed change).long;
-      none_marked = c.sort.ensures.marked ∙ c.settle_rounds.ensures.marked;
+      long = length-Refines c.settle_rounds.new.scratch.state c.args.b.now before.settling.values ∙ (change-fixed change).long;
+      none_marked = c.settle_rounds.ensures.marked;
     }
 
 pub make_pass-requires-clause-room : goal.make_pass-requires-clause-room
 make_pass-requires-clause-room c =
     let change = of-both c.requires.change in
     let before = before-pass c.len-variables.ensures.circuit c.requires.change.of_a.begins change c.requires.change.settling c.requires.begun c.requires.state c.settle_rounds.ensures.rounds in
-    rw c.sort.ensures.state
-    (pass-room before c.run_counts.ensures.changes c.run_counts.ensures.steps c.run_ends.ensures refl c.settle_rounds.ensures.rounds.whole
+    pass-room before c.run_counts.ensures.changes c.run_counts.ensures.steps c.run_ends.ensures refl c.settle_rounds.ensures.rounds.whole
     (spent-more (before-all c.args.run.now) c.args.run.now c.settle_rounds.new.run (spent-so-far c.args.run.now) c.settle_rounds.ensures.room)
-    c.requires.room_for_flips c.requires.room_for_steps)
+    c.requires.room_for_flips c.requires.room_for_steps
 
 pub returns-clause-run : goal.returns-clause-run
 returns-clause-run c =
     let change = of-both c.requires.change in
     let before = before-pass c.len-variables.ensures.circuit c.requires.change.of_a.begins change c.requires.change.settling c.requires.begun c.requires.state c.settle_rounds.ensures.rounds in
-    let passed : IsPassMade (network_of c.args.net.now) c.args.rank.now c.args.b.now c.settle_rounds.new.scratch.state c.settle_rounds.new.run.steps c.make_pass.new.run.steps c.make_pass.new.scratch.state =
-    subst (λ (state : List Bool). IsPassMade (network_of c.args.net.now) c.args.rank.now c.args.b.now state c.settle_rounds.new.run.steps c.make_pass.new.run.steps c.make_pass.new.scratch.state) c.sort.ensures.state c.make_pass.ensures.pass in
+    let passed = c.make_pass.ensures.pass in
     let pass = passed.pass c.args.input.now (change-fixed change) in
     let whole : c.make_pass.new.run.steps ≡ (c.args.run.now.steps ++ c.settle_rounds.ensures.rounds.made) ++ passed.made =
     passed.whole ∙ ap (λ (list : List (List ℕ)). list ++ passed.made) c.settle_rounds.ensures.rounds.whole in
@@ -104,9 +94,16 @@ pub returns-clause-state : goal.returns-clause-state
 returns-clause-state c =
     let change = of-both c.requires.change in
     let before = before-pass c.len-variables.ensures.circuit c.requires.change.of_a.begins change c.requires.change.settling c.requires.begun c.requires.state c.settle_rounds.ensures.rounds in
-    let passed : IsPassMade (network_of c.args.net.now) c.args.rank.now c.args.b.now c.settle_rounds.new.scratch.state c.settle_rounds.new.run.steps c.make_pass.new.run.steps c.make_pass.new.scratch.state =
-    subst (λ (state : List Bool). IsPassMade (network_of c.args.net.now) c.args.rank.now c.args.b.now state c.settle_rounds.new.run.steps c.make_pass.new.run.steps c.make_pass.new.scratch.state) c.sort.ensures.state c.make_pass.ensures.pass in
+    let passed = c.make_pass.ensures.pass in
     let pass = passed.pass c.args.input.now (change-fixed change) in
     let whole : c.make_pass.new.run.steps ≡ (c.args.run.now.steps ++ c.settle_rounds.ensures.rounds.made) ++ passed.made =
     passed.whole ∙ ap (λ (list : List (List ℕ)). list ++ passed.made) c.settle_rounds.ensures.rounds.whole in
     settle-end before pass ∙ ap (end_of c.args.start.now) (sym whole)
+
+pub returns-clause-goes_on : goal.returns-clause-goes_on
+returns-clause-goes_on c =
+    let rounds = c.settle_rounds.ensures.rounds in
+    let pass = c.make_pass.ensures.pass in
+    let whole : c.make_pass.new.run.steps ≡ (c.args.run.now.steps ++ rounds.made) ++ pass.made =
+    pass.whole ∙ ap (λ (list : List (List ℕ)). list ++ pass.made) rounds.whole in
+    (rounds.made ++ pass.made, whole ∙ append_assoc c.args.run.now.steps rounds.made pass.made)

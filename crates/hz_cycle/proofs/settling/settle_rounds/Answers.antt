@@ -6,19 +6,22 @@ use Rattle.hz_cycle.proofs.settling.settle_rounds.Goals as goal
 
 pub step-requires-clause-room_for_flips : goal.step-requires-clause-room_for_flips
 step-requires-clause-room_for_flips c =
-    round-flips c.loop-place.invariant c.mark_round-place.ensures.round c.mark_round-place.ensures.marked c.run_counts.ensures.variables
+    round-flips c.loop-place.invariant.underway c.mark_round-place.ensures.round c.mark_round-place.ensures.marked c.run_counts.ensures.variables
 
 pub step-requires-clause-room_for_steps : goal.step-requires-clause-room_for_steps
 step-requires-clause-room_for_steps c =
-    round-steps c.loop-place.invariant c.mark_round-place.ensures.round c.mark_round-place.ensures.marked c.run_counts.ensures.variables c.run_counts.ensures.steps
+    round-steps c.loop-place.invariant.underway c.mark_round-place.ensures.round c.mark_round-place.ensures.marked c.run_counts.ensures.variables c.run_counts.ensures.steps
 
 pub loop-place-preserved : goal.loop-place-preserved
 loop-place-preserved c =
-    rounds-next c.loop-place.invariant c.mark_round-place.ensures.round c.mark_round-place.ensures.marked
-    (c.step.ensures.sorted ∙ c.mark_round-place.ensures.sorted) c.step.ensures.marked
-    (c.step.ensures.state ∙ ap (state_after c.mark_round-place.new.scratch.marked) c.mark_round-place.ensures.state)
-    c.step.ensures.steps c.step.ensures.room
+    record {
+      underway = rounds-next c.loop-place.invariant.underway c.mark_round-place.ensures.round c.mark_round-place.ensures.marked
+          (c.step.ensures.by_round ∙ c.mark_round-place.ensures.by_round) c.step.ensures.marked
+          (c.step.ensures.state ∙ ap (state_after c.mark_round-place.new.scratch.marked) c.mark_round-place.ensures.state)
+          c.step.ensures.steps c.step.ensures.room;
+      sorted = c.step.ensures.sorted ∙ (c.mark_round-place.ensures.sorted ∙ c.loop-place.invariant.sorted);
+    }
 
 pub returns-clause-rounds : goal.returns-clause-rounds
 returns-clause-rounds c =
-    rounds-end c.loop-place.invariant (omega (arith, c.loop-place-test.false, ap (length {A = ℕ}) c.sorted.ensures))
+    rounds-end c.loop-place.invariant.underway (omega (arith, c.loop-place-test.false, ap (length {A = ℕ}) c.by_round.ensures))

@@ -1,9 +1,11 @@
 -- The runs are made by what the passes gave.
-use Rattle.std.proofs.Common.{◌∙◌, ap, length, arith}
+use Rattle.std.proofs.Common.{◌∙◌, sym, ap, subst, length, arith}
 use Rattle.hz_net.specs.Network.{network_of}
 use Rattle.hz_gmw.proofs.CoverB.{length-end_of}
 use Rattle.hz_desk.specs.Finding.{values_a, values_b}
 use Rattle.hz_desk.proofs.RowFacts.{long-a, long-b}
+use Rattle.hz_desk.specs.RunProgress.{BeginAlike}
+use Rattle.hz_desk.proofs.CommonSteps.{alike-more}
 use Rattle.hz_desk.proofs.FewSteps.{are-runs}
 use Rattle.hz_desk.proofs.runs.make_runs.Goals as goal
 
@@ -44,3 +46,9 @@ returns-clause-runs c =
     (long-a c.args.net.now c.args.input.now c.args.start.now (values_a c.args.rows.now) passes.ranks.items (values_b c.args.rows.now) passes.when.items passed.0 passed.1 c.requires.start passed.2)
     (long-b c.args.net.now c.args.input.now c.args.start.now (values_a c.args.rows.now) passes.ranks.items (values_b c.args.rows.now) passes.when.items passed.0 passed.1 c.requires.start passed.2)
     (rw a_is at spread) (rw (a_is, b_is) at settle) (rw (b_is, c.settle_from.ensures.state) at cycle)
+
+pub returns-clause-common : goal.returns-clause-common
+returns-clause-common c =
+    let made = c.settle_from.ensures.goes_on in
+    subst (BeginAlike c.make_spread.new.spread.steps c.settle_from.new.run.steps) (sym c.steps-common.ensures)
+    (alike-more c.make_spread.new.spread.steps c.make_spread.new.settle.steps c.settle_from.new.run.steps made.0 made.1 c.make_spread.ensures.beginning)

@@ -5,6 +5,7 @@ use Rattle.hz_net.specs.Network.{network_of}
 use Rattle.hz_net.proofs.Sequences.{length-algorithm_a}
 use Rattle.hz_gmw.specs.RunRecord.{flip_count}
 use Rattle.hz_gmw.proofs.CoverB.{length-end_of}
+use Rattle.hz_desk.proofs.CommonSteps.{alike-added}
 use Rattle.hz_desk.proofs.runs.make_spread.Goals as goal
 
 pub sort-requires : goal.sort-requires
@@ -39,3 +40,6 @@ add_unused-requires-clause-scratch c = record {
   long = ap (length {A = Bool}) c.sparing_in_order.ensures.state ∙ (length-end_of c.args.start.now c.sparing_in_order.new.run.steps ∙ c.requires.change.begins.long);
   none_marked = c.sparing_in_order.ensures.marked;
 }
+
+pub returns-clause-beginning : goal.returns-clause-beginning
+returns-clause-beginning c = alike-added _ c.add_unused.ensures.steps c.copy_from.ensures.steps

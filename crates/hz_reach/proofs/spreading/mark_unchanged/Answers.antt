@@ -34,11 +34,13 @@ loop-wire-preserved c =
             ∙ (filtered_range-more test names (c.loop-wire.wire - names) c.loop-wire.wire next (sym is ∙ w.if-has_yet_to_change.true) ∙ ap (filtered_range test names) count))),
         ap (λ (s : ScratchState). s.state) w.scratch-is ∙ (w.mark.ensures.state ∙ c.loop-wire.invariant.1),
         ap (λ (s : ScratchState). s.sorted) w.scratch-is ∙ (w.mark.ensures.sorted ∙ c.loop-wire.invariant.2),
+        ap (λ (s : ScratchState). s.by_round) w.scratch-is ∙ (w.mark.ensures.by_round ∙ c.loop-wire.invariant.3),
       )
       | else-has_yet_to_change w ↦ (
         ap (λ (s : ScratchState). s.marked) w.scratch-is
             ∙ (c.loop-wire.invariant.0 ∙ (filtered_range-skip test names (c.loop-wire.wire - names) c.loop-wire.wire next (sym is ∙ w.if-has_yet_to_change.false) ∙ ap (filtered_range test names) count)),
         ap (λ (s : ScratchState). s.state) w.scratch-is ∙ c.loop-wire.invariant.1,
         ap (λ (s : ScratchState). s.sorted) w.scratch-is ∙ c.loop-wire.invariant.2,
+        ap (λ (s : ScratchState). s.by_round) w.scratch-is ∙ c.loop-wire.invariant.3,
       )
     ]

@@ -2,13 +2,13 @@
 use Rattle.std.proofs.Common.{◌≡◌, ◌∙◌, ◌+◌, ◌<◌, ◌≤◌, ℕ, Bool, List, [], ◌∷◌, ◌++◌, length, get_or, refl, sym, ap, subst, arith}
 use Rattle.hz_core.specs.Netlist.{Netlist, IsGateNumber}
 use Rattle.hz_gmw.specs.RunRecord.{RunRecord}
-use Rattle.hz_gmw.specs.Runs.{state_after, end_of}
+use Rattle.hz_gmw.specs.Runs.{state_after}
 use Rattle.hz_gmw.proofs.Flips.{length-state_after}
 use Rattle.hz_reach.specs.Room.{with_step_if_any}
 use Rattle.hz_reach.specs.ScratchState.{ScratchState}
 use Rattle.hz_reach.specs.Turn.{changed_inputs, AreChangedWires}
-use Rattle.hz_reach.proofs.SpreadArguments.{asked-by, asked-turns, asked-a, asked-ranks}
-use Rattle.hz_reach.proofs.SpreadRoom.{spends-more, end_of-after}
+use Rattle.hz_reach.proofs.SpreadArguments.{asked-by, asked-turns, asked-ranks}
+use Rattle.hz_reach.proofs.SpreadRoom.{spends-more}
 use Rattle.hz_reach.proofs.SpreadSteps.{inputs-flips, inputs-steps, underway-begin, length-state, wires-flips, wires-steps, gate-flips, gate-steps, run-sparing, rest-flips, rest-steps, run-whole}
 use Rattle.hz_reach.proofs.GateLoop.{IsUnderway, turn-possible, place-ranked, underway-next, underway-turn}
 use Rattle.hz_reach.proofs.spreading.sparing_in_order.Goals as goal

@@ -2,6 +2,7 @@
 use Rattle.std.proofs.Common.{◌≡◌, ◌∙◌, ◌<◌, sym, ap, subst, List, Some, length, arith}
 use Rattle.std.specs.List.{slice_get}
 use Rattle.hz_desk.specs.declared.finding.Row.{Row}
+use Rattle.hz_desk.specs.RowsOf.{row_with}
 use Rattle.hz_desk.proofs.RowLists.{length-rows, row-read}
 use Rattle.hz_desk.proofs.finding.Rows.row.Goals as goal
 
@@ -33,4 +34,4 @@ returns c =
     subst (λ (list : List Row). slice_get list c.args.var ≡ Some c.row_of.result) c.self.view_is
     (row-read rows.start.items rows.a.items rows.b.items rows.words.items c.self.invariant c.args.var c.index.result.now c.index-2.result.now c.index-3.result.now c.index-4.result.now within
     c.index.ensures c.index-2.ensures c.index-3.ensures c.index-4.ensures
-    ∙ ap (λ (row : Row). Some row) (sym c.row_of.ensures))
+    ∙ ap (λ (row : Row). Some row) (ap (row_with c.index.result.now c.index-2.result.now c.index-3.result.now) (sym c.get.ensures) ∙ sym c.row_of.ensures))

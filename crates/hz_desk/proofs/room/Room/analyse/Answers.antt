@@ -26,11 +26,11 @@ returns-clause-right c =
       b = values_b rows;
       when = passes.when.items;
       passed = c.fill_rows-rounds.ensures.passed;
-      runs = c.make_runs.ensures.runs;
+      runs = c.make_runs-common.ensures.runs;
       words = c.fill_rows-rounds.ensures.rows.words;
       are_words = c.fill_rows-rounds.ensures.rows.are_words;
       rows = c.fill_rows-rounds.ensures.rows.are_rows;
-      races = subst (λ (n : Netlist). AreRacesOf (network_of n) input start c.make_runs.new.spread.steps c.make_runs.new.settle.steps c.make_runs.new.cycle.steps found.spread found.settle found.cycle)
+      races = subst (λ (n : Netlist). AreRacesOf (network_of n) input start c.make_runs-common.new.spread.steps c.make_runs-common.new.settle.steps c.make_runs-common.new.cycle.steps found.spread found.settle found.cycle)
           c.requires.room.follower c.count_races-races.ensures.races;
     }
 
@@ -41,14 +41,14 @@ returns-clause-room c =
     record {
       free = c.requires.room.free;
       passes = c.fill_rows-rounds.ensures.passes;
-      scratch = c.make_runs.ensures.scratch;
+      scratch = c.make_runs-common.ensures.scratch;
       follower = c.count_races-races.ensures.circuit ∙ c.requires.room.follower;
       finding = record {
         variables_are = c.requires.room.finding.variables_are;
         rows = sym (length-map rows (λ (row : Row). row.start)) ∙ (ap length are.starts ∙ c.requires.start.long);
         input = ap length c.write.ensures ∙ c.requires.input;
-        spread = c.make_runs.ensures.spread_room;
-        settle = c.make_runs.ensures.settle_room;
-        cycle = c.make_runs.ensures.cycle_room;
+        spread = c.make_runs-common.ensures.spread_room;
+        settle = c.make_runs-common.ensures.settle_room;
+        cycle = c.make_runs-common.ensures.cycle_room;
       };
     }
