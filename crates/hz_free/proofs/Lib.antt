@@ -10,6 +10,7 @@ pub mod FollowedPaths
 pub mod Roots
 pub mod Numbering
 pub mod FoundCycles
+pub mod NoFeedback
 pub mod OneList
 pub mod Existence
 pub mod Choices

@@ -38,7 +38,7 @@ driven-entry netlist var (GateEntry kind first pins) circuit at driven within = 
   subst (λ (n : ℕ). first_wire netlist var + n ≤ length (network_of netlist)) at.2 (subst (λ (n : ℕ). n + pins ≤ length (network_of netlist)) at.1 at.3),
   subst (λ (n : ℕ). IsTrue (takes kind n)) at.2 at.4,
 )
-driven-entry netlist var (WireEntry gate pin source) circuit at driven within =
+driven-entry netlist var (WireEntry pin gate source) circuit at driven within =
     (driven, let inside = at.1 in omega (arith, inside, at.0, within))
 
 some-same : (a b : VarKind) → Some a ≡ Some b → a ≡ b

@@ -11,7 +11,7 @@ use std::marker::Model;
 pub(crate) struct Cycles {
     // The variables of all cycles, one cycle after the other, and where each cycle ends.
     variables: Vec<u32>,
-    ends: Vec<usize>,
+    ends: Vec<u32>,
 }
 
 impl Model for Cycles {
@@ -49,7 +49,7 @@ impl Cycles {
         part_at(self.variables.as_slice(), self.ends.as_slice(), number)
     }
 
-    // Adds a cycle.
+    // Adds a cycle. Where a cycle ends takes 32 bits, so more variables in all are refused as out of memory.
     pub(crate) fn push(&mut self, cycle: &[u32]) -> Result<(), Memory>
         ensures ok { OnOk result (self.new ≡ self.old ++ cycle.now ∷ []) }
         ensures err { OnErr result (self.new ≡ self.old) }
@@ -57,10 +57,13 @@ impl Cycles {
         let Ok(()) = self.ends.reserve(1) else {
             return Err(Memory);
         };
+        let Ok(end) = u32::try_from(self.variables.len() + cycle.len()) else {
+            return Err(Memory);
+        };
         let Ok(()) = self.variables.extend_from_slice(cycle) else {
             return Err(Memory);
         };
-        self.ends.push_reserved(self.variables.len());
+        self.ends.push_reserved(end);
         Ok(())
     }
 }

@@ -1,6 +1,6 @@
 //! The feedback cycles. Each variable that is not feedback-free chooses one of the variables that it reads; the way back from
 //! choice to choice comes around in a cycle, which is the core of the variable.
-ghost use Rattle.std.specs.Prelude.{◌≡◌, ℕ, ◌+◌, ◌^◌, ◌<◌, ◌≤◌, true, List, None, length, map, IfOk, OnOk, MatchOption, IsTrue, All, nat_eq, position};
+ghost use Rattle.std.specs.Prelude.{◌≡◌, ◌↔◌, ℕ, ◌+◌, ◌^◌, ◌<◌, ◌≤◌, true, List, [], None, length, map, IfOk, OnOk, MatchOption, IsTrue, All, nat_eq, position};
 ghost use Rattle.hz_net.specs.Network.{Driver, network_of, bit_at};
 ghost use Rattle.hz_net.specs.Reads.{IsWired};
 ghost use Rattle.hz_gmw.specs.Runs.{is_listed};
@@ -21,12 +21,15 @@ pub(crate) struct Feedback {
     pub(crate) cores: Vec<Option<u32>>,
 }
 
-// The feedback cycles of a network, given which of its variables are feedback-free.
+// The feedback cycles of a network, given which of its variables are feedback-free. Without feedback nothing is searched.
 pub(crate) fn find_feedback(alloc: Global, net: &Net, free: &[bool]) -> Result<Feedback, Memory>
     requires { AreMarks (network_of net.now) free.now }
     ensures { IfOk result (λ feedback. AreFeedback (network_of net.now) feedback.cycles feedback.cores.items) }
 {
     let _variables = net.len();
+    if are_all_free(free) {
+        return Ok(no_feedback(alloc));
+    }
     let choices = choose_all(alloc, net, free)?;
     let mut choosers = no_links(alloc, choices.len())?;
     let mut roots = no_links(alloc, choices.len())?;
@@ -38,6 +41,24 @@ pub(crate) fn find_feedback(alloc: Global, net: &Net, free: &[bool]) -> Result<F
         roots.as_mut_slice(),
         numbers.as_mut_slice(),
     )
+}
+
+// Whether each variable is feedback-free.
+fn are_all_free(free: &[bool]) -> bool
+    ensures { IsTrue result ↔ All IsTrue free.now }
+{
+    free.iter().all(|is_free| *is_free)
+}
+
+// What is found where each variable is feedback-free: no cycle, and no core.
+fn no_feedback(alloc: Global) -> Feedback
+    ensures cycles { result.cycles ≡ [] }
+    ensures cores { result.cores.items ≡ [] }
+{
+    Feedback {
+        cycles: Cycles::new(alloc),
+        cores: Vec::new(alloc),
+    }
 }
 
 // The cycles of given choices, with room for what is found of each variable: which variable of its cycle chose it, in which
@@ -67,7 +88,9 @@ fn choose_all(alloc: Global, net: &Net, free: &[bool]) -> Result<Vec<Option<u32>
     requires { AreMarks (network_of net.now) free.now }
     ensures { IfOk result (λ choices. AreChoices (network_of net.now) choices.items) }
 {
-    let mut choices = Vec::new(alloc);
+    let Ok(mut choices) = Vec::with_capacity(alloc, free.len()) else {
+        return Err(Memory);
+    };
     for var in 0..net.len() {
         let Ok(()) = choices.push(choose(net, free, var)) else {
             return Err(Memory);
@@ -302,7 +325,9 @@ fn list_cores(
     requires { All (IsInside (length numbers.now)) roots.now }
     ensures { IfOk result (λ cores. map (core_by numbers.now) roots.now ≡ cores.items) }
 {
-    let mut cores = Vec::new(alloc);
+    let Ok(mut cores) = Vec::with_capacity(alloc, roots.len()) else {
+        return Err(Memory);
+    };
     for root in roots {
         let Ok(()) = cores.push(core_at(*root, numbers)) else {
             return Err(Memory);

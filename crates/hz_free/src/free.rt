@@ -179,12 +179,12 @@ fn write_words<S: StoredWord>(
     clear(out);
     let mut pins = [NO_WORD; MAX_PINS];
     for var in order {
-        let word = if may_change(a, *var) {
-            word_of(net, start, input, cap, out, &mut pins, *var)
+        if may_change(a, *var) {
+            let word = word_of(net, start, input, cap, out, &mut pins, *var);
+            keep(out, *var, word);
         } else {
-            constant_word(start[*var as usize])
-        };
-        keep(out, *var, word);
+            keep(out, *var, constant_word(start[*var as usize]));
+        }
     }
 }
 

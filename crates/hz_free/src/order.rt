@@ -54,7 +54,9 @@ fn place_first(alloc: Global, net: &Net, unread: &[u32]) -> Result<Vec<u32>, Mem
     requires { AreReads (readers_of net.now) (length (network_of net.now)) (length (network_of net.now)) [] unread.now }
     ensures { IfOk result (λ order. IsOrdering (readers_of net.now) (length (network_of net.now)) 0 [] unread.now order.items) }
 {
-    let mut order = Vec::new(alloc);
+    let Ok(mut order) = Vec::with_capacity(alloc, net.len() as usize) else {
+        return Err(Memory);
+    };
     for var in 0..net.len() {
         if unread[var as usize] == 0 {
             let Ok(()) = order.push(var) else {

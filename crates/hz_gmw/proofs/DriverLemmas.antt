@@ -29,7 +29,7 @@ entry-kind netlist var (GateEntry kind first pins) circuit within at driven seen
   subst (λ (n : ℕ). first_wire netlist var + n ≤ length (network_of netlist)) at.2 (subst (λ (n : ℕ). n + pins ≤ length (network_of netlist)) at.1 at.3),
   subst (λ (n : ℕ). IsTrue (takes kind n)) at.2 at.4,
 )
-entry-kind netlist var (WireEntry gate pin source) circuit within at driven seen =
+entry-kind netlist var (WireEntry pin gate source) circuit within at driven seen =
     let into = named-into netlist circuit var gate pin source at.0 within seen in
     (driven, at.1, into, (is_gate_of netlist circuit gate into.kind into.first into.pins into.driven).is_gate.1, at.0)
 

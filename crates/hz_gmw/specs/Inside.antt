@@ -1,5 +1,5 @@
 -- What a run's fields stand for.
-use Rattle.std.specs.Prelude.{◌+◌, ◌≤◌, length}
+use Rattle.std.specs.Prelude.{◌+◌, ◌≤◌, ◌<◌, ◌^◌, length}
 use Rattle.std.specs.Vec.{vec_len, vec_capacity}
 use Rattle.hz_gmw.specs.RunRecord.{RunRecord}
 use Rattle.hz_net.specs.Parts.{parts_from, EndsAt}
@@ -14,8 +14,9 @@ run_record_of fields =
       spare_steps = fields.spare_steps;
     }
 
--- the flips are cut into steps, and the vectors have the room
+-- the flips are cut into steps, the vectors have the room, and 32 bits tell each place in the flips
 pub record HoldsRun (fields : Inside) : Type 0 where
   pub cut : EndsAt 0 fields.ends.items (length fields.flips.items)
   pub flips_fit : vec_len fields.flips + fields.spare_flips ≤ vec_capacity fields.flips
   pub steps_fit : vec_len fields.ends + fields.spare_steps ≤ vec_capacity fields.ends
+  pub few : vec_len fields.flips + fields.spare_flips < 2 ^ 32

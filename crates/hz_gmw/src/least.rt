@@ -22,13 +22,17 @@ pub(crate) fn least_differing(list: &[u32], left: &[bool], right: &[bool]) -> Op
     found
 }
 
-// The least variable that is listed twice. The set is room for it, and is empty before and after.
+// The least variable that is listed twice. The set is room for it, and is empty before and after. A list of one, as most steps are,
+// has none.
 pub(crate) fn least_repeated(list: &[u32], named: &mut VariableSet) -> Option<u32>
     requires inside { All (λ var. var < length named.old) list.now }
     requires none { named.old ≡ replicate (length named.old) false }
     ensures least { result ≡ least_repeat None named.old list.now }
     ensures none { named.new ≡ replicate (length named.old) false }
 {
+    if let [_] = list {
+        return None;
+    }
     let mut found = None;
     for var in list {
         if named.contains(*var) {

@@ -8,15 +8,19 @@ use hz_net::part_at;
 use std::alloc::Global;
 use std::marker::Model;
 
+/// The most flips of a run.
+const MAX_FLIPS: usize = u32::MAX as usize;
+
 /// A run by its steps, without the state in which it begins. Each step is the list of the variables that change in it at
 /// once, in the general multiple-winner model of Brzozowski and Seger.
 ///
-/// Room for steps can be made before they are known, so a search that has begun never runs out of memory.
+/// Room for steps can be made before they are known, so a search that has begun never runs out of memory. Where a step ends takes 32
+/// bits, so room for more than 4,294,967,295 flips is refused as out of memory.
 #[derive(Debug, Drop)]
 pub struct Run {
     // The variables of all steps, one step after the other, and where each step ends.
     flips: Vec<u32>,
-    ends: Vec<usize>,
+    ends: Vec<u32>,
     // The room that was made and not yet used. The vectors may have more.
     spare_flips: usize,
     spare_steps: usize,
@@ -67,6 +71,9 @@ impl Run {
         ensures kept_steps { self.old.spare_steps ≤ self.new.spare_steps }
         ensures err { OnErr result (self.new ≡ self.old) }
     {
+        if flips > MAX_FLIPS - self.flips.len() {
+            return Err(Memory);
+        }
         let Ok(()) = self.flips.reserve(flips) else {
             return Err(Memory);
         };
@@ -87,7 +94,7 @@ impl Run {
         ensures spare_steps { self.new.spare_steps + 1 ≡ self.old.spare_steps }
     {
         append(&mut self.flips, flips);
-        self.ends.push_reserved(self.flips.len());
+        self.ends.push_reserved(self.flips.len() as u32);
         self.spare_flips -= flips.len();
         self.spare_steps -= 1;
     }

@@ -364,7 +364,7 @@ bit_at-expansion_of-wire netlist nodes var same from within =
 -- the same by the entry of the variable
 pub bit_at-expansion_of-entry :
     (netlist : Netlist) (nodes : List Bool) (var gate pin source : ℕ) → length nodes ≡ length netlist.names →
-    IsEntryAt netlist var (WireEntry gate pin source) → bit_at (expansion_of netlist nodes) var ≡ bit_at nodes source
+    IsEntryAt netlist var (WireEntry pin gate source) → bit_at (expansion_of netlist nodes) var ≡ bit_at nodes source
 bit_at-expansion_of-entry netlist nodes var gate pin source same entry =
     let k = var - length netlist.names in
     let wire : Wire = record { gate = gate; pin = pin; source = source } in

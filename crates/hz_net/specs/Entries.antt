@@ -14,13 +14,13 @@ use Rattle.hz_net.specs.declared.entry.Entry.TheVariants.{Input as InputEntry, G
 abbrev pub driver_of : Entry → Driver
 driver_of (InputEntry number) = External number
 driver_of (GateEntry kind first pins) = Function kind first pins
-driver_of (WireEntry gate pin source) = Source source
+driver_of (WireEntry pin gate source) = Source source
 
 -- what a variable is
 abbrev pub entry_kind : Entry → VarKind
 entry_kind (InputEntry number) = InputKind number
 entry_kind (GateEntry kind first pins) = GateKind kind
-entry_kind (WireEntry gate pin source) = WireKind gate pin source
+entry_kind (WireEntry pin gate source) = WireKind gate pin source
 
 -- the entries of gates, the wires of the first of which begin at a variable
 abbrev pub gate_entries : ℕ → List Gate → List Entry
@@ -30,7 +30,7 @@ gate_entries first (gate ∷ gates) =
 
 -- the entry of a wire
 abbrev pub wire_entry : Wire → Entry
-wire_entry wire = WireEntry wire.gate wire.pin wire.source
+wire_entry wire = WireEntry wire.pin wire.gate wire.source
 
 -- the entries of a circuit: inputs, then gates, then wires by gate and pin
 unfoldable pub entries_of : Netlist → List Entry
@@ -44,6 +44,6 @@ IsEntryAt netlist var (InputEntry number) = (number ≡ var) × (var < netlist.i
 IsEntryAt netlist var (GateEntry kind first pins) =
     IsGateNumber netlist var × (first ≡ first_wire netlist var) × (pins ≡ length (gate_at netlist var).sources)
     × (first + pins ≤ length (network_of netlist)) × IsTrue (takes kind pins)
-IsEntryAt netlist var (WireEntry gate pin source) =
+IsEntryAt netlist var (WireEntry pin gate source) =
     (length netlist.names ≤ var) × (source < length netlist.names)
     × (slice_get (wires_of netlist) (var - length netlist.names) ≡ Some (record { gate = gate; pin = pin; source = source }))

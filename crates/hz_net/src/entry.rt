@@ -1,6 +1,7 @@
 //! The variables of a network, as it keeps them.
-ghost use Rattle.std.specs.Prelude.{◌≡◌, ◌<◌, ◌^◌, ◌++◌, length, map, IfOk, OnOk};
+ghost use Rattle.std.specs.Prelude.{◌≡◌, ◌≤◌, ◌++◌, length, map, IfOk, OnOk};
 ghost use Rattle.std.specs.List.{range_with_len};
+ghost use Rattle.hz_core.specs.Limits.{most_gate_pins};
 ghost use Rattle.hz_core.specs.Netlist.{IsCircuit};
 ghost use Rattle.hz_net.specs.Network.{gate_wires, wires_of};
 ghost use Rattle.hz_net.specs.Entries.{gate_entries, wire_entry, entries_of};
@@ -8,15 +9,16 @@ ghost use Rattle.hz_net.specs.Entries.{gate_entries, wire_entry, entries_of};
 use hz_core::{Circuit, Kind, Memory};
 use std::alloc::Global;
 
-// A variable, with what drives it.
+// A variable, with what drives it. It takes twelve bytes: the numbers of pins are short, and the short fields stand next to the tag. A
+// pass reads an entry at each step.
 #[derive(Clone, Copy, Debug)]
 pub(crate) enum Entry {
     // An input, by its place in the external input.
     Input { number: u32 },
     // A gate. Its wires are the variables from `first` on, as many as it has pins.
-    Gate { kind: Kind, first: u32, pins: u32 },
+    Gate { kind: Kind, first: u32, pins: u16 },
     // The wire into a pin of a gate, from the node `source`.
-    Wire { gate: u32, pin: u32, source: u32 },
+    Wire { pin: u8, gate: u32, source: u32 },
 }
 
 // The variables of a circuit: inputs, then gates, then wires by gate and pin.
@@ -49,12 +51,12 @@ fn push_gates(list: &mut Vec<Entry>, circuit: &Circuit) -> Result<(), Memory>
 {
     let mut first = circuit.nodes();
     for gate in circuit.inputs()..circuit.nodes() {
-        let pins = circuit.sources(gate).len() as u32;
+        let pins = circuit.sources(gate).len() as u16;
         let kind = circuit.kind(gate);
         let Ok(()) = list.push(Entry::Gate { kind, first, pins }) else {
             return Err(Memory);
         };
-        first += pins;
+        first += pins as u32;
     }
     Ok(())
 }
@@ -69,13 +71,13 @@ fn push_wires(list: &mut Vec<Entry>, circuit: &Circuit) -> Result<(), Memory>
 }
 
 fn push_gate_wires(list: &mut Vec<Entry>, gate: u32, sources: &[u32]) -> Result<(), Memory>
-    requires { length sources.now < 2 ^ 32 }
+    requires { length sources.now ≤ most_gate_pins }
     ensures { OnOk result (list.new.items ≡ list.old.items ++ map wire_entry (gate_wires gate 0 sources.now)) }
 {
     for (pin, source) in sources.iter().enumerate() {
         let wire = Entry::Wire {
             gate,
-            pin: pin as u32,
+            pin: pin as u8,
             source: *source,
         };
         let Ok(()) = list.push(wire) else {

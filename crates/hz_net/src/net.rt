@@ -85,7 +85,11 @@ impl Net {
         match self.entry(var) {
             Entry::Input { number } => VarKind::Input { number },
             Entry::Gate { kind, .. } => VarKind::Gate { kind },
-            Entry::Wire { gate, pin, source } => VarKind::Wire { gate, pin, source },
+            Entry::Wire { gate, pin, source } => VarKind::Wire {
+                gate,
+                pin: pin as u32,
+                source,
+            },
         }
     }
 
@@ -97,7 +101,7 @@ impl Net {
         ensures inside { result.0 + result.1 ≤ length (network_of self.now) }
     {
         match self.entries[gate as usize] {
-            Entry::Gate { first, pins, .. } => (first, pins),
+            Entry::Gate { first, pins, .. } => (first, pins as u32),
             Entry::Input { .. } => unreachable!(),
             Entry::Wire { .. } => unreachable!(),
         }
@@ -137,7 +141,7 @@ impl Net {
         match self.entry(var) {
             Entry::Input { number } => input[number as usize],
             Entry::Gate { kind, first, pins } => kind.eval(
-                &state[first as usize..(first + pins) as usize],
+                &state[first as usize..(first + pins as u32) as usize],
             ),
             Entry::Wire { source, .. } => state[source as usize],
         }
@@ -161,7 +165,7 @@ impl Net {
         match self.entry(var) {
             Entry::Input { number } => Tri::of(input[number as usize]),
             Entry::Gate { kind, first, pins } => kind.eval3(
-                &state[first as usize..(first + pins) as usize],
+                &state[first as usize..(first + pins as u32) as usize],
             ),
             Entry::Wire { source, .. } => state[source as usize],
         }

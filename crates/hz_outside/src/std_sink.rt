@@ -59,6 +59,34 @@ impl<'r, R: Print> StdSink<'r, R> {
         self.note(written)
     }
 
+    // Gathers a piece, if there is room for it, and returns whether there was.
+    fn gather(&mut self, piece: &[u8]) -> bool
+        ensures { self.new ≡ self.old }
+    {
+        if piece.len() > GATHERED - self.held {
+            return false;
+        }
+        let end = self.held + piece.len();
+        self.buffer[self.held..end].copy_from_slice(piece);
+        self.held = end;
+        true
+    }
+
+    // Puts a piece for which there is no room. Few pieces are so: kept apart, `put` is short enough to be inlined.
+    #[cold]
+    #[inline(never)]
+    fn put_beyond(&mut self, piece: &[u8]) -> Result<(), PutFault>
+        ensures counts { MatchResult result
+            (λ _. self.new ≡ self.old)
+            (λ fault. (fault ≡ PutFault.Failed) × (self.new ≡ count_after self.old)) }
+    {
+        self.flush()?;
+        if self.gather(piece) {
+            return Ok(());
+        }
+        self.write(piece)
+    }
+
     // Writes a piece that is not gathered.
     fn write(&mut self, piece: &[u8]) -> Result<(), PutFault>
         ensures counts { MatchResult result
@@ -97,16 +125,10 @@ impl<'r, R: Print> Sink for StdSink<'r, R> {
             (λ _. self.new ≡ self.old)
             (λ fault. (fault ≡ PutFault.Failed) × (self.new ≡ count_after self.old)) }
     {
-        if piece.len() > GATHERED - self.held {
-            self.flush()?;
+        if self.gather(piece) {
+            return Ok(());
         }
-        if piece.len() > GATHERED - self.held {
-            return self.write(piece);
-        }
-        let end = self.held + piece.len();
-        self.buffer[self.held..end].copy_from_slice(piece);
-        self.held = end;
-        Ok(())
+        self.put_beyond(piece)
     }
 }
 

@@ -1,5 +1,5 @@
 -- Statements of run texts whose names are looked up in a network.
-use Rattle.std.specs.Prelude.{ℕ, ◌+◌, ◌-◌, ◌&&◌, nat_le, List, length, map, Option, Some, None, if◌then◌else◌}
+use Rattle.std.specs.Prelude.{ℕ, ◌+◌, ◌-◌, ◌&&◌, nat_le, List, [], ◌∷◌, length, map, Option, Some, None, if◌then◌else◌}
 use Rattle.std.specs.Option.{option_map}
 use Rattle.hz_core.specs.Netlist.{Netlist, node_named, gate_at}
 use Rattle.hz_net.specs.Variables.{first_wire}
@@ -78,6 +78,7 @@ run_resolution_of (held.Start assigned) = Start assigned.value.items
 run_resolution_of (held.Input assigned) = Input assigned.value.items
 run_resolution_of held.Run = Run
 run_resolution_of (held.Step variables) = Step variables.now
+run_resolution_of (held.StepOfOne variable) = Step (variable ∷ [])
 run_resolution_of held.Cycle = Cycle
 run_resolution_of held.End = End
 

@@ -37,7 +37,7 @@ pub const MAX_CHANGES: usize = 10_000;
 pub struct Script {
     start: Vec<Option<bool>>,
     assignments: Vec<(u32, bool)>,
-    ends: Vec<usize>,
+    ends: Vec<u32>,
 }
 
 impl Model for Script {
@@ -89,8 +89,11 @@ impl Script {
         ensures err { OnErr result (self.new ≡ self.old) }
     {
         self.ends.reserve(1)?;
+        let Ok(end) = u32::try_from(self.assignments.len() + change.len()) else {
+            return Err(Memory);
+        };
         self.assignments.extend_from_slice(change)?;
-        self.ends.push_reserved(self.assignments.len());
+        self.ends.push_reserved(end);
         Ok(())
     }
 

@@ -23,6 +23,7 @@ use crate::run::text::{RunText, ToldRun};
 use crate::run::version::Version;
 use hz_core::{Circuit, Memory};
 use std::alloc::Global;
+use std::slice;
 
 // The run text of statements: the header, in version 2 with the size of the network, the start, the input, the runs and the
 // end.
@@ -112,6 +113,7 @@ fn add_statement(
     match held {
         RunHeld::Run => begin_run(alloc, runs),
         RunHeld::Step(variables) => add_step(runs, variables, flips),
+        RunHeld::StepOfOne(variable) => add_step(runs, slice::from_ref(variable), flips),
         RunHeld::Cycle => begin_cycle(alloc, runs),
         _ => unreachable!(),
     }

@@ -116,6 +116,7 @@ pub(crate) fn place_after(place: Place, held: &RunHeld) -> Option<Place>
         RunHeld::Input(_) => None,
         RunHeld::Run => Some(Place::Lead),
         RunHeld::Step(_) => place_after_step(place),
+        RunHeld::StepOfOne(_) => place_after_step(place),
         RunHeld::Cycle => place_after_cycle(place),
         RunHeld::End => None,
     }

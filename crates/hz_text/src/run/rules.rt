@@ -15,6 +15,7 @@ use crate::run::statement::{RunEntry, RunHeld};
 use crate::run::version::Version;
 use hz_core::{Circuit, Memory, lesser};
 use std::alloc::Global;
+use std::slice;
 
 /// The most steps of a run text, and the most variables in its steps.
 pub const MAX_STEPS: usize = 2_000_000;
@@ -27,6 +28,7 @@ pub(crate) fn names_unknown(held: &RunHeld, inputs: u32) -> bool
         RunHeld::Start(assigned) => any_unknown(assigned.as_slice(), Allowed::Nodes, inputs),
         RunHeld::Input(assigned) => any_unknown(assigned.as_slice(), Allowed::Inputs, inputs),
         RunHeld::Step(variables) => any_none(variables),
+        RunHeld::StepOfOne(variable) => variable.is_none(),
         _ => false,
     }
 }
@@ -167,6 +169,7 @@ fn steps_in(held: &RunHeld) -> usize
 {
     match held {
         RunHeld::Step(_) => 1,
+        RunHeld::StepOfOne(_) => 1,
         _ => 0,
     }
 }
@@ -177,6 +180,7 @@ pub(crate) fn variables_in<'h>(held: &'h RunHeld) -> &'h [Option<u32>]
 {
     match held {
         RunHeld::Step(variables) => variables,
+        RunHeld::StepOfOne(variable) => slice::from_ref(variable),
         _ => &[],
     }
 }

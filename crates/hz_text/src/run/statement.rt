@@ -6,6 +6,7 @@ ghost use Rattle.hz_line.specs.Reading.{IsUnread};
 ghost use Rattle.hz_line.specs.Token.{token_of};
 ghost use Rattle.hz_text.specs.Assignment.{assigned_by};
 ghost use Rattle.hz_text.specs.Rules.{AreBelow};
+ghost use Rattle.hz_text.specs.RunKeyword.{Step as StepWord};
 ghost use Rattle.hz_text.specs.RunStatement.{run_keyword_of};
 ghost use Rattle.hz_text.specs.RunResolution.{resolve_run_tokens, resolve_run_keyword, run_resolution_of, run_keyword_by};
 ghost use Rattle.hz_text.specs.RunFault.{assignments_in};
@@ -38,6 +39,8 @@ pub(crate) enum RunHeld<'a> {
     Input(Box<Vec<Assigned>>),
     Run,
     Step(&'a [Option<u32>]),
+    // A step of one variable, as most are. It takes no room in the arena.
+    StepOfOne(Option<u32>),
     Cycle,
     End,
 }
@@ -152,12 +155,34 @@ fn read_statement_of<'a>(
         RunKeyword::Input => Ok(RunHeld::Input(boxed_assignments(alloc, net.circuit(), rest)?)),
         RunKeyword::Run if rest.is_empty() => Ok(RunHeld::Run),
         RunKeyword::Run => Err(StatementFault::Form),
-        RunKeyword::Step => Ok(RunHeld::Step(read_variables(arena, net, rest, variables)?)),
+        RunKeyword::Step => read_step(arena, net, rest, variables),
         RunKeyword::Cycle if rest.is_empty() => Ok(RunHeld::Cycle),
         RunKeyword::Cycle => Err(StatementFault::Form),
         RunKeyword::End if rest.is_empty() => Ok(RunHeld::End),
         RunKeyword::End => Err(StatementFault::Form),
     }
+}
+
+// The step that tokens after the keyword are. Its variables are gathered in the vector before.
+fn read_step<'a>(
+    arena: &'a Bump,
+    net: &Net,
+    rest: &[Token],
+    variables: &mut Vec<Option<u32>>,
+) -> Result<RunHeld<'a>, StatementFault>
+    ensures read { MatchResult result
+        (λ held. resolve_run_keyword net.now (Some StepWord) (map token_of rest.now) ≡ Some (run_resolution_of held))
+        (λ why. IsUnread (resolve_run_keyword net.now (Some StepWord) (map token_of rest.now)) why) }
+    ensures below { IfOk result (λ held. AreBelow (length net.now.names) (assignments_in (run_resolution_of held))) }
+{
+    read_variables(net, rest, variables)?;
+    if let [variable] = variables.as_slice() {
+        return Ok(RunHeld::StepOfOne(*variable));
+    }
+    let Ok(laid) = arena.try_alloc_slice_copy(variables.as_slice()) else {
+        return Err(StatementFault::Memory);
+    };
+    Ok(RunHeld::Step(laid))
 }
 
 // The assignments that tokens are, on the heap.

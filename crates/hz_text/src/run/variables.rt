@@ -11,7 +11,6 @@ ghost use Rattle.hz_text.specs.RunResolution.{wire_into, variables_by};
 ghost use Rattle.hz_text.specs.VariablesRead.{IsPinAfter, IsFirstVariable};
 
 use crate::run::number::{is_decimal, number_within};
-use bumpalo::Bump;
 use hz_core::MAX_PINS;
 use hz_line::{Punctuation, StatementFault, Token};
 use hz_net::Net;
@@ -34,16 +33,14 @@ enum First {
     Variable(Option<u32>, usize),
 }
 
-// The variables that tokens are, each looked up. They are gathered in the vector, in place of those that it had, and laid into
-// the arena.
-pub(crate) fn read_variables<'a>(
-    arena: &'a Bump,
+// The variables that tokens are, each looked up, in place of those that the vector had.
+pub(crate) fn read_variables(
     net: &Net,
     tokens: &[Token],
     read: &mut Vec<Option<u32>>,
-) -> Result<&'a [Option<u32>], StatementFault>
+) -> Result<(), StatementFault>
     ensures { MatchResult result
-        (λ laid. variables_by net.now (map token_of tokens.now) ≡ Some laid.now)
+        (λ _. variables_by net.now (map token_of tokens.now) ≡ Some read.new.items)
         (λ why. IsUnread (variables_by net.now (map token_of tokens.now)) why) }
 {
     read.clear();
@@ -57,10 +54,7 @@ pub(crate) fn read_variables<'a>(
             }
         }
     }
-    let Ok(laid) = arena.try_alloc_slice_copy(read.as_slice()) else {
-        return Err(StatementFault::Memory);
-    };
-    Ok(laid)
+    Ok(())
 }
 
 // The first variable, looked up.

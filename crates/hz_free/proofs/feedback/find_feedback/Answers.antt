@@ -4,7 +4,13 @@ use Rattle.std.proofs.lemmas.Result.{IfOk-weaker}
 use Rattle.hz_net.specs.Network.{network_of}
 use Rattle.hz_net.proofs.Wired.{wired-network_of}
 use Rattle.hz_free.proofs.Roots.{choices-AreLinks}
+use Rattle.hz_free.proofs.NoFeedback.{no-feedback}
 use Rattle.hz_free.proofs.feedback.find_feedback.Goals as goal
+
+pub returns-then-are_all_free : goal.returns-then-are_all_free
+returns-then-are_all_free c =
+    rw (c.no_feedback.ensures.cycles, c.no_feedback.ensures.cores)
+    (no-feedback (network_of c.args.net.now) c.args.free.now c.requires (c.are_all_free.ensures.0 c.if-are_all_free.true))
 
 pub find_cycles-requires-clause-links : goal.find_cycles-requires-clause-links
 find_cycles-requires-clause-links c =

@@ -48,31 +48,39 @@ keep-requires-clause-var g c =
 
 pub keep-requires-clause-counted : goal.keep-requires-clause-counted
 keep-requires-clause-counted g c =
-    elim c.if-may_change.branch [
-      | then-may_change w ↦
-          let made = w.word_of-word.ensures
-          (ready-words c.args.net.now c.args.input.now c.args.start.now c.args.cap (record { free = c.requires.part.0; order = c.args.order.now; cycles = c.requires.part.1; cores = c.requires.part.2 }) (ordered-part c.args.net.now _ c.requires.part.3)
-          c.loop-var.var-index c.loop-var-test.true (map g.S.StoredWord.word_in c.loop-var.out) c.loop-var.invariant.words c.loop-var.invariant.so_far) in
-          rw w.word-is (counted-capped c.args.cap made.0 w.word_of-word.result c.requires.cap_high made.3)
-      | else-may_change w ↦
-          rw w.word-is (counted-capped c.args.cap (bit_at c.args.start.now (get_or c.args.order.now c.loop-var.var-index 0) ∷ []) w.constant_word-word.result c.requires.cap_high (w.constant_word-word.ensures c.args.cap))
-    ]
+    let made = c.word_of-word.ensures
+    (ready-words c.args.net.now c.args.input.now c.args.start.now c.args.cap (record { free = c.requires.part.0; order = c.args.order.now; cycles = c.requires.part.1; cores = c.requires.part.2 }) (ordered-part c.args.net.now _ c.requires.part.3)
+    c.loop-var.var-index c.loop-var-test.true (map g.S.StoredWord.word_in c.loop-var.out) c.loop-var.invariant.words c.loop-var.invariant.so_far) in
+    counted-capped c.args.cap made.0 c.word_of-word.result c.requires.cap_high made.3
+
+pub keep-requires-else-may_change-clause-var : goal.keep-requires-else-may_change-clause-var
+keep-requires-else-may_change-clause-var g c =
+    let below = var-below c.args.net.now c.args.input.now c.args.start.now c.args.cap (record { free = c.requires.part.0; order = c.args.order.now; cycles = c.requires.part.1; cores = c.requires.part.2 }) (ordered-part c.args.net.now _ c.requires.part.3)
+    c.loop-var.var-index c.loop-var-test.true (map g.S.StoredWord.word_in c.loop-var.out) c.loop-var.invariant.words c.loop-var.invariant.so_far in
+    let long = c.loop-var.auto.out ∙ (c.clear.auto.out ∙ c.requires.out) in
+    omega (arith, below, long)
+
+pub keep-requires-else-may_change-clause-counted : goal.keep-requires-else-may_change-clause-counted
+keep-requires-else-may_change-clause-counted g c =
+    counted-capped c.args.cap (bit_at c.args.start.now (get_or c.args.order.now c.loop-var.var-index 0) ∷ []) c.constant_word.result c.requires.cap_high (c.constant_word.ensures c.args.cap)
 
 pub loop-var-preserved : goal.loop-var-preserved
 loop-var-preserved g c =
-    subst (λ (told : List (Option Word)). AreTold c.args.net.now c.args.input.now c.args.start.now c.args.cap (take (c.loop-var.var-index + 1) c.args.order.now) told)
-    (sym c.keep.ensures)
-    (elim c.if-may_change.branch [
+    elim c.if-may_change.branch [
       | then-may_change w ↦
-          rw w.word-is
+          rw w.out-is
+          (subst (λ (told : List (Option Word)). AreTold c.args.net.now c.args.input.now c.args.start.now c.args.cap (take (c.loop-var.var-index + 1) c.args.order.now) told)
+          (sym w.keep.ensures)
           (folded-told c.args.net.now c.len-variables.ensures.circuit c.len-variables.ensures.whole c.args.input.now c.args.start.now c.args.cap c.requires.start (record { free = c.requires.part.0; order = c.args.order.now; cycles = c.requires.part.1; cores = c.requires.part.2 }) (ordered-part c.args.net.now _ c.requires.part.3)
-          c.loop-var.var-index c.loop-var-test.true (map g.S.StoredWord.word_in c.loop-var.out) c.loop-var.invariant w.word_of-word.result w.word_of-word.ensures)
+          c.loop-var.var-index c.loop-var-test.true (map g.S.StoredWord.word_in c.loop-var.out) c.loop-var.invariant w.word_of-word.result w.word_of-word.ensures))
       | else-may_change w ↦
           let given = known-given (λ a. a.now) c.args.a (get_or c.args.order.now c.loop-var.var-index 0) c.may_change.ensures w.if-may_change.false c.requires.a in
-          rw w.word-is
+          rw w.out-is
+          (subst (λ (told : List (Option Word)). AreTold c.args.net.now c.args.input.now c.args.start.now c.args.cap (take (c.loop-var.var-index + 1) c.args.order.now) told)
+          (sym w.keep-else-may_change.ensures)
           (constant-told c.args.net.now c.len-variables.ensures.circuit c.len-variables.ensures.whole c.args.input.now c.args.start.now c.args.cap c.requires.start (record { free = c.requires.part.0; order = c.args.order.now; cycles = c.requires.part.1; cores = c.requires.part.2 }) (ordered-part c.args.net.now _ c.requires.part.3)
-          c.loop-var.var-index c.loop-var-test.true (map g.S.StoredWord.word_in c.loop-var.out) c.loop-var.invariant given.0 given.1 given.2 w.constant_word-word.result w.constant_word-word.ensures)
-    ])
+          c.loop-var.var-index c.loop-var-test.true (map g.S.StoredWord.word_in c.loop-var.out) c.loop-var.invariant given.0 given.1 given.2 w.constant_word.result w.constant_word.ensures))
+    ]
 
 pub returns : goal.returns
 returns g c =

@@ -4,13 +4,13 @@ use Rattle.hz_net.specs.Network.{network_of}
 use Rattle.hz_net.specs.Reads.{readers_of}
 use Rattle.hz_free.proofs.Counting.{first-more, first-same, first-ordering}
 use Rattle.hz_free.proofs.order.place_first.Goals as goal
-use Rattle.hz_free.proofs.order.place_first.Goals.{then-unread-var-eq0+in-Ok, else-unread-var-eq0}
+use Rattle.hz_free.proofs.order.place_first.Goals.{then-unread-var-eq0+in-Ok-push, else-unread-var-eq0}
 
 pub loop-var-preserved : goal.loop-var-preserved
 loop-var-preserved c =
     elim c.if-unread-var-eq0.branch [
-      | then-unread-var-eq0+in-Ok w ↦
-          let items = ap (λ order. order.items) w.order-is ∙ w.in-Ok.ensures.items in
+      | then-unread-var-eq0+in-Ok-push w ↦
+          let items = ap (λ order. order.items) w.order-is ∙ w.in-Ok-push.ensures.items in
           rw items (first-more (readers_of c.args.net.now) (length (network_of c.args.net.now)) c.args.unread.now c.loop-var.var c.loop-var.order.items c.loop-var.invariant w.if-unread-var-eq0.true)
       | else-unread-var-eq0 w ↦
           rw w.order-is (first-same (readers_of c.args.net.now) (length (network_of c.args.net.now)) c.args.unread.now c.loop-var.var c.loop-var.order.items c.loop-var.invariant w.if-unread-var-eq0.false)

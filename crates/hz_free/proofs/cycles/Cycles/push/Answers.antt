@@ -7,7 +7,7 @@ invariant_of-self-2 c =
     let variables = c.self.inside.variables.items in
     let items = c.in-Ok-extend_from_slice.ensures.items in
     let long : length c.extend_from_slice.new.self.items ≡ length variables + length c.args.cycle.now = ap length items ∙ length-append variables c.args.cycle.now in
-    let last : c.len.result ≡ length c.extend_from_slice.new.self.items = c.len.ensures ∙ c.extend_from_slice.new.self.ok.0 in
+    let last : c.in-Ok-try_from.end ≡ length c.extend_from_slice.new.self.items = omega (arith, c.in-Ok-try_from.ensures, c.len.ensures, c.self.inside.variables.ok.0, long) in
     let ends = c.in-Ok.ensures.items in
     rw (c.push_reserved.ensures.items, last, ends) (EndsAt-push 0 c.self.inside.ends.items (length variables) (length c.extend_from_slice.new.self.items) c.self.invariant (omega (arith, long)))
 
@@ -17,7 +17,6 @@ returns-clause-ok c =
     let ends = c.self.inside.ends.items in
     let items = c.in-Ok-extend_from_slice.ensures.items in
     let kept = c.in-Ok.ensures.items in
-    let long : length c.extend_from_slice.new.self.items ≡ length variables + length c.args.cycle.now = ap length items ∙ length-append variables c.args.cycle.now in
-    let last : c.len.result ≡ length variables + length c.args.cycle.now = c.len.ensures ∙ (c.extend_from_slice.new.self.ok.0 ∙ long) in
+    let last : c.in-Ok-try_from.end ≡ length variables + length c.args.cycle.now = omega (arith, c.in-Ok-try_from.ensures, c.len.ensures, c.self.inside.variables.ok.0) in
     rw (c.push_reserved.ensures.items, last, items, kept)
     (parts_from-push 0 ends variables c.args.cycle.now c.self.invariant ∙ ap (λ (cycles : List (List ℕ)). cycles ++ c.args.cycle.now ∷ []) c.self.view_is)

@@ -1,7 +1,5 @@
 -- The run is empty before the other's flips and ends come into it.
-use Rattle.std.proofs.Common.{◌≡◌, ◌∙◌, ◌+◌, ◌≤◌, ℕ, List, [], ◌++◌, ap, sym, arith, length}
-use Rattle.std.specs.Vec.{vec_len, vec_capacity}
-use Rattle.hz_net.specs.Parts.{parts_from, EndsAt}
+use Rattle.std.proofs.Common.{ℕ, List, ap, arith, length}
 use Rattle.hz_gmw.specs.RunRecord.{RunRecord, flip_count}
 use Rattle.hz_gmw.proofs.RunLemmas.{held_steps, held_flips, held_none}
 use Rattle.hz_gmw.proofs.run.Run.copy_from.Goals as goal
@@ -86,6 +84,19 @@ invariant_of-self c =
         c.as_slice-2.ensures.len,
         c.len-2.ensures,
         held_steps c.other.inside c.args.other.now c.other.view_is,
+      );
+      few = omega (
+        arith,
+        c.append.ensures,
+        held_flips c.self.inside c.clear.new.self c.self.view_is c.self.invariant,
+        ap flip_count c.clear.ensures.steps,
+        c.self.invariant.few,
+        ap (λ (run : RunRecord). run.spare_flips) c.self.view_is,
+        c.clear.ensures.spare_flips,
+        c.requires.room_for_flips,
+        c.as_slice.ensures.len,
+        c.len.ensures,
+        held_flips c.other.inside c.args.other.now c.other.view_is c.other.invariant,
       );
     }
 

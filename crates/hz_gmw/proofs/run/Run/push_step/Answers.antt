@@ -12,6 +12,7 @@ invariant_of-self c =
       cut = rw (c.push_reserved.ensures.items, last) (EndsAt-push 0 c.self.inside.ends.items (length flips) (length c.append.new.list.items) c.self.invariant.cut (omega (arith, long)));
       flips_fit = omega (arith, c.append.ensures, c.self.invariant.flips_fit, ap (λ (run : RunRecord). run.spare_flips) c.self.view_is, c.requires);
       steps_fit = omega (arith, c.push_reserved.ensures.len, c.push_reserved.ensures.capacity, c.self.invariant.steps_fit, ap (λ (run : RunRecord). run.spare_steps) c.self.view_is, c.requires);
+      few = omega (arith, c.append.ensures, c.self.invariant.few, ap (λ (run : RunRecord). run.spare_flips) c.self.view_is, c.requires);
     }
 
 pub returns-clause-steps : goal.returns-clause-steps

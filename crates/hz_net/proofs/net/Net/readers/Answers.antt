@@ -48,10 +48,10 @@ returns-in-Gate-clause-inside c =
 
 pub returns-in-Wire-clause-readers : goal.returns-in-Wire-clause-readers
 returns-in-Wire-clause-readers c =
-    let told = readers_are c.self.inside c.args.self.now c.self.view_is c.self.invariant c.args.var c.index.result.now (Wire c.in-Wire.gate c.in-Wire.pin c.in-Wire.source) c.requires c.index.ensures c.in-Wire.is in
+    let told = readers_are c.self.inside c.args.self.now c.self.view_is c.self.invariant c.args.var c.index.result.now (Wire c.in-Wire.pin c.in-Wire.gate c.in-Wire.source) c.requires c.index.ensures c.in-Wire.is in
     c.from_ref.ensures.value ∙ sym told.readers
 
 pub returns-in-Wire-clause-inside : goal.returns-in-Wire-clause-inside
 returns-in-Wire-clause-inside c =
-    let told = readers_are c.self.inside c.args.self.now c.self.view_is c.self.invariant c.args.var c.index.result.now (Wire c.in-Wire.gate c.in-Wire.pin c.in-Wire.source) c.requires c.index.ensures c.in-Wire.is in
+    let told = readers_are c.self.inside c.args.self.now c.self.view_is c.self.invariant c.args.var c.index.result.now (Wire c.in-Wire.pin c.in-Wire.gate c.in-Wire.source) c.requires c.index.ensures c.in-Wire.is in
     subst (All (λ (reader : ℕ). reader < length (network_of c.args.self.now))) (sym c.from_ref.ensures.value) told.inside

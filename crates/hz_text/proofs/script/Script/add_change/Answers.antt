@@ -1,4 +1,4 @@
-use Rattle.std.proofs.Common.{◌≡◌, ◌∙◌, ◌<◌, ◌++◌, ◌∷◌, [], refl, ap, length, arith, length-append}
+use Rattle.std.proofs.Common.{◌≡◌, ◌<◌, ◌++◌, ◌∷◌, [], refl, ap, length, arith, length-append}
 use Rattle.hz_net.specs.Parts.{parts_from}
 use Rattle.hz_text.specs.Inside.{script_of}
 use Rattle.hz_text.specs.ScriptValue.{IsChange}
@@ -13,7 +13,7 @@ invariant_of-self-2 c =
     let inside = c.self.inside in
     let change = c.args.change.now in
     let items : c.extend_from_slice.new.self.items ≡ inside.assignments.items ++ change = c.in_ok-extend_from_slice.ensures.items in
-    let long : c.len.result ≡ length c.extend_from_slice.new.self.items = c.len.ensures ∙ c.extend_from_slice.new.self.ok.0 in
+    let long : c.in-Ok.end ≡ length c.extend_from_slice.new.self.items = omega (arith, c.in-Ok.ensures, c.len.ensures, inside.assignments.ok.0, ap length items, length-append inside.assignments.items change) in
     let ends : c.push_reserved.new.self.items ≡ inside.ends.items ++ length c.extend_from_slice.new.self.items ∷ [] = rw (← long, ← c.reserve.ensures.items) c.push_reserved.ensures.items in
     let grown = parts-grown inside.ends.items c.push_reserved.new.self.items inside.assignments.items c.extend_from_slice.new.self.items change items ends c.self.invariant.ends in
     let fits : IsChange (length inside.start.items) change = rw (← c.self.view_is) at c.requires.change in
@@ -28,7 +28,7 @@ returns-clause-ok c =
     let inside = c.self.inside in
     let change = c.args.change.now in
     let items : c.extend_from_slice.new.self.items ≡ inside.assignments.items ++ change = c.in_ok-extend_from_slice.ensures.items in
-    let long : c.len.result ≡ length c.extend_from_slice.new.self.items = c.len.ensures ∙ c.extend_from_slice.new.self.ok.0 in
+    let long : c.in-Ok.end ≡ length c.extend_from_slice.new.self.items = omega (arith, c.in-Ok.ensures, c.len.ensures, inside.assignments.ok.0, ap length items, length-append inside.assignments.items change) in
     let ends : c.push_reserved.new.self.items ≡ inside.ends.items ++ length c.extend_from_slice.new.self.items ∷ [] = rw (← long, ← c.reserve.ensures.items) c.push_reserved.ensures.items in
     let grown = parts-grown inside.ends.items c.push_reserved.new.self.items inside.assignments.items c.extend_from_slice.new.self.items change items ends c.self.invariant.ends in
     rw (grown, ← c.self.view_is) refl
