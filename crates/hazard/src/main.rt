@@ -1,8 +1,12 @@
 //! The program `hazard`: the words of the command line, the files of the file system, standard output.
 #![tactic(auto)]
 
-use hz_outside::{DiskFiles, StdSink};
-use hz_top::{Status, run};
+mod heard;
+mod help;
+
+use crate::heard::Heard;
+use hz_outside::{DiskFiles, Gathered, StdSink};
+use hz_top::run;
 use std::process::ExitCode;
 use std::{env, io};
 
@@ -18,13 +22,9 @@ fn main(rt: HostRuntime) -> ExitCode {
         Err(error) => return ExitCode::from(code_of(&error)),
     };
     let mut files = DiskFiles::new(&rt);
-    let mut out = StdSink::new(&rt);
+    let mut out = Heard::new(Gathered::new(StdSink::new(&rt)));
     let status = run(rt.alloc(), words.as_slice(), &mut files, &mut out);
-    // The sink gathers what is put, so the last write may fail after the job's end.
-    let status = match out.flush() {
-        Ok(()) => status,
-        Err(_) => Status::Sink,
-    };
+    help::tell(&rt, words.as_slice(), out.first(), status);
     ExitCode::from(status.code())
 }
 

@@ -11,7 +11,7 @@ use Rattle.hz_gen.specs.BuiltDemo.{ring_gates, buffer_gate, multiplexer_gates, l
 use Rattle.hz_gen.proofs.Counts.{length-chain_names, count-chain}
 use Rattle.hz_gen.proofs.Numbers.{demo-built}
 use Rattle.hz_gen.proofs.Scripts.{script-built, script-fits}
-use Rattle.hz_gen.specs.Demo.{most_demo_number}
+use Rattle.hz_options.specs.Numbers.{most_demo_number}
 
 -- a gate has a pin
 abbrev HasPin : Gate → Type 0

@@ -8,7 +8,7 @@ use Rattle.std.proofs.lemmas.Fmt.{decimal_injective, length-decimal-le, digits_d
 use Rattle.std.proofs.lemmas.Slice.Eq.{bytes_eq-Decides}
 use Rattle.std.proofs.lemmas.Str.Parse.{tells_by_index, numerals_by_value}
 use Rattle.hz_core.specs.Netlist.{IsName, is_name_byte}
-use Rattle.hz_gen.specs.Demo.{most_demo_number}
+use Rattle.hz_options.specs.Numbers.{most_demo_number}
 
 -- a digit may stand in a name
 digit_byte : (byte : ℕ) → IsInRange 48 57 byte → is_name_byte byte ≡ true

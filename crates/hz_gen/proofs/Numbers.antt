@@ -12,7 +12,7 @@ use Rattle.hz_gen.specs.BuiltDemo.{ring_names, buffer_gate, multiplexer_names, m
 use Rattle.hz_gen.proofs.Names.{earlier-differ}
 use Rattle.hz_gen.proofs.FreshNames.{none_in-range, none_in-lists, place-after, place-of, range-split}
 use Rattle.hz_gen.proofs.Counts.{length-chain_names}
-use Rattle.hz_gen.specs.Demo.{most_demo_number}
+use Rattle.hz_options.specs.Numbers.{most_demo_number}
 
 none_of_three : (x y z : Bool) → x ≡ false → y ≡ false → z ≡ false → (x || (y || (z || false))) ≡ false
 none_of_three x y z e f g = rw (e, f, g) refl

@@ -11,7 +11,7 @@ use Rattle.hz_gen.specs.Demo.{r_name, node_in, with_listed, demo_script}
 use Rattle.hz_gen.specs.BuiltDemo.{chain_netlist}
 use Rattle.hz_gen.proofs.Counts.{length-chain_names}
 use Rattle.hz_gen.proofs.Numbers.{chain_names, names-built, r-node}
-use Rattle.hz_gen.specs.Demo.{most_demo_number}
+use Rattle.hz_options.specs.Numbers.{most_demo_number}
 
 -- the start, by the number of the ring's last gate
 abbrev pub start_of : ℕ → ℕ → List (Option Bool)

@@ -17,7 +17,7 @@ use Rattle.hz_gen.proofs.Names.{numbered-IsName}
 use Rattle.hz_gen.proofs.FreshNames.{range-split, unnamed}
 use Rattle.hz_gen.proofs.Counts.{nodes-ring, nodes-chain, length-ring_names, length-chain_names, count-ring, count-chain}
 use Rattle.hz_gen.proofs.Numbers.{chain_names, r-new, a-new, b-new, m-new}
-use Rattle.hz_gen.specs.Demo.{most_demo_number}
+use Rattle.hz_options.specs.Numbers.{most_demo_number}
 
 -- the node is one of so many
 abbrev IsBelow : ℕ → ℕ → Type 0

@@ -1,20 +1,11 @@
 -- The generated circuit of a number, and its script.
-use Rattle.std.specs.Prelude.{ℕ, zero, suc, ◌-◌, ◌≤◌, Bool, true, false, List, [], ◌∷◌, ◌++◌, length, map, fold, replicate, slice_set, Option, Some, None, codes, decimal}
+use Rattle.std.specs.Prelude.{ℕ, zero, suc, ◌-◌, Bool, true, false, List, [], ◌∷◌, ◌++◌, length, map, fold, replicate, slice_set, Option, Some, None, codes, decimal}
 use Rattle.std.specs.List.{range_with_len, flat_map, position_or_len}
 use Rattle.std.specs.Str.{bytes_eq}
 use Rattle.hz_core.specs.declared.kind.Kind.{Kind}
 use Rattle.hz_core.specs.declared.kind.Kind.TheVariants.{And, Or, Not, Buff}
 use Rattle.hz_core.specs.Netlist.{Gate, Netlist, empty_netlist}
 use Rattle.hz_text.specs.ScriptValue.{ScriptOf}
-
--- the greatest number that has a circuit
-abbrev pub most_demo_number : ℕ
-most_demo_number = 18000
-
--- a number that has a circuit
-pub record IsDemoNumber (n : ℕ) : Type 0 where
-  pub least : 1 ≤ n
-  pub most : n ≤ most_demo_number
 
 -- a gate's line: its name, its kind, and the names of the nodes that its pins read
 pub record GateLine : Type 0 where

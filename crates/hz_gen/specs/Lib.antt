@@ -1,7 +1,5 @@
 -- Words, with their arguments, in the order in which one needs them.
 --
--- most_demo_number: the greatest number that has a circuit
--- IsDemoNumber n: a number that has a circuit
 -- GateLine: the name of a gate, its kind, and the names that its pins read
 -- pulse_lines, ring_lines n, multiplexer_lines i: the gates of the three parts
 -- demo_gate_lines n: the gates of the circuit of a number

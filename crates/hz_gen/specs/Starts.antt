@@ -2,7 +2,8 @@
 use Rattle.std.specs.Prelude.{ℕ, Bool, Option, List}
 use Rattle.hz_core.specs.Netlist.{Netlist, IsCircuit}
 use Rattle.hz_net.specs.Starts.{IsLeastOpen, IsLeastUnstable}
-use Rattle.hz_gen.specs.Demo.{IsDemoNumber, demo_netlist, demo_script}
+use Rattle.hz_options.specs.Numbers.{IsDemoNumber}
+use Rattle.hz_gen.specs.Demo.{demo_netlist, demo_script}
 
 -- listed values leave no node open, and no gate unstable
 pub record IsCompletable (netlist : Netlist) (listed : List (Option Bool)) : Type 0 where

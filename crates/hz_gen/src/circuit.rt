@@ -2,7 +2,8 @@
 
 ghost use Rattle.std.specs.Prelude.{◌≡◌, ◌-◌, ◌∷◌, [], IfOk, OnOk};
 ghost use Rattle.hz_core.specs.Netlist.{empty_netlist};
-ghost use Rattle.hz_gen.specs.Demo.{IsDemoNumber, demo_netlist};
+ghost use Rattle.hz_options.specs.Numbers.{IsDemoNumber};
+ghost use Rattle.hz_gen.specs.Demo.{demo_netlist};
 ghost use Rattle.hz_gen.specs.BuiltDemo.{inputs_netlist, ring_netlist, chain_netlist};
 
 use crate::gate::{add_connected, add_numbered};

@@ -20,7 +20,7 @@ mod node;
 mod script;
 
 pub use fault::GenFault;
-pub use generator::{MAX_NUMBER, make};
+pub use generator::make;
 
 #[cfg(test)]
 mod tests;

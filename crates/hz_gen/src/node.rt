@@ -1,7 +1,7 @@
 // The numbers of the nodes that others read.
 
 ghost use Rattle.std.specs.Prelude.{◌≡◌, ◌+◌, ◌≤◌};
-ghost use Rattle.hz_gen.specs.Demo.{most_demo_number};
+ghost use Rattle.hz_options.specs.Numbers.{most_demo_number};
 
 // The input `go`.
 pub(crate) const GO: u32 = 0;

@@ -1,7 +1,8 @@
 // The script of a number.
 
 ghost use Rattle.std.specs.Prelude.{◌≡◌, ◌*◌, ◌+◌, IfOk};
-ghost use Rattle.hz_gen.specs.Demo.{IsDemoNumber, demo_script};
+ghost use Rattle.hz_options.specs.Numbers.{IsDemoNumber};
+ghost use Rattle.hz_gen.specs.Demo.{demo_script};
 
 use crate::node::{GO, X, ring_gate};
 use hz_core::Memory;

@@ -1,7 +1,8 @@
 // Circuits of small numbers, gate by gate, and numbers that have none, with ample memory.
 
-use crate::{GenFault, MAX_NUMBER, make};
+use crate::{GenFault, make};
 use hz_core::{Circuit, Kind};
+use hz_options::MAX_DEMO_NUMBER;
 use hz_text::print_script;
 use std::test::Fail;
 
@@ -83,10 +84,10 @@ fn names_and_scripts(rt: HostRuntime) -> Result<(), Fail> {
 
 #[test]
 fn range(rt: HostRuntime) -> Result<(), Fail> {
-    for number in [0, MAX_NUMBER + 1] {
+    for number in [0, MAX_DEMO_NUMBER + 1] {
         assert_eq!(rt; make(rt.alloc(), number).err(), Some(GenFault::Range));
     }
-    let (circuit, _) = make(rt.alloc(), MAX_NUMBER)?;
+    let (circuit, _) = make(rt.alloc(), MAX_DEMO_NUMBER)?;
     assert_eq!(rt; circuit.variables(), 198_008);
     Ok(())
 }

@@ -2,6 +2,10 @@
 --
 -- extended_text text more: a text that may be known, with more bytes after it
 -- GrewByPrefix was piece now: a prefix of the piece was written, and nothing else
+-- Output: what a sink has written, if it tells that, and what waits in it
+-- Took was piece now: what waited and then the piece is what was written since and what waits now
+-- TookPrefix was piece now: the same of a prefix; the rest is lost
+-- settled written, with_more out more: an output of which nothing waits, and one with more that waits
 -- Rose was now: a count rose, or is at its last value
 -- Counts, count_for counts place: a count for each place, which is the first file or the second
 -- counts_after counts place: the counts after one more at a place
@@ -13,6 +17,7 @@
 -- DiskState, disk_after_fault state place fault: what is counted of the file system
 -- SinkState, put_by state bytes: a sink in memory, some of whose puts fail
 -- PutsLess old bytes fault new: a put that did not write its whole piece
+-- Gathering: a sink and the bytes in the buffer in front of it
 
 pub mod Counts
 pub mod Places
@@ -22,3 +27,4 @@ pub mod MemFiles
 pub mod PlainFiles
 pub mod DiskFiles
 pub mod MemSink
+pub mod Gathered

@@ -4,7 +4,8 @@
 //! |---|---|
 //! | `fault` | the faults of a load and of a put, the two places, out of memory |
 //! | `files` | the trait [`Files`]: a load gives the whole bytes of a file |
-//! | `sink` | the trait [`Sink`]: a put writes a piece |
+//! | `sink` | the trait [`Sink`]: a put takes a piece, a flush writes what waits |
+//! | `gathered` | a buffer of 64 KiB in front of any sink |
 //! | `counts` | counts of faults, one for each place |
 //! | `shelf` | named files in memory |
 //! | `mem_files`, `plain_files` | files in memory, with and without loads that fail |
@@ -17,6 +18,7 @@ mod counts;
 mod disk_files;
 mod fault;
 mod files;
+mod gathered;
 mod mem_files;
 mod mem_sink;
 mod plain_files;
@@ -31,6 +33,7 @@ mod tests;
 pub use disk_files::DiskFiles;
 pub use fault::{LoadFault, Memory, Place, PutFault};
 pub use files::Files;
+pub use gathered::Gathered;
 pub use mem_files::MemFiles;
 pub use mem_sink::MemSink;
 pub use plain_files::PlainFiles;

@@ -83,8 +83,9 @@ impl MemSink {
 
 impl Sink for MemSink {
     ghost use Rattle.std.specs.Prelude.{Some};
+    ghost use Rattle.hz_outside.specs.WrittenText.{settled};
 
-    ghost written = { λ sink. Some sink.bytes };
+    ghost output = { λ sink. settled (Some sink.bytes) };
 
     ghost faults = { λ sink. sink.faults };
 
@@ -105,6 +106,13 @@ impl Sink for MemSink {
         }
         self.faults = self.faults.saturating_add(1);
         Err(PutFault::Failed)
+    }
+
+    fn flush(&mut self) -> Result<(), PutFault>
+        ensures done { OnErr result ⊥ }
+        ensures same { self.new ≡ self.old }
+    {
+        Ok(())
     }
 }
 

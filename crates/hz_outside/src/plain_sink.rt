@@ -1,5 +1,5 @@
 //! A sink in memory, of which no put fails.
-ghost use Rattle.std.specs.Prelude.{◌≡◌, [], ◌++◌, OnOk, IfErr};
+ghost use Rattle.std.specs.Prelude.{◌≡◌, [], ◌++◌, OnOk, OnErr, IfErr};
 
 use super::fault::PutFault;
 use super::sink::Sink;
@@ -47,8 +47,9 @@ impl PlainSink {
 
 impl Sink for PlainSink {
     ghost use Rattle.std.specs.Prelude.{Some};
+    ghost use Rattle.hz_outside.specs.WrittenText.{settled};
 
-    ghost written = { λ sink. Some sink };
+    ghost output = { λ sink. settled (Some sink) };
 
     ghost faults = { λ _. 0 };
 
@@ -60,6 +61,13 @@ impl Sink for PlainSink {
         let Ok(_) = self.bytes.extend_from_slice(piece) else {
             return Err(PutFault::Memory);
         };
+        Ok(())
+    }
+
+    fn flush(&mut self) -> Result<(), PutFault>
+        ensures done { OnErr result ⊥ }
+        ensures same { self.new ≡ self.old }
+    {
         Ok(())
     }
 }

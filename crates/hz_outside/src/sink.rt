@@ -1,25 +1,32 @@
 //! Where output goes.
-ghost use Rattle.std.specs.Prelude.{◌≡◌, ℕ, ◌<◌, ◌≤◌, List, length, Option, OnOk};
+ghost use Rattle.std.specs.Prelude.{◌≡◌, ℕ, ◌<◌, ◌≤◌, List, [], length, OnOk, OnErr};
 ghost use Rattle.hz_outside.specs.Counts.{Rose};
-ghost use Rattle.hz_outside.specs.WrittenText.{extended_text, GrewByPrefix};
+ghost use Rattle.hz_outside.specs.WrittenText.{Output, Took, TookPrefix};
 
 use super::fault::PutFault;
 
-/// A writer of pieces.
+/// A writer of pieces. A piece that was put may wait in the sink, until `flush` or a later put writes it.
 ///
-/// `written` is what was written so far, if the sink shows it. `faults` counts the puts that
-/// failed.
+/// `output` is what was written so far, if the sink shows it, and what waits. `faults` counts the calls that failed. After a
+/// call that failed, what is written and what waits are a prefix of all that was put; the rest is lost.
 pub trait Sink {
-    ghost written: { Self → Option (List ℕ) };
+    ghost output: { Self → Output };
 
     ghost faults: { Self → ℕ };
 
-    /// Writes the whole piece.
+    /// Takes the whole piece: writes it, or lets it wait.
     fn put(&mut self, piece: &[u8]) -> Result<(), PutFault>
         requires { 0 < length piece.now }
-        ensures whole { OnOk result (written self.new ≡ extended_text (written self.old) piece.now) }
+        ensures whole { OnOk result (Took (output self.old) piece.now (output self.new)) }
+        ensures front { OnErr result (TookPrefix (output self.old) piece.now (output self.new)) }
         ensures failed { result ≡ Err PutFault.Failed → Rose (faults self.old) (faults self.new) }
-        ensures front { result ≡ Err PutFault.Failed → GrewByPrefix (written self.old) piece.now (written self.new) }
-        ensures memory { result ≡ Err PutFault.Memory → written self.new ≡ written self.old }
+        ensures never_falls { faults self.old ≤ faults self.new };
+
+    /// Writes all that waits.
+    fn flush(&mut self) -> Result<(), PutFault>
+        ensures whole { OnOk result (Took (output self.old) [] (output self.new)) }
+        ensures none_waits { OnOk result ((output self.new).waiting ≡ []) }
+        ensures front { OnErr result (TookPrefix (output self.old) [] (output self.new)) }
+        ensures failed { result ≡ Err PutFault.Failed → Rose (faults self.old) (faults self.new) }
         ensures never_falls { faults self.old ≤ faults self.new };
 }

@@ -1,8 +1,8 @@
 //! The happy paths of the fakes, with ample memory, and one test of each trusted edge.
 
 use super::{
-    DiskFiles, Files, LoadFault, MemFiles, MemSink, Place, PlainFiles, PlainSink, PutFault, Sink,
-    StdSink,
+    DiskFiles, Files, Gathered, LoadFault, MemFiles, MemSink, Place, PlainFiles, PlainSink,
+    PutFault, Sink, StdSink,
 };
 use std::cell::RefCell;
 use std::fmt::Display;
@@ -119,7 +119,7 @@ impl Print for Trickle {
     }
 }
 
-/// The real output takes a piece. One that takes a few bytes at a time is given every byte once it is flushed, one that takes
+/// The real output takes a piece. One that takes a few bytes at a time is given every byte by the put itself, one that takes
 /// nothing or is full is a fault.
 #[test]
 fn standard_output(rt: HostRuntime) -> Result<(), Fail> {
@@ -141,17 +141,15 @@ fn standard_output(rt: HostRuntime) -> Result<(), Fail> {
             taken,
         };
         let mut sink = StdSink::new(&output);
-        assert_eq!(rt; sink.put(b"a "), Ok(()));
-        assert_eq!(rt; sink.put(b"piece\n"), Ok(()));
-        assert_eq!(rt; sink.flush(), answer);
+        assert_eq!(rt; sink.put(b"a piece\n"), answer);
         assert_eq!(rt; sink.flush(), Ok(()));
         assert_eq!(rt; output.taken.into_inner().as_slice(), bytes.as_bytes());
     }
     Ok(())
 }
 
-/// Pieces that fill what is gathered, one that is longer, and more behind it: every byte comes, in order, and a full output is
-/// a fault of the put that finds it so.
+/// Pieces that fill the buffer, longer ones, and more behind them: every byte comes, in order, and as late as it may. With each
+/// piece stands how many bytes are written after its put.
 #[test]
 fn gathered_output(rt: HostRuntime) -> Result<(), Fail> {
     let mut whole = Vec::new(rt.alloc());
@@ -160,33 +158,43 @@ fn gathered_output(rt: HostRuntime) -> Result<(), Fail> {
         room: 1_000_000,
         taken: RefCell::new(Vec::new(rt.alloc())),
     };
-    let mut sink = StdSink::new(&output);
+    let mut sink = Gathered::new(StdSink::new(&output));
     let rows = [
-        (1u8, 1usize),
-        (2, 40_000),
-        (3, 30_000),
-        (4, 65_536),
-        (5, 65_537),
-        (6, 70_000),
-        (7, 1),
+        (1u8, 1usize, 0usize),
+        (2, 40_000, 0),
+        (3, 30_000, 40_001),
+        (4, 65_536, 70_001),
+        (5, 65_537, 201_074),
+        (6, 70_000, 271_074),
+        (7, 1, 271_074),
     ];
-    for (byte, length) in rows {
+    for (byte, length, written) in rows {
         let piece = vec![in rt.alloc(); byte; length]?;
         assert_eq!(rt; sink.put(piece.as_slice()), Ok(()));
         whole.extend_from_slice(piece.as_slice())?;
+        assert_eq!(rt; output.taken.try_borrow()?.len(), written);
     }
     assert_eq!(rt; sink.flush(), Ok(()));
     assert_eq!(rt; output.taken.into_inner().as_slice(), whole.as_slice());
+    Ok(())
+}
 
+/// A full output is a fault of the put or of the flush that finds it so. What was gathered is then lost.
+#[test]
+fn gathered_output_that_fills(rt: HostRuntime) -> Result<(), Fail> {
     let full = Trickle {
         at_once: 100_000,
         room: 50_000,
         taken: RefCell::new(Vec::new(rt.alloc())),
     };
-    let mut sink = StdSink::new(&full);
+    let mut sink = Gathered::new(StdSink::new(&full));
     let piece = vec![in rt.alloc(); 8u8; 40_000]?;
     assert_eq!(rt; sink.put(piece.as_slice()), Ok(()));
     assert_eq!(rt; sink.put(piece.as_slice()), Ok(()));
     assert_eq!(rt; sink.put(piece.as_slice()), Err(PutFault::Failed));
+    assert_eq!(rt; sink.flush(), Ok(()));
+    assert_eq!(rt; sink.put(b"more"), Ok(()));
+    assert_eq!(rt; sink.flush(), Err(PutFault::Failed));
+    assert_eq!(rt; full.taken.into_inner().len(), 50_000);
     Ok(())
 }

@@ -8,8 +8,8 @@ use Rattle.hz_core.specs.Netlist.{Netlist, IsCircuit}
 use Rattle.hz_net.specs.Network.{network_of}
 use Rattle.hz_net.proofs.Places.{length-network_of}
 use Rattle.hz_desk.specs.declared.finding.Row.{Row}
-use Rattle.hz_report.specs.declared.show.Show.{Show}
-use Rattle.hz_report.specs.declared.show.Show.TheVariants.{Nodes, All}
+use Rattle.hz_options.specs.declared.show.Show.{Show}
+use Rattle.hz_options.specs.declared.show.Show.TheVariants.{Nodes, All}
 use Rattle.hz_report.specs.Report.{row_line, row_lines, shown_count, shown_rows}
 
 -- a row's line by its parts

@@ -14,8 +14,8 @@ use Rattle.hz_desk.specs.declared.class.Class.{Class}
 use Rattle.hz_desk.specs.declared.class.Class.TheVariants.{Steady, Single, Static, MaybeDynamic, Change, Unsettled}
 use Rattle.hz_desk.specs.declared.finding.Row.{Row}
 use Rattle.hz_desk.specs.Finding.{FindingOf}
-use Rattle.hz_report.specs.declared.show.Show.{Show}
-use Rattle.hz_report.specs.declared.show.Show.TheVariants.{Nodes, All}
+use Rattle.hz_options.specs.declared.show.Show.{Show}
+use Rattle.hz_options.specs.declared.show.Show.TheVariants.{Nodes, All}
 use Rattle.hz_report.specs.Words.{tri_letter}
 
 -- how many inputs, gates, wires and variables there are

@@ -9,9 +9,9 @@ ghost use Rattle.hz_report.specs.Report.{change_line, rounds_line, races_line, r
 
 use crate::head::write_start;
 use crate::rows::write_rows;
-use crate::show::Show;
 use hz_desk::Finding;
 use hz_net::Net;
+use hz_options::Show;
 use hz_outside::Sink;
 use hz_text::{write_assignments, write_bits, write_end, write_run, write_variable, write_version};
 use hz_write::Piece::{Number, Text};
@@ -36,7 +36,7 @@ pub fn write_change<K: Sink>(
     requires spread { All (All (λ var. var < length (network_of net.now))) finding.now.spread.steps }
     requires settle { All (All (λ var. var < length (network_of net.now))) finding.now.settle.steps }
     requires cycle { All (All (λ var. var < length (network_of net.now))) finding.now.cycle.steps }
-    ensures gave { Writes K.written K.faults
+    ensures gave { Writes K.output K.faults
         (change_text net.now show number change.now (finding_of finding.now)) writer.old writer.new }
     ensures none_waits { NoneWaits writer.new }
 {
@@ -60,7 +60,7 @@ pub fn write_stopped<K: Sink>(
 )
     requires change { All (λ pair. pair.0 < length net.now.names) change.now }
     requires var { var < length (network_of net.now) }
-    ensures gave { Writes K.written K.faults (stopped_text net.now number change.now var) writer.old writer.new }
+    ensures gave { Writes K.output K.faults (stopped_text net.now number change.now var) writer.old writer.new }
     ensures none_waits { NoneWaits writer.new }
 {
     write_assigned(writer, net, number, change);
@@ -76,7 +76,8 @@ fn write_assigned<K: Sink>(
     change: &[(u32, bool)],
 )
     requires { All (λ pair. pair.0 < length net.now.names) change.now }
-    ensures { Writes K.written K.faults (change_line net.now number change.now) writer.old writer.new }
+    ensures gave { Writes K.output K.faults (change_line net.now number change.now) writer.old writer.new }
+    ensures none_waits { NoneWaits writer.new }
 {
     writer.add(&[Text(b"change "), Number(number)]);
     write_assignments(writer, net.circuit(), change);
@@ -86,7 +87,7 @@ fn write_assigned<K: Sink>(
 // Gives the variable that stops a change.
 fn write_stop<K: Sink>(writer: &mut Writer<'_, K>, net: &Net, var: u32)
     requires { var < length (network_of net.now) }
-    ensures gave { Writes K.written K.faults (codes "stopped" ++ spaced_word net.now var ++ newline) writer.old writer.new }
+    ensures gave { Writes K.output K.faults (codes "stopped" ++ spaced_word net.now var ++ newline) writer.old writer.new }
     ensures none_waits { NoneWaits writer.new }
 {
     writer.text(b"stopped ");
@@ -97,7 +98,8 @@ fn write_stop<K: Sink>(writer: &mut Writer<'_, K>, net: &Net, var: u32)
 // Gives the rounds of A and of B.
 #[tactic(auto, using(hz_write::proofs::Writers::writes_same), unfolding(crate::specs::Report::rounds_line))]
 pub(crate) fn write_rounds<K: Sink>(writer: &mut Writer<'_, K>, finding: &Finding)
-    ensures { Writes K.written K.faults (rounds_line (finding_of finding.now)) writer.old writer.new }
+    ensures gave { Writes K.output K.faults (rounds_line (finding_of finding.now)) writer.old writer.new }
+    ensures none_waits { NoneWaits writer.new }
 {
     writer.line(&[
         Text(b"rounds A "),
@@ -110,7 +112,8 @@ pub(crate) fn write_rounds<K: Sink>(writer: &mut Writer<'_, K>, finding: &Findin
 // Gives how many race states each run has.
 #[tactic(auto, using(hz_write::proofs::Writers::writes_same), unfolding(crate::specs::Report::races_line))]
 fn write_races<K: Sink>(writer: &mut Writer<'_, K>, finding: &Finding)
-    ensures { Writes K.written K.faults (races_line (finding_of finding.now)) writer.old writer.new }
+    ensures gave { Writes K.output K.faults (races_line (finding_of finding.now)) writer.old writer.new }
+    ensures none_waits { NoneWaits writer.new }
 {
     writer.line(&[
         Text(b"races spread "),
@@ -129,7 +132,7 @@ fn write_runs<K: Sink>(writer: &mut Writer<'_, K>, net: &Net, finding: &Finding)
     requires spread { All (All (λ var. var < length (network_of net.now))) finding.now.spread.steps }
     requires settle { All (All (λ var. var < length (network_of net.now))) finding.now.settle.steps }
     requires cycle { All (All (λ var. var < length (network_of net.now))) finding.now.cycle.steps }
-    ensures gave { Writes K.written K.faults
+    ensures gave { Writes K.output K.faults
         (run_text_printed net.now (runs_of_finding net.now (finding_of finding.now))) writer.old writer.new }
     ensures none_waits { NoneWaits writer.new }
 {

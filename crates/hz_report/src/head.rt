@@ -20,7 +20,7 @@ use hz_write::Writer;
 pub fn write_head<K: Sink>(writer: &mut Writer<'_, K>, net: &Net, free: &Free, start: &[bool])
     requires part { IsFreePart net.now free.now }
     requires start { length start.now ≡ length (network_of net.now) }
-    ensures gave { Writes K.written K.faults (head_text net.now free.now.cycles start.now) writer.old writer.new }
+    ensures gave { Writes K.output K.faults (head_text net.now free.now.cycles start.now) writer.old writer.new }
     ensures none_waits { NoneWaits writer.new }
 {
     write_netlist(writer, net);
@@ -30,7 +30,8 @@ pub fn write_head<K: Sink>(writer: &mut Writer<'_, K>, net: &Net, free: &Free, s
 
 // Gives how many inputs, gates, wires and variables there are.
 pub(crate) fn write_netlist<K: Sink>(writer: &mut Writer<'_, K>, net: &Net)
-    ensures { Writes K.written K.faults (netlist_line net.now) writer.old writer.new }
+    ensures gave { Writes K.output K.faults (netlist_line net.now) writer.old writer.new }
+    ensures none_waits { NoneWaits writer.new }
 {
     let circuit = net.circuit();
     let inputs = circuit.inputs();
@@ -51,7 +52,7 @@ pub(crate) fn write_netlist<K: Sink>(writer: &mut Writer<'_, K>, net: &Net)
 // Gives a line for each feedback cycle.
 fn write_feedback<K: Sink>(writer: &mut Writer<'_, K>, net: &Net, free: &Free)
     requires { IsFreePart net.now free.now }
-    ensures { Writes K.written K.faults (flat_map (feedback_line net.now) free.now.cycles) writer.old writer.new }
+    ensures { Writes K.output K.faults (flat_map (feedback_line net.now) free.now.cycles) writer.old writer.new }
 {
     for number in 0..free.cycles() {
         write_cycle(writer, net, free.cycle(number));
@@ -62,7 +63,8 @@ fn write_feedback<K: Sink>(writer: &mut Writer<'_, K>, net: &Net, free: &Free)
 #[tactic(auto, using(hz_write::proofs::Writers::writes_then), unfolding(crate::specs::Report::feedback_line))]
 fn write_cycle<K: Sink>(writer: &mut Writer<'_, K>, net: &Net, cycle: &[u32])
     requires { All (λ var. var < length (network_of net.now)) cycle.now }
-    ensures { Writes K.written K.faults (feedback_line net.now cycle.now) writer.old writer.new }
+    ensures gave { Writes K.output K.faults (feedback_line net.now cycle.now) writer.old writer.new }
+    ensures none_waits { NoneWaits writer.new }
 {
     writer.text(b"feedback");
     write_variables(writer, net, cycle);
@@ -72,7 +74,7 @@ fn write_cycle<K: Sink>(writer: &mut Writer<'_, K>, net: &Net, cycle: &[u32])
 // Gives the words of variables, each after a space.
 fn write_variables<K: Sink>(writer: &mut Writer<'_, K>, net: &Net, variables: &[u32])
     requires { All (λ var. var < length (network_of net.now)) variables.now }
-    ensures { Writes K.written K.faults (flat_map (spaced_word net.now) variables.now) writer.old writer.new }
+    ensures { Writes K.output K.faults (flat_map (spaced_word net.now) variables.now) writer.old writer.new }
 {
     for var in variables {
         writer.text(b" ");
@@ -83,7 +85,7 @@ fn write_variables<K: Sink>(writer: &mut Writer<'_, K>, net: &Net, variables: &[
 // Gives the value of each node at the start.
 pub(crate) fn write_start<K: Sink>(writer: &mut Writer<'_, K>, net: &Net, start: &[bool])
     requires { length start.now ≡ length (network_of net.now) }
-    ensures gave { Writes K.written K.faults (start_line net.now start.now) writer.old writer.new }
+    ensures gave { Writes K.output K.faults (start_line net.now start.now) writer.old writer.new }
     ensures none_waits { NoneWaits writer.new }
 {
     let circuit = net.circuit();

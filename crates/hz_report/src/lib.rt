@@ -8,19 +8,16 @@
 //! | `head` | the lines that come once: the size of the network, its feedback cycles, and the start |
 //! | `change` | the lines of a change: what it assigns, the rounds, the race states and the run text; or where it stops |
 //! | `rows` | the lines of variables: their values, their number of changes and their class |
-//! | `show` | [`Show`]: which variables have a line |
 //! | `summary` | the summary of a change: how many variables have each class, and the size of its runs |
 #![tactic(auto, using(hz_write::proofs::Writers::writes_then, hz_write::proofs::Writers::writes_nothing))]
 
 mod change;
 mod head;
 mod rows;
-mod show;
 mod summary;
 #[cfg(test)]
 mod tests;
 
 pub use change::{write_change, write_stopped};
 pub use head::write_head;
-pub use show::Show;
 pub use summary::write_summary;

@@ -3,16 +3,16 @@ ghost use Rattle.std.specs.Prelude.{◌≡◌, ◌<◌, ◌∷◌, ◌++◌, len
 ghost use Rattle.hz_core.specs.Netlist.{IsCircuit};
 ghost use Rattle.hz_net.specs.Network.{network_of};
 ghost use Rattle.hz_text.specs.Printed.{letter_of};
-ghost use Rattle.hz_write.specs.Writer.{Writes};
+ghost use Rattle.hz_write.specs.Writer.{Writes, NoneWaits};
 ghost use Rattle.hz_report.specs.Report.{changes_word, class_word, row_line, row_lines, row_text, shown_count, shown_rows};
 ghost use Rattle.hz_report.specs.Words.{tri_letter};
 
-use crate::show::Show;
 use hz_core::Tri;
 use hz_core::Tri::{One, Unknown, Zero};
 use hz_desk::Class::{Single, Steady};
 use hz_desk::{Class, Row, Rows};
 use hz_net::Net;
+use hz_options::Show;
 use hz_outside::Sink;
 use hz_text::write_variable;
 use hz_word::Count;
@@ -23,7 +23,7 @@ use hz_write::Writer;
 // Gives the line of each variable that is shown.
 pub(crate) fn write_rows<K: Sink>(writer: &mut Writer<'_, K>, net: &Net, rows: &Rows, show: Show)
     requires { length rows.now ≡ length (network_of net.now) }
-    ensures { Writes K.written K.faults
+    ensures { Writes K.output K.faults
         (row_lines net.now 0 (shown_rows net.now show rows.now)) writer.old writer.new }
 {
     let count = shown_count(net, show);
@@ -46,7 +46,8 @@ fn shown_count(net: &Net, show: Show) -> u32
 // Gives a variable with its values, its number of changes and its class.
 pub(crate) fn write_row<K: Sink>(writer: &mut Writer<'_, K>, net: &Net, var: u32, row: Row)
     requires { var < length (network_of net.now) }
-    ensures { Writes K.written K.faults (row_line net.now var row) writer.old writer.new }
+    ensures gave { Writes K.output K.faults (row_line net.now var row) writer.old writer.new }
+    ensures none_waits { NoneWaits writer.new }
 {
     write_variable(writer, net, var);
     write_row_text(writer, row);
@@ -56,7 +57,7 @@ pub(crate) fn write_row<K: Sink>(writer: &mut Writer<'_, K>, net: &Net, var: u32
 // Gives what stands after the variable of a row. It is one piece for nearly every row, since each piece of a line takes its time,
 // and a report has millions of these lines.
 fn write_row_text<K: Sink>(writer: &mut Writer<'_, K>, row: Row)
-    ensures { Writes K.written K.faults (row_text row) writer.old writer.new }
+    ensures { Writes K.output K.faults (row_text row) writer.old writer.new }
 {
     match common_text(row) {
         Some(text) => writer.text(text),
@@ -79,7 +80,7 @@ fn common_text(row: Row) -> Option<&'static [u8]>
 
 // Gives what stands after the variable of a row, piece by piece.
 fn write_pieces<K: Sink>(writer: &mut Writer<'_, K>, row: Row)
-    ensures { Writes K.written K.faults (row_text row) writer.old writer.new }
+    ensures { Writes K.output K.faults (row_text row) writer.old writer.new }
 {
     writer.text(values_text(row.start, row.a, row.b));
     write_changes(writer, row.changes);
@@ -114,7 +115,7 @@ fn values_text(start: bool, a: Tri, b: Tri) -> &'static [u8]
 
 // Gives what stands for a number of changes.
 fn write_changes<K: Sink>(writer: &mut Writer<'_, K>, changes: Option<Count>)
-    ensures { Writes K.written K.faults (changes_word changes) writer.old writer.new }
+    ensures { Writes K.output K.faults (changes_word changes) writer.old writer.new }
 {
     match changes {
         None => writer.text(b"-"),
@@ -125,7 +126,7 @@ fn write_changes<K: Sink>(writer: &mut Writer<'_, K>, changes: Option<Count>)
 
 // Gives a number of changes in decimal digits. Most variables change at most once.
 fn write_exact<K: Sink>(writer: &mut Writer<'_, K>, changes: u64)
-    ensures { Writes K.written K.faults (decimal changes) writer.old writer.new }
+    ensures { Writes K.output K.faults (decimal changes) writer.old writer.new }
 {
     match changes {
         0 => writer.text(b"0"),

@@ -3,7 +3,7 @@
 ghost use Rattle.std.specs.Prelude.{◌≡◌, length, IfOk};
 ghost use Rattle.hz_net.specs.Network.{network_of};
 
-use super::{Show, write_head, write_stopped};
+use super::{write_head, write_stopped};
 use crate::head::write_start;
 use crate::rows::{write_row, write_rows};
 use crate::summary::{write_classes, write_size};
@@ -13,6 +13,7 @@ use hz_desk::{Class, Desk, Row, Rows};
 use hz_free::Free;
 use hz_gmw::Run;
 use hz_net::Net;
+use hz_options::Show;
 use hz_outside::{MemSink, PlainSink, PutFault, Sink};
 use hz_word::Count;
 use hz_word::Count::{Exact, Many};

@@ -13,6 +13,11 @@ pub mod LeastFault
 pub mod BeyondLaws
 pub mod MismatchLaws
 pub mod OrderLaws
+pub mod PatternFaultLaws
+pub mod PatternBuildLaws
+pub mod PrintedLines
+pub mod PatternPrintLemmas
+pub mod PatternPrintedLaws
 pub mod RunFaultLaws
 pub mod RunBuildLaws
 pub mod RunUsableLaws

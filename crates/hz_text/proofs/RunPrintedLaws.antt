@@ -1,16 +1,15 @@
 -- A printed run text has no fault, and stands for the run text.
-use Rattle.std.proofs.Common.{◌≡◌, ◌∙◌, ℕ, ◌+◌, ◌<◌, ◌≤◌, suc, Bool, false, cond, nat_eq, nat_lt, List, [], ◌∷◌, ◌++◌, Option, Some, None, length, length-append, get_or, map, refl, ap, sym, subst, arith, append_assoc}
+use Rattle.std.proofs.Common.{◌≡◌, ◌∙◌, ℕ, ◌+◌, ◌<◌, ◌≤◌, suc, Bool, false, nat_eq, nat_lt, List, [], ◌∷◌, ◌++◌, Option, Some, None, length, length-append, get_or, map, refl, ap, sym, subst, arith, append_assoc}
 use Rattle.std.specs.List.{flat_map, All, list_any}
 use Rattle.std.specs.Prelude.{sum_by}
 use Rattle.std.specs.Option.{IsSome, is_none}
 use Rattle.std.proofs.lemmas.Bool.Decides.{nat_tests}
 use Rattle.std.proofs.lemmas.List.{length-map, get_or-map}
-use Rattle.std.proofs.lemmas.List.Elements.{All-nil, All-cons, All-head, All-tail, All-append, All-weaker}
+use Rattle.std.proofs.lemmas.List.Elements.{All-nil, All-cons, All-append, All-weaker}
 use Rattle.std.proofs.lemmas.List.Sums.{sum_by-append, sum_by-cons}
 use Rattle.hz_core.specs.Netlist.{Netlist, IsCircuit}
 use Rattle.hz_gmw.specs.RunRecord.{flip_count}
-use Rattle.hz_line.specs.Line.{lines_of}
-use Rattle.hz_line.specs.Statement.{Meaning, Nothing, Means, meaning_of, Numbered, with_meaning, numbered_from, first_passing_line, malformed_before, first_malformed}
+use Rattle.hz_line.specs.Statement.{first_passing_line}
 use Rattle.hz_text.specs.Statement as keyword
 use Rattle.hz_text.specs.declared.run.order.Place.{Place}
 use Rattle.hz_text.specs.declared.run.order.Place.TheVariants as place
@@ -30,64 +29,16 @@ use Rattle.hz_text.specs.OrderPass.{place_after_step, runs_out_of_order, first_m
 use Rattle.hz_text.specs.RunRules.{first_mismatch, beyond_from, names_node_twice, least_missing_node, first_run_fault}
 use Rattle.hz_text.specs.RunPrinted.{all_listed, run_text_printed}
 use Rattle.hz_text.proofs.BuildLemmas.{assigned_nodes-pairs}
-use Rattle.hz_text.proofs.TextLaws.{first_passing_line-cons}
 use Rattle.hz_text.proofs.PrintLemmas.{listed-below}
 use Rattle.hz_text.proofs.PrintLaws.{start-known, all-bits, inputs-known, listed-fresh, listed-whole, listed-back}
 use Rattle.hz_text.proofs.RunFaultLaws.{looked_runs-read, clear-faultless}
-use Rattle.hz_text.proofs.RunPrintedLines.{sent, IsReadAsRun, printed-IsReadAsRun}
+use Rattle.hz_text.proofs.PrintedLines.{numbered, without-numbers, none-passes, read-numbered, read-formed}
+use Rattle.hz_text.proofs.RunPrintedLines.{sent, ReadsAs, printed-ReadsAs}
 use Rattle.hz_text.specs.Limits.{most_steps}
 
--- statements, each on a line of its own, the first of which has this number
-abbrev numbered : ℕ → List ResolvedRunStatement → List (Numbered ResolvedRunStatement)
-numbered line [] = []
-numbered line (statement ∷ later) = record { line = line; statement = statement } ∷ numbered (suc line) later
-
--- the statements of lines, by what the lines are
-abbrev meant : ℕ → List (Meaning ResolvedRunStatement) → List (Numbered ResolvedRunStatement)
-meant line [] = []
-meant line (meaning ∷ rest) = with_meaning line meaning (meant (suc line) rest)
-
-lines-meant : (netlist : Netlist) (line : ℕ) (lines : List (List ℕ)) → numbered_from (resolve_run_tokens netlist) line lines ≡ meant line (map (meaning_of (resolve_run_tokens netlist)) lines)
-lines-meant netlist line [] = refl
-lines-meant netlist line (first ∷ rest) = ap (with_meaning line (meaning_of (resolve_run_tokens netlist) first)) (lines-meant netlist (suc line) rest)
-
-meant-back : (line : ℕ) (statements : List ResolvedRunStatement) → meant line (map Means statements ++ Nothing ∷ []) ≡ numbered line statements
-meant-back line [] = refl
-meant-back line (statement ∷ later) = ap (λ rest. record { line = line; statement = statement } ∷ rest) (meant-back (suc line) later)
-
--- the first malformed line, by what the lines are
-abbrev malformed_in : ℕ → List (Meaning ResolvedRunStatement) → Option ℕ
-malformed_in line [] = None
-malformed_in line (meaning ∷ rest) = malformed_before line meaning (malformed_in (suc line) rest)
-
-lines-malformed : (netlist : Netlist) (line : ℕ) (lines : List (List ℕ)) → first_malformed (resolve_run_tokens netlist) line lines ≡ malformed_in line (map (meaning_of (resolve_run_tokens netlist)) lines)
-lines-malformed netlist line [] = refl
-lines-malformed netlist line (first ∷ rest) = ap (malformed_before line (meaning_of (resolve_run_tokens netlist) first)) (lines-malformed netlist (suc line) rest)
-
-none-malformed : (line : ℕ) (statements : List ResolvedRunStatement) → malformed_in line (map Means statements ++ Nothing ∷ []) ≡ None
-none-malformed line [] = refl
-none-malformed line (statement ∷ later) = none-malformed (suc line) later
-
--- a text of such lines has these statements
-looked-numbered : (netlist : Netlist) (text : List ℕ) (statements : List ResolvedRunStatement) → IsReadAsRun netlist text statements → resolved_run_statements netlist text ≡ numbered 1 statements
-looked-numbered netlist text statements read =
-    sym (looked_runs-read netlist text) ∙ lines-meant netlist 1 (lines_of text) ∙ ap (meant 1) read ∙ meant-back 1 statements
-
-text-formed : (netlist : Netlist) (text : List ℕ) (statements : List ResolvedRunStatement) → IsReadAsRun netlist text statements → first_malformed (resolve_run_tokens netlist) 1 (lines_of text) ≡ None
-text-formed netlist text statements read = lines-malformed netlist 1 (lines_of text) ∙ ap (malformed_in 1) read ∙ none-malformed 1 statements
-
-unnumbered-numbered : (line : ℕ) (statements : List ResolvedRunStatement) → statements_without_lines (numbered line statements) ≡ statements
-unnumbered-numbered line [] = refl
-unnumbered-numbered line (statement ∷ later) = ap (λ rest. statement ∷ rest) (unnumbered-numbered (suc line) later)
-
--- no statement passes a test that each of them fails
-none-passes : (test : ResolvedRunStatement → Bool) (line : ℕ) (statements : List ResolvedRunStatement) → All (λ statement. test statement ≡ false) statements → first_passing_line test (numbered line statements) ≡ None
-none-passes test line [] h = refl
-none-passes test line (statement ∷ later) h =
-    let P : ResolvedRunStatement → Type 0 = λ statement. test statement ≡ false in
-    first_passing_line-cons test (record { line = line; statement = statement }) (numbered (suc line) later)
-    ∙ ap (λ b. cond b (Some line) (first_passing_line test (numbered (suc line) later))) (All-head P statement later h)
-    ∙ none-passes test (suc line) later (All-tail P statement later h)
+-- a text that is read as these statements has them on the lines 1, 2, ..
+looked-numbered : (netlist : Netlist) (text : List ℕ) (statements : List ResolvedRunStatement) → ReadsAs netlist text statements → resolved_run_statements netlist text ≡ numbered 1 statements
+looked-numbered netlist text statements read = sym (looked_runs-read netlist text) ∙ read-numbered (resolve_run_tokens netlist) text statements read
 
 -- the statement has no fault of its own
 record IsSound (inputs : ℕ) (statement : ResolvedRunStatement) : Type 0 where
@@ -270,19 +221,19 @@ sent-clear netlist value h =
     let size : first_mismatch (size_of netlist) all ≡ None = ap (option_map (λ counts. record { line = 2; told = counts.0; real = counts.1 })) (same_size (size_of netlist)) in
     rw (unknown, twice, missing, bit, order, few, size) refl
 
-printed-read : (netlist : Netlist) (value : RunTextOf) → IsCircuit netlist → IsRunTextFor netlist value → IsReadAsRun netlist (run_text_printed netlist value) (sent netlist value)
+printed-read : (netlist : Netlist) (value : RunTextOf) → IsCircuit netlist → IsRunTextFor netlist value → ReadsAs netlist (run_text_printed netlist value) (sent netlist value)
 printed-read netlist value circuit h =
     let P : ℕ × Bool → Type 0 = λ pair. pair.0 < netlist.inputs in
     let Q : ℕ × Bool → Type 0 = λ pair. pair.0 < length netlist.names in
     let inputs = All-weaker P Q (λ pair l. omega (arith, l, circuit.nodes)) (all_listed value.input) (all_listed-below value.input netlist.inputs h.inputs) in
-    printed-IsReadAsRun netlist value circuit (all_listed-below value.nodes (length netlist.names) h.nodes) inputs h.variables
+    printed-ReadsAs netlist value circuit (all_listed-below value.nodes (length netlist.names) h.nodes) inputs h.variables
 
 -- what was printed has no fault
 pub printed-faultless : (netlist : Netlist) (value : RunTextOf) → IsCircuit netlist → IsRunTextFor netlist value → IsRunFaultless netlist (run_text_printed netlist value)
 printed-faultless netlist value circuit h =
     let text = run_text_printed netlist value in
     let read = printed-read netlist value circuit h in
-    clear-faultless netlist text (text-formed netlist text (sent netlist value) read)
+    clear-faultless netlist text (read-formed (resolve_run_tokens netlist) text (sent netlist value) read)
     (ap (first_run_fault netlist) (looked-numbered netlist text (sent netlist value) read) ∙ sent-clear netlist value h)
 
 -- what was printed stands for the run text
@@ -290,7 +241,7 @@ pub printed-value : (netlist : Netlist) (value : RunTextOf) → IsCircuit netlis
 printed-value netlist value circuit h =
     let text = run_text_printed netlist value in
     let read = printed-read netlist value circuit h in
-    let same : sent netlist value ≡ statements_without_lines (resolved_run_statements netlist text) = sym (ap statements_without_lines (looked-numbered netlist text (sent netlist value) read) ∙ unnumbered-numbered 1 (sent netlist value)) in
+    let same : sent netlist value ≡ statements_without_lines (resolved_run_statements netlist text) = sym (ap statements_without_lines (looked-numbered netlist text (sent netlist value) read) ∙ without-numbers 1 (sent netlist value)) in
     let P : List ResolvedRunStatement → Type 0 = λ statements. IsRunTextBy netlist statements value in
     subst P same (record {
       size = Some (size_of netlist);

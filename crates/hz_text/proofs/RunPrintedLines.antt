@@ -4,7 +4,6 @@ use Rattle.std.specs.List.{list_all, flat_map, All}
 use Rattle.std.proofs.lemmas.Bool.{cases_lt}
 use Rattle.std.proofs.lemmas.Fmt.{decimal_nonempty}
 use Rattle.std.proofs.lemmas.Bool.Decides.{nat_tests}
-use Rattle.std.proofs.lemmas.List.{map-append, append-nil}
 use Rattle.std.proofs.lemmas.List.Folds.{list_all-append}
 use Rattle.std.proofs.lemmas.List.Elements.{All-nil, All-cons, All-head, All-tail}
 use Rattle.hz_core.specs.Netlist.{Netlist, IsCircuit, gate_at, pin_count, variable_count, node_name, is_name_byte}
@@ -12,10 +11,9 @@ use Rattle.hz_net.specs.Network.{network_of}
 use Rattle.hz_net.proofs.Places.{length-network_of}
 use Rattle.hz_line.specs.declared.bytes.Punctuation.TheVariants.{Open, Close}
 use Rattle.hz_line.specs.Byte.{class_of, is_word_byte}
-use Rattle.hz_line.specs.Line.{lines_of}
 use Rattle.hz_line.specs.Token.{TokenOf, WordOf, PunctuationOf, tokens_of, with_token, begins_in_word}
-use Rattle.hz_line.specs.Statement.{Meaning, Nothing, Means, meaning_of, meaning_of_tokens}
-use Rattle.hz_line.proofs.WrittenLemmas.{is_word_byte-is, word_bytes, tokens_of-open, tokens_of-close, tokens_of-space, is_word_byte-separators, tokens_of-word_before, is_inline, lines_of-written}
+use Rattle.hz_line.specs.Statement.{Means, meaning_of_tokens}
+use Rattle.hz_line.proofs.WrittenLemmas.{is_word_byte-is, word_bytes, tokens_of-open, tokens_of-close, tokens_of-space, is_word_byte-separators, tokens_of-word_before, is_inline}
 use Rattle.hz_write.specs.Writes.{line_of}
 use Rattle.hz_text.specs.declared.run.version.Version.TheVariants.{Two}
 use Rattle.hz_text.specs.RunSize.{size_of}
@@ -29,54 +27,31 @@ use Rattle.hz_text.specs.RunText.{step_of, cycle_statements, run_statements}
 use Rattle.hz_text.specs.RunPrinted.{wire_word, variable_word, spaced_word, step_text, cycle_text, run_text, all_listed, net_line, version_text, states_text, run_text_printed}
 use Rattle.hz_text.proofs.WordLaws.{AreNodes, no_word, IsName-node, pair_tokens, pairs_read, pairs_inline, assignments_read}
 use Rattle.hz_text.proofs.PrintLaws.{node_at, assigned_back}
+use Rattle.hz_text.proofs.PrintedLines.{Reads, Reads-append, Reads-each, Reads-line}
 use Rattle.hz_text.proofs.DecimalLemmas.{decimal-digits, number_by-decimal, decimal-is_decimal, count_of-decimal, digits-name}
 use Rattle.hz_text.proofs.VariableWords.{wire_at, variable_word-node, variable_word-wire, wire_is_pin, pin-bound}
 use Rattle.hz_text.proofs.RunPrintLemmas.{All-front, All-back}
 use Rattle.hz_core.specs.Limits.{most_variables}
 
--- what the lines of a text are, looked up
-abbrev pub meanings_of : Netlist → List ℕ → List (Meaning ResolvedRunStatement)
-meanings_of netlist text = map (meaning_of (resolve_run_tokens netlist)) (lines_of text)
-
 -- a text before any other is read as these statements
-abbrev Reads : Netlist → List ℕ → List ResolvedRunStatement → Type 0
-Reads netlist text statements = (rest : List ℕ) → meanings_of netlist (text ++ rest) ≡ map Means statements ++ meanings_of netlist rest
+abbrev pub ReadsAs : Netlist → List ℕ → List ResolvedRunStatement → Type 0
+ReadsAs netlist text statements = Reads (resolve_run_tokens netlist) text statements
 
-Reads-append : (netlist : Netlist) (a b : List ℕ) (s t : List ResolvedRunStatement) → Reads netlist a s → Reads netlist b t → Reads netlist (a ++ b) (s ++ t)
-Reads-append netlist a b s t f g = λ rest.
-    ap (meanings_of netlist) (append_assoc a b rest) ∙ f (b ++ rest) ∙ ap (λ later. map Means s ++ later) (g rest)
-    ∙ sym (append_assoc (map Means s) (map Means t) (meanings_of netlist rest))
-    ∙ ap (λ front. front ++ meanings_of netlist rest) (sym (map-append Means s t))
-
--- texts one after the other
-Reads-each : (netlist : Netlist) {X : Type 0} (text : X → List ℕ) (statements : X → List ResolvedRunStatement) (xs : List X) → All (λ x. Reads netlist (text x) (statements x)) xs → Reads netlist (flat_map text xs) (flat_map statements xs)
-Reads-each netlist text statements [] h = λ rest. refl
-Reads-each netlist {X} text statements (x ∷ xs) h =
-    let P : X → Type 0 = λ x. Reads netlist (text x) (statements x) in
-    Reads-append netlist (text x) (flat_map text xs) (statements x) (flat_map statements xs) (All-head P x xs h) (Reads-each netlist text statements xs (All-tail P x xs h))
-
--- a line with its line feed
-Reads-line : (netlist : Netlist) (line : List ℕ) (statement : ResolvedRunStatement) → list_all is_inline line ≡ true → meaning_of (resolve_run_tokens netlist) line ≡ Means statement → Reads netlist (line ++ 10 ∷ []) (statement ∷ [])
-Reads-line netlist line statement inline means = λ rest.
-    ap (meanings_of netlist) (append_assoc line (10 ∷ []) rest)
-    ∙ ap (map (meaning_of (resolve_run_tokens netlist))) (lines_of-written line rest inline)
-    ∙ ap (λ meaning. meaning ∷ meanings_of netlist rest) means
-
-header_reads : (netlist : Netlist) → Reads netlist (codes "runs 2\n") (Header Two ∷ [])
+header_reads : (netlist : Netlist) → ReadsAs netlist (codes "runs 2\n") (Header Two ∷ [])
 unfolding class_of run_keyword_of
-header_reads netlist = Reads-line netlist (codes "runs 2") (Header Two) refl refl
+header_reads netlist = Reads-line (resolve_run_tokens netlist) (codes "runs 2") (Header Two) refl refl
 
-run_reads : (netlist : Netlist) → Reads netlist (codes "run\n") (Run ∷ [])
+run_reads : (netlist : Netlist) → ReadsAs netlist (codes "run\n") (Run ∷ [])
 unfolding class_of run_keyword_of
-run_reads netlist = Reads-line netlist (codes "run") Run refl refl
+run_reads netlist = Reads-line (resolve_run_tokens netlist) (codes "run") Run refl refl
 
-cycle_reads : (netlist : Netlist) → Reads netlist (codes "cycle\n") (Cycle ∷ [])
+cycle_reads : (netlist : Netlist) → ReadsAs netlist (codes "cycle\n") (Cycle ∷ [])
 unfolding class_of run_keyword_of
-cycle_reads netlist = Reads-line netlist (codes "cycle") Cycle refl refl
+cycle_reads netlist = Reads-line (resolve_run_tokens netlist) (codes "cycle") Cycle refl refl
 
-end_reads : (netlist : Netlist) → Reads netlist (codes "end\n") (End ∷ [])
+end_reads : (netlist : Netlist) → ReadsAs netlist (codes "end\n") (End ∷ [])
 unfolding class_of run_keyword_of
-end_reads netlist = Reads-line netlist (codes "end") End refl refl
+end_reads netlist = Reads-line (resolve_run_tokens netlist) (codes "end") End refl refl
 
 -- the keywords that other words follow
 record AreKeywords : Type 0 where
@@ -114,7 +89,7 @@ one_count n words tokens small is =
       inline = rw (list_all-append is_inline digits words, bytes.1, is.inline) refl;
     }
 
-net_reads : (netlist : Netlist) → IsCircuit netlist → Reads netlist (net_line (size_of netlist)) (Net (size_of netlist) ∷ [])
+net_reads : (netlist : Netlist) → IsCircuit netlist → ReadsAs netlist (net_line (size_of netlist)) (Net (size_of netlist) ∷ [])
 unfolding net_line line_of
 net_reads netlist circuit =
     let inputs = netlist.inputs in
@@ -127,7 +102,7 @@ net_reads netlist circuit =
     let words = 32 ∷ decimal inputs ++ (32 ∷ decimal gates ++ (32 ∷ decimal wires ++ [])) in
     let tokens = tokens_of-word_before (codes "net") words (omega arith) keywords.net_letters three.ends ∙ ap (with_token (WordOf (codes "net"))) three.read in
     let inline : list_all is_inline (codes "net" ++ words) ≡ true = rw (list_all-append is_inline (codes "net") words, three.inline) refl in
-    Reads-line netlist (codes "net" ++ words) (Net (size_of netlist)) inline
+    Reads-line (resolve_run_tokens netlist) (codes "net" ++ words) (Net (size_of netlist)) inline
     (ap (meaning_of_tokens (resolve_run_tokens netlist)) tokens
     ∙ rw (keywords.net, count_of-decimal inputs (omega (arith, few)), count_of-decimal gates (omega (arith, few)), count_of-decimal wires (omega (arith, few))) refl)
 
@@ -140,17 +115,17 @@ listed_inline : (netlist : Netlist) (word : List ℕ) (pairs : List (ℕ × Bool
 listed_inline netlist word pairs circuit nodes inline =
     rw (list_all-append is_inline word (flat_map (assignment_text netlist) pairs), inline, pairs_inline netlist pairs circuit nodes) refl
 
-start_reads : (netlist : Netlist) (pairs : List (ℕ × Bool)) → IsCircuit netlist → AreNodes netlist pairs → Reads netlist (statement_text netlist (codes "start") pairs) (Start (map assignment_to pairs) ∷ [])
+start_reads : (netlist : Netlist) (pairs : List (ℕ × Bool)) → IsCircuit netlist → AreNodes netlist pairs → ReadsAs netlist (statement_text netlist (codes "start") pairs) (Start (map assignment_to pairs) ∷ [])
 unfolding statement_text
 start_reads netlist pairs circuit nodes =
-    Reads-line netlist (codes "start" ++ flat_map (assignment_text netlist) pairs) (Start (map assignment_to pairs)) (listed_inline netlist (codes "start") pairs circuit nodes refl)
+    Reads-line (resolve_run_tokens netlist) (codes "start" ++ flat_map (assignment_text netlist) pairs) (Start (map assignment_to pairs)) (listed_inline netlist (codes "start") pairs circuit nodes refl)
     (ap (meaning_of_tokens (resolve_run_tokens netlist)) (listed_tokens netlist (codes "start") pairs circuit nodes (omega arith) keywords.start_letters)
     ∙ rw (keywords.start, assignments_read netlist pairs) (ap (λ all. Means (Start all)) (assigned_back netlist pairs circuit nodes)))
 
-input_reads : (netlist : Netlist) (pairs : List (ℕ × Bool)) → IsCircuit netlist → AreNodes netlist pairs → Reads netlist (statement_text netlist (codes "input") pairs) (Input (map assignment_to pairs) ∷ [])
+input_reads : (netlist : Netlist) (pairs : List (ℕ × Bool)) → IsCircuit netlist → AreNodes netlist pairs → ReadsAs netlist (statement_text netlist (codes "input") pairs) (Input (map assignment_to pairs) ∷ [])
 unfolding statement_text
 input_reads netlist pairs circuit nodes =
-    Reads-line netlist (codes "input" ++ flat_map (assignment_text netlist) pairs) (Input (map assignment_to pairs)) (listed_inline netlist (codes "input") pairs circuit nodes refl)
+    Reads-line (resolve_run_tokens netlist) (codes "input" ++ flat_map (assignment_text netlist) pairs) (Input (map assignment_to pairs)) (listed_inline netlist (codes "input") pairs circuit nodes refl)
     (ap (meaning_of_tokens (resolve_run_tokens netlist)) (listed_tokens netlist (codes "input") pairs circuit nodes (omega arith) keywords.input_letters)
     ∙ rw (keywords.input, assignments_read netlist pairs) (ap (λ all. Means (Input all)) (assigned_back netlist pairs circuit nodes)))
 
@@ -269,7 +244,7 @@ flips_written netlist (var ∷ flips) circuit h =
       found = rw (first.found, rest.found) refl;
     }
 
-step_reads : (netlist : Netlist) (flips : List ℕ) → IsCircuit netlist → AreThere netlist flips → Reads netlist (step_text netlist flips) (step_of flips ∷ [])
+step_reads : (netlist : Netlist) (flips : List ℕ) → IsCircuit netlist → AreThere netlist flips → ReadsAs netlist (step_text netlist flips) (step_of flips ∷ [])
 unfolding step_text
 step_reads netlist flips circuit h =
     let words = flat_map (spaced_word netlist) flips in
@@ -277,7 +252,7 @@ step_reads netlist flips circuit h =
     let inline : list_all is_inline (codes "step" ++ words) ≡ true = rw (list_all-append is_inline (codes "step") words, written.inline) refl in
     let tokens : tokens_of (codes "step" ++ words) ≡ Some (WordOf (codes "step") ∷ flat_map variable_tokens written.variables) =
     tokens_of-word_before (codes "step") words (omega arith) keywords.step_letters written.ends ∙ ap (with_token (WordOf (codes "step"))) written.tokens in
-    Reads-line netlist (codes "step" ++ words) (step_of flips) inline
+    Reads-line (resolve_run_tokens netlist) (codes "step" ++ words) (step_of flips) inline
     (ap (meaning_of_tokens (resolve_run_tokens netlist)) tokens
     ∙ rw (keywords.step, variables_back written.variables written.numbered) (ap (λ all. Means (Step all)) written.found))
 
@@ -286,32 +261,32 @@ flat_map-steps : (steps : List (List ℕ)) → flat_map (λ flips. step_of flips
 flat_map-steps [] = refl
 flat_map-steps (flips ∷ steps) = ap (λ later. step_of flips ∷ later) (flat_map-steps steps)
 
-steps_read : (netlist : Netlist) (steps : List (List ℕ)) → IsCircuit netlist → All (AreThere netlist) steps → Reads netlist (flat_map (step_text netlist) steps) (map step_of steps)
+steps_read : (netlist : Netlist) (steps : List (List ℕ)) → IsCircuit netlist → All (AreThere netlist) steps → ReadsAs netlist (flat_map (step_text netlist) steps) (map step_of steps)
 steps_read netlist steps circuit h =
-    let P : List ResolvedRunStatement → Type 0 = Reads netlist (flat_map (step_text netlist) steps) in
+    let P : List ResolvedRunStatement → Type 0 = ReadsAs netlist (flat_map (step_text netlist) steps) in
     subst P (flat_map-steps steps)
-    (Reads-each netlist (step_text netlist) (λ flips. step_of flips ∷ []) steps (λ k d l. step_reads netlist (get_or steps k d) circuit (h k d l)))
+    (Reads-each (resolve_run_tokens netlist) (step_text netlist) (λ flips. step_of flips ∷ []) steps (λ k d l. step_reads netlist (get_or steps k d) circuit (h k d l)))
 
-cycle_text-reads : (netlist : Netlist) (cycle : Option (List (List ℕ))) → IsCircuit netlist → All (AreThere netlist) (cycle_steps cycle) → Reads netlist (cycle_text netlist cycle) (cycle_statements cycle)
+cycle_text-reads : (netlist : Netlist) (cycle : Option (List (List ℕ))) → IsCircuit netlist → All (AreThere netlist) (cycle_steps cycle) → ReadsAs netlist (cycle_text netlist cycle) (cycle_statements cycle)
 cycle_text-reads netlist None circuit h = λ rest. refl
 cycle_text-reads netlist (Some steps) circuit h =
-    Reads-append netlist (codes "cycle\n") (flat_map (step_text netlist) steps) (Cycle ∷ []) (map step_of steps) (cycle_reads netlist) (steps_read netlist steps circuit h)
+    Reads-append (resolve_run_tokens netlist) (codes "cycle\n") (flat_map (step_text netlist) steps) (Cycle ∷ []) (map step_of steps) (cycle_reads netlist) (steps_read netlist steps circuit h)
 
-run_text-reads : (netlist : Netlist) (run : RunOf) → IsCircuit netlist → All (AreThere netlist) (run.lead ++ cycle_steps run.cycle) → Reads netlist (run_text netlist run) (run_statements run)
+run_text-reads : (netlist : Netlist) (run : RunOf) → IsCircuit netlist → All (AreThere netlist) (run.lead ++ cycle_steps run.cycle) → ReadsAs netlist (run_text netlist run) (run_statements run)
 unfolding run_text
 run_text-reads netlist run circuit h =
     let P = AreThere netlist in
     let lead = flat_map (step_text netlist) run.lead in
-    let first = Reads-append netlist (codes "run\n") lead (Run ∷ []) (map step_of run.lead) (run_reads netlist) (steps_read netlist run.lead circuit (All-front P run.lead (cycle_steps run.cycle) h)) in
-    Reads-append netlist (codes "run\n" ++ lead) (cycle_text netlist run.cycle) (Run ∷ map step_of run.lead) (cycle_statements run.cycle) first
+    let first = Reads-append (resolve_run_tokens netlist) (codes "run\n") lead (Run ∷ []) (map step_of run.lead) (run_reads netlist) (steps_read netlist run.lead circuit (All-front P run.lead (cycle_steps run.cycle) h)) in
+    Reads-append (resolve_run_tokens netlist) (codes "run\n" ++ lead) (cycle_text netlist run.cycle) (Run ∷ map step_of run.lead) (cycle_statements run.cycle) first
     (cycle_text-reads netlist run.cycle circuit (All-back P run.lead (cycle_steps run.cycle) h))
 
-runs_read : (netlist : Netlist) (runs : List RunOf) → IsCircuit netlist → All (AreThere netlist) (all_steps runs) → Reads netlist (flat_map (run_text netlist) runs) (flat_map run_statements runs)
+runs_read : (netlist : Netlist) (runs : List RunOf) → IsCircuit netlist → All (AreThere netlist) (all_steps runs) → ReadsAs netlist (flat_map (run_text netlist) runs) (flat_map run_statements runs)
 runs_read netlist [] circuit h = λ rest. refl
 runs_read netlist (run ∷ runs) circuit h =
     let P = AreThere netlist in
     let mine = run.lead ++ cycle_steps run.cycle in
-    Reads-append netlist (run_text netlist run) (flat_map (run_text netlist) runs) (run_statements run) (flat_map run_statements runs)
+    Reads-append (resolve_run_tokens netlist) (run_text netlist run) (flat_map (run_text netlist) runs) (run_statements run) (flat_map run_statements runs)
     (run_text-reads netlist run circuit (All-front P mine (all_steps runs) h)) (runs_read netlist runs circuit (All-back P mine (all_steps runs) h))
 
 -- a run text as statements
@@ -319,13 +294,10 @@ abbrev pub sent : Netlist → RunTextOf → List ResolvedRunStatement
 sent netlist value =
     Header Two ∷ Net (size_of netlist) ∷ Start (map assignment_to (all_listed value.nodes)) ∷ Input (map assignment_to (all_listed value.input)) ∷ flat_map run_statements value.runs ++ End ∷ []
 
--- each line of the text is one of these statements, in order, and the last line is empty
-abbrev pub IsReadAsRun : Netlist → List ℕ → List ResolvedRunStatement → Type 0
-IsReadAsRun netlist text statements = meanings_of netlist text ≡ map Means statements ++ Nothing ∷ []
-
-pub printed-IsReadAsRun : (netlist : Netlist) (value : RunTextOf) → IsCircuit netlist → AreNodes netlist (all_listed value.nodes) → AreNodes netlist (all_listed value.input) → All (AreThere netlist) (all_steps value.runs) → IsReadAsRun netlist (run_text_printed netlist value) (sent netlist value)
+-- a printed run text is read so
+pub printed-ReadsAs : (netlist : Netlist) (value : RunTextOf) → IsCircuit netlist → AreNodes netlist (all_listed value.nodes) → AreNodes netlist (all_listed value.input) → All (AreThere netlist) (all_steps value.runs) → ReadsAs netlist (run_text_printed netlist value) (sent netlist value)
 unfolding run_text_printed states_text version_text
-printed-IsReadAsRun netlist value circuit nodes inputs there =
+printed-ReadsAs netlist value circuit nodes inputs there =
     let nodes_listed = all_listed value.nodes in
     let inputs_listed = all_listed value.input in
     let start = statement_text netlist (codes "start") nodes_listed in
@@ -333,10 +305,9 @@ printed-IsReadAsRun netlist value circuit nodes inputs there =
     let runs = flat_map (run_text netlist) value.runs in
     let net = net_line (size_of netlist) in
     let header = Header Two ∷ Net (size_of netlist) ∷ [] in
-    let h = Reads-append netlist (codes "runs 2\n") net (Header Two ∷ []) (Net (size_of netlist) ∷ []) (header_reads netlist) (net_reads netlist circuit) in
-    let a = Reads-append netlist (codes "runs 2\n" ++ net) start header (Start (map assignment_to nodes_listed) ∷ []) h (start_reads netlist nodes_listed circuit nodes) in
-    let b = Reads-append netlist (codes "runs 2\n" ++ net ++ start) input (header ++ Start (map assignment_to nodes_listed) ∷ []) (Input (map assignment_to inputs_listed) ∷ []) a (input_reads netlist inputs_listed circuit inputs) in
+    let h = Reads-append (resolve_run_tokens netlist) (codes "runs 2\n") net (Header Two ∷ []) (Net (size_of netlist) ∷ []) (header_reads netlist) (net_reads netlist circuit) in
+    let a = Reads-append (resolve_run_tokens netlist) (codes "runs 2\n" ++ net) start header (Start (map assignment_to nodes_listed) ∷ []) h (start_reads netlist nodes_listed circuit nodes) in
+    let b = Reads-append (resolve_run_tokens netlist) (codes "runs 2\n" ++ net ++ start) input (header ++ Start (map assignment_to nodes_listed) ∷ []) (Input (map assignment_to inputs_listed) ∷ []) a (input_reads netlist inputs_listed circuit inputs) in
     let front = header ++ Start (map assignment_to nodes_listed) ∷ Input (map assignment_to inputs_listed) ∷ [] in
-    let c = Reads-append netlist (codes "runs 2\n" ++ net ++ start ++ input) runs front (flat_map run_statements value.runs) b (runs_read netlist value.runs circuit there) in
-    let d = Reads-append netlist (codes "runs 2\n" ++ net ++ start ++ input ++ runs) (codes "end\n") (front ++ flat_map run_statements value.runs) (End ∷ []) c (end_reads netlist) in
-    ap (meanings_of netlist) (sym (append-nil (run_text_printed netlist value))) ∙ d []
+    let c = Reads-append (resolve_run_tokens netlist) (codes "runs 2\n" ++ net ++ start ++ input) runs front (flat_map run_statements value.runs) b (runs_read netlist value.runs circuit there) in
+    Reads-append (resolve_run_tokens netlist) (codes "runs 2\n" ++ net ++ start ++ input ++ runs) (codes "end\n") (front ++ flat_map run_statements value.runs) (End ∷ []) c (end_reads netlist)

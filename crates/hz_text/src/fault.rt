@@ -13,8 +13,8 @@ pub enum TextFault {
     /// The line is no statement.
     #[error("form in line {line}")]
     Form { line: u32 },
-    /// A name that is assigned in the line is no node or, if only inputs may be assigned, no input; or a step in the line
-    /// names what is no variable.
+    /// A name that is assigned in the line is no node or, if only inputs may be assigned, no input or, if only gates may be,
+    /// no gate; or a step in the line names what is no variable.
     #[error("unknown in line {line}")]
     Unknown { line: u32 },
     /// A name is assigned twice in the line.
@@ -23,11 +23,11 @@ pub enum TextFault {
     /// The start has no value for this node, or the input line of a run text has none for this input.
     #[error("missing node {node}")]
     Missing { node: u32 },
-    /// A word that is assigned in the line is neither `0` nor `1`.
+    /// A word that is assigned in the line is neither `0` nor `1`; or a word of the pattern is not a bit for each input.
     #[error("bit in line {line}")]
     Bit { line: u32 },
-    /// The line breaks the order of statements. The line is 0 if the text has no statement, and if a run text in order
-    /// stops before its end.
+    /// The line breaks the order of statements. The line is 0 if a script or a run text has no statement, and if a run text in
+    /// order stops before its end.
     #[error("order in line {line}")]
     Order { line: u32 },
     /// The line passes a limit.

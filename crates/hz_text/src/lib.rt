@@ -1,5 +1,5 @@
-//! Scripts, which are a start and changes of the inputs of a circuit, and run texts, which are a start, an input and runs of
-//! a network: read from a text and printed.
+//! Scripts, which are a start and changes of the inputs of a circuit; patterns, which are pairs of inputs of a circuit; and
+//! run texts, which are a start, an input and runs of a network: read from a text and printed.
 //!
 //! | Module | What lives in it |
 //! |---|---|
@@ -7,20 +7,23 @@
 //! | `assignments` | assignments `name = word`, looked up in a circuit |
 //! | `bits` | the bits that assignments give to nodes |
 //! | `fault` | [`TextFault`]: why a text is refused |
-//! | `printing` | assignments, as scripts and run texts print them |
+//! | `printing` | assignments, as all texts print them |
 //! | `script` | [`Script`]: [`read_script`] and [`print_script`] |
+//! | `patterns` | [`Patterns`]: [`read_patterns`] and [`print_patterns`] |
 //! | `run` | [`RunText`]: [`read_run`] and [`print_run`] |
 #![tactic(auto)]
 
 mod assignments;
 mod bits;
 mod fault;
+mod patterns;
 mod printing;
 mod run;
 mod script;
 mod text;
 
 pub use fault::TextFault;
+pub use patterns::{MAX_PATTERNS, Patterns, print_patterns, read_patterns};
 pub use printing::{write_assignments, write_bits};
 pub use run::{
     RunText, print_run, printed_runs_are_read, read_run, write_end, write_run, write_run_text,

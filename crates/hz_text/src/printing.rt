@@ -13,7 +13,7 @@ use hz_write::Writer;
 // Gives a space, and the assignment of a bit to a node.
 fn write_assignment<K: Sink>(writer: &mut Writer<'_, K>, circuit: &Circuit, node: u32, bit: bool)
     requires { node < length circuit.now.names }
-    ensures { Writes K.written K.faults (assignment_text circuit.now (node, bit)) writer.old writer.new }
+    ensures { Writes K.output K.faults (assignment_text circuit.now (node, bit)) writer.old writer.new }
 {
     writer.text(b" ");
     writer.text(circuit.name(node));
@@ -34,7 +34,7 @@ pub fn write_assignments<K: Sink>(
     pairs: &[(u32, bool)],
 )
     requires { All (λ pair. pair.0 < length circuit.now.names) pairs.now }
-    ensures { Writes K.written K.faults (flat_map (assignment_text circuit.now) pairs.now) writer.old writer.new }
+    ensures { Writes K.output K.faults (flat_map (assignment_text circuit.now) pairs.now) writer.old writer.new }
 {
     for (node, bit) in pairs {
         write_assignment(writer, circuit, *node, *bit);
@@ -50,7 +50,9 @@ pub(crate) fn write_statement<K: Sink>(
     pairs: &[(u32, bool)],
 )
     requires { All (λ pair. pair.0 < length circuit.now.names) pairs.now }
-    ensures { Writes K.written K.faults (statement_text circuit.now keyword.now pairs.now) writer.old writer.new }
+    ensures gave { Writes K.output K.faults
+        (statement_text circuit.now keyword.now pairs.now) writer.old writer.new }
+    ensures none_waits { NoneWaits writer.new }
 {
     writer.text(keyword);
     write_assignments(writer, circuit, pairs);
@@ -65,7 +67,7 @@ pub(crate) fn write_listed<K: Sink>(
 )
     requires circuit { IsCircuit circuit.now }
     requires nodes { length start.now ≤ length circuit.now.names }
-    ensures { Writes K.written K.faults (flat_map (assignment_text circuit.now) (listed_from 0 start.now)) writer.old writer.new }
+    ensures { Writes K.output K.faults (flat_map (assignment_text circuit.now) (listed_from 0 start.now)) writer.old writer.new }
 {
     for node in 0..start.len() as u32 {
         if let Some(bit) = start[node as usize] {
@@ -78,7 +80,7 @@ pub(crate) fn write_listed<K: Sink>(
 fn write_all<K: Sink>(writer: &mut Writer<'_, K>, circuit: &Circuit, bits: &[bool])
     requires circuit { IsCircuit circuit.now }
     requires nodes { length bits.now ≤ length circuit.now.names }
-    ensures { Writes K.written K.faults (flat_map (assignment_text circuit.now) (all_listed bits.now)) writer.old writer.new }
+    ensures { Writes K.output K.faults (flat_map (assignment_text circuit.now) (all_listed bits.now)) writer.old writer.new }
 {
     for node in 0..bits.len() as u32 {
         write_assignment(writer, circuit, node, bits[node as usize]);
@@ -95,7 +97,7 @@ pub fn write_bits<K: Sink>(
 )
     requires circuit { IsCircuit circuit.now }
     requires nodes { length bits.now ≤ length circuit.now.names }
-    ensures gave { Writes K.written K.faults (statement_text circuit.now keyword.now (all_listed bits.now)) writer.old writer.new }
+    ensures gave { Writes K.output K.faults (statement_text circuit.now keyword.now (all_listed bits.now)) writer.old writer.new }
     ensures none_waits { NoneWaits writer.new }
 {
     writer.text(keyword);

@@ -5,6 +5,7 @@ use Rattle.std.proofs.lemmas.Bool.{cases_Bool, cases_lt}
 use Rattle.std.proofs.lemmas.List.{length-map, get_or_past}
 use Rattle.std.proofs.lemmas.List.Sums.{sum_by-cons}
 use Rattle.std.proofs.lemmas.Option.{slice_get_within, get_or_from_slice_get}
+use Rattle.hz_outside.specs.declared.fault.Place.TheVariants.{First, Second}
 use Rattle.hz_core.specs.declared.tri.Tri.{Tri}
 use Rattle.hz_core.specs.declared.tri.Tri.TheVariants.{Zero}
 use Rattle.hz_core.specs.Netlist.{Netlist, IsCircuit, IsWhole}
@@ -22,21 +23,26 @@ use Rattle.hz_text.specs.ScriptText.{IsValue}
 use Rattle.hz_text.specs.ScriptValue.{ScriptOf}
 use Rattle.hz_desk.specs.Finding.{FindingOf, values_a, values_b}
 use Rattle.hz_desk.specs.RightFinding.{IsRightFinding}
-use Rattle.hz_seq.specs.Sequence.{changed_input, IsSettledAt}
+use Rattle.hz_seq.specs.Sequence.{changed_input, IsSettledAt, IsFirstUnknown}
 use Rattle.hz_seq.specs.Analyses.{Analysis, Found, Stopped, AreAnalyses, all_stopped}
 use Rattle.hz_seq.proofs.Existence.{length-analyses}
 use Rattle.hz_seq.proofs.FirstAnalyses.{input-long}
 use Rattle.hz_seq.proofs.NextStart.{next-start}
-use Rattle.hz_report.specs.declared.show.Show.{Show}
+use Rattle.hz_line.specs.Line.{most_text_bytes}
+use Rattle.hz_options.specs.declared.options.Options.{Options}
 use Rattle.hz_words.specs.declared.job.Task.TheVariants.{Analyse}
-use Rattle.hz_words.specs.Job.{JobOf, OnFiles}
+use Rattle.hz_words.specs.Job.{JobOf}
 use Rattle.hz_top.specs.declared.status.Status.{Status}
 use Rattle.hz_top.specs.declared.status.Status.TheVariants as status
 use Rattle.hz_top.specs.Answer.{Answers, WroteWhole}
-use Rattle.hz_top.specs.Headline.{TakesBoth, IsExact, StartsAt, IsExactChange, IsExactReport, Headline}
-use Rattle.hz_top.specs.Outcome.{Observation, IsScriptOutcome, IsScriptTextOutcome, IsTaskOutcome, IsNetlistText, IsFilesOutcome, IsJobOutcome}
-use Rattle.hz_top.specs.Reports.{AnalysisReplays, IsReport}
-use Rattle.hz_top.proofs.FaultlessEndings.{told-bytes, ends-or-memory}
+use Rattle.hz_top.specs.Faultless.{AreGoodFiles}
+use Rattle.hz_top.specs.Headline.{TakesBoth, IsExact, StartsAt, IsExactChange, IsStoppedBy, IsExactReport, Headline}
+use Rattle.hz_top.specs.Netlists.{IsNetlistText, TextsAreCircuits}
+use Rattle.hz_top.specs.Outcome.{Observation, IsFilesOutcome, IsJobOutcome}
+use Rattle.hz_top.specs.Reports.{AnalysisReplays, IsReport, Reports}
+use Rattle.hz_top.specs.Second.{OfScript, Started}
+use Rattle.hz_top.specs.Tasks.{comes_of}
+use Rattle.hz_top.proofs.FaultlessEndings.{told-bytes, not-too-long, files-end, ends-or-memory}
 
 -- the first state of a run is one of its states
 contains-first : (steps : List (List ℕ)) (state : List Bool) → Contains (states_of state steps) state
@@ -135,22 +141,22 @@ starts-later start next finding analyses (suc number) from settled is = is
 
 module _ (netlist : Netlist) (cap : ℕ) (circuit : IsCircuit netlist) where
   -- of each change that is made the headline holds
-  pub each-exact : (changes : List (List (ℕ × Bool))) (start : List Bool) (analyses : List Analysis) → IsStableStart netlist start → AreAnalyses netlist cap start changes analyses → ((k : ℕ) (finding : FindingOf) → slice_get analyses k ≡ Some (Found finding) → AnalysisReplays netlist (Found finding)) → (number : ℕ) (change : List (ℕ × Bool)) (finding : FindingOf) → slice_get changes number ≡ Some change → slice_get analyses number ≡ Some (Found finding) → IsExactChange netlist start analyses number change finding
+  pub each-exact : (changes : List (List (ℕ × Bool))) (start : List Bool) (analyses : List Analysis) → IsStableStart netlist start → AreAnalyses netlist cap start changes analyses → ((k : ℕ) (finding : FindingOf) → slice_get analyses k ≡ Some (Found finding) → AnalysisReplays netlist (Found finding)) → (number : ℕ) (change : List (ℕ × Bool)) (finding : FindingOf) → slice_get changes number ≡ Some change → slice_get analyses number ≡ Some (Found finding) → IsExactChange netlist cap start analyses number change finding
   each-exact [] start analyses stable are replay number change finding at found = absurd cc
   each-exact (first ∷ changes) start [] stable are replay number change finding at found = absurd cc
   each-exact (first ∷ changes) start (Stopped var ∷ analyses) stable are replay number change finding at found = absurd are
   each-exact (first ∷ changes) start (Found other ∷ analyses) stable are replay zero change finding at found =
       let same_change : first ≡ change = cc in
       let same_finding : other ≡ finding = cc in
+      let right : IsRightFinding (network_of netlist) (changed_input (take netlist.inputs start) change) start cap finding =
+      subst (λ (f : FindingOf). IsRightFinding (network_of netlist) (changed_input (take netlist.inputs start) change) start cap f) same_finding
+      (subst (λ (c : List (ℕ × Bool)). IsRightFinding (network_of netlist) (changed_input (take netlist.inputs start) c) start cap other) same_change are.0) in
       record {
         from = start;
         starts = refl;
         stable = stable;
-        exact =
-            right-is-exact netlist (changed_input (take netlist.inputs start) change) start cap finding
-            (subst (λ (f : FindingOf). IsRightFinding (network_of netlist) (changed_input (take netlist.inputs start) change) start cap f) same_finding
-            (subst (λ (c : List (ℕ × Bool)). IsRightFinding (network_of netlist) (changed_input (take netlist.inputs start) c) start cap other) same_change are.0))
-            (replay zero finding found);
+        right = right;
+        exact = right-is-exact netlist (changed_input (take netlist.inputs start) change) start cap finding right (replay zero finding found);
       }
   each-exact (first ∷ changes) start (Found other ∷ analyses) stable are replay (suc number) change finding at found =
       elim are.1 [
@@ -162,6 +168,7 @@ module _ (netlist : Netlist) (cap : ℕ) (circuit : IsCircuit netlist) where
               from = rest.from;
               starts = starts-later start settled.0 other analyses number rest.from settled.1 rest.starts;
               stable = rest.stable;
+              right = rest.right;
               exact = rest.exact;
             }
             )
@@ -172,20 +179,52 @@ module _ (netlist : Netlist) (cap : ℕ) (circuit : IsCircuit netlist) where
             )
       ]
 
+-- changes that a variable stops are stopped by it
+stopped-by-one : (var : ℕ) (changes : List (List (ℕ × Bool))) (number other : ℕ) → slice_get (all_stopped var changes) number ≡ Some (Stopped other) → var ≡ other
+stopped-by-one var [] number other is = absurd cc
+stopped-by-one var (change ∷ changes) zero other is = cc
+stopped-by-one var (change ∷ changes) (suc number) other is = stopped-by-one var changes number other is
+
+-- why a change of the rest is stopped, it is stopped in the whole
+stopped-later : (first : Analysis) (analyses : List Analysis) (number var : ℕ) → IsStoppedBy analyses number var → IsStoppedBy (first ∷ analyses) (suc number) var
+stopped-later first analyses number var by =
+    record { before = suc by.before; earlier = omega (arith, by.earlier); finding = by.finding; made = by.made; unsettled = by.unsettled }
+
+-- each change that is stopped is so by a variable that an earlier change leaves unsettled
+pub each-stopped : (netlist : Netlist) (cap : ℕ) (changes : List (List (ℕ × Bool))) (start : List Bool) (analyses : List Analysis) → AreAnalyses netlist cap start changes analyses → (number var : ℕ) → slice_get analyses number ≡ Some (Stopped var) → IsStoppedBy analyses number var
+each-stopped netlist cap [] start [] are number var at = absurd cc
+each-stopped netlist cap [] start (analysis ∷ analyses) are number var at = absurd are
+each-stopped netlist cap (change ∷ changes) start [] are number var at = absurd are
+each-stopped netlist cap (change ∷ changes) start (Stopped other ∷ analyses) are number var at = absurd are
+each-stopped netlist cap (change ∷ changes) start (Found finding ∷ analyses) are zero var at = absurd cc
+each-stopped netlist cap (change ∷ changes) start (Found finding ∷ analyses) are (suc number) var at = elim are.1 [
+  | inl settled ↦ stopped-later (Found finding) analyses number var (each-stopped netlist cap changes settled.0 analyses settled.2 number var at)
+  | inr unsettled ↦ (
+      let same : unsettled.0 ≡ var =
+      stopped-by-one unsettled.0 changes number var (subst (λ (list : List Analysis). slice_get list number ≡ Some (Stopped var)) unsettled.2 at) in
+      record {
+        before = 0;
+        earlier = omega arith;
+        finding = finding;
+        made = refl;
+        unsettled = subst (IsFirstUnknown (values_b finding.rows)) same unsettled.1;
+      }
+      )
+]
+
 -- the run text of each change that is made replays
 replays-each : (netlist : Netlist) (analyses : List Analysis) → All (AnalysisReplays netlist) analyses → (k : ℕ) (finding : FindingOf) → slice_get analyses k ≡ Some (Found finding) → AnalysisReplays netlist (Found finding)
 replays-each netlist analyses replay k finding is =
     subst (AnalysisReplays netlist) (get_or_from_slice_get analyses k (Found finding) (Found finding) is)
     (replay k (Found finding) (slice_get_within analyses k (Found finding) is))
 
--- each text without a fault is that of a circuit
-abbrev pub TextsAreCircuits : Type 0
-TextsAreCircuits = (text : List ℕ) → IsFaultless text → IsCircuit (circuit_of_statements (statements_of text)) × IsWhole (circuit_of_statements (statements_of text))
+-- texts without a fault are those of whole circuits
+pub texts-are-circuits : ((text : List ℕ) → IsFaultless text → IsCircuit (circuit_of_statements (statements_of text)) × IsWhole (circuit_of_statements (statements_of text))) → TextsAreCircuits
+texts-are-circuits law name bytes netlist text = subst (λ (n : Netlist). IsCircuit n × IsWhole n) (sym text.1) (law bytes text.0)
 
 -- a report is exact
-report-exact : TextsAreCircuits → (cap : ℕ) (show : Show) (first second : List ℕ) (netlist : Netlist) (script : ScriptOf) (start : List Bool) (report : List ℕ) → IsNetlistText first netlist → IsValue netlist second script → IsAcceptedStart netlist script.start start → IsReport netlist cap show start script.changes report → IsExactReport show first second report
-report-exact circuits cap show first second netlist script start report text value accepted is =
-    let circuit : IsCircuit netlist = subst IsCircuit (sym text.1) (circuits first text.0).0 in
+report-exact : TextsAreCircuits → (options : Options) (name first second : List ℕ) (netlist : Netlist) (script : ScriptOf) (start : List Bool) (report : List ℕ) → IsNetlistText name first netlist → IsValue netlist second script → IsAcceptedStart netlist script.start start → IsReport options netlist start script.changes report → IsExactReport options name first second report
+report-exact circuits options name first second netlist script start report text value accepted is =
     record {
       netlist = netlist;
       is_netlist = text;
@@ -196,42 +235,46 @@ report-exact circuits cap show first second netlist script start report text val
       cycles = is.cycles;
       are_cycles = is.are_cycles;
       analyses = is.analyses;
-      one_each = length-analyses netlist cap script.changes start is.analyses is.are_analyses;
+      one_each = length-analyses netlist options.cap script.changes start is.analyses is.are_analyses;
       lines = is.lines;
       exact =
-          each-exact netlist cap circuit script.changes start is.analyses
+          each-exact netlist options.cap (circuits name first netlist text).0 script.changes start is.analyses
           (record { long = accepted.completed.long; stable = accepted.stable }) is.are_analyses
           (replays-each netlist is.analyses is.replay);
+      stopped = each-stopped netlist options.cap script.changes start is.analyses is.are_analyses;
     }
 
 -- what the second text comes to, if the job is done with it
-second-exact : TextsAreCircuits → (cap : ℕ) (show : Show) (first second : List ℕ) (netlist : Netlist) (report : List ℕ) → IsNetlistText first netlist → IsScriptTextOutcome (IsScriptOutcome cap show) netlist second status.Done report → IsExactReport show first second report
-second-exact circuits cap show first second netlist report text (inl (fault, least, says)) = absurd cc
-second-exact circuits cap show first second netlist report text (inr (value, faultless, is, inl (own_is, refused))) = absurd cc
-second-exact circuits cap show first second netlist report text (inr (value, faultless, is, inr (start, accepted, (done, report_is)))) =
-    report-exact circuits cap show first second netlist value start report text is accepted report_is
+second-exact : TextsAreCircuits → (options : Options) (name first second : List ℕ) (netlist : Netlist) (report : List ℕ) → IsNetlistText name first netlist → OfScript (Started (Reports options)) netlist second status.Done report → IsExactReport options name first second report
+second-exact circuits options name first second netlist report text (inl (fault, least, says)) = absurd cc
+second-exact circuits options name first second netlist report text (inr (value, faultless, is, inl (own_is, refused))) = absurd cc
+second-exact circuits options name first second netlist report text (inr (value, faultless, is, inr (start, accepted, (done, report_is)))) =
+    report-exact circuits options name first second netlist value start report text is accepted report_is
 
 -- what the files come to, if the job is done
-files-exact : TextsAreCircuits → (told : Observation) (bytes_of : List ℕ → List ℕ) (cap : ℕ) (show : Show) (first second report : List ℕ) → told.held ≡ Some bytes_of → IsFilesOutcome told (IsTaskOutcome (Analyse cap show)) first second status.Done report → IsExactReport show (bytes_of first) (bytes_of second) report
-files-exact circuits told bytes_of cap show first second report is_told (inl (stay, inl (rose, says))) = absurd cc
-files-exact circuits told bytes_of cap show first second report is_told (inl (stay, inr (rose, over, says))) = absurd cc
-files-exact circuits told bytes_of cap show first second report is_told (inr (bytes, (is, short), inl (line, refused, stay, says))) = absurd cc
-files-exact circuits told bytes_of cap show first second report is_told (inr (bytes, (is, short), inr (netlist, text, inl (inl (rose, says))))) = absurd cc
-files-exact circuits told bytes_of cap show first second report is_told (inr (bytes, (is, short), inr (netlist, text, inl (inr (rose, over, says))))) = absurd cc
-files-exact circuits told bytes_of cap show first second report is_told (inr (bytes, (is, short), inr (netlist, text, inr (more, (is_more, short_too), comes)))) =
-    second-exact circuits cap show (bytes_of first) (bytes_of second) netlist report
-    (subst (λ (b : List ℕ). IsNetlistText b netlist) (told-bytes told bytes_of first bytes is_told is) text)
-    (subst (λ (b : List ℕ). IsScriptTextOutcome (IsScriptOutcome cap show) netlist b status.Done report) (told-bytes told bytes_of second more is_told is_more) comes)
+files-exact : TextsAreCircuits → (told : Observation) (bytes_of : List ℕ → List ℕ) (options : Options) (first second report : List ℕ) → told.held ≡ Some bytes_of → IsFilesOutcome told (comes_of options Analyse) first second status.Done report → IsExactReport options first (bytes_of first) (bytes_of second) report
+files-exact circuits told bytes_of options first second report is_told (inl (stay, inl (rose, says))) = absurd cc
+files-exact circuits told bytes_of options first second report is_told (inl (stay, inr (rose, over, says))) = absurd cc
+files-exact circuits told bytes_of options first second report is_told (inr (bytes, (is, short), inl (line, refused, stay, says))) = absurd cc
+files-exact circuits told bytes_of options first second report is_told (inr (bytes, (is, short), inr (netlist, text, inl (inl (rose, says))))) = absurd cc
+files-exact circuits told bytes_of options first second report is_told (inr (bytes, (is, short), inr (netlist, text, inl (inr (rose, over, says))))) = absurd cc
+files-exact circuits told bytes_of options first second report is_told (inr (bytes, (is, short), inr (netlist, text, inr (more, (is_more, short_too), comes)))) =
+    second-exact circuits options first (bytes_of first) (bytes_of second) netlist report
+    (subst (λ (b : List ℕ). IsNetlistText first b netlist) (told-bytes told bytes_of first bytes is_told is) text)
+    (subst (λ (b : List ℕ). OfScript (Started (Reports options)) netlist b status.Done report) (told-bytes told bytes_of second more is_told is_more) comes)
 
 -- the headline
 pub headline : {S : Type 0} (written : S → Option (List ℕ)) (faults : S → ℕ) (told : Observation) (asked : Option JobOf) (was now : S) (ends : Status) → TextsAreCircuits → Answers written faults (IsJobOutcome told asked) was now ends → Headline written faults told asked was now ends
-headline written faults told asked was now ends circuits answers cap show first second is good quiet enough =
-    elim (ends-or-memory written faults told asked was now ends answers (OnFiles (Analyse cap show) first second) status.Done is good quiet) [
+headline written faults told asked was now ends circuits answers options first second is good short short_too quiet enough =
+    let files : (own : Status) (said : List ℕ) → IsJobOutcome told asked own said → IsFilesOutcome told (comes_of options Analyse) first second own said =
+    λ own said comes. subst (λ (job : Option JobOf). IsJobOutcome told job own said) is comes in
+    let only : (own : Status) (said : List ℕ) → IsJobOutcome told asked own said → own ≡ status.Done =
+    λ own said comes. files-end told options Analyse first second status.Done good
+    (not-too-long told good.bytes_of First first good.is_told short) (not-too-long told good.bytes_of Second second good.is_told short_too) own said (files own said comes) in
+    elim (ends-or-memory written faults (IsJobOutcome told asked) was now ends answers status.Done only quiet) [
       | inl done ↦ (
           let whole : WroteWhole written (IsJobOutcome told asked) was now status.Done = subst (Answers written faults (IsJobOutcome told asked) was now) done answers in
-          let comes : IsFilesOutcome told (IsTaskOutcome (Analyse cap show)) first second status.Done whole.0 =
-          subst (λ (job : Option JobOf). IsJobOutcome told job status.Done whole.0) is whole.1 in
-          (done, (whole.0, whole.2, files-exact circuits told good.bytes_of cap show first second whole.0 good.is_told comes))
+          (done, (whole.0, whole.2, files-exact circuits told good.bytes_of options first second whole.0 good.is_told (files status.Done whole.0 whole.1)))
           )
       | inr out ↦ absurd (enough out)
     ]

@@ -24,7 +24,8 @@ use Rattle.hz_text.specs.Fault.{IsLeastFaultOf, IsLeastFaultOrMemory}
 use Rattle.hz_top.specs.declared.status.Status.{Status}
 use Rattle.hz_top.specs.declared.status.Status.TheVariants as status
 use Rattle.hz_line.specs.Line.{most_text_bytes}
-use Rattle.hz_top.specs.Outcome.{StartRefused, FileRefused, Observation, observation_of, IsSecondFileOutcome}
+use Rattle.hz_top.specs.Outcome.{FileRefused, Observation, observation_of, IsSecondFileOutcome}
+use Rattle.hz_top.specs.Second.{StartRefused}
 use Rattle.hz_top.specs.Refusal.{unread_line, long_line}
 use Rattle.hz_top.specs.Inside.{LoadPrints, StartPrints}
 

@@ -1,4 +1,5 @@
 pub mod PutEndings
+pub mod Flushed
 pub mod JobOutcomes
 pub mod ReplayerStepLemmas
 pub mod RunSteps
@@ -7,6 +8,7 @@ pub mod NamedNodes
 pub mod NamedVariables
 pub mod ReplayDecided
 pub mod ReplayCounts
+pub mod TextEnds
 pub mod FaultlessEndings
 pub mod Writable
 pub mod ReportLines

@@ -2,7 +2,7 @@
 use Rattle.std.proofs.Common.{◌≡◌, ◌∙◌, ℕ, suc, ◌+◌, Bool, List, [], ◌∷◌, ◌++◌, length, sym, ap, append_assoc, append-nil, arith}
 use Rattle.hz_core.specs.Netlist.{Netlist}
 use Rattle.hz_seq.specs.Analyses.{Analysis}
-use Rattle.hz_report.specs.declared.show.Show.{Show}
+use Rattle.hz_options.specs.declared.show.Show.{Show}
 use Rattle.hz_top.specs.Reports.{analysis_text, analyses_text}
 
 -- they come behind those of the analyses before it

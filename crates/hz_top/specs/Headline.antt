@@ -15,16 +15,19 @@ use Rattle.hz_free.specs.Feedback.{AreFeedbackCycles}
 use Rattle.hz_text.specs.ScriptText.{IsValue}
 use Rattle.hz_text.specs.ScriptValue.{ScriptOf}
 use Rattle.hz_desk.specs.Finding.{FindingOf, values_a, values_b}
-use Rattle.hz_seq.specs.Sequence.{changed_input, IsSettledAt}
-use Rattle.hz_seq.specs.Analyses.{Analysis, Found}
-use Rattle.hz_report.specs.declared.show.Show.{Show}
+use Rattle.hz_desk.specs.RightFinding.{IsRightFinding}
+use Rattle.hz_seq.specs.Sequence.{changed_input, IsSettledAt, IsFirstUnknown}
+use Rattle.hz_seq.specs.Analyses.{Analysis, Found, Stopped}
+use Rattle.hz_options.specs.declared.options.Options.{Options}
 use Rattle.hz_report.specs.Report.{head_text}
 use Rattle.hz_words.specs.declared.job.Task.TheVariants.{Analyse}
 use Rattle.hz_words.specs.Job.{JobOf, OnFiles}
 use Rattle.hz_top.specs.declared.status.Status.{Status}
 use Rattle.hz_top.specs.declared.status.Status.TheVariants.{Done, Memory}
-use Rattle.hz_top.specs.Faultless.{AreFaultlessFiles}
-use Rattle.hz_top.specs.Outcome.{Observation, IsNetlistText}
+use Rattle.hz_line.specs.Line.{most_text_bytes}
+use Rattle.hz_top.specs.Faultless.{AreGoodFiles}
+use Rattle.hz_top.specs.Netlists.{IsNetlistText}
+use Rattle.hz_top.specs.Outcome.{Observation}
 use Rattle.hz_top.specs.Reports.{AnalysisReplays, analyses_text}
 
 -- variable i takes both values in states
@@ -60,18 +63,29 @@ StartsAt start analyses zero from = from ≡ start
 StartsAt start analyses (suc before) from =
     (finding : FindingOf) × (slice_get analyses before ≡ Some (Found finding)) × IsSettledAt (values_b finding.rows) from
 
--- a change that was made starts at a stable state, and the headline holds of it
-pub record IsExactChange (netlist : Netlist) (start : List Bool) (analyses : List Analysis) (number : ℕ) (change : List (ℕ × Bool)) (finding : FindingOf) : Type 0 where
+-- A change that was made starts at a stable state, what is found of it is right with numbers of changes up to the cap, and the
+-- headline holds of it.
+pub record IsExactChange (netlist : Netlist) (cap : ℕ) (start : List Bool) (analyses : List Analysis) (number : ℕ) (change : List (ℕ × Bool)) (finding : FindingOf) : Type 0 where
   pub from : List Bool
   pub starts : StartsAt start analyses number from
   pub stable : IsStableStart netlist from
+  pub right : IsRightFinding (network_of netlist) (changed_input (take netlist.inputs from) change) from cap finding
   pub exact : IsExact netlist (changed_input (take netlist.inputs from) change) from finding
 
--- The report on the texts of a netlist and a script: its lines are those of the circuit, of the start and of what each change comes
--- to, and of each change that is made the headline holds.
-pub record IsExactReport (show : Show) (netlist_text script_text report : List ℕ) : Type 0 where
+-- A change is stopped by the first variable that is X in the B of an earlier change, which was made. So the first change is
+-- never stopped.
+pub record IsStoppedBy (analyses : List Analysis) (number var : ℕ) : Type 0 where
+  pub before : ℕ
+  pub earlier : before < number
+  pub finding : FindingOf
+  pub made : slice_get analyses before ≡ Some (Found finding)
+  pub unsettled : IsFirstUnknown (values_b finding.rows) var
+
+-- The report on the text of a netlist, whose file has this name, and on that of a script: its lines are those of the circuit, of the
+-- start and of what each change comes to. Of each change that is made the headline holds, and no change is stopped without a cause.
+pub record IsExactReport (options : Options) (netlist_name netlist_text script_text report : List ℕ) : Type 0 where
   pub netlist : Netlist
-  pub is_netlist : IsNetlistText netlist_text netlist
+  pub is_netlist : IsNetlistText netlist_name netlist_text netlist
   pub script : ScriptOf
   pub is_script : IsValue netlist script_text script
   pub start : List Bool
@@ -80,16 +94,19 @@ pub record IsExactReport (show : Show) (netlist_text script_text report : List �
   pub are_cycles : AreFeedbackCycles (network_of netlist) cycles
   pub analyses : List Analysis
   pub one_each : length analyses ≡ length script.changes
-  pub lines : report ≡ head_text netlist cycles start ++ analyses_text netlist show 1 script.changes analyses
+  pub lines : report ≡ head_text netlist cycles start ++ analyses_text netlist options.show 1 script.changes analyses
   pub exact :
       (number : ℕ) (change : List (ℕ × Bool)) (finding : FindingOf) → slice_get script.changes number ≡ Some change
-      → slice_get analyses number ≡ Some (Found finding) → IsExactChange netlist start analyses number change finding
+      → slice_get analyses number ≡ Some (Found finding) → IsExactChange netlist options.cap start analyses number change finding
+  pub stopped : (number var : ℕ) → slice_get analyses number ≡ Some (Stopped var) → IsStoppedBy analyses number var
 
--- The headline of a call that is asked to analyse: if the netlist is accepted, the script has no fault and its start is stable, no
--- load and no put fails and memory suffices, the call is done, and the text that it wrote is such a report.
+-- The headline of a call that is asked to analyse: if both texts have at most 16,777,216 bytes, the netlist is accepted, the script
+-- has no fault and its start is stable, no load and no put fails and memory suffices, the call is done, and the text that it wrote is
+-- such a report.
 abbrev pub Headline : {S : Type 0} → (S → Option (List ℕ)) → (S → ℕ) → Observation → Option JobOf → S → S → Status → Type 0
 Headline written faults told asked was now result =
-    (cap : ℕ) (show : Show) (first second : List ℕ) → asked ≡ Some (OnFiles (Analyse cap show) first second)
-    → (good : AreFaultlessFiles told (Analyse cap show) first second Done) → ¬ Rose (faults was) (faults now) → result ≢ Memory
+    (options : Options) (first second : List ℕ) → asked ≡ Some (OnFiles Analyse options first second)
+    → (good : AreGoodFiles told Analyse first second Done) → length (good.bytes_of first) ≤ most_text_bytes
+    → length (good.bytes_of second) ≤ most_text_bytes → ¬ Rose (faults was) (faults now) → result ≢ Memory
     → (result ≡ Done) × ((report : List ℕ) × (written now ≡ extended_text (written was) report)
-    × IsExactReport show (good.bytes_of first) (good.bytes_of second) report)
+    × IsExactReport options first (good.bytes_of first) (good.bytes_of second) report)

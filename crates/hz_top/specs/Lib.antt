@@ -6,32 +6,40 @@
 -- Observation: what the files show: the bytes under each name, and what was counted
 -- IsJobOutcome told job status text: the outcomes of a job: which text comes with which status
 -- IsFilesOutcome, IsFirstTextOutcome, IsSecondFileOutcome: the outcomes of its two files, one after the other
--- IsTaskOutcome task netlist text status line: the outcomes of the second text
+-- NetlistRefused name bytes line, IsNetlistText name bytes netlist: the first text
+-- comes_of options task netlist text status line: the outcomes of the second text, by the task
+-- IsTextOutcome called holds stands_for judge: its least fault, or what a judge says of its value
+-- OfScript judge, OfRuns judge: the same of a script and of a run text
+-- Started judge netlist script status text: the start is refused, or the judge goes on from it
 -- netlist_fault_line fault, text_fault_line name netlist fault: the lines of refusals
--- IsScriptOutcome cap show netlist script status text: the outcomes of a script
--- IsReport netlist cap show start changes text: the report of its changes: every finding in it is right
+-- IsReport options netlist start changes text: the report of its changes: every finding in it is right
 -- analysis_text netlist show number change analysis: the lines of one change
 -- IsDemoOutcome number cap status text: the outcomes of a demo
--- IsRunTextOutcome judge netlist text status line: the outcomes of a run text
 -- IsReplayOutcome netlist runs status line: the verdict on it
 -- IsAcceptedRun net input start run: the lead is a run, and the cycle a nontransient cycle
 -- IsFirstRefusal net input start runs number refused: the first run that is refused, and why
 -- accepted_line runs, no_line netlist number refused: the lines of the verdict
 -- IsConvertOutcome netlist runs status text: the conversion
+-- good_of task netlist text status: nothing is to be refused of the second text, and the task ends with this status
 -- IsFaultlessJob told job status: nothing is to be refused in the job, which ends with this status
 -- Headline written faults told asked was now status: the headline of a call
--- IsExactReport show netlist_text script_text report: the headline of a report
+-- IsExactReport options netlist_name netlist_text script_text report: the headline of a report
+-- IsStoppedBy analyses number var: why a change is stopped
 -- IsExact netlist input start finding: the headline of one change
 -- MakesSteps was now steps: what the code's replay does in terms of a replayer's state
 
 pub mod Ending
 pub mod Answer
+pub mod Ends
 pub mod Refusal
 pub mod Replaying
 pub mod ReplayerSteps
 pub mod Verdict
+pub mod Netlists
+pub mod Second
 pub mod RunTexts
 pub mod Reports
+pub mod Tasks
 pub mod Outcome
 pub mod Faultless
 pub mod Headline

@@ -1,46 +1,22 @@
 -- What a job comes to, in the order of work: the status and the text that is written.
-use Rattle.std.specs.Prelude.{◌≡◌, ℕ, ◌<◌, ◌≤◌, ◌⊎◌, Bool, List, [], ◌∷◌, length, codes, Option, Some, None, IfSome}
+use Rattle.std.specs.Prelude.{◌≡◌, ℕ, ◌<◌, ◌≤◌, ◌⊎◌, Bool, List, [], ◌∷◌, length, Option, Some, None, IfSome}
 use Rattle.hz_outside.specs.Counts.{Rose}
 use Rattle.hz_outside.specs.declared.fault.Place.{Place}
 use Rattle.hz_outside.specs.declared.fault.Place.TheVariants.{First, Second}
 use Rattle.hz_core.specs.Netlist.{Netlist}
-use Rattle.hz_net.specs.Starts.{IsAcceptedStart, IsLeastOpen, IsLeastUnstable}
-use Rattle.hz_bench.specs.declared.fault.BenchFault.{BenchFault}
-use Rattle.hz_bench.specs.Fault.{IsLeastFault, IsFaultless}
-use Rattle.hz_bench.specs.Netlist.{circuit_of_statements}
-use Rattle.hz_bench.specs.Text.{statements_of}
-use Rattle.hz_text.specs.declared.fault.TextFault.{TextFault}
-use Rattle.hz_text.specs.ScriptFault as script
-use Rattle.hz_text.specs.ScriptText.{IsValue}
-use Rattle.hz_text.specs.ScriptValue.{ScriptOf}
+use Rattle.hz_net.specs.Starts.{IsAcceptedStart}
 use Rattle.hz_top.specs.declared.status.Status.{Status}
 use Rattle.hz_top.specs.declared.status.Status.TheVariants as status
 use Rattle.hz_top.specs.Answer.{Prints}
-use Rattle.hz_top.specs.Reports.{Reports}
-use Rattle.hz_top.specs.Verdict.{IsReplayOutcome}
-use Rattle.hz_top.specs.RunTexts.{IsRunTextOutcome, IsConvertOutcome}
+use Rattle.hz_top.specs.Netlists.{NetlistRefused, IsNetlistText}
+use Rattle.hz_top.specs.Tasks.{comes_of}
 use Rattle.hz_seq.specs.Analyses.{Found, AreAnalyses}
 use Rattle.hz_desk.specs.Finding.{FindingOf}
 use Rattle.hz_gen.specs.Demo.{demo_netlist, demo_script}
-use Rattle.hz_report.specs.declared.show.Show.{Show}
 use Rattle.hz_report.specs.Report.{summary_text}
-use Rattle.hz_words.specs.declared.job.Task.{Task}
-use Rattle.hz_words.specs.declared.job.Task.TheVariants.{Analyse, Replay, Convert}
 use Rattle.hz_words.specs.Job.{JobOf, OnFiles, Demo}
-use Rattle.hz_top.specs.Refusal.{words_line, unread_line, long_line, netlist_fault_line, text_fault_line, open_line, unstable_line}
+use Rattle.hz_top.specs.Refusal.{words_line, unread_line, long_line}
 use Rattle.hz_line.specs.Line.{most_text_bytes}
-
--- the start of a script is refused
-abbrev pub StartRefused : Netlist → List (Option Bool) → List ℕ → Type 0
-StartRefused netlist listed text =
-    ((gate : ℕ) × IsLeastOpen netlist listed gate × (text ≡ open_line netlist gate))
-    ⊎ ((gate : ℕ) × IsLeastUnstable netlist listed gate × (text ≡ unstable_line netlist gate))
-
--- what a script without a fault comes to
-abbrev pub IsScriptOutcome : ℕ → Show → Netlist → ScriptOf → Status → List ℕ → Type 0
-IsScriptOutcome cap show netlist script own text =
-    ((own ≡ status.Start) × StartRefused netlist script.start text)
-    ⊎ ((start : List Bool) × IsAcceptedStart netlist script.start start × Reports netlist cap show start script.changes own text)
 
 -- the text is the summary of the one change of a script from a start
 abbrev pub Summarises : Netlist → ℕ → List Bool → List (List (ℕ × Bool)) → List ℕ → Type 0
@@ -56,26 +32,6 @@ abbrev pub IsDemoOutcome : ℕ → ℕ → Status → List ℕ → Type 0
 IsDemoOutcome number cap own text =
     (start : List Bool) × IsAcceptedStart (demo_netlist number) (demo_script number).start start
     × IsSummaryOutcome (demo_netlist number) cap start (demo_script number).changes own text
-
--- what the text of a script comes to, on a circuit, if the judge says what a script comes to
-abbrev pub IsScriptTextOutcome : (judge : Netlist → ScriptOf → Status → List ℕ → Type 0) → Netlist → List ℕ → Status → List ℕ → Type 0
-IsScriptTextOutcome judge netlist bytes own text =
-    ((fault : TextFault) × script.IsLeastScriptFault netlist bytes fault × Prints status.Text (text_fault_line (codes "script") netlist fault) own text)
-    ⊎ ((value : ScriptOf) × script.IsScriptFaultless netlist bytes × IsValue netlist bytes value × judge netlist value own text)
-
--- what the second text comes to, by the task
-abbrev pub IsTaskOutcome : Task → Netlist → List ℕ → Status → List ℕ → Type 0
-IsTaskOutcome (Analyse cap show) = IsScriptTextOutcome (IsScriptOutcome cap show)
-IsTaskOutcome Replay = IsRunTextOutcome IsReplayOutcome
-IsTaskOutcome Convert = IsRunTextOutcome IsConvertOutcome
-
--- the first text is refused with this line
-abbrev pub NetlistRefused : List ℕ → List ℕ → Type 0
-NetlistRefused bytes line = (fault : BenchFault) × IsLeastFault bytes fault × (line ≡ netlist_fault_line fault)
-
--- the first text is that of this circuit
-abbrev pub IsNetlistText : List ℕ → Netlist → Type 0
-IsNetlistText bytes netlist = IsFaultless bytes × (netlist ≡ circuit_of_statements (statements_of bytes))
 
 -- what files tell and count: the bytes under each name where they are told, and the counts of loads that failed and of
 -- files that were too long, before the call and after it
@@ -113,26 +69,26 @@ IsSecondFileOutcome told comes name own text =
     ⊎ ((bytes : List ℕ) × IsFileContents told name bytes × comes bytes own text)
 
 -- what the first text comes to, and then the second file, which is not asked for if the first text is refused
-abbrev pub IsFirstTextOutcome : Observation → (Netlist → List ℕ → Status → List ℕ → Type 0) → List ℕ → List ℕ → Status → List ℕ → Type 0
-IsFirstTextOutcome told comes bytes second own text =
-    ((line : List ℕ) × NetlistRefused bytes line × CountsStay told Second × Prints status.Netlist line own text)
-    ⊎ ((netlist : Netlist) × IsNetlistText bytes netlist × IsSecondFileOutcome told (comes netlist) second own text)
+abbrev pub IsFirstTextOutcome : Observation → (Netlist → List ℕ → Status → List ℕ → Type 0) → (first bytes second : List ℕ) → Status → List ℕ → Type 0
+IsFirstTextOutcome told comes first bytes second own text =
+    ((line : List ℕ) × NetlistRefused first bytes line × CountsStay told Second × Prints status.Netlist line own text)
+    ⊎ ((netlist : Netlist) × IsNetlistText first bytes netlist × IsSecondFileOutcome told (comes netlist) second own text)
 
 -- what the two files come to: the second is not asked for if the first is not read
 abbrev pub IsFilesOutcome : Observation → (Netlist → List ℕ → Status → List ℕ → Type 0) → List ℕ → List ℕ → Status → List ℕ → Type 0
 IsFilesOutcome told comes first second own text =
     (CountsStay told Second × FileRefused told First first own text)
-    ⊎ ((bytes : List ℕ) × IsFileContents told first bytes × IsFirstTextOutcome told comes bytes second own text)
+    ⊎ ((bytes : List ℕ) × IsFileContents told first bytes × IsFirstTextOutcome told comes first bytes second own text)
 
 -- What a job comes to. Without a job the words are refused. No file is loaded for them, nor for a demo.
 abbrev pub IsJobOutcome : Observation → Option JobOf → Status → List ℕ → Type 0
 IsJobOutcome told None own text =
     ((place : Place) → CountsStay told place) × Prints status.Words words_line own text
-IsJobOutcome told (Some (OnFiles task first second)) own text = IsFilesOutcome told (IsTaskOutcome task) first second own text
-IsJobOutcome told (Some (Demo number cap)) own text = ((place : Place) → CountsStay told place) × IsDemoOutcome number cap own text
+IsJobOutcome told (Some (OnFiles task options first second)) own text = IsFilesOutcome told (comes_of options task) first second own text
+IsJobOutcome told (Some (Demo number options)) own text = ((place : Place) → CountsStay told place) × IsDemoOutcome number options.cap own text
 
 -- the loads that a job may make: each of its two files at its place, with the limit
 abbrev pub MayLoad : (Place → List ℕ → ℕ → Type 0) → Option JobOf → Type 0
 MayLoad granted None = Unit {0}
-MayLoad granted (Some (OnFiles task first second)) = granted First first most_text_bytes × granted Second second most_text_bytes
-MayLoad granted (Some (Demo number cap)) = Unit {0}
+MayLoad granted (Some (OnFiles task options first second)) = granted First first most_text_bytes × granted Second second most_text_bytes
+MayLoad granted (Some (Demo number options)) = Unit {0}

@@ -5,7 +5,8 @@ use Rattle.hz_net.specs.Network.{network_of}
 use Rattle.hz_free.specs.Feedback.{AreFeedbackCycles}
 use Rattle.hz_text.specs.RunPrinted.{run_text_printed}
 use Rattle.hz_seq.specs.Analyses.{Analysis, Found, Stopped, AreAnalyses}
-use Rattle.hz_report.specs.declared.show.Show.{Show}
+use Rattle.hz_options.specs.declared.options.Options.{Options}
+use Rattle.hz_options.specs.declared.show.Show.{Show}
 use Rattle.hz_report.specs.Report.{head_text, change_text, stopped_text, runs_of_finding}
 use Rattle.hz_top.specs.declared.status.Status.{Status}
 use Rattle.hz_top.specs.declared.status.Status.TheVariants as status
@@ -31,14 +32,14 @@ AnalysisReplays netlist (Stopped var) = Unit {0}
 
 -- The report of changes from a start: the size of the network, its feedback cycles and the start, and what each change
 -- comes to. Each finding in it is right, and its run text replays.
-pub record IsReport (netlist : Netlist) (cap : ℕ) (show : Show) (start : List Bool) (changes : List (List (ℕ × Bool))) (text : List ℕ) : Type 0 where
+pub record IsReport (options : Options) (netlist : Netlist) (start : List Bool) (changes : List (List (ℕ × Bool))) (text : List ℕ) : Type 0 where
   pub cycles : List (List ℕ)
   pub are_cycles : AreFeedbackCycles (network_of netlist) cycles
   pub analyses : List Analysis
-  pub are_analyses : AreAnalyses netlist cap start changes analyses
+  pub are_analyses : AreAnalyses netlist options.cap start changes analyses
   pub replay : All (AnalysisReplays netlist) analyses
-  pub lines : text ≡ head_text netlist cycles start ++ analyses_text netlist show 1 changes analyses
+  pub lines : text ≡ head_text netlist cycles start ++ analyses_text netlist options.show 1 changes analyses
 
 -- the job is done with this text
-abbrev pub Reports : Netlist → ℕ → Show → List Bool → List (List (ℕ × Bool)) → Status → List ℕ → Type 0
-Reports netlist cap show start changes own text = (own ≡ status.Done) × IsReport netlist cap show start changes text
+abbrev pub Reports : Options → Netlist → List Bool → List (List (ℕ × Bool)) → Status → List ℕ → Type 0
+Reports options netlist start changes own text = (own ≡ status.Done) × IsReport options netlist start changes text

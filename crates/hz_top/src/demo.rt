@@ -2,13 +2,12 @@
 ghost use Rattle.std.specs.Prelude.{◌≡◌, length};
 ghost use Rattle.hz_core.specs.Netlist.{IsCircuit};
 ghost use Rattle.hz_net.specs.Starts.{IsStableStart};
-ghost use Rattle.hz_gen.specs.Demo.{IsDemoNumber};
+ghost use Rattle.hz_options.specs.Numbers.{IsCap, IsDemoNumber};
 ghost use Rattle.hz_desk.specs.Finding.{finding_of};
 ghost use Rattle.hz_report.specs.Report.{summary_text};
 ghost use Rattle.hz_text.specs.ScriptText.{IsScriptFor};
-ghost use Rattle.hz_words.specs.Values.{IsCap};
 ghost use Rattle.hz_write.specs.Writes.{Wrote};
-ghost use Rattle.hz_top.specs.Answer.{Answers};
+ghost use Rattle.hz_top.specs.Ends.{Ends};
 ghost use Rattle.hz_top.specs.Outcome.{IsDemoOutcome, IsSummaryOutcome};
 
 use crate::refusal::refuse_start;
@@ -28,7 +27,7 @@ use std::alloc::Global;
 pub(crate) fn demo<K: Sink>(alloc: Global, number: u32, cap: u64, out: &mut K) -> Status
     requires number { IsDemoNumber number }
     requires cap { IsCap cap }
-    ensures { Answers K.written K.faults (IsDemoOutcome number cap) out.old out.new result }
+    ensures { Ends K.output K.faults (IsDemoOutcome number cap) out.old out.new result }
 {
     // The law says that no start is refused.
     demo_starts();
@@ -58,7 +57,7 @@ fn summarise<K: Sink>(
     requires one { length script.now.changes ≡ 1 }
     requires start { IsStableStart net.now start.now }
     requires cap { IsCap cap }
-    ensures { Answers K.written K.faults (IsSummaryOutcome net.now cap start.now script.now.changes) out.old out.new result }
+    ensures { Ends K.output K.faults (IsSummaryOutcome net.now cap start.now script.now.changes) out.old out.new result }
 {
     let Ok(desk) = Desk::new(alloc, net) else {
         return Status::Memory;
@@ -75,7 +74,7 @@ fn summarise<K: Sink>(
 
 // Writes the summary of a change.
 fn put_summary<K: Sink>(out: &mut K, net: &Net, finding: &Finding) -> Result<(), PutFault>
-    ensures { Wrote K.written K.faults (summary_text net.now (finding_of finding.now)) out.old out.new result }
+    ensures { Wrote K.output K.faults (summary_text net.now (finding_of finding.now)) out.old out.new result }
 {
     let mut writer = Writer::new(out);
     write_summary(&mut writer, net, finding);

@@ -5,7 +5,8 @@
 //! | `status` | how a call of the program ends |
 //! | `order` | the order of work: two files, and then what the task does with the second text |
 //! | `refusal` | refusals: their lines and their statuses |
-//! | `analysis` | the job `analyse`: the text of a script, and its start |
+//! | `second` | the second text: what every job does with a script, and with a run text |
+//! | `analysis` | the job `analyse`: the start of a script |
 //! | `reporting` | the report of a script's changes |
 //! | `demo` | the job `demo`: the circuit of a number |
 //! | `reading_back` | a law on the runs that are printed: they replay |
@@ -24,6 +25,7 @@ mod refusal;
 mod replaying;
 mod reporting;
 mod running;
+mod second;
 mod status;
 #[cfg(test)]
 mod tests;

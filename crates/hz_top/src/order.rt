@@ -1,18 +1,21 @@
 //! The order of work on two files: the first file, its netlist, the second file, and then what the task does with its text.
 ghost use Rattle.std.specs.Prelude.{◌≤◌, length};
 ghost use Rattle.hz_outside.specs.declared.fault.Place.TheVariants.{First, Second};
-ghost use Rattle.hz_words.specs.Job.{HasCap};
-ghost use Rattle.hz_top.specs.Answer.{Answers};
+ghost use Rattle.hz_options.specs.Numbers.{IsCap};
+ghost use Rattle.hz_top.specs.Ends.{Ends};
 ghost use Rattle.hz_line.specs.Line.{most_text_bytes};
-ghost use Rattle.hz_top.specs.Outcome.{observation_of, IsTaskOutcome, IsFilesOutcome, IsSecondFileOutcome};
+ghost use Rattle.hz_top.specs.Outcome.{observation_of, IsFilesOutcome, IsSecondFileOutcome};
+ghost use Rattle.hz_top.specs.Tasks.{comes_of};
 
-use crate::analysis::analyse_text;
-use crate::converting::convert_text;
+use crate::analysis::Analyses;
+use crate::converting::Converts;
 use crate::refusal::{refuse_load, refuse_netlist};
-use crate::replaying::replay_text;
+use crate::replaying::Replays;
+use crate::second::{on_runs, on_script};
 use crate::status::Status;
 use hz_line::MAX_TEXT;
 use hz_net::Net;
+use hz_options::Options;
 use hz_outside::{Files, Place, Sink};
 use hz_words::Task;
 use std::alloc::Global;
@@ -21,16 +24,17 @@ use std::alloc::Global;
 pub(crate) fn work_on_files<F: Files, K: Sink>(
     alloc: Global,
     task: Task,
+    options: Options,
     first: &str,
     second: &str,
     files: &mut F,
     out: &mut K,
 ) -> Status
-    requires cap { HasCap task }
+    requires cap { IsCap options.cap }
     requires first { F.granted files.old First first.now most_text_bytes }
     requires second { F.granted files.old Second second.now most_text_bytes }
-    ensures { Answers K.written K.faults
-        (IsFilesOutcome (observation_of F.held F.faults F.longs files.old files.new) (IsTaskOutcome task) first.now second.now)
+    ensures { Ends K.output K.faults
+        (IsFilesOutcome (observation_of F.held F.faults F.longs files.old files.new) (comes_of options task) first.now second.now)
         out.old out.new result }
 {
     // The bytes of the first file are freed before the second is loaded.
@@ -47,7 +51,7 @@ pub(crate) fn work_on_files<F: Files, K: Sink>(
     let Ok(net) = Net::build(alloc, circuit) else {
         return Status::Memory;
     };
-    work_on_second(alloc, &net, task, second, files, out)
+    work_on_second(alloc, &net, task, options, second, files, out)
 }
 
 // Does a task on a network and the text of the second file.
@@ -55,30 +59,38 @@ fn work_on_second<F: Files, K: Sink>(
     alloc: Global,
     net: &Net,
     task: Task,
+    options: Options,
     second: &str,
     files: &mut F,
     out: &mut K,
 ) -> Status
-    requires cap { HasCap task }
+    requires cap { IsCap options.cap }
     requires second { F.granted files.old Second second.now most_text_bytes }
-    ensures { Answers K.written K.faults
-        (IsSecondFileOutcome (observation_of F.held F.faults F.longs files.old files.new) (IsTaskOutcome task net.now) second.now) out.old out.new result }
+    ensures { Ends K.output K.faults
+        (IsSecondFileOutcome (observation_of F.held F.faults F.longs files.old files.new) (comes_of options task net.now) second.now) out.old out.new result }
 {
     match files.load(alloc, Place::Second, second, MAX_TEXT) {
-        Ok(text) => work_on_text(alloc, net, task, text.as_slice(), out),
+        Ok(text) => work_on_text(alloc, net, task, options, text.as_slice(), out),
         Err(fault) => refuse_load(out, Place::Second, fault),
     }
 }
 
 // Does a task on a network and the second text.
-fn work_on_text<K: Sink>(alloc: Global, net: &Net, task: Task, text: &[u8], out: &mut K) -> Status
-    requires cap { HasCap task }
+fn work_on_text<K: Sink>(
+    alloc: Global,
+    net: &Net,
+    task: Task,
+    options: Options,
+    text: &[u8],
+    out: &mut K,
+) -> Status
+    requires cap { IsCap options.cap }
     requires text { length text.now ≤ most_text_bytes }
-    ensures { Answers K.written K.faults (IsTaskOutcome task net.now text.now) out.old out.new result }
+    ensures { Ends K.output K.faults (comes_of options task net.now text.now) out.old out.new result }
 {
     match task {
-        Task::Analyse { cap, show } => analyse_text(alloc, net, cap, show, text, out),
-        Task::Replay => replay_text(alloc, net, text, out),
-        Task::Convert => convert_text(alloc, net, text, out),
+        Task::Analyse => on_script(alloc, &Analyses { options }, net, text, out),
+        Task::Replay => on_runs(alloc, &Replays, net, text, out),
+        Task::Convert => on_runs(alloc, &Converts, net, text, out),
     }
 }

@@ -1,7 +1,7 @@
 //! Refusals: their lines and their statuses.
 ghost use Rattle.std.specs.Prelude.{◌≡◌, ◌<◌, length};
 ghost use Rattle.hz_write.specs.Writes.{Wrote};
-ghost use Rattle.hz_top.specs.Answer.{Answers};
+ghost use Rattle.hz_top.specs.Ends.{Ends};
 ghost use Rattle.hz_top.specs.Inside.{LoadPrints, NetlistPrints, StartPrints, TextPrints, named_node, named_gate, NamesNode};
 ghost use Rattle.hz_top.specs.Refusal.{words_line, unread_line, long_line, place_word, fault_line, counted_line, variables_line, missing_line, mismatch_line, netlist_fault_line, text_fault_line, open_line, unstable_line};
 
@@ -17,7 +17,7 @@ use hz_write::put_line;
 // Words that name no job.
 #[tactic(auto, unfolding(crate::specs::Refusal::words_line))]
 pub(crate) fn put_words<K: Sink>(out: &mut K) -> Result<(), PutFault>
-    ensures { Wrote K.written K.faults words_line out.old out.new result }
+    ensures { Wrote K.output K.faults words_line out.old out.new result }
 {
     put_line(
         out,
@@ -38,7 +38,7 @@ fn place_word(place: Place) -> &'static [u8]
 // A file that was not read.
 #[tactic(auto, unfolding(crate::specs::Refusal::unread_line))]
 fn put_unread<K: Sink>(out: &mut K, place: Place) -> Result<(), PutFault>
-    ensures { Wrote K.written K.faults (unread_line place) out.old out.new result }
+    ensures { Wrote K.output K.faults (unread_line place) out.old out.new result }
 {
     put_line(
         out,
@@ -53,7 +53,7 @@ fn put_unread<K: Sink>(out: &mut K, place: Place) -> Result<(), PutFault>
 // A file with too many bytes.
 #[tactic(auto, unfolding(crate::specs::Refusal::long_line))]
 fn put_long<K: Sink>(out: &mut K, place: Place) -> Result<(), PutFault>
-    ensures { Wrote K.written K.faults (long_line place) out.old out.new result }
+    ensures { Wrote K.output K.faults (long_line place) out.old out.new result }
 {
     put_line(
         out,
@@ -73,7 +73,7 @@ fn put_at<'p, K: Sink>(
     line: u32,
     fault: &'p [u8],
 ) -> Result<(), PutFault>
-    ensures { Wrote K.written K.faults (fault_line called.now line fault.now) out.old out.new result }
+    ensures { Wrote K.output K.faults (fault_line called.now line fault.now) out.old out.new result }
 {
     put_line(
         out,
@@ -90,7 +90,7 @@ fn put_at<'p, K: Sink>(
 // A fault at a line of a netlist, with a number.
 #[tactic(auto, unfolding(crate::specs::Refusal::counted_line))]
 fn put_counted<K: Sink>(out: &mut K, line: u32, fault: &[u8], count: u32) -> Result<(), PutFault>
-    ensures { Wrote K.written K.faults (counted_line line fault.now count) out.old out.new result }
+    ensures { Wrote K.output K.faults (counted_line line fault.now count) out.old out.new result }
 {
     put_line(
         out,
@@ -106,7 +106,7 @@ fn put_counted<K: Sink>(out: &mut K, line: u32, fault: &[u8], count: u32) -> Res
 // More variables than there may be.
 #[tactic(auto, unfolding(crate::specs::Refusal::variables_line))]
 fn put_variables<K: Sink>(out: &mut K, variables: u32) -> Result<(), PutFault>
-    ensures { Wrote K.written K.faults (variables_line variables) out.old out.new result }
+    ensures { Wrote K.output K.faults (variables_line variables) out.old out.new result }
 {
     put_line(
         out,
@@ -116,7 +116,7 @@ fn put_variables<K: Sink>(out: &mut K, variables: u32) -> Result<(), PutFault>
 
 // A fault of a netlist's text. If memory ran out, there is no line.
 fn put_netlist_fault<K: Sink>(out: &mut K, fault: BenchFault) -> Result<(), PutFault>
-    ensures { Wrote K.written K.faults (netlist_fault_line fault) out.old out.new result }
+    ensures { Wrote K.output K.faults (netlist_fault_line fault) out.old out.new result }
 {
     match fault {
         BenchFault::Form { line } => put_at(out, b"netlist", line, b": form"),
@@ -141,7 +141,7 @@ fn put_missing<'p, K: Sink>(
     node: u32,
 ) -> Result<(), PutFault>
     requires { node < length circuit.now.names }
-    ensures { Wrote K.written K.faults (missing_line called.now circuit.now node) out.old out.new result }
+    ensures { Wrote K.output K.faults (missing_line called.now circuit.now node) out.old out.new result }
 {
     put_line(
         out,
@@ -163,7 +163,7 @@ fn put_mismatch<K: Sink>(
     told: u32,
     real: u32,
 ) -> Result<(), PutFault>
-    ensures { Wrote K.written K.faults (mismatch_line called.now line told real) out.old out.new result }
+    ensures { Wrote K.output K.faults (mismatch_line called.now line told real) out.old out.new result }
 {
     put_line(
         out,
@@ -188,7 +188,7 @@ fn put_text_fault<K: Sink>(
     fault: TextFault,
 ) -> Result<(), PutFault>
     requires { NamesNode circuit.now (named_node fault) }
-    ensures { Wrote K.written K.faults (text_fault_line called.now circuit.now fault) out.old out.new result }
+    ensures { Wrote K.output K.faults (text_fault_line called.now circuit.now fault) out.old out.new result }
 {
     match fault {
         TextFault::Form { line } => put_at(out, called, line, b": form"),
@@ -207,7 +207,7 @@ fn put_text_fault<K: Sink>(
 #[tactic(auto, unfolding(crate::specs::Refusal::open_line))]
 fn put_open<K: Sink>(out: &mut K, circuit: &Circuit, gate: u32) -> Result<(), PutFault>
     requires { gate < length circuit.now.names }
-    ensures { Wrote K.written K.faults (open_line circuit.now gate) out.old out.new result }
+    ensures { Wrote K.output K.faults (open_line circuit.now gate) out.old out.new result }
 {
     put_line(
         out,
@@ -219,7 +219,7 @@ fn put_open<K: Sink>(out: &mut K, circuit: &Circuit, gate: u32) -> Result<(), Pu
 #[tactic(auto, unfolding(crate::specs::Refusal::unstable_line))]
 fn put_unstable<K: Sink>(out: &mut K, circuit: &Circuit, gate: u32) -> Result<(), PutFault>
     requires { gate < length circuit.now.names }
-    ensures { Wrote K.written K.faults (unstable_line circuit.now gate) out.old out.new result }
+    ensures { Wrote K.output K.faults (unstable_line circuit.now gate) out.old out.new result }
 {
     put_line(
         out,
@@ -229,7 +229,7 @@ fn put_unstable<K: Sink>(out: &mut K, circuit: &Circuit, gate: u32) -> Result<()
 
 // Writes why a file was not loaded.
 pub(crate) fn refuse_load<K: Sink>(out: &mut K, place: Place, fault: LoadFault) -> Status
-    ensures { Answers K.written K.faults (LoadPrints place fault) out.old out.new result }
+    ensures { Ends K.output K.faults (LoadPrints place fault) out.old out.new result }
 {
     match fault {
         LoadFault::Failed => status_after(put_unread(out, place), Status::File),
@@ -240,7 +240,7 @@ pub(crate) fn refuse_load<K: Sink>(out: &mut K, place: Place, fault: LoadFault) 
 
 // Writes why a text is no netlist.
 pub(crate) fn refuse_netlist<K: Sink>(out: &mut K, fault: BenchFault) -> Status
-    ensures { Answers K.written K.faults (NetlistPrints fault) out.old out.new result }
+    ensures { Ends K.output K.faults (NetlistPrints fault) out.old out.new result }
 {
     match fault {
         BenchFault::Memory => Status::Memory,
@@ -256,7 +256,7 @@ pub(crate) fn refuse_text<K: Sink>(
     fault: TextFault,
 ) -> Status
     requires { NamesNode circuit.now (named_node fault) }
-    ensures { Answers K.written K.faults (TextPrints called.now circuit.now fault) out.old out.new result }
+    ensures { Ends K.output K.faults (TextPrints called.now circuit.now fault) out.old out.new result }
 {
     match fault {
         TextFault::Memory => Status::Memory,
@@ -267,7 +267,7 @@ pub(crate) fn refuse_text<K: Sink>(
 // Writes why listed values give no start.
 pub(crate) fn refuse_start<K: Sink>(out: &mut K, circuit: &Circuit, fault: StartFault) -> Status
     requires { NamesNode circuit.now (named_gate fault) }
-    ensures { Answers K.written K.faults (StartPrints circuit.now fault) out.old out.new result }
+    ensures { Ends K.output K.faults (StartPrints circuit.now fault) out.old out.new result }
 {
     match fault {
         StartFault::Open { gate } => status_after(put_open(out, circuit, gate), Status::Start),

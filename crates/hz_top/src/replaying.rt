@@ -5,21 +5,17 @@ ghost use Rattle.hz_net.specs.Network.{network_of};
 ghost use Rattle.hz_net.specs.Variables.{expansion_of};
 ghost use Rattle.hz_gmw.specs.Cycles.{IsNontransient};
 ghost use Rattle.hz_text.specs.RunText.{IsRunTextFor};
-ghost use Rattle.hz_top.specs.Answer.{Answers};
-ghost use Rattle.hz_line.specs.Line.{most_text_bytes};
-ghost use Rattle.hz_top.specs.RunTexts.{IsRunTextOutcome};
 ghost use Rattle.hz_top.specs.Replaying.{steps_of, IsAcceptedRun, IsRefusedRun, IsRefusedStep, IsFirstRefusal};
 ghost use Rattle.hz_top.specs.ReplayerSteps.{AreVariables, run_of, KeepsInitialState, MakesSteps, IsRefusedFrom};
-ghost use Rattle.hz_top.specs.Verdict.{IsReplayOutcome};
 ghost use Rattle.hz_text.specs.Limits.{most_steps};
 
-use crate::refusal::refuse_text;
+use crate::second::OnRuns;
 use crate::status::{Status, status_after};
 use crate::verdict::{put_no, put_yes};
 use hz_gmw::{CycleFault, Replay, Run, StepFault};
 use hz_net::Net;
 use hz_outside::Sink;
-use hz_text::{RunText, read_run};
+use hz_text::RunText;
 use std::alloc::{AllocError, Global};
 
 /// Why `replay` refuses a run of a text.
@@ -45,31 +41,26 @@ pub(crate) struct FirstRefusal {
     pub why: RunRefusal,
 }
 
-// Replays the runs of a text on a network.
-pub(crate) fn replay_text<K: Sink>(alloc: Global, net: &Net, text: &[u8], out: &mut K) -> Status
-    requires { length text.now ≤ most_text_bytes }
-    ensures { Answers K.written K.faults (IsRunTextOutcome IsReplayOutcome net.now text.now) out.old out.new result }
-{
-    match read_run(alloc, net, text) {
-        Ok(runs) => replay(alloc, net, &runs, out),
-        Err(fault) => refuse_text(out, b"runs", net.circuit(), fault),
-    }
-}
+/// The job `replay`.
+#[derive(Drop)]
+pub(crate) struct Replays;
 
-// Replays runs on a network, and writes what they come to.
-fn replay<K: Sink>(alloc: Global, net: &Net, text: &RunText, out: &mut K) -> Status
-    requires { IsRunTextFor net.now text.now }
-    ensures { Answers K.written K.faults (IsReplayOutcome net.now text.now) out.old out.new result }
-{
-    let Ok(start) = expand_start(alloc, net, text.nodes()) else {
-        return Status::Memory;
-    };
-    let Ok(mut replay) = Replay::new(alloc, net) else {
-        return Status::Memory;
-    };
-    match replay_runs(&mut replay, text, start.as_slice()) {
-        Ok(()) => status_after(put_yes(out, text), Status::Done),
-        Err(refused) => status_after(put_no(out, net, refused.run, refused.why), Status::No),
+impl OnRuns for Replays {
+    ghost use Rattle.hz_top.specs.Verdict.{IsReplayOutcome};
+
+    ghost judges = { λ _. IsReplayOutcome };
+
+    fn with_runs<K: Sink>(&self, alloc: Global, net: &Net, runs: &RunText, out: &mut K) -> Status {
+        let Ok(start) = expand_start(alloc, net, runs.nodes()) else {
+            return Status::Memory;
+        };
+        let Ok(mut replay) = Replay::new(alloc, net) else {
+            return Status::Memory;
+        };
+        match replay_runs(&mut replay, runs, start.as_slice()) {
+            Ok(()) => status_after(put_yes(out, runs), Status::Done),
+            Err(refused) => status_after(put_no(out, net, refused.run, refused.why), Status::No),
+        }
     }
 }
 

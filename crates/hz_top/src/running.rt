@@ -1,9 +1,10 @@
 //! The top call.
-ghost use Rattle.std.specs.Prelude.{◌≡◌, ◌⊎◌, map, Some};
+ghost use Rattle.std.specs.Prelude.{◌≡◌, ◌⊎◌, [], map, Some};
 ghost use Rattle.std.specs.String.{string_bytes};
 ghost use Rattle.hz_outside.specs.Counts.{Rose};
 ghost use Rattle.hz_words.specs.Job.{JobOf, job_of, job_model, HasNumbersInRange};
 ghost use Rattle.hz_top.specs.Answer.{Answers};
+ghost use Rattle.hz_top.specs.Ends.{written_of, Ends};
 ghost use Rattle.hz_top.specs.Faultless.{IsFaultlessJob};
 ghost use Rattle.hz_top.specs.Headline.{Headline};
 ghost use Rattle.hz_top.specs.Outcome.{observation_of, IsJobOutcome, MayLoad};
@@ -22,11 +23,12 @@ use std::alloc::Global;
 /// The words are those after the program's name. The files are loaded by their names, the first one at the first place
 /// and the second at the second, each at most once. The text goes into the sink, line by line; a refusal is one line.
 pub fn run<F: Files, K: Sink>(alloc: Global, words: &[String], files: &mut F, out: &mut K) -> Status
-    requires { MayLoad (F.granted files.old) (job_of (map string_bytes words.now)) }
-    ensures headline { Headline K.written K.faults
+    requires loads { MayLoad (F.granted files.old) (job_of (map string_bytes words.now)) }
+    requires none_waits { (K.output out.old).waiting ≡ [] }
+    ensures headline { Headline (written_of K.output) K.faults
         (observation_of F.held F.faults F.longs files.old files.new) (job_of (map string_bytes words.now))
         out.old out.new result }
-    ensures answer { Answers K.written K.faults
+    ensures answer { Answers (written_of K.output) K.faults
         (IsJobOutcome (observation_of F.held F.faults F.longs files.old files.new) (job_of (map string_bytes words.now)))
         out.old out.new result }
     ensures done { (job : JobOf) (own : Status) → job_of (map string_bytes words.now) ≡ Some job
@@ -35,13 +37,14 @@ pub fn run<F: Files, K: Sink>(alloc: Global, words: &[String], files: &mut F, ou
         → (result ≡ own) ⊎ (result ≡ Status.Memory) }
 {
     faultless_text_is_circuit();
-    answer(alloc, words, files, out)
+    let status = answer(alloc, words, files, out);
+    status_after(out.flush(), status)
 }
 
 // Reads the words, and does the job that they ask for.
 fn answer<F: Files, K: Sink>(alloc: Global, words: &[String], files: &mut F, out: &mut K) -> Status
     requires { MayLoad (F.granted files.old) (job_of (map string_bytes words.now)) }
-    ensures { Answers K.written K.faults
+    ensures { Ends K.output K.faults
         (IsJobOutcome (observation_of F.held F.faults F.longs files.old files.new) (job_of (map string_bytes words.now)))
         out.old out.new result }
 {
@@ -56,16 +59,17 @@ fn answer<F: Files, K: Sink>(alloc: Global, words: &[String], files: &mut F, out
 fn work<F: Files, K: Sink>(alloc: Global, job: Job<'_>, files: &mut F, out: &mut K) -> Status
     requires range { HasNumbersInRange job }
     requires loads { MayLoad (F.granted files.old) (Some (job_model job)) }
-    ensures { Answers K.written K.faults
+    ensures { Ends K.output K.faults
         (IsJobOutcome (observation_of F.held F.faults F.longs files.old files.new) (Some (job_model job.entry)))
         out.old out.new result }
 {
     match job {
         Job::OnFiles {
             task,
+            options,
             first,
             second,
-        } => work_on_files(alloc, task, first, second, files, out),
-        Job::Demo { number, cap } => demo(alloc, number, cap, out),
+        } => work_on_files(alloc, task, options, first, second, files, out),
+        Job::Demo { number, options } => demo(alloc, number, options.cap, out),
     }
 }

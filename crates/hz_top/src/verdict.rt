@@ -19,7 +19,7 @@ use hz_write::{Piece, Writer, put_line};
 // All runs are accepted.
 pub(crate) fn put_yes<K: Sink>(out: &mut K, text: &RunText) -> Result<(), PutFault>
     requires { total_steps text.now.runs ≤ most_steps }
-    ensures { Wrote K.written K.faults (accepted_line text.now.runs) out.old out.new result }
+    ensures { Wrote K.output K.faults (accepted_line text.now.runs) out.old out.new result }
 {
     put_counts(out, text.runs(), count_steps(text), count_cycles(text))
 }
@@ -70,7 +70,7 @@ fn put_counts<K: Sink>(
     steps: usize,
     cycles: usize,
 ) -> Result<(), PutFault>
-    ensures { Wrote K.written K.faults (yes_line runs steps cycles) out.old out.new result }
+    ensures { Wrote K.output K.faults (yes_line runs steps cycles) out.old out.new result }
 {
     put_line(
         out,
@@ -93,7 +93,7 @@ pub(crate) fn put_no<K: Sink>(
     why: RunRefusal,
 ) -> Result<(), PutFault>
     requires { NamesVariable net.now (named_variable why) }
-    ensures { Wrote K.written K.faults (no_line net.now run why) out.old out.new result }
+    ensures { Wrote K.output K.faults (no_line net.now run why) out.old out.new result }
 {
     match why {
         RunRefusal::Step { number, fault } => put_step(out, net, run, number, fault),
@@ -110,7 +110,7 @@ fn put_step<K: Sink>(
     fault: StepFault,
 ) -> Result<(), PutFault>
     requires { NamesVariable net.now (step_variable fault) }
-    ensures { Wrote K.written K.faults (step_line net.now run step fault) out.old out.new result }
+    ensures { Wrote K.output K.faults (step_line net.now run step fault) out.old out.new result }
 {
     match fault {
         StepFault::Empty => put_line(
@@ -153,7 +153,7 @@ fn put_step<K: Sink>(
 // A cycle is refused.
 fn put_cycle<K: Sink>(out: &mut K, net: &Net, run: usize, fault: CycleFault) -> Result<(), PutFault>
     requires { cycle_variable fault < length (network_of net.now) }
-    ensures { Wrote K.written K.faults (cycle_line net.now run fault) out.old out.new result }
+    ensures { Wrote K.output K.faults (cycle_line net.now run fault) out.old out.new result }
 {
     match fault {
         CycleFault::Differs { var } => {
@@ -191,7 +191,7 @@ fn put_naming<K: Sink>(
     var: u32,
 ) -> Result<(), PutFault>
     requires { var < length (network_of net.now) }
-    ensures { Wrote K.written K.faults
+    ensures { Wrote K.output K.faults
         (naming_line net.now (map piece_text words.now) var) out.old out.new result }
 {
     let mut writer = Writer::new(out);

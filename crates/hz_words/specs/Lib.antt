@@ -3,11 +3,12 @@
 -- hazard_app: the command line as `clap` reads it
 -- Texts, texts_of arguments: the texts of the arguments
 -- Parses words result: the arguments of words, or their refusal
--- IsCap cap, cap_of text: a cap on numbers of changes
+-- cap_of text: a cap on numbers of changes
 -- show_of text: which variables have a line
 -- demo_of text: the number of a demo
 -- JobOf: a task on two files, or a demo
--- tasks cap show: the tasks, each with its word
+-- tasks: the tasks, each with its word
+-- options_of texts: the options that the arguments give
 -- job_with texts: the job that the arguments ask for
 -- IsJobOfWords words result: the job of the words, or a refusal of words that ask for none
 

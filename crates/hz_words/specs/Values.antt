@@ -3,10 +3,10 @@ use Rattle.std.specs.Prelude.{ℕ, ◌≤◌, Bool, false, ◌&&◌, List, [], �
 use Rattle.std.specs.Str.{bytes_eq}
 use Rattle.std.specs.Str.Parse.{digits_value, without_leading_plus}
 use Rattle.clap.specs.ValueTests.{is_unsigned_in}
-use Rattle.hz_report.specs.declared.show.Show.{Show}
-use Rattle.hz_report.specs.declared.show.Show.TheVariants.{Nodes, All}
+use Rattle.hz_options.specs.declared.show.Show.{Show}
+use Rattle.hz_options.specs.declared.show.Show.TheVariants.{Nodes, All}
 use Rattle.hz_word.specs.Capped.{greatest_cap}
-use Rattle.hz_gen.specs.Demo.{most_demo_number}
+use Rattle.hz_options.specs.Numbers.{most_demo_number}
 
 -- a number of 1 to a greatest one, as `clap` reads numbers, in decimal digits that a `+` may precede
 abbrev pub number_up_to : ℕ → List ℕ → Option ℕ
@@ -16,10 +16,6 @@ number_up_to most text =
 -- a cap
 abbrev pub cap_of : List ℕ → Option ℕ
 cap_of text = number_up_to greatest_cap text
-
--- a number is a cap
-abbrev pub IsCap : ℕ → Type 0
-IsCap cap = (1 ≤ cap) × (cap ≤ greatest_cap)
 
 -- whether the first byte is a digit other than 0
 abbrev pub begins_with_digit : List ℕ → Bool

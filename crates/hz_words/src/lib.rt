@@ -22,4 +22,3 @@ mod values;
 pub use fault::WordsFault;
 pub use job::{Job, Task};
 pub use reading::read;
-pub use values::MAX_CAP;

@@ -1,7 +1,7 @@
 //! Words that are taken and words that are refused, with ample memory.
 
 use crate::{Job, Task, WordsFault, read};
-use hz_report::Show;
+use hz_options::{Options, Show};
 use std::alloc::{AllocError, Global};
 use std::test::Fail;
 
@@ -17,7 +17,8 @@ fn words_of(alloc: Global, line: &str) -> Result<Vec<String>, AllocError> {
 // The job `analyse` on the second file `b`.
 fn analyse(first: &str, cap: u64, show: Show) -> Option<Job<'_>> {
     Some(Job::OnFiles {
-        task: Task::Analyse { cap, show },
+        task: Task::Analyse,
+        options: Options { cap, show },
         first,
         second: "b",
     })
@@ -25,18 +26,28 @@ fn analyse(first: &str, cap: u64, show: Show) -> Option<Job<'_>> {
 
 // The job `demo`.
 fn demo(number: u32, cap: u64) -> Option<Job<'static>> {
-    Some(Job::Demo { number, cap })
+    let options = Options {
+        cap,
+        show: Show::Nodes,
+    };
+    Some(Job::Demo { number, options })
 }
 
 #[test]
 fn jobs_of_words(rt: HostRuntime) -> Result<(), Fail> {
+    let options = Options {
+        cap: 1000,
+        show: Show::Nodes,
+    };
     let replay = Job::OnFiles {
         task: Task::Replay,
+        options,
         first: "a",
         second: "b",
     };
     let convert = Job::OnFiles {
         task: Task::Convert,
+        options,
         first: "a",
         second: "b",
     };

@@ -1,13 +1,9 @@
 //! What the arguments may be.
 ghost use Rattle.std.specs.Prelude.{◌≡◌, ◌≤◌, ◌<◌, IfSome};
-ghost use Rattle.hz_gen.specs.Demo.{IsDemoNumber};
-ghost use Rattle.hz_words.specs.Values.{number_up_to, cap_of, show_of, demo_of, begins_with_digit, IsCap};
+ghost use Rattle.hz_options.specs.Numbers.{IsDemoNumber, IsCap};
+ghost use Rattle.hz_words.specs.Values.{number_up_to, cap_of, show_of, demo_of, begins_with_digit};
 
-use hz_gen::MAX_NUMBER;
-use hz_report::Show;
-
-/// The greatest cap.
-pub const MAX_CAP: u64 = 1_000_000;
+use hz_options::{MAX_CAP, MAX_DEMO_NUMBER, Show};
 
 // The cap that a text stands for: a number of 1 to [`MAX_CAP`].
 pub(crate) fn read_cap(text: &str) -> Option<u64>
@@ -25,7 +21,7 @@ pub(crate) fn read_demo(text: &str) -> Option<u32>
     if !begins_with_digit(text) {
         return None;
     }
-    let number = read_number(text, u64::from(MAX_NUMBER))?;
+    let number = read_number(text, u64::from(MAX_DEMO_NUMBER))?;
     Some(number as u32)
 }
 

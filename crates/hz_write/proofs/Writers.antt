@@ -5,7 +5,7 @@ use Rattle.std.proofs.lemmas.List.{append-nil, map-id, take_more, take-append-dr
 use Rattle.std.proofs.lemmas.List.Concat.{flat_map-append}
 use Rattle.std.proofs.lemmas.List.FromFn.{map-range_with_len_more}
 use Rattle.std.proofs.lemmas.Option.{same_Some, get_or_from_slice_get, slice_get_within}
-use Rattle.hz_outside.specs.WrittenText.{extended_text}
+use Rattle.hz_outside.specs.WrittenText.{extended_text, Output, settled, Took}
 use Rattle.hz_outside.specs.declared.fault.PutFault.{PutFault}
 use Rattle.hz_write.specs.declared.writer.Writer.{Writer}
 use Rattle.hz_write.specs.Writes.{Puts, Stops, Wrote, IsBuffered}
@@ -37,72 +37,72 @@ flat_map_of_take text_of items i item there =
     ∙ ap (λ (last : _). flat_map text_of (take i items) ++ text_of last) is
 
 -- what a sink in memory has, if a whole text was written to it as a new one
-pub plain_bytes : {text bytes : List ℕ} → Some bytes ≡ extended_text (Some []) text → bytes ≡ text
+pub plain_bytes : {text bytes : List ℕ} → Took (settled (Some [])) text (settled (Some bytes)) → bytes ≡ text
 unfolding extended_text
-plain_bytes {text} {bytes} grew = same_Some bytes text grew
+plain_bytes {text} {bytes} took = same_Some bytes took.front took.grew ∙ sym (append-nil took.front) ∙ took.parts
 
 no_fault : (fault : Option PutFault) → is_some fault ≡ false → fault ≡ None
 no_fault None h = refl
 no_fault (Some fault) h = absurd (cc)
 
 -- after a fault any text is one of which nothing more is put
-given_longer : {S : Type 0} (written : S → Option (List ℕ)) (faults : S → ℕ) (start : S) (text waiting : List ℕ) (fault : Option PutFault) (now : S) (more : List ℕ)
-    → is_some fault ≡ true → Given written faults start text waiting fault now → Given written faults start (text ++ more) waiting fault now
+given_longer : {S : Type 0} (output : S → Output) (faults : S → ℕ) (start : S) (text waiting : List ℕ) (fault : Option PutFault) (now : S) (more : List ℕ)
+    → is_some fault ≡ true → Given output faults start text waiting fault now → Given output faults start (text ++ more) waiting fault now
 unfolding Given
-given_longer written faults start text waiting None now more failed given = absurd (cc)
-given_longer written faults start text waiting (Some fault) now more failed given = Stops-longer more given
+given_longer output faults start text waiting None now more failed given = absurd (cc)
+given_longer output faults start text waiting (Some fault) now more failed given = Stops-longer more given
 
 -- more of a line, all of which waits; after a fault it is never put
-given_waiting : {S : Type 0} (written : S → Option (List ℕ)) (faults : S → ℕ) (start : S) (text waiting : List ℕ) (fault : Option PutFault) (now : S) (more : List ℕ)
-    → Given written faults start text waiting fault now → Given written faults start (text ++ more) (waiting ++ more) fault now
+given_waiting : {S : Type 0} (output : S → Output) (faults : S → ℕ) (start : S) (text waiting : List ℕ) (fault : Option PutFault) (now : S) (more : List ℕ)
+    → Given output faults start text waiting fault now → Given output faults start (text ++ more) (waiting ++ more) fault now
 unfolding Given
-given_waiting written faults start text waiting None now more given = IsBuffered-append more given (IsBuffered-start (waiting ++ more) now)
-given_waiting written faults start text waiting (Some fault) now more given = Stops-longer more given
+given_waiting output faults start text waiting None now more given = IsBuffered-append more given (IsBuffered-start (waiting ++ more) now)
+given_waiting output faults start text waiting (Some fault) now more given = Stops-longer more given
 
-module _ {S : Type 0} {written : S → Option (List ℕ)} {faults : S → ℕ} where
+module _ {S : Type 0} {output : S → Output} {faults : S → ℕ} where
   -- no call
-  pub writes_nothing : (writer : Writer S) → Writes written faults [] writer writer
+  pub writes_nothing : (writer : Writer S) → Writes output faults [] writer writer
   writes_nothing writer = record {
     sink = refl;
     gave = λ start before given. rw (append-nil before) given;
   }
 
   -- one text and then another
-  pub writes_then : {x y z : List ℕ} {a b c : Writer S} → Writes written faults x a b → Writes written faults y b c → x ++ y ≡ z → Writes written faults z a c
+  pub writes_then : {x y z : List ℕ} {a b c : Writer S} → Writes output faults x a b → Writes output faults y b c → x ++ y ≡ z → Writes output faults z a c
   writes_then {x} {y} p q e = record {
     sink = q.sink ∙ p.sink;
     gave = λ start before given. rw (← e, ← append_assoc) (q.gave start (before ++ x) (p.gave start before given));
   }
 
   -- the same text in other words
-  pub writes_same : {x z : List ℕ} {a b : Writer S} → Writes written faults x a b → x ≡ z → Writes written faults z a b
+  pub writes_same : {x z : List ℕ} {a b : Writer S} → Writes output faults x a b → x ≡ z → Writes output faults z a b
   writes_same p e = rw e at p
 
   -- nothing more is put after a fault
-  pub writes_failed : {a : Writer S} (text : List ℕ) → is_some a.fault ≡ true → Writes written faults text a a
+  pub writes_failed : {a : Writer S} (text : List ℕ) → is_some a.fault ≡ true → Writes output faults text a a
   writes_failed {a} text failed = record {
     sink = refl;
-    gave = λ start before given. given_longer written faults start before a.line a.fault a.out.now text failed given;
+    gave = λ start before given. given_longer output faults start before a.line a.fault a.out.now text failed given;
   }
 
   -- the texts of some of the items, and then a fault
   pub writes_cut : {X : Type 0} (text_of : X → List ℕ) (items : List X) (i : ℕ) {a b : Writer S}
-      → Writes written faults (flat_map text_of (take i items)) a b → is_some b.fault ≡ true → Writes written faults (flat_map text_of items) a b
+      → Writes output faults (flat_map text_of (take i items)) a b → is_some b.fault ≡ true → Writes output faults (flat_map text_of items) a b
   writes_cut text_of items i p failed =
       writes_then p (writes_failed (flat_map text_of (drop i items)) failed)
       (sym (flat_map-append text_of (take i items) (drop i items)) ∙ ap (flat_map text_of) (take-append-drop i items))
 
   -- a piece of a line, all of which waits
   pub writes_waiting : {a b : Writer S} (text : List ℕ) → b.out.ghost_name ≡ a.out.ghost_name → b.out.now ≡ a.out.now → b.fault ≡ a.fault
-      → b.line ≡ a.line ++ text → Writes written faults text a b
+      → b.line ≡ a.line ++ text → Writes output faults text a b
   writes_waiting {a} text sink out same waits = record {
     sink = sink;
-    gave = λ start before given. rw (same, waits, out) (given_waiting written faults start before a.line a.fault a.out.now text given);
+    gave = λ start before given. rw (same, waits, out) (given_waiting output faults start before a.line a.fault a.out.now text given);
   }
 
   -- a piece of a line: all of it waits or was put
   pub writes_added : {a b : Writer S} (text : List ℕ) → b.out.ghost_name ≡ a.out.ghost_name → is_some a.fault ≡ false → b.fault ≡ a.fault
-      → IsBuffered written faults (a.line ++ text) a.out.now b.out.now b.line → Writes written faults text a b
+      → IsBuffered output faults (a.line ++ text) a.out.now b.out.now b.line → Writes output faults text a b
   unfolding Given
   writes_added {a} text sink was same waits = record {
     sink = sink;
@@ -111,7 +111,7 @@ module _ {S : Type 0} {written : S → Option (List ℕ)} {faults : S → ℕ} w
 
   -- the end of a line
   pub writes_ended : {a b : Writer S} (text : List ℕ) → b.out.ghost_name ≡ a.out.ghost_name → is_some a.fault ≡ false → b.fault ≡ a.fault → b.line ≡ []
-      → Puts written faults (a.line ++ text) a.out.now b.out.now → Writes written faults text a b
+      → Puts output faults (a.line ++ text) a.out.now b.out.now → Writes output faults text a b
   unfolding Given
   writes_ended {a} text sink was same none puts = record {
     sink = sink;
@@ -124,7 +124,7 @@ module _ {S : Type 0} {written : S → Option (List ℕ)} {faults : S → ℕ} w
 
   -- a put that failed
   pub writes_stopped : {a b : Writer S} {fault : PutFault} (text : List ℕ) → b.out.ghost_name ≡ a.out.ghost_name → is_some a.fault ≡ false → b.fault ≡ Some fault
-      → Stops written faults fault (a.line ++ text) a.out.now b.out.now → Writes written faults text a b
+      → Stops output faults fault (a.line ++ text) a.out.now b.out.now → Writes output faults text a b
   unfolding Given
   writes_stopped {a} text sink was now stops = record {
     sink = sink;
@@ -132,18 +132,18 @@ module _ {S : Type 0} {written : S → Option (List ℕ)} {faults : S → ℕ} w
   }
 
 -- the answers of writers: here all is explicit, since an answer computes
-module _ {S : Type 0} (written : S → Option (List ℕ)) (faults : S → ℕ) where
+module _ {S : Type 0} (output : S → Output) (faults : S → ℕ) where
   -- the end of a writer without a fault
   pub finishes_waiting : (writer : Writer S) (now : S) (result : Result (Unit {0}) PutFault) → writer.fault ≡ None
-      → Wrote written faults writer.line writer.out.now now result → Finishes written faults writer now result
+      → Wrote output faults writer.line writer.out.now now result → Finishes output faults writer now result
   unfolding Given
   finishes_waiting writer now result none wrote = record {
-    wrote = λ start text given. Wrote-ended written faults text writer.line start writer.out.now now result (rw none at given) wrote;
+    wrote = λ start text given. Wrote-ended output faults text writer.line start writer.out.now now result (rw none at given) wrote;
   }
 
   -- the end of a writer with a fault
   pub finishes_failed : (writer : Writer S) (now : S) (fault : PutFault) → writer.fault ≡ Some fault → now ≡ writer.out.now
-      → Finishes written faults writer now (Err fault)
+      → Finishes output faults writer now (Err fault)
   unfolding Given
   finishes_failed writer now fault failed same = record {
     wrote = λ start text given. rw same (rw failed at given);
@@ -151,7 +151,7 @@ module _ {S : Type 0} (written : S → Option (List ℕ)) (faults : S → ℕ) w
 
   -- what the end of a writer answers, by all that was given since it was new
   pub wrote_whole : (text : List ℕ) (start : S) (begun writer : Writer S) (now : S) (result : Result (Unit {0}) PutFault)
-      → Begins start begun → Writes written faults text begun writer → Finishes written faults writer now result → Wrote written faults text start now result
+      → Begins start begun → Writes output faults text begun writer → Finishes output faults writer now result → Wrote output faults text start now result
   unfolding Given
   wrote_whole text start begun writer now result begins writes finishes =
       finishes.wrote start text (writes.gave start [] (rw (begins.no_fault, begins.none_waits, begins.same) (IsBuffered-start [] start)))

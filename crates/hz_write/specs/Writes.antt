@@ -1,8 +1,9 @@
--- What a writer of a text over a sink ensures. The sink's `written` and `faults` come first, then the text, then the sink as it was and as it is now.
+-- What a writer of a text over a sink ensures. The sink's `output` and `faults` come first, then the text, then the sink as it
+-- was and as it is now.
 use Rattle.std.specs.Prelude.{◌≡◌, ℕ, ◌≤◌, List, [], ◌∷◌, ◌++◌, Option, Result, MatchResult}
 use Rattle.std.specs.List.{concat}
 use Rattle.hz_outside.specs.Counts.{Rose}
-use Rattle.hz_outside.specs.WrittenText.{extended_text, GrewByPrefix}
+use Rattle.hz_outside.specs.WrittenText.{Output, Took, TookPrefix}
 use Rattle.hz_outside.specs.declared.fault.PutFault.{PutFault}
 use Rattle.hz_outside.specs.declared.fault.PutFault.TheVariants.{Failed}
 
@@ -14,29 +15,29 @@ newline = 10 ∷ []
 unfoldable pub line_of : List (List ℕ) → List ℕ
 line_of pieces = concat pieces ++ newline
 
--- the whole text was written
-pub record Puts {S : Type 0} (written : S → Option (List ℕ)) (faults : S → ℕ) (text : List ℕ) (was now : S) : Type 0 where
-  pub grew : written now ≡ extended_text (written was) text
+-- the sink took the whole text
+pub record Puts {S : Type 0} (output : S → Output) (faults : S → ℕ) (text : List ℕ) (was now : S) : Type 0 where
+  pub grew : Took (output was) text (output now)
   pub never_fell : faults was ≤ faults now
 
--- a prefix of the text was written, and a put failed only where the count rose
-pub record Stops {S : Type 0} (written : S → Option (List ℕ)) (faults : S → ℕ) (fault : PutFault) (text : List ℕ) (was now : S) : Type 0 where
-  pub front : GrewByPrefix (written was) text (written now)
+-- the sink took a prefix of the text, and a put failed only where the count rose
+pub record Stops {S : Type 0} (output : S → Output) (faults : S → ℕ) (fault : PutFault) (text : List ℕ) (was now : S) : Type 0 where
+  pub front : TookPrefix (output was) text (output now)
   pub cause : fault ≡ Failed → Rose (faults was) (faults now)
   pub never_fell : faults was ≤ faults now
 
 -- the answer of a writer of this text
-abbrev pub Wrote : {S : Type 0} → (S → Option (List ℕ)) → (S → ℕ) → List ℕ → S → S → Result (Unit {0}) PutFault → Type 0
-Wrote written faults text was now result =
-    MatchResult result (λ _. Puts written faults text was now) (λ fault. Stops written faults fault text was now)
+abbrev pub Wrote : {S : Type 0} → (S → Output) → (S → ℕ) → List ℕ → S → S → Result (Unit {0}) PutFault → Type 0
+Wrote output faults text was now result =
+    MatchResult result (λ _. Puts output faults text was now) (λ fault. Stops output faults fault text was now)
 
--- the text is what was written and then what waits
-pub record IsBuffered {S : Type 0} (written : S → Option (List ℕ)) (faults : S → ℕ) (text : List ℕ) (was now : S) (waiting : List ℕ) : Type 0 where
+-- the text is what the sink took and then what waits in the buffer
+pub record IsBuffered {S : Type 0} (output : S → Output) (faults : S → ℕ) (text : List ℕ) (was now : S) (waiting : List ℕ) : Type 0 where
   pub done : List ℕ
-  pub puts : Puts written faults done was now
+  pub puts : Puts output faults done was now
   pub parts : done ++ waiting ≡ text
 
--- the answer of a call after which some of this text may wait
-abbrev pub WroteBuffered : {S : Type 0} → (S → Option (List ℕ)) → (S → ℕ) → List ℕ → S → S → List ℕ → Result (Unit {0}) PutFault → Type 0
-WroteBuffered written faults text was now waiting result =
-    MatchResult result (λ _. IsBuffered written faults text was now waiting) (λ fault. Stops written faults fault text was now)
+-- the answer of a call after which some of this text may wait in the buffer
+abbrev pub WroteBuffered : {S : Type 0} → (S → Output) → (S → ℕ) → List ℕ → S → S → List ℕ → Result (Unit {0}) PutFault → Type 0
+WroteBuffered output faults text was now waiting result =
+    MatchResult result (λ _. IsBuffered output faults text was now waiting) (λ fault. Stops output faults fault text was now)

@@ -42,7 +42,7 @@ impl Line {
     /// After a refusal the line is dropped: nothing waits.
     #[inline(never)]
     pub fn add<K: Sink>(&mut self, out: &mut K, piece: &[u8]) -> Result<(), PutFault>
-        ensures added { WroteBuffered K.written K.faults (self.old ++ piece.now) out.old out.new self.new result }
+        ensures added { WroteBuffered K.output K.faults (self.old ++ piece.now) out.old out.new self.new result }
         ensures dropped { OnErr result (self.new ≡ []) }
     {
         let mut rest = piece;
@@ -58,7 +58,7 @@ impl Line {
 
     /// Ends the line by a line feed and puts what waits. Afterwards nothing waits, also after a refusal.
     pub fn end<K: Sink>(&mut self, out: &mut K) -> Result<(), PutFault>
-        ensures wrote { Wrote K.written K.faults (self.old ++ newline) out.old out.new result }
+        ensures wrote { Wrote K.output K.faults (self.old ++ newline) out.old out.new result }
         ensures emptied { self.new ≡ [] }
     {
         if self.room() > 0 {
@@ -88,7 +88,7 @@ impl Line {
 
     /// Puts what waits, if anything does.
     pub(crate) fn put_waiting<K: Sink>(&mut self, out: &mut K) -> Result<(), PutFault>
-        ensures wrote { Wrote K.written K.faults self.old out.old out.new result }
+        ensures wrote { Wrote K.output K.faults self.old out.old out.new result }
         ensures emptied { self.new ≡ [] }
     {
         let len = self.len;

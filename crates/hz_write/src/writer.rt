@@ -35,7 +35,7 @@ impl<'k, K: Sink> Writer<'k, K> {
 
     /// Gives bytes of one line.
     pub fn text(&mut self, text: &[u8])
-        ensures { Writes K.written K.faults text.now self.old self.new }
+        ensures { Writes K.output K.faults text.now self.old self.new }
     {
         if text.len() <= self.line.room() {
             self.line.push(text);
@@ -48,7 +48,7 @@ impl<'k, K: Sink> Writer<'k, K> {
     #[cold]
     #[inline(never)]
     fn overflow(&mut self, text: &[u8])
-        ensures { Writes K.written K.faults text.now self.old self.new }
+        ensures { Writes K.output K.faults text.now self.old self.new }
     {
         if self.fault.is_some() {
             return;
@@ -60,7 +60,7 @@ impl<'k, K: Sink> Writer<'k, K> {
 
     // Gives a number in decimal digits.
     fn number(&mut self, number: u32)
-        ensures { Writes K.written K.faults (decimal number) self.old self.new }
+        ensures { Writes K.output K.faults (decimal number) self.old self.new }
     {
         let mut digits = Buffer::new();
         self.text(digits.format(number).as_bytes());
@@ -68,7 +68,7 @@ impl<'k, K: Sink> Writer<'k, K> {
 
     // Gives a number of items in decimal digits.
     fn count(&mut self, count: usize)
-        ensures { Writes K.written K.faults (decimal count) self.old self.new }
+        ensures { Writes K.output K.faults (decimal count) self.old self.new }
     {
         let mut digits = Buffer::new();
         self.text(digits.format(count).as_bytes());
@@ -76,7 +76,7 @@ impl<'k, K: Sink> Writer<'k, K> {
 
     // Gives a number of 64 bits in decimal digits.
     fn long(&mut self, value: u64)
-        ensures { Writes K.written K.faults (decimal value) self.old self.new }
+        ensures { Writes K.output K.faults (decimal value) self.old self.new }
     {
         let mut digits = Buffer::new();
         self.text(digits.format(value).as_bytes());
@@ -84,7 +84,7 @@ impl<'k, K: Sink> Writer<'k, K> {
 
     // Gives a piece.
     fn piece(&mut self, piece: Piece<'_>)
-        ensures { Writes K.written K.faults (piece_text piece.entry) self.old self.new }
+        ensures { Writes K.output K.faults (piece_text piece.entry) self.old self.new }
     {
         match piece {
             Piece::Text(text) => self.text(text),
@@ -96,7 +96,7 @@ impl<'k, K: Sink> Writer<'k, K> {
 
     /// Gives pieces of one line, one after the other.
     pub fn add(&mut self, pieces: &[Piece<'_>])
-        ensures { Writes K.written K.faults (flat_map piece_text pieces.now) self.old self.new }
+        ensures { Writes K.output K.faults (flat_map piece_text pieces.now) self.old self.new }
     {
         for piece in pieces {
             self.piece(*piece);
@@ -105,7 +105,7 @@ impl<'k, K: Sink> Writer<'k, K> {
 
     /// Gives pieces, and ends the line.
     pub fn line(&mut self, pieces: &[Piece<'_>])
-        ensures gave { Writes K.written K.faults (flat_map piece_text pieces.now ++ newline) self.old self.new }
+        ensures gave { Writes K.output K.faults (flat_map piece_text pieces.now ++ newline) self.old self.new }
         ensures none_waits { NoneWaits self.new }
     {
         self.add(pieces);
@@ -114,7 +114,7 @@ impl<'k, K: Sink> Writer<'k, K> {
 
     /// Ends the line, and puts what waits.
     pub fn end(&mut self)
-        ensures gave { Writes K.written K.faults newline self.old self.new }
+        ensures gave { Writes K.output K.faults newline self.old self.new }
         ensures none_waits { NoneWaits self.new }
     {
         if self.fault.is_some() {
@@ -134,7 +134,7 @@ impl<'k, K: Sink> Writer<'k, K> {
 
     /// Puts what waits, and returns the first fault.
     pub fn finish(self) -> Result<(), PutFault>
-        ensures { Finishes K.written K.faults self.entry self.exit.0.now result }
+        ensures { Finishes K.output K.faults self.entry self.exit.0.now result }
     {
         let Writer {
             out,
@@ -150,7 +150,7 @@ impl<'k, K: Sink> Writer<'k, K> {
 
 /// Writes a text that is one line, that of these pieces.
 pub fn put_line<K: Sink>(out: &mut K, pieces: &[Piece<'_>]) -> Result<(), PutFault>
-    ensures { Wrote K.written K.faults (line_of (map piece_text pieces.now)) out.old out.new result }
+    ensures { Wrote K.output K.faults (line_of (map piece_text pieces.now)) out.old out.new result }
 {
     let mut writer = Writer::new(out);
     writer.line(pieces);

@@ -28,7 +28,6 @@ use std::alloc::Global;
 /// the input in the order of the inputs, then each run, and the end. Keywords are in small letters, words are separated by one space, and each line ends with a
 /// line feed. The wire into the second pin of a gate `g` is written `g(2)`. If the text has at most 16,777,216 bytes,
 /// [`crate::read_run`] gives the run text back.
-#[tactic(auto, unfolding(hz_outside::specs::WrittenText::extended_text))]
 pub fn print_run(alloc: Global, net: &Net, text: &RunText) -> Result<Vec<u8>, Memory>
     requires { IsRunTextFor net.now text.now }
     ensures text { IfOk result (λ printed. printed.items ≡ run_text_printed net.now text.now) }
@@ -38,7 +37,9 @@ pub fn print_run(alloc: Global, net: &Net, text: &RunText) -> Result<Vec<u8>, Me
     let mut sink = PlainSink::new(alloc);
     match write_run_text(&mut sink, net, text) {
         Ok(()) => Ok(sink.into_bytes()),
-        Err(_) => Err(Memory),
+        Err(PutFault::Memory) => Err(Memory),
+        // No put into memory fails.
+        Err(PutFault::Failed) => unreachable!(),
     }
 }
 
@@ -46,7 +47,7 @@ pub fn print_run(alloc: Global, net: &Net, text: &RunText) -> Result<Vec<u8>, Me
 pub fn write_run_text<K: Sink>(out: &mut K, net: &Net, text: &RunText) -> Result<(), PutFault>
     requires { IsRunTextFor net.now text.now }
     ensures circuit { IsCircuit net.now }
-    ensures wrote { Wrote K.written K.faults (run_text_printed net.now text.now) out.old out.new result }
+    ensures wrote { Wrote K.output K.faults (run_text_printed net.now text.now) out.old out.new result }
 {
     let mut writer = Writer::new(out);
     write_states(&mut writer, net.circuit(), text.nodes(), text.input());
@@ -67,7 +68,9 @@ pub fn write_states<K: Sink>(
     requires circuit { IsCircuit circuit.now }
     requires nodes { length nodes.now ≤ length circuit.now.names }
     requires input { length input.now ≤ length circuit.now.names }
-    ensures { Writes K.written K.faults (states_text circuit.now nodes.now input.now) writer.old writer.new }
+    ensures gave { Writes K.output K.faults
+        (states_text circuit.now nodes.now input.now) writer.old writer.new }
+    ensures none_waits { NoneWaits writer.new }
 {
     write_version(writer, circuit);
     write_bits(writer, circuit, b"start", nodes);
@@ -78,7 +81,8 @@ pub fn write_states<K: Sink>(
 #[tactic(auto, using(hz_write::proofs::Writers::writes_then), unfolding(crate::specs::RunPrinted::version_text))]
 pub fn write_version<K: Sink>(writer: &mut Writer<'_, K>, circuit: &Circuit)
     requires { IsCircuit circuit.now }
-    ensures { Writes K.written K.faults (version_text circuit.now) writer.old writer.new }
+    ensures gave { Writes K.output K.faults (version_text circuit.now) writer.old writer.new }
+    ensures none_waits { NoneWaits writer.new }
 {
     writer.line(&[Text(b"runs 2")]);
     write_net(writer, size_of(circuit));
@@ -87,7 +91,8 @@ pub fn write_version<K: Sink>(writer: &mut Writer<'_, K>, circuit: &Circuit)
 // Gives the line with the size of a network.
 #[tactic(auto, using(hz_write::proofs::Writers::writes_same), unfolding(crate::specs::RunPrinted::net_line, hz_write::specs::Writes::line_of))]
 fn write_net<K: Sink>(writer: &mut Writer<'_, K>, size: Size)
-    ensures { Writes K.written K.faults (net_line size) writer.old writer.new }
+    ensures gave { Writes K.output K.faults (net_line size) writer.old writer.new }
+    ensures none_waits { NoneWaits writer.new }
 {
     writer.line(&[
         Text(b"net "),
@@ -102,7 +107,7 @@ fn write_net<K: Sink>(writer: &mut Writer<'_, K>, size: Size)
 /// Gives the line after the runs of a run text.
 #[tactic(auto, using(hz_write::proofs::Writers::writes_then))]
 pub fn write_end<K: Sink>(writer: &mut Writer<'_, K>)
-    ensures gave { Writes K.written K.faults (codes "end\n") writer.old writer.new }
+    ensures gave { Writes K.output K.faults (codes "end\n") writer.old writer.new }
     ensures none_waits { NoneWaits writer.new }
 {
     writer.line(&[Text(b"end")]);
@@ -110,8 +115,10 @@ pub fn write_end<K: Sink>(writer: &mut Writer<'_, K>)
 
 // Gives the lines of the runs.
 fn write_all<K: Sink>(writer: &mut Writer<'_, K>, net: &Net, text: &RunText)
-    requires { All (λ flips. All (λ var. var < length (network_of net.now)) flips) (all_steps text.now.runs) }
-    ensures { Writes K.written K.faults (flat_map (run_text net.now) text.now.runs) writer.old writer.new }
+    requires variables { All (λ flips. All (λ var. var < length (network_of net.now)) flips) (all_steps text.now.runs) }
+    requires none_waits { NoneWaits writer.old }
+    ensures gave { Writes K.output K.faults (flat_map (run_text net.now) text.now.runs) writer.old writer.new }
+    ensures none_waits { NoneWaits writer.new }
 {
     for number in 0..text.runs() {
         write_run(writer, net, text.lead(number), text.cycle(number));
@@ -123,8 +130,9 @@ fn write_all<K: Sink>(writer: &mut Writer<'_, K>, net: &Net, text: &RunText)
 pub fn write_run<K: Sink>(writer: &mut Writer<'_, K>, net: &Net, lead: &Run, cycle: Option<&Run>)
     requires lead { All (λ flips. All (λ var. var < length (network_of net.now)) flips) lead.now.steps }
     requires cycle { All (λ flips. All (λ var. var < length (network_of net.now)) flips) (cycle_steps (option_map (λ run. run.now.steps) cycle)) }
-    ensures { Writes K.written K.faults
+    ensures gave { Writes K.output K.faults
         (run_text net.now (record { lead = lead.now.steps; cycle = option_map (λ run. run.now.steps) cycle.entry })) writer.old writer.new }
+    ensures none_waits { NoneWaits writer.new }
 {
     writer.line(&[Text(b"run")]);
     write_steps(writer, net, lead);
@@ -134,8 +142,11 @@ pub fn write_run<K: Sink>(writer: &mut Writer<'_, K>, net: &Net, lead: &Run, cyc
 // Gives the lines of a cycle, if there is one.
 #[tactic(auto, using(hz_write::proofs::Writers::writes_then, hz_write::proofs::Writers::writes_nothing))]
 fn write_cycle<K: Sink>(writer: &mut Writer<'_, K>, net: &Net, cycle: Option<&Run>)
-    requires { All (λ flips. All (λ var. var < length (network_of net.now)) flips) (cycle_steps (option_map (λ run. run.now.steps) cycle)) }
-    ensures { Writes K.written K.faults (cycle_text net.now (option_map (λ run. run.now.steps) cycle.entry)) writer.old writer.new }
+    requires variables { All (λ flips. All (λ var. var < length (network_of net.now)) flips) (cycle_steps (option_map (λ run. run.now.steps) cycle)) }
+    requires none_waits { NoneWaits writer.old }
+    ensures gave { Writes K.output K.faults
+        (cycle_text net.now (option_map (λ run. run.now.steps) cycle.entry)) writer.old writer.new }
+    ensures none_waits { NoneWaits writer.new }
 {
     let Some(steps) = cycle else {
         return;
@@ -147,8 +158,10 @@ fn write_cycle<K: Sink>(writer: &mut Writer<'_, K>, net: &Net, cycle: Option<&Ru
 // Gives a line for each step.
 #[tactic(auto, using(hz_write::proofs::Writers::writes_then, hz_write::proofs::Writers::writes_nothing))]
 fn write_steps<K: Sink>(writer: &mut Writer<'_, K>, net: &Net, run: &Run)
-    requires { All (λ flips. All (λ var. var < length (network_of net.now)) flips) run.now.steps }
-    ensures { Writes K.written K.faults (flat_map (step_text net.now) run.now.steps) writer.old writer.new }
+    requires variables { All (λ flips. All (λ var. var < length (network_of net.now)) flips) run.now.steps }
+    requires none_waits { NoneWaits writer.old }
+    ensures gave { Writes K.output K.faults (flat_map (step_text net.now) run.now.steps) writer.old writer.new }
+    ensures none_waits { NoneWaits writer.new }
 {
     for number in 0..run.steps() {
         write_step(writer, net, run.step(number));
@@ -159,7 +172,8 @@ fn write_steps<K: Sink>(writer: &mut Writer<'_, K>, net: &Net, run: &Run)
 #[tactic(auto, using(hz_write::proofs::Writers::writes_then), unfolding(crate::specs::RunPrinted::step_text))]
 fn write_step<K: Sink>(writer: &mut Writer<'_, K>, net: &Net, flips: &[u32])
     requires { All (λ var. var < length (network_of net.now)) flips.now }
-    ensures { Writes K.written K.faults (step_text net.now flips.now) writer.old writer.new }
+    ensures gave { Writes K.output K.faults (step_text net.now flips.now) writer.old writer.new }
+    ensures none_waits { NoneWaits writer.new }
 {
     writer.text(b"step");
     write_variables(writer, net, flips);
@@ -170,7 +184,7 @@ fn write_step<K: Sink>(writer: &mut Writer<'_, K>, net: &Net, flips: &[u32])
 #[tactic(auto, using(hz_write::proofs::Writers::writes_then, hz_write::proofs::Writers::writes_nothing))]
 fn write_variables<K: Sink>(writer: &mut Writer<'_, K>, net: &Net, flips: &[u32])
     requires { All (λ var. var < length (network_of net.now)) flips.now }
-    ensures { Writes K.written K.faults (flat_map (spaced_word net.now) flips.now) writer.old writer.new }
+    ensures { Writes K.output K.faults (flat_map (spaced_word net.now) flips.now) writer.old writer.new }
 {
     for var in flips {
         writer.text(b" ");
@@ -181,7 +195,7 @@ fn write_variables<K: Sink>(writer: &mut Writer<'_, K>, net: &Net, flips: &[u32]
 /// Gives the word of a variable: a node's own name, or the gate and the pin that a wire goes into, counted from 1.
 pub fn write_variable<K: Sink>(writer: &mut Writer<'_, K>, net: &Net, var: u32)
     requires { var < length (network_of net.now) }
-    ensures { Writes K.written K.faults (variable_word net.now var) writer.old writer.new }
+    ensures { Writes K.output K.faults (variable_word net.now var) writer.old writer.new }
 {
     let circuit = net.circuit();
     if var < circuit.nodes() {
@@ -196,7 +210,7 @@ pub fn write_variable<K: Sink>(writer: &mut Writer<'_, K>, net: &Net, var: u32)
 fn write_wire<K: Sink>(writer: &mut Writer<'_, K>, net: &Net, wire: u32)
     requires node { length net.now.names ≤ wire }
     requires within { wire < length (network_of net.now) }
-    ensures { Writes K.written K.faults (variable_word net.now wire) writer.old writer.new }
+    ensures { Writes K.output K.faults (variable_word net.now wire) writer.old writer.new }
 {
     let circuit = net.circuit();
     match net.kind_of(wire) {
@@ -210,7 +224,7 @@ fn write_wire<K: Sink>(writer: &mut Writer<'_, K>, net: &Net, wire: u32)
 fn write_gate_pin<K: Sink>(writer: &mut Writer<'_, K>, circuit: &Circuit, gate: u32, pin: u32)
     requires gate { gate < length circuit.now.names }
     requires pin { pin < most_gate_pins }
-    ensures { Writes K.written K.faults
+    ensures { Writes K.output K.faults
         (node_name circuit.now.names gate ++ 40 ∷ decimal (pin + 1) ++ 41 ∷ []) writer.old writer.new }
 {
     writer.text(circuit.name(gate));
@@ -220,7 +234,7 @@ fn write_gate_pin<K: Sink>(writer: &mut Writer<'_, K>, circuit: &Circuit, gate: 
 // Gives the number of a pin, which is counted from 0, in parentheses. Most gates have few pins.
 fn write_pin<K: Sink>(writer: &mut Writer<'_, K>, pin: u32)
     requires { pin < most_gate_pins }
-    ensures { Writes K.written K.faults (40 ∷ decimal (pin + 1) ++ 41 ∷ []) writer.old writer.new }
+    ensures { Writes K.output K.faults (40 ∷ decimal (pin + 1) ++ 41 ∷ []) writer.old writer.new }
 {
     match pin {
         0 => writer.text(b"(1)"),

@@ -3,7 +3,7 @@
 ghost use Rattle.std.specs.Prelude.{◌≡◌, ◌<◌, length, IfOk, codes};
 ghost use Rattle.std.specs.List.{flat_map};
 ghost use Rattle.hz_core.specs.Netlist.{IsCircuit};
-ghost use Rattle.hz_write.specs.Writer.{Writes};
+ghost use Rattle.hz_write.specs.Writer.{Writes, NoneWaits};
 ghost use Rattle.hz_write.specs.Writes.{Wrote};
 ghost use Rattle.hz_text.specs.Printed.{statement_text, listed_from, script_text};
 ghost use Rattle.hz_text.specs.ScriptFault.{IsScriptFaultless};
@@ -19,7 +19,6 @@ use std::alloc::Global;
 /// Prints a script of a circuit: the start in the order of the nodes, then each change in its own order. Keywords are in
 /// small letters, words are separated by one space, and each line ends with a line feed. If the text has at most
 /// 16,777,216 bytes, [`crate::read_script`] gives the script back.
-#[tactic(auto, unfolding(hz_outside::specs::WrittenText::extended_text))]
 pub fn print_script(alloc: Global, circuit: &Circuit, script: &Script) -> Result<Vec<u8>, Memory>
     requires { IsScriptFor circuit.now script.now }
     ensures text { IfOk result (λ text. text.items ≡ script_text circuit.now script.now) }
@@ -29,7 +28,9 @@ pub fn print_script(alloc: Global, circuit: &Circuit, script: &Script) -> Result
     let mut sink = PlainSink::new(alloc);
     match write_script(&mut sink, circuit, script) {
         Ok(()) => Ok(sink.into_bytes()),
-        Err(_) => Err(Memory),
+        Err(PutFault::Memory) => Err(Memory),
+        // No put into memory fails.
+        Err(PutFault::Failed) => unreachable!(),
     }
 }
 
@@ -37,7 +38,7 @@ pub fn print_script(alloc: Global, circuit: &Circuit, script: &Script) -> Result
 fn write_script<K: Sink>(out: &mut K, circuit: &Circuit, script: &Script) -> Result<(), PutFault>
     requires { IsScriptFor circuit.now script.now }
     ensures circuit { IsCircuit circuit.now }
-    ensures wrote { Wrote K.written K.faults (script_text circuit.now script.now) out.old out.new result }
+    ensures wrote { Wrote K.output K.faults (script_text circuit.now script.now) out.old out.new result }
 {
     let _nodes = circuit.nodes();
     let mut writer = Writer::new(out);
@@ -51,7 +52,9 @@ fn write_script<K: Sink>(out: &mut K, circuit: &Circuit, script: &Script) -> Res
 fn write_start<K: Sink>(writer: &mut Writer<'_, K>, circuit: &Circuit, start: &[Option<bool>])
     requires circuit { IsCircuit circuit.now }
     requires nodes { length start.now ≡ length circuit.now.names }
-    ensures { Writes K.written K.faults (statement_text circuit.now (codes "start") (listed_from 0 start.now)) writer.old writer.new }
+    ensures gave { Writes K.output K.faults
+        (statement_text circuit.now (codes "start") (listed_from 0 start.now)) writer.old writer.new }
+    ensures none_waits { NoneWaits writer.new }
 {
     writer.text(b"start");
     write_listed(writer, circuit, start);
@@ -61,8 +64,11 @@ fn write_start<K: Sink>(writer: &mut Writer<'_, K>, circuit: &Circuit, start: &[
 // Gives the line of each change.
 #[tactic(auto, using(hz_write::proofs::Writers::writes_then, hz_write::proofs::Writers::writes_nothing))]
 fn write_changes<K: Sink>(writer: &mut Writer<'_, K>, circuit: &Circuit, script: &Script)
-    requires { IsScriptFor circuit.now script.now }
-    ensures { Writes K.written K.faults (flat_map (statement_text circuit.now (codes "change")) script.now.changes) writer.old writer.new }
+    requires script { IsScriptFor circuit.now script.now }
+    requires none_waits { NoneWaits writer.old }
+    ensures gave { Writes K.output K.faults
+        (flat_map (statement_text circuit.now (codes "change")) script.now.changes) writer.old writer.new }
+    ensures none_waits { NoneWaits writer.new }
 {
     for number in 0..script.changes() {
         write_statement(writer, circuit, b"change", script.change(number));

@@ -1,6 +1,6 @@
 use Rattle.std.proofs.Common.{◌≡◌, ℕ, ◌+◌, ◌-◌, ◌<◌, ◌≤◌, arith}
 use Rattle.hz_core.specs.Netlist.{Netlist}
-use Rattle.hz_gen.specs.Demo.{IsDemoNumber}
+use Rattle.hz_options.specs.Numbers.{IsDemoNumber}
 use Rattle.hz_gen.specs.BuiltDemo.{chain_netlist, last_gate}
 use Rattle.hz_gen.proofs.Steps.{IsNext, first-may, second-may, third-may, third-added}
 use Rattle.hz_gen.proofs.circuit.add_chain.Goals as goal

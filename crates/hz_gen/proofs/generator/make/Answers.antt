@@ -1,6 +1,6 @@
 use Rattle.std.proofs.Common.{◌∙◌, ap, sym, subst, rules}
 use Rattle.hz_core.specs.Netlist.{IsWhole, variable_count}
-use Rattle.hz_gen.specs.Demo.{IsDemoNumber}
+use Rattle.hz_options.specs.Numbers.{IsDemoNumber}
 use Rattle.hz_gen.proofs.Laws.{demo-nodes, demo-whole, demo-variables, demo-fits}
 use Rattle.hz_gen.proofs.generator.make.Goals as goal
 

@@ -7,4 +7,4 @@ use Rattle.hz_report.proofs.head.write_feedback.Given as goal
 -- the lines of the cycles so far
 abbrev pub invariant-loop-number : goal.invariant-loop-number
 invariant-loop-number g l =
-    Writes g.K.Sink.written g.K.Sink.faults (flat_map (feedback_line l.net) (take l.number l.free.cycles)) l.fn.writer l.writer
+    Writes g.K.Sink.output g.K.Sink.faults (flat_map (feedback_line l.net) (take l.number l.free.cycles)) l.fn.writer l.writer

@@ -7,9 +7,9 @@ use Rattle.hz_report.specs.Report.{netlist_line}
 use Rattle.hz_report.proofs.Lines.{gates-counted, wires-counted}
 use Rattle.hz_report.proofs.head.write_netlist.Goals as goal
 
-pub returns : goal.returns
+pub returns-clause-gave : goal.returns-clause-gave
 unfolding netlist_line
-returns g c =
+returns-clause-gave g c =
     let net = c.args.net.now in
     let of_inputs : c.inputs-inputs.result ≡ net.inputs = cc in
     let of_nodes : c.nodes-nodes.result ≡ length net.names = cc in

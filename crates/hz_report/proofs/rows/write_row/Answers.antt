@@ -8,9 +8,9 @@ use Rattle.hz_report.specs.Words.{tri_letter}
 use Rattle.hz_report.proofs.RowLemmas.{row-line}
 use Rattle.hz_report.proofs.rows.write_row.Goals as goal
 
-pub returns : goal.returns
+pub returns-clause-gave : goal.returns-clause-gave
 unfolding row_line
-returns g c =
+returns-clause-gave g c =
     let row = c.args.row in
     writes_then (writes_then c.write_variable.ensures c.write_row_text.ensures refl) c.end.ensures.gave
     (row-line

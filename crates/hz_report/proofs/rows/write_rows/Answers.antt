@@ -13,7 +13,7 @@ write_row-requires g c = omega (arith, shown-within c.args.net.now c.args.show c
 
 pub loop-var-preserved : goal.loop-var-preserved
 loop-var-preserved g c =
-    writes_then c.loop-var.invariant c.write_row.ensures (sym (row_lines_more c.args.net.now c.args.rows.now c.loop-var.var c.row.result c.row.ensures))
+    writes_then c.loop-var.invariant c.write_row.ensures.gave (sym (row_lines_more c.args.net.now c.args.rows.now c.loop-var.var c.row.result c.row.ensures))
 
 pub returns : goal.returns
 returns g c =

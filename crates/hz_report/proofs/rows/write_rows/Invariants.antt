@@ -6,4 +6,4 @@ use Rattle.hz_report.proofs.rows.write_rows.Given as goal
 -- the lines of the rows so far
 abbrev pub invariant-loop-var : goal.invariant-loop-var
 invariant-loop-var g l =
-    Writes g.K.Sink.written g.K.Sink.faults (row_lines l.net 0 (take l.var l.rows)) l.fn.writer l.writer
+    Writes g.K.Sink.output g.K.Sink.faults (row_lines l.net 0 (take l.var l.rows)) l.fn.writer l.writer

@@ -4,9 +4,9 @@ use Rattle.hz_write.proofs.Writers.{writes_same}
 use Rattle.hz_report.specs.Report.{classes_line, count_at}
 use Rattle.hz_report.proofs.summary.write_classes.Goals as goal
 
-pub returns : goal.returns
+pub returns-clause-gave : goal.returns-clause-gave
 unfolding classes_line
-returns g c =
+returns-clause-gave g c =
     let totals = c.count_classes.result in
     let places : length totals ≡ 6 = search rules in
     let total : (place : ℕ) → place < 6 → get_or totals place 0 ≡ count_at c.args.rows.now place =

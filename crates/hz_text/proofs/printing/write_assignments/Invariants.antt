@@ -6,4 +6,4 @@ use Rattle.hz_text.proofs.printing.write_assignments.Given as goal
 
 abbrev pub invariant-loop-node : goal.invariant-loop-node
 invariant-loop-node g l =
-    Writes g.K.Sink.written g.K.Sink.faults (flat_map (assignment_text l.circuit) (take l.node-index l.pairs)) l.fn.writer l.writer
+    Writes g.K.Sink.output g.K.Sink.faults (flat_map (assignment_text l.circuit) (take l.node-index l.pairs)) l.fn.writer l.writer

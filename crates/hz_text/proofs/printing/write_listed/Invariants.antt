@@ -7,4 +7,4 @@ use Rattle.hz_text.proofs.printing.write_listed.Given as goal
 -- the nodes so far
 abbrev pub invariant-loop-node : goal.invariant-loop-node
 invariant-loop-node g l =
-    Writes g.K.Sink.written g.K.Sink.faults (flat_map (assignment_text l.circuit) (listed_from 0 (take l.node l.start))) l.fn.writer l.writer
+    Writes g.K.Sink.output g.K.Sink.faults (flat_map (assignment_text l.circuit) (listed_from 0 (take l.node l.start))) l.fn.writer l.writer

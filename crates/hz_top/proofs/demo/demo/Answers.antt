@@ -5,10 +5,10 @@ use Rattle.hz_text.specs.ScriptValue.{ScriptOf}
 use Rattle.hz_text.specs.ScriptText.{IsScriptFor}
 use Rattle.hz_gen.specs.Demo.{demo_netlist, demo_script}
 use Rattle.hz_pass.specs.Completed.{IsStartFault}
-use Rattle.hz_top.specs.Answer.{Answers}
+use Rattle.hz_top.specs.Ends.{Ends}
 use Rattle.hz_top.specs.Outcome.{IsDemoOutcome}
 use Rattle.hz_top.specs.Inside.{StartPrints}
-use Rattle.hz_top.proofs.PutEndings.{Answers-more}
+use Rattle.hz_top.proofs.PutEndings.{Ends-more}
 use Rattle.hz_top.proofs.JobOutcomes.{ListsInputs-front, start-not-refused}
 use Rattle.hz_top.proofs.demo.demo.Goals as goal
 
@@ -32,6 +32,6 @@ returns g c =
     subst (λ (start : List (Option Bool)). IsStartFault (demo_netlist c.args.number) start c.in-Err.fault) listed
     (subst (λ (n : Netlist). IsStartFault n c.start.result.now c.in-Err.fault) net c.in-Err.ensures.start) in
     let completable = c.demo_starts.ensures c.args.number c.requires.number circuit in
-    let said = subst (λ (n : Netlist). Answers g.K.Sink.written g.K.Sink.faults (StartPrints n c.in-Err.fault) c.args.out.now c.refuse_start.new.out c.refuse_start.result) (c.circuit.ensures.same ∙ net) c.refuse_start.ensures in
-    Answers-more g.K.Sink.written g.K.Sink.faults (StartPrints (demo_netlist c.args.number) c.in-Err.fault) (IsDemoOutcome c.args.number c.args.cap) c.args.out.now c.refuse_start.new.out c.refuse_start.result
+    let said = subst (λ (n : Netlist). Ends g.K.Sink.output g.K.Sink.faults (StartPrints n c.in-Err.fault) c.args.out.now c.refuse_start.new.out c.refuse_start.result) (c.circuit.ensures.same ∙ net) c.refuse_start.ensures in
+    Ends-more g.K.Sink.output g.K.Sink.faults (StartPrints (demo_netlist c.args.number) c.in-Err.fault) (IsDemoOutcome c.args.number c.args.cap) c.args.out.now c.refuse_start.new.out c.refuse_start.result
     (λ own text says. absurd (start-not-refused (demo_netlist c.args.number) (demo_script c.args.number).start c.in-Err.fault completable why own text says)) said

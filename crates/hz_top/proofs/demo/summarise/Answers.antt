@@ -9,7 +9,7 @@ use Rattle.hz_seq.specs.Analyses.{Found, AreAnalyses}
 use Rattle.hz_report.specs.Report.{summary_text}
 use Rattle.hz_top.specs.declared.status.Status.TheVariants as status
 use Rattle.hz_top.specs.Outcome.{IsSummaryOutcome}
-use Rattle.hz_top.proofs.PutEndings.{Answers-put}
+use Rattle.hz_top.proofs.PutEndings.{Ends-put}
 use Rattle.hz_top.proofs.OneChangeScripts.{one-change, only-change}
 use Rattle.hz_top.proofs.demo.summarise.Goals as goal
 
@@ -31,5 +31,5 @@ returns-in-Ok-next g c =
     subst (λ (list : List (List (ℕ × Bool))). AreAnalyses netlist c.args.cap c.args.start.now list (Found finding ∷ [])) (sym only)
     (one-change netlist c.args.cap c.in-Ok-new.sequence c.args.start.now c.change.result.now finding same begins c.requires.start c.requires.circuit
     c.in-Ok-next.ensures.finding.0 c.in-Ok-next.ensures.finding.1 _ (rw c.in-Ok-next.is at c.next.follows.holds-at-none)) in
-    Answers-put g.K.Sink.written g.K.Sink.faults (IsSummaryOutcome netlist c.args.cap c.args.start.now c.args.script.now.changes) c.args.out.now c.put_summary.new.out status.Done (summary_text netlist finding)
+    Ends-put g.K.Sink.output g.K.Sink.faults (IsSummaryOutcome netlist c.args.cap c.args.start.now c.args.script.now.changes) c.args.out.now c.put_summary.new.out status.Done (summary_text netlist finding)
     c.put_summary.result c.status_after.result tt (refl, (finding, are, refl)) c.put_summary.ensures c.status_after.ensures

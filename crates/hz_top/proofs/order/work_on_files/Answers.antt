@@ -1,9 +1,10 @@
 use Rattle.std.proofs.Common.{refl, inl, inr, ap, ◌∙◌, Err}
 use Rattle.hz_outside.specs.declared.fault.Place.TheVariants.{First}
-use Rattle.hz_top.specs.Outcome.{IsFilesOutcome, IsTaskOutcome, IsSecondFileOutcome, observation_of}
+use Rattle.hz_top.specs.Outcome.{IsFilesOutcome, IsSecondFileOutcome, observation_of}
+use Rattle.hz_top.specs.Tasks.{comes_of}
 use Rattle.hz_top.specs.Refusal.{netlist_fault_line}
 use Rattle.hz_top.specs.Inside.{LoadPrints, NetlistPrints}
-use Rattle.hz_top.proofs.PutEndings.{Answers-more}
+use Rattle.hz_top.proofs.PutEndings.{Ends-more}
 use Rattle.hz_top.proofs.JobOutcomes.{FileRefused-load, IsSecondFileOutcome-before, netlist-refused}
 use Rattle.hz_top.proofs.order.work_on_files.Goals as goal
 
@@ -11,8 +12,8 @@ pub returns-in-Err : goal.returns-in-Err
 returns-in-Err g c =
     let told = observation_of g.F.Files.held g.F.Files.faults g.F.Files.longs c.args.files.now c.load.new.self in
     let first = c.args.first.now in
-    let comes = IsFilesOutcome told (IsTaskOutcome c.args.task) first c.args.second.now in
-    Answers-more g.K.Sink.written g.K.Sink.faults (LoadPrints First c.in-Err.fault) comes c.args.out.now c.refuse_load.new.out c.refuse_load.result
+    let comes = IsFilesOutcome told (comes_of c.args.options c.args.task) first c.args.second.now in
+    Ends-more g.K.Sink.output g.K.Sink.faults (LoadPrints First c.in-Err.fault) comes c.args.out.now c.refuse_load.new.out c.refuse_load.result
     (λ own text says. inl (
       (c.load.ensures.other_faults, c.load.ensures.other_longs),
       FileRefused-load told First first c.in-Err.fault
@@ -23,9 +24,9 @@ returns-in-Err g c =
 pub returns-in-Err-read : goal.returns-in-Err-read
 returns-in-Err-read g c =
     let told = observation_of g.F.Files.held g.F.Files.faults g.F.Files.longs c.args.files.now c.load.new.self in
-    let comes = IsFilesOutcome told (IsTaskOutcome c.args.task) c.args.first.now c.args.second.now in
+    let comes = IsFilesOutcome told (comes_of c.args.options c.args.task) c.args.first.now c.args.second.now in
     let fault = c.in-Err-read.fault in
-    Answers-more g.K.Sink.written g.K.Sink.faults (NetlistPrints fault) comes c.args.out.now c.refuse_netlist.new.out c.refuse_netlist.result
+    Ends-more g.K.Sink.output g.K.Sink.faults (NetlistPrints fault) comes c.args.out.now c.refuse_netlist.new.out c.refuse_netlist.result
     (λ own text says. inr (
       c.as_slice.result.now,
       (rw c.as_slice.ensures.value c.in-Ok.ensures.bytes, rw c.as_slice.ensures.len c.in-Ok.ensures.short),
@@ -45,8 +46,8 @@ returns g c =
     let now = c.work_on_second.new.files in
     let name = c.args.second.now in
     let net = c.in-Ok-build.net in
-    let comes = IsTaskOutcome c.args.task in
-    Answers-more g.K.Sink.written g.K.Sink.faults (IsSecondFileOutcome (observation_of held faults longs c.load.new.self now) (comes net) name)
+    let comes = comes_of c.args.options c.args.task in
+    Ends-more g.K.Sink.output g.K.Sink.faults (IsSecondFileOutcome (observation_of held faults longs c.load.new.self now) (comes net) name)
     (IsFilesOutcome (observation_of held faults longs c.args.files.now now) comes c.args.first.now name) c.args.out.now c.work_on_second.new.out c.work_on_second.result
     (λ own text says. inr (
       c.as_slice.result.now,

@@ -1,16 +1,17 @@
 use Rattle.std.proofs.Common.{inl, inr, ap, ◌∙◌, Err}
 use Rattle.hz_outside.specs.declared.fault.Place.TheVariants.{Second}
-use Rattle.hz_top.specs.Outcome.{IsTaskOutcome, IsSecondFileOutcome, observation_of}
+use Rattle.hz_top.specs.Outcome.{IsSecondFileOutcome, observation_of}
+use Rattle.hz_top.specs.Tasks.{comes_of}
 use Rattle.hz_top.specs.Inside.{LoadPrints}
-use Rattle.hz_top.proofs.PutEndings.{Answers-more}
+use Rattle.hz_top.proofs.PutEndings.{Ends-more}
 use Rattle.hz_top.proofs.JobOutcomes.{FileRefused-load}
 use Rattle.hz_top.proofs.order.work_on_second.Goals as goal
 
 pub returns-in-Ok : goal.returns-in-Ok
 returns-in-Ok g c =
     let told = observation_of g.F.Files.held g.F.Files.faults g.F.Files.longs c.args.files.now c.load.new.self in
-    let comes = IsTaskOutcome c.args.task c.args.net.now in
-    Answers-more g.K.Sink.written g.K.Sink.faults (comes c.as_slice.result.now) (IsSecondFileOutcome told comes c.args.second.now)
+    let comes = comes_of c.args.options c.args.task c.args.net.now in
+    Ends-more g.K.Sink.output g.K.Sink.faults (comes c.as_slice.result.now) (IsSecondFileOutcome told comes c.args.second.now)
     c.args.out.now c.work_on_text.new.out c.work_on_text.result
     (λ own text says. inr (
       c.as_slice.result.now,
@@ -21,8 +22,8 @@ returns-in-Ok g c =
 pub returns-in-Err : goal.returns-in-Err
 returns-in-Err g c =
     let told = observation_of g.F.Files.held g.F.Files.faults g.F.Files.longs c.args.files.now c.load.new.self in
-    let comes = IsTaskOutcome c.args.task c.args.net.now in
-    Answers-more g.K.Sink.written g.K.Sink.faults (LoadPrints Second c.in-Err.fault) (IsSecondFileOutcome told comes c.args.second.now)
+    let comes = comes_of c.args.options c.args.task c.args.net.now in
+    Ends-more g.K.Sink.output g.K.Sink.faults (LoadPrints Second c.in-Err.fault) (IsSecondFileOutcome told comes c.args.second.now)
     c.args.out.now c.refuse_load.new.out c.refuse_load.result
     (λ own text says. inl (FileRefused-load told Second c.args.second.now c.in-Err.fault
     (λ is. c.load.ensures.failed (c.in-Err.is ∙ ap Err is)) (λ is. c.load.ensures.too_long (c.in-Err.is ∙ ap Err is))

@@ -7,4 +7,4 @@ use Rattle.hz_top.proofs.refusal.put_text_fault.Goals as goal
 -- out of memory has no line
 pub returns-in-Memory : goal.returns-in-Memory
 returns-in-Memory g c =
-    subst (λ (text : List ℕ). Puts g.K.Sink.written g.K.Sink.faults text c.args.out.now c.args.out.now) (ap (text_fault_line c.args.called.now c.args.circuit.now) (sym c.in-Memory.is)) (Puts-nil c.args.out.now)
+    subst (λ (text : List ℕ). Puts g.K.Sink.output g.K.Sink.faults text c.args.out.now c.args.out.now) (ap (text_fault_line c.args.called.now c.args.circuit.now) (sym c.in-Memory.is)) (Puts-nil c.args.out.now)

@@ -18,7 +18,7 @@ use Rattle.hz_top.proofs.reporting.write_changes.Goals as goal
 pub loop-number-init : goal.loop-number-init
 loop-number-init g c = (
   [],
-  no-changes c.args.net.now c.args.cap c.args.sequence.now c.requires.net c.requires.goes c.requires.start,
+  no-changes c.args.net.now c.args.options.cap c.args.sequence.now c.requires.net c.requires.goes c.requires.start,
   refl,
   subst (IsStopInside c.args.net.now) (sym c.requires.goes) tt,
   writes_nothing c.args.writer.now,
@@ -46,19 +46,19 @@ loop-number-preserved g c =
     rw add-one (take-suc changes number [] few)
     ∙ ap (λ (one : List (ℕ × Bool)). take number changes ++ one ∷ []) (get_or_from_slice_get changes number change [] c.change.ensures.change) in
     let place : number + 1 ≡ 1 + length (take number changes) = omega (arith, long) in
-    let lines : Writes g.K.Sink.written g.K.Sink.faults (analysis_text netlist c.args.show (1 + length (take number changes)) change made.0) c.loop-number.writer c.write_next.new.writer =
-    subst (λ (n : ℕ). Writes g.K.Sink.written g.K.Sink.faults (analysis_text netlist c.args.show n change made.0) c.loop-number.writer c.write_next.new.writer) place made.2 in
+    let lines : Writes g.K.Sink.output g.K.Sink.faults (analysis_text netlist c.args.options.show (1 + length (take number changes)) change made.0) c.loop-number.writer c.write_next.new.writer =
+    subst (λ (n : ℕ). Writes g.K.Sink.output g.K.Sink.faults (analysis_text netlist c.args.options.show n change made.0) c.loop-number.writer c.write_next.new.writer) place made.2 in
     subst (λ (list : List (List (ℕ × Bool))).
     (analyses : List Analysis)
-    × AreFirstAnalyses netlist c.args.cap start list analyses c.write_next.new.sequence
+    × AreFirstAnalyses netlist c.args.options.cap start list analyses c.write_next.new.sequence
     × (length analyses ≡ length list)
     × IsStopInside netlist c.write_next.new.sequence.stopped
-    × Writes g.K.Sink.written g.K.Sink.faults (analyses_text netlist c.args.show 1 list analyses) c.args.writer.now c.write_next.new.writer) (sym taken) (
+    × Writes g.K.Sink.output g.K.Sink.faults (analyses_text netlist c.args.options.show 1 list analyses) c.args.writer.now c.write_next.new.writer) (sym taken) (
       so_far.0 ++ made.0 ∷ [],
-      goes-on netlist c.args.cap start (take number changes) so_far.0 c.loop-number.sequence c.write_next.new.sequence c.requires.circuit so_far.1 change made.0 made.1,
+      goes-on netlist c.args.options.cap start (take number changes) so_far.0 c.loop-number.sequence c.write_next.new.sequence c.requires.circuit so_far.1 change made.0 made.1,
       length-append so_far.0 (made.0 ∷ []) ∙ ap (λ (n : ℕ). n + 1) so_far.2 ∙ sym (length-append (take number changes) (change ∷ [])),
-      stop-inside netlist c.args.cap start (take number changes) so_far.0 c.loop-number.sequence c.write_next.new.sequence c.requires.circuit so_far.1 change made.0 so_far.3 made.1,
-      writes_then so_far.4 lines (text-more netlist c.args.show 1 (take number changes) so_far.0 change made.0 so_far.2),
+      stop-inside netlist c.args.options.cap start (take number changes) so_far.0 c.loop-number.sequence c.write_next.new.sequence c.requires.circuit so_far.1 change made.0 so_far.3 made.1,
+      writes_then so_far.4 lines (text-more netlist c.args.options.show 1 (take number changes) so_far.0 change made.0 so_far.2),
     )
 
 -- once the output failed, the lines of the changes that are left come to nothing, but they are known to be there
@@ -69,17 +69,17 @@ returns-then-has_failed g c =
     let number = c.loop-number.number in
     let start = c.args.sequence.now.start in
     let so_far = c.loop-number.invariant in
-    let has : HasFindings netlist c.args.cap = λ begin input stable long.
-    c.findings_exist.ensures netlist input begin c.args.cap c.requires.circuit c.len-variables.ensures.whole stable in
-    let rest = with-later netlist c.args.cap c.requires.circuit has start (take number changes) (drop number changes) so_far.0 c.loop-number.sequence so_far.1 in
+    let has : HasFindings netlist c.args.options.cap = λ begin input stable long.
+    c.findings_exist.ensures netlist input begin c.args.options.cap c.requires.circuit c.len-variables.ensures.whole stable in
+    let rest = with-later netlist c.args.options.cap c.requires.circuit has start (take number changes) (drop number changes) so_far.0 c.loop-number.sequence so_far.1 in
     let whole : take number changes ++ drop number changes ≡ changes = take-append-drop number changes in
     let failed : is_some c.loop-number.writer.fault ≡ true = sym c.has_failed.ensures ∙ c.if-has_failed.true in
-    let lines : Writes g.K.Sink.written g.K.Sink.faults (analyses_text netlist c.args.show 1 (take number changes ++ drop number changes) (so_far.0 ++ rest.0)) c.args.writer.now c.loop-number.writer =
-    writes_then so_far.4 (writes_failed (analyses_text netlist c.args.show (1 + length (take number changes)) (drop number changes) rest.0) failed)
-    (text-append netlist c.args.show 1 (take number changes) so_far.0 (drop number changes) rest.0 so_far.2) in (
+    let lines : Writes g.K.Sink.output g.K.Sink.faults (analyses_text netlist c.args.options.show 1 (take number changes ++ drop number changes) (so_far.0 ++ rest.0)) c.args.writer.now c.loop-number.writer =
+    writes_then so_far.4 (writes_failed (analyses_text netlist c.args.options.show (1 + length (take number changes)) (drop number changes) rest.0) failed)
+    (text-append netlist c.args.options.show 1 (take number changes) so_far.0 (drop number changes) rest.0 so_far.2) in (
       so_far.0 ++ rest.0,
-      subst (λ (list : List (List (ℕ × Bool))). AreAnalyses netlist c.args.cap start list (so_far.0 ++ rest.0)) whole rest.1,
-      subst (λ (list : List (List (ℕ × Bool))). Writes g.K.Sink.written g.K.Sink.faults (analyses_text netlist c.args.show 1 list (so_far.0 ++ rest.0)) c.args.writer.now c.loop-number.writer) whole lines,
+      subst (λ (list : List (List (ℕ × Bool))). AreAnalyses netlist c.args.options.cap start list (so_far.0 ++ rest.0)) whole rest.1,
+      subst (λ (list : List (List (ℕ × Bool))). Writes g.K.Sink.output g.K.Sink.faults (analyses_text netlist c.args.options.show 1 list (so_far.0 ++ rest.0)) c.args.writer.now c.loop-number.writer) whole lines,
     )
 
 pub returns : goal.returns
@@ -90,7 +90,7 @@ returns g c =
     let end : number ≡ length changes = omega (arith, c.loop-number-test.false, c.loop-number.auto.number-end, c.changes-number-end.ensures.changes) in
     let whole : take number changes ≡ changes = ap (λ (n : ℕ). take n changes) end ∙ take-length changes in (
       so_far.0,
-      all-analyses c.args.net.now c.args.cap c.args.sequence.now.start changes so_far.0 c.loop-number.sequence
-          (subst (λ (list : List (List (ℕ × Bool))). AreFirstAnalyses c.args.net.now c.args.cap c.args.sequence.now.start list so_far.0 c.loop-number.sequence) whole so_far.1),
-      subst (λ (list : List (List (ℕ × Bool))). Writes g.K.Sink.written g.K.Sink.faults (analyses_text c.args.net.now c.args.show 1 list so_far.0) c.args.writer.now c.loop-number.writer) whole so_far.4,
+      all-analyses c.args.net.now c.args.options.cap c.args.sequence.now.start changes so_far.0 c.loop-number.sequence
+          (subst (λ (list : List (List (ℕ × Bool))). AreFirstAnalyses c.args.net.now c.args.options.cap c.args.sequence.now.start list so_far.0 c.loop-number.sequence) whole so_far.1),
+      subst (λ (list : List (List (ℕ × Bool))). Writes g.K.Sink.output g.K.Sink.faults (analyses_text c.args.net.now c.args.options.show 1 list so_far.0) c.args.writer.now c.loop-number.writer) whole so_far.4,
     )

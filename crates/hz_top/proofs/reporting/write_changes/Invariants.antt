@@ -10,7 +10,7 @@ use Rattle.hz_top.proofs.reporting.write_changes.Given as goal
 abbrev pub invariant-loop-number : goal.invariant-loop-number
 invariant-loop-number g l =
     (analyses : List Analysis)
-    × AreFirstAnalyses l.net l.cap l.fn.sequence.start (take l.number l.script.changes) analyses l.sequence
+    × AreFirstAnalyses l.net l.options.cap l.fn.sequence.start (take l.number l.script.changes) analyses l.sequence
     × (length analyses ≡ length (take l.number l.script.changes))
     × IsStopInside l.net l.sequence.stopped
-    × Writes g.K.Sink.written g.K.Sink.faults (analyses_text l.net l.show 1 (take l.number l.script.changes) analyses) l.fn.writer l.writer
+    × Writes g.K.Sink.output g.K.Sink.faults (analyses_text l.net l.options.show 1 (take l.number l.script.changes) analyses) l.fn.writer l.writer

@@ -10,23 +10,23 @@ write_change-requires-clause-change g c = below-names c.args.net.now c.args.chan
 
 pub write_change-requires-clause-rows : goal.write_change-requires-clause-rows
 write_change-requires-clause-rows g c =
-    (fits c.args.net.now c.args.sequence.now.desk.netlist c.args.cap c.args.sequence.now.start c.args.change.now (finding_of c.in-Ok.finding.now) c.requires.net c.requires.circuit (c.requires.stable c.in-Ok.ensures.finding.0) c.in-Ok.ensures.finding.1).rows
+    (fits c.args.net.now c.args.sequence.now.desk.netlist c.args.options.cap c.args.sequence.now.start c.args.change.now (finding_of c.in-Ok.finding.now) c.requires.net c.requires.circuit (c.requires.stable c.in-Ok.ensures.finding.0) c.in-Ok.ensures.finding.1).rows
 
 pub write_change-requires-clause-input : goal.write_change-requires-clause-input
 write_change-requires-clause-input g c =
-    (fits c.args.net.now c.args.sequence.now.desk.netlist c.args.cap c.args.sequence.now.start c.args.change.now (finding_of c.in-Ok.finding.now) c.requires.net c.requires.circuit (c.requires.stable c.in-Ok.ensures.finding.0) c.in-Ok.ensures.finding.1).input
+    (fits c.args.net.now c.args.sequence.now.desk.netlist c.args.options.cap c.args.sequence.now.start c.args.change.now (finding_of c.in-Ok.finding.now) c.requires.net c.requires.circuit (c.requires.stable c.in-Ok.ensures.finding.0) c.in-Ok.ensures.finding.1).input
 
 pub write_change-requires-clause-spread : goal.write_change-requires-clause-spread
 write_change-requires-clause-spread g c =
-    (fits c.args.net.now c.args.sequence.now.desk.netlist c.args.cap c.args.sequence.now.start c.args.change.now (finding_of c.in-Ok.finding.now) c.requires.net c.requires.circuit (c.requires.stable c.in-Ok.ensures.finding.0) c.in-Ok.ensures.finding.1).spread
+    (fits c.args.net.now c.args.sequence.now.desk.netlist c.args.options.cap c.args.sequence.now.start c.args.change.now (finding_of c.in-Ok.finding.now) c.requires.net c.requires.circuit (c.requires.stable c.in-Ok.ensures.finding.0) c.in-Ok.ensures.finding.1).spread
 
 pub write_change-requires-clause-settle : goal.write_change-requires-clause-settle
 write_change-requires-clause-settle g c =
-    (fits c.args.net.now c.args.sequence.now.desk.netlist c.args.cap c.args.sequence.now.start c.args.change.now (finding_of c.in-Ok.finding.now) c.requires.net c.requires.circuit (c.requires.stable c.in-Ok.ensures.finding.0) c.in-Ok.ensures.finding.1).settle
+    (fits c.args.net.now c.args.sequence.now.desk.netlist c.args.options.cap c.args.sequence.now.start c.args.change.now (finding_of c.in-Ok.finding.now) c.requires.net c.requires.circuit (c.requires.stable c.in-Ok.ensures.finding.0) c.in-Ok.ensures.finding.1).settle
 
 pub write_change-requires-clause-cycle : goal.write_change-requires-clause-cycle
 write_change-requires-clause-cycle g c =
-    (fits c.args.net.now c.args.sequence.now.desk.netlist c.args.cap c.args.sequence.now.start c.args.change.now (finding_of c.in-Ok.finding.now) c.requires.net c.requires.circuit (c.requires.stable c.in-Ok.ensures.finding.0) c.in-Ok.ensures.finding.1).cycle
+    (fits c.args.net.now c.args.sequence.now.desk.netlist c.args.options.cap c.args.sequence.now.start c.args.change.now (finding_of c.in-Ok.finding.now) c.requires.net c.requires.circuit (c.requires.stable c.in-Ok.ensures.finding.0) c.in-Ok.ensures.finding.1).cycle
 
 pub write_stopped-requires-clause-change : goal.write_stopped-requires-clause-change
 write_stopped-requires-clause-change g c = below-names c.args.net.now c.args.change.now c.requires.circuit c.requires.change

@@ -18,17 +18,17 @@ returns g c =
     let made = c.write_changes.ensures in
     let cycles = c.free.result.now.cycles in
     let same : c.desk.result.now.netlist ≡ netlist = ap (λ (desk : DeskOf). desk.netlist) c.desk.ensures ∙ c.requires.net in
-    let are : AreAnalyses netlist c.args.cap c.args.start.now changes made.0 =
-    subst (λ (start : List Bool). AreAnalyses netlist c.args.cap start changes made.0) c.requires.begins made.1 in
+    let are : AreAnalyses netlist c.args.options.cap c.args.start.now changes made.0 =
+    subst (λ (start : List Bool). AreAnalyses netlist c.args.options.cap start changes made.0) c.requires.begins made.1 in
     let lines = writes_then c.write_head.ensures.gave made.2 refl in
     let wrote = wrote_whole _ _ _ _ _ _ _ _ c.new-writer.ensures.begins lines c.finish.ensures in (
-      head_text netlist cycles c.args.start.now ++ analyses_text netlist c.args.show 1 changes made.0,
+      head_text netlist cycles c.args.start.now ++ analyses_text netlist c.args.options.show 1 changes made.0,
       record {
         cycles = cycles;
         are_cycles = subst (λ (n : Netlist). AreFeedbackCycles (network_of n) cycles) same c.free.ensures.feedback.are_cycles;
         analyses = made.0;
         are_analyses = are;
-        replay = analyses-replay c.printed_runs_are_read.ensures c.run_counts.ensures.steps netlist c.args.cap changes c.args.start.now made.0 c.requires.circuit c.requires.start are;
+        replay = analyses-replay c.printed_runs_are_read.ensures c.run_counts.ensures.steps netlist c.args.options.cap changes c.args.start.now made.0 c.requires.circuit c.requires.start are;
         lines = refl;
       },
       search rules,

@@ -1,23 +1,23 @@
 use Rattle.std.proofs.Common.{◌≡◌, None, refl, subst, sym, Option, map}
 use Rattle.std.specs.String.{string_bytes}
 use Rattle.hz_top.specs.declared.status.Status.TheVariants as status
-use Rattle.hz_top.specs.Answer.{Answers}
+use Rattle.hz_top.specs.Ends.{Ends}
 use Rattle.hz_words.specs.Job.{JobOf, job_of}
 use Rattle.hz_top.specs.Outcome.{IsJobOutcome, observation_of}
 use Rattle.hz_top.specs.Refusal.{words_line}
-use Rattle.hz_top.proofs.PutEndings.{Answers-put}
+use Rattle.hz_top.proofs.PutEndings.{Ends-put}
 use Rattle.hz_top.proofs.running.answer.Goals as goal
 
 pub returns-in-Ok : goal.returns-in-Ok
 returns-in-Ok g c =
     let told = observation_of g.F.Files.held g.F.Files.faults g.F.Files.longs c.args.files.now c.work.new.files in
-    subst (λ (job : Option JobOf). Answers g.K.Sink.written g.K.Sink.faults (IsJobOutcome told job) c.args.out.now c.work.new.out c.work.result) (sym c.in-Ok.ensures.job) c.work.ensures
+    subst (λ (job : Option JobOf). Ends g.K.Sink.output g.K.Sink.faults (IsJobOutcome told job) c.args.out.now c.work.new.out c.work.result) (sym c.in-Ok.ensures.job) c.work.ensures
 
 pub returns-in-Err-Refused : goal.returns-in-Err-Refused
 returns-in-Err-Refused g c =
     let told = observation_of g.F.Files.held g.F.Files.faults g.F.Files.longs c.args.files.now c.args.files.now in
     let asked = job_of (map string_bytes c.args.words.now) in
     let none : asked ≡ None = rw (c.in-Err-Refused.is, c.in-Err-Refused.field-0-is) at c.read.ensures.job in
-    Answers-put g.K.Sink.written g.K.Sink.faults (IsJobOutcome told asked) c.args.out.now c.put_words.new.out status.Words words_line
+    Ends-put g.K.Sink.output g.K.Sink.faults (IsJobOutcome told asked) c.args.out.now c.put_words.new.out status.Words words_line
     c.put_words.result c.status_after.result tt
     (subst (λ (job : Option JobOf). IsJobOutcome told job status.Words words_line) (sym none) ((λ place. (refl, refl)), (refl, refl))) c.put_words.ensures c.status_after.ensures

@@ -3,21 +3,21 @@ use Rattle.std.proofs.Common.{Some, refl, subst, sym}
 use Rattle.hz_words.specs.Job.{job_model}
 use Rattle.hz_words.specs.declared.job.Job.{Job}
 use Rattle.hz_words.specs.declared.job.Job.TheVariants.{Demo}
-use Rattle.hz_top.specs.Answer.{Answers}
+use Rattle.hz_top.specs.Ends.{Ends}
 use Rattle.hz_top.specs.Outcome.{IsJobOutcome, IsDemoOutcome, observation_of}
-use Rattle.hz_top.proofs.PutEndings.{Answers-more}
+use Rattle.hz_top.proofs.PutEndings.{Ends-more}
 use Rattle.hz_top.proofs.running.work.Goals as goal
 
 pub returns-in-OnFiles : goal.returns-in-OnFiles
 returns-in-OnFiles g c =
     let told = observation_of g.F.Files.held g.F.Files.faults g.F.Files.longs c.args.files.now c.work_on_files.new.files in
-    subst (λ (job : Job). Answers g.K.Sink.written g.K.Sink.faults (IsJobOutcome told (Some (job_model job))) c.args.out.now c.work_on_files.new.out c.work_on_files.result)
+    subst (λ (job : Job). Ends g.K.Sink.output g.K.Sink.faults (IsJobOutcome told (Some (job_model job))) c.args.out.now c.work_on_files.new.out c.work_on_files.result)
     (sym c.in-OnFiles.is) c.work_on_files.ensures
 
 pub returns-in-Demo : goal.returns-in-Demo
 returns-in-Demo g c =
     let told = observation_of g.F.Files.held g.F.Files.faults g.F.Files.longs c.args.files.now c.args.files.now in
-    subst (λ (job : Job). Answers g.K.Sink.written g.K.Sink.faults (IsJobOutcome told (Some (job_model job))) c.args.out.now c.demo.new.out c.demo.result)
+    subst (λ (job : Job). Ends g.K.Sink.output g.K.Sink.faults (IsJobOutcome told (Some (job_model job))) c.args.out.now c.demo.new.out c.demo.result)
     (sym c.in-Demo.is)
-    (Answers-more g.K.Sink.written g.K.Sink.faults (IsDemoOutcome c.in-Demo.number c.in-Demo.cap) (IsJobOutcome told (Some (job_model (Demo c.in-Demo.number c.in-Demo.cap)))) c.args.out.now c.demo.new.out c.demo.result
+    (Ends-more g.K.Sink.output g.K.Sink.faults (IsDemoOutcome c.in-Demo.number c.in-Demo.options.cap) (IsJobOutcome told (Some (job_model (Demo c.in-Demo.number c.in-Demo.options)))) c.args.out.now c.demo.new.out c.demo.result
     (λ own text says. ((λ place. (refl, refl)), says)) c.demo.ensures)

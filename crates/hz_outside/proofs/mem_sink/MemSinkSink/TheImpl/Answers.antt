@@ -1,21 +1,18 @@
 -- What a sink in memory answers gives what every sink ensures.
-use Rattle.std.proofs.Common.{◌≡◌, ◌≤◌, ℕ, List, take, Option, Some, None, IsSomeAnd, rules, arith, sym, ap, ◌∙◌, OnOk, Ok, Err, Result}
+use Rattle.std.proofs.Common.{◌≡◌, ◌≤◌, ℕ, List, take, Option, Some, None, IsSomeAnd, rules, arith, refl, OnOk, OnErr, IfErr, Ok, Err, Result}
+use Rattle.hz_outside.specs.declared.fault.PutFault.{PutFault}
+use Rattle.hz_outside.specs.declared.fault.PutFault.TheVariants.{Failed, Memory}
 use Rattle.hz_outside.specs.Counts.{Rose, count_after}
-use Rattle.hz_outside.specs.WrittenText.{GrewByPrefix}
-use Rattle.hz_outside.specs.MemSink.{SinkState, taken_next, put_by}
-use Rattle.hz_outside.proofs.WrittenLemmas.{extended_text-told, GrewByPrefix-take}
+use Rattle.hz_outside.specs.WrittenText.{settled, TookPrefix}
+use Rattle.hz_outside.specs.MemSink.{SinkState, taken_next, put_by, PutsLess}
+use Rattle.hz_outside.proofs.WrittenLemmas.{on_ok, on_any_ok, on_any_err, Took-told, Took-nothing, Took-prefix, TookPrefix-nothing, TookPrefix-take}
 use Rattle.hz_outside.proofs.mem_sink.MemSinkSink.TheImpl.Goals as goal
-
--- what follows from what a success gives
-on_ok : {A E : Type 0} (P Q : Type 0) (r : Result A E) → (P → Q) → OnOk r P → OnOk r Q
-on_ok P Q (Ok _) f h = f h
-on_ok P Q (Err _) f h = h
 
 -- after a put that failed, the bytes grew by a prefix of the piece and the count rose
 record Stopped (old new : SinkState) (piece : List ℕ) : Type 0 where
   rose : Rose old.faults new.faults
   never_falls : old.faults ≤ new.faults
-  front : GrewByPrefix (Some old.bytes) piece (Some new.bytes)
+  front : TookPrefix (settled (Some old.bytes)) piece (settled (Some new.bytes))
 
 stopped : (taken : Option ℕ) (old new : SinkState) (piece : List ℕ)
     → IsSomeAnd taken (λ some. new ≡ record (put_by old (take some piece)) { faults = count_after old.faults })
@@ -25,16 +22,29 @@ stopped (Some some) old new piece e =
     let after : Stopped old (record (put_by old (take some piece)) { faults = count_after old.faults }) piece = record {
       rose = search rules;
       never_falls = omega arith;
-      front = GrewByPrefix-take old.bytes piece some;
+      front = TookPrefix-take old.bytes piece some;
     } in
     rw e after
 
+front : {A : Type 0} (old new : SinkState) (piece : List ℕ) (result : Result A PutFault) → IfErr result (λ fault. PutsLess old piece fault new)
+    → OnErr result (TookPrefix (settled (Some old.bytes)) piece (settled (Some new.bytes)))
+front old new piece (Ok _) h = tt
+front old new piece (Err Failed) h = (stopped (taken_next old) old new piece h).front
+front old new piece (Err Memory) h = rw h (TookPrefix-nothing (settled (Some old.bytes)) piece)
+
 pub put-tells : goal.put-tells
 put-tells c = record {
-  whole = on_ok _ _ c.result
-      (λ e. ap (λ (state : SinkState). Some state.bytes) e ∙ sym (extended_text-told _ _)) c.ensures.whole;
+  whole = on_ok _ _ c.result (λ e. rw e (Took-told c.args.self.now.bytes c.args.piece.now)) c.ensures.whole;
+  front = front c.args.self.now _ c.args.piece.now c.result c.ensures.err;
   failed = λ e. let h = rw e at c.ensures.err in (stopped (taken_next c.args.self.now) _ _ _ h).rose;
-  front = λ e. let h = rw e at c.ensures.err in (stopped (taken_next c.args.self.now) _ _ _ h).front;
-  memory = λ e. let h = rw e at c.ensures.err in ap (λ (state : SinkState). Some state.bytes) h;
   never_falls = c.ensures.never_falls;
+}
+
+pub flush-tells : goal.flush-tells
+flush-tells c = record {
+  whole = on_any_ok _ c.result (rw c.ensures.same (Took-nothing _));
+  none_waits = on_any_ok _ c.result refl;
+  front = on_any_err _ c.result (rw c.ensures.same (Took-prefix (Took-nothing _)));
+  failed = λ e. let h = rw e at c.ensures.done in absurd h;
+  never_falls = rw c.ensures.same (omega arith);
 }

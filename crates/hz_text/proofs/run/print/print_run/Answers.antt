@@ -13,3 +13,8 @@ pub returns-in-Ok-clause-value : goal.returns-in-Ok-clause-value
 returns-in-Ok-clause-value c =
     let grew = rw c.new-sink.ensures at c.in-Ok.ensures.wrote.grew in
     rw (c.into_bytes.ensures ∙ plain_bytes grew) (printed-value c.args.net.now c.args.text.now c.in-Ok.ensures.circuit c.requires)
+
+pub returns-in-Ok-clause-text : goal.returns-in-Ok-clause-text
+returns-in-Ok-clause-text c =
+    let grew = rw c.new-sink.ensures at c.in-Ok.ensures.wrote.grew in
+    c.into_bytes.ensures ∙ plain_bytes grew

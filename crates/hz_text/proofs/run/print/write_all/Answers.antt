@@ -11,11 +11,11 @@ write_run-requires-clause-lead g c =
     let P : List ℕ → Type 0 = λ flips. All (λ var. var < length (network_of c.args.net.now)) flips in
     let d : RunOf = record { lead = []; cycle = None } in
     rw c.lead.ensures
-    (steps_of_run P c.args.text.now.runs c.loop-number.number d c.requires (omega (arith, c.loop-number-test.true, c.runs-number-end.ensures))).0
+    (steps_of_run P c.args.text.now.runs c.loop-number.number d c.requires.variables (omega (arith, c.loop-number-test.true, c.runs-number-end.ensures))).0
 
 pub write_run-requires-clause-cycle : goal.write_run-requires-clause-cycle
 write_run-requires-clause-cycle g c =
     let P : List ℕ → Type 0 = λ flips. All (λ var. var < length (network_of c.args.net.now)) flips in
     let d : RunOf = record { lead = []; cycle = None } in
     rw c.cycle.ensures
-    (steps_of_run P c.args.text.now.runs c.loop-number.number d c.requires (omega (arith, c.loop-number-test.true, c.runs-number-end.ensures))).1
+    (steps_of_run P c.args.text.now.runs c.loop-number.number d c.requires.variables (omega (arith, c.loop-number-test.true, c.runs-number-end.ensures))).1

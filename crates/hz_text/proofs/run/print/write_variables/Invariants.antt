@@ -6,4 +6,4 @@ use Rattle.hz_text.proofs.run.print.write_variables.Given as goal
 
 abbrev pub invariant-loop-var : goal.invariant-loop-var
 invariant-loop-var g l =
-    Writes g.K.Sink.written g.K.Sink.faults (flat_map (spaced_word l.net) (take l.var-index l.flips)) l.fn.writer l.writer
+    Writes g.K.Sink.output g.K.Sink.faults (flat_map (spaced_word l.net) (take l.var-index l.flips)) l.fn.writer l.writer

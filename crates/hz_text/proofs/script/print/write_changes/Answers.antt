@@ -5,7 +5,9 @@ use Rattle.hz_text.specs.Printed.{statement_text}
 use Rattle.hz_text.proofs.script.print.write_changes.Goals as goal
 
 pub loop-number-preserved : goal.loop-number-preserved
-loop-number-preserved g c =
-    writes_then c.loop-number.invariant c.write_statement.ensures
-    (sym (flat_map_of_take (statement_text c.args.circuit.now (codes "change")) c.args.script.now.changes c.loop-number.number
-    c.change.result.now c.change.ensures.change))
+loop-number-preserved g c = (
+  writes_then c.loop-number.invariant.0 c.write_statement.ensures.gave
+      (sym (flat_map_of_take (statement_text c.args.circuit.now (codes "change")) c.args.script.now.changes c.loop-number.number
+      c.change.result.now c.change.ensures.change)),
+  c.write_statement.ensures.none_waits,
+)

@@ -5,7 +5,7 @@ use Rattle.hz_text.proofs.script.print.write_script.Goals as goal
 
 pub returns-clause-wrote : goal.returns-clause-wrote
 returns-clause-wrote g c =
-    let start = rw c.start.ensures.start at c.write_start.ensures in
-    let lines = writes_then start c.write_changes.ensures refl in
+    let start = rw c.start.ensures.start at c.write_start.ensures.gave in
+    let lines = writes_then start c.write_changes.ensures.gave refl in
     let wrote = wrote_whole _ _ _ _ _ _ _ _ c.new-writer.ensures.begins lines c.finish.ensures in
     search rules

@@ -7,4 +7,4 @@ use Rattle.hz_write.proofs.writer.Writer.add.Given as goal
 -- the pieces so far were given
 abbrev pub invariant-loop-piece : goal.invariant-loop-piece
 invariant-loop-piece g l =
-    Writes g.K.Sink.written g.K.Sink.faults (flat_map piece_text (take l.piece-index l.pieces)) l.initial.self l.self
+    Writes g.K.Sink.output g.K.Sink.faults (flat_map piece_text (take l.piece-index l.pieces)) l.initial.self l.self

@@ -1,0 +1,143 @@
+//! What a person needs next after a refusal, on standard error. No contract speaks of it.
+
+use hz_outside::{DiskFiles, Files, Place};
+use hz_top::Status;
+use hz_words::Job;
+use std::alloc::{AllocError, Global};
+use std::fs;
+use std::io::Read;
+
+/// The version of the program.
+const VERSION: &str = "1.0.0";
+
+/// How many bytes of a line are shown.
+const SHOWN: usize = 120;
+
+/// The most bytes of a file that is read.
+const MOST: usize = 16_777_216;
+
+/// The jobs, their files and options, and an example.
+const USAGE: &str = "\
+usage:
+  hazard analyse NETLIST SCRIPT [--cap N] [--show nodes|all]
+                          reports what each change of the script may do
+  hazard replay NETLIST RUNS
+                          checks the runs that a report shows
+  hazard convert NETLIST RUNS
+                          writes a run text in version 2
+  hazard demo NUMBER [--cap N]
+                          analyses a circuit that is made from a number, 1 to 18000
+options:
+  --cap N                 numbers of changes are counted up to N, 1 to 1000000 (1000)
+  --show nodes|all        the variables that have a line (nodes)
+example:
+  hazard analyse examples/latch.bench examples/latch.txt";
+
+/// Says on standard error what a person needs next, if the job was refused. `first` is the beginning of what was written.
+pub(crate) fn tell(rt: &HostRuntime, words: &[String], first: &[u8], status: Status) {
+    match status {
+        Status::Done | Status::No | Status::Start => {}
+        Status::Words => tell_usage(rt),
+        Status::Netlist | Status::Text => tell_line(rt, words, first, status),
+        Status::File | Status::TooLong => tell_file(rt, words, first, status),
+        Status::Sink => say(rt, "hazard: standard output can't be written"),
+        Status::Memory => say(rt, "hazard: out of memory"),
+    }
+}
+
+// One line. If standard error can't be written there is nobody to tell.
+fn say(rt: &HostRuntime, line: &str) {
+    let _ = eprintln!(rt; "{line}");
+}
+
+fn tell_usage(rt: &HostRuntime) {
+    let _ = eprintln!(rt; "{USAGE}\nhazard {VERSION}; see the manual page hazard(1)");
+}
+
+// The line of the text that has the fault, if it has one.
+fn tell_line(rt: &HostRuntime, words: &[String], first: &[u8], status: Status) {
+    let Some(number) = line_number(first) else {
+        return;
+    };
+    let place = match status {
+        Status::Netlist => Place::First,
+        _ => Place::Second,
+    };
+    let Some(name) = file_name(rt.alloc(), words, place) else {
+        return;
+    };
+    let Ok(file) = DiskFiles::new(rt).load(rt.alloc(), place, name, MOST) else {
+        return;
+    };
+    let Some(line) = line_at(file.as_slice(), number) else {
+        return;
+    };
+    let (Ok(name), Ok(line)) = (
+        visible(rt.alloc(), name.as_bytes()),
+        visible(rt.alloc(), line),
+    ) else {
+        return;
+    };
+    let _ = eprintln!(rt; "{name}:{number}: {line}");
+}
+
+// The name of the file that was not read, and why.
+fn tell_file(rt: &HostRuntime, words: &[String], first: &[u8], status: Status) {
+    let place = if first.starts_with(b"refused: first") {
+        Place::First
+    } else {
+        Place::Second
+    };
+    let Some(name) = file_name(rt.alloc(), words, place) else {
+        return;
+    };
+    let Ok(shown) = visible(rt.alloc(), name.as_bytes()) else {
+        return;
+    };
+    if status == Status::TooLong {
+        let _ = eprintln!(rt; "{shown}: more than {MOST} bytes");
+        return;
+    }
+    if let Err(error) = fs::open(rt, name).and_then(|mut file| file.read(&mut [0])) {
+        let _ = eprintln!(rt; "{shown}: {error}");
+    }
+}
+
+// The name of the file at a place, if the words ask for a job on files.
+fn file_name(alloc: Global, words: &[String], place: Place) -> Option<&str> {
+    match hz_words::read(alloc, words) {
+        Ok(Job::OnFiles { first, second, .. }) => match place {
+            Place::First => Some(first),
+            Place::Second => Some(second),
+        },
+        _ => None,
+    }
+}
+
+// The number of the line that a refusal names.
+fn line_number(first: &[u8]) -> Option<usize> {
+    let text = str::from_utf8(first).ok()?;
+    let (_, rest) = text.split_once(" line ")?;
+    let (number, _) = rest.split_once(':')?;
+    number.parse().ok()
+}
+
+// The first bytes of the line with a number, which is counted from 1.
+fn line_at(text: &[u8], number: usize) -> Option<&[u8]> {
+    let mut lines = text.split(|byte| *byte == b'\n');
+    let line = lines.nth(number.checked_sub(1)?)?;
+    let line = line.strip_suffix(b"\r").unwrap_or(line);
+    Some(line.get(..SHOWN).unwrap_or(line))
+}
+
+// Bytes as text in which no byte acts on a terminal.
+fn visible(alloc: Global, bytes: &[u8]) -> Result<String, AllocError> {
+    let mut text = String::new(alloc);
+    for byte in bytes {
+        match byte {
+            0x20..=0x7E => text.push(char::from(*byte))?,
+            _ => text.push_str(format!(in alloc; "\\x{byte:02x}")?.as_str())?,
+        }
+    }
+    Ok(text)
+}

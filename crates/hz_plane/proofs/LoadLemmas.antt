@@ -1,0 +1,138 @@
+-- What one lane lists, and what all others list, as items are written one after the other.
+use Rattle.std.proofs.Common.{◌≡◌, ◌≢◌, ℕ, zero, suc, set, ◌+◌, ◌-◌, ◌<◌, ◌≤◌, Bool, true, false, Option, Some, None, List, [], ◌∷◌, ◌++◌, length, map, take, drop, get_or, replicate, slice_get, refl, sym, ap, ◌∙◌, subst, arith, inl, inr, nat_eq, add-one}
+use Rattle.std.specs.Prelude.{if◌then◌else◌}
+use Rattle.std.specs.List.{fold, range_with_len}
+use Rattle.std.proofs.lemmas.Bool.{cases_eq}
+use Rattle.std.proofs.lemmas.List.{length-map, map-set, get_or-map, get_or-set_same, get_or-set_other, set-get_or, length-set, length-replicate, get_or-replicate, ext_get_or, take_more, take_all, drop_all, append-nil}
+use Rattle.std.proofs.lemmas.List.Sums.{fold-append}
+use Rattle.std.proofs.lemmas.Option.{slice_get_within, get_or_from_slice_get}
+use Rattle.std.proofs.lemmas.List.FromFn.{length-range_with_len, get_or-range_with_len}
+use Rattle.hz_plane.specs.declared.listing.Listing.{Listing}
+use Rattle.hz_plane.specs.Bits.{has_lane}
+use Rattle.hz_plane.specs.Loads.{Loaded, LaneLoads, listed_in, lane_input, lane_listed, lane_load, lane_loads, held_at}
+use Rattle.hz_plane.proofs.LaneSets.{empty-set}
+
+-- the next item of a list that is written over the beginning of another
+put-suc : {X : Type 0} (target old : List X) (i : ℕ) (d : X) → i < length target → length target ≤ length old → set (take i target ++ drop i old) i (get_or target i d) ≡ take (suc i) target ++ drop (suc i) old
+put-suc [] old i d inside few = absurd (omega (arith, inside))
+put-suc (x ∷ target) [] i d inside few = absurd (omega (arith, few))
+put-suc (x ∷ target) (y ∷ old) zero d inside few = refl
+put-suc (x ∷ target) (y ∷ old) (suc i) d inside few = ap (λ list. x ∷ list) (put-suc target old i d (omega (arith, inside)) (omega (arith, few)))
+
+pub put-next : {X : Type 0} (target old now : List X) (i : ℕ) (value d : X) → i < length target → length target ≤ length old → now ≡ take i target ++ drop i old → value ≡ get_or target i d → set now i value ≡ take (i + 1) target ++ drop (i + 1) old
+put-next target old now i value d inside few is at =
+    let next : set now i value ≡ take (suc i) target ++ drop (suc i) old = ap (λ list. set list i value) is ∙ (ap (set (take i target ++ drop i old) i) at ∙ put-suc target old i d inside few) in
+    subst (λ (n : ℕ). set now i value ≡ take n target ++ drop n old) (sym (add-one i)) next
+
+-- items shown as values: an item is written that shows the next value
+pub written : {X Y : Type 0} (show : X → Y) (target : List Y) (first items : List X) (i : ℕ) (item : X) (d : Y) → i < length target → length target ≤ length first →
+    map show items ≡ take i target ++ drop i (map show first) → show item ≡ get_or target i d → map show (set items i item) ≡ take (i + 1) target ++ drop (i + 1) (map show first)
+written show target first items i item d inside few is at =
+    map-set show items i item ∙ put-next target (map show first) (map show items) i (show item) d inside (omega (arith, few, length-map first show)) is at
+
+-- an item that shows the same leaves what all show
+pub unwritten : {X Y : Type 0} (show : X → Y) (items : List X) (i : ℕ) (item was : X) (d : Y) → i < length items → show item ≡ show (get_or items i was) → map show (set items i item) ≡ map show items
+unwritten show items i item was d inside same =
+    map-set show items i item ∙
+    (ap (set (map show items) i) (same ∙ sym (get_or-map show items i was d inside)) ∙ set-get_or (map show items) i d)
+
+pub drop-replicate : {X : Type 0} (count all : ℕ) (x : X) → drop count (replicate all x) ≡ replicate (all - count) x
+drop-replicate zero all x = (let e : all ≡ all - 0 = omega arith in ap (λ (n : ℕ). replicate n x) e)
+drop-replicate (suc count) zero x = (let e : 0 ≡ zero - suc count = omega arith in ap (λ (n : ℕ). replicate n x) e)
+drop-replicate (suc count) (suc all) x = (let e : all - count ≡ suc all - suc count = omega arith in drop-replicate count all x ∙ ap (λ (n : ℕ). replicate n x) e)
+
+-- one held gate more
+pub held-next : (held : List (ℕ × Bool)) (listed : List (Option Bool)) (k : ℕ) (d : ℕ × Bool) → k < length held →
+    held_at (take (k + 1) held) listed ≡ set (held_at (take k held) listed) (get_or held k d).0 (Some (get_or held k d).1)
+held-next held listed k d inside =
+    let hold : List (Option Bool) → ℕ × Bool → List (Option Bool) = λ (list : List (Option Bool)) (node : ℕ × Bool). set list node.0 (Some node.1) in
+    ap (λ (part : List (ℕ × Bool)). fold hold listed part) (take_more held k d inside) ∙ fold-append hold listed (take k held) (get_or held k d ∷ [])
+
+-- what was loaded into a lane, by its number
+pub at-lane : (loaded : List ℕ) (inputs : List (List ℕ)) (listings : List Listing) (lane : ℕ) → lane < 512 → get_or (lane_loads loaded inputs listings) lane None ≡ lane_load loaded inputs listings lane
+at-lane loaded inputs listings lane inside =
+    get_or-map (lane_load loaded inputs listings) (range_with_len 0 512) lane 0 None (omega (arith, inside, length-range_with_len 0 512))
+    ∙ ap (lane_load loaded inputs listings) (get_or-range_with_len 0 512 lane 0 inside ∙ omega arith)
+
+pub count-lanes : (loaded : List ℕ) (inputs : List (List ℕ)) (listings : List Listing) → length (lane_loads loaded inputs listings) ≡ 512
+count-lanes loaded inputs listings = length-map (range_with_len 0 512) (lane_load loaded inputs listings) ∙ length-range_with_len 0 512
+
+load-of : Bool → List Bool → List (Option Bool) → Option Loaded
+load-of loaded input listed = if loaded then Some (record { input = input; listed = listed }) else None
+
+-- a lane is loaded, and what was loaded into the others stays
+module _
+    (loaded loaded' : List ℕ) (inputs inputs' : List (List ℕ)) (listings listings' : List Listing) (lane : ℕ) (input : List Bool) (listed : List (Option Bool))
+    (inside : lane < 512)
+    (is_loaded : has_lane loaded' lane ≡ true) (others_loaded : (other : ℕ) → other < 512 → other ≢ lane → has_lane loaded' other ≡ has_lane loaded other)
+    (is_input : lane_input inputs' lane ≡ input) (other_inputs : (other : ℕ) → other < 512 → other ≢ lane → lane_input inputs' other ≡ lane_input inputs other)
+    (is_listed : lane_listed listings' lane ≡ listed) (others_listed : (other : ℕ) → other < 512 → other ≢ lane → lane_listed listings' other ≡ lane_listed listings other) where
+  pub loads-next : lane_loads loaded' inputs' listings' ≡ set (lane_loads loaded inputs listings) lane (Some (record { input = input; listed = listed }))
+  unfolding load-of
+  loads-next =
+      let after = lane_loads loaded' inputs' listings' in
+      let before = lane_loads loaded inputs listings in
+      let load : Option Loaded = Some (record { input = input; listed = listed }) in
+      ext_get_or None after (set before lane load) (count-lanes loaded' inputs' listings' ∙ sym (length-set before lane load ∙ count-lanes loaded inputs listings)) (λ k few.
+      let below : k < 512 = omega (arith, few, count-lanes loaded' inputs' listings') in
+      elim (cases_eq k lane) [
+        | inl same ↦ subst (λ (n : ℕ). get_or after n None ≡ get_or (set before lane load) n None) (sym same)
+            (at-lane loaded' inputs' listings' lane inside
+            ∙ (ap (λ (b : Bool). load-of b (lane_input inputs' lane) (lane_listed listings' lane)) is_loaded
+            ∙ (ap (λ (bits : List Bool). load-of true bits (lane_listed listings' lane)) is_input
+            ∙ (ap (load-of true input) is_listed
+            ∙ sym (get_or-set_same before lane load None (omega (arith, inside, count-lanes loaded inputs listings)))))))
+        | inr differ ↦
+            at-lane loaded' inputs' listings' k below
+            ∙ (ap (λ (b : Bool). load-of b (lane_input inputs' k) (lane_listed listings' k)) (others_loaded k below differ)
+            ∙ (ap (λ (bits : List Bool). load-of (has_lane loaded k) bits (lane_listed listings' k)) (other_inputs k below differ)
+            ∙ (ap (load-of (has_lane loaded k) (lane_input inputs k)) (others_listed k below differ)
+            ∙ sym (get_or-set_other before lane k load None differ ∙ at-lane loaded inputs listings k below))))
+      ])
+
+  -- a lane that was not loaded lists nothing
+  pub fresh-next : (count : ℕ) → ((other : ℕ) → other < 512 → has_lane loaded other ≡ false → lane_listed listings other ≡ replicate count None) → (other : ℕ) → other < 512 → has_lane loaded' other ≡ false → lane_listed listings' other ≡ replicate count None
+  fresh-next count was other below out =
+      elim (cases_eq other lane) [
+        | inl same ↦ (let wrong : true ≡ false = sym is_loaded ∙ (ap (has_lane loaded') (sym same) ∙ out) in cc)
+        | inr differ ↦ others_listed other below differ ∙ was other below (sym (others_loaded other below differ) ∙ out)
+      ]
+
+-- a slice of a whole vector, written back
+pub written-back : {X : Type 0} (count : ℕ) (new items : List X) → length new ≡ count → length items ≤ count → take count (new ++ drop (length new) items) ≡ new
+written-back count new items long few =
+    ap (λ rest. take count (new ++ rest)) (drop_all (length new) items (omega (arith, long, few))) ∙
+    (ap (take count) (append-nil new) ∙ take_all count new (omega (arith, long)))
+
+-- no lane is loaded
+pub no-loads : (loaded : List ℕ) (inputs : List (List ℕ)) (listings : List Listing) → ((lane : ℕ) → has_lane loaded lane ≡ false) → lane_loads loaded inputs listings ≡ replicate 512 None
+unfolding load-of
+no-loads loaded inputs listings none =
+    let nothing : Option Loaded = None in
+    ext_get_or nothing (lane_loads loaded inputs listings) (replicate 512 nothing) (count-lanes loaded inputs listings ∙ sym (length-replicate 512 nothing)) (λ k few.
+    let below : k < 512 = omega (arith, few, count-lanes loaded inputs listings) in
+    at-lane loaded inputs listings k below ∙ (ap (λ (b : Bool). load-of b (lane_input inputs k) (lane_listed listings k)) (none k) ∙ sym (get_or-replicate 512 k nothing nothing below)))
+
+pub no-lane : (lane : ℕ) → has_lane (0 ∷ 0 ∷ 0 ∷ 0 ∷ 0 ∷ 0 ∷ 0 ∷ 0 ∷ []) lane ≡ false
+no-lane lane = empty-set (0 ∷ 0 ∷ 0 ∷ 0 ∷ 0 ∷ 0 ∷ 0 ∷ 0 ∷ []) lane (refl, (refl, (refl, (refl, (refl, (refl, (refl, (refl, tt))))))))
+
+-- the view of fields, by their parts
+by-parts : (inputs nodes count size : ℕ) (lanes others : List (Option Loaded)) → inputs ≡ count → nodes ≡ size → lanes ≡ others →
+    ◌≡◌ {A = LaneLoads} (record { inputs = inputs; nodes = nodes; lanes = lanes }) (record { inputs = count; nodes = size; lanes = others })
+by-parts inputs nodes count size lanes others e f g = cc
+
+pub same-loads : (loaded : List ℕ) (inputs inputs' : List (List ℕ)) (listings listings' : List Listing) (count size : ℕ) (lanes : List (Option Loaded)) → inputs ≡ inputs' → listings ≡ listings' → length inputs' ≡ count → length listings' ≡ size → lane_loads loaded inputs' listings' ≡ lanes →
+    ◌≡◌ {A = LaneLoads} (record { inputs = length inputs; nodes = length listings; lanes = lane_loads loaded inputs listings }) (record { inputs = count; nodes = size; lanes = lanes })
+same-loads loaded inputs inputs' listings listings' count size lanes e f g h k =
+    by-parts (length inputs) (length listings) count size (lane_loads loaded inputs listings) lanes (ap (length {A = List ℕ}) e ∙ g) (ap (length {A = Listing}) f ∙ h)
+    (ap (λ (sets : List (List ℕ)). lane_loads loaded sets listings) e ∙ (ap (lane_loads loaded inputs') f ∙ k))
+
+shown : (bit : Bool) (here loaded : Loaded) → (if bit then Some here else None) ≡ Some loaded → here ≡ loaded
+shown false here loaded e = cc
+shown true here loaded e = cc
+
+-- what the view shows of a loaded lane
+pub loaded-is : (loaded : List ℕ) (inputs : List (List ℕ)) (listings : List Listing) (lane : ℕ) (load : Loaded) → slice_get (lane_loads loaded inputs listings) lane ≡ Some (Some load) → record { input = lane_input inputs lane; listed = lane_listed listings lane } ≡ load
+loaded-is loaded inputs listings lane load e =
+    let inside : lane < 512 = omega (arith, slice_get_within (lane_loads loaded inputs listings) lane (Some load) e, count-lanes loaded inputs listings) in
+    shown (has_lane loaded lane) (record { input = lane_input inputs lane; listed = lane_listed listings lane }) load (sym (at-lane loaded inputs listings lane inside) ∙ get_or_from_slice_get (lane_loads loaded inputs listings) lane (Some load) None e)

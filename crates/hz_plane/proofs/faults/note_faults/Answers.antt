@@ -1,0 +1,6 @@
+use Rattle.std.proofs.Common.{◌≡◌, ◌<◌, ℕ, arith}
+use Rattle.hz_plane.specs.Faults.{IsNoted}
+use Rattle.hz_plane.proofs.faults.note_faults.Goals as goal
+
+pub returns : goal.returns
+returns c lane inside = record { first = _; among_nodes = c.note_open-noted.ensures.lanes lane inside; among_gates = c.note_unstable.ensures lane inside }

@@ -1,0 +1,14 @@
+use Rattle.std.proofs.Common.{◌≡◌, ◌++◌, ◌∙◌, ◌-◌, ℕ, List, Bool, Option, Some, None, length, map, drop, replicate, ap}
+use Rattle.hz_plane.specs.Loads.{held_at}
+use Rattle.hz_plane.proofs.LoadLemmas.{drop-replicate}
+use Rattle.hz_plane.proofs.loads.list_start.Goals as goal
+
+pub returns-clause-here : goal.returns-clause-here
+returns-clause-here c =
+    let first = c.args.first.now in
+    let nothing : Option Bool = None in
+    c.list_held.ensures.here
+    ∙ ap (held_at c.args.held.now) (c.list_inputs.ensures.here ∙ ap (λ (rest : List (Option Bool)). map Some first ++ rest) (ap (drop (length first)) c.unlist.ensures.here ∙ drop-replicate (length first) (length c.args.listings.now) nothing))
+
+pub returns-clause-others : goal.returns-clause-others
+returns-clause-others c other below differ = c.list_held.ensures.others other below differ ∙ (c.list_inputs.ensures.others other below differ ∙ c.unlist.ensures.others other below differ)

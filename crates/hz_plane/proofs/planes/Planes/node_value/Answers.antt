@@ -1,0 +1,63 @@
+use Rattle.std.proofs.Common.{◌≡◌, ◌≢◌, ◌<◌, ◌≤◌, ◌+◌, ◌-◌, ◌^◌, ◌++◌, ◌∙◌, min, ℕ, List, Bool, Option, Some, None, length, map, take, drop, set, replicate, slice_get, get_or, sym, ap, subst, refl, arith, rules, inl, inr}
+use Rattle.std.proofs.lemmas.Option.{slice_get_within}
+use Rattle.hz_core.specs.Netlist.{Netlist, Gate}
+use Rattle.hz_plane.specs.declared.pair.Pair.{Pair}
+use Rattle.hz_plane.specs.declared.listing.Listing.{Listing}
+use Rattle.hz_plane.specs.declared.stage.Stage.{Stage}
+use Rattle.hz_plane.specs.declared.stage.Stage.TheVariants.{Loading, Completed, Spread, Settled}
+use Rattle.hz_plane.specs.declared.stage.LaneFault.{LaneFault}
+use Rattle.hz_plane.specs.Steps.{AreAllPlanes, HasLane}
+use Rattle.hz_plane.specs.Lanes.{AreForcedNodes, HasInputs, ListsAllInputs}
+use Rattle.hz_plane.specs.Loads.{Loaded, LaneLoads, lane_listed, lane_input, listed_with}
+use Rattle.hz_plane.specs.Faults.{fault_at, AreUnknownLanes}
+use Rattle.hz_plane.specs.View.{Seen, LaneHolds, IsLaneFault}
+use Rattle.hz_plane.specs.Inside.{seen_of, IsOf, HoldsPlanes}
+use Rattle.hz_plane.proofs.LoadLemmas.{written-back}
+use Rattle.std.proofs.Common.{sum_by}
+use Rattle.std.proofs.lemmas.Bool.{cases_lt}
+use Rattle.hz_net.specs.Network.{network_of}
+use Rattle.hz_net.proofs.Places.{length-network_of}
+use Rattle.hz_plane.specs.Bits.{HasValue, has_lane}
+use Rattle.hz_plane.specs.Pairs.{pair_at, no_pair}
+use Rattle.hz_plane.specs.Gates.{pin_sources}
+use Rattle.hz_plane.specs.View.{IsLaneValue, value_by}
+use Rattle.hz_plane.proofs.GateCopies.{get_or_same}
+use Rattle.hz_plane.proofs.Held.{IsNodeOf, source-is, lane-value, read-lane}
+use Rattle.hz_plane.proofs.planes.Planes.node_value.Goals as goal
+
+pub index-pair-requires : goal.index-pair-requires
+index-pair-requires c =
+    let fields = c.self.inside in
+    let inside : c.node_of.result < length fields.values.items = omega (arith, c.node_of.ensures.inside, ap (λ (s : Seen). s.inputs) c.self.view_is, ap (λ (s : Seen). length s.gates) c.self.view_is, c.self.invariant.nodes, c.self.invariant.values_count) in
+    search (rules, inside)
+
+pub returns : goal.returns
+returns c netlist loaded circuit whole is_of at begun =
+    let fields = c.self.inside in
+    let held = c.self.invariant in
+    let var = c.args.var in
+    let node = c.node_of.result in
+    let stage : fields.stage ≡ c.args.self.now.stage = ap (λ (s : Seen). s.stage) c.self.view_is in
+    let of : IsOf netlist fields = record { circuit = circuit; whole = whole; inputs = ap (λ (s : Seen). s.inputs) c.self.view_is ∙ is_of.0; gates = ap (λ (s : Seen). s.gates) c.self.view_is ∙ is_of.1 } in
+    let count : length fields.values.items ≡ length netlist.names = omega (arith, held.values_count, held.nodes, of.inputs, ap (length {A = Gate}) of.gates, circuit.nodes) in
+    let names : c.args.self.now.inputs + length c.args.self.now.gates ≡ length netlist.names = omega (arith, is_of.0, ap (length {A = Gate}) is_of.1, circuit.nodes) in
+    let is : IsNodeOf netlist circuit var node = elim (cases_lt var (length netlist.names)) [
+      | inl own ↦ inl (own, c.node_of.ensures.node (omega (arith, own, names)))
+      | inr wire ↦ (
+          let pins : sum_by (λ (gate : Gate). length gate.sources) c.args.self.now.gates ≡ sum_by (λ (gate : Gate). length gate.sources) netlist.gates = ap (sum_by (λ (gate : Gate). length gate.sources)) is_of.1 in
+          let below : var < length (network_of netlist) = omega (arith, c.requires.var, names, pins, length-network_of netlist circuit) in
+          inr (wire, below, source-is netlist circuit c.args.self.now.gates var node is_of.1 wire below (ap (λ (n : ℕ). slice_get (pin_sources c.args.self.now.gates) (var - n)) (sym names) ∙ c.node_of.ensures.wire (omega (arith, wire, names))))
+          )
+    ] in
+    let inside : node < length fields.values.items = omega (arith, c.node_of.ensures.inside, names, count) in
+    let pair : c.index-pair.result.now ≡ pair_at fields.values.items node = c.index-pair.ensures ∙ get_or_same fields.values.items node c.index-pair.result.now no_pair inside in
+    subst (λ (s : Stage). IsLaneValue s netlist loaded var c.value_by.result) stage
+    (lane-value netlist circuit fields.stage loaded fields.values.items c.args.lane var node c.value_by.result (λ e. begun (sym stage ∙ e)) is count
+    (held.lanes netlist c.args.lane loaded of (ap (λ (s : Seen). slice_get s.lanes c.args.lane) c.self.view_is ∙ at))
+    (λ value has.
+    let zero : c.has_lane.result ≡ has_lane c.index-pair.result.now.zero c.args.lane = c.has_lane.ensures ∙ ap (λ (set : List ℕ). has_lane set c.args.lane) c.as_array.ensures in
+    let one : c.has_lane-2.result ≡ has_lane c.index-pair.result.now.one c.args.lane = c.has_lane-2.ensures ∙ ap (λ (set : List ℕ). has_lane set c.args.lane) c.as_array-2.ensures in
+    c.value_by.ensures
+    ∙ (ap (λ (b : Bool). value_by b c.has_lane-2.result) zero
+    ∙ (ap (value_by (has_lane c.index-pair.result.now.zero c.args.lane)) one
+    ∙ read-lane c.index-pair.result.now c.args.lane value (subst (λ (p : Pair). HasValue p c.args.lane value) (sym pair) has)))))

@@ -1,0 +1,58 @@
+use Rattle.std.proofs.Common.{◌≡◌, ◌≢◌, ◌<◌, ◌≤◌, ◌+◌, ◌-◌, ◌^◌, ◌++◌, ◌∙◌, min, ℕ, List, Bool, Option, Some, None, length, map, take, drop, set, replicate, slice_get, get_or, sym, ap, subst, refl, arith, rules, inl, inr}
+use Rattle.std.proofs.lemmas.Option.{slice_get_within}
+use Rattle.hz_core.specs.Netlist.{Netlist, Gate}
+use Rattle.hz_plane.specs.declared.pair.Pair.{Pair}
+use Rattle.hz_plane.specs.declared.listing.Listing.{Listing}
+use Rattle.hz_plane.specs.declared.stage.Stage.{Stage}
+use Rattle.hz_plane.specs.declared.stage.Stage.TheVariants.{Loading, Completed, Spread, Settled}
+use Rattle.hz_plane.specs.declared.stage.LaneFault.{LaneFault}
+use Rattle.hz_plane.specs.Steps.{AreAllPlanes, HasLane}
+use Rattle.hz_plane.specs.Lanes.{AreForcedNodes, HasInputs, ListsAllInputs}
+use Rattle.hz_plane.specs.Loads.{Loaded, LaneLoads, lane_listed, lane_input, listed_with}
+use Rattle.hz_plane.specs.Faults.{fault_at, AreUnknownLanes}
+use Rattle.hz_plane.specs.View.{Seen, LaneHolds, IsLaneFault}
+use Rattle.hz_plane.specs.Inside.{seen_of, IsOf, HoldsPlanes}
+use Rattle.hz_plane.proofs.LoadLemmas.{written-back}
+use Rattle.hz_plane.proofs.Held.{holds-spread}
+use Rattle.hz_plane.proofs.planes.Planes.spread.Goals as goal
+
+pub invariant_of-self : goal.invariant_of-self
+invariant_of-self c =
+    let fields = c.self.inside in
+    let held = c.self.invariant in
+    let stage : fields.stage ≡ Completed = ap (λ (s : Seen). s.stage) c.self.view_is ∙ c.requires.stage in
+    let values_count : length c.spread.new.values ≡ fields.values.len = c.spread.auto.values ∙ c.as_mut_slice-2.ensures.len in
+    let values_few : length fields.values.items ≤ fields.values.len = omega (arith, ap (length {A = Pair}) c.as_mut_slice-2.ensures.value, c.as_mut_slice-2.ensures.len) in
+    let values_are : take fields.values.len (c.spread.new.values ++ drop (length c.spread.new.values) fields.values.items) ≡ c.spread.new.values = written-back fields.values.len c.spread.new.values fields.values.items values_count values_few in
+    let values_long : length c.spread.new.values ≡ length fields.values.items = c.spread.auto.values ∙ ap (length {A = Pair}) c.as_mut_slice-2.ensures.value in
+    let marks_count : length c.spread.new.marks ≡ fields.marks.len = c.spread.auto.marks ∙ c.as_mut_slice.ensures.len in
+    let marks_few : length fields.marks.items ≤ fields.marks.len = omega (arith, ap (length {A = Bool}) c.as_mut_slice.ensures.value, c.as_mut_slice.ensures.len) in
+    let marks_are : take fields.marks.len (c.spread.new.marks ++ drop (length c.spread.new.marks) fields.marks.items) ≡ c.spread.new.marks = written-back fields.marks.len c.spread.new.marks fields.marks.items marks_count marks_few in
+    let marks_long : length c.spread.new.marks ≡ length fields.marks.items = c.spread.auto.marks ∙ ap (length {A = Bool}) c.as_mut_slice.ensures.value in
+    record {
+      nodes = held.nodes;
+      small = held.small;
+      values_count = ap (length {A = Pair}) values_are ∙ (values_long ∙ held.values_count);
+      marks = ap (length {A = Bool}) marks_are ∙ (marks_long ∙ held.marks);
+      few = held.few;
+      faults_count = held.faults_count;
+      values_planes = subst AreAllPlanes (sym values_are) c.spread.ensures.planes;
+      sources = held.sources;
+      order = λ netlist of. held.order netlist (record { circuit = of.circuit; whole = of.whole; inputs = of.inputs; gates = of.gates });
+      lists = held.lists;
+      lanes = λ netlist lane loaded of at.
+          let inputs : c.args.net.now.inputs ≡ netlist.inputs = sym c.requires.net.0 ∙ (ap (λ (s : Seen). s.inputs) (sym c.self.view_is) ∙ of.inputs) in
+          let gates : c.args.net.now.gates ≡ netlist.gates = sym c.requires.net.1 ∙ (ap (λ (s : Seen). s.gates) (sym c.self.view_is) ∙ of.gates) in
+          let inside : lane < 512 = omega (arith, slice_get_within fields.loads.lanes lane (Some loaded) at, c.inputs.ensures.long) in
+          let is : lane_input c.inputs.result.now lane ≡ loaded.input = c.inputs.ensures.lanes lane loaded at in
+          let was : LaneHolds Completed netlist loaded fields.values.items lane = subst (λ (s : Stage). LaneHolds s netlist loaded fields.values.items lane) stage (held.lanes netlist lane loaded (record { circuit = of.circuit; whole = of.whole; inputs = of.inputs; gates = of.gates }) at) in
+          subst (λ (values : List Pair). LaneHolds Spread netlist loaded values lane) (sym values_are)
+          (holds-spread netlist of.circuit loaded fields.values.items c.spread.new.values lane c.inputs.result.now is was
+          (λ input start list first rounds has completed are bits rounded. c.spread.ensures.lanes netlist of.circuit of.whole inputs gates lane input start list first rounds inside
+          (subst (λ (planes : List Pair). HasLane planes lane first) (sym c.as_mut_slice-2.ensures.value) has) completed are bits rounded));
+      faults = λ netlist lane loaded of at begun. held.faults netlist lane loaded (record { circuit = of.circuit; whole = of.whole; inputs = of.inputs; gates = of.gates }) at (λ e. (let wrong : Completed ≡ Loading = sym stage ∙ e in cc));
+      unsettled = λ settled. cc;
+    }
+
+pub returns : goal.returns
+returns c = ap (λ (s : Seen). record s { stage = Spread }) c.self.view_is

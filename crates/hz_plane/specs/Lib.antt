@@ -1,0 +1,14 @@
+pub mod Bits
+pub mod Pairs
+pub mod Rules
+pub mod Steps
+pub mod Lanes
+pub mod Loads
+pub mod LoadsInside
+pub mod Faults
+pub mod Sweeps
+pub mod View
+pub mod Orders
+pub mod Gates
+pub mod GatesInside
+pub mod Inside

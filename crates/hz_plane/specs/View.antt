@@ -1,0 +1,90 @@
+-- What contracts see of planes, and what a lane holds at each stage.
+use Rattle.std.specs.Prelude.{◌≡◌, ◌≢◌, ℕ, ◌+◌, ◌<◌, Bool, true, false, Option, Some, None, List, length, map, sum_by}
+use Rattle.hz_core.specs.declared.tri.Tri.{Tri}
+use Rattle.hz_core.specs.declared.tri.Tri.TheVariants.{Zero, One, Unknown}
+use Rattle.hz_core.specs.Ternary.{tri_of}
+use Rattle.hz_core.specs.Netlist.{Netlist, Gate}
+use Rattle.hz_net.specs.Network.{network_of, bit_at, value_at}
+use Rattle.hz_net.specs.Passes.{algorithm_a, algorithm_b, AreRounds}
+use Rattle.hz_net.specs.Starts.{IsCompletedStart, IsAcceptedStart, IsLeastOpen, IsLeastUnstable}
+use Rattle.hz_plane.specs.declared.pair.Pair.{Pair}
+use Rattle.hz_plane.specs.declared.stage.Stage.{Stage}
+use Rattle.hz_plane.specs.declared.stage.Stage.TheVariants.{Loading, Completed, Spread, Settled}
+use Rattle.hz_plane.specs.declared.stage.LaneFault.{LaneFault}
+use Rattle.hz_plane.specs.declared.stage.LaneFault.TheVariants.{Open, Unstable}
+use Rattle.hz_plane.specs.Loads.{Loaded}
+use Rattle.hz_plane.specs.Steps.{HasLane}
+use Rattle.hz_plane.specs.Lanes.{AreForcedNodes, AreAllOf}
+
+-- What contracts see: the circuit, as far as it matters here, the stage, how often the planes were settled, and what was
+-- loaded into each lane.
+pub record Seen : Type 0 where
+  pub inputs : ℕ
+  pub gates : List Gate
+  pub stage : Stage
+  pub settles : ℕ
+  pub lanes : List (Option Loaded)
+
+-- the planes were made for the network of this circuit
+abbrev pub AreOf : Netlist → Seen → Type 0
+AreOf netlist planes = (planes.inputs ≡ netlist.inputs) × (planes.gates ≡ netlist.gates)
+
+-- how many variables the network has that planes were made for
+abbrev pub variables_of : Seen → ℕ
+variables_of planes = planes.inputs + length planes.gates + sum_by (λ gate. length gate.sources) planes.gates
+
+-- the value that can be 0, or 1, or both
+abbrev pub value_by : Bool → Bool → Tri
+value_by false false = Unknown
+value_by false true = One
+value_by true false = Zero
+value_by true true = Unknown
+
+-- what `fault` says of the listed values
+abbrev pub IsLaneFault : Netlist → List (Option Bool) → Option LaneFault → Type 0
+IsLaneFault netlist listed None = (start : List Bool) × IsAcceptedStart netlist listed start
+IsLaneFault netlist listed (Some (Open gate)) = IsLeastOpen netlist listed gate
+IsLaneFault netlist listed (Some (Unstable gate)) = IsLeastUnstable netlist listed gate
+
+-- what `get` says of a lane whose listed values give a start: its value there, or in the result of Algorithm A, or of B
+abbrev pub IsLaneValue : Stage → Netlist → Loaded → ℕ → Tri → Type 0
+IsLaneValue Loading netlist loaded var value = value ≡ Unknown
+IsLaneValue Completed netlist loaded var value =
+    (start : List Bool) → IsAcceptedStart netlist loaded.listed start → value ≡ tri_of (bit_at start var)
+IsLaneValue Spread netlist loaded var value =
+    (start : List Bool) (rounds : ℕ) → IsAcceptedStart netlist loaded.listed start →
+    AreRounds (algorithm_a (network_of netlist) loaded.input start) rounds →
+    value ≡ value_at (algorithm_a (network_of netlist) loaded.input start rounds) var
+IsLaneValue Settled netlist loaded var value =
+    (start : List Bool) (rounds rest : ℕ) → IsAcceptedStart netlist loaded.listed start →
+    AreRounds (algorithm_a (network_of netlist) loaded.input start) rounds →
+    AreRounds (algorithm_b (network_of netlist) loaded.input (algorithm_a (network_of netlist) loaded.input start rounds)) rest →
+    value ≡ value_at (algorithm_b (network_of netlist) loaded.input (algorithm_a (network_of netlist) loaded.input start rounds) rest) var
+
+-- some variable is X in a state, or none is
+abbrev pub HasUnknown : List Tri → Bool → Type 0
+HasUnknown state true = (var : ℕ) × (var < length state) × (value_at state var ≡ Unknown)
+HasUnknown state false = (var : ℕ) → var < length state → value_at state var ≢ Unknown
+
+-- what `is_unsettled` says of a lane whose listed values give a start
+abbrev pub IsUnsettled : Netlist → Loaded → Bool → Type 0
+IsUnsettled netlist loaded answer =
+    (start : List Bool) (rounds rest : ℕ) → IsAcceptedStart netlist loaded.listed start →
+    AreRounds (algorithm_a (network_of netlist) loaded.input start) rounds →
+    AreRounds (algorithm_b (network_of netlist) loaded.input (algorithm_a (network_of netlist) loaded.input start rounds)) rest →
+    HasUnknown (algorithm_b (network_of netlist) loaded.input (algorithm_a (network_of netlist) loaded.input start rounds) rest) answer
+
+-- what the planes hold in a lane
+abbrev pub LaneHolds : Stage → Netlist → Loaded → List Pair → ℕ → Type 0
+LaneHolds Loading netlist loaded values lane = Unit {0}
+LaneHolds Completed netlist loaded values lane =
+    (last : List Tri) × HasLane values lane last × AreForcedNodes netlist loaded.listed last
+LaneHolds Spread netlist loaded values lane =
+    (start : List Bool) (rounds : ℕ) → IsCompletedStart netlist loaded.listed start →
+    AreRounds (algorithm_a (network_of netlist) loaded.input start) rounds →
+    (last : List Tri) × HasLane values lane last × AreAllOf netlist (algorithm_a (network_of netlist) loaded.input start rounds) last
+LaneHolds Settled netlist loaded values lane =
+    (start : List Bool) (rounds rest : ℕ) → IsCompletedStart netlist loaded.listed start →
+    AreRounds (algorithm_a (network_of netlist) loaded.input start) rounds →
+    AreRounds (algorithm_b (network_of netlist) loaded.input (algorithm_a (network_of netlist) loaded.input start rounds)) rest →
+    (last : List Tri) × HasLane values lane last × AreAllOf netlist (algorithm_b (network_of netlist) loaded.input (algorithm_a (network_of netlist) loaded.input start rounds) rest) last

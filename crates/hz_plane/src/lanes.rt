@@ -1,0 +1,46 @@
+//! Sets of lanes, a bit for each.
+ghost use Rattle.std.specs.Prelude.{◌≡◌, ◌≢◌, ℕ, ◌<◌, true, false};
+ghost use Rattle.hz_plane.specs.Bits.{has_lane};
+
+// Whether a lane is in a set.
+#[inline(always)]
+pub(crate) fn has_lane(set: &[u64; 8], lane: u32) -> bool
+    requires { lane < 512 }
+    ensures { result ≡ has_lane set.now lane }
+{
+    (set[(lane / 64) as usize] >> (lane % 64)) & 1 == 1
+}
+
+// Takes a lane into a set, or out of it.
+#[inline(always)]
+pub(crate) fn put_lane(set: &mut [u64; 8], lane: u32, is_in: bool)
+    requires { lane < 512 }
+    ensures here { has_lane set.new lane ≡ is_in }
+    ensures others { (other : ℕ) → other < 512 → other ≢ lane → has_lane set.new other ≡ has_lane set.old other }
+{
+    if is_in {
+        add_lane(set, lane);
+    } else {
+        remove_lane(set, lane);
+    }
+}
+
+#[inline(always)]
+fn add_lane(set: &mut [u64; 8], lane: u32)
+    requires { lane < 512 }
+    ensures here { has_lane set.new lane ≡ true }
+    ensures others { (other : ℕ) → other < 512 → other ≢ lane → has_lane set.new other ≡ has_lane set.old other }
+{
+    let word = (lane / 64) as usize;
+    set[word] |= 1u64 << (lane % 64);
+}
+
+#[inline(always)]
+fn remove_lane(set: &mut [u64; 8], lane: u32)
+    requires { lane < 512 }
+    ensures here { has_lane set.new lane ≡ false }
+    ensures others { (other : ℕ) → other < 512 → other ≢ lane → has_lane set.new other ≡ has_lane set.old other }
+{
+    let word = (lane / 64) as usize;
+    set[word] &= !(1u64 << (lane % 64));
+}

@@ -1,0 +1,35 @@
+//! Bit planes: completed starts and Algorithms A and B of 512 patterns at once.
+//!
+//! | Module | What lives in it |
+//! |---|---|
+//! | `planes` | [`Planes`]: the planes of a network, from loading to the result of Algorithm B |
+//! | `stage` | [`Stage`]: what was done with the planes; [`LaneFault`]: why a lane has no stable start |
+//! | `loads`, `listing` | what each lane was loaded with, and what the lanes list for a node |
+//! | `lanes` | sets of lanes |
+//! | `pair`, `rule`, `excited` | the two planes of a node, what a gate does with its excitation, and the excitation itself |
+//! | `passes` | completed starts, Algorithm A and Algorithm B, in all lanes |
+//! | `sweep` | gates evaluated in place until none would change |
+//! | `faults` | the fault of each lane, and the lanes in which some node is X |
+//! | `order`, `readers` | an order of all gates, and which gates read each node |
+//! | `gates` | the gates of the circuit, copied |
+#![tactic(auto)]
+
+mod excited;
+mod faults;
+mod gates;
+mod lanes;
+mod listing;
+mod loads;
+mod order;
+mod pair;
+mod passes;
+mod planes;
+mod readers;
+mod rule;
+mod stage;
+mod sweep;
+#[cfg(test)]
+mod tests;
+
+pub use planes::Planes;
+pub use stage::{LaneFault, Stage};

@@ -1,0 +1,69 @@
+//! What the lanes list for a node.
+ghost use Rattle.std.specs.Prelude.{◌≡◌, ◌≢◌, ℕ, ◌<◌, None, Some, IsTrue};
+ghost use Rattle.hz_plane.specs.Bits.{ArePlanes, HasValue};
+ghost use Rattle.hz_plane.specs.Lanes.{listed_value};
+ghost use Rattle.hz_plane.specs.Loads.{listed_in};
+
+use crate::lanes::put_lane;
+use crate::pair::{Pair, is_plane, is_zero};
+use std::simd::prelude::*;
+
+// The lanes that list 0 for a node, and those that list 1.
+#[derive(Clone, Copy, Debug)]
+pub(crate) struct Listing {
+    pub(crate) zeros: [u64; 8],
+    pub(crate) ones: [u64; 8],
+}
+
+impl Listing {
+    // No lane lists the node.
+    pub(crate) fn none() -> Listing
+        ensures { (lane : ℕ) → listed_in result lane ≡ None }
+    {
+        Listing {
+            zeros: [0; 8],
+            ones: [0; 8],
+        }
+    }
+
+    // Lists a value for the node in a lane, or none.
+    #[inline(always)]
+    pub(crate) fn put(&mut self, lane: u32, value: Option<bool>)
+        requires { lane < 512 }
+        ensures here { listed_in self.new lane ≡ value }
+        ensures others { (other : ℕ) → other < 512 → other ≢ lane → listed_in self.new other ≡ listed_in self.old other }
+    {
+        put_lane(&mut self.zeros, lane, value == Some(false));
+        put_lane(&mut self.ones, lane, value == Some(true));
+    }
+
+    // The listed value in each lane, and X in the lanes that list none.
+    #[inline(always)]
+    pub(crate) fn values(&self) -> Pair
+        ensures planes { ArePlanes result }
+        ensures lanes { (lane : ℕ) → lane < 512 → HasValue result lane (listed_value (Some (listed_in self.now lane))) }
+    {
+        let zeros = u64x8::from_array(self.zeros);
+        let ones = u64x8::from_array(self.ones);
+        is_plane(zeros);
+        is_plane(ones);
+        let pair = Pair {
+            zero: zeros | !ones,
+            one: !zeros,
+        };
+        pair.are_planes();
+        pair
+    }
+
+    // Whether no lane lists the node.
+    #[inline(always)]
+    pub(crate) fn is_empty(&self) -> bool
+        ensures { IsTrue result → (lane : ℕ) → lane < 512 → listed_in self.now lane ≡ None }
+    {
+        let zeros = u64x8::from_array(self.zeros);
+        let ones = u64x8::from_array(self.ones);
+        is_plane(zeros);
+        is_plane(ones);
+        is_zero(zeros | ones)
+    }
+}

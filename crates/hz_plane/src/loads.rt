@@ -1,0 +1,215 @@
+//! What each lane was loaded with.
+ghost use Rattle.std.specs.Prelude.{◌≡◌, ◌≢◌, ◌<◌, ◌≤◌, ◌++◌, ℕ, All, Bool, List, None, Some, IfOk, IsTrue, drop, false, length, map, replicate, slice_get, slice_set};
+ghost use Rattle.hz_plane.specs.Bits.{has_lane};
+ghost use Rattle.hz_plane.specs.Loads.{Loaded, lane_input, lane_listed, held_at, listed_with};
+
+use crate::lanes::{has_lane, put_lane};
+use crate::listing::Listing;
+use hz_core::Memory;
+use std::alloc::Global;
+use std::marker::Model;
+
+// The lanes that were loaded; for each input the lanes whose new input has a 1 there; for each node what the lanes list.
+#[derive(Debug, Drop)]
+pub(crate) struct Loads {
+    loaded: [u64; 8],
+    inputs: Vec<[u64; 8]>,
+    listings: Vec<Listing>,
+}
+
+impl Model for Loads {
+    ghost use Rattle.hz_plane.specs.Loads.{LaneLoads};
+
+    ghost Value = { LaneLoads };
+
+    ghost use Rattle.hz_plane.specs.LoadsInside.{loads_of, HoldsLoads};
+
+    ghost view = { loads_of };
+
+    ghost invariant = { HoldsLoads };
+}
+
+impl Loads {
+    // No lane is loaded.
+    pub(crate) fn new(alloc: Global, inputs: u32, nodes: u32) -> Result<Loads, Memory>
+        ensures { IfOk result (λ loads. loads ≡ record { inputs = inputs; nodes = nodes; lanes = replicate 512 None }) }
+    {
+        let Ok(planes) = vec![in alloc; [0; 8]; inputs as usize] else {
+            return Err(Memory);
+        };
+        Ok(Loads {
+            loaded: [0; 8],
+            inputs: planes,
+            listings: no_listings(alloc, nodes)?,
+        })
+    }
+
+    // Forgets what was loaded.
+    pub(crate) fn clear(&mut self)
+        ensures { self.new ≡ record self.old { lanes = replicate 512 None } }
+    {
+        self.loaded = [0; 8];
+        unlist_all(self.listings.as_mut_slice());
+    }
+
+    // For each input the lanes whose new input has a 1 there.
+    pub(crate) fn inputs(&self) -> &[[u64; 8]]
+        ensures count { length result.now ≡ self.now.inputs }
+        ensures lanes { (lane : ℕ) (loaded : Loaded) → slice_get self.now.lanes lane ≡ Some (Some loaded) → lane_input result.now lane ≡ loaded.input }
+        ensures long { length self.now.lanes ≡ 512 }
+    {
+        self.inputs.as_slice()
+    }
+
+    // For each node what the lanes list.
+    pub(crate) fn listings(&self) -> &[Listing]
+        ensures count { length result.now ≡ self.now.nodes }
+        ensures lanes { (lane : ℕ) (loaded : Loaded) → slice_get self.now.lanes lane ≡ Some (Some loaded) → lane_listed result.now lane ≡ loaded.listed }
+        ensures long { length self.now.lanes ≡ 512 }
+    {
+        self.listings.as_slice()
+    }
+
+    // Loads a lane with a new input and a listed start.
+    pub(crate) fn load(&mut self, lane: u32, input: &[bool], listed: &[Option<bool>])
+        requires lane { lane < 512 }
+        requires input { length input.now ≡ self.old.inputs }
+        requires listed { length listed.now ≡ self.old.nodes }
+        ensures { self.new ≡ record self.old { lanes = slice_set self.old.lanes lane (Some (record { input = input.now; listed = listed.now })) } }
+    {
+        put_inputs(lane, input, self.inputs.as_mut_slice());
+        put_listed(lane, listed, self.listings.as_mut_slice());
+        put_lane(&mut self.loaded, lane, true);
+    }
+
+    // Loads a lane with a new input, and the listed start that lists the first bits of the inputs, and the held gates.
+    pub(crate) fn load_held(
+        &mut self,
+        lane: u32,
+        input: &[bool],
+        first: &[bool],
+        held: &[(u32, bool)],
+    )
+        requires lane { lane < 512 }
+        requires input { length input.now ≡ self.old.inputs }
+        requires first { length first.now ≤ self.old.nodes }
+        requires held { All (λ node. node.0 < self.old.nodes) held.now }
+        ensures { self.new ≡ record self.old { lanes = slice_set self.old.lanes lane (Some (record { input = input.now; listed = listed_with self.old.nodes first.now held.now })) } }
+    {
+        put_inputs(lane, input, self.inputs.as_mut_slice());
+        list_start(
+            lane,
+            &self.loaded,
+            first,
+            held,
+            self.listings.as_mut_slice(),
+        );
+        put_lane(&mut self.loaded, lane, true);
+    }
+}
+
+// Nodes that no lane lists.
+fn no_listings(alloc: Global, nodes: u32) -> Result<Vec<Listing>, Memory>
+    ensures { IfOk result (λ listings. (lane : ℕ) → lane_listed listings.items lane ≡ replicate nodes None) }
+{
+    let Ok(mut listings) = Vec::with_capacity(alloc, nodes as usize) else {
+        return Err(Memory);
+    };
+    for _node in 0..nodes {
+        let Ok(()) = listings.push(Listing::none()) else {
+            return Err(Memory);
+        };
+    }
+    Ok(listings)
+}
+
+// Lets no lane list a node.
+fn unlist_all(listings: &mut [Listing])
+    ensures { (lane : ℕ) → lane_listed listings.new lane ≡ replicate (length listings.old) None }
+{
+    for node in 0..listings.len() {
+        listings[node] = Listing::none();
+    }
+}
+
+// Gives a lane its new input.
+fn put_inputs(lane: u32, input: &[bool], inputs: &mut [[u64; 8]])
+    requires lane { lane < 512 }
+    requires input { length input.now ≡ length inputs.old }
+    ensures here { lane_input inputs.new lane ≡ input.now }
+    ensures others { (other : ℕ) → other < 512 → other ≢ lane → lane_input inputs.new other ≡ lane_input inputs.old other }
+{
+    for i in 0..input.len() {
+        put_lane(&mut inputs[i], lane, input[i]);
+    }
+}
+
+// Gives a lane its listed start.
+fn put_listed(lane: u32, listed: &[Option<bool>], listings: &mut [Listing])
+    requires lane { lane < 512 }
+    requires listed { length listed.now ≡ length listings.old }
+    ensures here { lane_listed listings.new lane ≡ listed.now }
+    ensures others { (other : ℕ) → other < 512 → other ≢ lane → lane_listed listings.new other ≡ lane_listed listings.old other }
+{
+    for node in 0..listed.len() {
+        listings[node].put(lane, listed[node]);
+    }
+}
+
+// Gives a lane the listed start that lists the first bits of the inputs, and the held gates.
+fn list_start(
+    lane: u32,
+    loaded: &[u64; 8],
+    first: &[bool],
+    held: &[(u32, bool)],
+    listings: &mut [Listing],
+)
+    requires lane { lane < 512 }
+    requires fresh { has_lane loaded.now lane ≡ false → lane_listed listings.old lane ≡ replicate (length listings.old) None }
+    requires first { length first.now ≤ length listings.old }
+    requires held { All (λ node. node.0 < length listings.old) held.now }
+    ensures here { lane_listed listings.new lane ≡ listed_with (length listings.old) first.now held.now }
+    ensures others { (other : ℕ) → other < 512 → other ≢ lane → lane_listed listings.new other ≡ lane_listed listings.old other }
+{
+    unlist(lane, loaded, listings);
+    list_inputs(lane, first, listings);
+    list_held(lane, held, listings);
+}
+
+// Lets a lane list nothing. A lane that was not loaded lists nothing already.
+fn unlist(lane: u32, loaded: &[u64; 8], listings: &mut [Listing])
+    requires lane { lane < 512 }
+    requires fresh { has_lane loaded.now lane ≡ false → lane_listed listings.old lane ≡ replicate (length listings.old) None }
+    ensures here { lane_listed listings.new lane ≡ replicate (length listings.old) None }
+    ensures others { (other : ℕ) → other < 512 → other ≢ lane → lane_listed listings.new other ≡ lane_listed listings.old other }
+{
+    if has_lane(loaded, lane) {
+        for node in 0..listings.len() {
+            listings[node].put(lane, None);
+        }
+    }
+}
+
+// Lets a lane list the first bits of the inputs.
+fn list_inputs(lane: u32, first: &[bool], listings: &mut [Listing])
+    requires lane { lane < 512 }
+    requires first { length first.now ≤ length listings.old }
+    ensures here { lane_listed listings.new lane ≡ map Some first.now ++ drop (length first.now) (lane_listed listings.old lane) }
+    ensures others { (other : ℕ) → other < 512 → other ≢ lane → lane_listed listings.new other ≡ lane_listed listings.old other }
+{
+    for node in 0..first.len() {
+        listings[node].put(lane, Some(first[node]));
+    }
+}
+
+// Lets a lane list the held gates.
+fn list_held(lane: u32, held: &[(u32, bool)], listings: &mut [Listing])
+    requires lane { lane < 512 }
+    requires held { All (λ node. node.0 < length listings.old) held.now }
+    ensures here { lane_listed listings.new lane ≡ held_at held.now (lane_listed listings.old lane) }
+    ensures others { (other : ℕ) → other < 512 → other ≢ lane → lane_listed listings.new other ≡ lane_listed listings.old other }
+{
+    for (node, bit) in held {
+        listings[*node as usize].put(lane, Some(*bit));
+    }
+}

@@ -1,0 +1,149 @@
+//! The three passes over planes, lane by lane in their clauses.
+ghost use Rattle.std.specs.Prelude.{◌≡◌, ℕ, ◌<◌, ◌≤◌, ◌^◌, Bool, Option, List, [], length, map};
+ghost use Rattle.std.specs.List.{slice_index_or};
+ghost use Rattle.hz_core.specs.declared.tri.Tri.{Tri};
+ghost use Rattle.hz_core.specs.Ternary.{tri_of};
+ghost use Rattle.hz_core.specs.Netlist.{Netlist, IsCircuit, IsWhole};
+ghost use Rattle.hz_net.specs.Network.{network_of};
+ghost use Rattle.hz_net.specs.Passes.{algorithm_a, algorithm_b, AreRounds};
+ghost use Rattle.hz_net.specs.Starts.{IsCompletedStart};
+ghost use Rattle.hz_plane.specs.Pairs.{pair_at, widened_pair, known_pair};
+ghost use Rattle.hz_plane.specs.Steps.{AreAllPlanes, HasLane};
+ghost use Rattle.hz_plane.specs.Sweeps.{IsOrder, IsBack};
+ghost use Rattle.hz_plane.specs.Lanes.{ListsAllInputs, AreForcedNodes, HasInputs, AreInputPlanes, AreNodesOf, AreAllOf, listed_values};
+ghost use Rattle.hz_plane.specs.Loads.{lane_listed};
+
+use crate::listing::Listing;
+use crate::pair::{Pair, is_plane};
+use crate::rule::Rule;
+use crate::sweep::run;
+use hz_net::Net;
+use std::simd::prelude::*;
+
+// Fills the starts of all lanes from what they list.
+pub(crate) fn fill(
+    net: &Net,
+    order: &[u32],
+    readers: &[Vec<u32>],
+    back: &[Vec<u32>],
+    marks: &mut [bool],
+    listings: &[Listing],
+    values: &mut [Pair],
+)
+    requires order { IsOrder net.now order.now (map (λ list. list.items) readers.now) }
+    requires back { IsBack net.now order.now (map (λ list. list.items) back.now) }
+    requires circuit { IsCircuit net.now }
+    requires whole { IsWhole net.now }
+    requires listings { length listings.now ≡ length net.now.names }
+    requires values { length values.old ≡ length net.now.names }
+    requires marks { length marks.old ≡ length order.now }
+    requires few { length order.now < 2 ^ 32 }
+    ensures planes { AreAllPlanes values.new }
+    ensures lanes { (netlist : Netlist) → IsCircuit netlist → IsWhole netlist → net.now.inputs ≡ netlist.inputs → net.now.gates ≡ netlist.gates → (lane : ℕ) → lane < 512 → ListsAllInputs netlist (lane_listed listings.now lane)
+        → (last : List Tri) × HasLane values.new lane last × AreForcedNodes netlist (lane_listed listings.now lane) last }
+{
+    begin(listings, values);
+    run(Rule::Narrow, net, order, readers, back, marks, values);
+}
+
+// The listed values, and X where none is listed.
+fn begin(listings: &[Listing], values: &mut [Pair])
+    requires { length values.old ≡ length listings.now }
+    ensures planes { AreAllPlanes values.new }
+    ensures lanes { (lane : ℕ) → lane < 512 → HasLane values.new lane (listed_values listings.now lane) }
+{
+    for node in 0..listings.len() {
+        values[node] = listings[node].values();
+    }
+}
+
+// Joins the new input to the inputs' values.
+fn join_inputs(inputs: &[[u64; 8]], values: &mut [Pair])
+    requires { length inputs.now ≤ length values.old }
+    ensures planes { AreInputPlanes inputs.now }
+    ensures inputs { (node : ℕ) → node < length inputs.now → pair_at values.new node ≡ widened_pair (pair_at values.old node) (known_pair (slice_index_or inputs.now node [])) }
+    ensures rest { (node : ℕ) → length inputs.now ≤ node → pair_at values.new node ≡ pair_at values.old node }
+{
+    for node in 0..inputs.len() {
+        let bits = u64x8::from_array(inputs[node]);
+        is_plane(bits);
+        values[node] = values[node].widened(Pair {
+            zero: !bits,
+            one: bits,
+        });
+    }
+}
+
+// Gives the inputs their new values.
+fn set_inputs(inputs: &[[u64; 8]], values: &mut [Pair])
+    requires { length inputs.now ≤ length values.old }
+    ensures planes { AreInputPlanes inputs.now }
+    ensures inputs { (node : ℕ) → node < length inputs.now → pair_at values.new node ≡ known_pair (slice_index_or inputs.now node []) }
+    ensures rest { (node : ℕ) → length inputs.now ≤ node → pair_at values.new node ≡ pair_at values.old node }
+{
+    for node in 0..inputs.len() {
+        let bits = u64x8::from_array(inputs[node]);
+        is_plane(bits);
+        values[node] = Pair {
+            zero: !bits,
+            one: bits,
+        };
+    }
+}
+
+// Algorithm A in all lanes, from their starts.
+pub(crate) fn spread(
+    net: &Net,
+    order: &[u32],
+    readers: &[Vec<u32>],
+    back: &[Vec<u32>],
+    marks: &mut [bool],
+    inputs: &[[u64; 8]],
+    values: &mut [Pair],
+)
+    requires order { IsOrder net.now order.now (map (λ list. list.items) readers.now) }
+    requires back { IsBack net.now order.now (map (λ list. list.items) back.now) }
+    requires circuit { IsCircuit net.now }
+    requires whole { IsWhole net.now }
+    requires inputs { length inputs.now ≡ net.now.inputs }
+    requires values { length values.old ≡ length net.now.names }
+    requires planes { AreAllPlanes values.old }
+    requires marks { length marks.old ≡ length order.now }
+    requires few { length order.now < 2 ^ 32 }
+    ensures planes { AreAllPlanes values.new }
+    ensures lanes { (netlist : Netlist) → IsCircuit netlist → IsWhole netlist → net.now.inputs ≡ netlist.inputs → net.now.gates ≡ netlist.gates → (lane : ℕ) (input start : List Bool) (listed : List (Option Bool)) (first : List Tri) (rounds : ℕ) → lane < 512 → HasLane values.old lane first → IsCompletedStart netlist listed start → AreNodesOf netlist (map tri_of start) first → HasInputs inputs.now lane input
+        → AreRounds (algorithm_a (network_of netlist) input start) rounds
+        → (last : List Tri) × HasLane values.new lane last × AreAllOf netlist (algorithm_a (network_of netlist) input start rounds) last }
+{
+    join_inputs(inputs, values);
+    run(Rule::Widen, net, order, readers, back, marks, values);
+}
+
+// Algorithm B in all lanes, from the results of Algorithm A.
+pub(crate) fn settle(
+    net: &Net,
+    order: &[u32],
+    readers: &[Vec<u32>],
+    back: &[Vec<u32>],
+    marks: &mut [bool],
+    inputs: &[[u64; 8]],
+    values: &mut [Pair],
+)
+    requires order { IsOrder net.now order.now (map (λ list. list.items) readers.now) }
+    requires back { IsBack net.now order.now (map (λ list. list.items) back.now) }
+    requires circuit { IsCircuit net.now }
+    requires whole { IsWhole net.now }
+    requires inputs { length inputs.now ≡ net.now.inputs }
+    requires values { length values.old ≡ length net.now.names }
+    requires planes { AreAllPlanes values.old }
+    requires marks { length marks.old ≡ length order.now }
+    requires few { length order.now < 2 ^ 32 }
+    ensures planes { AreAllPlanes values.new }
+    ensures lanes { (netlist : Netlist) → IsCircuit netlist → IsWhole netlist → net.now.inputs ≡ netlist.inputs → net.now.gates ≡ netlist.gates → (lane : ℕ) (input start : List Bool) (listed : List (Option Bool)) (first : List Tri) (rounds rest : ℕ) → lane < 512 → HasLane values.old lane first → IsCompletedStart netlist listed start
+        → AreRounds (algorithm_a (network_of netlist) input start) rounds → AreNodesOf netlist (algorithm_a (network_of netlist) input start rounds) first → HasInputs inputs.now lane input
+        → AreRounds (algorithm_b (network_of netlist) input (algorithm_a (network_of netlist) input start rounds)) rest
+        → (last : List Tri) × HasLane values.new lane last × AreAllOf netlist (algorithm_b (network_of netlist) input (algorithm_a (network_of netlist) input start rounds) rest) last }
+{
+    set_inputs(inputs, values);
+    run(Rule::Narrow, net, order, readers, back, marks, values);
+}

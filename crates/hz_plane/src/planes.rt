@@ -1,0 +1,302 @@
+//! 512 patterns at once.
+//!
+//! The idea. A node has two words for each 64 lanes: the lanes in which it can be 0, and those in which it can be 1; X is both.
+//! A wire has its source's value in each result, so wires need no planes. All three passes are one loop over the gates, which
+//! evaluates them in place until none would change (`sweep`).
+//!
+//! What must stay true: `HoldsPlanes`. What a lane holds is said of each circuit with these inputs and gates, since the fields
+//! keep no more of it.
+ghost use Rattle.std.specs.Prelude.{◌≡◌, ◌≢◌, ◌+◌, ◌<◌, ◌≤◌, ◌^◌, ◌-◌, ℕ, All, Option, Some, None, IfOk, length, min, replicate, slice_get, slice_set};
+ghost use Rattle.hz_core.specs.declared.tri.Tri.TheVariants.{Unknown};
+ghost use Rattle.hz_core.specs.Netlist.{Netlist, IsCircuit, IsWhole, IsGateNumber};
+ghost use Rattle.hz_plane.specs.Gates.{pin_sources};
+ghost use Rattle.hz_plane.specs.Lanes.{ListsAllInputs};
+ghost use Rattle.hz_plane.specs.Loads.{Loaded, listed_with};
+ghost use Rattle.hz_plane.specs.Steps.{AreAllPlanes};
+ghost use Rattle.hz_plane.specs.View.{Seen, AreOf, IsLaneValue, IsLaneFault, IsUnsettled, value_by, variables_of};
+ghost use Rattle.hz_plane.specs.declared.stage.Stage.TheVariants.{Loading, Completed, Spread, Settled};
+
+use crate::faults::{note_faults, unknown_lanes};
+use crate::gates::Gates;
+use crate::lanes::has_lane;
+use crate::loads::Loads;
+use crate::order::order_gates;
+use crate::pair::Pair;
+use crate::passes::{fill, settle, spread};
+use crate::readers::{list_back, list_readers};
+use crate::stage::{LaneFault, Stage};
+use hz_core::{Memory, Tri};
+use hz_net::Net;
+use std::alloc::Global;
+use std::marker::Model;
+use std::simd::prelude::*;
+
+/// Bit planes for 512 lanes, each of which holds a pattern: a start, and a new input.
+///
+/// The lanes are loaded one by one. Then `complete` fills their starts, `spread` makes Algorithm A of them, and `settle`
+/// Algorithm B (Brzozowski and Seger). Each is one pass for all lanes.
+#[derive(Debug, Drop)]
+pub struct Planes {
+    stage: Stage,
+    settles: u64,
+    gates: Gates,
+    order: Vec<u32>,
+    readers: Vec<Vec<u32>>,
+    back: Vec<Vec<u32>>,
+    marks: Vec<bool>,
+    loads: Loads,
+    values: Vec<Pair>,
+    faults: Vec<Option<LaneFault>>,
+    unsettled: [u64; 8],
+}
+
+impl Model for Planes {
+    ghost use Rattle.hz_plane.specs.View.{Seen};
+
+    ghost Value = { Seen };
+
+    ghost use Rattle.hz_plane.specs.Inside.{seen_of, HoldsPlanes};
+
+    ghost view = { seen_of };
+
+    ghost invariant = { HoldsPlanes };
+}
+
+impl Planes {
+    /// Planes for a network, with no lane loaded. Only this call takes memory.
+    pub fn new(alloc: Global, net: &Net) -> Result<Planes, Memory>
+        ensures { IfOk result (λ planes. planes ≡ record { inputs = net.now.inputs; gates = net.now.gates; stage = Loading; settles = 0; lanes = replicate 512 None }) }
+    {
+        let circuit = net.circuit();
+        let gates = Gates::of(alloc, net)?;
+        let order = order_gates(alloc, net)?;
+        let readers = list_readers(alloc, net, order.as_slice())?;
+        let back = list_back(alloc, net, order.as_slice(), readers.as_slice())?;
+        let loads = Loads::new(alloc, circuit.inputs(), circuit.nodes())?;
+        let values = unknown_values(alloc, circuit.nodes())?;
+        let Ok(marks) = vec![in alloc; false; order.len()] else {
+            return Err(Memory);
+        };
+        let Ok(faults) = vec![in alloc; None; 512] else {
+            return Err(Memory);
+        };
+        Ok(Planes {
+            stage: Stage::Loading,
+            settles: 0,
+            gates,
+            order,
+            readers,
+            back,
+            marks,
+            loads,
+            values,
+            faults,
+            unsettled: [0; 8],
+        })
+    }
+
+    /// Forgets what was loaded.
+    pub fn clear(&mut self)
+        ensures { self.new ≡ record self.old { stage = Loading; lanes = replicate 512 None } }
+    {
+        self.stage = Stage::Loading;
+        self.loads.clear();
+    }
+
+    /// Loads a lane: the new input, and the values that its start lists. The start lists each input, cuts too.
+    pub fn load(&mut self, net: &Net, lane: u32, input: &[bool], listed: &[Option<bool>])
+        requires net { AreOf net.now self.old }
+        requires stage { self.old.stage ≡ Loading }
+        requires lane { lane < 512 }
+        requires input { length input.now ≡ net.now.inputs }
+        requires listed { length listed.now ≡ length net.now.names }
+        requires inputs { ListsAllInputs net.now listed.now }
+        ensures { self.new ≡ record self.old { lanes = slice_set self.old.lanes lane (Some (record { input = input.now; listed = listed.now })) } }
+    {
+        let _circuit = net.circuit();
+        self.loads.load(lane, input, listed);
+    }
+
+    /// Loads a lane as `load` does, with the start that lists the first bits of the inputs, and these held gates. The work
+    /// doesn't grow with the number of gates, if the lane was not loaded since `clear`.
+    pub fn load_held(
+        &mut self,
+        net: &Net,
+        lane: u32,
+        input: &[bool],
+        first: &[bool],
+        held: &[(u32, bool)],
+    )
+        requires net { AreOf net.now self.old }
+        requires stage { self.old.stage ≡ Loading }
+        requires lane { lane < 512 }
+        requires input { length input.now ≡ net.now.inputs }
+        requires first { length first.now ≡ net.now.inputs }
+        requires held { All (λ node. IsGateNumber net.now node.0) held.now }
+        ensures { self.new ≡ record self.old { lanes = slice_set self.old.lanes lane (Some (record { input = input.now; listed = listed_with (length net.now.names) first.now held.now })) } }
+    {
+        let _circuit = net.circuit();
+        self.loads.load_held(lane, input, first, held);
+    }
+
+    /// Fills the starts of all lanes: what their listed values force.
+    pub fn complete(&mut self, net: &Net)
+        requires net { AreOf net.now self.old }
+        requires stage { self.old.stage ≡ Loading }
+        ensures { self.new ≡ record self.old { stage = Completed } }
+    {
+        let _circuit = net.circuit();
+        fill(
+            net,
+            self.order.as_slice(),
+            self.readers.as_slice(),
+            self.back.as_slice(),
+            self.marks.as_mut_slice(),
+            self.loads.listings(),
+            self.values.as_mut_slice(),
+        );
+        note_faults(
+            net,
+            self.loads.listings(),
+            self.values.as_slice(),
+            self.faults.as_mut_slice(),
+        );
+        self.stage = Stage::Completed;
+    }
+
+    /// Why a loaded lane has no stable start: its least open node, or if no node is open its least unstable gate.
+    pub fn fault(&self, net: &Net, lane: u32) -> Option<LaneFault>
+        requires net { AreOf net.now self.now }
+        requires stage { self.now.stage ≢ Loading }
+        requires lane { lane < 512 }
+        ensures { (loaded : Loaded) → slice_get self.now.lanes lane ≡ Some (Some loaded) → IsLaneFault net.now loaded.listed result }
+    {
+        let _circuit = net.circuit();
+        self.faults[lane as usize]
+    }
+
+    /// Algorithm A in each lane, from its start under its new input.
+    pub fn spread(&mut self, net: &Net)
+        requires net { AreOf net.now self.old }
+        requires stage { self.old.stage ≡ Completed }
+        ensures { self.new ≡ record self.old { stage = Spread } }
+    {
+        let _circuit = net.circuit();
+        spread(
+            net,
+            self.order.as_slice(),
+            self.readers.as_slice(),
+            self.back.as_slice(),
+            self.marks.as_mut_slice(),
+            self.loads.inputs(),
+            self.values.as_mut_slice(),
+        );
+        self.stage = Stage::Spread;
+    }
+
+    /// Algorithm B in each lane, from the result of Algorithm A.
+    pub fn settle(&mut self, net: &Net)
+        requires net { AreOf net.now self.old }
+        requires stage { self.old.stage ≡ Spread }
+        ensures { self.new ≡ record self.old { stage = Settled; settles = min (self.old.settles + 1) (2 ^ 64 - 1) } }
+    {
+        let _circuit = net.circuit();
+        settle(
+            net,
+            self.order.as_slice(),
+            self.readers.as_slice(),
+            self.back.as_slice(),
+            self.marks.as_mut_slice(),
+            self.loads.inputs(),
+            self.values.as_mut_slice(),
+        );
+        self.unsettled = unknown_lanes(self.values.as_slice());
+        self.stage = Stage::Settled;
+        self.settles = self.settles.saturating_add(1);
+    }
+
+    /// The value of a variable in a loaded lane that has a stable start: in this start once the starts are completed, in the
+    /// result of Algorithm A after `spread`, and of Algorithm B after `settle`. Before, each value is X.
+    pub fn get(&self, lane: u32, var: u32) -> Tri
+        requires lane { lane < 512 }
+        requires var { var < variables_of self.now }
+        ensures lane { (netlist : Netlist) (loaded : Loaded) → IsCircuit netlist → IsWhole netlist → AreOf netlist self.now → slice_get self.now.lanes lane ≡ Some (Some loaded) → IsLaneValue self.now.stage netlist loaded var result }
+        ensures loading { self.now.stage ≡ Loading → result ≡ Unknown }
+    {
+        match self.stage {
+            Stage::Loading => Tri::Unknown,
+            _ => self.node_value(lane, var),
+        }
+    }
+
+    /// Whether some variable is X in a loaded lane, inner nodes and wires too.
+    pub fn is_unsettled(&self, lane: u32) -> bool
+        requires lane { lane < 512 }
+        requires stage { self.now.stage ≡ Settled }
+        ensures { (netlist : Netlist) (loaded : Loaded) → IsCircuit netlist → IsWhole netlist → AreOf netlist self.now → slice_get self.now.lanes lane ≡ Some (Some loaded) → IsUnsettled netlist loaded result }
+    {
+        has_lane(&self.unsettled, lane)
+    }
+
+    // The value of a node, or of the source of a wire.
+    #[inline(always)]
+    fn node_value(&self, lane: u32, var: u32) -> Tri
+        requires lane { lane < 512 }
+        requires var { var < variables_of self.now }
+        ensures { (netlist : Netlist) (loaded : Loaded) → IsCircuit netlist → IsWhole netlist → AreOf netlist self.now → slice_get self.now.lanes lane ≡ Some (Some loaded) → self.now.stage ≢ Loading → IsLaneValue self.now.stage netlist loaded var result }
+    {
+        let pair = &self.values[self.node_of(var) as usize];
+        value_by(
+            has_lane(pair.zero.as_array(), lane),
+            has_lane(pair.one.as_array(), lane),
+        )
+    }
+
+    // A node itself, or the source of a wire.
+    #[inline(always)]
+    fn node_of(&self, var: u32) -> u32
+        requires { var < variables_of self.now }
+        ensures inside { result < self.now.inputs + length self.now.gates }
+        ensures node { var < self.now.inputs + length self.now.gates → result ≡ var }
+        ensures wire { self.now.inputs + length self.now.gates ≤ var → slice_get (pin_sources self.now.gates) (var - (self.now.inputs + length self.now.gates)) ≡ Some result }
+    {
+        let nodes = self.values.len() as u32;
+        if var < nodes {
+            return var;
+        }
+        self.gates.source(var - nodes)
+    }
+}
+
+// Nodes that are X in each lane.
+fn unknown_values(alloc: Global, nodes: u32) -> Result<Vec<Pair>, Memory>
+    ensures count { IfOk result (λ values. length values.items ≡ nodes) }
+    ensures planes { IfOk result (λ values. AreAllPlanes values.items) }
+{
+    let unknown = Pair {
+        zero: u64x8::splat(u64::MAX),
+        one: u64x8::splat(u64::MAX),
+    };
+    unknown.are_planes();
+    let Ok(mut values) = Vec::with_capacity(alloc, nodes as usize) else {
+        return Err(Memory);
+    };
+    for _node in 0..nodes {
+        let Ok(()) = values.push(unknown) else {
+            return Err(Memory);
+        };
+    }
+    Ok(values)
+}
+
+// The value that can be 0, or 1, or both.
+#[inline(always)]
+fn value_by(zero: bool, one: bool) -> Tri
+    ensures { result ≡ value_by zero one }
+{
+    match (zero, one) {
+        (true, false) => Tri::Zero,
+        (false, true) => Tri::One,
+        _ => Tri::Unknown,
+    }
+}

@@ -1,0 +1,23 @@
+//! Patterns of inputs: pairs of inputs of a circuit, and gates that are held.
+//!
+//! | Module | What lives in it |
+//! |---|---|
+//! | `value` | [`Patterns`]: what is held, and the bits of each pattern |
+//! | `read` | [`read_patterns`]: the order of work |
+//! | `statement` | the statements, looked up in a circuit |
+//! | `word` | words of bits |
+//! | `rules` | the passes over the statements, one for each fault |
+//! | `build` | the patterns of statements without a fault |
+//! | `print` | [`print_patterns`]: the text of patterns |
+
+mod build;
+mod print;
+mod read;
+mod rules;
+mod statement;
+mod value;
+mod word;
+
+pub use print::print_patterns;
+pub use read::read_patterns;
+pub use value::{MAX_PATTERNS, Patterns};

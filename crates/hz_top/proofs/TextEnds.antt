@@ -1,0 +1,53 @@
+-- How a task ends on a second text of which nothing is to be refused.
+use Rattle.std.proofs.Common.{◌≡◌, ◌∙◌, sym, ℕ, inl, inr, List, codes}
+use Rattle.hz_core.specs.Netlist.{Netlist}
+use Rattle.hz_gen.specs.Starts.{IsCompletable}
+use Rattle.hz_options.specs.declared.options.Options.{Options}
+use Rattle.hz_text.specs.declared.fault.TextFault.{TextFault}
+use Rattle.hz_text.specs.ScriptFault.{HasScriptFault}
+use Rattle.hz_text.specs.ScriptText.{IsValue}
+use Rattle.hz_text.specs.ScriptValue.{ScriptOf}
+use Rattle.hz_text.specs.RunFault.{HasRunFault}
+use Rattle.hz_text.specs.RunText.{IsRunValue}
+use Rattle.hz_text.specs.RunValue.{RunTextOf}
+use Rattle.hz_words.specs.declared.job.Task.{Task}
+use Rattle.hz_words.specs.declared.job.Task.TheVariants.{Analyse, Replay, Convert}
+use Rattle.hz_top.specs.declared.status.Status.{Status}
+use Rattle.hz_top.specs.declared.status.Status.TheVariants as status
+use Rattle.hz_top.specs.Reports.{Reports}
+use Rattle.hz_top.specs.RunTexts.{IsConvertOutcome, EndsReplay}
+use Rattle.hz_top.specs.Second.{IsTextOutcome, Started, IsGoodText}
+use Rattle.hz_top.specs.Tasks.{comes_of, good_of}
+use Rattle.hz_top.specs.Verdict.{IsReplayOutcome}
+use Rattle.hz_top.proofs.Refusals.{accepted-or-refused}
+
+-- of any kind of text: if `ends` and the judge of a value agree on the status, so do a good text and its outcome
+good-ends : {V : Type 0} (called : List ℕ) (holds : Netlist → List ℕ → TextFault → Type 0) (stands_for : Netlist → List ℕ → V → Type 0) (judge : Netlist → V → Status → List ℕ → Type 0) (ends : Netlist → V → Status → Type 0)
+    → ((netlist : Netlist) (value : V) (wanted own : Status) (said : List ℕ) → ends netlist value wanted → judge netlist value own said → own ≡ wanted)
+    → (netlist : Netlist) (text : List ℕ) (wanted own : Status) (said : List ℕ) → IsGoodText holds stands_for ends netlist text wanted → IsTextOutcome called holds stands_for judge netlist text own said → own ≡ wanted
+good-ends called holds stands_for judge ends agree netlist text wanted own said good (inl (fault, least, says)) = absurd (good.faultless fault least.stands)
+good-ends called holds stands_for judge ends agree netlist text wanted own said good (inr (value, faultless, is, comes)) = agree netlist value wanted own said (good.each value is) comes
+
+-- a script comes to its report
+script-ends : (options : Options) (netlist : Netlist) (value : ScriptOf) (wanted own : Status) (said : List ℕ) → IsCompletable netlist value.start × (wanted ≡ status.Done) → Started (Reports options) netlist value own said → own ≡ wanted
+script-ends options netlist value wanted own said good (inl (own_is, inl (gate, opened, line))) = absurd (good.0.closed gate opened)
+script-ends options netlist value wanted own said good (inl (own_is, inr (gate, unstable, line))) = absurd (good.0.stable gate unstable)
+script-ends options netlist value wanted own said good (inr (start, accepted, reports)) = reports.0 ∙ sym good.1
+
+-- a replay comes to the one of both ends that it has
+replay-ends : (netlist : Netlist) (value : RunTextOf) (wanted own : Status) (said : List ℕ) → EndsReplay netlist value wanted → IsReplayOutcome netlist value own said → own ≡ wanted
+replay-ends netlist value wanted own said (inl (accepted, is)) (inl (also, says)) = says.0 ∙ sym is
+replay-ends netlist value wanted own said (inl (accepted, is)) (inr (number, why, refused, says)) = absurd (accepted-or-refused netlist value number why accepted refused)
+replay-ends netlist value wanted own said (inr (number, why, refused, is)) (inl (accepted, says)) = absurd (accepted-or-refused netlist value number why accepted refused)
+replay-ends netlist value wanted own said (inr (number, why, refused, is)) (inr (other, because, also, says)) = says.0 ∙ sym is
+
+-- a run text comes to its conversion
+convert-ends : (netlist : Netlist) (value : RunTextOf) (wanted own : Status) (said : List ℕ) → wanted ≡ status.Done → IsConvertOutcome netlist value own said → own ≡ wanted
+convert-ends netlist value wanted own said is says = says.0 ∙ sym is
+
+-- the second text comes to its end, by the task
+pub text-ends : (options : Options) (task : Task) (netlist : Netlist) (text : List ℕ) (wanted own : Status) (said : List ℕ) → good_of task netlist text wanted → comes_of options task netlist text own said → own ≡ wanted
+text-ends options Analyse =
+    good-ends (codes "script") HasScriptFault IsValue (Started (Reports options)) (λ netlist script own. IsCompletable netlist script.start × (own ≡ status.Done)) (script-ends options)
+text-ends options Replay = good-ends (codes "runs") HasRunFault IsRunValue IsReplayOutcome EndsReplay replay-ends
+text-ends options Convert = good-ends (codes "runs") HasRunFault IsRunValue IsConvertOutcome (λ netlist runs own. own ≡ status.Done) convert-ends

@@ -1,0 +1,5 @@
+pub mod CodeLemmas
+pub mod WordLemmas
+pub mod LineLemmas
+pub mod WrittenWords
+pub mod WrittenLaws

@@ -1,0 +1,28 @@
+"""What ends a job before it is done, and the statuses that go with it."""
+
+DONE = 0
+DOES_NOT_HOLD = 1
+WRONG_WORDS = 2
+NETLIST_FAULT = 3
+SCRIPT_FAULT = 4
+FILE_NOT_READ = 6
+OUTPUT_FAILED = 8
+NOT_ACCEPTED = 70
+NO_PROGRAM = 127
+
+
+class Failure(Exception):
+    """One line for standard error, and the status that the command ends with."""
+
+    def __init__(self, line, status):
+        super().__init__(line)
+        self.status = status
+
+
+def read_file(path):
+    """The text of a file. A byte that is no text may only stand in a comment, so it is replaced."""
+    try:
+        with open(path, encoding="utf-8", errors="replace", newline="") as file:
+            return file.read()
+    except OSError as fault:
+        raise Failure(f"{path}: {fault.strerror or fault}", FILE_NOT_READ) from fault

@@ -1,0 +1,115 @@
+"""Netlists: inputs, flip-flops as cuts, gates; what reads what, and which gates stand in a loop.
+
+Only texts that `hazard` has accepted are read here, so a fault is not looked for.
+"""
+from typing import NamedTuple
+
+from .lines import lines_of
+
+INVERTED = {"NAND": "AND", "NOR": "OR", "XNOR": "XOR", "NOT": "BUFF"}
+
+
+class Gate(NamedTuple):
+    """A gate: its name, its kind in capitals (`BUF` is `BUFF`), and the nodes that its pins read."""
+
+    name: str
+    kind: str
+    sources: list
+
+
+class Cut(NamedTuple):
+    """A flip-flop: its output, which is an input of the circuit, its data node, and the comment of its line."""
+
+    name: str
+    data: str
+    comment: str
+
+
+class Netlist:
+    """A circuit. Its nodes are its inputs, its flip-flops and its gates, in this order, as in a report."""
+
+    def __init__(self, primary, cuts, gates, outputs):
+        self.primary, self.cuts, self.gates, self.outputs = primary, cuts, gates, outputs
+        self.inputs = primary + [cut.name for cut in cuts]
+        self.nodes = self.inputs + [gate.name for gate in gates]
+        self.gate_of = {gate.name: gate for gate in gates}
+
+    def sources(self, node):
+        """The nodes that a node reads: none for an input."""
+        return self.gate_of[node].sources if node in self.gate_of else []
+
+    def readers(self):
+        """The gates that read each node, each once, in order."""
+        readers = {node: {} for node in self.nodes}
+        for gate in self.gates:
+            for source in gate.sources:
+                readers[source][gate.name] = None
+        return {node: list(names) for node, names in readers.items()}
+
+    def unread_inputs(self):
+        """The inputs that neither a gate nor a flip-flop reads."""
+        read = {source for gate in self.gates for source in gate.sources} | {cut.data for cut in self.cuts}
+        return [name for name in self.inputs if name not in read]
+
+    def loops(self):
+        """The components of feedback: the largest sets of gates in which each reaches each other."""
+        return [component for component in self._components()
+                if len(component) > 1 or component[0] in self.sources(component[0])]
+
+    def _components(self):
+        """The strongly connected components, by Tarjan's algorithm with a stack of its own."""
+        order, low, stack, found = {}, {}, [], []
+        for root in self.gate_of:
+            waiting = [] if root in order else [(root, iter(self.sources(root)))]
+            if waiting:
+                order[root] = low[root] = len(order)
+                stack.append(root)
+            while waiting:
+                node, sources = waiting[-1]
+                source = next((name for name in sources if name in self.gate_of and low.get(name) != _CLOSED), None)
+                if source is None:
+                    waiting.pop()
+                    if waiting:
+                        above = waiting[-1][0]
+                        low[above] = min(low[above], low[node])
+                    if low[node] == order[node]:
+                        found.append(_taken(stack, node, low))
+                elif source in order:
+                    low[node] = min(low[node], order[source])
+                else:
+                    order[source] = low[source] = len(order)
+                    stack.append(source)
+                    waiting.append((source, iter(self.sources(source))))
+        return found
+
+
+# The low number of a node whose component is complete: no node that is still open has it.
+_CLOSED = -1
+
+
+def _taken(stack, node, low):
+    """Takes a complete component off the stack, and closes its nodes."""
+    component = []
+    while not component or component[-1] != node:
+        component.append(stack.pop())
+        low[component[-1]] = _CLOSED
+    return component[::-1]
+
+
+def read(text):
+    """The netlist of a text that `hazard` has accepted."""
+    primary, cuts, gates, outputs = [], [], [], []
+    for line in lines_of(text):
+        tokens = line.tokens
+        if not tokens:
+            continue
+        if tokens[1] != "=" and tokens[0].upper() == "INPUT":
+            primary.append(tokens[2])
+        elif tokens[1] != "=":
+            outputs.append(tokens[2])
+        elif tokens[2].upper() == "DFF":
+            cuts.append(Cut(tokens[0], tokens[4], line.comment))
+        else:
+            kind = tokens[2].upper()
+            gates.append(Gate(tokens[0], "BUFF" if kind == "BUF" else kind, tokens[4:-1:2]))
+    return Netlist(primary, cuts, gates, outputs)

@@ -1,0 +1,78 @@
+"""The proved program: where it is found, and how it is called."""
+import os
+import shutil
+import subprocess
+import tempfile
+
+from . import report
+from .errors import NO_PROGRAM, NOT_ACCEPTED, Failure
+
+VARIABLE = "HAZARD"
+
+
+def find(named, home):
+    """The program `hazard`: the one that is named by an option or by the environment, or else the first of those beside this
+    command, in its repository, and on the path. `home` is the folder of this command."""
+    named = named or os.environ.get(VARIABLE)
+    if named:
+        places = [shutil.which(named)]
+    else:
+        beside = [os.path.join(home, "hazard"), os.path.join(home, os.pardir, "built", "hazard")]
+        places = [place for place in beside if _is_program(place)] + [shutil.which("hazard")]
+    if not places[0]:
+        where = f"{named} is no program" if named else "not beside this command, not in its repository, not on the path"
+        raise Failure(f"no program `hazard` is found: {where}; name it by --hazard or ${VARIABLE}", NO_PROGRAM)
+    return Program(places[0])
+
+
+def _is_program(path):
+    return os.path.isfile(path) and os.access(path, os.X_OK)
+
+
+class Program:
+    """The program `hazard` at a path. Its refusals come as failures with its own line and status."""
+
+    def __init__(self, path):
+        self.path = path
+
+    def analyse(self, netlist, script):
+        """The report of two files. Its changes are read while the program writes them."""
+        return report.read(self._lines(["analyse", netlist, script]))
+
+    def analyse_text(self, netlist, script):
+        """The whole report on a netlist in a file and a script in a text: its start, and a list of its changes."""
+        with tempfile.TemporaryDirectory() as folder:
+            path = _write(folder, script)
+            answer = self.analyse(netlist, path)
+            return answer.start, list(answer.changes)
+
+    def replay(self, netlist, run_text):
+        """Whether the program accepts each run of a run text, and the line that it answers."""
+        with tempfile.TemporaryDirectory() as folder:
+            path = _write(folder, run_text.text())
+            done = subprocess.run([self.path, "replay", netlist, path], stdin=subprocess.DEVNULL,
+                                  stdout=subprocess.PIPE, check=False)
+        return done.returncode == 0, done.stdout.decode().strip()
+
+    def must_accept(self, netlist, run_text):
+        """Fails unless the program accepts each run: what is shown afterwards has been checked."""
+        accepted, line = self.replay(netlist, run_text)
+        if not accepted:
+            raise Failure(f"a run that was to be shown is not accepted by `hazard replay`: {line}", NOT_ACCEPTED)
+
+    def _lines(self, words):
+        """The lines that the program writes. A refusal, or an end before the end, is a failure."""
+        with subprocess.Popen([self.path] + words, stdin=subprocess.DEVNULL, stdout=subprocess.PIPE, text=True) as running:
+            for number, line in enumerate(running.stdout):
+                if number == 0 and line.startswith("refused: "):
+                    raise Failure(f"hazard: {line.strip()}", running.wait())
+                yield line.rstrip("\n")
+            if running.wait() != 0:
+                raise Failure(f"hazard ended with status {running.returncode}", max(running.returncode, 1))
+
+
+def _write(folder, text):
+    path = os.path.join(folder, "text")
+    with open(path, "w", encoding="utf-8") as file:
+        file.write(text)
+    return path

@@ -1,0 +1,56 @@
+"""A run as a waveform in text."""
+from typing import NamedTuple
+
+LEGEND = "~ is 1, _ is 0, - waits: the value before, though the variable is unstable"
+# How many steps stand side by side.
+STEPS_A_BLOCK = 40
+
+
+class Wave(NamedTuple):
+    """A variable along a run: the values in its states, and whether it is unstable there."""
+
+    name: str
+    values: list
+    unstable: list
+
+
+def waves(follower, steps, variables, begin=0):
+    """The waves of some variables along a run from one of its states on; the follower is where it was."""
+    found = {variable: Wave(follower.network.names[variable], [], []) for variable in variables}
+    for number, step in enumerate([[]] + steps):
+        for variable in step:
+            follower.flip(variable)
+        for variable, wave in found.items() if number >= begin else ():
+            wave.values.append(follower.value[variable])
+            wave.unstable.append(follower.is_unstable(variable))
+    follower.undo(steps)
+    return list(found.values())
+
+
+def drawn(rows, before=0):
+    """The lines of some waves, a block after the other, under the numbers of the steps, of which some stand before. A step is an
+    edge or a level, and the state after it."""
+    width = max(len(row.name) for row in rows)
+    steps = len(rows[0].values) - 1
+    for begin in range(0, max(steps, 1), STEPS_A_BLOCK):
+        places = range(begin + 1, min(begin + STEPS_A_BLOCK, steps) + 1)
+        yield (" " * (width + 2) + "".join(_label(before + place) for place in places)).rstrip()
+        for row in rows:
+            yield f"{row.name:<{width}} {_level(row, begin)}" + "".join(_step(row, place) for place in places)
+
+
+def _label(number):
+    """The number of a step in three characters; of a great number the last two digits."""
+    return f"{number:>3}" if number < 100 else f" {number % 100:02}"
+
+
+def _level(row, at):
+    return "-" if row.unstable[at] else "_~"[row.values[at]]
+
+
+def _step(row, at):
+    """Three characters: two for the step into a state, one for the state."""
+    before, level = _level(row, at - 1), _level(row, at)
+    if row.values[at] == row.values[at - 1]:
+        return before + before + level
+    return before + ("/" if row.values[at] else "\\") + level
