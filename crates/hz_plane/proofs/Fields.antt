@@ -51,11 +51,10 @@ reloaded fields stage loads is held inputs nodes lists = record {
   small = omega (arith, nodes, held.small);
   values_count = held.values_count ∙ sym nodes;
   marks = held.marks;
-  few = held.few;
   faults_count = held.faults_count;
   values_planes = held.values_planes;
   sources = λ pin inside. omega (arith, held.sources pin inside, nodes);
-  order = λ netlist of. held.order netlist (record { circuit = of.circuit; whole = of.whole; inputs = sym inputs ∙ of.inputs; gates = of.gates });
+  schedule = λ netlist of. held.schedule netlist (record { circuit = of.circuit; whole = of.whole; inputs = sym inputs ∙ of.inputs; gates = of.gates });
   lists = lists;
   lanes = λ netlist lane loaded of at. subst (λ (s : Stage). LaneHolds s netlist loaded fields.values.items lane) (sym is) tt;
   faults = λ netlist lane loaded of at begun. absurd (begun is);

@@ -20,10 +20,9 @@ use crate::faults::{note_faults, unknown_lanes};
 use crate::gates::Gates;
 use crate::lanes::has_lane;
 use crate::loads::Loads;
-use crate::order::order_gates;
 use crate::pair::Pair;
 use crate::passes::{fill, settle, spread};
-use crate::readers::{list_back, list_readers};
+use crate::schedule::Schedule;
 use crate::stage::{LaneFault, Stage};
 use hz_core::{Memory, Tri};
 use hz_net::Net;
@@ -40,9 +39,7 @@ pub struct Planes {
     stage: Stage,
     settles: u64,
     gates: Gates,
-    order: Vec<u32>,
-    readers: Vec<Vec<u32>>,
-    back: Vec<Vec<u32>>,
+    schedule: Schedule,
     marks: Vec<bool>,
     loads: Loads,
     values: Vec<Pair>,
@@ -69,12 +66,10 @@ impl Planes {
     {
         let circuit = net.circuit();
         let gates = Gates::of(alloc, net)?;
-        let order = order_gates(alloc, net)?;
-        let readers = list_readers(alloc, net, order.as_slice())?;
-        let back = list_back(alloc, net, order.as_slice(), readers.as_slice())?;
+        let schedule = Schedule::of(alloc, net)?;
         let loads = Loads::new(alloc, circuit.inputs(), circuit.nodes())?;
         let values = unknown_values(alloc, circuit.nodes())?;
-        let Ok(marks) = vec![in alloc; false; order.len()] else {
+        let Ok(marks) = vec![in alloc; false; schedule.order.len()] else {
             return Err(Memory);
         };
         let Ok(faults) = vec![in alloc; None; 512] else {
@@ -84,9 +79,7 @@ impl Planes {
             stage: Stage::Loading,
             settles: 0,
             gates,
-            order,
-            readers,
-            back,
+            schedule,
             marks,
             loads,
             values,
@@ -148,9 +141,7 @@ impl Planes {
         let _circuit = net.circuit();
         fill(
             net,
-            self.order.as_slice(),
-            self.readers.as_slice(),
-            self.back.as_slice(),
+            &self.schedule,
             self.marks.as_mut_slice(),
             self.loads.listings(),
             self.values.as_mut_slice(),
@@ -184,9 +175,7 @@ impl Planes {
         let _circuit = net.circuit();
         spread(
             net,
-            self.order.as_slice(),
-            self.readers.as_slice(),
-            self.back.as_slice(),
+            &self.schedule,
             self.marks.as_mut_slice(),
             self.loads.inputs(),
             self.values.as_mut_slice(),
@@ -203,9 +192,7 @@ impl Planes {
         let _circuit = net.circuit();
         settle(
             net,
-            self.order.as_slice(),
-            self.readers.as_slice(),
-            self.back.as_slice(),
+            &self.schedule,
             self.marks.as_mut_slice(),
             self.loads.inputs(),
             self.values.as_mut_slice(),

@@ -34,11 +34,10 @@ invariant_of-self c =
       small = held.small;
       values_count = ap (length {A = Pair}) values_are ∙ (values_long ∙ held.values_count);
       marks = ap (length {A = Bool}) marks_are ∙ (marks_long ∙ held.marks);
-      few = held.few;
       faults_count = held.faults_count;
       values_planes = subst AreAllPlanes (sym values_are) c.spread.ensures.planes;
       sources = held.sources;
-      order = λ netlist of. held.order netlist (record { circuit = of.circuit; whole = of.whole; inputs = of.inputs; gates = of.gates });
+      schedule = λ netlist of. held.schedule netlist (record { circuit = of.circuit; whole = of.whole; inputs = of.inputs; gates = of.gates });
       lists = held.lists;
       lanes = λ netlist lane loaded of at.
           let inputs : c.args.net.now.inputs ≡ netlist.inputs = sym c.requires.net.0 ∙ (ap (λ (s : Seen). s.inputs) (sym c.self.view_is) ∙ of.inputs) in
