@@ -39,7 +39,8 @@ pub(crate) fn fill(
     ensures lanes { (netlist : Netlist) → IsCircuit netlist → IsWhole netlist
         → net.now.inputs ≡ netlist.inputs → net.now.gates ≡ netlist.gates
         → (lane : ℕ) → lane < 512 → ListsAllInputs netlist (lane_listed listings.now lane)
-        → (last : List Tri) × HasLane values.new lane last × AreForcedNodes netlist (lane_listed listings.now lane) last }
+        → (last : List Tri) × HasLane values.new lane last
+        × AreForcedNodes netlist (lane_listed listings.now lane) last }
 {
     begin(listings, values);
     let pass = Pass {
@@ -54,7 +55,8 @@ pub(crate) fn fill(
 fn begin(listings: &[Listing], values: &mut [Pair])
     requires { length values.old ≡ length listings.now }
     ensures planes { AreAllPlanes values.new }
-    ensures lanes { (lane : ℕ) → lane < 512 → HasLane values.new lane (listed_values listings.now lane) }
+    ensures lanes { (lane : ℕ) → lane < 512
+        → HasLane values.new lane (listed_values listings.now lane) }
 {
     for node in 0..listings.len() {
         values[node] = listings[node].values();
@@ -65,8 +67,12 @@ fn begin(listings: &[Listing], values: &mut [Pair])
 fn join_inputs(inputs: &[[u64; 8]], values: &mut [Pair])
     requires { length inputs.now ≤ length values.old }
     ensures planes { AreInputPlanes inputs.now }
-    ensures inputs { (node : ℕ) → node < length inputs.now → pair_at values.new node ≡ widened_pair (pair_at values.old node) (known_pair (slice_index_or inputs.now node [])) }
-    ensures rest { (node : ℕ) → length inputs.now ≤ node → pair_at values.new node ≡ pair_at values.old node }
+    ensures inputs { (node : ℕ) → node < length inputs.now
+        → pair_at values.new node
+        ≡ widened_pair (pair_at values.old node)
+        (known_pair (slice_index_or inputs.now node [])) }
+    ensures rest { (node : ℕ) → length inputs.now ≤ node
+        → pair_at values.new node ≡ pair_at values.old node }
 {
     for node in 0..inputs.len() {
         let bits = u64x8::from_array(inputs[node]);
@@ -82,8 +88,10 @@ fn join_inputs(inputs: &[[u64; 8]], values: &mut [Pair])
 fn set_inputs(inputs: &[[u64; 8]], values: &mut [Pair])
     requires { length inputs.now ≤ length values.old }
     ensures planes { AreInputPlanes inputs.now }
-    ensures inputs { (node : ℕ) → node < length inputs.now → pair_at values.new node ≡ known_pair (slice_index_or inputs.now node []) }
-    ensures rest { (node : ℕ) → length inputs.now ≤ node → pair_at values.new node ≡ pair_at values.old node }
+    ensures inputs { (node : ℕ) → node < length inputs.now
+        → pair_at values.new node ≡ known_pair (slice_index_or inputs.now node []) }
+    ensures rest { (node : ℕ) → length inputs.now ≤ node
+        → pair_at values.new node ≡ pair_at values.old node }
 {
     for node in 0..inputs.len() {
         let bits = u64x8::from_array(inputs[node]);
@@ -113,9 +121,13 @@ pub(crate) fn spread(
     ensures planes { AreAllPlanes values.new }
     ensures lanes { (netlist : Netlist) → IsCircuit netlist → IsWhole netlist
         → net.now.inputs ≡ netlist.inputs → net.now.gates ≡ netlist.gates
-        → (lane : ℕ) (input start : List Bool) (listed : List (Option Bool)) (first : List Tri) (rounds : ℕ) → lane < 512 → HasLane values.old lane first → IsCompletedStart netlist listed start → AreNodesOf netlist (map tri_of start) first → HasInputs inputs.now lane input
+        → (lane : ℕ) (input start : List Bool) (listed : List (Option Bool)) (first : List Tri)
+        (rounds : ℕ)
+        → lane < 512 → HasLane values.old lane first → IsCompletedStart netlist listed start
+        → AreNodesOf netlist (map tri_of start) first → HasInputs inputs.now lane input
         → AreRounds (algorithm_a (network_of netlist) input start) rounds
-        → (last : List Tri) × HasLane values.new lane last × AreAllOf netlist (algorithm_a (network_of netlist) input start rounds) last }
+        → (last : List Tri) × HasLane values.new lane last
+        × AreAllOf netlist (algorithm_a (network_of netlist) input start rounds) last }
 {
     join_inputs(inputs, values);
     let pass = Pass {
@@ -144,10 +156,18 @@ pub(crate) fn settle(
     ensures planes { AreAllPlanes values.new }
     ensures lanes { (netlist : Netlist) → IsCircuit netlist → IsWhole netlist
         → net.now.inputs ≡ netlist.inputs → net.now.gates ≡ netlist.gates
-        → (lane : ℕ) (input start : List Bool) (listed : List (Option Bool)) (first : List Tri) (rounds rest : ℕ) → lane < 512 → HasLane values.old lane first → IsCompletedStart netlist listed start
-        → AreRounds (algorithm_a (network_of netlist) input start) rounds → AreNodesOf netlist (algorithm_a (network_of netlist) input start rounds) first → HasInputs inputs.now lane input
-        → AreRounds (algorithm_b (network_of netlist) input (algorithm_a (network_of netlist) input start rounds)) rest
-        → (last : List Tri) × HasLane values.new lane last × AreAllOf netlist (algorithm_b (network_of netlist) input (algorithm_a (network_of netlist) input start rounds) rest) last }
+        → (lane : ℕ) (input start : List Bool) (listed : List (Option Bool)) (first : List Tri)
+        (rounds rest : ℕ)
+        → lane < 512 → HasLane values.old lane first → IsCompletedStart netlist listed start
+        → AreRounds (algorithm_a (network_of netlist) input start) rounds
+        → AreNodesOf netlist (algorithm_a (network_of netlist) input start rounds) first
+        → HasInputs inputs.now lane input
+        → AreRounds
+        (algorithm_b (network_of netlist) input
+        (algorithm_a (network_of netlist) input start rounds)) rest
+        → (last : List Tri) × HasLane values.new lane last × AreAllOf netlist
+        (algorithm_b (network_of netlist) input
+        (algorithm_a (network_of netlist) input start rounds) rest) last }
 {
     set_inputs(inputs, values);
     let pass = Pass {

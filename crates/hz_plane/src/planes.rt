@@ -62,7 +62,14 @@ impl Model for Planes {
 impl Planes {
     /// Planes for a network, with no lane loaded. Only this call takes memory.
     pub fn new(alloc: Global, net: &Net) -> Result<Planes, Memory>
-        ensures { IfOk result (λ planes. planes ≡ record { inputs = net.now.inputs; gates = net.now.gates; stage = Loading; settles = 0; lanes = replicate 512 None }) }
+        ensures { IfOk result
+            (λ planes. planes ≡ record {
+              inputs = net.now.inputs;
+              gates = net.now.gates;
+              stage = Loading;
+              settles = 0;
+              lanes = replicate 512 None;
+            }) }
     {
         let circuit = net.circuit();
         let gates = Gates::of(alloc, net)?;
@@ -104,7 +111,10 @@ impl Planes {
         requires input { length input.now ≡ net.now.inputs }
         requires listed { length listed.now ≡ length net.now.names }
         requires inputs { ListsAllInputs net.now listed.now }
-        ensures { self.new ≡ record self.old { lanes = slice_set self.old.lanes lane (Some (record { input = input.now; listed = listed.now })) } }
+        ensures { self.new ≡ record self.old {
+          lanes = slice_set self.old.lanes lane
+              (Some (record { input = input.now; listed = listed.now }));
+        } }
     {
         let _circuit = net.circuit();
         self.loads.load(lane, input, listed);
@@ -126,7 +136,12 @@ impl Planes {
         requires input { length input.now ≡ net.now.inputs }
         requires first { length first.now ≡ net.now.inputs }
         requires held { All (λ node. IsGateNumber net.now node.0) held.now }
-        ensures { self.new ≡ record self.old { lanes = slice_set self.old.lanes lane (Some (record { input = input.now; listed = listed_with (length net.now.names) first.now held.now })) } }
+        ensures { self.new ≡ record self.old {
+          lanes = slice_set self.old.lanes lane (Some (record {
+            input = input.now;
+            listed = listed_with (length net.now.names) first.now held.now;
+          }));
+        } }
     {
         let _circuit = net.circuit();
         self.loads.load_held(lane, input, first, held);
@@ -160,7 +175,8 @@ impl Planes {
         requires net { AreOf net.now self.now }
         requires stage { self.now.stage ≢ Loading }
         requires lane { lane < 512 }
-        ensures { (loaded : Loaded) → slice_get self.now.lanes lane ≡ Some (Some loaded) → IsLaneFault net.now loaded.listed result }
+        ensures { (loaded : Loaded) → slice_get self.now.lanes lane ≡ Some (Some loaded)
+            → IsLaneFault net.now loaded.listed result }
     {
         let _circuit = net.circuit();
         self.faults[lane as usize]
@@ -187,7 +203,9 @@ impl Planes {
     pub fn settle(&mut self, net: &Net)
         requires net { AreOf net.now self.old }
         requires stage { self.old.stage ≡ Spread }
-        ensures { self.new ≡ record self.old { stage = Settled; settles = min (self.old.settles + 1) (2 ^ 64 - 1) } }
+        ensures { self.new
+            ≡ record self.old
+            { stage = Settled; settles = min (self.old.settles + 1) (2 ^ 64 - 1) } }
     {
         let _circuit = net.circuit();
         settle(
@@ -207,7 +225,9 @@ impl Planes {
     pub fn get(&self, lane: u32, var: u32) -> Tri
         requires lane { lane < 512 }
         requires var { var < variables_of self.now }
-        ensures lane { (netlist : Netlist) (loaded : Loaded) → IsCircuit netlist → IsWhole netlist → AreOf netlist self.now → slice_get self.now.lanes lane ≡ Some (Some loaded) → IsLaneValue self.now.stage netlist loaded var result }
+        ensures lane { (netlist : Netlist) (loaded : Loaded) → IsCircuit netlist → IsWhole netlist
+            → AreOf netlist self.now → slice_get self.now.lanes lane ≡ Some (Some loaded)
+            → IsLaneValue self.now.stage netlist loaded var result }
         ensures loading { self.now.stage ≡ Loading → result ≡ Unknown }
     {
         match self.stage {
@@ -220,7 +240,9 @@ impl Planes {
     pub fn is_unsettled(&self, lane: u32) -> bool
         requires lane { lane < 512 }
         requires stage { self.now.stage ≡ Settled }
-        ensures { (netlist : Netlist) (loaded : Loaded) → IsCircuit netlist → IsWhole netlist → AreOf netlist self.now → slice_get self.now.lanes lane ≡ Some (Some loaded) → IsUnsettled netlist loaded result }
+        ensures { (netlist : Netlist) (loaded : Loaded) → IsCircuit netlist → IsWhole netlist
+            → AreOf netlist self.now → slice_get self.now.lanes lane ≡ Some (Some loaded)
+            → IsUnsettled netlist loaded result }
     {
         has_lane(&self.unsettled, lane)
     }
@@ -230,7 +252,9 @@ impl Planes {
     fn node_value(&self, lane: u32, var: u32) -> Tri
         requires lane { lane < 512 }
         requires var { var < variables_of self.now }
-        ensures { (netlist : Netlist) (loaded : Loaded) → IsCircuit netlist → IsWhole netlist → AreOf netlist self.now → slice_get self.now.lanes lane ≡ Some (Some loaded) → self.now.stage ≢ Loading → IsLaneValue self.now.stage netlist loaded var result }
+        ensures { (netlist : Netlist) (loaded : Loaded) → IsCircuit netlist → IsWhole netlist
+            → AreOf netlist self.now → slice_get self.now.lanes lane ≡ Some (Some loaded)
+            → self.now.stage ≢ Loading → IsLaneValue self.now.stage netlist loaded var result }
     {
         let pair = &self.values[self.node_of(var) as usize];
         value_by(
@@ -245,7 +269,10 @@ impl Planes {
         requires { var < variables_of self.now }
         ensures inside { result < self.now.inputs + length self.now.gates }
         ensures node { var < self.now.inputs + length self.now.gates → result ≡ var }
-        ensures wire { self.now.inputs + length self.now.gates ≤ var → slice_get (pin_sources self.now.gates) (var - (self.now.inputs + length self.now.gates)) ≡ Some result }
+        ensures wire { self.now.inputs + length self.now.gates ≤ var
+            → slice_get (pin_sources self.now.gates)
+            (var - (self.now.inputs + length self.now.gates))
+            ≡ Some result }
     {
         let nodes = self.values.len() as u32;
         if var < nodes {

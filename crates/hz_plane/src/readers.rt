@@ -56,9 +56,18 @@ fn file_places(net: &Net, order: &[u32], lists: &mut [List]) -> Result<(), Memor
 fn file_place(net: &Net, gate: u32, place: u32, lists: &mut [List]) -> Result<(), Memory>
     requires gate { IsGateNumber net.now gate }
     requires lists { length lists.old ≡ length net.now.names }
-    ensures inside { OnOk result ((end node : ℕ) → All (λ reader. reader < end) (readers_at (map (λ list. list.items) lists.old) node) → place < end → All (λ reader. reader < end) (readers_at (map (λ list. list.items) lists.new) node)) }
-    ensures kept { OnOk result ((node reader : ℕ) → Contains (readers_at (map (λ list. list.items) lists.old) node) reader → Contains (readers_at (map (λ list. list.items) lists.new) node) reader) }
-    ensures filed { OnOk result ((source : ℕ) → Contains (gate_at net.now gate).sources source → Contains (readers_at (map (λ list. list.items) lists.new) source) place) }
+    ensures inside { OnOk result
+        ((end node : ℕ)
+        → All (λ reader. reader < end) (readers_at (map (λ list. list.items) lists.old) node)
+        → place < end
+        → All (λ reader. reader < end) (readers_at (map (λ list. list.items) lists.new) node)) }
+    ensures kept { OnOk result
+        ((node reader : ℕ)
+        → Contains (readers_at (map (λ list. list.items) lists.old) node) reader
+        → Contains (readers_at (map (λ list. list.items) lists.new) node) reader) }
+    ensures filed { OnOk result
+        ((source : ℕ) → Contains (gate_at net.now gate).sources source
+        → Contains (readers_at (map (λ list. list.items) lists.new) source) place) }
 {
     for source in net.circuit().sources(gate) {
         file(lists, *source, place)?;
@@ -69,7 +78,10 @@ fn file_place(net: &Net, gate: u32, place: u32, lists: &mut [List]) -> Result<()
 // Puts a place into the list of a node, after those that are there.
 fn file(lists: &mut [List], node: u32, place: u32) -> Result<(), Memory>
     requires { node < length lists.old }
-    ensures { OnOk result (map (λ list. list.items) lists.new ≡ slice_set (map (λ list. list.items) lists.old) node (readers_at (map (λ list. list.items) lists.old) node ++ place ∷ [])) }
+    ensures { OnOk result
+        (map (λ list. list.items) lists.new
+        ≡ slice_set (map (λ list. list.items) lists.old) node
+        (readers_at (map (λ list. list.items) lists.old) node ++ place ∷ [])) }
 {
     let list = &mut lists[node as usize];
     let Ok(()) = list.push(place) else {
@@ -93,14 +105,10 @@ pub(crate) fn list_back(
 }
 
 // The same, each list by itself.
-fn all_back(
-    alloc: Global,
-    net: &Net,
-    order: &[u32],
-    readers: &Lists,
-) -> Result<Vec<List>, Memory>
+fn all_back(alloc: Global, net: &Net, order: &[u32], readers: &Lists) -> Result<Vec<List>, Memory>
     requires order { IsOrder net.now order.now readers.now }
-    ensures { IfOk result (λ lists. IsBack net.now order.now (map (λ list. list.items) lists.items)) }
+    ensures { IfOk result
+        (λ lists. IsBack net.now order.now (map (λ list. list.items) lists.items)) }
 {
     let _circuit = net.circuit();
     let Ok(mut lists) = Vec::with_capacity(alloc, order.len()) else {
@@ -117,8 +125,12 @@ fn all_back(
 
 // The places of a list that are no later than a place.
 fn places_up_to(alloc: Global, place: usize, places: &[u32]) -> Result<List, Memory>
-    ensures inside { IfOk result (λ list. (end : ℕ) → All (λ reader. reader < end) places.now → All (λ reader. reader < end) list.items) }
-    ensures reads { IfOk result (λ list. (reader : ℕ) → reader ≤ place → Contains places.now reader → Contains list.items reader) }
+    ensures inside { IfOk result
+        (λ list. (end : ℕ) → All (λ reader. reader < end) places.now
+        → All (λ reader. reader < end) list.items) }
+    ensures reads { IfOk result
+        (λ list. (reader : ℕ) → reader ≤ place → Contains places.now reader
+        → Contains list.items reader) }
 {
     let mut list = SmallVec::new(alloc);
     for reader in places {

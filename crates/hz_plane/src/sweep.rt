@@ -50,7 +50,8 @@ fn mark(reader: usize, place: usize, to: usize, marks: &mut [bool], span: Span) 
     requires inside { reader < length marks.old }
     requires few { length marks.old < 2 ^ 32 }
     ensures marks { marks.new ≡ slice_set marks.old reader true }
-    ensures within { (from : ℕ) → AreMarkedWithin marks.old from to span.begin span.end → from ≤ place + 1 → AreMarkedWithin marks.new from to result.begin result.end }
+    ensures within { (from : ℕ) → AreMarkedWithin marks.old from to span.begin span.end
+        → from ≤ place + 1 → AreMarkedWithin marks.new from to result.begin result.end }
     ensures bound { span.end ≤ length marks.old → result.end ≤ length marks.old }
 {
     marks[reader] = true;
@@ -68,7 +69,8 @@ fn mark_all(list: &[u32], place: usize, to: usize, marks: &mut [bool], span: Spa
     requires few { length marks.old < 2 ^ 32 }
     ensures listed { (reader : ℕ) → Contains list.now reader → marked marks.new reader ≡ true }
     ensures kept { (other : ℕ) → marked marks.old other ≡ true → marked marks.new other ≡ true }
-    ensures within { (from : ℕ) → AreMarkedWithin marks.old from to span.begin span.end → from ≤ place + 1 → AreMarkedWithin marks.new from to result.begin result.end }
+    ensures within { (from : ℕ) → AreMarkedWithin marks.old from to span.begin span.end
+        → from ≤ place + 1 → AreMarkedWithin marks.new from to result.begin result.end }
     ensures bound { span.end ≤ length marks.old → result.end ≤ length marks.old }
 {
     let mut span = span;
@@ -128,13 +130,7 @@ impl<'a> Pass<'a> {
 
     // Evaluates the gate at a place, and marks what stands no later and reads it, if this changed it.
     #[inline(always)]
-    fn visit_first(
-        &self,
-        place: usize,
-        marks: &mut [bool],
-        planes: &mut [Pair],
-        span: Span,
-    ) -> Span
+    fn visit_first(&self, place: usize, marks: &mut [bool], planes: &mut [Pair], span: Span) -> Span
         requires schedule { IsSchedule self.now.net.now self.now.schedule.now }
         requires circuit { IsCircuit self.now.net.now }
         requires whole { IsWhole self.now.net.now }
@@ -226,7 +222,8 @@ impl<'a> Pass<'a> {
         ensures within { AreMarkedWithin marks.new (place + 1) to result.begin result.end }
         ensures bound { span.end ≤ length self.now.schedule.now.order.items
             → result.end ≤ length self.now.schedule.now.order.items }
-        ensures less { (result ≡ span) ⊎ (weight self.now.rule planes.new < weight self.now.rule planes.old) }
+        ensures less { (result ≡ span)
+            ⊎ (weight self.now.rule planes.new < weight self.now.rule planes.old) }
         ensures most { weight self.now.rule planes.new ≤ weight self.now.rule planes.old }
     {
         if !marks[place] {
@@ -235,7 +232,13 @@ impl<'a> Pass<'a> {
         marks[place] = false;
         let gate = self.schedule.order.as_slice()[place];
         if self.evaluate(gate, planes) {
-            mark_all(self.schedule.readers.at(gate as usize), place, to, marks, span)
+            mark_all(
+                self.schedule.readers.at(gate as usize),
+                place,
+                to,
+                marks,
+                span,
+            )
         } else {
             span
         }
@@ -248,7 +251,8 @@ impl<'a> Pass<'a> {
         requires long { length planes.old ≡ length self.now.net.now.names }
         ensures made { planes.new ≡ step_planes self.now.rule self.now.net.now planes.old gate }
         ensures same { result ≡ false → IsStillPair self.now.rule self.now.net.now planes.old gate }
-        ensures less { result ≡ true → weight self.now.rule planes.new < weight self.now.rule planes.old }
+        ensures less { result ≡ true
+            → weight self.now.rule planes.new < weight self.now.rule planes.old }
     {
         let circuit = self.net.circuit();
         let excited = excited(circuit.kind(gate), circuit.sources(gate), planes);
