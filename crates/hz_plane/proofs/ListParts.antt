@@ -1,5 +1,5 @@
 -- Lists that are laid into one: one list more.
-use Rattle.std.proofs.Common.{◌≡◌, ◌∙◌, ℕ, ◌+◌, ◌<◌, ◌≤◌, List, [], ◌∷◌, ◌++◌, length, map, take, get_or, sym, subst, ap, arith}
+use Rattle.std.proofs.Common.{◌≡◌, ◌∙◌, ℕ, ◌+◌, ◌<◌, List, [], ◌∷◌, ◌++◌, length, map, take, get_or, sym, subst, ap, arith}
 use Rattle.std.proofs.lemmas.List.{length-append, take_more, map_push}
 use Rattle.smallvec.specs.SmallVec.{SmallVec}
 use Rattle.hz_net.specs.Parts.{parts_from, EndsAt}

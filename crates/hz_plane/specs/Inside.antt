@@ -1,5 +1,5 @@
 -- What the fields of planes stand for.
-use Rattle.std.specs.Prelude.{◌≡◌, ◌≢◌, ℕ, ◌+◌, ◌<◌, ◌^◌, Bool, Some, List, length, slice_get, slice_index}
+use Rattle.std.specs.Prelude.{◌≡◌, ◌≢◌, ℕ, ◌+◌, ◌<◌, ◌^◌, Bool, Some, length, slice_get, slice_index}
 use Rattle.hz_core.specs.Netlist.{Netlist, IsCircuit, IsWhole}
 use Rattle.hz_plane.specs.declared.stage.Stage.TheVariants.{Loading, Settled}
 use Rattle.hz_plane.specs.declared.planes.Planes.TheInside.{Inside}

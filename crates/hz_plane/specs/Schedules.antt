@@ -1,5 +1,5 @@
 -- Schedules of the gates of a network.
-use Rattle.std.specs.Prelude.{ℕ, ◌<◌, ◌^◌, length}
+use Rattle.std.specs.Prelude.{◌<◌, ◌^◌, length}
 use Rattle.hz_core.specs.Netlist.{Netlist}
 use Rattle.hz_plane.specs.declared.schedule.Schedule.{Schedule}
 use Rattle.hz_plane.specs.Sweeps.{IsOrder, IsBack}

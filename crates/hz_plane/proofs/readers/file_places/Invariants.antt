@@ -1,4 +1,4 @@
-use Rattle.std.proofs.Common.{◌≡◌, ◌<◌, ℕ, length, map, All, slice_index}
+use Rattle.std.proofs.Common.{◌<◌, ℕ, length, map, All, slice_index}
 use Rattle.smallvec.specs.SmallVec.{SmallVec}
 use Rattle.std.specs.Prelude.{Contains}
 use Rattle.hz_core.specs.Netlist.{gate_at}

@@ -1,7 +1,5 @@
-use Rattle.std.proofs.Common.{ℕ, map, sym, subst, ap, arith, ◌∙◌}
-use Rattle.std.proofs.lemmas.List.{take_all}
-use Rattle.smallvec.specs.SmallVec.{SmallVec}
-use Rattle.hz_plane.proofs.ListParts.{AreLaid, laid-step}
+use Rattle.std.proofs.Common.{arith}
+use Rattle.hz_plane.proofs.ListParts.{laid-step}
 use Rattle.hz_plane.proofs.lists.Lists.of.Goals as goal
 
 pub loop-list-preserved : goal.loop-list-preserved
