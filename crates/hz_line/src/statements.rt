@@ -1,7 +1,7 @@
 // The statements of a text in a grammar.
 
 ghost use Rattle.std.specs.Prelude.{◌≡◌, ◌≤◌, length, map, All, Some, IfOk, IfSome, MatchResult};
-ghost use Rattle.hz_line.specs.Statement.{meaning_of};
+ghost use Rattle.hz_line.specs.Statement.{meaning_of, Means};
 ghost use Rattle.hz_line.specs.Token.{token_of};
 ghost use Rattle.hz_line.specs.Reading.{numbered_by, meaning_read, AreStatementsOf, IsUnread, IsUnreadLine, IsUnreadText};
 
@@ -102,6 +102,11 @@ pub trait Grammar<'t> {
             (λ why. IsUnread (grammar (context self.old) (map token_of tokens.now)) why) }
         ensures sound { IfOk result (IsSound (context self.old)) }
         ensures same { context self.new ≡ context self.old };
+
+    /// The statement of a line in the commonest form, read without its tokens. `None` says nothing of the line.
+    fn short(&self, line: &'t [u8]) -> Option<Self::Held>
+        ensures read { IfSome result (λ held. meaning_of (grammar (context self.now)) line.now ≡ Means (stated held)) }
+        ensures sound { IfSome result (IsSound (context self.now)) };
 }
 
 /// Reads the statements of a text, up to the first malformed line. It takes time linear in the text, besides what the
@@ -148,6 +153,9 @@ fn read_line<'t, G: Grammar<'t>>(
     ensures sound { IfOk result (λ read. IfSome read (G.IsSound (G.context grammar.old))) }
     ensures same { G.context grammar.new ≡ G.context grammar.old }
 {
+    if let Some(held) = grammar.short(line) {
+        return Ok(Some(held));
+    }
     read_tokens(line, tokens)?;
     if tokens.is_empty() {
         return Ok(None);

@@ -1,26 +1,23 @@
 -- What forced nodes say of a start: the least open node, the completed start, and which gates are stable in it.
-use Rattle.std.proofs.Common.{◌≡◌, ◌≢◌, ℕ, zero, suc, ◌+◌, ◌-◌, ◌<◌, ◌≤◌, Bool, true, false, Option, Some, None, List, [], ◌∷◌, ◌++◌, length, map, take, drop, get_or, slice_get, refl, sym, ap, ◌∙◌, subst, arith, inl, inr}
+use Rattle.std.proofs.Common.{◌≡◌, ◌≢◌, ℕ, zero, suc, ◌+◌, ◌-◌, ◌<◌, ◌≤◌, Bool, true, false, Option, Some, None, List, [], ◌∷◌, length, map, take, drop, slice_get, refl, sym, ap, ◌∙◌, subst, arith, inl, inr}
 use Rattle.std.proofs.lemmas.Bool.{cases_lt}
-use Rattle.std.proofs.lemmas.List.{length-map, get_or-map, take_at, get_or-take, length-take}
+use Rattle.std.proofs.lemmas.List.{length-map, get_or-map, take_at, get_or-take}
 use Rattle.hz_core.specs.declared.tri.Tri.{Tri}
 use Rattle.hz_core.specs.declared.tri.Tri.TheVariants.{Zero, One, Unknown}
 use Rattle.hz_core.specs.Ternary.{tri_of}
-use Rattle.hz_core.specs.Gate.{gate_value}
 use Rattle.hz_core.specs.Extension.{extension}
 use Rattle.hz_core.specs.Netlist.{Netlist, IsCircuit, IsGateNumber, gate_at, variable_count}
 use Rattle.hz_core.proofs.Extensions.{extension-map}
 use Rattle.hz_net.specs.Network.{network_of, wires_of, value_at, bit_at, driver_value, excitation}
 use Rattle.hz_net.specs.Variables.{expansion_of, at_wires, first_wire}
 use Rattle.hz_net.specs.Starts.{IsForced, IsCompletedStart, IsAcceptedStart, IsLeastOpen}
-use Rattle.hz_net.proofs.Places.{no_wire, length-network_of, length-wires_of, length-expansion_of, bit_at-expansion_of-node, bit_at-expansion_of-wire, driver_at-gate, driver_at-input, driver_at-wire}
+use Rattle.hz_net.proofs.Places.{length-network_of, length-expansion_of, bit_at-expansion_of-node, bit_at-expansion_of-wire, driver_at-gate, driver_at-input, driver_at-wire}
 use Rattle.hz_net.proofs.Derivations.{AreForced, forced_once, forced-extension}
 use Rattle.hz_core.proofs.CircuitLemmas.{sources-at_gate}
 use Rattle.std.specs.List.{AllByRecursion}
 use Rattle.std.proofs.lemmas.List.Elements.{recursion_from_All}
 use Rattle.hz_net.proofs.Ranks.{at-tri_of}
-use Rattle.hz_net.proofs.Wires.{length-at_wires, get_or-at_wires}
-use Rattle.hz_plane.specs.Steps.{gate_excitation, all_values, IsStill}
-use Rattle.hz_plane.specs.declared.rule.Rule.TheVariants.{Narrow}
+use Rattle.hz_plane.specs.Steps.{gate_excitation, all_values}
 use Rattle.hz_plane.specs.Lanes.{AreForcedNodes}
 use Rattle.hz_plane.proofs.Wholes.{same-values, source_of, source-inside, length-all_values, at-node, at-wire, at-pins}
 

@@ -1,5 +1,5 @@
 -- Faults as they are noted, lane by lane.
-use Rattle.std.proofs.Common.{◌≡◌, ◌≢◌, ℕ, zero, suc, ◌+◌, ◌-◌, ◌<◌, min, max, Bool, true, false, Option, Some, None, List, [], ◌∷◌, length, get_or, refl, sym, ap, ◌∙◌, subst, arith, inl, inr, nat_eq}
+use Rattle.std.proofs.Common.{◌≡◌, ◌≢◌, ℕ, zero, suc, ◌+◌, ◌-◌, ◌<◌, min, max, Bool, true, false, Option, Some, None, List, [], ◌∷◌, get_or, refl, sym, ap, ◌∙◌, subst, arith, inl, inr, nat_eq}
 use Rattle.std.specs.Prelude.{◌||◌}
 use Rattle.std.proofs.lemmas.Bool.{cases_eq}
 use Rattle.std.proofs.lemmas.Bool.Decides.{nat_tests}
@@ -9,8 +9,8 @@ use Rattle.hz_plane.specs.declared.pair.Pair.{Pair}
 use Rattle.hz_plane.specs.declared.stage.LaneFault.{LaneFault}
 use Rattle.hz_plane.specs.declared.stage.LaneFault.TheVariants.{Open, Unstable}
 use Rattle.hz_plane.specs.Bits.{IsPlane, ArePlanes, lane_bit, has_lane}
-use Rattle.hz_plane.specs.Pairs.{AreZero, pair_at, and_words, or_words, not_words}
-use Rattle.hz_plane.specs.Faults.{with_fault, IsUnknownIn, IsConflictIn, IsOpenFault, AreStableBelow, IsUnstableFault, AreUnknownLanes}
+use Rattle.hz_plane.specs.Pairs.{pair_at, and_words, or_words, not_words}
+use Rattle.hz_plane.specs.Faults.{with_fault, IsUnknownIn, IsConflictIn, IsOpenFault, IsUnstableFault, AreUnknownLanes}
 use Rattle.hz_plane.specs.Loads.{listed_in}
 use Rattle.hz_plane.proofs.Bits.{plane-and, plane-not, lane-and, lane-or, lane-not}
 use Rattle.hz_plane.proofs.LaneSets.{lane_bit-lt, empty-set, out-of-set}

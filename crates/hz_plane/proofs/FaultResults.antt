@@ -1,20 +1,20 @@
 -- What the faults that were noted say of the listed values of a lane.
-use Rattle.std.proofs.Common.{◌≡◌, ◌≢◌, ℕ, zero, suc, ◌+◌, ◌-◌, ◌<◌, ◌≤◌, min, max, Bool, true, false, Option, Some, None, List, [], ◌∷◌, length, map, take, get_or, slice_get, refl, sym, ap, ◌∙◌, subst, arith, inl, inr}
+use Rattle.std.proofs.Common.{◌≡◌, ◌≢◌, ℕ, ◌-◌, ◌<◌, min, max, Bool, true, false, Option, Some, None, List, [], length, get_or, slice_get, refl, sym, ap, ◌∙◌, subst, arith}
 use Rattle.std.proofs.lemmas.List.{length-map, get_or-map}
 use Rattle.std.proofs.lemmas.Option.{slice_get-get_or}
 use Rattle.hz_core.specs.declared.tri.Tri.{Tri}
 use Rattle.hz_core.specs.declared.tri.Tri.TheVariants.{Zero, One, Unknown}
-use Rattle.hz_core.specs.Ternary.{tri_of, admits}
+use Rattle.hz_core.specs.Ternary.{tri_of}
 use Rattle.hz_core.specs.Netlist.{Netlist, Gate, IsCircuit, IsWhole, IsGateNumber}
-use Rattle.hz_net.specs.Network.{network_of, value_at, bit_at, excitation}
-use Rattle.hz_net.specs.Starts.{IsLeastOpen, IsLeastUnstable}
+use Rattle.hz_net.specs.Network.{value_at, bit_at}
+use Rattle.hz_net.specs.Starts.{IsLeastUnstable}
 use Rattle.hz_plane.specs.declared.listing.Listing.{Listing}
 use Rattle.hz_plane.specs.declared.pair.Pair.{Pair}
 use Rattle.hz_plane.specs.declared.stage.LaneFault.{LaneFault}
 use Rattle.hz_plane.specs.declared.stage.LaneFault.TheVariants.{Open, Unstable}
 use Rattle.hz_plane.specs.declared.rule.Rule.TheVariants.{Narrow}
-use Rattle.hz_plane.specs.Bits.{ArePlanes, HasValue, lane_bit, bit_number}
-use Rattle.hz_plane.specs.Pairs.{pair_at, and_words, or_words, not_words}
+use Rattle.hz_plane.specs.Bits.{ArePlanes, HasValue, lane_bit}
+use Rattle.hz_plane.specs.Pairs.{pair_at, and_words, or_words}
 use Rattle.hz_plane.specs.Steps.{gate_excitation, gate_pair, AreAllPlanes, HasLane}
 use Rattle.hz_plane.specs.Lanes.{AreForcedNodes}
 use Rattle.hz_plane.specs.Loads.{listed_in, lane_listed}

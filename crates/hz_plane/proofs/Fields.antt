@@ -1,5 +1,5 @@
 -- The fields of planes when lanes are loaded, and other circuits with the same inputs and gates.
-use Rattle.std.proofs.Common.{◌≡◌, ◌≢◌, ℕ, zero, suc, ◌+◌, ◌-◌, ◌<◌, ◌≤◌, ◌⊎◌, Bool, false, Option, Some, None, List, [], ◌∷◌, ◌++◌, length, map, set, get_or, replicate, slice_get, All, refl, sym, ap, ◌∙◌, subst, arith, inl, inr}
+use Rattle.std.proofs.Common.{◌≡◌, ◌≢◌, ℕ, suc, ◌-◌, ◌<◌, ◌≤◌, ◌⊎◌, Bool, false, Option, Some, None, List, [], ◌∷◌, ◌++◌, length, map, set, get_or, replicate, slice_get, All, refl, sym, ap, ◌∙◌, subst, arith, inl, inr}
 use Rattle.std.specs.Prelude.{Contains}
 use Rattle.std.specs.List.{slice_index, slice_index_or}
 use Rattle.std.proofs.lemmas.Bool.{cases_eq, cases_lt}
@@ -7,16 +7,15 @@ use Rattle.std.proofs.lemmas.List.{length-append, length-set, length-map, get_or
 use Rattle.std.proofs.lemmas.List.Elements.{All-head, All-tail}
 use Rattle.std.proofs.lemmas.Option.{slice_get-get_or, slice_get_within, get_or_from_slice_get}
 use Rattle.hz_core.specs.declared.kind.Kind.TheVariants.{And}
-use Rattle.hz_core.specs.Netlist.{Netlist, Gate, IsCircuit, IsWhole, IsGateAmong, IsGateNumber, gate_at}
+use Rattle.hz_core.specs.Netlist.{Netlist, Gate, IsCircuit, IsGateAmong, IsGateNumber, gate_at}
 use Rattle.hz_plane.specs.declared.stage.Stage.{Stage}
-use Rattle.hz_plane.specs.declared.stage.Stage.TheVariants.{Loading, Completed, Spread, Settled}
+use Rattle.hz_plane.specs.declared.stage.Stage.TheVariants.{Loading, Settled}
 use Rattle.hz_plane.specs.declared.planes.Planes.TheInside.{Inside}
-use Rattle.hz_plane.specs.declared.pair.Pair.{Pair}
 use Rattle.hz_plane.specs.Gates.{pin_sources}
-use Rattle.hz_plane.specs.Sweeps.{IsOrder, IsBack, readers_at}
+use Rattle.hz_plane.specs.Sweeps.{IsOrder, IsBack}
 use Rattle.hz_plane.specs.Loads.{Loaded, LaneLoads, held_at, listed_with}
-use Rattle.hz_plane.specs.View.{Seen, LaneHolds, IsLaneFault}
-use Rattle.hz_plane.specs.Inside.{IsOf, HoldsPlanes}
+use Rattle.hz_plane.specs.View.{Seen, LaneHolds}
+use Rattle.hz_plane.specs.Inside.{HoldsPlanes}
 use Rattle.hz_plane.proofs.PassLanes.{same-gate}
 
 -- what was loaded into a lane, once a lane is loaded anew
@@ -51,11 +50,10 @@ reloaded fields stage loads is held inputs nodes lists = record {
   small = omega (arith, nodes, held.small);
   values_count = held.values_count ∙ sym nodes;
   marks = held.marks;
-  few = held.few;
   faults_count = held.faults_count;
   values_planes = held.values_planes;
   sources = λ pin inside. omega (arith, held.sources pin inside, nodes);
-  order = λ netlist of. held.order netlist (record { circuit = of.circuit; whole = of.whole; inputs = sym inputs ∙ of.inputs; gates = of.gates });
+  schedule = λ netlist of. held.schedule netlist (record { circuit = of.circuit; whole = of.whole; inputs = sym inputs ∙ of.inputs; gates = of.gates });
   lists = lists;
   lanes = λ netlist lane loaded of at. subst (λ (s : Stage). LaneHolds s netlist loaded fields.values.items lane) (sym is) tt;
   faults = λ netlist lane loaded of at begun. absurd (begun is);

@@ -1,10 +1,10 @@
 -- Copied gates: one gate more, and the sources of all pins.
-use Rattle.std.proofs.Common.{◌≡◌, ℕ, zero, suc, ◌+◌, ◌-◌, ◌<◌, ◌≤◌, List, [], ◌∷◌, ◌++◌, length, map, take, drop, get_or, slice_get, Some, refl, sym, ap, ◌∙◌, subst, arith, sum_by}
-use Rattle.std.proofs.lemmas.List.{length-append, length-drop, length-take, map-append, take-append-drop, take-append-le, drop-append-le, take_more, take_all, length-map}
+use Rattle.std.proofs.Common.{◌≡◌, ℕ, zero, suc, ◌+◌, ◌<◌, ◌≤◌, List, [], ◌∷◌, ◌++◌, length, map, take, drop, get_or, refl, sym, ap, ◌∙◌, arith, sum_by}
+use Rattle.std.proofs.lemmas.List.{length-append, length-drop, map-append, take-append-drop, take-append-le, drop-append-le, take_more, take_all}
 use Rattle.std.proofs.lemmas.List.Sums.{sum_by-cons, sum_by-append}
 use Rattle.hz_core.specs.declared.kind.Kind.{Kind}
-use Rattle.hz_core.specs.Netlist.{Netlist, Gate}
-use Rattle.hz_net.specs.Network.{Wire, gate_wires, wires_from}
+use Rattle.hz_core.specs.Netlist.{Gate}
+use Rattle.hz_net.specs.Network.{gate_wires, wires_from}
 use Rattle.hz_plane.specs.declared.gates.Shape.{Shape}
 use Rattle.hz_plane.specs.Gates.{pin_sources}
 use Rattle.hz_plane.specs.GatesInside.{gates_by}

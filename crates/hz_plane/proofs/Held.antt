@@ -1,5 +1,5 @@
 -- What planes hold in a lane, from stage to stage, and what is read of it.
-use Rattle.std.proofs.Common.{◌≡◌, ◌≢◌, ℕ, zero, suc, ◌+◌, ◌-◌, ◌<◌, ◌≤◌, ◌⊎◌, Bool, true, false, Option, Some, None, List, [], ◌∷◌, length, map, get_or, slice_get, refl, sym, ap, ◌∙◌, subst, arith, inl, inr, nat_eq}
+use Rattle.std.proofs.Common.{◌≡◌, ◌≢◌, ℕ, zero, suc, ◌-◌, ◌<◌, ◌≤◌, ◌⊎◌, Bool, true, false, Option, Some, List, [], length, map, get_or, slice_get, refl, sym, ap, ◌∙◌, subst, arith, inl, inr, nat_eq}
 use Rattle.std.proofs.lemmas.Bool.{cases_lt}
 use Rattle.std.proofs.lemmas.List.{length-map, get_or-map}
 use Rattle.hz_core.specs.declared.tri.Tri.{Tri}
@@ -8,7 +8,7 @@ use Rattle.hz_core.specs.Ternary.{tri_of, admits}
 use Rattle.hz_core.specs.Netlist.{Netlist, Gate, IsCircuit}
 use Rattle.hz_net.specs.Network.{network_of, wires_of, value_at, bit_at}
 use Rattle.hz_net.specs.Passes.{algorithm_a, algorithm_b, AreRounds}
-use Rattle.hz_net.specs.Starts.{IsCompletedStart, IsAcceptedStart}
+use Rattle.hz_net.specs.Starts.{IsCompletedStart}
 use Rattle.hz_net.proofs.Derivations.{forced_once}
 use Rattle.hz_net.proofs.Places.{no_wire, length-network_of, length-wires_of}
 use Rattle.std.proofs.lemmas.Option.{get_or_from_slice_get}
@@ -16,14 +16,13 @@ use Rattle.hz_plane.specs.Gates.{pin_sources}
 use Rattle.hz_plane.proofs.GateCopies.{wire-sources}
 use Rattle.hz_net.proofs.Ranks.{at-tri_of}
 use Rattle.hz_plane.specs.declared.pair.Pair.{Pair}
-use Rattle.hz_plane.specs.declared.listing.Listing.{Listing}
 use Rattle.hz_plane.specs.declared.stage.Stage.{Stage}
 use Rattle.hz_plane.specs.declared.stage.Stage.TheVariants.{Loading, Completed, Spread, Settled}
 use Rattle.hz_plane.specs.Bits.{lane_bit, bit_number, has_lane, HasValue}
 use Rattle.hz_plane.specs.Pairs.{pair_at}
-use Rattle.hz_plane.specs.Steps.{HasLane, all_values}
-use Rattle.hz_plane.specs.Lanes.{AreForcedNodes, AreNodesOf, AreAllOf, HasInputs, ListsAllInputs}
-use Rattle.hz_plane.specs.Loads.{Loaded, lane_input, lane_listed}
+use Rattle.hz_plane.specs.Steps.{HasLane}
+use Rattle.hz_plane.specs.Lanes.{AreForcedNodes, AreNodesOf, AreAllOf, HasInputs}
+use Rattle.hz_plane.specs.Loads.{Loaded, lane_input}
 use Rattle.hz_plane.specs.Faults.{IsUnknownIn, AreUnknownLanes}
 use Rattle.hz_plane.specs.View.{value_by, LaneHolds, IsLaneValue, HasUnknown, IsUnsettled}
 use Rattle.hz_plane.proofs.LaneSets.{lane_bit-lt}

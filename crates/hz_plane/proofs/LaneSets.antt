@@ -1,5 +1,5 @@
 -- Sets of lanes: a lane more, a lane less, and no lane.
-use Rattle.std.proofs.Common.{◌≡◌, ◌≢◌, ℕ, zero, suc, set, w64, ◌*◌, ◌^◌, ◌+◌, ◌-◌, ◌<◌, ◌/◌, ◌%◌, max, Bool, true, false, Option, Some, None, List, [], ◌∷◌, length, get_or, refl, sym, ap, ◌∙◌, arith, inl, inr, nat_eq}
+use Rattle.std.proofs.Common.{◌≡◌, ◌≢◌, ℕ, zero, suc, set, w64, ◌*◌, ◌^◌, ◌-◌, ◌<◌, ◌/◌, ◌%◌, max, Bool, true, false, Some, None, List, [], ◌∷◌, length, get_or, refl, sym, ap, ◌∙◌, arith, inl, inr, nat_eq}
 use Rattle.std.specs.Int.{bit_at, bit_not}
 use Rattle.std.specs.Int.Bits.{bit_and, bit_or}
 use Rattle.std.proofs.lemmas.Bool.{cases_eq}

@@ -16,6 +16,7 @@ pub mod PassLanes
 pub mod FaultLemmas
 pub mod FaultResults
 pub mod OrderLemmas
+pub mod ListParts
 pub mod ReaderLemmas
 pub mod GateCopies
 pub mod Held

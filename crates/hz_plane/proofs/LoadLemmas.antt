@@ -1,5 +1,5 @@
 -- What one lane lists, and what all others list, as items are written one after the other.
-use Rattle.std.proofs.Common.{◌≡◌, ◌≢◌, ℕ, zero, suc, set, ◌+◌, ◌-◌, ◌<◌, ◌≤◌, Bool, true, false, Option, Some, None, List, [], ◌∷◌, ◌++◌, length, map, take, drop, get_or, replicate, slice_get, refl, sym, ap, ◌∙◌, subst, arith, inl, inr, nat_eq, add-one}
+use Rattle.std.proofs.Common.{◌≡◌, ◌≢◌, ℕ, zero, suc, set, ◌+◌, ◌-◌, ◌<◌, ◌≤◌, Bool, true, false, Option, Some, None, List, [], ◌∷◌, ◌++◌, length, map, take, drop, get_or, replicate, slice_get, refl, sym, ap, ◌∙◌, subst, arith, inl, inr, add-one}
 use Rattle.std.specs.Prelude.{if◌then◌else◌}
 use Rattle.std.specs.List.{fold, range_with_len}
 use Rattle.std.proofs.lemmas.Bool.{cases_eq}
@@ -9,7 +9,7 @@ use Rattle.std.proofs.lemmas.Option.{slice_get_within, get_or_from_slice_get}
 use Rattle.std.proofs.lemmas.List.FromFn.{length-range_with_len, get_or-range_with_len}
 use Rattle.hz_plane.specs.declared.listing.Listing.{Listing}
 use Rattle.hz_plane.specs.Bits.{has_lane}
-use Rattle.hz_plane.specs.Loads.{Loaded, LaneLoads, listed_in, lane_input, lane_listed, lane_load, lane_loads, held_at}
+use Rattle.hz_plane.specs.Loads.{Loaded, LaneLoads, lane_input, lane_listed, lane_load, lane_loads, held_at}
 use Rattle.hz_plane.proofs.LaneSets.{empty-set}
 
 -- the next item of a list that is written over the beginning of another

@@ -1,15 +1,15 @@
 -- What the passes over planes make of a lane.
-use Rattle.std.proofs.Common.{◌≡◌, ◌≢◌, ℕ, zero, suc, ◌+◌, ◌-◌, ◌<◌, ◌≤◌, Bool, true, false, Option, Some, None, List, [], ◌∷◌, ◌++◌, length, map, take, get_or, refl, sym, ap, ◌∙◌, subst, arith, inl, inr}
+use Rattle.std.proofs.Common.{◌≡◌, ℕ, zero, suc, ◌-◌, ◌<◌, ◌≤◌, Bool, true, false, Option, Some, None, List, [], ◌∷◌, length, map, take, refl, sym, ap, ◌∙◌, subst, arith, inl, inr}
 use Rattle.std.specs.List.{AllByRecursion, slice_index_or}
 use Rattle.std.proofs.lemmas.Bool.{cases_lt}
 use Rattle.std.proofs.lemmas.List.{length-map, length-take, get_or-take, get_or-map, length-set}
 use Rattle.std.proofs.lemmas.Option.{slice_get-get_or}
 use Rattle.hz_core.specs.declared.tri.Tri.{Tri}
-use Rattle.hz_core.specs.declared.tri.Tri.TheVariants.{Zero, One, Unknown}
-use Rattle.hz_core.specs.Ternary.{tri_of, admits, join_of, AllBelow}
+use Rattle.hz_core.specs.declared.tri.Tri.TheVariants.{Zero}
+use Rattle.hz_core.specs.Ternary.{tri_of, join_of}
 use Rattle.hz_core.specs.Netlist.{Netlist, Gate, IsCircuit, IsWhole, IsGateNumber}
 use Rattle.hz_net.specs.Network.{network_of, value_at, bit_at}
-use Rattle.hz_net.specs.Passes.{excitations, algorithm_a, algorithm_b, AreRounds}
+use Rattle.hz_net.specs.Passes.{algorithm_a, algorithm_b, AreRounds}
 use Rattle.hz_net.specs.Starts.{IsCompletedStart}
 use Rattle.hz_net.proofs.Places.{length-network_of, bit_at-expansion_of-wire}
 use Rattle.hz_net.proofs.Sequences.{AllBelow-closed, closed-result, length-algorithm_a}
@@ -25,7 +25,7 @@ use Rattle.hz_plane.specs.declared.listing.Listing.{Listing}
 use Rattle.hz_plane.specs.Loads.{listed_in, lane_listed}
 use Rattle.hz_plane.specs.Lanes.{listed_value, listed_values, BeginsStart, BeginsSpread, BeginsSettle, ListsAllInputs, AreForcedNodes, HasInputs, AreInputPlanes, AreNodesOf, AreAllOf, with_inputs, second_of}
 use Rattle.hz_plane.proofs.Bits.{plane-not, lane-not, value-widened}
-use Rattle.hz_plane.proofs.LaneSteps.{planes-next, lane-steps, planes-steps, length-steps, still-lane}
+use Rattle.hz_plane.proofs.LaneSteps.{planes-next, lane-steps, length-steps, still-lane}
 use Rattle.hz_plane.proofs.Wholes.{source_of, source-inside, at-node}
 use Rattle.hz_plane.proofs.SpreadSteps.{HasWires, spread-result}
 use Rattle.hz_plane.proofs.SettleSteps.{settle-result}

@@ -1,10 +1,10 @@
 -- Lists of pairs: one more pair.
-use Rattle.std.proofs.Common.{◌≡◌, ◌<◌, ◌≤◌, ◌+◌, ◌-◌, ℕ, List, [], ◌∷◌, ◌++◌, length, get_or, refl, sym, ap, ◌∙◌, subst, arith, inl, inr}
+use Rattle.std.proofs.Common.{◌≡◌, ◌+◌, ◌-◌, ℕ, List, [], ◌∷◌, ◌++◌, length, get_or, refl, sym, ap, ◌∙◌, subst, arith, inl, inr}
 use Rattle.std.proofs.lemmas.Bool.{cases_lt}
 use Rattle.std.proofs.lemmas.List.{length-append, get_or_append_left, get_or-append_right}
 use Rattle.hz_plane.specs.declared.pair.Pair.{Pair}
 use Rattle.hz_plane.specs.Bits.{ArePlanes}
-use Rattle.hz_plane.specs.Pairs.{pair_at, no_pair}
+use Rattle.hz_plane.specs.Pairs.{no_pair}
 use Rattle.hz_plane.specs.Steps.{AreAllPlanes}
 
 pub one-more-pair : (planes : List Pair) (pair : Pair) → AreAllPlanes planes → ArePlanes pair → AreAllPlanes (planes ++ pair ∷ [])

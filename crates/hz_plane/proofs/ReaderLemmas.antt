@@ -1,19 +1,20 @@
 -- Lists of readers: one reader more.
-use Rattle.std.proofs.Common.{◌≡◌, ◌≢◌, ◌∙◌, ℕ, zero, suc, ◌+◌, ◌-◌, ◌<◌, ◌≤◌, List, [], ◌∷◌, ◌++◌, length, map, get_or, set, replicate, All, refl, sym, ap, subst, arith, inl, inr, Vec, Global}
+use Rattle.std.proofs.Common.{◌≡◌, ◌∙◌, ℕ, zero, suc, ◌+◌, ◌-◌, ◌<◌, List, [], ◌∷◌, ◌++◌, length, map, get_or, set, replicate, All, refl, sym, ap, subst, arith, inl, inr}
+use Rattle.smallvec.specs.SmallVec.{SmallVec}
 use Rattle.std.specs.Prelude.{Contains}
 use Rattle.std.proofs.lemmas.Bool.{cases_eq, cases_lt}
-use Rattle.std.proofs.lemmas.List.{map-set, get_or-map, get_or-set_same, get_or-set_other, length-set, length-append, get_or_append_left, get_or-append_right, get_or_past}
+use Rattle.std.proofs.lemmas.List.{map-set, get_or-map, get_or-set_same, get_or-set_other, length-append, get_or_append_left, get_or-append_right, get_or_past}
 use Rattle.std.proofs.lemmas.List.Elements.{All-nil, All-push, Contains-append_left, Contains-push}
 use Rattle.hz_plane.specs.Sweeps.{readers_at}
 
 -- what a push into one list makes of all
 pub filed-push :
-    (lists : List (Vec ℕ Global)) (node place : ℕ) (old new : Vec ℕ Global) → node < length lists →
+    (lists : List (SmallVec ℕ)) (node place : ℕ) (old new : SmallVec ℕ) → node < length lists →
     new.items ≡ (get_or lists node old).items ++ place ∷ [] →
-    map (λ (list : Vec ℕ Global). list.items) (set lists node new) ≡
-    set (map (λ (list : Vec ℕ Global). list.items) lists) node (readers_at (map (λ (list : Vec ℕ Global). list.items) lists) node ++ place ∷ [])
+    map (λ (list : SmallVec ℕ). list.items) (set lists node new) ≡
+    set (map (λ (list : SmallVec ℕ). list.items) lists) node (readers_at (map (λ (list : SmallVec ℕ). list.items) lists) node ++ place ∷ [])
 filed-push lists node place old new within pushed =
-    let items : Vec ℕ Global → List ℕ = λ list. list.items in
+    let items : SmallVec ℕ → List ℕ = λ list. list.items in
     map-set items lists node new ∙
     ap (set (map items lists) node) (pushed ∙ ap (λ places. places ++ place ∷ []) (sym (get_or-map items lists node old [] within)))
 

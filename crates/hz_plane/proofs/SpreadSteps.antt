@@ -1,20 +1,19 @@
 -- Steps of the rule Widen that come to rest, in whatever order, give what Algorithm A gives.
-use Rattle.std.proofs.Common.{◌≡◌, ◌≢◌, ℕ, zero, suc, ◌+◌, ◌-◌, ◌<◌, ◌≤◌, Bool, List, [], ◌∷◌, length, map, get_or, IsTrue, refl, sym, ap, ◌∙◌, subst, arith, inl, inr}
+use Rattle.std.proofs.Common.{◌≡◌, ℕ, zero, suc, ◌+◌, ◌<◌, ◌≤◌, Bool, List, [], ◌∷◌, length, map, get_or, IsTrue, sym, ap, ◌∙◌, subst, arith, inl, inr}
 use Rattle.std.specs.List.{AllByRecursion}
 use Rattle.std.proofs.lemmas.Bool.{cases_lt}
 use Rattle.std.proofs.lemmas.List.{length-map, length-set}
 use Rattle.hz_core.specs.declared.tri.Tri.{Tri}
-use Rattle.hz_core.specs.declared.tri.Tri.TheVariants.{Zero, One, Unknown}
 use Rattle.hz_core.specs.Ternary.{tri_of, is_below, join_of, AllBelow}
 use Rattle.hz_core.specs.Extension.{extension}
 use Rattle.hz_core.specs.Netlist.{Netlist, IsCircuit, IsGateNumber, gate_at}
 use Rattle.hz_core.proofs.Refinements.{AllBelow-get_or, get_or-AllBelow, is_below-same, is_below-through, is_below-join_of-left, is_below-join_of-right, join_of-is_below, same-AllBelow}
-use Rattle.hz_net.specs.Network.{network_of, driver_value3, excitation3, value_at, bit_at}
+use Rattle.hz_net.specs.Network.{network_of, excitation3, value_at, bit_at}
 use Rattle.hz_net.specs.Passes.{excitations, join_each, algorithm_a, AreRounds}
 use Rattle.hz_net.specs.Variables.{first_wire}
 use Rattle.hz_net.proofs.Places.{length-network_of, first_wire-bound, wire_at-pin}
 use Rattle.hz_net.proofs.Excitations.{AllBelow-excitations, at-excitations, length-excitations, at-join_each}
-use Rattle.hz_net.proofs.Sequences.{IsClosed, AllBelow-closed, closed-result, length-algorithm_a, AllBelow-algorithm_a, AllBelow-join_each}
+use Rattle.hz_net.proofs.Sequences.{IsClosed, AllBelow-closed, closed-result, length-algorithm_a}
 use Rattle.hz_net.proofs.Ranks.{at-tri_of, later-above}
 use Rattle.hz_plane.specs.declared.rule.Rule.TheVariants.{Widen}
 use Rattle.hz_plane.specs.Lanes.{BeginsSpread}

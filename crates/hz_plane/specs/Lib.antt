@@ -7,8 +7,10 @@ pub mod Loads
 pub mod LoadsInside
 pub mod Faults
 pub mod Sweeps
+pub mod Schedules
 pub mod View
 pub mod Orders
 pub mod Gates
 pub mod GatesInside
+pub mod ListsInside
 pub mod Inside

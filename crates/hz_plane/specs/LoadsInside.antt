@@ -1,5 +1,5 @@
 -- What the fields of loads stand for.
-use Rattle.std.specs.Prelude.{◌≡◌, ℕ, ◌<◌, false, None, List, length, map, replicate}
+use Rattle.std.specs.Prelude.{◌≡◌, ℕ, ◌<◌, false, None, length, replicate}
 use Rattle.hz_plane.specs.declared.loads.Loads.TheInside.{Inside}
 use Rattle.hz_plane.specs.Bits.{has_lane}
 use Rattle.hz_plane.specs.Loads.{LaneLoads, lane_listed, lane_loads}

@@ -27,7 +27,8 @@ pub(crate) fn note_faults(
     requires values { length values.now ≡ length net.now.names }
     requires planes { AreAllPlanes values.now }
     requires faults { length faults.old ≡ 512 }
-    ensures { (lane : ℕ) → lane < 512 → IsNoted net.now listings.now values.now lane (fault_at faults.new lane) }
+    ensures { (lane : ℕ) → lane < 512
+        → IsNoted net.now listings.now values.now lane (fault_at faults.new lane) }
 {
     forget(faults);
     let noted = note_open(values, faults);
@@ -63,8 +64,10 @@ fn note_open(values: &[Pair], faults: &mut [Option<LaneFault>]) -> u64x8
     requires few { length values.now < 2 ^ 32 }
     requires faults { length faults.old ≡ 512 }
     requires none { (lane : ℕ) → lane < 512 → fault_at faults.old lane ≡ None }
-    ensures lanes { (lane : ℕ) → lane < 512 → IsOpenFault values.now lane (length values.now) (fault_at faults.new lane) }
-    ensures noted { (lane : ℕ) → lane < 512 → fault_at faults.new lane ≡ None → has_lane result lane ≡ false }
+    ensures lanes { (lane : ℕ) → lane < 512
+        → IsOpenFault values.now lane (length values.now) (fault_at faults.new lane) }
+    ensures noted { (lane : ℕ) → lane < 512 → fault_at faults.new lane ≡ None
+        → has_lane result lane ≡ false }
 {
     let mut noted = u64x8::splat(0);
     for node in 0..values.len() {
@@ -89,8 +92,11 @@ fn note_unstable(
     requires values { length values.now ≡ length net.now.names }
     requires planes { AreAllPlanes values.now }
     requires faults { length faults.old ≡ 512 }
-    requires noted { (lane : ℕ) → lane < 512 → fault_at faults.old lane ≡ None → has_lane noted lane ≡ false }
-    ensures { (lane : ℕ) → lane < 512 → IsUnstableFault net.now listings.now values.now lane (length net.now.names) (fault_at faults.old lane) (fault_at faults.new lane) }
+    requires noted { (lane : ℕ) → lane < 512 → fault_at faults.old lane ≡ None
+        → has_lane noted lane ≡ false }
+    ensures { (lane : ℕ) → lane < 512
+        → IsUnstableFault net.now listings.now values.now lane (length net.now.names)
+        (fault_at faults.old lane) (fault_at faults.new lane) }
 {
     let mut noted = noted;
     let circuit = net.circuit();
@@ -109,7 +115,8 @@ fn conflict(net: &Net, gate: u32, values: &[Pair]) -> u64x8
     requires whole { IsWhole net.now }
     requires gate { IsGateNumber net.now gate }
     requires values { length values.now ≡ length net.now.names }
-    ensures { result ≡ conflict_words (pair_at values.now gate) (gate_pair net.now values.now gate) }
+    ensures { result
+        ≡ conflict_words (pair_at values.now gate) (gate_pair net.now values.now gate) }
 {
     let circuit = net.circuit();
     let excited = excited(circuit.kind(gate), circuit.sources(gate), values);
@@ -121,9 +128,13 @@ fn conflict(net: &Net, gate: u32, values: &[Pair]) -> u64x8
 #[inline(always)]
 fn note_new(lanes: u64x8, fault: LaneFault, noted: u64x8, faults: &mut [Option<LaneFault>]) -> u64x8
     requires faults { length faults.old ≡ 512 }
-    requires noted { (lane : ℕ) → lane < 512 → fault_at faults.old lane ≡ None → has_lane noted lane ≡ false }
-    ensures lanes { (lane : ℕ) → lane < 512 → fault_at faults.new lane ≡ with_fault (has_lane lanes lane) fault (fault_at faults.old lane) }
-    ensures noted { (lane : ℕ) → lane < 512 → fault_at faults.new lane ≡ None → has_lane result lane ≡ false }
+    requires noted { (lane : ℕ) → lane < 512 → fault_at faults.old lane ≡ None
+        → has_lane noted lane ≡ false }
+    ensures lanes { (lane : ℕ) → lane < 512
+        → fault_at faults.new lane
+        ≡ with_fault (has_lane lanes lane) fault (fault_at faults.old lane) }
+    ensures noted { (lane : ℕ) → lane < 512 → fault_at faults.new lane ≡ None
+        → has_lane result lane ≡ false }
 {
     is_plane(lanes);
     is_plane(noted);
@@ -138,7 +149,9 @@ fn note_new(lanes: u64x8, fault: LaneFault, noted: u64x8, faults: &mut [Option<L
 // Notes a fault for each of these lanes, unless it has one.
 fn note(lanes: &[u64; 8], fault: LaneFault, faults: &mut [Option<LaneFault>])
     requires faults { length faults.old ≡ 512 }
-    ensures { (lane : ℕ) → lane < 512 → fault_at faults.new lane ≡ with_fault (has_lane lanes.now lane) fault (fault_at faults.old lane) }
+    ensures { (lane : ℕ) → lane < 512
+        → fault_at faults.new lane
+        ≡ with_fault (has_lane lanes.now lane) fault (fault_at faults.old lane) }
 {
     for lane in 0..512 {
         if faults[lane].is_none() && has_lane(lanes, lane as u32) {

@@ -16,7 +16,8 @@ pub(crate) fn has_lane(set: &[u64; 8], lane: u32) -> bool
 pub(crate) fn put_lane(set: &mut [u64; 8], lane: u32, is_in: bool)
     requires { lane < 512 }
     ensures here { has_lane set.new lane ≡ is_in }
-    ensures others { (other : ℕ) → other < 512 → other ≢ lane → has_lane set.new other ≡ has_lane set.old other }
+    ensures others { (other : ℕ) → other < 512 → other ≢ lane
+        → has_lane set.new other ≡ has_lane set.old other }
 {
     if is_in {
         add_lane(set, lane);
@@ -29,7 +30,8 @@ pub(crate) fn put_lane(set: &mut [u64; 8], lane: u32, is_in: bool)
 fn add_lane(set: &mut [u64; 8], lane: u32)
     requires { lane < 512 }
     ensures here { has_lane set.new lane ≡ true }
-    ensures others { (other : ℕ) → other < 512 → other ≢ lane → has_lane set.new other ≡ has_lane set.old other }
+    ensures others { (other : ℕ) → other < 512 → other ≢ lane
+        → has_lane set.new other ≡ has_lane set.old other }
 {
     let word = (lane / 64) as usize;
     set[word] |= 1u64 << (lane % 64);
@@ -39,7 +41,8 @@ fn add_lane(set: &mut [u64; 8], lane: u32)
 fn remove_lane(set: &mut [u64; 8], lane: u32)
     requires { lane < 512 }
     ensures here { has_lane set.new lane ≡ false }
-    ensures others { (other : ℕ) → other < 512 → other ≢ lane → has_lane set.new other ≡ has_lane set.old other }
+    ensures others { (other : ℕ) → other < 512 → other ≢ lane
+        → has_lane set.new other ≡ has_lane set.old other }
 {
     let word = (lane / 64) as usize;
     set[word] &= !(1u64 << (lane % 64));

@@ -10,7 +10,7 @@
 //! | `passes` | completed starts, Algorithm A and Algorithm B, in all lanes |
 //! | `sweep` | gates evaluated in place until none would change |
 //! | `faults` | the fault of each lane, and the lanes in which some node is X |
-//! | `order`, `readers` | an order of all gates, and which gates read each node |
+//! | `schedule`, `order`, `readers`, `lists` | an order of all gates, and which gates read each node |
 //! | `gates` | the gates of the circuit, copied |
 #![tactic(auto)]
 
@@ -19,6 +19,7 @@ mod faults;
 mod gates;
 mod lanes;
 mod listing;
+mod lists;
 mod loads;
 mod order;
 mod pair;
@@ -26,6 +27,7 @@ mod passes;
 mod planes;
 mod readers;
 mod rule;
+mod schedule;
 mod stage;
 mod sweep;
 #[cfg(test)]

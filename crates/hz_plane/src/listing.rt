@@ -31,7 +31,8 @@ impl Listing {
     pub(crate) fn put(&mut self, lane: u32, value: Option<bool>)
         requires { lane < 512 }
         ensures here { listed_in self.new lane ≡ value }
-        ensures others { (other : ℕ) → other < 512 → other ≢ lane → listed_in self.new other ≡ listed_in self.old other }
+        ensures others { (other : ℕ) → other < 512 → other ≢ lane
+            → listed_in self.new other ≡ listed_in self.old other }
     {
         put_lane(&mut self.zeros, lane, value == Some(false));
         put_lane(&mut self.ones, lane, value == Some(true));
@@ -41,7 +42,8 @@ impl Listing {
     #[inline(always)]
     pub(crate) fn values(&self) -> Pair
         ensures planes { ArePlanes result }
-        ensures lanes { (lane : ℕ) → lane < 512 → HasValue result lane (listed_value (Some (listed_in self.now lane))) }
+        ensures lanes { (lane : ℕ) → lane < 512
+            → HasValue result lane (listed_value (Some (listed_in self.now lane))) }
     {
         let zeros = u64x8::from_array(self.zeros);
         let ones = u64x8::from_array(self.ones);

@@ -32,7 +32,9 @@ impl Model for Loads {
 impl Loads {
     // No lane is loaded.
     pub(crate) fn new(alloc: Global, inputs: u32, nodes: u32) -> Result<Loads, Memory>
-        ensures { IfOk result (λ loads. loads ≡ record { inputs = inputs; nodes = nodes; lanes = replicate 512 None }) }
+        ensures { IfOk result
+            (λ loads. loads
+            ≡ record { inputs = inputs; nodes = nodes; lanes = replicate 512 None }) }
     {
         let Ok(planes) = vec![in alloc; [0; 8]; inputs as usize] else {
             return Err(Memory);
@@ -55,7 +57,9 @@ impl Loads {
     // For each input the lanes whose new input has a 1 there.
     pub(crate) fn inputs(&self) -> &[[u64; 8]]
         ensures count { length result.now ≡ self.now.inputs }
-        ensures lanes { (lane : ℕ) (loaded : Loaded) → slice_get self.now.lanes lane ≡ Some (Some loaded) → lane_input result.now lane ≡ loaded.input }
+        ensures lanes { (lane : ℕ) (loaded : Loaded)
+            → slice_get self.now.lanes lane ≡ Some (Some loaded)
+            → lane_input result.now lane ≡ loaded.input }
         ensures long { length self.now.lanes ≡ 512 }
     {
         self.inputs.as_slice()
@@ -64,7 +68,9 @@ impl Loads {
     // For each node what the lanes list.
     pub(crate) fn listings(&self) -> &[Listing]
         ensures count { length result.now ≡ self.now.nodes }
-        ensures lanes { (lane : ℕ) (loaded : Loaded) → slice_get self.now.lanes lane ≡ Some (Some loaded) → lane_listed result.now lane ≡ loaded.listed }
+        ensures lanes { (lane : ℕ) (loaded : Loaded)
+            → slice_get self.now.lanes lane ≡ Some (Some loaded)
+            → lane_listed result.now lane ≡ loaded.listed }
         ensures long { length self.now.lanes ≡ 512 }
     {
         self.listings.as_slice()
@@ -75,7 +81,10 @@ impl Loads {
         requires lane { lane < 512 }
         requires input { length input.now ≡ self.old.inputs }
         requires listed { length listed.now ≡ self.old.nodes }
-        ensures { self.new ≡ record self.old { lanes = slice_set self.old.lanes lane (Some (record { input = input.now; listed = listed.now })) } }
+        ensures { self.new ≡ record self.old {
+          lanes = slice_set self.old.lanes lane
+              (Some (record { input = input.now; listed = listed.now }));
+        } }
     {
         put_inputs(lane, input, self.inputs.as_mut_slice());
         put_listed(lane, listed, self.listings.as_mut_slice());
@@ -94,7 +103,12 @@ impl Loads {
         requires input { length input.now ≡ self.old.inputs }
         requires first { length first.now ≤ self.old.nodes }
         requires held { All (λ node. node.0 < self.old.nodes) held.now }
-        ensures { self.new ≡ record self.old { lanes = slice_set self.old.lanes lane (Some (record { input = input.now; listed = listed_with self.old.nodes first.now held.now })) } }
+        ensures { self.new ≡ record self.old {
+          lanes = slice_set self.old.lanes lane (Some (record {
+            input = input.now;
+            listed = listed_with self.old.nodes first.now held.now;
+          }));
+        } }
     {
         put_inputs(lane, input, self.inputs.as_mut_slice());
         list_start(
@@ -110,7 +124,8 @@ impl Loads {
 
 // Nodes that no lane lists.
 fn no_listings(alloc: Global, nodes: u32) -> Result<Vec<Listing>, Memory>
-    ensures { IfOk result (λ listings. (lane : ℕ) → lane_listed listings.items lane ≡ replicate nodes None) }
+    ensures { IfOk result
+        (λ listings. (lane : ℕ) → lane_listed listings.items lane ≡ replicate nodes None) }
 {
     let Ok(mut listings) = Vec::with_capacity(alloc, nodes as usize) else {
         return Err(Memory);
@@ -137,7 +152,8 @@ fn put_inputs(lane: u32, input: &[bool], inputs: &mut [[u64; 8]])
     requires lane { lane < 512 }
     requires input { length input.now ≡ length inputs.old }
     ensures here { lane_input inputs.new lane ≡ input.now }
-    ensures others { (other : ℕ) → other < 512 → other ≢ lane → lane_input inputs.new other ≡ lane_input inputs.old other }
+    ensures others { (other : ℕ) → other < 512 → other ≢ lane
+        → lane_input inputs.new other ≡ lane_input inputs.old other }
 {
     for i in 0..input.len() {
         put_lane(&mut inputs[i], lane, input[i]);
@@ -149,7 +165,8 @@ fn put_listed(lane: u32, listed: &[Option<bool>], listings: &mut [Listing])
     requires lane { lane < 512 }
     requires listed { length listed.now ≡ length listings.old }
     ensures here { lane_listed listings.new lane ≡ listed.now }
-    ensures others { (other : ℕ) → other < 512 → other ≢ lane → lane_listed listings.new other ≡ lane_listed listings.old other }
+    ensures others { (other : ℕ) → other < 512 → other ≢ lane
+        → lane_listed listings.new other ≡ lane_listed listings.old other }
 {
     for node in 0..listed.len() {
         listings[node].put(lane, listed[node]);
@@ -165,11 +182,14 @@ fn list_start(
     listings: &mut [Listing],
 )
     requires lane { lane < 512 }
-    requires fresh { has_lane loaded.now lane ≡ false → lane_listed listings.old lane ≡ replicate (length listings.old) None }
+    requires fresh { has_lane loaded.now lane ≡ false
+        → lane_listed listings.old lane ≡ replicate (length listings.old) None }
     requires first { length first.now ≤ length listings.old }
     requires held { All (λ node. node.0 < length listings.old) held.now }
-    ensures here { lane_listed listings.new lane ≡ listed_with (length listings.old) first.now held.now }
-    ensures others { (other : ℕ) → other < 512 → other ≢ lane → lane_listed listings.new other ≡ lane_listed listings.old other }
+    ensures here { lane_listed listings.new lane
+        ≡ listed_with (length listings.old) first.now held.now }
+    ensures others { (other : ℕ) → other < 512 → other ≢ lane
+        → lane_listed listings.new other ≡ lane_listed listings.old other }
 {
     unlist(lane, loaded, listings);
     list_inputs(lane, first, listings);
@@ -179,9 +199,11 @@ fn list_start(
 // Lets a lane list nothing. A lane that was not loaded lists nothing already.
 fn unlist(lane: u32, loaded: &[u64; 8], listings: &mut [Listing])
     requires lane { lane < 512 }
-    requires fresh { has_lane loaded.now lane ≡ false → lane_listed listings.old lane ≡ replicate (length listings.old) None }
+    requires fresh { has_lane loaded.now lane ≡ false
+        → lane_listed listings.old lane ≡ replicate (length listings.old) None }
     ensures here { lane_listed listings.new lane ≡ replicate (length listings.old) None }
-    ensures others { (other : ℕ) → other < 512 → other ≢ lane → lane_listed listings.new other ≡ lane_listed listings.old other }
+    ensures others { (other : ℕ) → other < 512 → other ≢ lane
+        → lane_listed listings.new other ≡ lane_listed listings.old other }
 {
     if has_lane(loaded, lane) {
         for node in 0..listings.len() {
@@ -194,8 +216,10 @@ fn unlist(lane: u32, loaded: &[u64; 8], listings: &mut [Listing])
 fn list_inputs(lane: u32, first: &[bool], listings: &mut [Listing])
     requires lane { lane < 512 }
     requires first { length first.now ≤ length listings.old }
-    ensures here { lane_listed listings.new lane ≡ map Some first.now ++ drop (length first.now) (lane_listed listings.old lane) }
-    ensures others { (other : ℕ) → other < 512 → other ≢ lane → lane_listed listings.new other ≡ lane_listed listings.old other }
+    ensures here { lane_listed listings.new lane ≡ map Some first.now
+        ++ drop (length first.now) (lane_listed listings.old lane) }
+    ensures others { (other : ℕ) → other < 512 → other ≢ lane
+        → lane_listed listings.new other ≡ lane_listed listings.old other }
 {
     for node in 0..first.len() {
         listings[node].put(lane, Some(first[node]));
@@ -206,8 +230,10 @@ fn list_inputs(lane: u32, first: &[bool], listings: &mut [Listing])
 fn list_held(lane: u32, held: &[(u32, bool)], listings: &mut [Listing])
     requires lane { lane < 512 }
     requires held { All (λ node. node.0 < length listings.old) held.now }
-    ensures here { lane_listed listings.new lane ≡ held_at held.now (lane_listed listings.old lane) }
-    ensures others { (other : ℕ) → other < 512 → other ≢ lane → lane_listed listings.new other ≡ lane_listed listings.old other }
+    ensures here { lane_listed listings.new lane
+        ≡ held_at held.now (lane_listed listings.old lane) }
+    ensures others { (other : ℕ) → other < 512 → other ≢ lane
+        → lane_listed listings.new other ≡ lane_listed listings.old other }
 {
     for (node, bit) in held {
         listings[*node as usize].put(lane, Some(*bit));

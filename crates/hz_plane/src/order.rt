@@ -50,7 +50,9 @@ fn place(gate: u32, placed: &mut [bool], order: &mut Vec<u32>) -> Result<(), Mem
 fn place_rest(net: &Net, placed: &mut [bool], order: &mut Vec<u32>) -> Result<(), Memory>
     requires so_far { IsOrderSoFar net.now placed.old order.old.items }
     requires placed { length placed.old ≡ length net.now.names }
-    ensures { OnOk result (HasAllGates net.now order.new.items × (length order.new.items + net.now.inputs ≤ length order.old.items + length net.now.names)) }
+    ensures { OnOk result
+        (HasAllGates net.now order.new.items × (length order.new.items + net.now.inputs
+        ≤ length order.old.items + length net.now.names)) }
 {
     let circuit = net.circuit();
     for gate in circuit.inputs()..circuit.nodes() {
@@ -76,15 +78,16 @@ fn depth_first(
     requires none { stack.old.items ≡ [] }
     ensures placed { length placed.new ≡ length net.now.names }
     ensures so_far { OnOk result (IsOrderSoFar net.now placed.new order.new.items) }
-    ensures few { OnOk result (length order.new.items ≤ length order.old.items + 2 * variable_count net.now) }
+    ensures few { OnOk result
+        (length order.new.items ≤ length order.old.items + 2 * variable_count net.now) }
 {
     let circuit = net.circuit();
     let (inputs, nodes) = (circuit.inputs(), circuit.nodes());
     let mut next = inputs;
     for _turn in 0..2 * net.len() {
         match stack.pop() {
-            Some((gate, pin)) => {
-                turn(net, gate, pin, seen, stack, placed, order)?;
+            Some(top) => {
+                turn(net, top, seen, stack, placed, order)?;
             }
             None => {
                 if next < nodes {
@@ -100,7 +103,9 @@ fn depth_first(
 // Begins with a gate, unless it was seen.
 fn open(gate: u32, seen: &mut [bool], stack: &mut Vec<(u32, u32)>) -> Result<(), Memory>
     requires { gate < length seen.old }
-    ensures { OnOk result ((stack.new.items ≡ stack.old.items) ⊎ (stack.new.items ≡ stack.old.items ++ (gate, 0) ∷ [])) }
+    ensures { OnOk result
+        ((stack.new.items ≡ stack.old.items)
+        ⊎ (stack.new.items ≡ stack.old.items ++ (gate, 0) ∷ [])) }
 {
     if seen[gate as usize] {
         return Ok(());
@@ -112,17 +117,16 @@ fn open(gate: u32, seen: &mut [bool], stack: &mut Vec<(u32, u32)>) -> Result<(),
     Ok(())
 }
 
-// Goes on with a gate: to its next source, or, if there is none, places it.
+// Goes on with the gate at the top of the stack, at this pin: to its next source, or, if there is none, places it.
 fn turn(
     net: &Net,
-    gate: u32,
-    pin: u32,
+    top: (u32, u32),
     seen: &mut [bool],
     stack: &mut Vec<(u32, u32)>,
     placed: &mut [bool],
     order: &mut Vec<u32>,
 ) -> Result<(), Memory>
-    requires gate { IsGateNumber net.now gate }
+    requires top { IsGateNumber net.now top.0 }
     requires stack { AreGatesOf net.now stack.old.items }
     requires so_far { IsOrderSoFar net.now placed.old order.old.items }
     requires placed { length placed.old ≡ length net.now.names }
@@ -131,6 +135,7 @@ fn turn(
     ensures so_far { OnOk result (IsOrderSoFar net.now placed.new order.new.items) }
     ensures few { OnOk result (length order.new.items ≤ length order.old.items + 1) }
 {
+    let (gate, pin) = top;
     let circuit = net.circuit();
     let sources = circuit.sources(gate);
     if (pin as usize) < sources.len() {

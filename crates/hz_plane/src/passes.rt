@@ -9,48 +9,54 @@ ghost use Rattle.hz_net.specs.Passes.{algorithm_a, algorithm_b, AreRounds};
 ghost use Rattle.hz_net.specs.Starts.{IsCompletedStart};
 ghost use Rattle.hz_plane.specs.Pairs.{pair_at, widened_pair, known_pair};
 ghost use Rattle.hz_plane.specs.Steps.{AreAllPlanes, HasLane};
-ghost use Rattle.hz_plane.specs.Sweeps.{IsOrder, IsBack};
+ghost use Rattle.hz_plane.specs.Schedules.{IsSchedule};
 ghost use Rattle.hz_plane.specs.Lanes.{ListsAllInputs, AreForcedNodes, HasInputs, AreInputPlanes, AreNodesOf, AreAllOf, listed_values};
 ghost use Rattle.hz_plane.specs.Loads.{lane_listed};
 
 use crate::listing::Listing;
 use crate::pair::{Pair, is_plane};
 use crate::rule::Rule;
-use crate::sweep::run;
+use crate::schedule::Schedule;
+use crate::sweep::Pass;
 use hz_net::Net;
 use std::simd::prelude::*;
 
 // Fills the starts of all lanes from what they list.
 pub(crate) fn fill(
     net: &Net,
-    order: &[u32],
-    readers: &[Vec<u32>],
-    back: &[Vec<u32>],
+    schedule: &Schedule,
     marks: &mut [bool],
     listings: &[Listing],
     values: &mut [Pair],
 )
-    requires order { IsOrder net.now order.now (map (λ list. list.items) readers.now) }
-    requires back { IsBack net.now order.now (map (λ list. list.items) back.now) }
+    requires schedule { IsSchedule net.now schedule.now }
     requires circuit { IsCircuit net.now }
     requires whole { IsWhole net.now }
     requires listings { length listings.now ≡ length net.now.names }
     requires values { length values.old ≡ length net.now.names }
-    requires marks { length marks.old ≡ length order.now }
-    requires few { length order.now < 2 ^ 32 }
+    requires marks { length marks.old ≡ length schedule.now.order.items }
     ensures planes { AreAllPlanes values.new }
-    ensures lanes { (netlist : Netlist) → IsCircuit netlist → IsWhole netlist → net.now.inputs ≡ netlist.inputs → net.now.gates ≡ netlist.gates → (lane : ℕ) → lane < 512 → ListsAllInputs netlist (lane_listed listings.now lane)
-        → (last : List Tri) × HasLane values.new lane last × AreForcedNodes netlist (lane_listed listings.now lane) last }
+    ensures lanes { (netlist : Netlist) → IsCircuit netlist → IsWhole netlist
+        → net.now.inputs ≡ netlist.inputs → net.now.gates ≡ netlist.gates
+        → (lane : ℕ) → lane < 512 → ListsAllInputs netlist (lane_listed listings.now lane)
+        → (last : List Tri) × HasLane values.new lane last
+        × AreForcedNodes netlist (lane_listed listings.now lane) last }
 {
     begin(listings, values);
-    run(Rule::Narrow, net, order, readers, back, marks, values);
+    let pass = Pass {
+        rule: Rule::Narrow,
+        net,
+        schedule,
+    };
+    pass.run(marks, values);
 }
 
 // The listed values, and X where none is listed.
 fn begin(listings: &[Listing], values: &mut [Pair])
     requires { length values.old ≡ length listings.now }
     ensures planes { AreAllPlanes values.new }
-    ensures lanes { (lane : ℕ) → lane < 512 → HasLane values.new lane (listed_values listings.now lane) }
+    ensures lanes { (lane : ℕ) → lane < 512
+        → HasLane values.new lane (listed_values listings.now lane) }
 {
     for node in 0..listings.len() {
         values[node] = listings[node].values();
@@ -61,8 +67,12 @@ fn begin(listings: &[Listing], values: &mut [Pair])
 fn join_inputs(inputs: &[[u64; 8]], values: &mut [Pair])
     requires { length inputs.now ≤ length values.old }
     ensures planes { AreInputPlanes inputs.now }
-    ensures inputs { (node : ℕ) → node < length inputs.now → pair_at values.new node ≡ widened_pair (pair_at values.old node) (known_pair (slice_index_or inputs.now node [])) }
-    ensures rest { (node : ℕ) → length inputs.now ≤ node → pair_at values.new node ≡ pair_at values.old node }
+    ensures inputs { (node : ℕ) → node < length inputs.now
+        → pair_at values.new node
+        ≡ widened_pair (pair_at values.old node)
+        (known_pair (slice_index_or inputs.now node [])) }
+    ensures rest { (node : ℕ) → length inputs.now ≤ node
+        → pair_at values.new node ≡ pair_at values.old node }
 {
     for node in 0..inputs.len() {
         let bits = u64x8::from_array(inputs[node]);
@@ -78,8 +88,10 @@ fn join_inputs(inputs: &[[u64; 8]], values: &mut [Pair])
 fn set_inputs(inputs: &[[u64; 8]], values: &mut [Pair])
     requires { length inputs.now ≤ length values.old }
     ensures planes { AreInputPlanes inputs.now }
-    ensures inputs { (node : ℕ) → node < length inputs.now → pair_at values.new node ≡ known_pair (slice_index_or inputs.now node []) }
-    ensures rest { (node : ℕ) → length inputs.now ≤ node → pair_at values.new node ≡ pair_at values.old node }
+    ensures inputs { (node : ℕ) → node < length inputs.now
+        → pair_at values.new node ≡ known_pair (slice_index_or inputs.now node []) }
+    ensures rest { (node : ℕ) → length inputs.now ≤ node
+        → pair_at values.new node ≡ pair_at values.old node }
 {
     for node in 0..inputs.len() {
         let bits = u64x8::from_array(inputs[node]);
@@ -94,56 +106,74 @@ fn set_inputs(inputs: &[[u64; 8]], values: &mut [Pair])
 // Algorithm A in all lanes, from their starts.
 pub(crate) fn spread(
     net: &Net,
-    order: &[u32],
-    readers: &[Vec<u32>],
-    back: &[Vec<u32>],
+    schedule: &Schedule,
     marks: &mut [bool],
     inputs: &[[u64; 8]],
     values: &mut [Pair],
 )
-    requires order { IsOrder net.now order.now (map (λ list. list.items) readers.now) }
-    requires back { IsBack net.now order.now (map (λ list. list.items) back.now) }
+    requires schedule { IsSchedule net.now schedule.now }
     requires circuit { IsCircuit net.now }
     requires whole { IsWhole net.now }
     requires inputs { length inputs.now ≡ net.now.inputs }
     requires values { length values.old ≡ length net.now.names }
     requires planes { AreAllPlanes values.old }
-    requires marks { length marks.old ≡ length order.now }
-    requires few { length order.now < 2 ^ 32 }
+    requires marks { length marks.old ≡ length schedule.now.order.items }
     ensures planes { AreAllPlanes values.new }
-    ensures lanes { (netlist : Netlist) → IsCircuit netlist → IsWhole netlist → net.now.inputs ≡ netlist.inputs → net.now.gates ≡ netlist.gates → (lane : ℕ) (input start : List Bool) (listed : List (Option Bool)) (first : List Tri) (rounds : ℕ) → lane < 512 → HasLane values.old lane first → IsCompletedStart netlist listed start → AreNodesOf netlist (map tri_of start) first → HasInputs inputs.now lane input
+    ensures lanes { (netlist : Netlist) → IsCircuit netlist → IsWhole netlist
+        → net.now.inputs ≡ netlist.inputs → net.now.gates ≡ netlist.gates
+        → (lane : ℕ) (input start : List Bool) (listed : List (Option Bool)) (first : List Tri)
+        (rounds : ℕ)
+        → lane < 512 → HasLane values.old lane first → IsCompletedStart netlist listed start
+        → AreNodesOf netlist (map tri_of start) first → HasInputs inputs.now lane input
         → AreRounds (algorithm_a (network_of netlist) input start) rounds
-        → (last : List Tri) × HasLane values.new lane last × AreAllOf netlist (algorithm_a (network_of netlist) input start rounds) last }
+        → (last : List Tri) × HasLane values.new lane last
+        × AreAllOf netlist (algorithm_a (network_of netlist) input start rounds) last }
 {
     join_inputs(inputs, values);
-    run(Rule::Widen, net, order, readers, back, marks, values);
+    let pass = Pass {
+        rule: Rule::Widen,
+        net,
+        schedule,
+    };
+    pass.run(marks, values);
 }
 
 // Algorithm B in all lanes, from the results of Algorithm A.
 pub(crate) fn settle(
     net: &Net,
-    order: &[u32],
-    readers: &[Vec<u32>],
-    back: &[Vec<u32>],
+    schedule: &Schedule,
     marks: &mut [bool],
     inputs: &[[u64; 8]],
     values: &mut [Pair],
 )
-    requires order { IsOrder net.now order.now (map (λ list. list.items) readers.now) }
-    requires back { IsBack net.now order.now (map (λ list. list.items) back.now) }
+    requires schedule { IsSchedule net.now schedule.now }
     requires circuit { IsCircuit net.now }
     requires whole { IsWhole net.now }
     requires inputs { length inputs.now ≡ net.now.inputs }
     requires values { length values.old ≡ length net.now.names }
     requires planes { AreAllPlanes values.old }
-    requires marks { length marks.old ≡ length order.now }
-    requires few { length order.now < 2 ^ 32 }
+    requires marks { length marks.old ≡ length schedule.now.order.items }
     ensures planes { AreAllPlanes values.new }
-    ensures lanes { (netlist : Netlist) → IsCircuit netlist → IsWhole netlist → net.now.inputs ≡ netlist.inputs → net.now.gates ≡ netlist.gates → (lane : ℕ) (input start : List Bool) (listed : List (Option Bool)) (first : List Tri) (rounds rest : ℕ) → lane < 512 → HasLane values.old lane first → IsCompletedStart netlist listed start
-        → AreRounds (algorithm_a (network_of netlist) input start) rounds → AreNodesOf netlist (algorithm_a (network_of netlist) input start rounds) first → HasInputs inputs.now lane input
-        → AreRounds (algorithm_b (network_of netlist) input (algorithm_a (network_of netlist) input start rounds)) rest
-        → (last : List Tri) × HasLane values.new lane last × AreAllOf netlist (algorithm_b (network_of netlist) input (algorithm_a (network_of netlist) input start rounds) rest) last }
+    ensures lanes { (netlist : Netlist) → IsCircuit netlist → IsWhole netlist
+        → net.now.inputs ≡ netlist.inputs → net.now.gates ≡ netlist.gates
+        → (lane : ℕ) (input start : List Bool) (listed : List (Option Bool)) (first : List Tri)
+        (rounds rest : ℕ)
+        → lane < 512 → HasLane values.old lane first → IsCompletedStart netlist listed start
+        → AreRounds (algorithm_a (network_of netlist) input start) rounds
+        → AreNodesOf netlist (algorithm_a (network_of netlist) input start rounds) first
+        → HasInputs inputs.now lane input
+        → AreRounds
+        (algorithm_b (network_of netlist) input
+        (algorithm_a (network_of netlist) input start rounds)) rest
+        → (last : List Tri) × HasLane values.new lane last × AreAllOf netlist
+        (algorithm_b (network_of netlist) input
+        (algorithm_a (network_of netlist) input start rounds) rest) last }
 {
     set_inputs(inputs, values);
-    run(Rule::Narrow, net, order, readers, back, marks, values);
+    let pass = Pass {
+        rule: Rule::Narrow,
+        net,
+        schedule,
+    };
+    pass.run(marks, values);
 }

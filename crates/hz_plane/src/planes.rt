@@ -20,10 +20,9 @@ use crate::faults::{note_faults, unknown_lanes};
 use crate::gates::Gates;
 use crate::lanes::has_lane;
 use crate::loads::Loads;
-use crate::order::order_gates;
 use crate::pair::Pair;
 use crate::passes::{fill, settle, spread};
-use crate::readers::{list_back, list_readers};
+use crate::schedule::Schedule;
 use crate::stage::{LaneFault, Stage};
 use hz_core::{Memory, Tri};
 use hz_net::Net;
@@ -40,9 +39,7 @@ pub struct Planes {
     stage: Stage,
     settles: u64,
     gates: Gates,
-    order: Vec<u32>,
-    readers: Vec<Vec<u32>>,
-    back: Vec<Vec<u32>>,
+    schedule: Schedule,
     marks: Vec<bool>,
     loads: Loads,
     values: Vec<Pair>,
@@ -65,16 +62,21 @@ impl Model for Planes {
 impl Planes {
     /// Planes for a network, with no lane loaded. Only this call takes memory.
     pub fn new(alloc: Global, net: &Net) -> Result<Planes, Memory>
-        ensures { IfOk result (λ planes. planes ≡ record { inputs = net.now.inputs; gates = net.now.gates; stage = Loading; settles = 0; lanes = replicate 512 None }) }
+        ensures { IfOk result
+            (λ planes. planes ≡ record {
+              inputs = net.now.inputs;
+              gates = net.now.gates;
+              stage = Loading;
+              settles = 0;
+              lanes = replicate 512 None;
+            }) }
     {
         let circuit = net.circuit();
         let gates = Gates::of(alloc, net)?;
-        let order = order_gates(alloc, net)?;
-        let readers = list_readers(alloc, net, order.as_slice())?;
-        let back = list_back(alloc, net, order.as_slice(), readers.as_slice())?;
+        let schedule = Schedule::of(alloc, net)?;
         let loads = Loads::new(alloc, circuit.inputs(), circuit.nodes())?;
         let values = unknown_values(alloc, circuit.nodes())?;
-        let Ok(marks) = vec![in alloc; false; order.len()] else {
+        let Ok(marks) = vec![in alloc; false; schedule.order.len()] else {
             return Err(Memory);
         };
         let Ok(faults) = vec![in alloc; None; 512] else {
@@ -84,9 +86,7 @@ impl Planes {
             stage: Stage::Loading,
             settles: 0,
             gates,
-            order,
-            readers,
-            back,
+            schedule,
             marks,
             loads,
             values,
@@ -111,7 +111,10 @@ impl Planes {
         requires input { length input.now ≡ net.now.inputs }
         requires listed { length listed.now ≡ length net.now.names }
         requires inputs { ListsAllInputs net.now listed.now }
-        ensures { self.new ≡ record self.old { lanes = slice_set self.old.lanes lane (Some (record { input = input.now; listed = listed.now })) } }
+        ensures { self.new ≡ record self.old {
+          lanes = slice_set self.old.lanes lane
+              (Some (record { input = input.now; listed = listed.now }));
+        } }
     {
         let _circuit = net.circuit();
         self.loads.load(lane, input, listed);
@@ -133,7 +136,12 @@ impl Planes {
         requires input { length input.now ≡ net.now.inputs }
         requires first { length first.now ≡ net.now.inputs }
         requires held { All (λ node. IsGateNumber net.now node.0) held.now }
-        ensures { self.new ≡ record self.old { lanes = slice_set self.old.lanes lane (Some (record { input = input.now; listed = listed_with (length net.now.names) first.now held.now })) } }
+        ensures { self.new ≡ record self.old {
+          lanes = slice_set self.old.lanes lane (Some (record {
+            input = input.now;
+            listed = listed_with (length net.now.names) first.now held.now;
+          }));
+        } }
     {
         let _circuit = net.circuit();
         self.loads.load_held(lane, input, first, held);
@@ -148,9 +156,7 @@ impl Planes {
         let _circuit = net.circuit();
         fill(
             net,
-            self.order.as_slice(),
-            self.readers.as_slice(),
-            self.back.as_slice(),
+            &self.schedule,
             self.marks.as_mut_slice(),
             self.loads.listings(),
             self.values.as_mut_slice(),
@@ -169,7 +175,8 @@ impl Planes {
         requires net { AreOf net.now self.now }
         requires stage { self.now.stage ≢ Loading }
         requires lane { lane < 512 }
-        ensures { (loaded : Loaded) → slice_get self.now.lanes lane ≡ Some (Some loaded) → IsLaneFault net.now loaded.listed result }
+        ensures { (loaded : Loaded) → slice_get self.now.lanes lane ≡ Some (Some loaded)
+            → IsLaneFault net.now loaded.listed result }
     {
         let _circuit = net.circuit();
         self.faults[lane as usize]
@@ -184,9 +191,7 @@ impl Planes {
         let _circuit = net.circuit();
         spread(
             net,
-            self.order.as_slice(),
-            self.readers.as_slice(),
-            self.back.as_slice(),
+            &self.schedule,
             self.marks.as_mut_slice(),
             self.loads.inputs(),
             self.values.as_mut_slice(),
@@ -198,14 +203,14 @@ impl Planes {
     pub fn settle(&mut self, net: &Net)
         requires net { AreOf net.now self.old }
         requires stage { self.old.stage ≡ Spread }
-        ensures { self.new ≡ record self.old { stage = Settled; settles = min (self.old.settles + 1) (2 ^ 64 - 1) } }
+        ensures { self.new
+            ≡ record self.old
+            { stage = Settled; settles = min (self.old.settles + 1) (2 ^ 64 - 1) } }
     {
         let _circuit = net.circuit();
         settle(
             net,
-            self.order.as_slice(),
-            self.readers.as_slice(),
-            self.back.as_slice(),
+            &self.schedule,
             self.marks.as_mut_slice(),
             self.loads.inputs(),
             self.values.as_mut_slice(),
@@ -220,7 +225,9 @@ impl Planes {
     pub fn get(&self, lane: u32, var: u32) -> Tri
         requires lane { lane < 512 }
         requires var { var < variables_of self.now }
-        ensures lane { (netlist : Netlist) (loaded : Loaded) → IsCircuit netlist → IsWhole netlist → AreOf netlist self.now → slice_get self.now.lanes lane ≡ Some (Some loaded) → IsLaneValue self.now.stage netlist loaded var result }
+        ensures lane { (netlist : Netlist) (loaded : Loaded) → IsCircuit netlist → IsWhole netlist
+            → AreOf netlist self.now → slice_get self.now.lanes lane ≡ Some (Some loaded)
+            → IsLaneValue self.now.stage netlist loaded var result }
         ensures loading { self.now.stage ≡ Loading → result ≡ Unknown }
     {
         match self.stage {
@@ -233,7 +240,9 @@ impl Planes {
     pub fn is_unsettled(&self, lane: u32) -> bool
         requires lane { lane < 512 }
         requires stage { self.now.stage ≡ Settled }
-        ensures { (netlist : Netlist) (loaded : Loaded) → IsCircuit netlist → IsWhole netlist → AreOf netlist self.now → slice_get self.now.lanes lane ≡ Some (Some loaded) → IsUnsettled netlist loaded result }
+        ensures { (netlist : Netlist) (loaded : Loaded) → IsCircuit netlist → IsWhole netlist
+            → AreOf netlist self.now → slice_get self.now.lanes lane ≡ Some (Some loaded)
+            → IsUnsettled netlist loaded result }
     {
         has_lane(&self.unsettled, lane)
     }
@@ -243,7 +252,9 @@ impl Planes {
     fn node_value(&self, lane: u32, var: u32) -> Tri
         requires lane { lane < 512 }
         requires var { var < variables_of self.now }
-        ensures { (netlist : Netlist) (loaded : Loaded) → IsCircuit netlist → IsWhole netlist → AreOf netlist self.now → slice_get self.now.lanes lane ≡ Some (Some loaded) → self.now.stage ≢ Loading → IsLaneValue self.now.stage netlist loaded var result }
+        ensures { (netlist : Netlist) (loaded : Loaded) → IsCircuit netlist → IsWhole netlist
+            → AreOf netlist self.now → slice_get self.now.lanes lane ≡ Some (Some loaded)
+            → self.now.stage ≢ Loading → IsLaneValue self.now.stage netlist loaded var result }
     {
         let pair = &self.values[self.node_of(var) as usize];
         value_by(
@@ -258,7 +269,10 @@ impl Planes {
         requires { var < variables_of self.now }
         ensures inside { result < self.now.inputs + length self.now.gates }
         ensures node { var < self.now.inputs + length self.now.gates → result ≡ var }
-        ensures wire { self.now.inputs + length self.now.gates ≤ var → slice_get (pin_sources self.now.gates) (var - (self.now.inputs + length self.now.gates)) ≡ Some result }
+        ensures wire { self.now.inputs + length self.now.gates ≤ var
+            → slice_get (pin_sources self.now.gates)
+            (var - (self.now.inputs + length self.now.gates))
+            ≡ Some result }
     {
         let nodes = self.values.len() as u32;
         if var < nodes {

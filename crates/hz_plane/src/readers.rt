@@ -4,30 +4,35 @@ ghost use Rattle.hz_core.specs.Netlist.{IsGateNumber, gate_at};
 ghost use Rattle.hz_plane.specs.Sweeps.{IsOrder, IsBack, readers_at};
 ghost use Rattle.hz_plane.specs.Orders.{HasAllGates};
 
+use crate::lists::Lists;
 use hz_core::Memory;
 use hz_net::Net;
+use smallvec::SmallVec;
 use std::alloc::Global;
 
+// A list while it grows. Few are longer.
+type List = SmallVec<u32, 4>;
+
 // For each node the places of the gates that read it.
-pub(crate) fn list_readers(alloc: Global, net: &Net, order: &[u32]) -> Result<Vec<Vec<u32>>, Memory>
+pub(crate) fn list_readers(alloc: Global, net: &Net, order: &[u32]) -> Result<Lists, Memory>
     requires order { HasAllGates net.now order.now }
     requires few { length order.now < 2 ^ 32 }
-    ensures { IfOk result (λ lists. IsOrder net.now order.now (map (λ list. list.items) lists.items)) }
+    ensures { IfOk result (IsOrder net.now order.now) }
 {
     let mut lists = empty_lists(alloc, net.circuit().nodes())?;
     file_places(net, order, lists.as_mut_slice())?;
-    Ok(lists)
+    Lists::of(alloc, lists.as_slice())
 }
 
 // So many empty lists.
-fn empty_lists(alloc: Global, count: u32) -> Result<Vec<Vec<u32>>, Memory>
+fn empty_lists(alloc: Global, count: u32) -> Result<Vec<List>, Memory>
     ensures { IfOk result (λ lists. map (λ list. list.items) lists.items ≡ replicate count []) }
 {
     let Ok(mut lists) = Vec::with_capacity(alloc, count as usize) else {
         return Err(Memory);
     };
     for _list in 0..count {
-        let Ok(()) = lists.push(Vec::new(alloc)) else {
+        let Ok(()) = lists.push(SmallVec::new(alloc)) else {
             return Err(Memory);
         };
     }
@@ -35,7 +40,7 @@ fn empty_lists(alloc: Global, count: u32) -> Result<Vec<Vec<u32>>, Memory>
 }
 
 // Puts each place of an order into the lists of the sources of its gate.
-fn file_places(net: &Net, order: &[u32], lists: &mut [Vec<u32>]) -> Result<(), Memory>
+fn file_places(net: &Net, order: &[u32], lists: &mut [List]) -> Result<(), Memory>
     requires order { HasAllGates net.now order.now }
     requires few { length order.now < 2 ^ 32 }
     requires lists { map (λ list. list.items) lists.old ≡ replicate (length net.now.names) [] }
@@ -48,12 +53,21 @@ fn file_places(net: &Net, order: &[u32], lists: &mut [Vec<u32>]) -> Result<(), M
 }
 
 // Puts the place of a gate into the lists of its sources.
-fn file_place(net: &Net, gate: u32, place: u32, lists: &mut [Vec<u32>]) -> Result<(), Memory>
+fn file_place(net: &Net, gate: u32, place: u32, lists: &mut [List]) -> Result<(), Memory>
     requires gate { IsGateNumber net.now gate }
     requires lists { length lists.old ≡ length net.now.names }
-    ensures inside { OnOk result ((end node : ℕ) → All (λ reader. reader < end) (readers_at (map (λ list. list.items) lists.old) node) → place < end → All (λ reader. reader < end) (readers_at (map (λ list. list.items) lists.new) node)) }
-    ensures kept { OnOk result ((node reader : ℕ) → Contains (readers_at (map (λ list. list.items) lists.old) node) reader → Contains (readers_at (map (λ list. list.items) lists.new) node) reader) }
-    ensures filed { OnOk result ((source : ℕ) → Contains (gate_at net.now gate).sources source → Contains (readers_at (map (λ list. list.items) lists.new) source) place) }
+    ensures inside { OnOk result
+        ((end node : ℕ)
+        → All (λ reader. reader < end) (readers_at (map (λ list. list.items) lists.old) node)
+        → place < end
+        → All (λ reader. reader < end) (readers_at (map (λ list. list.items) lists.new) node)) }
+    ensures kept { OnOk result
+        ((node reader : ℕ)
+        → Contains (readers_at (map (λ list. list.items) lists.old) node) reader
+        → Contains (readers_at (map (λ list. list.items) lists.new) node) reader) }
+    ensures filed { OnOk result
+        ((source : ℕ) → Contains (gate_at net.now gate).sources source
+        → Contains (readers_at (map (λ list. list.items) lists.new) source) place) }
 {
     for source in net.circuit().sources(gate) {
         file(lists, *source, place)?;
@@ -62,9 +76,12 @@ fn file_place(net: &Net, gate: u32, place: u32, lists: &mut [Vec<u32>]) -> Resul
 }
 
 // Puts a place into the list of a node, after those that are there.
-fn file(lists: &mut [Vec<u32>], node: u32, place: u32) -> Result<(), Memory>
+fn file(lists: &mut [List], node: u32, place: u32) -> Result<(), Memory>
     requires { node < length lists.old }
-    ensures { OnOk result (map (λ list. list.items) lists.new ≡ slice_set (map (λ list. list.items) lists.old) node (readers_at (map (λ list. list.items) lists.old) node ++ place ∷ [])) }
+    ensures { OnOk result
+        (map (λ list. list.items) lists.new
+        ≡ slice_set (map (λ list. list.items) lists.old) node
+        (readers_at (map (λ list. list.items) lists.old) node ++ place ∷ [])) }
 {
     let list = &mut lists[node as usize];
     let Ok(()) = list.push(place) else {
@@ -78,17 +95,27 @@ pub(crate) fn list_back(
     alloc: Global,
     net: &Net,
     order: &[u32],
-    readers: &[Vec<u32>],
-) -> Result<Vec<Vec<u32>>, Memory>
-    requires order { IsOrder net.now order.now (map (λ list. list.items) readers.now) }
-    ensures { IfOk result (λ lists. IsBack net.now order.now (map (λ list. list.items) lists.items)) }
+    readers: &Lists,
+) -> Result<Lists, Memory>
+    requires { IsOrder net.now order.now readers.now }
+    ensures { IfOk result (IsBack net.now order.now) }
+{
+    let lists = all_back(alloc, net, order, readers)?;
+    Lists::of(alloc, lists.as_slice())
+}
+
+// The same, each list by itself.
+fn all_back(alloc: Global, net: &Net, order: &[u32], readers: &Lists) -> Result<Vec<List>, Memory>
+    requires order { IsOrder net.now order.now readers.now }
+    ensures { IfOk result
+        (λ lists. IsBack net.now order.now (map (λ list. list.items) lists.items)) }
 {
     let _circuit = net.circuit();
     let Ok(mut lists) = Vec::with_capacity(alloc, order.len()) else {
         return Err(Memory);
     };
     for place in 0..order.len() {
-        let list = places_up_to(alloc, place, readers[order[place] as usize].as_slice())?;
+        let list = places_up_to(alloc, place, readers.at(order[place] as usize))?;
         let Ok(()) = lists.push(list) else {
             return Err(Memory);
         };
@@ -97,11 +124,15 @@ pub(crate) fn list_back(
 }
 
 // The places of a list that are no later than a place.
-fn places_up_to(alloc: Global, place: usize, places: &[u32]) -> Result<Vec<u32>, Memory>
-    ensures inside { IfOk result (λ list. (end : ℕ) → All (λ reader. reader < end) places.now → All (λ reader. reader < end) list.items) }
-    ensures reads { IfOk result (λ list. (reader : ℕ) → reader ≤ place → Contains places.now reader → Contains list.items reader) }
+fn places_up_to(alloc: Global, place: usize, places: &[u32]) -> Result<List, Memory>
+    ensures inside { IfOk result
+        (λ list. (end : ℕ) → All (λ reader. reader < end) places.now
+        → All (λ reader. reader < end) list.items) }
+    ensures reads { IfOk result
+        (λ list. (reader : ℕ) → reader ≤ place → Contains places.now reader
+        → Contains list.items reader) }
 {
-    let mut list = Vec::new(alloc);
+    let mut list = SmallVec::new(alloc);
     for reader in places {
         if *reader as usize <= place {
             let Ok(()) = list.push(*reader) else {

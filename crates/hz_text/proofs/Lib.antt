@@ -18,6 +18,7 @@ pub mod PatternBuildLaws
 pub mod PrintedLines
 pub mod PatternPrintLemmas
 pub mod PatternPrintedLaws
+pub mod PatternLines
 pub mod RunFaultLaws
 pub mod RunBuildLaws
 pub mod RunUsableLaws

@@ -4,6 +4,7 @@
 //! |---|---|
 //! | `value` | [`Patterns`]: what is held, and the bits of each pattern |
 //! | `read` | [`read_patterns`]: the order of work |
+//! | `short` | the commonest line, read without its tokens |
 //! | `statement` | the statements, looked up in a circuit |
 //! | `word` | words of bits |
 //! | `rules` | the passes over the statements, one for each fault |
@@ -14,6 +15,7 @@ mod build;
 mod print;
 mod read;
 mod rules;
+mod short;
 mod statement;
 mod value;
 mod word;

@@ -1,8 +1,8 @@
 // What all texts of statements share: the frame that reads one, and the passes that are the same for each.
 
-ghost use Rattle.std.specs.Prelude.{◌≡◌, ◌≤◌, length, map, All, Some, None, IfOk, MatchResult};
+ghost use Rattle.std.specs.Prelude.{◌≡◌, ◌≤◌, length, map, All, Some, None, IfOk, IfSome, MatchResult};
 ghost use Rattle.hz_line.specs.Reading.{numbered_by, IsUnread};
-ghost use Rattle.hz_line.specs.Statement.{first_passing_line};
+ghost use Rattle.hz_line.specs.Statement.{first_passing_line, meaning_of, Means};
 ghost use Rattle.hz_line.specs.Token.{token_of};
 ghost use Rattle.hz_text.specs.Rules.{AreBelow, repeats_node, first_fault_in, first_fault_of, IsFaultOrMemory, IsChecked};
 ghost use Rattle.hz_line.specs.Line.{most_text_bytes};
@@ -46,6 +46,11 @@ pub(crate) trait Text<'t>: Drop {
             (λ why. IsUnread (grammar (context self.old) (map token_of tokens.now)) why) }
         ensures below { IfOk result (λ held. AreBelow (node_count (context self.old)) ((rules (context self.old)).assigned (stated held))) }
         ensures same { context self.new ≡ context self.old };
+
+    // The statement of a line in the commonest form, read without its tokens. `None` says nothing of the line.
+    fn short(&self, line: &'t [u8]) -> Option<Self::Held>
+        ensures read { IfSome result (λ held. meaning_of (grammar (context self.now)) line.now ≡ Means (stated held)) }
+        ensures below { IfSome result (λ held. AreBelow (node_count (context self.now)) ((rules (context self.now)).assigned (stated held))) };
 
     // The number of nodes.
     fn node_count(&self) -> u32
@@ -109,6 +114,10 @@ impl<'t, T: Text<'t>> Grammar<'t> for Lines<T> {
 
     fn statement(&mut self, tokens: &[Token<'t>]) -> Result<T::Held, StatementFault> {
         self.text.statement(tokens)
+    }
+
+    fn short(&self, line: &'t [u8]) -> Option<T::Held> {
+        self.text.short(line)
     }
 }
 

@@ -15,6 +15,7 @@ use crate::fault::Mismatch;
 use crate::patterns::rules::{
     assignments_in, first_late_hold, holds_unknown, lacks_bit, line_beyond,
 };
+use crate::patterns::short::read_short;
 use crate::text::Text;
 use hz_core::{Circuit, Memory};
 use hz_line::{Numbered, StatementFault, Token, is_keyword};
@@ -74,6 +75,11 @@ impl<'c, 't> Text<'t> for Statements<'c> {
             return Err(StatementFault::Form);
         };
         read_statement_of(self.alloc, self.circuit, keyword, rest)
+    }
+
+    fn short(&self, line: &'t [u8]) -> Option<Held<'t>> {
+        let (from, to) = read_short(line, self.circuit.inputs())?;
+        Some(Held::Pattern(from, to))
     }
 
     fn node_count(&self) -> u32

@@ -1,6 +1,6 @@
 // Words of bits: a letter for each input.
 
-ghost use Rattle.std.specs.Prelude.{◌≡◌, ◌≤◌, ◌++◌, length, OnOk};
+ghost use Rattle.std.specs.Prelude.{◌≡◌, ◌≤◌, ◌++◌, ◌&&◌, length, nat_le, OnOk};
 ghost use Rattle.std.specs.List.{list_all};
 ghost use Rattle.hz_text.specs.PatternInside.{letter_bits};
 ghost use Rattle.hz_text.specs.PatternWord.{is_bit_letter, is_bits_word};
@@ -18,16 +18,22 @@ pub(crate) fn is_bits_word(word: &[u8], inputs: usize) -> bool
     }
 }
 
-fn are_bit_letters(word: &[u8]) -> bool
+// Whether each letter is `0` or `1`. It looks at all letters, whatever they are, so that many are compared at once.
+pub(crate) fn are_bit_letters(word: &[u8]) -> bool
     ensures { result ≡ list_all is_bit_letter word.now }
 {
-    word.iter().all(|letter| is_bit_letter(*letter))
+    let mut most = 0;
+    for letter in word {
+        most = farther(most, *letter);
+    }
+    most <= 1
 }
 
-fn is_bit_letter(letter: u8) -> bool
-    ensures { result ≡ is_bit_letter letter }
+// The greater one of a distance and of a letter's distance from `0`. Bits have distances up to 1.
+fn farther(most: u8, letter: u8) -> u8
+    ensures { nat_le result 1 ≡ (nat_le most 1 && is_bit_letter letter) }
 {
-    letter == b'0' || letter == b'1'
+    most.max(letter.wrapping_sub(b'0'))
 }
 
 // Adds the bits of the first so many letters.
@@ -35,8 +41,6 @@ pub(crate) fn push_bits(bits: &mut Vec<bool>, word: &[u8], inputs: usize) -> Res
     requires { inputs ≤ length word.now }
     ensures { OnOk result (bits.new.items ≡ bits.old.items ++ letter_bits inputs word.now) }
 {
-    for letter in &word[..inputs] {
-        bits.push(*letter == b'1')?;
-    }
+    bits.extend(word[..inputs].iter().map(|letter| *letter == b'1'))?;
     Ok(())
 }

@@ -97,6 +97,11 @@ impl<'a, 'n, 't> Text<'t> for RunStatements<'a, 'n> {
         )
     }
 
+    // Each line is read by its tokens.
+    fn short(&self, _line: &'t [u8]) -> Option<RunHeld<'a>> {
+        None
+    }
+
     fn node_count(&self) -> u32 {
         self.net.circuit().nodes()
     }

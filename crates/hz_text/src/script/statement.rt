@@ -71,6 +71,11 @@ impl<'c, 't> Text<'t> for Statements<'c> {
         Ok(Held { keyword, assigned })
     }
 
+    // Each line is read by its tokens.
+    fn short(&self, _line: &'t [u8]) -> Option<Held> {
+        None
+    }
+
     fn node_count(&self) -> u32 {
         self.circuit.nodes()
     }

@@ -1,4 +1,4 @@
-use Rattle.std.proofs.Common.{◌≡◌, ◌<◌, ◌≤◌, ℕ, length}
+use Rattle.std.proofs.Common.{◌≡◌, ◌<◌, ◌≤◌, ℕ}
 use Rattle.hz_plane.specs.Bits.{has_lane}
 use Rattle.hz_plane.specs.Faults.{fault_at, with_fault}
 use Rattle.hz_plane.proofs.faults.note.Given as goal

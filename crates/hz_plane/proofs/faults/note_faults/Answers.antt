@@ -1,5 +1,3 @@
-use Rattle.std.proofs.Common.{◌≡◌, ◌<◌, ℕ, arith}
-use Rattle.hz_plane.specs.Faults.{IsNoted}
 use Rattle.hz_plane.proofs.faults.note_faults.Goals as goal
 
 pub returns : goal.returns

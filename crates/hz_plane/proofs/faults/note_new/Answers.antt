@@ -1,5 +1,5 @@
-use Rattle.std.proofs.Common.{◌≡◌, ◌∙◌, ◌<◌, ℕ, None, Some, false, sym, ap, Bool}
-use Rattle.hz_plane.specs.Faults.{fault_at, with_fault}
+use Rattle.std.proofs.Common.{◌∙◌, sym}
+use Rattle.hz_plane.specs.Faults.{fault_at}
 use Rattle.hz_plane.specs.Bits.{has_lane}
 use Rattle.hz_plane.specs.Pairs.{and_words, not_words}
 use Rattle.hz_plane.proofs.Bits.{plane-and, plane-not}

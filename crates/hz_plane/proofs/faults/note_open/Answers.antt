@@ -1,5 +1,4 @@
-use Rattle.std.proofs.Common.{◌≡◌, ◌<◌, ◌+◌, ℕ, None, Some, Option, true, false, sym, subst, refl}
-use Rattle.hz_plane.specs.declared.stage.LaneFault.{LaneFault}
+use Rattle.std.proofs.Common.{◌+◌, sym, subst}
 use Rattle.hz_plane.specs.Faults.{IsOpenFault}
 use Rattle.hz_plane.proofs.FaultNotes.{unknown-by, known-by, open-next}
 use Rattle.hz_plane.proofs.faults.note_open.Goals as goal

@@ -1,8 +1,8 @@
-use Rattle.std.proofs.Common.{◌≡◌, ◌<◌, ◌≤◌, ◌+◌, ◌∙◌, ℕ, List, None, Some, Option, true, false, sym, ap, subst, refl, arith}
+use Rattle.std.proofs.Common.{◌+◌, ◌∙◌, ℕ, List, Option, sym, ap, subst, arith}
 use Rattle.hz_core.specs.Netlist.{Netlist, IsGateNumber}
 use Rattle.hz_plane.specs.declared.stage.LaneFault.{LaneFault}
 use Rattle.hz_plane.specs.Bits.{has_lane, lane_bit}
-use Rattle.hz_plane.specs.Faults.{fault_at, IsUnstableFault, IsConflictIn}
+use Rattle.hz_plane.specs.Faults.{fault_at, IsUnstableFault}
 use Rattle.hz_plane.proofs.FaultNotes.{is-one, not-one, unstable-next, unstable-past}
 use Rattle.hz_plane.proofs.faults.note_unstable.Goals as goal
 use Rattle.hz_plane.proofs.faults.note_unstable.Goals.{then-not-is_empty, else-not-is_empty}

@@ -1,9 +1,6 @@
-use Rattle.std.proofs.Common.{◌≡◌, ◌<◌, ◌+◌, ◌∙◌, ℕ, Bool, true, false, sym, ap, subst, arith, length, List}
-use Rattle.hz_plane.specs.Pairs.{pair_at}
+use Rattle.std.proofs.Common.{◌≡◌, ℕ, subst, arith, length}
 use Rattle.hz_plane.specs.Faults.{AreUnknownLanes}
-use Rattle.hz_plane.specs.Bits.{has_lane}
 use Rattle.hz_plane.proofs.Bits.{plane-and, plane-or}
-use Rattle.hz_plane.proofs.LaneSets.{empty-set}
 use Rattle.hz_plane.proofs.FaultNotes.{unknown-next, unknown-none}
 use Rattle.hz_plane.proofs.faults.unknown_lanes.Goals as goal
 

@@ -1,5 +1,5 @@
-use Rattle.std.proofs.Common.{◌<◌, ◌≤◌, ◌∙◌, ℕ, List, Bool, Option, Some, None, false, length, map, replicate, sym, arith}
-use Rattle.std.proofs.lemmas.List.{length-map, length-replicate, get_or-map, get_or-replicate}
+use Rattle.std.proofs.Common.{◌<◌, ◌≤◌, ◌∙◌, List, Bool, Option, Some, None, false, length, map, sym, arith}
+use Rattle.std.proofs.lemmas.List.{length-map, get_or-map}
 use Rattle.hz_plane.specs.declared.listing.Listing.{Listing}
 use Rattle.hz_plane.specs.Loads.{listed_in}
 use Rattle.hz_plane.proofs.LoadLemmas.{written, unwritten}

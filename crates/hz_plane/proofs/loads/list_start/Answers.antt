@@ -1,4 +1,4 @@
-use Rattle.std.proofs.Common.{◌≡◌, ◌++◌, ◌∙◌, ◌-◌, ℕ, List, Bool, Option, Some, None, length, map, drop, replicate, ap}
+use Rattle.std.proofs.Common.{◌++◌, ◌∙◌, List, Bool, Option, Some, None, length, map, drop, ap}
 use Rattle.hz_plane.specs.Loads.{held_at}
 use Rattle.hz_plane.proofs.LoadLemmas.{drop-replicate}
 use Rattle.hz_plane.proofs.loads.list_start.Goals as goal

@@ -1,6 +1,6 @@
-use Rattle.std.proofs.Common.{◌≡◌, sym, ◌∙◌, subst, ℕ, List}
+use Rattle.std.proofs.Common.{sym, ◌∙◌, subst, ℕ, List}
 use Rattle.std.proofs.lemmas.Simd.{length-zip2}
-use Rattle.std.specs.Int.Bits.{bit_xor, bit_or}
+use Rattle.std.specs.Int.Bits.{bit_xor}
 use lib.Lanes.{zip2}
 use Rattle.hz_plane.specs.Pairs.{AreZero}
 use Rattle.hz_plane.proofs.Words.{same-words, words-same, zero-lists, lists-zero, plane}

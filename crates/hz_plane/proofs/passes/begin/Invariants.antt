@@ -1,4 +1,4 @@
-use Rattle.std.proofs.Common.{◌≡◌, ◌<◌, ℕ, Some, List, []}
+use Rattle.std.proofs.Common.{◌<◌, ℕ, Some, []}
 use Rattle.std.specs.List.{slice_index_or}
 use Rattle.hz_plane.specs.Bits.{ArePlanes, HasValue}
 use Rattle.hz_plane.specs.Pairs.{pair_at}

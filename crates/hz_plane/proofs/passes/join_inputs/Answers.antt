@@ -1,4 +1,4 @@
-use Rattle.std.proofs.Common.{◌<◌, arith}
+use Rattle.std.proofs.Common.{arith}
 use Rattle.hz_plane.proofs.passes.join_inputs.Goals as goal
 
 pub returns-clause-planes : goal.returns-clause-planes

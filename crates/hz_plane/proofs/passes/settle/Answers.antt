@@ -1,4 +1,4 @@
-use Rattle.std.proofs.Common.{◌≡◌, ◌≤◌, ◌∙◌, ℕ, List, length, sym, subst, arith}
+use Rattle.std.proofs.Common.{◌≤◌, ◌∙◌, length, arith}
 use Rattle.hz_plane.specs.declared.rule.Rule.TheVariants.{Narrow}
 use Rattle.hz_plane.proofs.PassLanes.{lane-ran-of, put-planes, put-lane, settle-lane}
 use Rattle.hz_plane.proofs.passes.settle.Goals as goal

@@ -1,4 +1,4 @@
-use Rattle.std.proofs.Common.{◌≡◌, ◌≤◌, ◌∙◌, ℕ, List, length, sym, subst, arith}
+use Rattle.std.proofs.Common.{◌≤◌, ◌∙◌, length, arith}
 use Rattle.hz_plane.specs.declared.rule.Rule.TheVariants.{Widen}
 use Rattle.hz_plane.proofs.PassLanes.{lane-ran-of, joined-planes, joined-lane, spread-lane}
 use Rattle.hz_plane.proofs.passes.spread.Goals as goal

@@ -1,4 +1,4 @@
-use Rattle.std.proofs.Common.{◌≡◌, ◌<◌, ℕ, length}
+use Rattle.std.proofs.Common.{◌≡◌, length}
 use Rattle.hz_plane.specs.Bits.{ArePlanes}
 use Rattle.hz_plane.specs.Steps.{AreAllPlanes}
 use Rattle.hz_plane.proofs.planes.unknown_values.Given as goal

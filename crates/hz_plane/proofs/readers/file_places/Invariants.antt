@@ -1,4 +1,5 @@
-use Rattle.std.proofs.Common.{◌≡◌, ◌<◌, ℕ, length, map, All, slice_index, Vec, Global}
+use Rattle.std.proofs.Common.{◌<◌, ℕ, length, map, All, slice_index}
+use Rattle.smallvec.specs.SmallVec.{SmallVec}
 use Rattle.std.specs.Prelude.{Contains}
 use Rattle.hz_core.specs.Netlist.{gate_at}
 use Rattle.hz_plane.specs.Sweeps.{readers_at}
@@ -6,6 +7,6 @@ use Rattle.hz_plane.proofs.readers.file_places.Given as goal
 
 abbrev pub invariant-loop-place : goal.invariant-loop-place
 invariant-loop-place l = record {
-  inside : (node : ℕ) → All (λ (reader : ℕ). reader < length l.order) (readers_at (map (λ (list : Vec ℕ Global). list.items) l.lists) node);
-  reads : (place source : ℕ) → place < l.place → Contains (gate_at l.net (slice_index l.order place)).sources source → Contains (readers_at (map (λ (list : Vec ℕ Global). list.items) l.lists) source) place;
+  inside : (node : ℕ) → All (λ (reader : ℕ). reader < length l.order) (readers_at (map (λ (list : SmallVec ℕ). list.items) l.lists) node);
+  reads : (place source : ℕ) → place < l.place → Contains (gate_at l.net (slice_index l.order place)).sources source → Contains (readers_at (map (λ (list : SmallVec ℕ). list.items) l.lists) source) place;
 }

@@ -1,4 +1,4 @@
-use Rattle.std.proofs.Common.{◌≡◌, ◌<◌, ◌≤◌, ℕ, length, All, get_or}
+use Rattle.std.proofs.Common.{◌<◌, ◌≤◌, ℕ, All, get_or}
 use Rattle.std.specs.Prelude.{Contains}
 use Rattle.hz_plane.proofs.readers.places_up_to.Given as goal
 

@@ -1,7 +1,6 @@
-use Rattle.std.proofs.Common.{◌≡◌, ◌∙◌, ◌+◌, ◌-◌, ◌<◌, ◌≤◌, ℕ, length, take, List, [], get_or, sym, ap, refl, arith}
+use Rattle.std.proofs.Common.{◌≡◌, ◌∙◌, ◌+◌, ◌-◌, ◌<◌, ◌≤◌, length, [], get_or, sym, ap, refl, arith}
 use Rattle.hz_core.specs.Netlist.{Netlist, Gate, gate_at}
 use Rattle.hz_core.specs.declared.kind.Kind.TheVariants.{And}
-use Rattle.std.proofs.lemmas.List.{get_or_default}
 use Rattle.hz_plane.proofs.GateCopies.{copied-next, counted-next, get_or_same}
 use Rattle.hz_plane.proofs.gates.Gates.of.Goals as goal
 

@@ -1,4 +1,4 @@
-use Rattle.std.proofs.Common.{◌≡◌, ◌-◌, ℕ, length, take, sum_by}
+use Rattle.std.proofs.Common.{◌≡◌, ◌-◌, length, take, sum_by}
 use Rattle.hz_plane.specs.declared.gates.Shape.{Shape}
 use Rattle.hz_plane.specs.GatesInside.{gates_by}
 use Rattle.hz_plane.proofs.gates.Gates.of.Given as goal

@@ -1,6 +1,5 @@
-use Rattle.std.proofs.Common.{◌≡◌, ◌<◌, ◌∙◌, ℕ, List, Some, length, get_or, slice_get, sum_by, sym, ap, refl, arith, rules}
+use Rattle.std.proofs.Common.{◌≡◌, ◌<◌, ◌∙◌, ℕ, List, length, slice_get, sym, ap, refl, arith, rules}
 use Rattle.std.proofs.lemmas.Option.{slice_get_read}
-use Rattle.hz_core.specs.Netlist.{Gate}
 use Rattle.hz_plane.specs.Gates.{pin_sources}
 use Rattle.hz_plane.proofs.GateCopies.{sources-by, count-sources}
 use Rattle.hz_plane.proofs.gates.Gates.source.Goals as goal

@@ -1,6 +1,6 @@
-use Rattle.std.proofs.Common.{◌≡◌, ◌∙◌, ℕ, List, Option, Some, length, slice_get, sym, ap}
+use Rattle.std.proofs.Common.{◌∙◌, List, length, slice_get, sym, ap}
 use Rattle.hz_plane.specs.declared.listing.Listing.{Listing}
-use Rattle.hz_plane.specs.Loads.{Loaded, LaneLoads, lane_input, lane_listed, lane_loads}
+use Rattle.hz_plane.specs.Loads.{Loaded, LaneLoads, lane_listed}
 use Rattle.hz_plane.proofs.LoadLemmas.{loaded-is, count-lanes}
 use Rattle.hz_plane.proofs.loads.Loads.listings.Goals as goal
 

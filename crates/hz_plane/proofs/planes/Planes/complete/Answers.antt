@@ -1,17 +1,14 @@
-use Rattle.std.proofs.Common.{◌≡◌, ◌≢◌, ◌<◌, ◌≤◌, ◌+◌, ◌-◌, ◌^◌, ◌++◌, ◌∙◌, min, ℕ, List, Bool, Option, Some, None, length, map, take, drop, set, replicate, slice_get, get_or, sym, ap, subst, refl, arith, rules, inl, inr}
+use Rattle.std.proofs.Common.{◌≡◌, ◌<◌, ◌≤◌, ◌++◌, ◌∙◌, List, Bool, Option, Some, length, take, drop, slice_get, sym, ap, subst, arith}
 use Rattle.std.proofs.lemmas.Option.{slice_get_within}
-use Rattle.hz_core.specs.Netlist.{Netlist, Gate}
+use Rattle.hz_core.specs.Netlist.{Gate}
 use Rattle.hz_plane.specs.declared.pair.Pair.{Pair}
-use Rattle.hz_plane.specs.declared.listing.Listing.{Listing}
-use Rattle.hz_plane.specs.declared.stage.Stage.{Stage}
-use Rattle.hz_plane.specs.declared.stage.Stage.TheVariants.{Loading, Completed, Spread, Settled}
+use Rattle.hz_plane.specs.declared.stage.Stage.TheVariants.{Completed}
 use Rattle.hz_plane.specs.declared.stage.LaneFault.{LaneFault}
-use Rattle.hz_plane.specs.Steps.{AreAllPlanes, HasLane}
-use Rattle.hz_plane.specs.Lanes.{AreForcedNodes, HasInputs, ListsAllInputs}
-use Rattle.hz_plane.specs.Loads.{Loaded, LaneLoads, lane_listed, lane_input, listed_with}
-use Rattle.hz_plane.specs.Faults.{fault_at, AreUnknownLanes}
+use Rattle.hz_plane.specs.Steps.{AreAllPlanes}
+use Rattle.hz_plane.specs.Lanes.{AreForcedNodes}
+use Rattle.hz_plane.specs.Loads.{lane_listed}
+use Rattle.hz_plane.specs.Faults.{fault_at}
 use Rattle.hz_plane.specs.View.{Seen, LaneHolds, IsLaneFault}
-use Rattle.hz_plane.specs.Inside.{seen_of, IsOf, HoldsPlanes}
 use Rattle.hz_plane.proofs.LoadLemmas.{written-back}
 use Rattle.hz_plane.specs.Faults.{IsNoted}
 use Rattle.hz_plane.proofs.FaultResults.{lane-fault, same-unstable}
@@ -34,17 +31,16 @@ invariant_of-self c =
     let faults_are : take fields.faults.len (c.note_faults.new.faults ++ drop (length c.note_faults.new.faults) fields.faults.items) ≡ c.note_faults.new.faults = written-back fields.faults.len c.note_faults.new.faults fields.faults.items faults_count faults_few in
     let faults_long : length c.note_faults.new.faults ≡ length fields.faults.items = c.note_faults.auto.faults ∙ ap (length {A = Option LaneFault}) c.as_mut_slice-3.ensures.value in
     let values = c.fill.new.values in
-    let read : c.as_slice-4.result.now ≡ values = c.as_slice-4.ensures.value ∙ values_are in
+    let read : c.as_slice.result.now ≡ values = c.as_slice.ensures.value ∙ values_are in
     record {
       nodes = held.nodes;
       small = held.small;
       values_count = ap (length {A = Pair}) values_are ∙ (values_long ∙ held.values_count);
       marks = ap (length {A = Bool}) marks_are ∙ (marks_long ∙ held.marks);
-      few = held.few;
       faults_count = ap (length {A = Option LaneFault}) faults_are ∙ (faults_long ∙ held.faults_count);
       values_planes = subst AreAllPlanes (sym values_are) c.fill.ensures.planes;
       sources = held.sources;
-      order = λ netlist of. held.order netlist (record { circuit = of.circuit; whole = of.whole; inputs = of.inputs; gates = of.gates });
+      schedule = λ netlist of. held.schedule netlist (record { circuit = of.circuit; whole = of.whole; inputs = of.inputs; gates = of.gates });
       lists = held.lists;
       lanes = λ netlist lane loaded of at.
           let inputs : c.args.net.now.inputs ≡ netlist.inputs = sym c.requires.net.0 ∙ (ap (λ (s : Seen). s.inputs) (sym c.self.view_is) ∙ of.inputs) in

@@ -1,18 +1,6 @@
-use Rattle.std.proofs.Common.{◌≡◌, ◌≢◌, ◌<◌, ◌≤◌, ◌+◌, ◌-◌, ◌^◌, ◌++◌, ◌∙◌, min, ℕ, List, Bool, Option, Some, None, length, map, take, drop, set, replicate, slice_get, get_or, sym, ap, subst, refl, arith, rules, inl, inr}
-use Rattle.std.proofs.lemmas.Option.{slice_get_within}
-use Rattle.hz_core.specs.Netlist.{Netlist, Gate}
-use Rattle.hz_plane.specs.declared.pair.Pair.{Pair}
-use Rattle.hz_plane.specs.declared.listing.Listing.{Listing}
-use Rattle.hz_plane.specs.declared.stage.Stage.{Stage}
-use Rattle.hz_plane.specs.declared.stage.Stage.TheVariants.{Loading, Completed, Spread, Settled}
-use Rattle.hz_plane.specs.declared.stage.LaneFault.{LaneFault}
-use Rattle.hz_plane.specs.Steps.{AreAllPlanes, HasLane}
-use Rattle.hz_plane.specs.Lanes.{AreForcedNodes, HasInputs, ListsAllInputs}
-use Rattle.hz_plane.specs.Loads.{Loaded, LaneLoads, lane_listed, lane_input, listed_with}
-use Rattle.hz_plane.specs.Faults.{fault_at, AreUnknownLanes}
-use Rattle.hz_plane.specs.View.{Seen, LaneHolds, IsLaneFault}
-use Rattle.hz_plane.specs.Inside.{seen_of, IsOf, HoldsPlanes}
-use Rattle.hz_plane.proofs.LoadLemmas.{written-back}
+use Rattle.std.proofs.Common.{◌≡◌, ◌<◌, ◌∙◌, None, length, slice_get, sym, ap, subst, arith}
+use Rattle.hz_plane.specs.Faults.{fault_at}
+use Rattle.hz_plane.specs.View.{Seen, IsLaneFault}
 use Rattle.hz_plane.proofs.GateCopies.{get_or_same}
 use Rattle.hz_plane.proofs.planes.Planes.fault.Goals as goal
 

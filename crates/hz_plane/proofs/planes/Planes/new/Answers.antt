@@ -1,21 +1,8 @@
-use Rattle.std.proofs.Common.{◌≡◌, ◌≢◌, ◌<◌, ◌≤◌, ◌+◌, ◌-◌, ◌^◌, ◌++◌, ◌∙◌, min, ℕ, List, Bool, Option, Some, None, length, map, take, drop, set, replicate, slice_get, get_or, sym, ap, subst, refl, arith, rules, inl, inr}
-use Rattle.std.proofs.lemmas.Option.{slice_get_within}
+use Rattle.std.proofs.Common.{◌≡◌, ◌∙◌, List, None, length, replicate, slice_get, get_or, sym, ap, refl, arith, rules}
 use Rattle.hz_core.specs.Netlist.{Netlist, Gate}
-use Rattle.hz_plane.specs.declared.pair.Pair.{Pair}
-use Rattle.hz_plane.specs.declared.listing.Listing.{Listing}
-use Rattle.hz_plane.specs.declared.stage.Stage.{Stage}
-use Rattle.hz_plane.specs.declared.stage.Stage.TheVariants.{Loading, Completed, Spread, Settled}
-use Rattle.hz_plane.specs.declared.stage.LaneFault.{LaneFault}
-use Rattle.hz_plane.specs.Steps.{AreAllPlanes, HasLane}
-use Rattle.hz_plane.specs.Lanes.{AreForcedNodes, HasInputs, ListsAllInputs}
-use Rattle.hz_plane.specs.Loads.{Loaded, LaneLoads, lane_listed, lane_input, listed_with}
-use Rattle.hz_plane.specs.Faults.{fault_at, AreUnknownLanes}
-use Rattle.hz_plane.specs.View.{Seen, LaneHolds, IsLaneFault}
-use Rattle.hz_plane.specs.Inside.{seen_of, IsOf, HoldsPlanes}
-use Rattle.hz_plane.proofs.LoadLemmas.{written-back}
-use Rattle.std.proofs.Common.{Vec, Global}
+use Rattle.hz_plane.specs.declared.stage.Stage.TheVariants.{Loading}
+use Rattle.hz_plane.specs.Loads.{LaneLoads}
 use Rattle.hz_plane.specs.Gates.{pin_sources}
-use Rattle.hz_plane.specs.Sweeps.{IsOrder, IsBack}
 use Rattle.hz_plane.proofs.Fields.{same-order, same-back, sources-inside, loaded-none, same-seen}
 use Rattle.hz_plane.proofs.planes.Planes.new.Goals as goal
 
@@ -28,23 +15,20 @@ invariant_of-result c =
     let inputs : loads.inputs ≡ netlist.inputs = ap (λ (l : LaneLoads). l.inputs) c.in_ok-loads.ensures ∙ (c.inputs.ensures.inputs ∙ ap (λ (n : Netlist). n.inputs) same) in
     let nodes : loads.nodes ≡ length netlist.names = ap (λ (l : LaneLoads). l.nodes) c.in_ok-loads.ensures ∙ (c.nodes.ensures.nodes ∙ ap (λ (n : Netlist). length n.names) same) in
     let gates : c.in_ok-gates.gates ≡ netlist.gates = c.in_ok-gates.ensures in
-    let order : IsOrder netlist c.in_ok-order.order.items (map (λ (list : Vec ℕ Global). list.items) c.in_ok-readers.readers.items) =
-    subst (λ (list : List ℕ). IsOrder netlist list (map (λ (list : Vec ℕ Global). list.items) c.in_ok-readers.readers.items)) c.as_slice.ensures.value c.in_ok-readers.ensures in
-    let back : IsBack netlist c.in_ok-order.order.items (map (λ (list : Vec ℕ Global). list.items) c.in_ok-back.back.items) =
-    subst (λ (list : List ℕ). IsBack netlist list (map (λ (list : Vec ℕ Global). list.items) c.in_ok-back.back.items)) c.as_slice-2.ensures.value c.in_ok-back.ensures in
+    let scheduled = c.in_ok-schedule.ensures in
     record {
       nodes = omega (arith, inputs, nodes, circuit.nodes, ap (length {A = Gate}) gates);
       small = omega (arith, nodes, circuit.variables);
       values_count = c.in_ok-values.ensures.count ∙ (c.nodes-2.ensures.nodes ∙ (ap (λ (n : Netlist). length n.names) same ∙ sym nodes));
-      marks = sym c.in-Ok.marks.ok.0 ∙ (c.in-Ok.ensures.len ∙ (c.len.ensures ∙ c.in_ok-order.order.ok.0));
-      few = c.in_ok-order.ensures.few;
+      marks = sym c.in-Ok.marks.ok.0 ∙ (c.in-Ok.ensures.len ∙ (c.len.ensures ∙ c.in_ok-schedule.schedule.order.ok.0));
       faults_count = search (rules, c.in-Ok-vec.ensures.len);
       values_planes = c.in_ok-values.ensures.planes;
       sources = λ pin inside. omega (arith, nodes, sources-inside (length netlist.names) netlist.gates circuit.gates pin (omega (arith, inside, ap (λ (list : List Gate). length (pin_sources list)) gates)), ap (λ (list : List Gate). get_or (pin_sources list) pin 0) gates);
-      order = λ other of. (
-        same-order netlist other circuit of.circuit (sym inputs ∙ of.inputs) (sym gates ∙ of.gates) _ _ order,
-        same-back netlist other circuit of.circuit (sym inputs ∙ of.inputs) (sym gates ∙ of.gates) _ _ back,
-      );
+      schedule = λ other of. record {
+        order = same-order netlist other circuit of.circuit (sym inputs ∙ of.inputs) (sym gates ∙ of.gates) _ _ scheduled.order;
+        back = same-back netlist other circuit of.circuit (sym inputs ∙ of.inputs) (sym gates ∙ of.gates) _ _ scheduled.back;
+        few = scheduled.few;
+      };
       lists = λ lane loaded at. loaded-none lane loaded _ (ap (λ (l : LaneLoads). slice_get l.lanes lane) (sym c.in_ok-loads.ensures) ∙ at);
       lanes = λ other lane loaded of at. tt;
       faults = λ other lane loaded of at begun. absurd (begun refl);

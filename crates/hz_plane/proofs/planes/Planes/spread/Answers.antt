@@ -1,17 +1,11 @@
-use Rattle.std.proofs.Common.{◌≡◌, ◌≢◌, ◌<◌, ◌≤◌, ◌+◌, ◌-◌, ◌^◌, ◌++◌, ◌∙◌, min, ℕ, List, Bool, Option, Some, None, length, map, take, drop, set, replicate, slice_get, get_or, sym, ap, subst, refl, arith, rules, inl, inr}
+use Rattle.std.proofs.Common.{◌≡◌, ◌<◌, ◌≤◌, ◌++◌, ◌∙◌, List, Bool, Some, length, take, drop, sym, ap, subst, arith}
 use Rattle.std.proofs.lemmas.Option.{slice_get_within}
-use Rattle.hz_core.specs.Netlist.{Netlist, Gate}
 use Rattle.hz_plane.specs.declared.pair.Pair.{Pair}
-use Rattle.hz_plane.specs.declared.listing.Listing.{Listing}
 use Rattle.hz_plane.specs.declared.stage.Stage.{Stage}
-use Rattle.hz_plane.specs.declared.stage.Stage.TheVariants.{Loading, Completed, Spread, Settled}
-use Rattle.hz_plane.specs.declared.stage.LaneFault.{LaneFault}
+use Rattle.hz_plane.specs.declared.stage.Stage.TheVariants.{Loading, Completed, Spread}
 use Rattle.hz_plane.specs.Steps.{AreAllPlanes, HasLane}
-use Rattle.hz_plane.specs.Lanes.{AreForcedNodes, HasInputs, ListsAllInputs}
-use Rattle.hz_plane.specs.Loads.{Loaded, LaneLoads, lane_listed, lane_input, listed_with}
-use Rattle.hz_plane.specs.Faults.{fault_at, AreUnknownLanes}
-use Rattle.hz_plane.specs.View.{Seen, LaneHolds, IsLaneFault}
-use Rattle.hz_plane.specs.Inside.{seen_of, IsOf, HoldsPlanes}
+use Rattle.hz_plane.specs.Loads.{lane_input}
+use Rattle.hz_plane.specs.View.{Seen, LaneHolds}
 use Rattle.hz_plane.proofs.LoadLemmas.{written-back}
 use Rattle.hz_plane.proofs.Held.{holds-spread}
 use Rattle.hz_plane.proofs.planes.Planes.spread.Goals as goal
@@ -34,11 +28,10 @@ invariant_of-self c =
       small = held.small;
       values_count = ap (length {A = Pair}) values_are ∙ (values_long ∙ held.values_count);
       marks = ap (length {A = Bool}) marks_are ∙ (marks_long ∙ held.marks);
-      few = held.few;
       faults_count = held.faults_count;
       values_planes = subst AreAllPlanes (sym values_are) c.spread.ensures.planes;
       sources = held.sources;
-      order = λ netlist of. held.order netlist (record { circuit = of.circuit; whole = of.whole; inputs = of.inputs; gates = of.gates });
+      schedule = λ netlist of. held.schedule netlist (record { circuit = of.circuit; whole = of.whole; inputs = of.inputs; gates = of.gates });
       lists = held.lists;
       lanes = λ netlist lane loaded of at.
           let inputs : c.args.net.now.inputs ≡ netlist.inputs = sym c.requires.net.0 ∙ (ap (λ (s : Seen). s.inputs) (sym c.self.view_is) ∙ of.inputs) in
