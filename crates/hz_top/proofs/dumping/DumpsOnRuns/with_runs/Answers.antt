@@ -5,16 +5,16 @@ use Rattle.hz_top.specs.Verdict.{no_line}
 use Rattle.hz_top.proofs.PutEndings.{Ends-put}
 use Rattle.hz_top.proofs.dumping.DumpsOnRuns.with_runs.Goals as goal
 
-pub returns-in-None : goal.returns-in-None
-returns-in-None g c =
+pub returns-in-Ok-None : goal.returns-in-Ok-None
+returns-in-Ok-None g c =
     let netlist = c.args.net.now in
     let text = c.args.runs.now in
     Ends-put g.K.Sink.output g.K.Sink.faults (IsVcdOutcome netlist text) c.args.out.now c.put_last.new.out status.Done (last_dump netlist text)
-    c.put_last.result c.status_after.result tt (inl (c.in-None.ensures.outcome, (refl, refl, c.put_last.ensures.means))) c.put_last.ensures.wrote c.status_after.ensures
+    c.put_last.result c.status_after.result tt (inl (rw c.in-Ok-None.field-0-is at c.in-Ok-None.ensures.outcome, (refl, refl, c.put_last.ensures.means))) c.put_last.ensures.wrote c.status_after.ensures
 
-pub returns-in-Some : goal.returns-in-Some
-returns-in-Some g c =
-    let run = c.in-Some.refused.run in
-    let why = c.in-Some.refused.why in
+pub returns-in-Ok-Some : goal.returns-in-Ok-Some
+returns-in-Ok-Some g c =
+    let run = c.in-Ok-Some.refused.run in
+    let why = c.in-Ok-Some.refused.why in
     Ends-put g.K.Sink.output g.K.Sink.faults (IsVcdOutcome c.args.net.now c.args.runs.now) c.args.out.now c.put_no.new.out status.No (no_line c.args.net.now run why)
-    c.put_no.result c.status_after-in-Some.result tt (inr (run, why, c.in-Some.ensures.outcome, (refl, refl))) c.put_no.ensures c.status_after-in-Some.ensures
+    c.put_no.result c.status_after-in-Ok-Some.result tt (inr (run, why, rw c.in-Ok-Some.field-0-is at c.in-Ok-Some.ensures.outcome, (refl, refl))) c.put_no.ensures c.status_after-in-Ok-Some.ensures

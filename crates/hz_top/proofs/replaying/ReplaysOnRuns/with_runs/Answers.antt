@@ -4,15 +4,15 @@ use Rattle.hz_top.specs.Verdict.{IsReplayOutcome, accepted_line, no_line}
 use Rattle.hz_top.proofs.PutEndings.{Ends-put}
 use Rattle.hz_top.proofs.replaying.ReplaysOnRuns.with_runs.Goals as goal
 
-pub returns-in-None : goal.returns-in-None
-returns-in-None g c =
+pub returns-in-Ok-None : goal.returns-in-Ok-None
+returns-in-Ok-None g c =
     let text = c.args.runs.now in
     Ends-put g.K.Sink.output g.K.Sink.faults (IsReplayOutcome c.args.net.now text) c.args.out.now c.put_yes.new.out status.Done (accepted_line text.runs)
-    c.put_yes.result c.status_after.result tt (inl (c.in-None.ensures.outcome, (refl, refl))) c.put_yes.ensures c.status_after.ensures
+    c.put_yes.result c.status_after.result tt (inl (rw c.in-Ok-None.field-0-is at c.in-Ok-None.ensures.outcome, (refl, refl))) c.put_yes.ensures c.status_after.ensures
 
-pub returns-in-Some : goal.returns-in-Some
-returns-in-Some g c =
-    let run = c.in-Some.refused.run in
-    let why = c.in-Some.refused.why in
+pub returns-in-Ok-Some : goal.returns-in-Ok-Some
+returns-in-Ok-Some g c =
+    let run = c.in-Ok-Some.refused.run in
+    let why = c.in-Ok-Some.refused.why in
     Ends-put g.K.Sink.output g.K.Sink.faults (IsReplayOutcome c.args.net.now c.args.runs.now) c.args.out.now c.put_no.new.out status.No (no_line c.args.net.now run why)
-    c.put_no.result c.status_after-in-Some.result tt (inr (run, why, c.in-Some.ensures.outcome, (refl, refl))) c.put_no.ensures c.status_after-in-Some.ensures
+    c.put_no.result c.status_after-in-Ok-Some.result tt (inr (run, why, rw c.in-Ok-Some.field-0-is at c.in-Ok-Some.ensures.outcome, (refl, refl))) c.put_no.ensures c.status_after-in-Ok-Some.ensures
