@@ -25,6 +25,8 @@ usage:
                           checks the runs that a report shows
   hazard convert NETLIST RUNS
                           writes a run text in version 2
+  hazard vcd NETLIST RUNS
+                          writes the last run for a waveform viewer
   hazard demo NUMBER [--cap N]
                           analyses a circuit that is made from a number, 1 to 18000
 options:

@@ -7,6 +7,7 @@ pub mod RunSteps
 pub mod Refusals
 pub mod NamedNodes
 pub mod NamedVariables
+pub mod DumpedRuns
 pub mod ReplayDecided
 pub mod ReplayCounts
 pub mod TextEnds

@@ -11,14 +11,15 @@ use Rattle.hz_text.specs.RunFault.{HasRunFault}
 use Rattle.hz_text.specs.RunText.{IsRunValue}
 use Rattle.hz_text.specs.RunValue.{RunTextOf}
 use Rattle.hz_words.specs.declared.job.Task.{Task}
-use Rattle.hz_words.specs.declared.job.Task.TheVariants.{Analyse, Replay, Convert}
+use Rattle.hz_words.specs.declared.job.Task.TheVariants.{Analyse, Replay, Convert, Vcd}
 use Rattle.hz_top.specs.declared.status.Status.{Status}
 use Rattle.hz_top.specs.declared.status.Status.TheVariants as status
 use Rattle.hz_top.specs.Reports.{Reports}
 use Rattle.hz_top.specs.RunTexts.{IsConvertOutcome, EndsReplay}
 use Rattle.hz_top.specs.Second.{IsTextOutcome, Started, IsGoodText}
 use Rattle.hz_top.specs.Tasks.{comes_of, good_of}
-use Rattle.hz_top.specs.Verdict.{IsReplayOutcome}
+use Rattle.hz_top.specs.Verdict.{Replayed, IsYes}
+use Rattle.hz_top.specs.Dumps.{IsLastWritten}
 use Rattle.hz_top.proofs.Refusals.{accepted-or-refused}
 
 -- of any kind of text: if `ends` and the judge of a value agree on the status, so do a good text and its outcome
@@ -34,12 +35,14 @@ script-ends options netlist value wanted own said good (inl (own_is, inl (gate, 
 script-ends options netlist value wanted own said good (inl (own_is, inr (gate, unstable, line))) = absurd (good.0.stable gate unstable)
 script-ends options netlist value wanted own said good (inr (start, accepted, reports)) = reports.0 ∙ sym good.1
 
--- a replay comes to the one of both ends that it has
-replay-ends : (netlist : Netlist) (value : RunTextOf) (wanted own : Status) (said : List ℕ) → EndsReplay netlist value wanted → IsReplayOutcome netlist value own said → own ≡ wanted
-replay-ends netlist value wanted own said (inl (accepted, is)) (inl (also, says)) = says.0 ∙ sym is
-replay-ends netlist value wanted own said (inl (accepted, is)) (inr (number, why, refused, says)) = absurd (accepted-or-refused netlist value number why accepted refused)
-replay-ends netlist value wanted own said (inr (number, why, refused, is)) (inl (accepted, says)) = absurd (accepted-or-refused netlist value number why accepted refused)
-replay-ends netlist value wanted own said (inr (number, why, refused, is)) (inr (other, because, also, says)) = says.0 ∙ sym is
+-- a replay comes to the one of both ends that it has, where the judge of runs that are accepted has no other status
+replay-ends : (judge : Netlist → RunTextOf → Status → List ℕ → Type 0)
+    → ((netlist : Netlist) (value : RunTextOf) (own : Status) (said : List ℕ) → judge netlist value own said → own ≡ status.Done)
+    → (netlist : Netlist) (value : RunTextOf) (wanted own : Status) (said : List ℕ) → EndsReplay netlist value wanted → Replayed judge netlist value own said → own ≡ wanted
+replay-ends judge done netlist value wanted own said (inl (accepted, is)) (inl (also, says)) = done netlist value own said says ∙ sym is
+replay-ends judge done netlist value wanted own said (inl (accepted, is)) (inr (number, why, refused, says)) = absurd (accepted-or-refused netlist value number why accepted refused)
+replay-ends judge done netlist value wanted own said (inr (number, why, refused, is)) (inl (accepted, says)) = absurd (accepted-or-refused netlist value number why accepted refused)
+replay-ends judge done netlist value wanted own said (inr (number, why, refused, is)) (inr (other, because, also, says)) = says.0 ∙ sym is
 
 -- a run text comes to its conversion
 convert-ends : (netlist : Netlist) (value : RunTextOf) (wanted own : Status) (said : List ℕ) → wanted ≡ status.Done → IsConvertOutcome netlist value own said → own ≡ wanted
@@ -49,5 +52,8 @@ convert-ends netlist value wanted own said is says = says.0 ∙ sym is
 pub text-ends : (options : Options) (task : Task) (netlist : Netlist) (text : List ℕ) (wanted own : Status) (said : List ℕ) → good_of task netlist text wanted → comes_of options task netlist text own said → own ≡ wanted
 text-ends options Analyse =
     good-ends (codes "script") HasScriptFault IsValue (Started (Reports options)) (λ netlist script own. IsCompletable netlist script.start × (own ≡ status.Done)) (script-ends options)
-text-ends options Replay = good-ends (codes "runs") HasRunFault IsRunValue IsReplayOutcome EndsReplay replay-ends
+text-ends options Replay =
+    good-ends (codes "runs") HasRunFault IsRunValue (Replayed IsYes) EndsReplay (replay-ends IsYes (λ netlist value own said says. says.0))
 text-ends options Convert = good-ends (codes "runs") HasRunFault IsRunValue IsConvertOutcome (λ netlist runs own. own ≡ status.Done) convert-ends
+text-ends options Vcd =
+    good-ends (codes "runs") HasRunFault IsRunValue (Replayed IsLastWritten) EndsReplay (replay-ends IsLastWritten (λ netlist value own said says. says.0))

@@ -58,8 +58,16 @@ no_line netlist run (refused.Cycle fault) = cycle_line netlist run fault
 abbrev pub accepted_line : List RunOf → List ℕ
 accepted_line runs = yes_line (length runs) (total_steps runs) (total_cycles runs)
 
+-- what runs come to by their replay: the judge says what comes of runs that are accepted, or the first refusal is told
+abbrev pub Replayed : (judge : Netlist → RunTextOf → Status → List ℕ → Type 0) → Netlist → RunTextOf → Status → List ℕ → Type 0
+Replayed judge netlist runs own text =
+    (AreAccepted netlist runs × judge netlist runs own text)
+    ⊎ ((number : ℕ) × (why : RunRefusal) × IsRefusalOfText netlist runs number why × Prints status.No (no_line netlist number why) own text)
+
+-- the counts of runs that are accepted are told
+abbrev pub IsYes : Netlist → RunTextOf → Status → List ℕ → Type 0
+IsYes netlist runs own text = Prints status.Done (accepted_line runs.runs) own text
+
 -- what the replay of a run text comes to
 abbrev pub IsReplayOutcome : Netlist → RunTextOf → Status → List ℕ → Type 0
-IsReplayOutcome netlist runs own text =
-    (AreAccepted netlist runs × Prints status.Done (accepted_line runs.runs) own text)
-    ⊎ ((number : ℕ) × (why : RunRefusal) × IsRefusalOfText netlist runs number why × Prints status.No (no_line netlist number why) own text)
+IsReplayOutcome = Replayed IsYes

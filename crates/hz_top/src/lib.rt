@@ -12,6 +12,7 @@
 //! | `reading_back` | a law on the runs that are printed: they replay |
 //! | `replaying` | the job `replay`: the runs of a run text, step by step |
 //! | `converting` | the job `convert`: a run text, written in version 2 |
+//! | `dumping` | the job `vcd`: the last run of a run text as a value change dump |
 //! | `verdict` | the line that `replay` writes |
 //! | `running` | the top call |
 #![tactic(auto)]
@@ -19,6 +20,7 @@
 mod analysis;
 mod converting;
 mod demo;
+mod dumping;
 mod order;
 mod reading_back;
 mod refusal;

@@ -11,6 +11,7 @@ ghost use Rattle.hz_top.specs.Tasks.{comes_of};
 
 use crate::analysis::Analyses;
 use crate::converting::Converts;
+use crate::dumping::Dumps;
 use crate::refusal::{refuse_load, refuse_netlist};
 use crate::replaying::Replays;
 use crate::second::{on_runs, on_script};
@@ -96,5 +97,6 @@ fn work_on_text<K: Sink>(
         Task::Analyse => on_script(alloc, &Analyses { options }, net, text, out),
         Task::Replay => on_runs(alloc, &Replays, net, text, out),
         Task::Convert => on_runs(alloc, &Converts, net, text, out),
+        Task::Vcd => on_runs(alloc, &Dumps, net, text, out),
     }
 }

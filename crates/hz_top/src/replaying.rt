@@ -1,22 +1,24 @@
 //! The job `replay`: the runs of a run text, step by step.
-ghost use Rattle.std.specs.Prelude.{◌≡◌, ◌+◌, ◌≤◌, length, All, IfOk, MatchResult};
+ghost use Rattle.std.specs.Prelude.{◌≡◌, ◌+◌, ◌≤◌, length, All, IfOk, IfSome, MatchOption, MatchResult};
 ghost use Rattle.std.specs.Option.{option_map};
 ghost use Rattle.hz_net.specs.Network.{network_of};
 ghost use Rattle.hz_net.specs.Variables.{expansion_of};
 ghost use Rattle.hz_gmw.specs.Cycles.{IsNontransient};
 ghost use Rattle.hz_text.specs.RunText.{IsRunTextFor};
-ghost use Rattle.hz_top.specs.Replaying.{steps_of, IsAcceptedRun, IsRefusedRun, IsRefusedStep, IsFirstRefusal};
+ghost use Rattle.hz_top.specs.Inside.{named_variable, NamesVariable};
+ghost use Rattle.hz_top.specs.Replaying.{steps_of, AreAccepted, IsAcceptedRun, IsRefusalOfText, IsRefusedRun, IsRefusedStep, IsFirstRefusal};
 ghost use Rattle.hz_top.specs.ReplayerSteps.{AreVariables, run_of, KeepsInitialState, MakesSteps, IsRefusedFrom};
 ghost use Rattle.hz_text.specs.Limits.{most_steps};
 
 use crate::second::OnRuns;
 use crate::status::{Status, status_after};
 use crate::verdict::{put_no, put_yes};
+use hz_core::Memory;
 use hz_gmw::{CycleFault, Replay, Run, StepFault};
 use hz_net::Net;
 use hz_outside::Sink;
 use hz_text::RunText;
-use std::alloc::{AllocError, Global};
+use std::alloc::Global;
 
 /// Why `replay` refuses a run of a text.
 #[derive(Clone, Copy, Debug)]
@@ -51,21 +53,37 @@ impl OnRuns for Replays {
     ghost judges = { λ _. IsReplayOutcome };
 
     fn with_runs<K: Sink>(&self, alloc: Global, net: &Net, runs: &RunText, out: &mut K) -> Status {
-        let Ok(start) = expand_start(alloc, net, runs.nodes()) else {
-            return Status::Memory;
-        };
-        let Ok(mut replay) = Replay::new(alloc, net) else {
-            return Status::Memory;
-        };
-        match replay_runs(&mut replay, runs, start.as_slice()) {
-            Ok(()) => status_after(put_yes(out, runs), Status::Done),
-            Err(refused) => status_after(put_no(out, net, refused.run, refused.why), Status::No),
+        match first_refusal(alloc, net, runs) {
+            Ok(None) => status_after(put_yes(out, runs), Status::Done),
+            Ok(Some(refused)) => {
+                status_after(put_no(out, net, refused.run, refused.why), Status::No)
+            }
+            Err(Memory) => Status::Memory,
         }
     }
 }
 
+// The first refusal of the runs of a text, if one is refused.
+pub(crate) fn first_refusal(
+    alloc: Global,
+    net: &Net,
+    runs: &RunText,
+) -> Result<Option<FirstRefusal>, Memory>
+    requires { IsRunTextFor net.now runs.now }
+    ensures outcome { IfOk result (λ first. MatchOption first (AreAccepted net.now runs.now)
+        (λ refused. IsRefusalOfText net.now runs.now refused.run refused.why)) }
+    ensures named { IfOk result (λ first. IfSome first (λ refused. NamesVariable net.now (named_variable refused.why))) }
+{
+    let start = expand_start(alloc, net, runs.nodes())?;
+    let mut replay = Replay::new(alloc, net)?;
+    match replay_runs(&mut replay, runs, start.as_slice()) {
+        Ok(()) => Ok(None),
+        Err(refused) => Ok(Some(refused)),
+    }
+}
+
 // The state in which each node has its bit and each wire its source's.
-fn expand_start(alloc: Global, net: &Net, nodes: &[bool]) -> Result<Vec<bool>, AllocError>
+fn expand_start(alloc: Global, net: &Net, nodes: &[bool]) -> Result<Vec<bool>, Memory>
     requires { length nodes.now ≡ length net.now.names }
     ensures start { IfOk result (λ start. start.items ≡ expansion_of net.now nodes.now) }
     ensures long { IfOk result (λ start. length start.items ≡ length (network_of net.now)) }

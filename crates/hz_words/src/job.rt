@@ -17,6 +17,8 @@ pub enum Task {
     Replay,
     /// A run text is written in version 2.
     Convert,
+    /// The last run of a run text is written as a value change dump.
+    Vcd,
 }
 
 /// What the words ask for.
@@ -97,6 +99,7 @@ fn job_on_files<'w>(
         "analyse" => Task::Analyse,
         "replay" => Task::Replay,
         "convert" => Task::Convert,
+        "vcd" => Task::Vcd,
         _ => return None,
     };
     Some(Job::OnFiles {

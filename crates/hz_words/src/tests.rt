@@ -51,6 +51,12 @@ fn jobs_of_words(rt: HostRuntime) -> Result<(), Fail> {
         first: "a",
         second: "b",
     };
+    let vcd = Job::OnFiles {
+        task: Task::Vcd,
+        options,
+        first: "a",
+        second: "b",
+    };
     let rows = [
         ("analyse a b", analyse("a", 1000, Show::Nodes)),
         ("analyse a b --cap 5", analyse("a", 5, Show::Nodes)),
@@ -62,6 +68,7 @@ fn jobs_of_words(rt: HostRuntime) -> Result<(), Fail> {
         ("analyse - b", analyse("-", 1000, Show::Nodes)),
         ("replay a b", Some(replay)),
         ("convert a b", Some(convert)),
+        ("vcd a b", Some(vcd)),
         ("demo 1", demo(1, 1000)),
         ("demo 18000 --cap 7", demo(18000, 7)),
         ("demo 18001", None),

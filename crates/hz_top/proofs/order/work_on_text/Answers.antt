@@ -18,3 +18,8 @@ pub returns-in-Convert : goal.returns-in-Convert
 returns-in-Convert g c =
     subst (λ (task : Task). Ends g.K.Sink.output g.K.Sink.faults (comes_of c.args.options task c.args.net.now c.args.text.now) c.args.out.now c.on_runs-in-Convert.new.out c.on_runs-in-Convert.result)
     (sym c.in-Convert.is) c.on_runs-in-Convert.ensures
+
+pub returns-in-Vcd : goal.returns-in-Vcd
+returns-in-Vcd g c =
+    subst (λ (task : Task). Ends g.K.Sink.output g.K.Sink.faults (comes_of c.args.options task c.args.net.now c.args.text.now) c.args.out.now c.on_runs-in-Vcd.new.out c.on_runs-in-Vcd.result)
+    (sym c.in-Vcd.is) c.on_runs-in-Vcd.ensures
