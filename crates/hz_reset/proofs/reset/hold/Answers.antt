@@ -1,4 +1,4 @@
-use Rattle.std.proofs.Common.{ℕ, None, length, arith}
+use Rattle.std.proofs.Common.{None, length, arith}
 use Rattle.std.specs.List.{slice_index_or}
 use Rattle.hz_net.specs.TernaryStarts.{held_value}
 use Rattle.hz_reset.proofs.Places.{are-values}
