@@ -1,7 +1,11 @@
 -- Values after one input after the other, and the states in which a circuit may be then.
-use Rattle.std.specs.Prelude.{◌≡◌, Bool, Option, List, [], ◌∷◌}
+use Rattle.std.specs.Prelude.{◌≡◌, ◌≢◌, ℕ, Bool, Option, None, List, [], ◌∷◌, length, replicate}
+use Rattle.std.specs.List.{slice_index_or}
 use Rattle.hz_core.specs.declared.tri.Tri.{Tri}
-use Rattle.hz_net.specs.Network.{Driver}
+use Rattle.hz_core.specs.declared.tri.Tri.TheVariants.{Unknown}
+use Rattle.hz_core.specs.Netlist.{Netlist, IsCircuit, IsWhole, IsGateNumber}
+use Rattle.hz_net.specs.Network.{Driver, network_of}
+use Rattle.hz_net.specs.Passes.{algorithm_b, IsResult}
 use Rattle.hz_net.specs.TernaryStarts.{SettlesTo, unknown_start}
 use Rattle.hz_gmw.specs.Cycles.{IsOutcome}
 
@@ -29,3 +33,22 @@ ValuesAreOne =
     (net : List Driver) (held : List (Option Bool)) (inputs : List (List Bool)) (values other : List Tri) →
     SettlesAlong net (unknown_start net held) inputs values → SettlesAlong net (unknown_start net held) inputs other →
     values ≡ other
+
+-- no node is held but gates
+abbrev pub HoldsGates : Netlist → List (Option Bool) → Type 0
+HoldsGates netlist held = (node : ℕ) → slice_index_or held node None ≢ None → IsGateNumber netlist node
+
+-- the first input finds every variable X: Algorithm B begins with such a state
+abbrev pub BeginsAllUnknown : Type 0
+BeginsAllUnknown =
+    (netlist : Netlist) (held : List (Option Bool)) (input : List Bool) (settled : List Tri) → IsCircuit netlist → IsWhole netlist →
+    HoldsGates netlist held → SettlesTo (network_of netlist) input (unknown_start (network_of netlist) held) settled →
+    IsResult (algorithm_b (network_of netlist) input (replicate (length (network_of netlist)) Unknown)) settled
+
+-- so it makes no difference to what the unknown start settles which gates were held
+abbrev pub HeldIsForgotten : Type 0
+HeldIsForgotten =
+    (netlist : Netlist) (held other : List (Option Bool)) (input : List Bool) (settled : List Tri) → IsCircuit netlist →
+    IsWhole netlist → HoldsGates netlist held → HoldsGates netlist other →
+    SettlesTo (network_of netlist) input (unknown_start (network_of netlist) held) settled →
+    SettlesTo (network_of netlist) input (unknown_start (network_of netlist) other) settled

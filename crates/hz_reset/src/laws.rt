@@ -4,7 +4,7 @@ ghost use Rattle.hz_core.specs.declared.tri.Tri.{Tri};
 ghost use Rattle.hz_core.specs.Ternary.{tri_of, Refines};
 ghost use Rattle.hz_net.specs.Network.{Driver, bit_at, value_at};
 ghost use Rattle.hz_net.specs.TernaryStarts.{unknown_start};
-ghost use Rattle.hz_reset.specs.Values.{SettlesAlong, IsOutcomeAlong, ValuesExist, ValuesAreOne};
+ghost use Rattle.hz_reset.specs.Values.{SettlesAlong, IsOutcomeAlong, ValuesExist, ValuesAreOne, BeginsAllUnknown, HeldIsForgotten};
 
 use hz_gmw::ternary_starts_cover;
 use hz_net::each_settles;
@@ -23,6 +23,15 @@ pub fn values_cover()
 pub fn values_exist()
     ensures some { ValuesExist }
     ensures one { ValuesAreOne }
+{
+    each_settles();
+}
+
+/// What was held is forgotten with the first input. Nothing is known of a gate's wires then, so its excitation is X, and
+/// Algorithm A makes every variable X: Algorithm B begins there.
+pub fn held_is_forgotten()
+    ensures all { BeginsAllUnknown }
+    ensures same { HeldIsForgotten }
 {
     each_settles();
 }
