@@ -104,9 +104,9 @@ each-round net input first steps values cycle long refined zero now reach = refi
 each-round net input first steps values cycle long refined (suc round) now reach =
     one-round net input first steps (algorithm_b net input values round) cycle long (each-round net input first steps values cycle long refined round) now reach
 
--- Algorithm B covers
-pub covers_outcomes : (net : List Driver) (input start state : List Bool) (rounds round : ℕ) → length start ≡ length net → AreRounds (algorithm_a net input start) rounds → IsOutcome net input start state → Refines state (algorithm_b net input (algorithm_a net input start rounds) round)
-covers_outcomes net input start state rounds round long are outcome =
+-- where all reachable states refine a ternary state, all outcomes refine each state of Algorithm B from there
+pub covers_outcomes_of : (net : List Driver) (input start state : List Bool) (values : List Tri) (round : ℕ) → length start ≡ length net → ((now : List Bool) → IsReachable net input start now → Refines now values) → IsOutcome net input start state → Refines state (algorithm_b net input values round)
+covers_outcomes_of net input start state values round long refined outcome =
     let cut : IsCut outcome.first outcome.steps outcome.member = cut-member outcome.first outcome.member outcome.steps outcome.on_cycle in
     let run : IsRun net input outcome.first (cut.earlier ++ cut.later) = subst (λ (ss : List (List ℕ)). IsRun net input outcome.first ss) (sym cut.whole) outcome.cycle.cycle.run in
     let there : IsReachable net input outcome.first outcome.member = (cut.earlier, IsRun-front net input outcome.first cut.earlier cut.later run, cut.here) in
@@ -115,7 +115,12 @@ covers_outcomes net input start state rounds round long are outcome =
     let back : IsReachable net input outcome.member outcome.first =
     (cut.later, subst (λ (s : List Bool). IsRun net input s cut.later) cut.here (IsRun-rest net input outcome.first cut.earlier cut.later run), ends) in
     let begun : IsReachable net input start outcome.first = IsReachable-onward net input start outcome.member outcome.first outcome.reached back in
-    each-round net input outcome.first outcome.steps (algorithm_a net input start rounds) outcome.cycle
+    each-round net input outcome.first outcome.steps values outcome.cycle
     (length-IsReachable net input start outcome.first begun ∙ long)
-    (λ now reach. covers net input start now rounds long are (IsReachable-onward net input start outcome.first now begun reach))
+    (λ now reach. refined now (IsReachable-onward net input start outcome.first now begun reach))
     round state (IsReachable-onward net input outcome.first outcome.member state there outcome.onward)
+
+-- Algorithm B covers
+pub covers_outcomes : (net : List Driver) (input start state : List Bool) (rounds round : ℕ) → length start ≡ length net → AreRounds (algorithm_a net input start) rounds → IsOutcome net input start state → Refines state (algorithm_b net input (algorithm_a net input start rounds) round)
+covers_outcomes net input start state rounds round long are outcome =
+    covers_outcomes_of net input start state (algorithm_a net input start rounds) round long (λ now reach. covers net input start now rounds long are reach) outcome

@@ -2,6 +2,7 @@ pub mod Flips
 pub mod CoverA
 pub mod Paths
 pub mod CoverB
+pub mod CoverFrom
 pub mod Bits
 pub mod SetLemmas
 pub mod LeastLemmas

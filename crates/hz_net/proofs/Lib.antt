@@ -10,3 +10,4 @@ pub mod Wires
 pub mod Wired
 pub mod Readers
 pub mod StartLemmas
+pub mod TernaryStarts

@@ -27,6 +27,9 @@
 -- IsStableStart netlist state: a state that is stable under its own inputs
 -- IsAcceptedStart netlist listed state: a completed start that is stable
 -- IsLeastOpen netlist listed node, IsLeastUnstable netlist listed gate: why a start is refused
+-- algorithm_a_from net input first round: the states of Algorithm A from a ternary state
+-- SettlesTo net input first settled: Algorithm A from a ternary state, and Algorithm B from its result, lead to another
+-- unknown_start net held: each held node has its bit, and every other variable is X
 -- parts_from start ends list: a list that is cut into parts
 -- HoldsNetwork fields: the fields of the code's Net stand for the network
 
@@ -39,3 +42,4 @@ pub mod FanOuts
 pub mod Inside
 pub mod Passes
 pub mod Starts
+pub mod TernaryStarts

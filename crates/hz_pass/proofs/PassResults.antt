@@ -6,10 +6,12 @@ use Rattle.hz_core.specs.declared.tri.Tri.TheVariants.{Zero, One, Unknown}
 use Rattle.hz_core.specs.Ternary.{tri_of, AllBelow}
 use Rattle.hz_net.specs.Network.{Driver, value_at}
 use Rattle.hz_net.specs.Passes.{excitations, algorithm_a, algorithm_b, AreRounds, IsFirstRound, IsKnown, IsRank, IsSettlingRound, AreRanks, AreSettlingRounds}
+use Rattle.hz_net.specs.TernaryStarts.{algorithm_a_from}
 use Rattle.hz_net.proofs.Ranks.{unknown-or-start, at-tri_of}
+use Rattle.hz_net.proofs.TernaryStarts.{AllBelow-result-from}
 use Rattle.hz_pass.specs.declared.round.Rule.TheVariants.{Join, Replace}
 use Rattle.hz_pass.specs.Frontier.{next_state, round_states, AreFirstRounds, is_open}
-use Rattle.hz_pass.proofs.PassLoop.{length-states, closed-later}
+use Rattle.hz_pass.proofs.PassLoop.{length-states, closed-later, changed-closed}
 
 -- sequences with the same states have the same rounds
 rounds-same :
@@ -88,6 +90,68 @@ module _ (net : List Driver) (input start : List Bool) (long : length start ≡ 
         each = λ i inside.
             rank-is i rounds (slice_index ranks i) (value_at result i) (ap (λ (values : List Tri). value_at values i) (sym now))
             (first-same (states-a net input start) (firsts.each i inside));
+      }
+
+-- Algorithm A from a ternary state
+
+states-from :
+    (net : List Driver) (input : List Bool) (first : List Tri) (round : ℕ) →
+    round_states Join net input first round ≡ algorithm_a_from net input first round
+states-from net input first zero = refl
+states-from net input first (suc round) = ap (next_state Join net input) (states-from net input first round)
+
+pub rounds-from :
+    (net : List Driver) (input : List Bool) (first : List Tri) (rounds : ℕ) →
+    AreRounds (round_states Join net input first) rounds → AreRounds (algorithm_a_from net input first) rounds
+rounds-from net input first rounds are = rounds-same (states-from net input first) are
+
+pub result-from :
+    (net : List Driver) (input : List Bool) (first result : List Tri) (rounds : ℕ) →
+    result ≡ round_states Join net input first rounds → result ≡ algorithm_a_from net input first rounds
+result-from net input first result rounds is = is ∙ states-from net input first rounds
+
+-- its excitations lie below it
+pub below-from :
+    (net : List Driver) (input : List Bool) (first result : List Tri) (rounds : ℕ) → length first ≡ length net →
+    AreRounds (round_states Join net input first) rounds → result ≡ round_states Join net input first rounds →
+    AllBelow (excitations net input result) result
+below-from net input first result rounds long are is =
+    subst (λ (values : List Tri). AllBelow (excitations net input values) values) (sym (result-from net input first result rounds is))
+    (AllBelow-result-from net input first rounds long (rounds-from net input first rounds are))
+
+module _ (net : List Driver) (input : List Bool) (first : List Tri) (long : length first ≡ length net) where
+  -- what is known in a state is known from the beginning
+  known-first :
+      (i round : ℕ) (value : Tri) → i < length net → value_at (round_states Join net input first round) i ≡ value →
+      value ≢ Unknown → value_at first i ≡ value
+  known-first i round value inside is known = elim (changed-closed Join net input first long tt i round inside) [
+    | inl same ↦ sym same ∙ is
+    | inr closed ↦ absurd (open-known value known (sym (ap (is_open Join) is) ∙ closed.1))
+  ]
+    where
+      open-known : (value : Tri) → value ≢ Unknown → is_open Join value ≡ false → ⊥
+      open-known Zero known closed = cc
+      open-known One known closed = cc
+      open-known Unknown known closed = known refl
+
+  rank-from-is :
+      (i rounds rank : ℕ) (value : Tri) → i < length net → value_at (round_states Join net input first rounds) i ≡ value →
+      IsFirstRound (round_states Join net input first) i (λ v. v ≡ value) rank →
+      IsRank (algorithm_a_from net input first) i value rank
+  rank-from-is i rounds rank Zero inside is firsts = first-zero (known-first i rounds Zero inside is (λ e. cc)) firsts
+  rank-from-is i rounds rank One inside is firsts = first-zero (known-first i rounds One inside is (λ e. cc)) firsts
+  rank-from-is i rounds rank Unknown inside is firsts = first-same (states-from net input first) firsts
+
+  pub ranks-from :
+      (result : List Tri) (ranks : List ℕ) (rounds : ℕ) → result ≡ round_states Join net input first rounds →
+      AreFirstRounds (round_states Join net input first) result ranks → AreRanks (algorithm_a_from net input first) result ranks
+  ranks-from result ranks rounds is are =
+      let result_long : length result ≡ length net = ap (length {A = Tri}) is ∙ length-states Join net input first long tt rounds in
+      record {
+        long = are.long;
+        each = λ i inside.
+            rank-from-is i rounds (slice_index ranks i) (value_at result i) (omega (arith, inside, result_long))
+            (ap (λ (values : List Tri). value_at values i) (sym is)) (are.each i inside);
       }
 
 -- Algorithm B

@@ -1,9 +1,10 @@
 //! Algorithm A.
 ghost use Rattle.std.specs.Prelude.{◌≡◌, ◌+◌, ◌*◌, ◌≤◌, length, map};
-ghost use Rattle.hz_core.specs.Ternary.{tri_of};
+ghost use Rattle.hz_core.specs.Ternary.{tri_of, AllBelow};
 ghost use Rattle.hz_net.specs.Network.{network_of, wires_of};
-ghost use Rattle.hz_net.specs.Passes.{algorithm_a, AreRounds, AreRanks};
+ghost use Rattle.hz_net.specs.Passes.{excitations, algorithm_a, AreRounds, AreRanks};
 ghost use Rattle.hz_net.specs.Starts.{IsStableStart};
+ghost use Rattle.hz_net.specs.TernaryStarts.{algorithm_a_from};
 ghost use Rattle.hz_pass.specs.Changes.{differing_count};
 
 use crate::front::Front;
@@ -95,6 +96,46 @@ pub fn spread_stable<L: Ledger>(
         inputs,
         input,
         out,
+        rank,
+        work,
+        front,
+        steps,
+    )
+}
+
+/// Algorithm A from any ternary state, as from an unknown start: `state` has it, and gets the result, as in `settle`. No
+/// value is evaluated yet, so the first round evaluates every variable, as in `spread`. Algorithm B can follow: the
+/// excitations of the result lie below it.
+pub fn spread_from<L: Ledger>(
+    net: &Net,
+    input: &[bool],
+    state: &mut [Tri],
+    rank: &mut [u32],
+    work: &mut [Tri],
+    front: &mut Front,
+    steps: &mut Steps<L>,
+) -> u32
+    requires input { length input.now ≡ net.now.inputs }
+    requires state { length state.old ≡ length (network_of net.now) }
+    requires rank { length rank.old ≡ length (network_of net.now) }
+    requires work { length work.old ≡ length (network_of net.now) }
+    requires front { front.old ≡ length (network_of net.now) }
+    ensures rounds { AreRounds (algorithm_a_from (network_of net.now) input.now state.old) result }
+    ensures state { state.new ≡ algorithm_a_from (network_of net.now) input.now state.old result }
+    ensures rank { AreRanks (algorithm_a_from (network_of net.now) input.now state.old) state.new rank.new }
+    ensures below { AllBelow (excitations (network_of net.now) input.now state.new) state.new }
+    ensures bound { result ≤ length (network_of net.now) + 1 }
+    ensures front { front.new ≡ front.old }
+    ensures least_steps { steps.old + differing_count state.old state.new ≤ steps.new }
+    ensures most_steps { steps.new ≤ steps.old + (length (network_of net.now) + 2 * length (wires_of net.now)) }
+{
+    let count = net.len();
+    make_rounds(
+        Rule::Join,
+        net,
+        count,
+        input,
+        state,
         rank,
         work,
         front,

@@ -24,7 +24,7 @@ mod rounds;
 #[cfg(test)]
 mod tests;
 
-pub use algorithm_a::{spread, spread_stable};
+pub use algorithm_a::{spread, spread_from, spread_stable};
 pub use algorithm_b::settle;
 pub use completed_start::{StartFault, complete};
 pub use front::Front;

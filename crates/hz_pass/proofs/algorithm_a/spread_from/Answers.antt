@@ -1,0 +1,23 @@
+use Rattle.std.proofs.Common.{arith}
+use Rattle.hz_net.specs.Network.{network_of}
+use Rattle.hz_pass.proofs.PassResults.{rounds-from, result-from, below-from, ranks-from}
+use Rattle.hz_pass.proofs.algorithm_a.spread_from.Goals as goal
+
+pub make_rounds-requires-clause-rest : goal.make_rounds-requires-clause-rest
+make_rounds-requires-clause-rest g c = λ i above inside. absurd (omega (arith, above, inside, c.len-count.ensures.len))
+
+pub returns-clause-rounds : goal.returns-clause-rounds
+returns-clause-rounds g c =
+    rounds-from (network_of c.args.net.now) c.args.input.now c.args.state.now c.make_rounds.result c.make_rounds.ensures.rounds
+
+pub returns-clause-state : goal.returns-clause-state
+returns-clause-state g c =
+    result-from (network_of c.args.net.now) c.args.input.now c.args.state.now c.make_rounds.new.state c.make_rounds.result c.make_rounds.ensures.state
+
+pub returns-clause-rank : goal.returns-clause-rank
+returns-clause-rank g c =
+    ranks-from (network_of c.args.net.now) c.args.input.now c.args.state.now c.requires.state c.make_rounds.new.state c.make_rounds.new.noted c.make_rounds.result c.make_rounds.ensures.state c.make_rounds.ensures.noted
+
+pub returns-clause-below : goal.returns-clause-below
+returns-clause-below g c =
+    below-from (network_of c.args.net.now) c.args.input.now c.args.state.now c.make_rounds.new.state c.make_rounds.result c.requires.state c.make_rounds.ensures.rounds c.make_rounds.ensures.state

@@ -1,0 +1,9 @@
+-- Words, with their arguments, in the order in which one needs them.
+--
+-- SettlesAlong net first inputs values: a ternary state settles under one input after the other
+-- IsOutcomeAlong net start inputs state: states one after the other, each an outcome of the one before under the next input
+-- HoldsGates netlist held: no node is held but gates
+-- HoldsReset fields: the fields of the code's Reset have room for each variable
+
+pub mod Values
+pub mod Inside

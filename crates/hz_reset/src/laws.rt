@@ -1,0 +1,37 @@
+//! What values from an unknown start say of a circuit.
+ghost use Rattle.std.specs.Prelude.{◌≡◌, ℕ, Bool, List, Option, length};
+ghost use Rattle.hz_core.specs.declared.tri.Tri.{Tri};
+ghost use Rattle.hz_core.specs.Ternary.{tri_of, Refines};
+ghost use Rattle.hz_net.specs.Network.{Driver, bit_at, value_at};
+ghost use Rattle.hz_net.specs.TernaryStarts.{unknown_start};
+ghost use Rattle.hz_reset.specs.Values.{SettlesAlong, IsOutcomeAlong, ValuesExist, ValuesAreOne, BeginsAllUnknown, HeldIsForgotten};
+
+use hz_gmw::ternary_starts_cover;
+use hz_net::each_settles;
+
+/// Where a value is 0 or 1, it is right: take any state in which the circuit may come up, that is any whose held nodes
+/// have their bits, and for each input after the other any state in which the circuit may be once it has settled. Then the
+/// variable has this value in the last one. Nothing is said of a variable that is X.
+pub fn values_cover()
+    ensures { (net : List Driver) (held : List (Option Bool)) (inputs : List (List Bool)) (values : List Tri) (start state : List Bool) (i : ℕ) (bit : Bool) → SettlesAlong net (unknown_start net held) inputs values → Refines start (unknown_start net held) → IsOutcomeAlong net start inputs state → value_at values i ≡ tri_of bit → bit_at state i ≡ bit }
+{
+    ternary_starts_cover();
+    each_settles();
+}
+
+/// The values exist for all inputs, and are determined by what is held and by the inputs.
+pub fn values_exist()
+    ensures some { ValuesExist }
+    ensures one { ValuesAreOne }
+{
+    each_settles();
+}
+
+/// What was held is forgotten with the first input. Nothing is known of a gate's wires then, so its excitation is X, and
+/// Algorithm A makes every variable X: Algorithm B begins there.
+pub fn held_is_forgotten()
+    ensures all { BeginsAllUnknown }
+    ensures same { HeldIsForgotten }
+{
+    each_settles();
+}
