@@ -1,5 +1,5 @@
 -- What is left of the counts of files: both stay, or that of the second, or the first file is a netlist.
-use Rattle.std.proofs.Common.{◌≡◌, ℕ, ◌<◌, ◌≤◌, List, length, Option, Some, None, subst, arith, inl, inr}
+use Rattle.std.proofs.Common.{◌≡◌, ℕ, ◌≤◌, List, length, Option, Some, None, subst, arith, inl, inr}
 use Rattle.std.specs.Prelude.{IfSome}
 use Rattle.hz_outside.specs.declared.fault.Place.{Place}
 use Rattle.hz_outside.specs.declared.fault.Place.TheVariants.{Second}

@@ -3,7 +3,6 @@ use Rattle.std.proofs.Common.{map}
 use Rattle.std.specs.String.{string_bytes}
 use Rattle.hz_top.specs.Ends.{written_of}
 use Rattle.hz_words.specs.Job.{job_of}
-use Rattle.hz_top.specs.Answer.{Answers}
 use Rattle.hz_top.specs.Outcome.{observation_of, IsJobOutcome}
 use Rattle.hz_top.proofs.FaultlessEndings.{asked-end, ends-or-memory}
 use Rattle.hz_top.proofs.Flushed.{Answers-flushed}
