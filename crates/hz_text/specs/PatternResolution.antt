@@ -43,6 +43,7 @@ resolve_pattern_keyword netlist keyword rest = option_map (resolve_pattern_state
 abbrev pub pattern_resolution_of : Held → ResolvedPatternStatement
 pattern_resolution_of (held.Hold assigned) = Hold assigned.items
 pattern_resolution_of (held.Pattern from to) = Pattern from.now to.now
+pattern_resolution_of (held.Short from to) = Pattern from to
 
 -- a statement that was read, with its line
 abbrev pub PatternEntry : Type 0

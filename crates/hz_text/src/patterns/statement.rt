@@ -16,6 +16,7 @@ use crate::patterns::rules::{
     assignments_in, first_late_hold, holds_unknown, lacks_bit, line_beyond,
 };
 use crate::patterns::short::read_short;
+use crate::patterns::word::Letters;
 use crate::text::Text;
 use hz_core::{Circuit, Memory};
 use hz_line::{Numbered, StatementFault, Token, is_keyword};
@@ -28,11 +29,13 @@ pub(crate) enum Keyword {
     From,
 }
 
-/// A statement: the gates that are held, or a pattern by its two words, which stand in the text.
+/// A statement: the gates that are held, or a pattern by its two words, which stand in the text. Those of a short line are
+/// known to be letters of bits.
 #[derive(Debug, Drop)]
 pub(crate) enum Held<'t> {
     Hold(Vec<Assigned>),
     Pattern(&'t [u8], &'t [u8]),
+    Short(Letters<'t>, Letters<'t>),
 }
 
 /// A statement with its line.
@@ -79,7 +82,7 @@ impl<'c, 't> Text<'t> for Statements<'c> {
 
     fn short(&self, line: &'t [u8]) -> Option<Held<'t>> {
         let (from, to) = read_short(line, self.circuit.inputs())?;
-        Some(Held::Pattern(from, to))
+        Some(Held::Short(from, to))
     }
 
     fn node_count(&self) -> u32

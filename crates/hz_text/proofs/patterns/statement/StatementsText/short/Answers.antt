@@ -3,4 +3,4 @@ use Rattle.hz_text.proofs.PatternLines.{short_means}
 use Rattle.hz_text.proofs.patterns.statement.StatementsText.short.Goals as goal
 
 pub returns-clause-read : goal.returns-clause-read
-returns-clause-read c = short_means c.args.self.now.circuit.now c.args.line.now c.in_ok-from.from.now c.in_ok-from.to.now (search rules)
+returns-clause-read c = short_means c.args.self.now.circuit.now c.args.line.now c.in_ok-from.from c.in_ok-from.to (search rules)
