@@ -13,4 +13,3 @@ pub mod Delivery
 pub mod CutLists
 pub mod ListedLoop
 pub mod CompletedLemmas
-pub mod TestStarts

@@ -19,8 +19,6 @@ mod forcing;
 mod front;
 mod round;
 mod rounds;
-#[cfg(test)]
-mod tests;
 
 pub use algorithm_a::{spread, spread_stable};
 pub use algorithm_b::settle;

@@ -28,8 +28,6 @@ mod readers;
 mod rule;
 mod stage;
 mod sweep;
-#[cfg(test)]
-mod tests;
 
 pub use planes::Planes;
 pub use stage::{LaneFault, Stage};

@@ -4,7 +4,8 @@
 //! | Module | What is tested in it |
 //! |---|---|
 //! | `gates` | the tables of the gates, and the canonical pattern |
-//! | `passes` | Algorithms A and B, the runs that show what they find, and a replay of them |
+//! | `passes` | Algorithms A and B, and the runs that show what they find |
+//! | `replays` | what a replayer knows of each state of a run |
 //! | `words` | feedback cycles, and the words of the other variables |
 //! | `planes` | starts and both algorithms in lanes of bit planes |
 //! | `netlists` | circuits that are read and printed, and generated ones |
@@ -33,6 +34,8 @@ mod passes;
 mod planes;
 #[cfg(test)]
 mod reading;
+#[cfg(test)]
+mod replays;
 #[cfg(test)]
 mod texts;
 #[cfg(test)]

@@ -1,6 +1,6 @@
 //! How many puts a line takes, which no clause says, and what a writer does after a fault.
 
-use hz_outside::{MemSink, PutFault, Sink};
+use hz_outside::{MemSink, PlainSink, PutFault, Sink};
 use hz_write::Piece::{Number, Text};
 use hz_write::Writer;
 use std::alloc::Global;
@@ -47,7 +47,7 @@ fn lines_by_buffers(rt: HostRuntime) -> Result<(), Fail> {
 
 #[test]
 fn a_text_of_lines(rt: HostRuntime) -> Result<(), Fail> {
-    let mut sink = MemSink::new(rt.alloc());
+    let mut sink = PlainSink::new(rt.alloc());
     write_lines(&mut sink, b"line")?;
     assert_eq!(rt; sink.bytes(), b"line\ncount 65536\nend 0".as_slice());
     Ok(())

@@ -1,9 +1,31 @@
-//! Circuits that are read and printed: each spelling once, and the circuits of small numbers.
+//! Circuits that are read, printed and read back: each spelling once, and the circuits of small numbers.
+ghost use Rattle.std.specs.Prelude.{◌≡◌, IfErr, IfOk};
+ghost use Rattle.hz_core.specs.Netlist.{IsWhole};
+
 use crate::reading::circuit_of;
-use hz_bench::print;
+use hz_bench::{BenchFault, print, read};
+use hz_core::Circuit;
 use hz_gen::make;
+use hz_line::MAX_TEXT;
 use hz_text::print_script;
+use std::alloc::Global;
 use std::test::Fail;
+
+// Prints a circuit and reads it again: this gives the circuit, where memory does and the text is not too long.
+#[tactic(auto, using(hz_bench::proofs::PrintedFaults::memory_alone))]
+fn read_back(alloc: Global, circuit: &Circuit) -> Result<Circuit, BenchFault>
+    requires { IsWhole circuit.now }
+    ensures circuit { IfOk result (λ back. back ≡ circuit.now) }
+    ensures memory { IfErr result (λ fault. fault ≡ BenchFault.Memory) }
+{
+    let Ok(text) = print(alloc, circuit) else {
+        return Err(BenchFault::Memory);
+    };
+    if text.len() > MAX_TEXT {
+        return Err(BenchFault::Memory);
+    }
+    read(alloc, text.as_slice())
+}
 
 #[test]
 fn circuits_are_read_and_printed(rt: HostRuntime) -> Result<(), Fail> {
@@ -28,8 +50,10 @@ fn circuits_are_read_and_printed(rt: HostRuntime) -> Result<(), Fail> {
     ];
     for (text, wanted) in rows {
         let circuit = circuit_of(rt.alloc(), text)?;
+        assert!(rt; circuit.whole());
         let printed = print(rt.alloc(), &circuit)?;
         assert_eq!(rt; printed.as_slice(), wanted.as_bytes());
+        assert_eq!(rt; read_back(rt.alloc(), &circuit)?.nodes(), circuit.nodes());
     }
     Ok(())
 }

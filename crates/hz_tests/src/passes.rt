@@ -1,4 +1,4 @@
-//! Algorithms A and B on circuits of a few gates, the runs that show what they find, and a replay. Rows were worked by hand.
+//! Algorithms A and B on circuits of a few gates, and the runs that show what they find. Rows were worked by hand.
 ghost use Rattle.std.specs.Prelude.{◌≡◌, ◌<◌, length};
 ghost use Rattle.hz_net.specs.Network.{network_of};
 ghost use Rattle.hz_net.specs.Starts.{IsStableStart};
@@ -172,7 +172,7 @@ fn small_circuits(rt: HostRuntime) -> Result<(), Fail> {
         // Both inputs of the latch fall together: what it then holds is open.
         (
             LATCH,
-            "runs 1\nstart r=1 s=1 q=0 p=0\ninput r=0 s=0\nend",
+            "runs 1\nstart r=1 s=1 q=0 qb=0\ninput r=0 s=0\nend",
             "5 XXXXXXXX 1 1 3 3 2 4 2 4 \n3 00XX0X0X 1 1 0 0 2 0 2 0 \n0 1 /4 /2 /6 /3 /5 7 /\n\
             0 1 /4 /2 /6 /3 /5 /2 7 /3 /\n5 /2 7 /3 /5 /2 7 /3 /\n",
         ),

@@ -11,7 +11,8 @@ use std::alloc::Global;
 use std::test::Fail;
 
 /// The latch of two NOR gates.
-pub(crate) const LATCH: &str = "INPUT(r)\nINPUT(s)\nq = NOR(r, p)\np = NOR(s, q)\n";
+pub(crate) const LATCH: &str =
+    "INPUT(r)\nINPUT(s)\nOUTPUT(q)\nOUTPUT(qb)\nq = NOR(r, qb)\nqb = NOR(s, q)\n";
 
 /// A gate that reads itself, and a pulse that it may keep.
 pub(crate) const HOLDING: &str = "INPUT(x)\np = AND(x, n)\nn = NOT(x)\ny = OR(p, y)\n";

@@ -3,18 +3,22 @@
 
 use crate::reading::{LATCH, circuit_of, net_of, runs_of};
 use hz_core::Circuit;
+use hz_gmw::Run;
 use hz_line::MAX_TEXT;
 use hz_text::{
-    MAX_PATTERNS, TextFault, print_patterns, print_run, print_script, read_patterns, read_script,
+    MAX_PATTERNS, RunText, TextFault, print_patterns, print_run, print_script, read_patterns,
+    read_script,
 };
 use std::alloc::Global;
 use std::test::Fail;
+
+const BUFFER: &str = "INPUT(a)\nOUTPUT(g)\ng = BUFF(a)\n";
 
 const CONJUNCTION: &str = "INPUT(a)\nINPUT(b)\ng = AND(a, b)\n";
 
 #[test]
 fn scripts(rt: HostRuntime) -> Result<(), Fail> {
-    let circuit = circuit_of(rt.alloc(), "INPUT(a)\ng = NOT(a)\n")?;
+    let circuit = circuit_of(rt.alloc(), BUFFER)?;
     let text = b"Start a=0 # x\nchange  a = 1";
     let script = read_script(rt.alloc(), &circuit, text.as_slice())?;
     let printed = print_script(rt.alloc(), &circuit, &script)?;
@@ -38,6 +42,7 @@ fn patterns_again(alloc: Global, circuit: &Circuit, text: &[u8]) -> Result<Vec<u
 fn patterns(rt: HostRuntime) -> Result<(), Fail> {
     let rows = [
         (CONJUNCTION, "", ""),
+        (BUFFER, "HOLD g=1\nFrom 0 to 1", "hold g=1\nfrom 0 to 1\n"),
         (
             CONJUNCTION,
             "HOLD g=1\nFrom 10 to 01 # x\nfrom 11 TO 00",
@@ -110,9 +115,9 @@ fn many_patterns(rt: HostRuntime) -> Result<(), Fail> {
 fn run_texts(rt: HostRuntime) -> Result<(), Fail> {
     let net = net_of(rt.alloc(), LATCH)?;
     let block =
-        "start r=1 s=1 q=0 p=0\ninput r=0 s=0\nrun\nstep r s\nstep q(1)\nstep q\nstep p(1)\nstep p\nstep q(2) p(2)\n\
-        run\nstep r s\nstep q(1)\nstep q\nstep p(1)\nstep p\nstep q(2)\nstep q p(2)\nstep p\n\
-        cycle\nstep q(2)\nstep q p(2)\nstep p\nstep q(2)\nstep q p(2)\nstep p\nend\n";
+        "start r=1 s=1 q=0 qb=0\ninput r=0 s=0\nrun\nstep r s\nstep q(1)\nstep q\nstep qb(1)\nstep qb\nstep q(2) qb(2)\n\
+        run\nstep r s\nstep q(1)\nstep q\nstep qb(1)\nstep qb\nstep q(2)\nstep q qb(2)\nstep qb\n\
+        cycle\nstep q(2)\nstep q qb(2)\nstep qb\nstep q(2)\nstep q qb(2)\nstep qb\nend\n";
     for header in ["runs 1\n", "RUNS 2 # x\nnet 2 2 4\n"] {
         let text = format!(in rt.alloc(); "{header}{block}")?;
         let told = runs_of(rt.alloc(), &net, text.as_str())?;
@@ -120,5 +125,11 @@ fn run_texts(rt: HostRuntime) -> Result<(), Fail> {
         let wanted = format!(in rt.alloc(); "runs 2\nnet 2 2 4\n{block}")?;
         assert_eq!(rt; printed.as_slice(), wanted.as_bytes());
     }
+    let mut made = RunText::new(rt.alloc(), &[true; 4], &[false; 2])?;
+    made.add_run(Run::new(rt.alloc()), Some(Run::new(rt.alloc())))?;
+    assert_eq!(rt;
+        (made.runs(), made.nodes().len(), made.input().len()),
+        (1, 4, 2)
+    );
     Ok(())
 }

@@ -1,5 +1,5 @@
 use Rattle.std.proofs.Common.{◌<◌, All, take}
-use Rattle.hz_gmw.proofs.replay_tests.below.Given as goal
+use Rattle.hz_tests.proofs.replays.below.Given as goal
 
 -- the numbers so far are below the bound
 abbrev pub invariant-loop-var : goal.invariant-loop-var
