@@ -40,7 +40,10 @@ fn lines_by_buffers(rt: HostRuntime) -> Result<(), Fail> {
     for (len, puts, stands, whole) in rows {
         let line = text.get(..len).ok_or("too long")?;
         assert_eq!(rt; bytes_written(rt.alloc(), line, puts)?, stands);
-        assert_eq!(rt; bytes_written(rt.alloc(), line, puts + 1)?, whole);
+        assert_eq!(rt;
+            bytes_written(rt.alloc(), line, puts.saturating_add(1))?,
+            whole
+        );
     }
     Ok(())
 }
