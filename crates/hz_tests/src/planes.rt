@@ -58,18 +58,30 @@ fn load(
     ensures net { AreOf net.now planes.new }
     ensures stage { planes.new.stage ≡ Loading }
 {
-    let Some(lane) = LANES.get(number) else {
+    let listed = listed_of(alloc, patterns.held(), patterns.from(number))?;
+    let (input, listed) = (patterns.to(number), listed.as_slice());
+    let lane = LANES.get(number).copied().unwrap_or(512);
+    if lane >= 512 {
         return Err("more patterns than lanes".into());
-    };
-    let mut listed = Vec::from_slice(alloc, patterns.held())?;
-    for (place, bit) in listed.iter_mut().zip(patterns.from(number)) {
-        *place = Some(*bit);
     }
-    if *lane >= 512 || !fits(net, patterns.to(number), &listed) {
+    if !fits(net, input, listed) {
         return Err("no pattern of this network".into());
     }
-    planes.load(net, *lane, patterns.to(number), &listed);
+    planes.load(net, lane, input, listed);
     Ok(())
+}
+
+// The listed start of these held nodes and inputs.
+fn listed_of(
+    alloc: Global,
+    held: &[Option<bool>],
+    inputs: &[bool],
+) -> Result<Vec<Option<bool>>, Fail> {
+    let mut listed = Vec::new(alloc);
+    for (number, bit) in held.iter().enumerate() {
+        listed.push(inputs.get(number).copied().or(*bit))?;
+    }
+    Ok(listed)
 }
 
 // Whether these are an input and a listed start of a network.
