@@ -1,7 +1,5 @@
 //! Circuits worked by hand: their feedback cycles and cores, and the words of their nodes.
-ghost use Rattle.std.specs.Prelude.{◌≤◌, ◌≡◌, length};
-ghost use Rattle.hz_net.specs.Network.{network_of};
-ghost use Rattle.hz_net.specs.Starts.{IsStableStart};
+ghost use Rattle.std.specs.Prelude.{◌<◌, length};
 
 use crate::letters::{letter_of, push_numbers};
 use crate::reading::{HOLDING, LATCH, MULTIPLEXER, net_of, runs_of};
@@ -38,12 +36,14 @@ fn feedback(alloc: Global, netlist: &str) -> Result<String, Fail> {
     Ok(text)
 }
 
-fn push_core(text: &mut String, free: &Free, var: u32) -> Result<(), Fail> {
+fn push_core(text: &mut String, free: &Free, var: u32) -> Result<(), Fail>
+    requires { var < length free.now.free }
+{
     if free.is_free(var) {
         text.push('.')?;
         return Ok(());
     }
-    push_numbers(text, &free.core(var)[..1])
+    push_numbers(text, &[free.core(var).first().copied().unwrap_or(var)])
 }
 
 #[test]
