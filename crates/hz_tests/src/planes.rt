@@ -23,18 +23,22 @@ fn found(alloc: Global, netlist: &str, text: &str) -> Result<String, Fail> {
         return Err("a long text".into());
     }
     let patterns = read_patterns(alloc, net.circuit(), text.as_bytes())?;
-    let mut planes = Planes::new(alloc, &net)?;
+    found_in(alloc, &net, &patterns)
+}
+
+fn found_in(alloc: Global, net: &Net, patterns: &Patterns) -> Result<String, Fail> {
+    let mut planes = Planes::new(alloc, net)?;
     planes.clear();
     for number in 0..patterns.count() {
-        load(alloc, &mut planes, &net, &patterns, number)?;
+        load(alloc, &mut planes, net, patterns, number)?;
     }
-    planes.complete(&net);
-    planes.spread(&net);
+    planes.complete(net);
+    planes.spread(net);
     let mut found = String::new(alloc);
-    push_lanes(&mut found, &planes, &net, patterns.count())?;
-    planes.settle(&net);
-    push_lanes(&mut found, &planes, &net, patterns.count())?;
-    push_unsettled(&mut found, &planes, &net, patterns.count())?;
+    push_lanes(&mut found, &planes, net, patterns.count())?;
+    planes.settle(net);
+    push_lanes(&mut found, &planes, net, patterns.count())?;
+    push_unsettled(&mut found, &planes, net, patterns.count())?;
     Ok(found)
 }
 
