@@ -29,14 +29,6 @@ pub(crate) fn push_values(text: &mut String, values: &[Tri]) -> Result<(), Fail>
     Ok(())
 }
 
-/// Adds a letter for each bit.
-pub(crate) fn push_bits(text: &mut String, bits: &[bool]) -> Result<(), Fail> {
-    for bit in bits {
-        text.push(letter_of(Tri::of(*bit)))?;
-    }
-    Ok(())
-}
-
 /// Adds each number and a space.
 pub(crate) fn push_numbers(text: &mut String, numbers: &[u32]) -> Result<(), Fail> {
     let alloc = *text.allocator();

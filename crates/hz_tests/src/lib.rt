@@ -10,7 +10,7 @@
 //! | `planes` | starts and both algorithms in lanes of bit planes |
 //! | `netlists` | circuits that are read and printed, and generated ones |
 //! | `texts` | scripts, patterns and run texts that are read and printed, and patterns that are refused |
-//! | `lines` | lines and tokens, and the puts of lines that are written |
+//! | `lines` | how many puts a line takes |
 //! | `outputs` | standard output, gathered output, and files and sinks in memory |
 //! | `dumps` | value change dumps |
 //! | `reading`, `letters` | no tests: what is read from a text, and values as letters |

@@ -2,7 +2,7 @@
 ghost use Rattle.std.specs.Prelude.{◌≡◌, ◌≢◌, ◌<◌, ◌≤◌, IsTrue, length};
 ghost use Rattle.hz_plane.specs.Lanes.{ListsAllInputs};
 ghost use Rattle.hz_plane.specs.View.{AreOf, variables_of};
-ghost use Rattle.hz_plane.specs.declared.stage.Stage.TheVariants.{Loading};
+ghost use Rattle.hz_plane.specs.declared.stage.Stage.TheVariants.{Loading, Settled};
 
 use crate::letters::{letter_of, push_numbers};
 use crate::reading::{LATCH, MULTIPLEXER, net_of};
@@ -23,24 +23,22 @@ fn found(alloc: Global, netlist: &str, text: &str) -> Result<String, Fail> {
         return Err("a long text".into());
     }
     let patterns = read_patterns(alloc, net.circuit(), text.as_bytes())?;
-    let mut planes = Planes::new(alloc, &net)?;
+    found_in(alloc, &net, &patterns)
+}
+
+fn found_in(alloc: Global, net: &Net, patterns: &Patterns) -> Result<String, Fail> {
+    let mut planes = Planes::new(alloc, net)?;
     planes.clear();
     for number in 0..patterns.count() {
-        load(alloc, &mut planes, &net, &patterns, number)?;
+        load(alloc, &mut planes, net, patterns, number)?;
     }
-    planes.complete(&net);
-    planes.spread(&net);
+    planes.complete(net);
+    planes.spread(net);
     let mut found = String::new(alloc);
-    for lane in LANES.iter().take(patterns.count()) {
-        push_lane(&mut found, &planes, &net, *lane)?;
-    }
-    planes.settle(&net);
-    for lane in LANES.iter().take(patterns.count()) {
-        push_lane(&mut found, &planes, &net, *lane)?;
-        if planes.fault(&net, *lane).is_none() && planes.is_unsettled(*lane) {
-            found.push_str("unsettled ")?;
-        }
-    }
+    push_lanes(&mut found, &planes, net, patterns.count())?;
+    planes.settle(net);
+    push_lanes(&mut found, &planes, net, patterns.count())?;
+    push_unsettled(&mut found, &planes, net, patterns.count())?;
     Ok(found)
 }
 
@@ -108,17 +106,48 @@ fn lists_all_inputs(net: &Net, listed: &[Option<bool>]) -> bool
     true
 }
 
+fn push_lanes(text: &mut String, planes: &Planes, net: &Net, patterns: usize) -> Result<(), Fail>
+    requires net { AreOf net.now planes.now }
+    requires stage { planes.now.stage ≢ Loading }
+{
+    for lane in LANES.iter().take(patterns) {
+        push_lane(text, planes, net, *lane)?;
+    }
+    Ok(())
+}
+
 // The fault of a lane, or its values as letters.
 fn push_lane(text: &mut String, planes: &Planes, net: &Net, lane: u32) -> Result<(), Fail>
     requires net { AreOf net.now planes.now }
     requires stage { planes.now.stage ≢ Loading }
-    requires lane { lane < 512 }
 {
+    if lane >= 512 {
+        return Err("no lane".into());
+    }
     match planes.fault(net, lane) {
         Some(LaneFault::Open { gate }) => push_fault(text, "open ", gate),
         Some(LaneFault::Unstable { gate }) => push_fault(text, "unstable ", gate),
         None => push_lane_values(text, planes, net.len(), lane),
     }
+}
+
+// A word for each lane that has a start and has not settled.
+fn push_unsettled(
+    text: &mut String,
+    planes: &Planes,
+    net: &Net,
+    patterns: usize,
+) -> Result<(), Fail>
+    requires net { AreOf net.now planes.now }
+    requires stage { planes.now.stage ≡ Settled }
+    requires loaded { planes.now.stage ≢ Loading }
+{
+    for lane in LANES.iter().take(patterns) {
+        if *lane < 512 && planes.fault(net, *lane).is_none() && planes.is_unsettled(*lane) {
+            text.push_str("unsettled ")?;
+        }
+    }
+    Ok(())
 }
 
 fn push_fault(text: &mut String, word: &str, gate: u32) -> Result<(), Fail> {

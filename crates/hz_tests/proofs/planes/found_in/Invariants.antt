@@ -2,9 +2,9 @@
 use Rattle.std.proofs.Common.{◌≡◌}
 use Rattle.hz_plane.specs.View.{AreOf}
 use Rattle.hz_plane.specs.declared.stage.Stage.TheVariants.{Loading}
-use Rattle.hz_tests.proofs.planes.found.Given as goal
+use Rattle.hz_tests.proofs.planes.found_in.Given as goal
 
-abbrev pub invariant-loop-number : goal.invariant-loop-pattern
+abbrev pub invariant-loop-number : goal.invariant-loop-number
 invariant-loop-number l = record {
   net : AreOf l.net l.planes;
   stage : l.planes.stage ≡ Loading;
