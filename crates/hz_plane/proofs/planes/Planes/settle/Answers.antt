@@ -1,17 +1,13 @@
-use Rattle.std.proofs.Common.{◌≡◌, ◌≢◌, ◌<◌, ◌≤◌, ◌+◌, ◌-◌, ◌^◌, ◌++◌, ◌∙◌, min, ℕ, List, Bool, Option, Some, None, length, map, take, drop, set, replicate, slice_get, get_or, sym, ap, subst, refl, arith, rules, inl, inr}
+use Rattle.std.proofs.Common.{◌≡◌, ◌<◌, ◌≤◌, ◌+◌, ◌-◌, ◌^◌, ◌++◌, ◌∙◌, min, ℕ, List, Bool, Some, length, take, drop, sym, ap, subst, arith}
 use Rattle.std.proofs.lemmas.Option.{slice_get_within}
-use Rattle.hz_core.specs.Netlist.{Netlist, Gate}
 use Rattle.hz_plane.specs.declared.pair.Pair.{Pair}
-use Rattle.hz_plane.specs.declared.listing.Listing.{Listing}
 use Rattle.hz_plane.specs.declared.stage.Stage.{Stage}
-use Rattle.hz_plane.specs.declared.stage.Stage.TheVariants.{Loading, Completed, Spread, Settled}
-use Rattle.hz_plane.specs.declared.stage.LaneFault.{LaneFault}
+use Rattle.hz_plane.specs.declared.stage.Stage.TheVariants.{Loading, Spread, Settled}
 use Rattle.hz_plane.specs.Steps.{AreAllPlanes, HasLane}
-use Rattle.hz_plane.specs.Lanes.{AreForcedNodes, HasInputs, ListsAllInputs}
-use Rattle.hz_plane.specs.Loads.{Loaded, LaneLoads, lane_listed, lane_input, listed_with}
-use Rattle.hz_plane.specs.Faults.{fault_at, AreUnknownLanes}
-use Rattle.hz_plane.specs.View.{Seen, LaneHolds, IsLaneFault}
-use Rattle.hz_plane.specs.Inside.{seen_of, IsOf, HoldsPlanes}
+use Rattle.hz_plane.specs.Loads.{lane_input}
+use Rattle.hz_plane.specs.Faults.{AreUnknownLanes}
+use Rattle.hz_plane.specs.View.{Seen, LaneHolds}
+use Rattle.hz_plane.specs.Inside.{seen_of}
 use Rattle.hz_plane.proofs.LoadLemmas.{written-back}
 use Rattle.hz_plane.proofs.Held.{holds-settled}
 use Rattle.hz_plane.proofs.planes.Planes.settle.Goals as goal
@@ -48,8 +44,8 @@ invariant_of-self c =
           let was : LaneHolds Spread netlist loaded fields.values.items lane = subst (λ (s : Stage). LaneHolds s netlist loaded fields.values.items lane) stage (held.lanes netlist lane loaded (record { circuit = of.circuit; whole = of.whole; inputs = of.inputs; gates = of.gates }) at) in
           subst (λ (values : List Pair). LaneHolds Settled netlist loaded values lane) (sym values_are)
           (holds-settled netlist of.circuit loaded fields.values.items c.settle.new.values lane c.inputs.result.now is was
-          (λ input start list first rounds rest has completed rounded are bits settled. c.settle.ensures.lanes netlist of.circuit of.whole inputs gates lane input start list first rounds rest inside
-          (subst (λ (planes : List Pair). HasLane planes lane first) (sym c.as_mut_slice-2.ensures.value) has) completed rounded are bits settled));
+          (λ input first nodes rest has are bits falls settled. c.settle.ensures.lanes netlist of.circuit of.whole inputs gates lane input first nodes rest inside
+          (subst (λ (planes : List Pair). HasLane planes lane nodes) (sym c.as_mut_slice-2.ensures.value) has) are bits falls settled));
       faults = λ netlist lane loaded of at begun. held.faults netlist lane loaded (record { circuit = of.circuit; whole = of.whole; inputs = of.inputs; gates = of.gates }) at (λ e. (let wrong : Spread ≡ Loading = sym stage ∙ e in cc));
       unsettled = λ settled. subst (λ (planes : List Pair). AreUnknownLanes planes (length planes) c.unknown_lanes-self-inside.result) c.as_slice-4.ensures.value c.unknown_lanes-self-inside.ensures;
     }
