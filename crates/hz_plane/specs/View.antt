@@ -1,9 +1,9 @@
 -- What contracts see of planes, and what a lane holds at each stage.
-use Rattle.std.specs.Prelude.{◌≡◌, ◌≢◌, ℕ, ◌+◌, ◌<◌, Bool, true, false, Option, Some, None, List, length, sum_by}
+use Rattle.std.specs.Prelude.{◌≡◌, ◌≢◌, ℕ, ◌+◌, ◌<◌, Bool, true, false, Option, Some, None, List, [], length, replicate, sum_by}
 use Rattle.hz_core.specs.declared.tri.Tri.{Tri}
 use Rattle.hz_core.specs.declared.tri.Tri.TheVariants.{Zero, One, Unknown}
 use Rattle.hz_core.specs.Ternary.{tri_of}
-use Rattle.hz_core.specs.Netlist.{Netlist, Gate}
+use Rattle.hz_core.specs.Netlist.{Netlist, Gate, IsCircuit}
 use Rattle.hz_net.specs.Network.{network_of, bit_at, value_at}
 use Rattle.hz_net.specs.Passes.{algorithm_a, algorithm_b, AreRounds, IsResult}
 use Rattle.hz_net.specs.TernaryStarts.{algorithm_a_from, SettlesTo}
@@ -13,7 +13,7 @@ use Rattle.hz_plane.specs.declared.stage.Stage.{Stage}
 use Rattle.hz_plane.specs.declared.stage.Stage.TheVariants.{Loading, Completed, Spread, Settled}
 use Rattle.hz_plane.specs.declared.stage.LaneFault.{LaneFault}
 use Rattle.hz_plane.specs.declared.stage.LaneFault.TheVariants.{Open, Unstable}
-use Rattle.hz_plane.specs.Loads.{Loaded}
+use Rattle.hz_plane.specs.Loads.{Loaded, listed_with}
 use Rattle.hz_plane.specs.Steps.{HasLane}
 use Rattle.hz_plane.specs.Lanes.{AreForcedNodes, AreAllOf, IsFilledStart}
 
@@ -108,3 +108,10 @@ LaneHolds Settled netlist loaded values lane =
     AreRounds (algorithm_a_from (network_of netlist) loaded.input first) rounds →
     AreRounds (algorithm_b (network_of netlist) loaded.input (algorithm_a_from (network_of netlist) loaded.input first rounds)) rest →
     (last : List Tri) × HasLane values lane last × AreAllOf netlist (algorithm_b (network_of netlist) loaded.input (algorithm_a_from (network_of netlist) loaded.input first rounds) rest) last
+
+-- Where the inputs are listed and no gate is, the filled start is what Algorithm B makes of a state that is X everywhere.
+abbrev pub ListedInputsFill : Type 0
+ListedInputsFill =
+    (netlist : Netlist) (bits : List Bool) (state : List Tri) → IsCircuit netlist → length bits ≡ netlist.inputs →
+    IsResult (algorithm_b (network_of netlist) bits (replicate (length (network_of netlist)) Unknown)) state →
+    IsFilledStart netlist (listed_with (length netlist.names) bits []) state
