@@ -1,5 +1,5 @@
 //! The three passes over planes, lane by lane in their clauses.
-ghost use Rattle.std.specs.Prelude.{◌≡◌, ℕ, ◌<◌, ◌≤◌, ◌^◌, Bool, Option, List, [], length, map};
+ghost use Rattle.std.specs.Prelude.{◌≡◌, ℕ, ◌<◌, ◌≤◌, Bool, List, [], length};
 ghost use Rattle.std.specs.List.{slice_index_or};
 ghost use Rattle.hz_core.specs.declared.tri.Tri.{Tri};
 ghost use Rattle.hz_core.specs.Ternary.{AllBelow};
