@@ -35,6 +35,3 @@ pub use fault::BenchFault;
 pub use laws::faultless_text_is_circuit;
 pub use printing::print;
 pub use reading::read;
-
-#[cfg(test)]
-mod tests;

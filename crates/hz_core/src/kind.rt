@@ -117,6 +117,3 @@ fn parity(pins: &[Tri]) -> Tri
 {
     pins.iter().fold(Tri::Zero, |value, pin| value.xor(*pin))
 }
-
-#[cfg(test)]
-mod tests;

@@ -97,24 +97,3 @@ impl Tri {
         }
     }
 }
-
-#[cfg(test)]
-mod tests {
-    use super::Tri;
-    use super::Tri::{One, Unknown, Zero};
-
-    #[test]
-    fn ternary_values_have_their_bits_and_joins(rt: HostRuntime) {
-        for (value, bit, zero, one) in [
-            (Zero, Some(false), true, false),
-            (One, Some(true), false, true),
-            (Unknown, None, true, true),
-        ] {
-            assert_eq!(rt; value.bit(), bit);
-            assert_eq!(rt; (value.admits(false), value.admits(true)), (zero, one));
-            assert_eq!(rt; (value.join(value), value.join(Unknown)), (value, Unknown));
-        }
-        assert_eq!(rt; (Zero.join(One), One.join(Zero)), (Unknown, Unknown));
-        assert_eq!(rt; (Tri::of(false), Tri::of(true)), (Zero, One));
-    }
-}

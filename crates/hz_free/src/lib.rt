@@ -32,8 +32,6 @@ mod feedback;
 mod free;
 mod order;
 mod packed;
-#[cfg(test)]
-mod tests;
 mod words;
 
 pub use free::Free;

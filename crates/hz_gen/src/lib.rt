@@ -22,9 +22,6 @@ mod script;
 pub use fault::GenFault;
 pub use generator::make;
 
-#[cfg(test)]
-mod tests;
-
 /// The script of every number has a start that is accepted on its circuit.
 pub fn demo_starts()
     ensures { DemoStarts }

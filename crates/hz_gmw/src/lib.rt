@@ -28,8 +28,6 @@ mod least;
 mod ones;
 mod replay;
 mod replay_fault;
-#[cfg(test)]
-mod replay_tests;
 mod run;
 mod variable_set;
 mod watch;

@@ -158,25 +158,3 @@ fn append<T: Copy>(list: &mut Vec<T>, more: &[T])
 {
     list.extend_from_slice(more).unwrap();
 }
-
-#[cfg(test)]
-mod tests {
-    use super::*;
-    use std::test::Fail;
-
-    #[test]
-    fn cleared_run_takes_as_many_steps_again(rt: HostRuntime) -> Result<(), Fail> {
-        let mut run = Run::with_room(rt.alloc(), 3, 2)?;
-        run.push_step(&[7]);
-        run.push_step(&[5, 0]);
-        assert_eq!(rt; run.steps(), 2);
-        assert_eq!(rt; run.flips(), 3);
-        assert_eq!(rt; run.step(0), [7].as_slice());
-        assert_eq!(rt; run.step(1), [5, 0].as_slice());
-        run.clear();
-        assert_eq!(rt; run.steps(), 0);
-        run.push_step(&[1, 2, 3]);
-        assert_eq!(rt; run.step(0), [1, 2, 3].as_slice());
-        Ok(())
-    }
-}

@@ -35,6 +35,3 @@ pub use statements::{Grammar, Numbered, StatementFault, StatementsFault, read_st
 pub use tokens::{
     LineFault, Next, Token, first_punctuation, first_word, is_blank_line, next_token, read_tokens,
 };
-
-#[cfg(test)]
-mod tests;

@@ -27,8 +27,6 @@ mod shelf;
 mod sink;
 mod std_sink;
 mod steps;
-#[cfg(test)]
-mod tests;
 
 pub use disk_files::DiskFiles;
 pub use fault::{LoadFault, Memory, Place, PutFault};

@@ -38,30 +38,3 @@ impl<L: Ledger> Steps<L> {
         self.book.add(&mut self.share, 1);
     }
 }
-
-#[cfg(test)]
-mod tests {
-    use super::*;
-    use std::marker::Brand;
-    use std::sync::ledger::Blank;
-    use std::test::Fail;
-
-    // Counts with a ledger of its own.
-    fn tick_twice<L: Ledger>(ledger: Blank)
-        requires name { ledger.name ≡ L.name }
-        requires parts { ledger.parts ≡ L.parts }
-        requires some { 0 < ledger.parts }
-    {
-        let (book, share) = ledger.open::<L>();
-        let mut steps = Steps::new(book, share);
-        steps.tick();
-        steps.tick();
-    }
-
-    #[test]
-    fn steps_have_no_bytes(rt: HostRuntime) -> Result<(), Fail> {
-        assert_eq!(rt; size_of::<Steps<Brand>>(), 0);
-        tick_twice::<Brand>(Blank::new(1));
-        Ok(())
-    }
-}

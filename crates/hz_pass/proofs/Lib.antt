@@ -14,4 +14,3 @@ pub mod CutLists
 pub mod ListedLoop
 pub mod CompletedLemmas
 pub mod Decided
-pub mod TestStarts

@@ -21,8 +21,6 @@ mod front;
 mod laws;
 mod round;
 mod rounds;
-#[cfg(test)]
-mod tests;
 
 pub use algorithm_a::{spread, spread_from, spread_stable};
 pub use algorithm_b::settle;

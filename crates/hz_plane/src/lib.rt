@@ -32,8 +32,6 @@ mod rule;
 mod schedule;
 mod stage;
 mod sweep;
-#[cfg(test)]
-mod tests;
 
 pub use planes::Planes;
 pub use stage::{LaneFault, Stage};

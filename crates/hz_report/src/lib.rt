@@ -15,8 +15,6 @@ mod change;
 mod head;
 mod rows;
 mod summary;
-#[cfg(test)]
-mod tests;
 
 pub use change::{write_change, write_stopped};
 pub use head::write_head;

@@ -30,6 +30,3 @@ pub use run::{
     write_states, write_variable, write_version,
 };
 pub use script::{MAX_CHANGES, Script, print_script, read_script};
-
-#[cfg(test)]
-mod tests;

@@ -7,8 +7,6 @@
 #![tactic(auto, using(hz_write::proofs::Writers::writes_then, hz_write::proofs::Writers::writes_nothing))]
 
 mod code;
-#[cfg(test)]
-mod tests;
 mod writing;
 
 pub use writing::write;

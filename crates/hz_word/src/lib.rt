@@ -9,8 +9,6 @@ ghost use Rattle.hz_word.specs.Walk.{IsPartOfWalk, IsWalk, walk_changes, IsWordO
 
 mod count;
 mod folding;
-#[cfg(test)]
-mod tests;
 mod word;
 
 pub use count::Count;

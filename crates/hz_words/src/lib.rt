@@ -15,8 +15,6 @@ mod command;
 mod fault;
 mod job;
 mod reading;
-#[cfg(test)]
-mod tests;
 mod values;
 
 pub use fault::WordsFault;

@@ -12,8 +12,6 @@
 
 mod line;
 mod pieces;
-#[cfg(test)]
-mod tests;
 mod writer;
 
 pub use line::{BUFFER_SIZE, Line};

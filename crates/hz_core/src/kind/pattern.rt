@@ -76,6 +76,3 @@ fn first(free: &[bool]) -> Option<usize>
 {
     free.iter().position(|free| *free)
 }
-
-#[cfg(test)]
-mod tests;

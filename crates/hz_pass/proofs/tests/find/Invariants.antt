@@ -1,5 +1,0 @@
-use Rattle.hz_pass.proofs.tests.find.Given as goal
-
--- the ledger that the blank stands for
-abbrev pub ghosts-pass : goal.ghosts-pass
-ghosts-pass a = record { name = a.ledger.name; parts = a.ledger.parts }

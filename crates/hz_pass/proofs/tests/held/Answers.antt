@@ -1,6 +1,0 @@
-use Rattle.hz_pass.proofs.TestStarts.{lists-one}
-use Rattle.std.proofs.Common.{◌∷◌, []}
-use Rattle.hz_pass.proofs.tests.held.Goals as goal
-
-pub complete-requires-clause-inputs : goal.complete-requires-clause-inputs
-complete-requires-clause-inputs c = lists-one c.args.net.now c.args.input (c.args.gate ∷ []) c.requires.inputs
