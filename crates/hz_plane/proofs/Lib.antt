@@ -21,3 +21,4 @@ pub mod ReaderLemmas
 pub mod GateCopies
 pub mod Held
 pub mod Fields
+pub mod UnknownFills

@@ -1,19 +1,18 @@
 -- What the passes over planes make of a lane.
-use Rattle.std.proofs.Common.{◌≡◌, ℕ, zero, suc, ◌-◌, ◌<◌, ◌≤◌, Bool, true, false, Option, Some, None, List, [], ◌∷◌, length, map, take, refl, sym, ap, ◌∙◌, subst, arith, inl, inr}
+use Rattle.std.proofs.Common.{◌≡◌, ℕ, zero, suc, ◌-◌, ◌<◌, ◌≤◌, Bool, true, false, Option, Some, None, List, [], ◌∷◌, length, take, refl, sym, ap, ◌∙◌, subst, arith, inl, inr}
 use Rattle.std.specs.List.{AllByRecursion, slice_index_or}
 use Rattle.std.proofs.lemmas.Bool.{cases_lt}
 use Rattle.std.proofs.lemmas.List.{length-map, length-take, get_or-take, get_or-map, length-set}
 use Rattle.std.proofs.lemmas.Option.{slice_get-get_or}
 use Rattle.hz_core.specs.declared.tri.Tri.{Tri}
 use Rattle.hz_core.specs.declared.tri.Tri.TheVariants.{Zero}
-use Rattle.hz_core.specs.Ternary.{tri_of, join_of}
+use Rattle.hz_core.specs.Ternary.{tri_of, join_of, AllBelow}
 use Rattle.hz_core.specs.Netlist.{Netlist, Gate, IsCircuit, IsWhole, IsGateNumber}
 use Rattle.hz_net.specs.Network.{network_of, value_at, bit_at}
-use Rattle.hz_net.specs.Passes.{algorithm_a, algorithm_b, AreRounds}
+use Rattle.hz_net.specs.Passes.{excitations, algorithm_b, AreRounds}
+use Rattle.hz_net.specs.TernaryStarts.{algorithm_a_from}
 use Rattle.hz_net.specs.Starts.{IsCompletedStart}
 use Rattle.hz_net.proofs.Places.{length-network_of, bit_at-expansion_of-wire}
-use Rattle.hz_net.proofs.Sequences.{AllBelow-closed, closed-result, length-algorithm_a}
-use Rattle.hz_net.proofs.Ranks.{at-tri_of}
 use Rattle.hz_plane.specs.declared.pair.Pair.{Pair}
 use Rattle.hz_plane.specs.declared.rule.Rule.{Rule}
 use Rattle.hz_plane.specs.declared.rule.Rule.TheVariants.{Narrow, Widen}
@@ -26,7 +25,7 @@ use Rattle.hz_plane.specs.Loads.{listed_in, lane_listed}
 use Rattle.hz_plane.specs.Lanes.{listed_value, listed_values, BeginsStart, BeginsSpread, BeginsSettle, ListsAllInputs, AreForcedNodes, HasInputs, AreInputPlanes, AreNodesOf, AreAllOf, with_inputs, second_of}
 use Rattle.hz_plane.proofs.Bits.{plane-not, lane-not, value-widened}
 use Rattle.hz_plane.proofs.LaneSteps.{planes-next, lane-steps, length-steps, still-lane}
-use Rattle.hz_plane.proofs.Wholes.{source_of, source-inside, at-node}
+use Rattle.hz_plane.proofs.Wholes.{source_of, source-inside, length-all_values, at-node, at-wire}
 use Rattle.hz_plane.proofs.SpreadSteps.{HasWires, spread-result}
 use Rattle.hz_plane.proofs.SettleSteps.{settle-result}
 use Rattle.hz_plane.proofs.StartSteps.{start-result}
@@ -161,44 +160,49 @@ start-wires netlist circuit listed start completed wire above inside =
     (bit_at-expansion_of-wire netlist nodes wire long above (omega (arith, inside, length-network_of netlist circuit)) ∙
     get_or-take (length netlist.names) start (source_of netlist circuit wire) false (source-inside netlist circuit wire above inside))
 
-module _ (netlist : Netlist) (circuit : IsCircuit netlist) (input start : List Bool) (fits : length input ≡ netlist.inputs) (listed : List (Option Bool)) (completed : IsCompletedStart netlist listed start) where
-  wires-of : HasWires netlist circuit start
-  wires-of wire above inside = start-wires netlist circuit listed start completed wire above inside
+-- a lane whose nodes have the values of a state, in which each wire has its source's
+module _ (netlist : Netlist) (circuit : IsCircuit netlist) (input : List Bool) (fits : length input ≡ netlist.inputs) (first nodes : List Tri) (are : AreAllOf netlist first nodes) where
+  whole-long : length first ≡ length (network_of netlist)
+  whole-long = sym (ap (length {A = Tri}) are.whole) ∙ length-all_values netlist circuit nodes are.count
 
-  begins-spread : (first : List Tri) → AreNodesOf netlist (map tri_of start) first → BeginsSpread netlist input start (with_inputs join_of input first)
-  begins-spread first are = record {
-    long = length-with_inputs join_of input first ∙ are.count;
-    inputs = λ node inside. at-with_inputs join_of input first node (omega (arith, fits, are.count, circuit.nodes)) (omega (arith, inside, fits))
-        ∙ ap (λ (v : Tri). join_of v (tri_of (bit_at input node))) (are.each node (omega (arith, inside, circuit.nodes)) ∙ at-tri_of start node);
-    gates = λ node is_gate. past-with_inputs join_of input first node (omega (arith, is_gate.0, fits)) ∙ (are.each node is_gate.1 ∙ at-tri_of start node);
+  each-node : (node : ℕ) → node < length netlist.names → value_at nodes node ≡ value_at first node
+  each-node = (all-nodes netlist circuit first nodes are).each
+
+  wires-of : HasWires netlist circuit first
+  wires-of wire above inside =
+      ap (λ (s : List Tri). value_at s wire) (sym are.whole)
+      ∙ (at-wire netlist circuit nodes wire are.count above inside
+      ∙ each-node (source_of netlist circuit wire) (source-inside netlist circuit wire above inside))
+
+  begins-spread : BeginsSpread netlist input first (with_inputs join_of input nodes)
+  begins-spread = record {
+    long = length-with_inputs join_of input nodes ∙ are.count;
+    inputs = λ node inside. at-with_inputs join_of input nodes node (omega (arith, fits, are.count, circuit.nodes)) (omega (arith, inside, fits))
+        ∙ ap (λ (v : Tri). join_of v (tri_of (bit_at input node))) (each-node node (omega (arith, inside, circuit.nodes)));
+    gates = λ node is_gate. past-with_inputs join_of input nodes node (omega (arith, is_gate.0, fits)) ∙ each-node node is_gate.1;
   }
 
-  pub spread-lane : (planes : List Pair) (lane : ℕ) (first : List Tri) (rounds : ℕ) → AreNodesOf netlist (map tri_of start) first → LaneRan Widen netlist planes lane (with_inputs join_of input first) → AreRounds (algorithm_a (network_of netlist) input start) rounds → (last : List Tri) × HasLane planes lane last × AreAllOf netlist (algorithm_a (network_of netlist) input start rounds) last
-  spread-lane planes lane first rounds are ran rounded =
-      let last = steps Widen netlist (with_inputs join_of input first) ran.gates in
-      let begins = begins-spread first are in
-      let is : all_values netlist last ≡ algorithm_a (network_of netlist) input start rounds =
-      spread-result netlist circuit input start completed.long wires-of (with_inputs join_of input first) ran.gates rounds begins ran.all ran.still rounded in
-      let count : length last ≡ length netlist.names = length-steps3 netlist Widen (with_inputs join_of input first) ran.gates ∙ begins.long in
+  pub spread-lane : (planes : List Pair) (lane rounds : ℕ) → LaneRan Widen netlist planes lane (with_inputs join_of input nodes) → AreRounds (algorithm_a_from (network_of netlist) input first) rounds → (last : List Tri) × HasLane planes lane last × AreAllOf netlist (algorithm_a_from (network_of netlist) input first rounds) last
+  spread-lane planes lane rounds ran rounded =
+      let last = steps Widen netlist (with_inputs join_of input nodes) ran.gates in
+      let is : all_values netlist last ≡ algorithm_a_from (network_of netlist) input first rounds =
+      spread-result netlist circuit input first whole-long wires-of (with_inputs join_of input nodes) ran.gates rounds begins-spread ran.all ran.still rounded in
+      let count : length last ≡ length netlist.names = length-steps3 netlist Widen (with_inputs join_of input nodes) ran.gates ∙ begins-spread.long in
       (last, ran.has, record { count = count; whole = is })
 
-  begins-settle : (first state : List Tri) → AreNodesOf netlist state first → BeginsSettle netlist input state (with_inputs second_of input first)
-  begins-settle first state are = record {
-    count = length-with_inputs second_of input first ∙ are.count;
-    inputs = λ node inside. at-with_inputs second_of input first node (omega (arith, fits, are.count, circuit.nodes)) (omega (arith, inside, fits));
-    gates = λ node is_gate. past-with_inputs second_of input first node (omega (arith, is_gate.0, fits)) ∙ are.each node is_gate.1;
+  begins-settle : BeginsSettle netlist input first (with_inputs second_of input nodes)
+  begins-settle = record {
+    count = length-with_inputs second_of input nodes ∙ are.count;
+    inputs = λ node inside. at-with_inputs second_of input nodes node (omega (arith, fits, are.count, circuit.nodes)) (omega (arith, inside, fits));
+    gates = λ node is_gate. past-with_inputs second_of input nodes node (omega (arith, is_gate.0, fits)) ∙ each-node node is_gate.1;
   }
 
-  pub settle-lane : (planes : List Pair) (lane : ℕ) (first : List Tri) (rounds rest : ℕ) → AreRounds (algorithm_a (network_of netlist) input start) rounds → AreNodesOf netlist (algorithm_a (network_of netlist) input start rounds) first → LaneRan Narrow netlist planes lane (with_inputs second_of input first) → AreRounds (algorithm_b (network_of netlist) input (algorithm_a (network_of netlist) input start rounds)) rest → (last : List Tri) × HasLane planes lane last × AreAllOf netlist (algorithm_b (network_of netlist) input (algorithm_a (network_of netlist) input start rounds) rest) last
-  settle-lane planes lane first rounds rest rounded are ran settled =
-      let net = network_of netlist in
-      let state = algorithm_a net input start rounds in
-      let last = steps Narrow netlist (with_inputs second_of input first) ran.gates in
-      let begins = begins-settle first state are in
-      let falls = AllBelow-closed net input state (closed-result net input start rounds completed.long rounded) in
-      let is : all_values netlist last ≡ algorithm_b net input state rest =
-      settle-result netlist circuit input state (length-algorithm_a net input start completed.long rounds) falls (with_inputs second_of input first) ran.gates rest begins ran.all ran.still settled in
-      let count : length last ≡ length netlist.names = length-steps3 netlist Narrow (with_inputs second_of input first) ran.gates ∙ begins.count in
+  pub settle-lane : (planes : List Pair) (lane rest : ℕ) → AllBelow (excitations (network_of netlist) input first) first → LaneRan Narrow netlist planes lane (with_inputs second_of input nodes) → AreRounds (algorithm_b (network_of netlist) input first) rest → (last : List Tri) × HasLane planes lane last × AreAllOf netlist (algorithm_b (network_of netlist) input first rest) last
+  settle-lane planes lane rest falls ran settled =
+      let last = steps Narrow netlist (with_inputs second_of input nodes) ran.gates in
+      let is : all_values netlist last ≡ algorithm_b (network_of netlist) input first rest =
+      settle-result netlist circuit input first whole-long falls (with_inputs second_of input nodes) ran.gates rest begins-settle ran.all ran.still settled in
+      let count : length last ≡ length netlist.names = length-steps3 netlist Narrow (with_inputs second_of input nodes) ran.gates ∙ begins-settle.count in
       (last, ran.has, record { count = count; whole = is })
 
 -- two netlists with the same inputs and gates

@@ -1,20 +1,21 @@
 -- Steps of the rule Widen that come to rest, in whatever order, give what Algorithm A gives.
-use Rattle.std.proofs.Common.{◌≡◌, ℕ, zero, suc, ◌+◌, ◌<◌, ◌≤◌, Bool, List, [], ◌∷◌, length, map, get_or, IsTrue, sym, ap, ◌∙◌, subst, arith, inl, inr}
+use Rattle.std.proofs.Common.{◌≡◌, ℕ, zero, suc, ◌+◌, ◌<◌, ◌≤◌, Bool, List, [], ◌∷◌, length, get_or, IsTrue, sym, ap, ◌∙◌, subst, arith, inl, inr}
 use Rattle.std.specs.List.{AllByRecursion}
 use Rattle.std.proofs.lemmas.Bool.{cases_lt}
-use Rattle.std.proofs.lemmas.List.{length-map, length-set}
+use Rattle.std.proofs.lemmas.List.{length-set}
 use Rattle.hz_core.specs.declared.tri.Tri.{Tri}
 use Rattle.hz_core.specs.Ternary.{tri_of, is_below, join_of, AllBelow}
 use Rattle.hz_core.specs.Extension.{extension}
 use Rattle.hz_core.specs.Netlist.{Netlist, IsCircuit, IsGateNumber, gate_at}
-use Rattle.hz_core.proofs.Refinements.{AllBelow-get_or, get_or-AllBelow, is_below-same, is_below-through, is_below-join_of-left, is_below-join_of-right, join_of-is_below, same-AllBelow}
-use Rattle.hz_net.specs.Network.{network_of, excitation3, value_at, bit_at}
-use Rattle.hz_net.specs.Passes.{excitations, join_each, algorithm_a, AreRounds}
+use Rattle.hz_core.proofs.Refinements.{AllBelow-get_or, get_or-AllBelow, is_below-same, is_below-through, is_below-join_of-left, is_below-join_of-right, join_of-is_below, same-AllBelow, AllBelow-same, AllBelow-through}
+use Rattle.hz_net.specs.Network.{Driver, network_of, excitation3, value_at, bit_at}
+use Rattle.hz_net.specs.Passes.{excitations, join_each, AreRounds}
+use Rattle.hz_net.specs.TernaryStarts.{algorithm_a_from}
 use Rattle.hz_net.specs.Variables.{first_wire}
 use Rattle.hz_net.proofs.Places.{length-network_of, first_wire-bound, wire_at-pin}
 use Rattle.hz_net.proofs.Excitations.{AllBelow-excitations, at-excitations, length-excitations, at-join_each}
-use Rattle.hz_net.proofs.Sequences.{IsClosed, AllBelow-closed, closed-result, length-algorithm_a}
-use Rattle.hz_net.proofs.Ranks.{at-tri_of, later-above}
+use Rattle.hz_net.proofs.Sequences.{IsClosed, AllBelow-closed}
+use Rattle.hz_net.proofs.TernaryStarts.{length-algorithm_a_from, AllBelow-algorithm_a_from, closed-result-from}
 use Rattle.hz_plane.specs.declared.rule.Rule.TheVariants.{Widen}
 use Rattle.hz_plane.specs.Lanes.{BeginsSpread}
 use Rattle.hz_plane.specs.Steps.{gate_excitation, step, steps, IsStill, all_values}
@@ -25,25 +26,31 @@ pub pin-source : (netlist : Netlist) (circuit : IsCircuit netlist) (gate k : ℕ
 unfolding source_of
 pin-source netlist circuit gate k is_gate few = ap (λ wire. wire.source) (wire_at-pin netlist gate k circuit is_gate few)
 
--- each wire of a state has its source's bit
-abbrev pub HasWires : (netlist : Netlist) → IsCircuit netlist → List Bool → Type 0
-HasWires netlist circuit start = (wire : ℕ) → length netlist.names ≤ wire → wire < length (network_of netlist) → bit_at start wire ≡ bit_at start (source_of netlist circuit wire)
+-- each wire of a state has its source's value
+abbrev pub HasWires : (netlist : Netlist) → IsCircuit netlist → List Tri → Type 0
+HasWires netlist circuit first = (wire : ℕ) → length netlist.names ≤ wire → wire < length (network_of netlist) → value_at first wire ≡ value_at first (source_of netlist circuit wire)
+
+-- the first state lies below each state of Algorithm A
+first-below : (net : List Driver) (input : List Bool) (first : List Tri) → length first ≡ length net → (round : ℕ) → AllBelow first (algorithm_a_from net input first round)
+first-below net input first long zero = AllBelow-same first
+first-below net input first long (suc round) =
+    AllBelow-through first (algorithm_a_from net input first round) _ (first-below net input first long round) (AllBelow-algorithm_a_from net input first long round)
 
 joined-below : (value excited : Tri) → join_of value excited ≡ value → IsTrue (is_below excited value)
 joined-below value excited e = subst (λ (v : Tri). IsTrue (is_below excited v)) e (is_below-join_of-right value excited)
 
-module _ (netlist : Netlist) (circuit : IsCircuit netlist) (input start : List Bool) (long : length start ≡ length (network_of netlist)) (wires : HasWires netlist circuit start) where
+module _ (netlist : Netlist) (circuit : IsCircuit netlist) (input : List Bool) (first : List Tri) (long : length first ≡ length (network_of netlist)) (wires : HasWires netlist circuit first) where
   -- values that steps cannot make smaller
   record IsAboveBegin (values : List Tri) : Type 0 where
     pub lasts : length values ≡ length netlist.names
-    pub starts : (node : ℕ) → node < length netlist.names → IsTrue (is_below (tri_of (bit_at start node)) (value_at values node))
+    pub starts : (node : ℕ) → node < length netlist.names → IsTrue (is_below (value_at first node) (value_at values node))
     pub inputs : (node : ℕ) → node < netlist.inputs → IsTrue (is_below (tri_of (bit_at input node)) (value_at values node))
 
   above-step : (values : List Tri) (gate : ℕ) → IsGateNumber netlist gate → IsAboveBegin values → IsAboveBegin (step Widen netlist values gate)
   above-step values gate is_gate above = record {
     lasts = length-set values gate _ ∙ above.lasts;
-    starts = λ node inside. at-step netlist circuit Widen values gate node (λ v. IsTrue (is_below (tri_of (bit_at start node)) v)) above.lasts is_gate
-        (λ same. is_below-through (tri_of (bit_at start node)) (value_at values gate) _ (subst (λ (n : ℕ). IsTrue (is_below (tri_of (bit_at start n)) (value_at values gate))) same (above.starts gate is_gate.1)) (is_below-join_of-left _ _))
+    starts = λ node inside. at-step netlist circuit Widen values gate node (λ v. IsTrue (is_below (value_at first node) v)) above.lasts is_gate
+        (λ same. is_below-through (value_at first node) (value_at values gate) _ (subst (λ (n : ℕ). IsTrue (is_below (value_at first n) (value_at values gate))) same (above.starts gate is_gate.1)) (is_below-join_of-left _ _))
         (λ other. above.starts node inside);
     inputs = λ node inside. at-step netlist circuit Widen values gate node (λ v. IsTrue (is_below (tri_of (bit_at input node)) v)) above.lasts is_gate
         (λ same. absurd (omega (arith, same, inside, is_gate.0)))
@@ -54,12 +61,12 @@ module _ (netlist : Netlist) (circuit : IsCircuit netlist) (input start : List B
   above-steps values [] all above = above
   above-steps values (gate ∷ gates) all above = above-steps (step Widen netlist values gate) gates all.1 (above-step values gate all.0 above)
 
-  above-begin : (values : List Tri) → BeginsSpread netlist input start values → IsAboveBegin values
+  above-begin : (values : List Tri) → BeginsSpread netlist input first values → IsAboveBegin values
   above-begin values begins = record {
     lasts = begins.long;
     starts = λ node inside. elim (cases_lt node netlist.inputs) [
-      | inl is_input ↦ subst (λ (v : Tri). IsTrue (is_below (tri_of (bit_at start node)) v)) (sym (begins.inputs node is_input)) (is_below-join_of-left _ _)
-      | inr beyond ↦ subst (λ (v : Tri). IsTrue (is_below (tri_of (bit_at start node)) v)) (sym (begins.gates node (beyond, inside))) (is_below-same _)
+      | inl is_input ↦ subst (λ (v : Tri). IsTrue (is_below (value_at first node) v)) (sym (begins.inputs node is_input)) (is_below-join_of-left _ _)
+      | inr beyond ↦ subst (λ (v : Tri). IsTrue (is_below (value_at first node) v)) (sym (begins.gates node (beyond, inside))) (is_below-same _)
     ];
     inputs = λ node inside. subst (λ (v : Tri). IsTrue (is_below (tri_of (bit_at input node)) v)) (sym (begins.inputs node inside)) (is_below-join_of-right _ _);
   }
@@ -82,32 +89,32 @@ module _ (netlist : Netlist) (circuit : IsCircuit netlist) (input start : List B
       ]
 
   -- each state of Algorithm A lies below it
-  states-below : (values : List Tri) → IsAboveBegin values → ((gate : ℕ) → IsGateNumber netlist gate → IsStill Widen netlist values gate) → (round : ℕ) → AllBelow (algorithm_a (network_of netlist) input start round) (all_values netlist values)
+  states-below : (values : List Tri) → IsAboveBegin values → ((gate : ℕ) → IsGateNumber netlist gate → IsStill Widen netlist values gate) → (round : ℕ) → AllBelow (algorithm_a_from (network_of netlist) input first round) (all_values netlist values)
   states-below values above still zero =
-      AllBelow-get_or (map tri_of start) (all_values netlist values) (length-map start tri_of ∙ (long ∙ sym (length-all_values netlist circuit values above.lasts))) (λ i few.
-      let inside : i < length (network_of netlist) = omega (arith, few, long, length-map start tri_of) in
-      subst (λ (v : Tri). IsTrue (is_below v (value_at (all_values netlist values) i))) (sym (at-tri_of start i)) (elim (cases_lt i (length netlist.names)) [
-        | inl node ↦ subst (λ (v : Tri). IsTrue (is_below (tri_of (bit_at start i)) v)) (sym (at-node netlist circuit values i above.lasts node)) (above.starts i node)
-        | inr wire ↦ subst (λ (v : Tri). IsTrue (is_below (tri_of (bit_at start i)) v)) (sym (at-wire netlist circuit values i above.lasts wire inside))
-            (subst (λ (b : Bool). IsTrue (is_below (tri_of b) (value_at values (source_of netlist circuit i)))) (sym (wires i wire inside)) (above.starts (source_of netlist circuit i) (source-inside netlist circuit i wire inside)))
+      AllBelow-get_or first (all_values netlist values) (long ∙ sym (length-all_values netlist circuit values above.lasts)) (λ i few.
+      let inside : i < length (network_of netlist) = omega (arith, few, long) in
+      (elim (cases_lt i (length netlist.names)) [
+        | inl node ↦ subst (λ (v : Tri). IsTrue (is_below (value_at first i) v)) (sym (at-node netlist circuit values i above.lasts node)) (above.starts i node)
+        | inr wire ↦ subst (λ (v : Tri). IsTrue (is_below (value_at first i) v)) (sym (at-wire netlist circuit values i above.lasts wire inside))
+            (subst (λ (v : Tri). IsTrue (is_below v (value_at values (source_of netlist circuit i)))) (sym (wires i wire inside)) (above.starts (source_of netlist circuit i) (source-inside netlist circuit i wire inside)))
       ]))
   states-below values above still (suc round) =
       let net = network_of netlist in
-      let before = algorithm_a net input start round in
+      let before = algorithm_a_from net input first round in
       let all = all_values netlist values in
       let below = states-below values above still round in
-      let before_long : length before ≡ length net = length-algorithm_a net input start long round in
+      let before_long : length before ≡ length net = length-algorithm_a_from net input first long round in
       let excited = AllBelow-excitations net input before all below in
       let all_long = length-all_values netlist circuit values above.lasts in
-      AllBelow-get_or (join_each before (excitations net input before)) all (length-algorithm_a net input start long (suc round) ∙ sym all_long) (λ i few.
-      let inside : i < length net = omega (arith, few, length-algorithm_a net input start long (suc round)) in
+      AllBelow-get_or (join_each before (excitations net input before)) all (length-algorithm_a_from net input first long (suc round) ∙ sym all_long) (λ i few.
+      let inside : i < length net = omega (arith, few, length-algorithm_a_from net input first long (suc round)) in
       subst (λ (v : Tri). IsTrue (is_below v (value_at all i))) (sym (at-join_each before (excitations net input before) (before_long ∙ sym (length-excitations net input before)) i))
       (join_of-is_below _ _ _ (get_or-AllBelow before all below i)
       (is_below-through _ (value_at (excitations net input all) i) _ (get_or-AllBelow _ _ excited i)
       (subst (λ (v : Tri). IsTrue (is_below v (value_at all i))) (sym (at-excitations net input all i inside)) (closed-below values above still i inside)))))
 
   -- a closed state above the start, of all variables
-  module _ (state : List Tri) (closed : IsClosed (network_of netlist) input state) (begun : (i : ℕ) → i < length (network_of netlist) → IsTrue (is_below (tri_of (bit_at start i)) (value_at state i))) where
+  module _ (state : List Tri) (closed : IsClosed (network_of netlist) input state) (begun : (i : ℕ) → i < length (network_of netlist) → IsTrue (is_below (value_at first i) (value_at state i))) where
     excited-below : (i : ℕ) → i < length (network_of netlist) → IsTrue (is_below (excitation3 (network_of netlist) input state i) (value_at state i))
     excited-below i inside = subst (λ (v : Tri). IsTrue (is_below v (value_at state i))) (at-excitations (network_of netlist) input state i inside)
         (get_or-AllBelow (excitations (network_of netlist) input state) state (AllBelow-closed (network_of netlist) input state closed) i)
@@ -142,7 +149,7 @@ module _ (netlist : Netlist) (circuit : IsCircuit netlist) (input start : List B
     below-steps values [] all below = below
     below-steps values (gate ∷ gates) all below = below-steps (step Widen netlist values gate) gates all.1 (below-step values gate all.0 below)
 
-    below-begin : (values : List Tri) → BeginsSpread netlist input start values → AreBelow values
+    below-begin : (values : List Tri) → BeginsSpread netlist input first values → AreBelow values
     unfolding AreBelow
     below-begin values begins = (
       begins.long,
@@ -168,15 +175,13 @@ module _ (netlist : Netlist) (circuit : IsCircuit netlist) (input start : List B
         ])
 
   -- Steps in any order that come to rest give the result of Algorithm A.
-  pub spread-result : (values : List Tri) (gates : List ℕ) (rounds : ℕ) → BeginsSpread netlist input start values → AllByRecursion (IsGateNumber netlist) gates → ((gate : ℕ) → IsGateNumber netlist gate → IsStill Widen netlist (steps Widen netlist values gates) gate) → AreRounds (algorithm_a (network_of netlist) input start) rounds → all_values netlist (steps Widen netlist values gates) ≡ algorithm_a (network_of netlist) input start rounds
+  pub spread-result : (values : List Tri) (gates : List ℕ) (rounds : ℕ) → BeginsSpread netlist input first values → AllByRecursion (IsGateNumber netlist) gates → ((gate : ℕ) → IsGateNumber netlist gate → IsStill Widen netlist (steps Widen netlist values gates) gate) → AreRounds (algorithm_a_from (network_of netlist) input first) rounds → all_values netlist (steps Widen netlist values gates) ≡ algorithm_a_from (network_of netlist) input first rounds
   spread-result values gates rounds begins all still are =
       let net = network_of netlist in
-      let result = algorithm_a net input start rounds in
-      let closed = closed-result net input start rounds long are in
-      let no_more : rounds + 0 ≡ rounds = omega arith in
-      let begun : (i : ℕ) → i < length net → IsTrue (is_below (tri_of (bit_at start i)) (value_at result i)) =
-      λ i inside. subst (λ (v : Tri). IsTrue (is_below v (value_at result i))) (at-tri_of start i)
-      (get_or-AllBelow (algorithm_a net input start 0) result (subst (λ (n : ℕ). AllBelow (algorithm_a net input start 0) (algorithm_a net input start n)) no_more (later-above net input start long 0 rounds)) i) in
+      let result = algorithm_a_from net input first rounds in
+      let closed = closed-result-from net input first rounds long are in
+      let begun : (i : ℕ) → i < length net → IsTrue (is_below (value_at first i) (value_at result i)) =
+      λ i inside. get_or-AllBelow first result (first-below net input first long rounds) i in
       same-AllBelow (all_values netlist (steps Widen netlist values gates)) result
       (all-below result closed begun (steps Widen netlist values gates) (below-steps result closed begun values gates all (below-begin result closed begun values begins)))
       (states-below (steps Widen netlist values gates) (above-steps values gates all (above-begin values begins)) still rounds)

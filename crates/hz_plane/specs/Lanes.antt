@@ -23,11 +23,11 @@ pub record BeginsStart (netlist : Netlist) (listed : List (Option Bool)) (values
   pub count : length values ≡ length netlist.names
   pub each : (node : ℕ) → node < length netlist.names → value_at values node ≡ listed_value (slice_get listed node)
 
--- The values with which the steps begin: the start, and at inputs its join with the new input.
-pub record BeginsSpread (netlist : Netlist) (input start : List Bool) (values : List Tri) : Type 0 where
+-- The values with which the steps begin: a state, and at inputs its join with the new input.
+pub record BeginsSpread (netlist : Netlist) (input : List Bool) (first values : List Tri) : Type 0 where
   pub long : length values ≡ length netlist.names
-  pub inputs : (node : ℕ) → node < netlist.inputs → value_at values node ≡ join_of (tri_of (bit_at start node)) (tri_of (bit_at input node))
-  pub gates : (node : ℕ) → IsGateNumber netlist node → value_at values node ≡ tri_of (bit_at start node)
+  pub inputs : (node : ℕ) → node < netlist.inputs → value_at values node ≡ join_of (value_at first node) (tri_of (bit_at input node))
+  pub gates : (node : ℕ) → IsGateNumber netlist node → value_at values node ≡ value_at first node
 
 -- The values with which the steps begin: a state, and at inputs the new input.
 pub record BeginsSettle (netlist : Netlist) (input : List Bool) (first values : List Tri) : Type 0 where
@@ -76,3 +76,10 @@ pub record AreAllOf (netlist : Netlist) (state values : List Tri) : Type 0 where
 -- the values that a lane lists for all nodes, X where it lists none
 abbrev pub listed_values : List Listing → ℕ → List Tri
 listed_values listings lane = map (λ listed. listed_value (Some listed)) (lane_listed listings lane)
+
+-- The filled start of listed values: each node has the bit to which it is forced, or is X where it is open, and each wire has
+-- its source's value. Where no node is open, this is the completed start.
+pub record IsFilledStart (netlist : Netlist) (listed : List (Option Bool)) (state : List Tri) : Type 0 where
+  pub nodes : List Tri
+  pub forced : AreForcedNodes netlist listed nodes
+  pub whole : AreAllOf netlist state nodes

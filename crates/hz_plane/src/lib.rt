@@ -14,6 +14,8 @@
 //! | `gates` | the gates of the circuit, copied |
 #![tactic(auto)]
 
+ghost use Rattle.hz_plane.specs.View.{ListedInputsFill};
+
 mod excited;
 mod faults;
 mod gates;
@@ -33,3 +35,9 @@ mod sweep;
 
 pub use planes::Planes;
 pub use stage::{LaneFault, Stage};
+
+/// A lane that lists the inputs alone, completed, holds what the inputs bring about from a state of which nothing is known.
+#[tactic(auto, using(crate::proofs::UnknownFills::listed_inputs_fill))]
+pub fn listed_inputs_fill()
+    ensures { ListedInputsFill }
+{}

@@ -1,16 +1,16 @@
 //! The three passes over planes, lane by lane in their clauses.
-ghost use Rattle.std.specs.Prelude.{◌≡◌, ℕ, ◌<◌, ◌≤◌, ◌^◌, Bool, Option, List, [], length, map};
+ghost use Rattle.std.specs.Prelude.{◌≡◌, ℕ, ◌<◌, ◌≤◌, Bool, List, [], length};
 ghost use Rattle.std.specs.List.{slice_index_or};
 ghost use Rattle.hz_core.specs.declared.tri.Tri.{Tri};
-ghost use Rattle.hz_core.specs.Ternary.{tri_of};
+ghost use Rattle.hz_core.specs.Ternary.{AllBelow};
 ghost use Rattle.hz_core.specs.Netlist.{Netlist, IsCircuit, IsWhole};
 ghost use Rattle.hz_net.specs.Network.{network_of};
-ghost use Rattle.hz_net.specs.Passes.{algorithm_a, algorithm_b, AreRounds};
-ghost use Rattle.hz_net.specs.Starts.{IsCompletedStart};
+ghost use Rattle.hz_net.specs.Passes.{excitations, algorithm_b, AreRounds};
+ghost use Rattle.hz_net.specs.TernaryStarts.{algorithm_a_from};
 ghost use Rattle.hz_plane.specs.Pairs.{pair_at, widened_pair, known_pair};
 ghost use Rattle.hz_plane.specs.Steps.{AreAllPlanes, HasLane};
 ghost use Rattle.hz_plane.specs.Schedules.{IsSchedule};
-ghost use Rattle.hz_plane.specs.Lanes.{ListsAllInputs, AreForcedNodes, HasInputs, AreInputPlanes, AreNodesOf, AreAllOf, listed_values};
+ghost use Rattle.hz_plane.specs.Lanes.{ListsAllInputs, AreForcedNodes, HasInputs, AreInputPlanes, AreAllOf, listed_values};
 ghost use Rattle.hz_plane.specs.Loads.{lane_listed};
 
 use crate::listing::Listing;
@@ -103,7 +103,7 @@ fn set_inputs(inputs: &[[u64; 8]], values: &mut [Pair])
     }
 }
 
-// Algorithm A in all lanes, from their starts.
+// Algorithm A in all lanes, from their values, where each wire has its source's.
 pub(crate) fn spread(
     net: &Net,
     schedule: &Schedule,
@@ -121,13 +121,12 @@ pub(crate) fn spread(
     ensures planes { AreAllPlanes values.new }
     ensures lanes { (netlist : Netlist) → IsCircuit netlist → IsWhole netlist
         → net.now.inputs ≡ netlist.inputs → net.now.gates ≡ netlist.gates
-        → (lane : ℕ) (input start : List Bool) (listed : List (Option Bool)) (first : List Tri)
-        (rounds : ℕ)
-        → lane < 512 → HasLane values.old lane first → IsCompletedStart netlist listed start
-        → AreNodesOf netlist (map tri_of start) first → HasInputs inputs.now lane input
-        → AreRounds (algorithm_a (network_of netlist) input start) rounds
+        → (lane : ℕ) (input : List Bool) (first nodes : List Tri) (rounds : ℕ)
+        → lane < 512 → HasLane values.old lane nodes → AreAllOf netlist first nodes
+        → HasInputs inputs.now lane input
+        → AreRounds (algorithm_a_from (network_of netlist) input first) rounds
         → (last : List Tri) × HasLane values.new lane last
-        × AreAllOf netlist (algorithm_a (network_of netlist) input start rounds) last }
+        × AreAllOf netlist (algorithm_a_from (network_of netlist) input first rounds) last }
 {
     join_inputs(inputs, values);
     let pass = Pass {
@@ -138,7 +137,7 @@ pub(crate) fn spread(
     pass.run(marks, values);
 }
 
-// Algorithm B in all lanes, from the results of Algorithm A.
+// Algorithm B in all lanes, from their values, where their excitations lie below them.
 pub(crate) fn settle(
     net: &Net,
     schedule: &Schedule,
@@ -156,18 +155,13 @@ pub(crate) fn settle(
     ensures planes { AreAllPlanes values.new }
     ensures lanes { (netlist : Netlist) → IsCircuit netlist → IsWhole netlist
         → net.now.inputs ≡ netlist.inputs → net.now.gates ≡ netlist.gates
-        → (lane : ℕ) (input start : List Bool) (listed : List (Option Bool)) (first : List Tri)
-        (rounds rest : ℕ)
-        → lane < 512 → HasLane values.old lane first → IsCompletedStart netlist listed start
-        → AreRounds (algorithm_a (network_of netlist) input start) rounds
-        → AreNodesOf netlist (algorithm_a (network_of netlist) input start rounds) first
+        → (lane : ℕ) (input : List Bool) (first nodes : List Tri) (rest : ℕ)
+        → lane < 512 → HasLane values.old lane nodes → AreAllOf netlist first nodes
         → HasInputs inputs.now lane input
-        → AreRounds
-        (algorithm_b (network_of netlist) input
-        (algorithm_a (network_of netlist) input start rounds)) rest
-        → (last : List Tri) × HasLane values.new lane last × AreAllOf netlist
-        (algorithm_b (network_of netlist) input
-        (algorithm_a (network_of netlist) input start rounds) rest) last }
+        → AllBelow (excitations (network_of netlist) input first) first
+        → AreRounds (algorithm_b (network_of netlist) input first) rest
+        → (last : List Tri) × HasLane values.new lane last
+        × AreAllOf netlist (algorithm_b (network_of netlist) input first rest) last }
 {
     set_inputs(inputs, values);
     let pass = Pass {

@@ -13,7 +13,7 @@ ghost use Rattle.hz_plane.specs.Gates.{pin_sources};
 ghost use Rattle.hz_plane.specs.Lanes.{ListsAllInputs};
 ghost use Rattle.hz_plane.specs.Loads.{Loaded, listed_with};
 ghost use Rattle.hz_plane.specs.Steps.{AreAllPlanes};
-ghost use Rattle.hz_plane.specs.View.{Seen, AreOf, IsLaneValue, IsLaneFault, IsUnsettled, value_by, variables_of};
+ghost use Rattle.hz_plane.specs.View.{Seen, AreOf, IsLaneValue, IsFilledValue, IsLaneFault, IsUnsettled, LeavesUnknown, value_by, variables_of};
 ghost use Rattle.hz_plane.specs.declared.stage.Stage.TheVariants.{Loading, Completed, Spread, Settled};
 
 use crate::faults::{note_faults, unknown_lanes};
@@ -228,6 +228,9 @@ impl Planes {
         ensures lane { (netlist : Netlist) (loaded : Loaded) → IsCircuit netlist → IsWhole netlist
             → AreOf netlist self.now → slice_get self.now.lanes lane ≡ Some (Some loaded)
             → IsLaneValue self.now.stage netlist loaded var result }
+        ensures filled { (netlist : Netlist) (loaded : Loaded) → IsCircuit netlist → IsWhole netlist
+            → AreOf netlist self.now → slice_get self.now.lanes lane ≡ Some (Some loaded)
+            → IsFilledValue self.now.stage netlist loaded var result }
         ensures loading { self.now.stage ≡ Loading → result ≡ Unknown }
     {
         match self.stage {
@@ -240,9 +243,12 @@ impl Planes {
     pub fn is_unsettled(&self, lane: u32) -> bool
         requires lane { lane < 512 }
         requires stage { self.now.stage ≡ Settled }
-        ensures { (netlist : Netlist) (loaded : Loaded) → IsCircuit netlist → IsWhole netlist
+        ensures start { (netlist : Netlist) (loaded : Loaded) → IsCircuit netlist → IsWhole netlist
             → AreOf netlist self.now → slice_get self.now.lanes lane ≡ Some (Some loaded)
             → IsUnsettled netlist loaded result }
+        ensures filled { (netlist : Netlist) (loaded : Loaded) → IsCircuit netlist → IsWhole netlist
+            → AreOf netlist self.now → slice_get self.now.lanes lane ≡ Some (Some loaded)
+            → LeavesUnknown netlist loaded result }
     {
         has_lane(&self.unsettled, lane)
     }
@@ -252,9 +258,12 @@ impl Planes {
     fn node_value(&self, lane: u32, var: u32) -> Tri
         requires lane { lane < 512 }
         requires var { var < variables_of self.now }
-        ensures { (netlist : Netlist) (loaded : Loaded) → IsCircuit netlist → IsWhole netlist
+        ensures lane { (netlist : Netlist) (loaded : Loaded) → IsCircuit netlist → IsWhole netlist
             → AreOf netlist self.now → slice_get self.now.lanes lane ≡ Some (Some loaded)
             → self.now.stage ≢ Loading → IsLaneValue self.now.stage netlist loaded var result }
+        ensures filled { (netlist : Netlist) (loaded : Loaded) → IsCircuit netlist → IsWhole netlist
+            → AreOf netlist self.now → slice_get self.now.lanes lane ≡ Some (Some loaded)
+            → self.now.stage ≢ Loading → IsFilledValue self.now.stage netlist loaded var result }
     {
         let pair = &self.values[self.node_of(var) as usize];
         value_by(

@@ -8,12 +8,12 @@ run-requires-clause-planes c =
     put-planes c.args.inputs.now c.args.values.now c.set_inputs.new.values (omega (arith, c.requires.inputs, c.requires.values, c.requires.circuit.nodes)) c.set_inputs.auto.values c.set_inputs.ensures.planes c.requires.planes c.set_inputs.ensures.rest c.set_inputs.ensures.inputs
 
 pub returns-clause-lanes : goal.returns-clause-lanes
-returns-clause-lanes c other circuit whole e f lane input start listed first rounds rest inside has completed rounded are bits settled =
+returns-clause-lanes c other circuit whole e f lane input first nodes rest inside has are bits falls settled =
     let net = c.args.net.now in
     let few : length c.args.inputs.now ≤ length c.args.values.now = omega (arith, c.requires.inputs, c.requires.values, c.requires.circuit.nodes) in
     let mid = c.set_inputs.new.values in
     let planes = put-planes c.args.inputs.now c.args.values.now mid few c.set_inputs.auto.values c.set_inputs.ensures.planes c.requires.planes c.set_inputs.ensures.rest c.set_inputs.ensures.inputs in
-    let put = put-lane c.args.inputs.now c.args.values.now mid few c.set_inputs.auto.values c.set_inputs.ensures.planes c.requires.planes c.set_inputs.ensures.rest lane inside input first bits has c.set_inputs.ensures.inputs in
-    settle-lane other circuit input start (bits.long ∙ (c.requires.inputs ∙ e)) listed completed c.run.new.planes lane first rounds rest rounded are
+    let put = put-lane c.args.inputs.now c.args.values.now mid few c.set_inputs.auto.values c.set_inputs.ensures.planes c.requires.planes c.set_inputs.ensures.rest lane inside input nodes bits has c.set_inputs.ensures.inputs in
+    settle-lane other circuit input (bits.long ∙ (c.requires.inputs ∙ e)) first nodes are c.run.new.planes lane rest falls
     (lane-ran-of Narrow net other mid c.run.new.planes lane _ c.requires.circuit circuit whole e f inside (c.set_inputs.auto.values ∙ c.requires.values) planes c.run.ensures.planes c.run.ensures.ran c.run.ensures.still put)
     settled

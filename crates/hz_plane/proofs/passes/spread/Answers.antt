@@ -8,12 +8,12 @@ run-requires-clause-planes c =
     joined-planes c.args.inputs.now c.args.values.now c.join_inputs.new.values (omega (arith, c.requires.inputs, c.requires.values, c.requires.circuit.nodes)) c.join_inputs.auto.values c.join_inputs.ensures.planes c.requires.planes c.join_inputs.ensures.rest c.join_inputs.ensures.inputs
 
 pub returns-clause-lanes : goal.returns-clause-lanes
-returns-clause-lanes c other circuit whole e f lane input start listed first rounds inside has completed are bits rounded =
+returns-clause-lanes c other circuit whole e f lane input first nodes rounds inside has are bits rounded =
     let net = c.args.net.now in
     let few : length c.args.inputs.now ≤ length c.args.values.now = omega (arith, c.requires.inputs, c.requires.values, c.requires.circuit.nodes) in
     let mid = c.join_inputs.new.values in
     let planes = joined-planes c.args.inputs.now c.args.values.now mid few c.join_inputs.auto.values c.join_inputs.ensures.planes c.requires.planes c.join_inputs.ensures.rest c.join_inputs.ensures.inputs in
-    let joined = joined-lane c.args.inputs.now c.args.values.now mid few c.join_inputs.auto.values c.join_inputs.ensures.planes c.requires.planes c.join_inputs.ensures.rest lane inside input first bits has c.join_inputs.ensures.inputs in
-    spread-lane other circuit input start (bits.long ∙ (c.requires.inputs ∙ e)) listed completed c.run.new.planes lane first rounds are
+    let joined = joined-lane c.args.inputs.now c.args.values.now mid few c.join_inputs.auto.values c.join_inputs.ensures.planes c.requires.planes c.join_inputs.ensures.rest lane inside input nodes bits has c.join_inputs.ensures.inputs in
+    spread-lane other circuit input (bits.long ∙ (c.requires.inputs ∙ e)) first nodes are c.run.new.planes lane rounds
     (lane-ran-of Widen net other mid c.run.new.planes lane _ c.requires.circuit circuit whole e f inside (c.join_inputs.auto.values ∙ c.requires.values) planes c.run.ensures.planes c.run.ensures.ran c.run.ensures.still joined)
     rounded

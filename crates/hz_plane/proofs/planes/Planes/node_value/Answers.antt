@@ -11,9 +11,9 @@ use Rattle.hz_net.proofs.Places.{length-network_of}
 use Rattle.hz_plane.specs.Bits.{HasValue, has_lane}
 use Rattle.hz_plane.specs.Pairs.{pair_at, no_pair}
 use Rattle.hz_plane.specs.Gates.{pin_sources}
-use Rattle.hz_plane.specs.View.{IsLaneValue, value_by}
+use Rattle.hz_plane.specs.View.{IsFilledValue, value_by}
 use Rattle.hz_plane.proofs.GateCopies.{get_or_same}
-use Rattle.hz_plane.proofs.Held.{IsNodeOf, source-is, lane-value, read-lane}
+use Rattle.hz_plane.proofs.Held.{IsNodeOf, source-is, filled-value, lane-value, read-lane}
 use Rattle.hz_plane.proofs.planes.Planes.node_value.Goals as goal
 
 pub index-pair-requires : goal.index-pair-requires
@@ -22,8 +22,8 @@ index-pair-requires c =
     let inside : c.node_of.result < length fields.values.items = omega (arith, c.node_of.ensures.inside, ap (λ (s : Seen). s.inputs) c.self.view_is, ap (λ (s : Seen). length s.gates) c.self.view_is, c.self.invariant.nodes, c.self.invariant.values_count) in
     search (rules, inside)
 
-pub returns : goal.returns
-returns c netlist loaded circuit whole is_of at begun =
+pub returns-clause-filled : goal.returns-clause-filled
+returns-clause-filled c netlist loaded circuit whole is_of at begun =
     let fields = c.self.inside in
     let held = c.self.invariant in
     let var = c.args.var in
@@ -42,8 +42,8 @@ returns c netlist loaded circuit whole is_of at begun =
     ] in
     let inside : node < length fields.values.items = omega (arith, c.node_of.ensures.inside, names, count) in
     let pair : c.index-pair.result.now ≡ pair_at fields.values.items node = c.index-pair.ensures ∙ get_or_same fields.values.items node c.index-pair.result.now no_pair inside in
-    subst (λ (s : Stage). IsLaneValue s netlist loaded var c.value_by.result) stage
-    (lane-value netlist circuit fields.stage loaded fields.values.items c.args.lane var node c.value_by.result (λ e. begun (sym stage ∙ e)) is count
+    subst (λ (s : Stage). IsFilledValue s netlist loaded var c.value_by.result) stage
+    (filled-value netlist circuit fields.stage loaded fields.values.items c.args.lane var node c.value_by.result (λ e. begun (sym stage ∙ e)) is count
     (held.lanes netlist c.args.lane loaded of (ap (λ (s : Seen). slice_get s.lanes c.args.lane) c.self.view_is ∙ at))
     (λ value has.
     let zero : c.has_lane.result ≡ has_lane c.index-pair.result.now.zero c.args.lane = c.has_lane.ensures ∙ ap (λ (set : List ℕ). has_lane set c.args.lane) c.as_array.ensures in
@@ -52,3 +52,7 @@ returns c netlist loaded circuit whole is_of at begun =
     ∙ (ap (λ (b : Bool). value_by b c.has_lane-2.result) zero
     ∙ (ap (value_by (has_lane c.index-pair.result.now.zero c.args.lane)) one
     ∙ read-lane c.index-pair.result.now c.args.lane value (subst (λ (p : Pair). HasValue p c.args.lane value) (sym pair) has)))))
+
+pub returns-clause-lane : goal.returns-clause-lane
+returns-clause-lane c netlist loaded circuit whole is_of at begun =
+    lane-value netlist circuit c.args.self.now.stage loaded c.args.var c.value_by.result (returns-clause-filled c netlist loaded circuit whole is_of at begun)

@@ -43,8 +43,8 @@ invariant_of-self c =
           let was : LaneHolds Spread netlist loaded fields.values.items lane = subst (λ (s : Stage). LaneHolds s netlist loaded fields.values.items lane) stage (held.lanes netlist lane loaded (record { circuit = of.circuit; whole = of.whole; inputs = of.inputs; gates = of.gates }) at) in
           subst (λ (values : List Pair). LaneHolds Settled netlist loaded values lane) (sym values_are)
           (holds-settled netlist of.circuit loaded fields.values.items c.settle.new.values lane c.inputs.result.now is was
-          (λ input start list first rounds rest has completed rounded are bits settled. c.settle.ensures.lanes netlist of.circuit of.whole inputs gates lane input start list first rounds rest inside
-          (subst (λ (planes : List Pair). HasLane planes lane first) (sym c.as_mut_slice-2.ensures.value) has) completed rounded are bits settled));
+          (λ input first nodes rest has are bits falls settled. c.settle.ensures.lanes netlist of.circuit of.whole inputs gates lane input first nodes rest inside
+          (subst (λ (planes : List Pair). HasLane planes lane nodes) (sym c.as_mut_slice-2.ensures.value) has) are bits falls settled));
       faults = λ netlist lane loaded of at begun. held.faults netlist lane loaded (record { circuit = of.circuit; whole = of.whole; inputs = of.inputs; gates = of.gates }) at (λ e. (let wrong : Spread ≡ Loading = sym stage ∙ e in cc));
       unsettled = λ settled. subst (λ (planes : List Pair). AreUnknownLanes planes (length planes) c.unknown_lanes-self-inside.result) c.as_slice.ensures.value c.unknown_lanes-self-inside.ensures;
     }

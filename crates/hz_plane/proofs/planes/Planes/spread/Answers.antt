@@ -41,8 +41,8 @@ invariant_of-self c =
           let was : LaneHolds Completed netlist loaded fields.values.items lane = subst (λ (s : Stage). LaneHolds s netlist loaded fields.values.items lane) stage (held.lanes netlist lane loaded (record { circuit = of.circuit; whole = of.whole; inputs = of.inputs; gates = of.gates }) at) in
           subst (λ (values : List Pair). LaneHolds Spread netlist loaded values lane) (sym values_are)
           (holds-spread netlist of.circuit loaded fields.values.items c.spread.new.values lane c.inputs.result.now is was
-          (λ input start list first rounds has completed are bits rounded. c.spread.ensures.lanes netlist of.circuit of.whole inputs gates lane input start list first rounds inside
-          (subst (λ (planes : List Pair). HasLane planes lane first) (sym c.as_mut_slice-2.ensures.value) has) completed are bits rounded));
+          (λ input first nodes rounds has are bits rounded. c.spread.ensures.lanes netlist of.circuit of.whole inputs gates lane input first nodes rounds inside
+          (subst (λ (planes : List Pair). HasLane planes lane nodes) (sym c.as_mut_slice-2.ensures.value) has) are bits rounded));
       faults = λ netlist lane loaded of at begun. held.faults netlist lane loaded (record { circuit = of.circuit; whole = of.whole; inputs = of.inputs; gates = of.gates }) at (λ e. (let wrong : Completed ≡ Loading = sym stage ∙ e in cc));
       unsettled = λ settled. cc;
     }
