@@ -63,6 +63,7 @@ exists result_a result_b few_a few_b ranks_exist settling_exist spread_exists se
       finding,
       filled netlist input start cap finding (record {
         circuit = circuit;
+        whole = whole;
         begins = begins;
         variables_are = refl;
         input_is = refl;

@@ -1,20 +1,28 @@
 -- A finding that is filled is right.
-use Rattle.std.proofs.Common.{◌≡◌, ◌∙◌, sym, ap, subst, ℕ, Bool, List, length, take}
+use Rattle.std.proofs.Common.{◌≡◌, ◌∙◌, sym, ap, subst, arith, ℕ, ◌<◌, Bool, Option, Some, List, [], length, take, slice_get}
+use Rattle.std.specs.List.{slice_index_or}
+use Rattle.std.proofs.lemmas.Option.{slice_get_within}
 use Rattle.hz_core.specs.declared.tri.Tri.{Tri}
-use Rattle.hz_core.specs.Netlist.{Netlist, IsCircuit}
+use Rattle.hz_core.specs.Netlist.{Netlist, IsCircuit, IsWhole}
 use Rattle.hz_core.specs.Ternary.{Refines, unknown_count}
 use Rattle.hz_net.specs.Network.{Driver, network_of, value_at, IsStable}
+use Rattle.hz_net.specs.Starts.{IsStableStart}
 use Rattle.hz_net.specs.Passes.{algorithm_a, algorithm_b, AreRounds}
-use Rattle.hz_gmw.specs.Runs.{IsReachable, JoinsTo, end_of}
+use Rattle.hz_gmw.specs.Runs.{IsRun, IsReachable, JoinsTo, end_of}
 use Rattle.hz_gmw.specs.Cycles.{IsOutcome}
 use Rattle.hz_reach.specs.Spread.{IsSpreadRun}
 use Rattle.hz_cycle.specs.Cycles.{IsSettleRun, IsCycleOf}
 use Rattle.hz_cycle.specs.Exact.{RunsShowB}
+use Rattle.hz_word.specs.declared.word.Word.{Word}
+use Rattle.hz_word.specs.Capped.{capped_word}
+use Rattle.hz_word.specs.Covers.{Covers}
+use Rattle.hz_free.specs.Chains.{IsFeedbackFree}
+use Rattle.hz_free.specs.VariableWords.{AreVariableWords, AreCappedWords, variable_history}
 use Rattle.hz_desk.specs.Finding.{FindingOf, values_a, values_b}
 use Rattle.hz_desk.specs.Filled.{IsFilled}
 use Rattle.hz_desk.specs.RightFinding.{IsRightFinding}
 
--- the laws of both algorithms, as the crates below say them
+-- the laws of both algorithms and of words, as the crates below say them
 abbrev pub CoversA : Type 0
 CoversA =
     (net : List Driver) (input start state : List Bool) (rounds : ℕ) → length start ≡ length net → AreRounds (algorithm_a net input start) rounds →
@@ -32,8 +40,25 @@ ExactA =
     IsStable (network_of netlist) own start → AreRounds (algorithm_a (network_of netlist) input start) rounds →
     JoinsTo (IsReachable (network_of netlist) input start) i (value_at (algorithm_a (network_of netlist) input start rounds) i)
 
-pub right-finding : CoversA → CoversB → ExactA → RunsShowB → (netlist : Netlist) (input start : List Bool) (cap : ℕ) (finding : FindingOf) → IsFilled netlist input start cap finding → IsRightFinding (network_of netlist) input start cap finding
-right-finding covers_a covers_b exact_a exact_b netlist input start cap finding filled = record {
+abbrev pub WordsCover : Type 0
+WordsCover =
+    (netlist : Netlist) (input start : List Bool) (words : List (List Bool)) (cap i : ℕ) (steps : List (List ℕ)) → IsCircuit netlist →
+    IsWhole netlist → IsStableStart netlist start → AreVariableWords (network_of netlist) input start words → i < length (network_of netlist) →
+    IsFeedbackFree (network_of netlist) i → IsRun (network_of netlist) input start steps →
+    Covers (capped_word cap (slice_index_or words i [])) (variable_history start steps i)
+
+-- the capped words cover too
+capped-cover : WordsCover → (netlist : Netlist) (input start : List Bool) (cap i : ℕ) (words : List (Option Word)) (word : Word) (steps : List (List ℕ)) → IsCircuit netlist → IsWhole netlist → IsStableStart netlist start → AreCappedWords (network_of netlist) input start cap words → IsFeedbackFree (network_of netlist) i → slice_get words i ≡ Some (Some word) → IsRun (network_of netlist) input start steps → Covers word (variable_history start steps i)
+capped-cover cover netlist input start cap i words word steps circuit whole begins are is_free is run =
+    let there : i < length words = slice_get_within words i (Some word) is in
+    let inside : i < length (network_of netlist) = omega (arith, there, are.long) in
+    let capped = capped_word cap (slice_index_or are.words i []) in
+    let same : capped ≡ word = (let both : Some (Some capped) ≡ Some (Some word) = sym (are.free i inside is_free) ∙ is in cc) in
+    subst (λ (w : Word). Covers w (variable_history start steps i)) same
+    (cover netlist input start are.words cap i steps circuit whole begins are.are_words inside is_free run)
+
+pub right-finding : CoversA → CoversB → ExactA → RunsShowB → WordsCover → (netlist : Netlist) (input start : List Bool) (cap : ℕ) (finding : FindingOf) → IsFilled netlist input start cap finding → IsRightFinding (network_of netlist) input start cap finding
+right-finding covers_a covers_b exact_a exact_b words_cover netlist input start cap finding filled = record {
   variables_are = filled.variables_are;
   input_is = filled.input_is;
   starts = filled.rows.starts;
@@ -52,7 +77,13 @@ right-finding covers_a covers_b exact_a exact_b netlist input start cap finding 
       filled.runs.is_settle filled.runs.is_cycle);
   b_covers = λ state outcome. subst (Refines state) (sym b_is)
       (covers_b net input start state finding.rounds_a finding.rounds_b filled.begins.long filled.passed.a_rounds outcome);
-  changes = record { words = filled.words; are_words = filled.are_words; counted = filled.rows.changes };
+  changes = record {
+    words = filled.words;
+    are_words = filled.are_words;
+    counted = filled.rows.changes;
+    cover = λ i word steps is_free is run.
+        capped-cover words_cover netlist input start cap i filled.words word steps filled.circuit filled.whole filled.begins filled.are_words is_free is run;
+  };
   classes = filled.rows.classes;
   spread = subst (λ (values : List Tri). IsSpreadRun net input start values finding.spread) (sym in_a) filled.runs.is_spread;
   spread_flips = filled.runs.spread_flips ∙ ap unknown_count (sym in_a);

@@ -1,7 +1,7 @@
 -- What the parts of a finding are once an analysis filled them. Words about the inside of hz_desk.
 use Rattle.std.specs.Prelude.{◌≡◌, ℕ, Bool, Option, List, length}
 use Rattle.hz_core.specs.declared.tri.Tri.{Tri}
-use Rattle.hz_core.specs.Netlist.{Netlist, IsCircuit}
+use Rattle.hz_core.specs.Netlist.{Netlist, IsCircuit, IsWhole}
 use Rattle.hz_core.specs.Ternary.{unknown_count}
 use Rattle.hz_net.specs.Network.{Driver, network_of}
 use Rattle.hz_net.specs.Starts.{IsStableStart}
@@ -45,6 +45,7 @@ pub record AreRacesOf (net : List Driver) (input start : List Bool) (spread sett
 -- all parts are those of one change
 pub record IsFilled (netlist : Netlist) (input start : List Bool) (cap : ℕ) (finding : FindingOf) : Type 0 where
   pub circuit : IsCircuit netlist
+  pub whole : IsWhole netlist
   pub begins : IsStableStart netlist start
   pub variables_are : finding.variables ≡ length (network_of netlist)
   pub input_is : finding.input ≡ input

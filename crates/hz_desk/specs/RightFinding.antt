@@ -1,25 +1,31 @@
 -- A right finding: what holds of the finding of a change, for a circuit, a start, a new input and a cap.
-use Rattle.std.specs.Prelude.{◌≡◌, ℕ, ◌+◌, ◌<◌, ◌≤◌, Bool, Option, List, length, map, option_map, All}
+use Rattle.std.specs.Prelude.{◌≡◌, ℕ, ◌+◌, ◌<◌, ◌≤◌, Bool, Option, Some, List, length, map, option_map, slice_get, All}
 use Rattle.hz_core.specs.Ternary.{unknown_count, Refines}
 use Rattle.hz_net.specs.Network.{Driver, value_at}
 use Rattle.hz_net.specs.Passes.{algorithm_a, algorithm_b, AreRounds}
-use Rattle.hz_gmw.specs.Runs.{end_of, IsReachable, JoinsTo}
+use Rattle.hz_gmw.specs.Runs.{IsRun, end_of, IsReachable, JoinsTo}
 use Rattle.hz_gmw.specs.RunRecord.{flip_count}
 use Rattle.hz_gmw.specs.Cycles.{states_of, IsOutcome}
 use Rattle.hz_reach.specs.Spread.{IsSpreadRun}
 use Rattle.hz_cycle.specs.Cycles.{IsSettleRun, IsCycleOf}
 use Rattle.hz_word.specs.declared.count.Count.{Count}
 use Rattle.hz_word.specs.declared.word.Word.{Word}
-use Rattle.hz_free.specs.VariableWords.{AreCappedWords}
+use Rattle.hz_word.specs.Covers.{Covers}
+use Rattle.hz_free.specs.Chains.{IsFeedbackFree}
+use Rattle.hz_free.specs.VariableWords.{AreCappedWords, variable_history}
 use Rattle.hz_desk.specs.Class.{IsClass}
 use Rattle.hz_desk.specs.Races.{race_count, cycle_states}
 use Rattle.hz_desk.specs.Finding.{FindingOf, values_a, values_b}
 
--- The numbers of changes are those of the words of the feedback-free variables, under the cap; no other variable has one.
+-- The numbers of changes are those of the words of the feedback-free variables, under the cap; no other variable has one. Along
+-- every run from the start the word of such a variable covers its history: it begins as the word does, and changes at most as often.
 pub record AreChanges (net : List Driver) (input start : List Bool) (cap : ℕ) (changes : List (Option Count)) : Type 0 where
   pub words : List (Option Word)
   pub are_words : AreCappedWords net input start cap words
   pub counted : changes ≡ map (option_map (λ word. word.changes)) words
+  pub cover :
+      (i : ℕ) (word : Word) (steps : List (List ℕ)) → IsFeedbackFree net i → slice_get words i ≡ Some (Some word)
+      → IsRun net input start steps → Covers word (variable_history start steps i)
 
 -- A finding is right for a network, a new input, a start and a cap:
 -- it has a row for each variable, with its value at the start;
@@ -28,7 +34,8 @@ pub record AreChanges (net : List Driver) (input start : List Bool) (cap : ℕ) 
 -- all rows;
 -- the B of a row is the join of the variable's values over all outcome states, those that are reached from the nontransient
 -- cycles of the runs, and each such state refines the B of all rows;
--- its numbers of changes are those of the words, and its classes are those of its rows;
+-- its numbers of changes are those of the words, which cover what each run makes of a variable, and its classes are those of its
+-- rows;
 -- the spread run changes each variable that is X in A once, and no other variable;
 -- the settle run leads from the start to a nontransient cycle, in which each variable that is X in B takes both values, and
 -- each other variable keeps its value of B and is stable;

@@ -77,8 +77,7 @@ impl<'n> Desk<'n> {
         &self.room.finding
     }
 
-    /// The finding of the last change. Before the first change each variable stays 0 in it, no round is made, and no run has
-    /// a step.
+    /// The finding of the last change. Before the first change it says nothing.
     pub fn finding(&self) -> &Finding
         ensures same { finding_of result.now ≡ self.now.finding }
         ensures rows { length result.now.rows ≡ length (network_of self.now.netlist) }

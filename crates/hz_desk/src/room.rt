@@ -16,7 +16,7 @@ use crate::races::count_races;
 use crate::runs::make_runs;
 use hz_core::Memory;
 use hz_cycle::runs_show_b;
-use hz_free::{Free, words_change};
+use hz_free::{Free, words_change, words_cover};
 use hz_gmw::{Follower, a_covers, b_covers};
 use hz_net::Net;
 use hz_reach::{Scratch, a_is_exact};
@@ -145,7 +145,7 @@ fn fill_rows(
     rounds
 }
 
-// The laws of both algorithms, for a finding that is filled.
+// The laws of both algorithms and of words, for a finding that is filled.
 pub(crate) fn filled_is_right()
     ensures { FilledIsRight }
 {
@@ -153,4 +153,5 @@ pub(crate) fn filled_is_right()
     b_covers();
     a_is_exact();
     runs_show_b();
+    words_cover();
 }

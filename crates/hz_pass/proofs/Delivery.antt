@@ -28,7 +28,7 @@ counted-known One known = refl
 counted-known Unknown known = absurd (known refl)
 
 -- a known value in the place of an X leaves one X less, and in any place no more
-unknown_count-less : (values : List Tri) (i : ℕ) (value : Tri) → i < length values → value_at values i ≡ Unknown → value ≢ Unknown → unknown_count (set values i value) + 1 ≡ unknown_count values
+pub unknown_count-less : (values : List Tri) (i : ℕ) (value : Tri) → i < length values → value_at values i ≡ Unknown → value ≢ Unknown → unknown_count (set values i value) + 1 ≡ unknown_count values
 unknown_count-less values i value inside was known =
     omega (arith, sum_by-set counted values i value Zero inside, counted-known value known, ap counted was)
 

@@ -33,7 +33,7 @@ slice_range-set values at from count value outside =
     (λ k few. get_or-set_other values at (from + k) value Zero (outside k few))
 
 -- pins that are forced, by places
-AreForced-places : (netlist : Netlist) (listed : List (Option Bool)) (sources : List ℕ) (pins : List Tri) → length pins ≡ length sources → ((k : ℕ) (bit : Bool) → k < length sources → value_at pins k ≡ tri_of bit → IsForced netlist listed (get_or sources k 0) bit) → AreForced netlist listed sources pins
+pub AreForced-places : (netlist : Netlist) (listed : List (Option Bool)) (sources : List ℕ) (pins : List Tri) → length pins ≡ length sources → ((k : ℕ) (bit : Bool) → k < length sources → value_at pins k ≡ tri_of bit → IsForced netlist listed (get_or sources k 0) bit) → AreForced netlist listed sources pins
 AreForced-places netlist listed [] [] same each = tt
 AreForced-places netlist listed [] (pin ∷ pins) same each = cc
 AreForced-places netlist listed (source ∷ sources) [] same each = cc
@@ -42,16 +42,16 @@ AreForced-places netlist listed (source ∷ sources) (pin ∷ pins) same each = 
   AreForced-places netlist listed sources pins (omega (arith, same)) (λ k bit few known. each (suc k) bit (omega (arith, few)) known),
 )
 
-known-bit : (value : Tri) → (value ≡ Unknown) ⊎ ((bit : Bool) × (value ≡ tri_of bit))
+pub known-bit : (value : Tri) → (value ≡ Unknown) ⊎ ((bit : Bool) × (value ≡ tri_of bit))
 known-bit Zero = inr (false, refl)
 known-bit One = inr (true, refl)
 known-bit Unknown = inl refl
 
-known≢unknown : (value : Tri) (bit : Bool) → value ≡ tri_of bit → value ≢ Unknown
+pub known≢unknown : (value : Tri) (bit : Bool) → value ≡ tri_of bit → value ≢ Unknown
 known≢unknown value false e = λ u. cc
 known≢unknown value true e = λ u. cc
 
-same-known : (bit other : Bool) → tri_of bit ≡ tri_of other → bit ≡ other
+pub same-known : (bit other : Bool) → tri_of bit ≡ tri_of other → bit ≡ other
 same-known false false e = refl
 same-known false true e = cc
 same-known true false e = cc
@@ -65,7 +65,7 @@ Contains-head head element rest (zero, inside, e) = inl e
 Contains-head head element rest (suc k, inside, e) = inr (k, omega (arith, inside), e)
 
 -- an entry whose value is a bit's
-listed-entry : (entry : Option Bool) (bit : Bool) → listed_value (Some entry) ≡ tri_of bit → entry ≡ Some bit
+pub listed-entry : (entry : Option Bool) (bit : Bool) → listed_value (Some entry) ≡ tri_of bit → entry ≡ Some bit
 listed-entry None bit e = absurd (known≢unknown Unknown bit e refl)
 listed-entry (Some known) bit e = ap Some (same-known known bit e)
 

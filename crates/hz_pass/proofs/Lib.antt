@@ -13,4 +13,5 @@ pub mod Delivery
 pub mod CutLists
 pub mod ListedLoop
 pub mod CompletedLemmas
+pub mod Decided
 pub mod TestStarts

@@ -7,6 +7,7 @@
 //! | `completed_start` | the start that listed values force, or what keeps them from one |
 //! | `cuts` | the cuts by their data nodes |
 //! | `forcing` | how values are forced from node to node |
+//! | `laws` | the law that every listing of the inputs is open, unstable or accepted |
 //! | `front` | the frontier of a pass: what a round changed, whose readers the next one evaluates |
 //! | `round`, `rounds` | one round of either, and all of them |
 #![tactic(auto)]
@@ -17,6 +18,7 @@ mod completed_start;
 mod cuts;
 mod forcing;
 mod front;
+mod laws;
 mod round;
 mod rounds;
 #[cfg(test)]
@@ -26,3 +28,4 @@ pub use algorithm_a::{spread, spread_stable};
 pub use algorithm_b::settle;
 pub use completed_start::{StartFault, complete};
 pub use front::Front;
+pub use laws::starts_are_decided;

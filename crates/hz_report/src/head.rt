@@ -51,8 +51,10 @@ pub(crate) fn write_netlist<K: Sink>(writer: &mut Writer<'_, K>, net: &Net)
 
 // Gives a line for each feedback cycle.
 fn write_feedback<K: Sink>(writer: &mut Writer<'_, K>, net: &Net, free: &Free)
-    requires { IsFreePart net.now free.now }
-    ensures { Writes K.output K.faults (flat_map (feedback_line net.now) free.now.cycles) writer.old writer.new }
+    requires part { IsFreePart net.now free.now }
+    requires none_waits { NoneWaits writer.old }
+    ensures gave { Writes K.output K.faults (flat_map (feedback_line net.now) free.now.cycles) writer.old writer.new }
+    ensures none_waits { NoneWaits writer.new }
 {
     for number in 0..free.cycles() {
         write_cycle(writer, net, free.cycle(number));

@@ -22,9 +22,11 @@ use hz_write::Writer;
 
 // Gives the line of each variable that is shown.
 pub(crate) fn write_rows<K: Sink>(writer: &mut Writer<'_, K>, net: &Net, rows: &Rows, show: Show)
-    requires { length rows.now ≡ length (network_of net.now) }
-    ensures { Writes K.output K.faults
+    requires rows { length rows.now ≡ length (network_of net.now) }
+    requires none_waits { NoneWaits writer.old }
+    ensures gave { Writes K.output K.faults
         (row_lines net.now 0 (shown_rows net.now show rows.now)) writer.old writer.new }
+    ensures none_waits { NoneWaits writer.new }
 {
     let count = shown_count(net, show);
     for var in 0..count {

@@ -2,6 +2,7 @@
 //! where whole jobs are.
 ghost use Rattle.std.specs.Prelude.{◌≡◌, length, IfOk};
 ghost use Rattle.hz_net.specs.Network.{network_of};
+ghost use Rattle.hz_write.specs.Writer.{NoneWaits};
 
 use super::{write_head, write_stopped};
 use crate::head::write_start;
@@ -71,7 +72,8 @@ fn a_gate_that_reads_itself(rt: HostRuntime) -> Result<(), Fail> {
 
 // Gives all that is told of rows, and the nodes' rows first.
 fn write_told<K: Sink>(writer: &mut Writer<'_, K>, net: &Net, rows: &Rows)
-    requires { length rows.now ≡ length (network_of net.now) }
+    requires rows { length rows.now ≡ length (network_of net.now) }
+    requires none_waits { NoneWaits writer.old }
 {
     write_rows(writer, net, rows, Show::Nodes);
     write_start(writer, net, rows.starts());

@@ -3,7 +3,7 @@
 ghost use Rattle.std.specs.Prelude.{◌≡◌, ◌<◌, length, IfOk, map, codes, is_some};
 ghost use Rattle.std.specs.List.{flat_map, list_any};
 ghost use Rattle.hz_core.specs.Netlist.{IsCircuit};
-ghost use Rattle.hz_write.specs.Writer.{Writes};
+ghost use Rattle.hz_write.specs.Writer.{Writes, NoneWaits};
 ghost use Rattle.hz_write.specs.Writes.{Wrote};
 ghost use Rattle.hz_text.specs.Printed.{letter_of, statement_text, listed_from};
 ghost use Rattle.hz_text.specs.PatternFault.{IsPatternFaultless};
@@ -34,7 +34,9 @@ pub fn print_patterns(
     let mut sink = PlainSink::new(alloc);
     match write_patterns(&mut sink, circuit, patterns) {
         Ok(()) => Ok(sink.into_bytes()),
-        Err(_) => Err(Memory),
+        Err(PutFault::Memory) => Err(Memory),
+        // No put into memory fails.
+        Err(PutFault::Failed) => unreachable!(),
     }
 }
 
@@ -60,7 +62,9 @@ fn write_patterns<K: Sink>(
 fn write_hold<K: Sink>(writer: &mut Writer<'_, K>, circuit: &Circuit, held: &[Option<bool>])
     requires circuit { IsCircuit circuit.now }
     requires nodes { length held.now ≡ length circuit.now.names }
-    ensures { Writes K.output K.faults (hold_text circuit.now (listed_from 0 held.now)) writer.old writer.new }
+    requires none_waits { NoneWaits writer.old }
+    ensures gave { Writes K.output K.faults (hold_text circuit.now (listed_from 0 held.now)) writer.old writer.new }
+    ensures none_waits { NoneWaits writer.new }
 {
     if holds_any(held) {
         write_held(writer, circuit, held);
@@ -79,7 +83,9 @@ fn holds_any(held: &[Option<bool>]) -> bool
 fn write_held<K: Sink>(writer: &mut Writer<'_, K>, circuit: &Circuit, held: &[Option<bool>])
     requires circuit { IsCircuit circuit.now }
     requires nodes { length held.now ≡ length circuit.now.names }
-    ensures { Writes K.output K.faults (statement_text circuit.now (codes "hold") (listed_from 0 held.now)) writer.old writer.new }
+    ensures gave { Writes K.output K.faults
+        (statement_text circuit.now (codes "hold") (listed_from 0 held.now)) writer.old writer.new }
+    ensures none_waits { NoneWaits writer.new }
 {
     writer.text(b"hold");
     write_listed(writer, circuit, held);
@@ -88,7 +94,9 @@ fn write_held<K: Sink>(writer: &mut Writer<'_, K>, circuit: &Circuit, held: &[Op
 
 // Gives the line of each pattern.
 fn write_all<K: Sink>(writer: &mut Writer<'_, K>, patterns: &Patterns)
-    ensures { Writes K.output K.faults (flat_map pattern_text patterns.now.patterns) writer.old writer.new }
+    requires none_waits { NoneWaits writer.old }
+    ensures gave { Writes K.output K.faults (flat_map pattern_text patterns.now.patterns) writer.old writer.new }
+    ensures none_waits { NoneWaits writer.new }
 {
     for number in 0..patterns.count() {
         write_pattern(writer, patterns.from(number), patterns.to(number));
@@ -98,7 +106,9 @@ fn write_all<K: Sink>(writer: &mut Writer<'_, K>, patterns: &Patterns)
 // Gives the line of a pattern.
 #[tactic(auto, using(hz_write::proofs::Writers::writes_then), unfolding(crate::specs::PatternPrinted::pattern_text))]
 fn write_pattern<K: Sink>(writer: &mut Writer<'_, K>, from: &[bool], to: &[bool])
-    ensures { Writes K.output K.faults (pattern_text (record { from = from.now; to = to.now })) writer.old writer.new }
+    ensures gave { Writes K.output K.faults
+        (pattern_text (record { from = from.now; to = to.now })) writer.old writer.new }
+    ensures none_waits { NoneWaits writer.new }
 {
     writer.text(b"from ");
     write_word(writer, from);

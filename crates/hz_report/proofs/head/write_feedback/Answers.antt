@@ -5,4 +5,4 @@ use Rattle.hz_report.proofs.head.write_feedback.Goals as goal
 
 pub write_cycle-requires : goal.write_cycle-requires
 write_cycle-requires g c =
-    cycle-within (network_of c.args.net.now) c.cycle.result.now (c.cycle.ensures.is_cycle c.args.net.now c.requires)
+    cycle-within (network_of c.args.net.now) c.cycle.result.now (c.cycle.ensures.is_cycle c.args.net.now c.requires.part)

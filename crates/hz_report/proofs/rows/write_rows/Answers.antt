@@ -12,10 +12,12 @@ pub write_row-requires : goal.write_row-requires
 write_row-requires g c = omega (arith, shown-within c.args.net.now c.args.show c.shown_count-count.ensures.circuit)
 
 pub loop-var-preserved : goal.loop-var-preserved
-loop-var-preserved g c =
-    writes_then c.loop-var.invariant c.write_row.ensures.gave (sym (row_lines_more c.args.net.now c.args.rows.now c.loop-var.var c.row.result c.row.ensures))
+loop-var-preserved g c = (
+  writes_then c.loop-var.invariant.0 c.write_row.ensures.gave (sym (row_lines_more c.args.net.now c.args.rows.now c.loop-var.var c.row.result c.row.ensures)),
+  c.write_row.ensures.none_waits,
+)
 
-pub returns : goal.returns
-returns g c =
+pub returns-clause-gave : goal.returns-clause-gave
+returns-clause-gave g c =
     let every : c.loop-var.var ≡ shown_count c.args.net.now c.args.show = omega arith in
-    rw (every, take-shown c.args.net.now c.args.show c.args.rows.now c.requires) at c.loop-var.invariant
+    rw (every, take-shown c.args.net.now c.args.show c.args.rows.now c.requires.rows) at c.loop-var.invariant.0

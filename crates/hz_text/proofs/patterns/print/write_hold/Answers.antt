@@ -4,7 +4,7 @@ use Rattle.hz_write.proofs.Writers.{writes_same, writes_nothing}
 use Rattle.hz_text.proofs.PatternPrintLemmas.{hold_none}
 use Rattle.hz_text.proofs.patterns.print.write_hold.Goals as goal
 
-pub returns-else-holds_any : goal.returns-else-holds_any
-returns-else-holds_any g c =
+pub returns-else-holds_any-clause-gave : goal.returns-else-holds_any-clause-gave
+returns-else-holds_any-clause-gave g c =
     writes_same (writes_nothing c.args.writer.now)
     (hold_none c.args.circuit.now c.args.held.now (sym c.holds_any.ensures ∙ c.if-holds_any.false))
