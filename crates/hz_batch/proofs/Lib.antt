@@ -1,3 +1,4 @@
 pub mod HeldLemmas
 pub mod ColumnLemmas
 pub mod LineLemmas
+pub mod OutcomeLemmas

@@ -45,6 +45,7 @@ pub(crate) fn write_lane<K: Sink>(
     ensures gave { (loaded : Loaded) → slice_get planes.now.lanes at.lane ≡ Some (Some loaded) → (outcome : Outcome) × IsOutcome net.now loaded.listed loaded.input outcome × IsMarkOf outcome result × Writes K.output K.faults (outcome_line net.now at.number outcome) writer.old writer.new }
     ensures none_waits { NoneWaits writer.new }
 {
+    let _variables = net.len();
     match planes.fault(net, at.lane) {
         Some(LaneFault::Open { gate }) => {
             write_refused(writer, net.circuit(), at.number, b" open ", gate);
