@@ -2,3 +2,5 @@ pub mod HeldLemmas
 pub mod ColumnLemmas
 pub mod LineLemmas
 pub mod OutcomeLemmas
+pub mod LaneLoads
+pub mod Joined

@@ -19,3 +19,4 @@ pub mod Counts
 pub mod Columns
 pub mod Lines
 pub mod Inside
+pub mod Written

@@ -11,6 +11,7 @@ ghost use Rattle.hz_batch.specs.Columns.{AreColumns};
 ghost use Rattle.hz_batch.specs.Counts.{AddsCounts, AreWithin, no_counts};
 ghost use Rattle.hz_batch.specs.Inside.{IsWork, IsRoomFor};
 ghost use Rattle.hz_batch.specs.Outcome.{Outcome, AreOutcomes};
+ghost use Rattle.hz_batch.specs.Written.{AreWritten};
 
 use crate::counts::Counts;
 use crate::firsts::{Column, keep_values};
@@ -51,12 +52,12 @@ pub(crate) fn write_blocks<K: Sink>(
     requires decided { StartsAreDecided }
     requires a_exists { ResultOfAExists }
     requires b_exists { ResultOfBExists }
-    requires work { IsWork work }
-    requires net { AreOf work.net.now planes.old }
-    requires room { IsRoomFor work.net.now room.old }
+    requires work { IsWork work.now }
+    requires net { AreOf work.now.net.now planes.old }
+    requires room { IsRoomFor work.now.net.now room.old }
     requires counts { room.old.counts ≡ no_counts }
-    ensures gave { (outcomes : List Outcome) × AreOutcomes work.net.now work.patterns.now.held work.patterns.now.patterns outcomes × Writes K.output K.faults (outcome_lines work.net.now 1 outcomes) writer.old writer.new × (has_failed writer.new ≡ false → AddsCounts outcomes no_counts room.new.counts) }
-    ensures planes { has_failed writer.new ≡ false → planes.new ≡ planes_after work.patterns.now planes.old (block_count (length work.patterns.now.patterns)) }
+    ensures gave { (outcomes : List Outcome) × AreOutcomes work.now.net.now work.now.patterns.now.held work.now.patterns.now.patterns outcomes × Writes K.output K.faults (outcome_lines work.now.net.now 1 outcomes) writer.old writer.new × (has_failed writer.new ≡ false → AddsCounts outcomes no_counts room.new.counts) }
+    ensures planes { has_failed writer.new ≡ false → planes.new ≡ planes_after work.now.patterns.now planes.old (block_count (length work.now.patterns.now.patterns)) }
 {
     for block in 0..work.patterns.count().div_ceil(BLOCK) {
         if writer.has_failed() {
@@ -76,14 +77,14 @@ fn write_block<K: Sink>(
 )
     requires a_exists { ResultOfAExists }
     requires b_exists { ResultOfBExists }
-    requires work { IsWork work }
-    requires first { first < length work.patterns.now.patterns }
-    requires net { AreOf work.net.now planes.old }
-    requires room { IsRoomFor work.net.now room.old }
+    requires work { IsWork work.now }
+    requires first { first < length work.now.patterns.now.patterns }
+    requires net { AreOf work.now.net.now planes.old }
+    requires room { IsRoomFor work.now.net.now room.old }
     requires counts { AreWithin first room.old.counts }
-    ensures room { IsRoomFor work.net.now room.new }
-    ensures gave { (outcomes : List Outcome) × AreOutcomes work.net.now work.patterns.now.held (take 512 (drop first work.patterns.now.patterns)) outcomes × Writes K.output K.faults (outcome_lines work.net.now (first + 1) outcomes) writer.old writer.new × AddsCounts outcomes room.old.counts room.new.counts }
-    ensures planes { planes.new ≡ record planes.old { stage = Settled; settles = min (planes.old.settles + 1) (2 ^ 64 - 1); lanes = lanes_with work.patterns.now.held (take 512 (drop first work.patterns.now.patterns)) } }
+    ensures room { IsRoomFor work.now.net.now room.new }
+    ensures gave { AreWritten K.output K.faults work.now.net.now work.now.patterns.now.held (take 512 (drop first work.now.patterns.now.patterns)) (first + 1) writer.old writer.new room.old.counts room.new.counts }
+    ensures planes { planes.new ≡ record planes.old { stage = Settled; settles = min (planes.old.settles + 1) (2 ^ 64 - 1); lanes = lanes_with work.now.patterns.now.held (take 512 (drop first work.now.patterns.now.patterns)) } }
 {
     let lanes = (work.patterns.count() - first).min(BLOCK) as u32;
     load(work, first, lanes, planes);
@@ -96,12 +97,13 @@ fn write_block<K: Sink>(
 
 // Loads patterns into the first lanes.
 fn load(work: &Work<'_>, first: usize, lanes: u32, planes: &mut Planes)
-    requires work { IsWork work }
+    requires work { IsWork work.now }
     requires lanes { lanes ≤ 512 }
-    requires last { first + lanes ≤ length work.patterns.now.patterns }
-    requires net { AreOf work.net.now planes.old }
-    ensures { planes.new ≡ record planes.old { stage = Loading; lanes = lanes_with work.patterns.now.held (take lanes (drop first work.patterns.now.patterns)) } }
+    requires last { first + lanes ≤ length work.now.patterns.now.patterns }
+    requires net { AreOf work.now.net.now planes.old }
+    ensures { planes.new ≡ record planes.old { stage = Loading; lanes = lanes_with work.now.patterns.now.held (take lanes (drop first work.now.patterns.now.patterns)) } }
 {
+    let _variables = work.net.len();
     planes.clear();
     for lane in 0..lanes {
         let number = first + lane as usize;
@@ -126,17 +128,17 @@ fn write_lanes<K: Sink>(
 )
     requires a_exists { ResultOfAExists }
     requires b_exists { ResultOfBExists }
-    requires work { IsWork work }
+    requires work { IsWork work.now }
     requires lanes { lanes ≤ 512 }
-    requires last { first + lanes ≤ length work.patterns.now.patterns }
-    requires net { AreOf work.net.now planes.now }
+    requires last { first + lanes ≤ length work.now.patterns.now.patterns }
+    requires net { AreOf work.now.net.now planes.now }
     requires stage { planes.now.stage ≡ Settled }
-    requires loaded { planes.now.lanes ≡ lanes_with work.patterns.now.held (take lanes (drop first work.patterns.now.patterns)) }
-    requires firsts { AreColumns work.net.now Spread planes.now.lanes work.net.now.outputs room.old.firsts.items }
-    requires room { IsRoomFor work.net.now room.old }
+    requires loaded { planes.now.lanes ≡ lanes_with work.now.patterns.now.held (take lanes (drop first work.now.patterns.now.patterns)) }
+    requires firsts { AreColumns work.now.net.now Spread planes.now.lanes work.now.net.now.outputs room.old.firsts.items }
+    requires room { IsRoomFor work.now.net.now room.old }
     requires counts { AreWithin first room.old.counts }
-    ensures room { IsRoomFor work.net.now room.new }
-    ensures gave { (outcomes : List Outcome) × AreOutcomes work.net.now work.patterns.now.held (take lanes (drop first work.patterns.now.patterns)) outcomes × Writes K.output K.faults (outcome_lines work.net.now (first + 1) outcomes) writer.old writer.new × AddsCounts outcomes room.old.counts room.new.counts }
+    ensures room { IsRoomFor work.now.net.now room.new }
+    ensures gave { AreWritten K.output K.faults work.now.net.now work.now.patterns.now.held (take lanes (drop first work.now.patterns.now.patterns)) (first + 1) writer.old writer.new room.old.counts room.new.counts }
 {
     for lane in 0..lanes {
         let at = Lane {

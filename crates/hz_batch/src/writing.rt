@@ -103,12 +103,12 @@ fn write_all<K: Sink>(
     requires decided { StartsAreDecided }
     requires a_exists { ResultOfAExists }
     requires b_exists { ResultOfBExists }
-    requires work { IsWork work }
-    requires net { AreOf work.net.now planes.old }
-    requires room { IsRoomFor work.net.now room.old }
+    requires work { IsWork work.now }
+    requires net { AreOf work.now.net.now planes.old }
+    requires room { IsRoomFor work.now.net.now room.old }
     requires counts { room.old.counts ≡ no_counts }
-    ensures gave { (text : List ℕ) × IsBatchText work.net.now work.patterns.now text × Writes K.output K.faults text writer.old writer.new }
-    ensures planes { has_failed writer.new ≡ false → planes.new ≡ planes_after work.patterns.now planes.old (block_count (length work.patterns.now.patterns)) }
+    ensures gave { (text : List ℕ) × IsBatchText work.now.net.now work.now.patterns.now text × Writes K.output K.faults text writer.old writer.new }
+    ensures planes { has_failed writer.new ≡ false → planes.new ≡ planes_after work.now.patterns.now planes.old (block_count (length work.now.patterns.now.patterns)) }
 {
     write_blocks(writer, work, planes, room);
     if writer.has_failed() {
