@@ -4,3 +4,4 @@ pub mod LineLemmas
 pub mod OutcomeLemmas
 pub mod LaneLoads
 pub mod Joined
+pub mod BlockLaws
