@@ -39,6 +39,13 @@ take-blocks all block =
 pub block-begins : (block n : ℕ) → block < block_count n → block * 512 < n
 block-begins block n below = omega (arith, below)
 
+-- as the code counts them
+pub blocks-same : (block n : ℕ) → block < n / 512 + min 1 (n % 512) → block < block_count n
+blocks-same block n below = omega (arith, below)
+
+pub count-same : (n : ℕ) → n / 512 + min 1 (n % 512) ≡ block_count n
+count-same n = omega arith
+
 pub blocks-cover : (block n : ℕ) → block_count n ≤ block → n ≤ block * 512
 blocks-cover block n all = omega (arith, all)
 

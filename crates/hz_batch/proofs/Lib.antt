@@ -5,3 +5,4 @@ pub mod OutcomeLemmas
 pub mod LaneLoads
 pub mod Joined
 pub mod BlockLaws
+pub mod Exist

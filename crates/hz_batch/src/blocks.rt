@@ -59,6 +59,7 @@ pub(crate) fn write_blocks<K: Sink>(
     ensures gave { (outcomes : List Outcome) × AreOutcomes work.now.net.now work.now.patterns.now.held work.now.patterns.now.patterns outcomes × Writes K.output K.faults (outcome_lines work.now.net.now 1 outcomes) writer.old writer.new × (has_failed writer.new ≡ false → AddsCounts outcomes no_counts room.new.counts) }
     ensures planes { has_failed writer.new ≡ false → planes.new ≡ planes_after work.now.patterns.now planes.old (block_count (length work.now.patterns.now.patterns)) }
 {
+    let _variables = work.net.len();
     for block in 0..work.patterns.count().div_ceil(BLOCK) {
         if writer.has_failed() {
             return;
