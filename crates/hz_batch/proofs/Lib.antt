@@ -6,3 +6,4 @@ pub mod LaneLoads
 pub mod Joined
 pub mod BlockLaws
 pub mod Exist
+pub mod Texts

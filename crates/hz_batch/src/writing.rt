@@ -62,6 +62,7 @@ fn write_batch<K: Sink>(
 {
     starts_are_decided();
     passes_end();
+    let _variables = net.len();
     let Ok(held) = held_gates(alloc, patterns.held()) else {
         return Err(PutFault::Memory);
     };
