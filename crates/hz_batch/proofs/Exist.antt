@@ -1,12 +1,12 @@
 -- Every pattern comes to an outcome, also if it is never looked at.
-use Rattle.std.proofs.Common.{◌≡◌, ◌∙◌, refl, sym, ap, subst, ℕ, ◌+◌, ◌-◌, ◌<◌, ◌≤◌, Bool, true, false, List, [], ◌∷◌, ◌++◌, length, map, take, drop, get_or, Option, Some, None, inl, inr, arith}
-use Rattle.std.specs.Prelude.{slice_get, ◌⊎◌, All}
-use Rattle.std.proofs.lemmas.List.{length-append, length-map, length-drop, length-take-le, get_or_append_left, get_or-map, take-append-drop}
+use Rattle.std.proofs.Common.{◌≡◌, ◌∙◌, refl, ap, subst, ℕ, ◌+◌, ◌<◌, Bool, true, false, List, [], ◌∷◌, ◌++◌, length, map, take, drop, get_or, Option, Some, None, inl, inr, arith}
+use Rattle.std.specs.Prelude.{◌⊎◌, All}
+use Rattle.std.proofs.lemmas.List.{length-append, length-map, length-drop, get_or_append_left, get_or-map, take-append-drop}
 use Rattle.std.proofs.lemmas.List.Elements.{All-head, All-tail, All-drop}
 use Rattle.std.proofs.lemmas.Option.{slice_get-get_or}
 use Rattle.hz_outside.specs.WrittenText.{Output}
 use Rattle.hz_core.specs.declared.tri.Tri.{Tri}
-use Rattle.hz_core.specs.Netlist.{Netlist, IsCircuit, IsPrimaryInput}
+use Rattle.hz_core.specs.Netlist.{Netlist, IsCircuit}
 use Rattle.hz_net.specs.Network.{network_of}
 use Rattle.hz_net.specs.Passes.{algorithm_a, algorithm_b, IsResult}
 use Rattle.hz_net.specs.Starts.{ListsInputs, IsAcceptedStart}
@@ -21,7 +21,7 @@ use Rattle.hz_batch.specs.declared.counts.Counts.{Counts}
 use Rattle.hz_batch.specs.BatchText.{outcome_lines, IsBatchText, counts_of}
 use Rattle.hz_batch.specs.Outcome.{Outcome, Open, Unstable, Settled, IsOutcome, AreOutcomes, listing_of}
 use Rattle.hz_batch.specs.Written.{AreWritten}
-use Rattle.hz_batch.proofs.Joined.{outcomes-append, outcomes-length, lines-append}
+use Rattle.hz_batch.proofs.Joined.{outcomes-append, lines-append}
 
 -- a listed start comes to an outcome
 outcome-exists : (netlist : Netlist) (listed : List (Option Bool)) (input : List Bool) → StartsAreDecided → ResultOfAExists → ResultOfBExists → IsCircuit netlist → length listed ≡ length netlist.names → ListsInputs netlist listed →
@@ -30,8 +30,10 @@ outcome-exists netlist listed input decided a_exists b_exists circuit long lists
   where
     by_b : (start : List Bool) → IsAcceptedStart netlist listed start → (a : List Tri) → IsResult (algorithm_a (network_of netlist) input start) a → ((b : List Tri) × IsResult (algorithm_b (network_of netlist) input a) b) → (outcome : Outcome) × IsOutcome netlist listed input outcome
     by_b start accepted a of_a (b, of_b) = (Settled a b, (start, accepted, of_a, of_b))
+
     by_a : (start : List Bool) → IsAcceptedStart netlist listed start → ((a : List Tri) × IsResult (algorithm_a (network_of netlist) input start) a) → (outcome : Outcome) × IsOutcome netlist listed input outcome
     by_a start accepted (a, of_a) = by_b start accepted a of_a (b_exists (network_of netlist) input start a accepted.completed.long of_a)
+
     by_start : HasOpenNode netlist listed ⊎ (HasUnstableGate netlist listed ⊎ GivesStart netlist listed) → (outcome : Outcome) × IsOutcome netlist listed input outcome
     by_start (inl (node, least)) = (Open node, least)
     by_start (inr (inl (gate, least))) = (Unstable gate, least)
@@ -48,10 +50,11 @@ listing-inputs netlist held pattern circuit nodes long = λ input primary.
     let some : Bool → Option Bool = λ (bit : Bool). Some bit in
     let inside : input < length pattern.from = omega (arith, primary, long) in
     let within : input < length (map some pattern.from) = omega (arith, inside, length-map pattern.from some) in
-    let none : Option Bool = None in
-    (get_or pattern.from input false,
-    slice_get-get_or (listing_of held pattern) input none (omega (arith, within, length-append (map some pattern.from) (drop (length pattern.from) held)))
-    ∙ ap (λ (entry : Option Bool). Some entry) (get_or_append_left (map some pattern.from) (drop (length pattern.from) held) none input within ∙ get_or-map some pattern.from input false none inside))
+    let none : Option Bool = None in (
+      get_or pattern.from input false,
+      slice_get-get_or (listing_of held pattern) input none (omega (arith, within, length-append (map some pattern.from) (drop (length pattern.from) held)))
+          ∙ ap (λ (entry : Option Bool). Some entry) (get_or_append_left (map some pattern.from) (drop (length pattern.from) held) none input within ∙ get_or-map some pattern.from input false none inside),
+    )
 
 -- patterns come to outcomes
 pub outcomes-exist : (netlist : Netlist) (held : List (Option Bool)) (patterns : List PatternOf) → StartsAreDecided → ResultOfAExists → ResultOfBExists → IsCircuit netlist → length held ≡ length netlist.names → All (IsPatternOf netlist.inputs) patterns →

@@ -1,6 +1,6 @@
 -- The gates that are held, as pairs, and the start that a lane lists with them.
 use Rattle.std.proofs.Common.{◌≡◌, ◌∙◌, refl, sym, ap, subst, ℕ, zero, suc, ◌+◌, ◌-◌, ◌<◌, ◌≤◌, Bool, Option, Some, None, List, [], ◌∷◌, ◌++◌, length, map, take, drop, replicate, set, get_or, All, append_assoc, arith}
-use Rattle.std.proofs.lemmas.List.{append-nil, length-append, length-map, length-take-le, set_at, take_more}
+use Rattle.std.proofs.lemmas.List.{length-append, length-map, length-take-le, set_at, take_more}
 use Rattle.std.proofs.lemmas.List.{length-drop}
 use Rattle.std.proofs.lemmas.List.Elements.{All-nil, All-cons, All-head, All-tail, All-weaker, All-same}
 use Rattle.hz_core.specs.Netlist.{Netlist, IsCircuit, IsGateNumber}

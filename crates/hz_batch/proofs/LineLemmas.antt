@@ -1,18 +1,17 @@
 -- The line of a lane, output by output.
-use Rattle.std.proofs.Common.{◌≡◌, ◌∙◌, refl, sym, ap, subst, ℕ, ◌+◌, ◌<◌, ◌≤◌, List, [], ◌∷◌, ◌++◌, length, map, take, set, get_or, Some, Option, Bool, arith}
+use Rattle.std.proofs.Common.{◌≡◌, ◌∙◌, refl, sym, ap, ℕ, ◌+◌, ◌<◌, ◌≤◌, List, [], ◌∷◌, ◌++◌, length, take, set, get_or, Some, Option, arith}
 use Rattle.std.specs.Prelude.{slice_get}
 use Rattle.std.proofs.lemmas.List.{length-set, length-map, take_more, take_more_set, take_all, get_or-map}
 use Rattle.hz_core.specs.declared.tri.Tri.{Tri}
 use Rattle.hz_core.specs.declared.tri.Tri.TheVariants.{Unknown}
 use Rattle.hz_core.specs.Netlist.{Netlist}
-use Rattle.hz_net.specs.Network.{network_of, value_at}
-use Rattle.hz_net.specs.Passes.{algorithm_a, algorithm_b, AreRounds}
+use Rattle.hz_net.specs.Network.{value_at}
 use Rattle.hz_plane.specs.declared.stage.Stage.TheVariants.{Spread, Settled as AllSettled}
 use Rattle.hz_plane.specs.Loads.{Loaded}
 use Rattle.hz_plane.specs.View.{IsLaneValue}
 use Rattle.hz_report.specs.Outputs.{LineOf, output_values}
 use Rattle.hz_batch.specs.Lines.{IsLineFor}
-use Rattle.hz_batch.specs.Outcome.{Outcome, Settled, IsOutcome}
+use Rattle.hz_batch.specs.Outcome.{Settled, IsOutcome}
 
 -- the first outputs of a line have the values of a lane
 pub record IsSetTo (netlist : Netlist) (lanes : List (Option Loaded)) (lane place : ℕ) (line : LineOf) : Type 0 where

@@ -1,17 +1,17 @@
 -- What a lane comes to.
-use Rattle.std.proofs.Common.{◌≡◌, ◌≢◌, ◌∙◌, refl, sym, ap, subst, ℕ, zero, suc, ◌+◌, ◌<◌, Bool, true, false, List, [], ◌∷◌, length, Option, Some, arith}
+use Rattle.std.proofs.Common.{◌≡◌, ◌≢◌, refl, sym, ℕ, zero, suc, ◌<◌, Bool, true, false, List, [], ◌∷◌, length, arith}
 use Rattle.std.specs.List.{list_any}
 use Rattle.hz_core.specs.declared.tri.Tri.{Tri}
 use Rattle.hz_core.specs.declared.tri.Tri.TheVariants.{Zero, One, Unknown}
-use Rattle.hz_core.specs.Netlist.{Netlist, IsCircuit, IsWhole}
+use Rattle.hz_core.specs.Netlist.{Netlist}
 use Rattle.hz_net.specs.Network.{network_of, value_at}
-use Rattle.hz_net.specs.Passes.{algorithm_a, algorithm_b, AreRounds, IsResult}
+use Rattle.hz_net.specs.Passes.{algorithm_a, algorithm_b, IsResult}
 use Rattle.hz_net.specs.Starts.{IsAcceptedStart}
 use Rattle.hz_plane.specs.Loads.{Loaded}
 use Rattle.hz_plane.specs.View.{HasUnknown, IsUnsettled}
 use Rattle.hz_reach.specs.Existence.{ResultOfAExists, ResultOfBExists}
 use Rattle.hz_batch.specs.BatchText.{is_unknown}
-use Rattle.hz_batch.specs.Outcome.{Outcome, Settled, IsOutcome}
+use Rattle.hz_batch.specs.Outcome.{Settled, IsOutcome}
 
 -- no value of a state is X
 none-unknown : (state : List Tri) → ((var : ℕ) → var < length state → value_at state var ≢ Unknown) → list_any is_unknown state ≡ false
@@ -51,5 +51,6 @@ results netlist loaded unsettled a_exists b_exists (start, accepted) says =
       outcome = (start, accepted, (rounds, are, is), (rest, are_rest, is_rest));
       told = unknown-told b unsettled (rw is_rest (rw (← is) at (says start rounds rest accepted are (rw is at are_rest))));
     }
+
     by_a : ((a : List Tri) × IsResult (algorithm_a (network_of netlist) loaded.input start) a) → HasResults netlist loaded unsettled
     by_a (a, of_a) = by_b a of_a (b_exists (network_of netlist) loaded.input start a accepted.completed.long of_a)

@@ -1,11 +1,10 @@
 -- The text of patterns, by what was given and counted.
-use Rattle.std.proofs.Common.{◌≡◌, ◌∙◌, refl, sym, ap, ℕ, ◌+◌, ◌<◌, ◌≤◌, ◌^◌, true, List, [], ◌∷◌, ◌++◌, length, arith}
+use Rattle.std.proofs.Common.{◌≡◌, ◌∙◌, refl, sym, ap, ℕ, ◌<◌, ◌^◌, true, List, ◌++◌, length, arith}
 use Rattle.std.specs.List.{count_by}
 use Rattle.hz_outside.specs.WrittenText.{Output}
 use Rattle.hz_outside.proofs.WrittenLemmas.{TookPrefix-nothing}
-use Rattle.hz_outside.specs.declared.fault.PutFault.TheVariants.{Failed, Memory}
+use Rattle.hz_outside.specs.declared.fault.PutFault.TheVariants.{Memory}
 use Rattle.hz_core.specs.Netlist.{Netlist, IsCircuit}
-use Rattle.hz_core.specs.Limits.{most_variables}
 use Rattle.hz_text.specs.PatternValue.{PatternsOf}
 use Rattle.hz_write.specs.declared.writer.Writer.{Writer}
 use Rattle.hz_write.specs.Writer.{Writes, has_failed}
@@ -35,18 +34,20 @@ module _ {S : Type 0} {output : S → Output} {faults : S → ℕ} where
       Writes output faults (outcome_lines netlist 1 outcomes) a b → Writes output faults (counts_line n counts.open_starts counts.unstable_starts counts.unsettled) b c →
       (text : List ℕ) × IsBatchText netlist value text × Writes output faults text a c
   text-given netlist value outcomes counts n a b c are count adds lines last =
-      let long = outcomes-length netlist value.held value.patterns outcomes are in
-      (outcome_lines netlist 1 outcomes ++ counts_of outcomes,
-      record { outcomes = outcomes; are_outcomes = are; lines = refl },
-      writes_then lines last (ap (λ (line : List ℕ). outcome_lines netlist 1 outcomes ++ line) (counts-told outcomes counts n (count ∙ sym long) adds)))
+      let long = outcomes-length netlist value.held value.patterns outcomes are in (
+        outcome_lines netlist 1 outcomes ++ counts_of outcomes,
+        record { outcomes = outcomes; are_outcomes = are; lines = refl },
+        writes_then lines last (ap (λ (line : List ℕ). outcome_lines netlist 1 outcomes ++ line) (counts-told outcomes counts n (count ∙ sym long) adds)),
+      )
 
   -- or a put failed, and nothing more is put
   pub text-cut : (netlist : Netlist) (value : PatternsOf) (outcomes : List Outcome) (a b : Writer S) → AreOutcomes netlist value.held value.patterns outcomes → Writes output faults (outcome_lines netlist 1 outcomes) a b → has_failed b ≡ true →
       (text : List ℕ) × IsBatchText netlist value text × Writes output faults text a b
-  text-cut netlist value outcomes a b are lines failed =
-      (outcome_lines netlist 1 outcomes ++ counts_of outcomes,
-      record { outcomes = outcomes; are_outcomes = are; lines = refl },
-      writes_then lines (writes_failed (counts_of outcomes) failed) refl)
+  text-cut netlist value outcomes a b are lines failed = (
+    outcome_lines netlist 1 outcomes ++ counts_of outcomes,
+    record { outcomes = outcomes; are_outcomes = are; lines = refl },
+    writes_then lines (writes_failed (counts_of outcomes) failed) refl,
+  )
 
 -- nothing was written, since memory ran out
 pub stops-nothing : {S : Type 0} (output : S → Output) (faults : S → ℕ) (text : List ℕ) (out : S) → Stops output faults Memory text out out

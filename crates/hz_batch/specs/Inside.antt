@@ -1,5 +1,5 @@
 -- What a block is made of, and what is used anew for each.
-use Rattle.std.specs.Prelude.{◌≡◌, List, length}
+use Rattle.std.specs.Prelude.{◌≡◌, length}
 use Rattle.hz_core.specs.Netlist.{Netlist}
 use Rattle.hz_text.specs.PatternText.{ArePatternsFor}
 use Rattle.hz_text.specs.Printed.{listed_from}

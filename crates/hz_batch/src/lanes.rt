@@ -87,13 +87,7 @@ fn write_refused<'p, K: Sink>(
 }
 
 // Gives the outputs of a line their values in a lane.
-fn set_line(
-    net: &Net,
-    planes: &Planes,
-    lane: u32,
-    firsts: &[Column],
-    line: &mut OutputLine<'_>,
-)
+fn set_line(net: &Net, planes: &Planes, lane: u32, firsts: &[Column], line: &mut OutputLine<'_>)
     requires net { AreOf net.now planes.now }
     requires stage { planes.now.stage ≡ Settled }
     requires lane { lane < 512 }

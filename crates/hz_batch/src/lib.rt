@@ -19,5 +19,5 @@ mod held;
 mod lanes;
 mod writing;
 
-pub use writing::batch;
 pub use fault::BatchFault;
+pub use writing::batch;

@@ -1,5 +1,5 @@
 -- One lane more.
-use Rattle.std.proofs.Common.{◌<◌, arith}
+use Rattle.std.proofs.Common.{arith}
 use Rattle.hz_batch.proofs.HeldLemmas.{held-gates}
 use Rattle.hz_batch.proofs.LaneLoads.{lane-loaded}
 use Rattle.hz_batch.proofs.blocks.load.Goals as goal

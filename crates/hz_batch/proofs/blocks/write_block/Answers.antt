@@ -1,11 +1,9 @@
 -- A block's lanes are loaded, and all passes are made.
-use Rattle.std.proofs.Common.{◌≡◌, ◌∙◌, ◌+◌, ◌-◌, ◌^◌, ap, sym, subst, ℕ, List, Option, length, take, drop, min}
-use Rattle.std.specs.Vec.{vec_len}
-use Rattle.std.proofs.Common.{rules}
+use Rattle.std.proofs.Common.{◌≡◌, ◌∙◌, ◌+◌, ◌-◌, ◌^◌, ap, sym, subst, ℕ, List, Option, min}
 use Rattle.hz_core.specs.declared.tri.Tri.{Tri}
 use Rattle.hz_text.specs.PatternValue.{PatternOf}
 use Rattle.hz_plane.specs.declared.stage.Stage.{Stage}
-use Rattle.hz_plane.specs.declared.stage.Stage.TheVariants.{Loading, Completed, Spread, Settled as AllSettled}
+use Rattle.hz_plane.specs.declared.stage.Stage.TheVariants.{Loading, Spread, Settled as AllSettled}
 use Rattle.hz_plane.specs.Loads.{Loaded}
 use Rattle.hz_plane.specs.View.{Seen}
 use Rattle.hz_batch.specs.Blocks.{lanes_with}

@@ -1,6 +1,6 @@
 -- One block more, or the output failed.
-use Rattle.std.proofs.Common.{◌≡◌, ◌<◌, ◌≤◌, ◌+◌, ◌*◌, ◌∙◌, refl, sym, ap, subst, ℕ, List, false, true, length, take, drop, arith}
-use Rattle.std.proofs.lemmas.List.{length-take-le, take_all}
+use Rattle.std.proofs.Common.{◌<◌, ◌≤◌, ◌+◌, ◌*◌, ◌∙◌, refl, sym, subst, List, length, take, drop, arith}
+use Rattle.std.proofs.lemmas.List.{length-take-le}
 use Rattle.hz_text.specs.PatternValue.{PatternOf}
 use Rattle.hz_batch.specs.Blocks.{block_count}
 use Rattle.hz_batch.specs.Counts.{no_counts}
@@ -41,7 +41,8 @@ loop-block-preserved g c =
     let below : block < block_count (length patterns) = blocks-same block (length patterns) (rw (c.div_ceil-block-end.ensures, c.count.ensures) at c.loop-block-test.true) in
     let begins = block-begins block (length patterns) below in
     let more = written-then netlist held (take n patterns) (take 512 (drop n patterns)) 1 (n + 1) c.args.writer.now c.loop-block.writer c.write_block.new.writer no_counts c.loop-block.room.counts c.write_block.new.room.counts
-    (omega (arith, length-take-le n patterns (omega (arith, begins)))) c.loop-block.invariant.0 c.write_block.ensures.gave in
-    (subst (λ (list : List PatternOf). AreWritten g.K.Sink.output g.K.Sink.faults netlist held list 1 c.args.writer.now c.write_block.new.writer no_counts c.write_block.new.room.counts) (take-blocks patterns block) more,
-    c.write_block.ensures.room,
-    after-next c.args.work.now.patterns.now c.args.planes.now c.loop-block.planes c.write_block.new.planes block c.loop-block.invariant.2 c.write_block.ensures.planes)
+    (omega (arith, length-take-le n patterns (omega (arith, begins)))) c.loop-block.invariant.0 c.write_block.ensures.gave in (
+      subst (λ (list : List PatternOf). AreWritten g.K.Sink.output g.K.Sink.faults netlist held list 1 c.args.writer.now c.write_block.new.writer no_counts c.write_block.new.room.counts) (take-blocks patterns block) more,
+      c.write_block.ensures.room,
+      after-next c.args.work.now.patterns.now c.args.planes.now c.loop-block.planes c.write_block.new.planes block c.loop-block.invariant.2 c.write_block.ensures.planes,
+    )

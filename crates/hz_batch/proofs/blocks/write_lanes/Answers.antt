@@ -1,5 +1,5 @@
 -- The line of one lane more.
-use Rattle.std.proofs.Common.{◌≡◌, ◌<◌, ◌≤◌, ◌+◌, ◌∙◌, ◌++◌, ◌∷◌, [], refl, sym, subst, List, Bool, length, take, drop, get_or, arith}
+use Rattle.std.proofs.Common.{◌<◌, ◌≤◌, ◌+◌, ◌∷◌, [], refl, sym, subst, List, length, take, drop, get_or, arith}
 use Rattle.std.proofs.lemmas.List.{length-drop, length-take-le, take_more}
 use Rattle.hz_text.specs.PatternValue.{PatternOf}
 use Rattle.hz_plane.specs.Loads.{Loaded}

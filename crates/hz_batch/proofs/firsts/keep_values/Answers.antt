@@ -1,5 +1,5 @@
 -- One output more.
-use Rattle.std.proofs.Common.{◌≡◌, ◌<◌, ◌∙◌, ap, sym, subst, ℕ, List, length, get_or}
+use Rattle.std.proofs.Common.{◌≡◌, ◌<◌, ◌∙◌, ap, subst, ℕ, List, length, get_or}
 use Rattle.hz_core.specs.Netlist.{Netlist}
 use Rattle.hz_batch.specs.Columns.{IsColumn}
 use Rattle.hz_batch.proofs.ColumnLemmas.{columns-next}

@@ -1,6 +1,5 @@
 -- The fault of the lane, or both results.
-use Rattle.std.proofs.Common.{refl, ap, ◌∙◌, sym}
-use Rattle.hz_core.specs.Netlist.{Netlist}
+use Rattle.std.proofs.Common.{refl, ap, ◌∙◌}
 use Rattle.hz_batch.specs.Outcome.{Open, Unstable, Settled}
 use Rattle.hz_batch.specs.Counts.{settled_mark}
 use Rattle.hz_batch.proofs.OutcomeLemmas.{results}

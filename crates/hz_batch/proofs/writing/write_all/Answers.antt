@@ -1,5 +1,5 @@
 -- The lines of all blocks, and the last line.
-use Rattle.std.proofs.Common.{◌≡◌, ◌∙◌, sym}
+use Rattle.std.proofs.Common.{◌∙◌, sym}
 use Rattle.hz_batch.proofs.Texts.{text-given, text-cut}
 use Rattle.hz_batch.proofs.writing.write_all.Goals as goal
 

@@ -1,5 +1,5 @@
 -- The text exists before its first line is made.
-use Rattle.std.proofs.Common.{◌≡◌, ◌∙◌, ap, length, rules, List, Option, Bool}
+use Rattle.std.proofs.Common.{◌∙◌, ap, length, rules, List, Option, Bool}
 use Rattle.hz_write.proofs.Writers.{wrote_whole}
 use Rattle.hz_batch.proofs.Exist.{text-exists}
 use Rattle.hz_batch.proofs.Texts.{few-nodes, stops-nothing}
