@@ -2,3 +2,4 @@ pub mod Lines
 pub mod RowLemmas
 pub mod CycleLemmas
 pub mod ClassLemmas
+pub mod OutputLemmas

@@ -14,6 +14,10 @@
 -- class_place class, count_at rows place: the place of a class, and how many rows have the class of a place
 -- classes_line rows, run_line name steps: the lines of a summary
 -- summary_text netlist finding: the summary of a change
+-- outputs_line netlist number values, output_values netlist first second: the line of a number, in which each output has two values
+-- LineOf: what contracts see of such a line before its number is known
 
 pub mod Words
 pub mod Report
+pub mod Outputs
+pub mod LineInside

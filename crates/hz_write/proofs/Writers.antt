@@ -41,6 +41,9 @@ pub plain_bytes : {text bytes : List ℕ} → Took (settled (Some [])) text (set
 unfolding extended_text
 plain_bytes {text} {bytes} took = same_Some bytes took.front took.grew ∙ sym (append-nil took.front) ∙ took.parts
 
+no_none : (fault : PutFault) → None ≡ Some fault → ⊥
+no_none fault h = cc
+
 no_fault : (fault : Option PutFault) → is_some fault ≡ false → fault ≡ None
 no_fault None h = refl
 no_fault (Some fault) h = absurd (cc)
@@ -139,6 +142,7 @@ module _ {S : Type 0} (output : S → Output) (faults : S → ℕ) where
   unfolding Given
   finishes_waiting writer now result none wrote = record {
     wrote = λ start text given. Wrote-ended output faults text writer.line start writer.out.now now result (rw none at given) wrote;
+    failed = λ fault is. absurd (no_none fault (sym none ∙ is));
   }
 
   -- the end of a writer with a fault
@@ -147,6 +151,7 @@ module _ {S : Type 0} (output : S → Output) (faults : S → ℕ) where
   unfolding Given
   finishes_failed writer now fault failed same = record {
     wrote = λ start text given. rw same (rw failed at given);
+    failed = λ other is. ap Err (same_Some fault other (sym failed ∙ is));
   }
 
   -- what the end of a writer answers, by all that was given since it was new

@@ -1,5 +1,5 @@
 -- What was given to a writer that keeps its first fault, and what the sink has of it.
-use Rattle.std.specs.Prelude.{◌≡◌, Bool, ℕ, List, [], ◌++◌, Option, Some, None, is_some, Result}
+use Rattle.std.specs.Prelude.{◌≡◌, Bool, ℕ, List, [], ◌++◌, Option, Some, None, is_some, Result, Err}
 use Rattle.hz_outside.specs.WrittenText.{Output}
 use Rattle.hz_outside.specs.declared.fault.PutFault.{PutFault}
 use Rattle.hz_write.specs.declared.writer.Writer.{Writer}
@@ -32,7 +32,8 @@ has_failed writer = is_some writer.fault
 abbrev pub NoneWaits : {S : Type 0} → Writer S → Type 0
 NoneWaits writer = writer.fault ≡ None → writer.line ≡ []
 
--- the answer at the end of a writer: that of all that was given to it
+-- the answer at the end of a writer: that of all that was given to it, and if a put failed its fault
 pub record Finishes {S : Type 0} (output : S → Output) (faults : S → ℕ) (writer : Writer S) (now : S) (result : Result (Unit {0}) PutFault) : Type 0 where
   pub wrote : (start : S) (text : List ℕ) → Given output faults start text writer.line writer.fault writer.out.now
       → Wrote output faults text start now result
+  pub failed : (fault : PutFault) → writer.fault ≡ Some fault → result ≡ Err fault

@@ -1,0 +1,97 @@
+-- Lines of patterns one after the other.
+use Rattle.std.proofs.Common.{◌≡◌, ◌∙◌, refl, ap, ℕ, ◌+◌, ◌≤◌, Bool, true, false, cond, List, [], ◌∷◌, ◌++◌, length, Option, append_assoc, arith}
+use Rattle.std.specs.List.{count_by, list_any}
+use Rattle.std.proofs.lemmas.List.Sums.{sum_by-append, count_by-le-length}
+use Rattle.hz_outside.specs.WrittenText.{Output}
+use Rattle.hz_core.specs.Netlist.{Netlist}
+use Rattle.hz_text.specs.PatternValue.{PatternOf}
+use Rattle.hz_write.specs.declared.writer.Writer.{Writer}
+use Rattle.hz_write.specs.Writer.{Writes}
+use Rattle.hz_write.proofs.Writers.{writes_then, writes_nothing}
+use Rattle.hz_batch.specs.declared.counts.Counts.{Counts}
+use Rattle.hz_batch.specs.declared.counts.Mark.{Mark}
+use Rattle.hz_batch.specs.BatchText.{outcome_line, outcome_lines, is_open, is_unstable, is_unsettled, is_unknown}
+use Rattle.hz_batch.specs.Counts.{AddsCounts, AreWithin, IsMarkOf, with_mark, settled_mark}
+use Rattle.hz_batch.specs.Outcome.{Outcome, Open, Unstable, Settled, IsOutcome, AreOutcomes, listing_of}
+use Rattle.hz_batch.specs.Written.{AreWritten}
+
+-- patterns after patterns
+pub outcomes-append : (netlist : Netlist) (held : List (Option Bool)) (patterns more : List PatternOf) (outcomes others : List Outcome) → AreOutcomes netlist held patterns outcomes → AreOutcomes netlist held more others → AreOutcomes netlist held (patterns ++ more) (outcomes ++ others)
+outcomes-append netlist held [] more [] others are also = also
+outcomes-append netlist held [] more (outcome ∷ outcomes) others are also = absurd are
+outcomes-append netlist held (pattern ∷ patterns) more [] others are also = absurd are
+outcomes-append netlist held (pattern ∷ patterns) more (outcome ∷ outcomes) others are also = (are.0, outcomes-append netlist held patterns more outcomes others are.1 also)
+
+pub outcomes-length : (netlist : Netlist) (held : List (Option Bool)) (patterns : List PatternOf) (outcomes : List Outcome) → AreOutcomes netlist held patterns outcomes → length outcomes ≡ length patterns
+outcomes-length netlist held [] [] are = refl
+outcomes-length netlist held [] (outcome ∷ outcomes) are = absurd are
+outcomes-length netlist held (pattern ∷ patterns) [] are = absurd are
+outcomes-length netlist held (pattern ∷ patterns) (outcome ∷ outcomes) are = omega (arith, outcomes-length netlist held patterns outcomes are.1)
+
+-- lines after lines
+pub lines-append : (netlist : Netlist) (number next : ℕ) (outcomes others : List Outcome) → next ≡ number + length outcomes → outcome_lines netlist number outcomes ++ outcome_lines netlist next others ≡ outcome_lines netlist number (outcomes ++ others)
+lines-append netlist number next [] others is = (let same : next ≡ number = omega (arith, is) in ap (λ (n : ℕ). outcome_lines netlist n others) same)
+lines-append netlist number next (outcome ∷ outcomes) others is =
+    append_assoc (outcome_line netlist number outcome) (outcome_lines netlist (number + 1) outcomes) (outcome_lines netlist next others)
+    ∙ ap (λ (list : List ℕ). outcome_line netlist number outcome ++ list) (lines-append netlist (number + 1) next outcomes others (omega (arith, is)))
+
+count-append : (p : Outcome → Bool) (outcomes others : List Outcome) → count_by p (outcomes ++ others) ≡ count_by p outcomes + count_by p others
+count-append p outcomes others = sum_by-append (λ (outcome : Outcome). cond (p outcome) 1 0) outcomes others
+
+adds-append : (outcomes others : List Outcome) (a b c : Counts) → AddsCounts outcomes a b → AddsCounts others b c → AddsCounts (outcomes ++ others) a c
+adds-append outcomes others a b c first second = record {
+  open_starts = omega (arith, first.open_starts, second.open_starts, count-append is_open outcomes others);
+  unstable_starts = omega (arith, first.unstable_starts, second.unstable_starts, count-append is_unstable outcomes others);
+  unsettled = omega (arith, first.unsettled, second.unsettled, count-append is_unsettled outcomes others);
+}
+
+-- no line
+adds-none : (a : Counts) → AddsCounts [] a a
+adds-none a = record { open_starts = omega arith; unstable_starts = omega arith; unsettled = omega arith }
+
+-- counts stay within the number of patterns
+pub within-after : (netlist : Netlist) (held : List (Option Bool)) (patterns : List PatternOf) (outcomes : List Outcome) (first all : ℕ) (a b : Counts) → AreOutcomes netlist held patterns outcomes → AddsCounts outcomes a b → AreWithin first a → first + length patterns ≤ all → AreWithin all b
+within-after netlist held patterns outcomes first all a b are adds within few =
+    let long = outcomes-length netlist held patterns outcomes are in
+    record {
+      open_starts = omega (arith, adds.open_starts, within.open_starts, count_by-le-length is_open outcomes, long, few);
+      unstable_starts = omega (arith, adds.unstable_starts, within.unstable_starts, count_by-le-length is_unstable outcomes, long, few);
+      unsettled = omega (arith, adds.unsettled, within.unsettled, count_by-le-length is_unsettled outcomes, long, few);
+    }
+
+-- one outcome is counted by its mark
+adds-one : (outcome : Outcome) (told : Mark) (a b : Counts) → IsMarkOf outcome told → b ≡ with_mark a told → AddsCounts (outcome ∷ []) a b
+adds-one (Open gate) told a b is counted = rw (counted, is) (record { open_starts = omega arith; unstable_starts = omega arith; unsettled = omega arith })
+adds-one (Unstable gate) told a b is counted = rw (counted, is) (record { open_starts = omega arith; unstable_starts = omega arith; unsettled = omega arith })
+adds-one (Settled first second) told a b is counted = rw (counted, is) (by_answer (list_any is_unknown second) refl)
+  where
+    by_answer : (answer : Bool) → answer ≡ list_any is_unknown second → AddsCounts (Settled first second ∷ []) a (with_mark a (settled_mark answer))
+    by_answer true told = record { open_starts = omega arith; unstable_starts = omega arith; unsettled = rw (← told) (omega arith) }
+    by_answer false told = record { open_starts = omega arith; unstable_starts = omega arith; unsettled = rw (← told) (omega arith) }
+
+module _ {S : Type 0} {output : S → Output} {faults : S → ℕ} where
+  pub written-none : (netlist : Netlist) (held : List (Option Bool)) (number : ℕ) (writer : Writer S) (counts : Counts) → AreWritten output faults netlist held [] number writer writer counts counts
+  written-none netlist held number writer counts = record { outcomes = []; are_outcomes = tt; lines = writes_nothing writer; adds = adds-none counts }
+
+  -- patterns after patterns
+  pub written-then : (netlist : Netlist) (held : List (Option Bool)) (patterns more : List PatternOf) (number next : ℕ) (a b c : Writer S) (was now last : Counts) → next ≡ number + length patterns →
+      AreWritten output faults netlist held patterns number a b was now → AreWritten output faults netlist held more next b c now last → AreWritten output faults netlist held (patterns ++ more) number a c was last
+  written-then netlist held patterns more number next a b c was now last is first second =
+      let long = outcomes-length netlist held patterns first.outcomes first.are_outcomes in
+      record {
+        outcomes = first.outcomes ++ second.outcomes;
+        are_outcomes = outcomes-append netlist held patterns more first.outcomes second.outcomes first.are_outcomes second.are_outcomes;
+        lines = writes_then first.lines second.lines (lines-append netlist number next first.outcomes second.outcomes (omega (arith, is, long)));
+        adds = adds-append first.outcomes second.outcomes was now last first.adds second.adds;
+      }
+
+  -- one pattern
+  pub written-one : (netlist : Netlist) (held : List (Option Bool)) (pattern : PatternOf) (number : ℕ) (a b : Writer S) (was now : Counts) (told : Mark) → now ≡ with_mark was told →
+      ((outcome : Outcome) × IsOutcome netlist (listing_of held pattern) pattern.to outcome × IsMarkOf outcome told × Writes output faults (outcome_line netlist number outcome) a b) →
+      AreWritten output faults netlist held (pattern ∷ []) number a b was now
+  written-one netlist held pattern number a b was now told counted (outcome, is, marked, writes) = record {
+    outcomes = outcome ∷ [];
+    are_outcomes = (is, tt);
+    lines = writes_then writes (writes_nothing b) refl;
+    adds = adds-one outcome told was now marked counted;
+  }

@@ -1,0 +1,23 @@
+-- The fault of the lane, or both results.
+use Rattle.std.proofs.Common.{refl, ap, ◌∙◌}
+use Rattle.hz_batch.specs.Outcome.{Open, Unstable, Settled}
+use Rattle.hz_batch.specs.Counts.{settled_mark}
+use Rattle.hz_batch.proofs.OutcomeLemmas.{results}
+use Rattle.hz_batch.proofs.lanes.write_lane.Goals as goal
+
+pub returns-in-Some-Open-clause-gave : goal.returns-in-Some-Open-clause-gave
+returns-in-Some-Open-clause-gave g c =
+    λ loaded there. (Open c.in-Some-Open.gate, rw c.in-Some-Open.field-0-is at (c.in-Some-Open.ensures loaded there), refl, rw c.circuit.ensures.same at c.write_refused.ensures.gave)
+
+pub returns-in-Some-Unstable-clause-gave : goal.returns-in-Some-Unstable-clause-gave
+returns-in-Some-Unstable-clause-gave g c =
+    λ loaded there. (Unstable c.in-Some-Unstable.gate, rw c.in-Some-Unstable.field-0-is at (c.in-Some-Unstable.ensures loaded there), refl, rw c.circuit-in-Some-Unstable.ensures.same at c.write_refused-in-Some-Unstable.ensures.gave)
+
+pub returns-in-None-clause-gave : goal.returns-in-None-clause-gave
+returns-in-None-clause-gave g c =
+    λ loaded there.
+    let circuit = c.len-variables.ensures.circuit in
+    let whole = c.len-variables.ensures.whole in
+    let found = results c.args.net.now loaded c.is_unsettled.result c.requires.a_exists c.requires.b_exists (c.in-None.ensures loaded there) (c.is_unsettled.ensures c.args.net.now loaded circuit whole c.requires.net there) in
+    let values = c.set_line.ensures.values loaded found.a found.b there found.outcome in
+    (Settled found.a found.b, found.outcome, c.settled_mark.ensures ∙ ap settled_mark found.told, rw (c.set_line.ensures.line.same, values) at c.write.ensures.gave)

@@ -1,0 +1,27 @@
+-- The text exists before its first line is made.
+use Rattle.std.proofs.Common.{◌∙◌, ap, length, rules, List, Option, Bool}
+use Rattle.hz_write.proofs.Writers.{wrote_whole}
+use Rattle.hz_batch.proofs.Exist.{text-exists}
+use Rattle.hz_batch.proofs.Texts.{few-nodes, stops-nothing}
+use Rattle.hz_batch.proofs.writing.write_batch.Goals as goal
+
+pub held_gates-requires : goal.held_gates-requires
+held_gates-requires g c =
+    few-nodes c.args.net.now (length c.held.result.now) c.len-variables.ensures.circuit (ap (λ (list : List (Option Bool)). length list) c.held.ensures ∙ c.requires.patterns.nodes)
+
+pub returns-in_default-clause-wrote : goal.returns-in_default-clause-wrote
+returns-in_default-clause-wrote g c =
+    let exists = text-exists c.args.net.now c.args.patterns.now c.starts_are_decided.ensures c.passes_end.ensures.a c.passes_end.ensures.b c.len-variables.ensures.circuit c.requires.patterns in
+    (exists.0, exists.1, stops-nothing g.K.Sink.output g.K.Sink.faults exists.0 c.args.out.now)
+
+pub returns-in_default-room_for-clause-wrote : goal.returns-in_default-room_for-clause-wrote
+returns-in_default-room_for-clause-wrote g c =
+    let exists = text-exists c.args.net.now c.args.patterns.now c.starts_are_decided.ensures c.passes_end.ensures.a c.passes_end.ensures.b c.len-variables.ensures.circuit c.requires.patterns in
+    (exists.0, exists.1, stops-nothing g.K.Sink.output g.K.Sink.faults exists.0 c.args.out.now)
+
+pub returns-clause-wrote : goal.returns-clause-wrote
+returns-clause-wrote g c =
+    let gave = c.write_all.ensures.gave in
+    let is = gave.1 in
+    let wrote = wrote_whole _ _ _ _ _ _ _ _ c.new-writer.ensures.begins gave.2 c.finish.ensures in
+    search rules

@@ -1,0 +1,20 @@
+-- Values of variables in all lanes.
+use Rattle.std.specs.Prelude.{◌≡◌, ℕ, ◌<◌, Some, Option, List, [], length, slice_get, slice_index}
+use Rattle.std.specs.List.{slice_index_or}
+use Rattle.hz_core.specs.declared.tri.Tri.{Tri}
+use Rattle.hz_core.specs.declared.tri.Tri.TheVariants.{Zero}
+use Rattle.hz_core.specs.Netlist.{Netlist}
+use Rattle.hz_plane.specs.declared.stage.Stage.{Stage}
+use Rattle.hz_plane.specs.Loads.{Loaded}
+use Rattle.hz_plane.specs.View.{IsLaneValue}
+
+-- the values of a variable in the loaded lanes, at a stage
+abbrev pub IsColumn : Netlist → Stage → List (Option Loaded) → ℕ → List Tri → Type 0
+IsColumn netlist stage lanes var column =
+    (lane : ℕ) (loaded : Loaded) → lane < 512 → slice_get lanes lane ≡ Some (Some loaded) →
+    IsLaneValue stage netlist loaded var (slice_index_or column lane Zero)
+
+-- the values of variables, a column for each
+abbrev pub AreColumns : Netlist → Stage → List (Option Loaded) → List ℕ → List (List Tri) → Type 0
+AreColumns netlist stage lanes variables columns =
+    (place : ℕ) → place < length variables → IsColumn netlist stage lanes (slice_index variables place) (slice_index_or columns place [])

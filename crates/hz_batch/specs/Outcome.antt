@@ -1,0 +1,36 @@
+-- What a pattern comes to: its start is refused, or both algorithms give their results.
+use Rattle.std.specs.Prelude.{ℕ, Bool, Option, Some, List, [], ◌∷◌, ◌++◌, map, drop, length}
+use Rattle.hz_core.specs.declared.tri.Tri.{Tri}
+use Rattle.hz_core.specs.Netlist.{Netlist}
+use Rattle.hz_net.specs.Network.{network_of}
+use Rattle.hz_net.specs.Passes.{algorithm_a, algorithm_b, IsResult}
+use Rattle.hz_net.specs.Starts.{IsAcceptedStart, IsLeastOpen, IsLeastUnstable}
+use Rattle.hz_text.specs.PatternValue.{PatternOf}
+
+-- The start of a pattern is refused for its least open gate, or if no gate is open for its least unstable one. Otherwise there
+-- are the results of Algorithms A and B.
+pub data Outcome : Type 0 where
+  Open : (gate : ℕ) → Outcome
+  Unstable : (gate : ℕ) → Outcome
+  Settled : (a b : List Tri) → Outcome
+
+-- the start that a pattern lists: the first bits of all inputs, and the gates that are held
+abbrev pub listing_of : List (Option Bool) → PatternOf → List (Option Bool)
+listing_of held pattern = map Some pattern.from ++ drop (length pattern.from) held
+
+-- what a listed start comes to under a new input
+abbrev pub IsOutcome : Netlist → (listed : List (Option Bool)) → (input : List Bool) → Outcome → Type 0
+IsOutcome netlist listed input (Open gate) = IsLeastOpen netlist listed gate
+IsOutcome netlist listed input (Unstable gate) = IsLeastUnstable netlist listed gate
+IsOutcome netlist listed input (Settled a b) =
+    (start : List Bool) × IsAcceptedStart netlist listed start
+    × IsResult (algorithm_a (network_of netlist) input start) a
+    × IsResult (algorithm_b (network_of netlist) input a) b
+
+-- what each pattern comes to, by the start that it lists and its second bits
+abbrev pub AreOutcomes : Netlist → (held : List (Option Bool)) → List PatternOf → List Outcome → Type 0
+AreOutcomes netlist held [] [] = Unit {0}
+AreOutcomes netlist held [] (outcome ∷ outcomes) = ⊥
+AreOutcomes netlist held (pattern ∷ patterns) [] = ⊥
+AreOutcomes netlist held (pattern ∷ patterns) (outcome ∷ outcomes) =
+    IsOutcome netlist (listing_of held pattern) pattern.to outcome × AreOutcomes netlist held patterns outcomes

@@ -1,0 +1,159 @@
+//! Blocks of patterns.
+ghost use Rattle.std.specs.Prelude.{◌≡◌, ◌<◌, ◌≤◌, ◌+◌, ◌*◌, ◌^◌, ◌-◌, List, false, length, min, take, drop};
+ghost use Rattle.hz_plane.specs.declared.stage.Stage.TheVariants.{Loading, Spread, Settled};
+ghost use Rattle.hz_plane.specs.View.{AreOf};
+ghost use Rattle.hz_pass.specs.Decided.{StartsAreDecided};
+ghost use Rattle.hz_reach.specs.Existence.{ResultOfAExists, ResultOfBExists};
+ghost use Rattle.hz_write.specs.Writer.{Writes, NoneWaits, has_failed};
+ghost use Rattle.hz_batch.specs.Blocks.{lanes_with, block_count, planes_after};
+ghost use Rattle.hz_batch.specs.BatchText.{outcome_lines};
+ghost use Rattle.hz_batch.specs.Columns.{AreColumns};
+ghost use Rattle.hz_batch.specs.Counts.{AddsCounts, AreWithin, no_counts};
+ghost use Rattle.hz_batch.specs.Inside.{IsWork, IsRoomFor};
+ghost use Rattle.hz_batch.specs.Outcome.{Outcome, AreOutcomes};
+ghost use Rattle.hz_batch.specs.Written.{AreWritten};
+
+use crate::counts::Counts;
+use crate::firsts::{Column, keep_values};
+use crate::lanes::{Lane, write_lane};
+use hz_net::Net;
+use hz_outside::Sink;
+use hz_plane::Planes;
+use hz_report::OutputLine;
+use hz_text::Patterns;
+use hz_write::Writer;
+
+/// How many patterns a block has.
+pub(crate) const BLOCK: usize = 512;
+
+/// What a block is made of.
+#[derive(Drop)]
+pub(crate) struct Work<'w> {
+    pub(crate) net: &'w Net,
+    pub(crate) patterns: &'w Patterns,
+    pub(crate) held: &'w [(u32, bool)],
+}
+
+/// What is used anew for each block, and what is counted.
+#[derive(Drop)]
+pub(crate) struct Room<'w> {
+    pub(crate) line: OutputLine<'w>,
+    pub(crate) firsts: Vec<Column>,
+    pub(crate) counts: Counts,
+}
+
+// Gives the lines of all blocks. Once a put failed, no further block is looked at.
+pub(crate) fn write_blocks<K: Sink>(
+    writer: &mut Writer<'_, K>,
+    work: &Work<'_>,
+    planes: &mut Planes,
+    room: &mut Room<'_>,
+)
+    requires decided { StartsAreDecided }
+    requires a_exists { ResultOfAExists }
+    requires b_exists { ResultOfBExists }
+    requires work { IsWork work.now }
+    requires net { AreOf work.now.net.now planes.old }
+    requires room { IsRoomFor work.now.net.now room.old }
+    requires counts { room.old.counts ≡ no_counts }
+    ensures gave { (outcomes : List Outcome) × AreOutcomes work.now.net.now work.now.patterns.now.held work.now.patterns.now.patterns outcomes × Writes K.output K.faults (outcome_lines work.now.net.now 1 outcomes) writer.old writer.new × (has_failed writer.new ≡ false → AddsCounts outcomes no_counts room.new.counts) }
+    ensures planes { has_failed writer.new ≡ false → planes.new ≡ planes_after work.now.patterns.now planes.old (block_count (length work.now.patterns.now.patterns)) }
+{
+    let _variables = work.net.len();
+    for block in 0..work.patterns.count().div_ceil(BLOCK) {
+        if writer.has_failed() {
+            return;
+        }
+        write_block(writer, work, block * BLOCK, planes, room);
+    }
+}
+
+// Gives the lines of the block that begins with a pattern.
+fn write_block<K: Sink>(
+    writer: &mut Writer<'_, K>,
+    work: &Work<'_>,
+    first: usize,
+    planes: &mut Planes,
+    room: &mut Room<'_>,
+)
+    requires a_exists { ResultOfAExists }
+    requires b_exists { ResultOfBExists }
+    requires work { IsWork work.now }
+    requires first { first < length work.now.patterns.now.patterns }
+    requires net { AreOf work.now.net.now planes.old }
+    requires room { IsRoomFor work.now.net.now room.old }
+    requires counts { AreWithin first room.old.counts }
+    ensures room { IsRoomFor work.now.net.now room.new }
+    ensures gave { AreWritten K.output K.faults work.now.net.now work.now.patterns.now.held (take 512 (drop first work.now.patterns.now.patterns)) (first + 1) writer.old writer.new room.old.counts room.new.counts }
+    ensures planes { planes.new ≡ record planes.old { stage = Settled; settles = min (planes.old.settles + 1) (2 ^ 64 - 1); lanes = lanes_with work.now.patterns.now.held (take 512 (drop first work.now.patterns.now.patterns)) } }
+{
+    let lanes = (work.patterns.count() - first).min(BLOCK) as u32;
+    load(work, first, lanes, planes);
+    planes.complete(work.net);
+    planes.spread(work.net);
+    keep_values(work.net, planes, room.firsts.as_mut_slice());
+    planes.settle(work.net);
+    write_lanes(writer, work, planes, first, lanes, room);
+}
+
+// Loads patterns into the first lanes.
+fn load(work: &Work<'_>, first: usize, lanes: u32, planes: &mut Planes)
+    requires work { IsWork work.now }
+    requires lanes { lanes ≤ 512 }
+    requires last { first + lanes ≤ length work.now.patterns.now.patterns }
+    requires net { AreOf work.now.net.now planes.old }
+    ensures { planes.new ≡ record planes.old { stage = Loading; lanes = lanes_with work.now.patterns.now.held (take lanes (drop first work.now.patterns.now.patterns)) } }
+{
+    let _variables = work.net.len();
+    planes.clear();
+    for lane in 0..lanes {
+        let number = first + lane as usize;
+        planes.load_held(
+            work.net,
+            lane,
+            work.patterns.to(number),
+            work.patterns.from(number),
+            work.held,
+        );
+    }
+}
+
+// Gives the lines of the first lanes.
+fn write_lanes<K: Sink>(
+    writer: &mut Writer<'_, K>,
+    work: &Work<'_>,
+    planes: &Planes,
+    first: usize,
+    lanes: u32,
+    room: &mut Room<'_>,
+)
+    requires a_exists { ResultOfAExists }
+    requires b_exists { ResultOfBExists }
+    requires work { IsWork work.now }
+    requires lanes { lanes ≤ 512 }
+    requires last { first + lanes ≤ length work.now.patterns.now.patterns }
+    requires net { AreOf work.now.net.now planes.now }
+    requires stage { planes.now.stage ≡ Settled }
+    requires loaded { planes.now.lanes ≡ lanes_with work.now.patterns.now.held (take lanes (drop first work.now.patterns.now.patterns)) }
+    requires firsts { AreColumns work.now.net.now Spread planes.now.lanes work.now.net.now.outputs room.old.firsts.items }
+    requires room { IsRoomFor work.now.net.now room.old }
+    requires counts { AreWithin first room.old.counts }
+    ensures room { IsRoomFor work.now.net.now room.new }
+    ensures gave { AreWritten K.output K.faults work.now.net.now work.now.patterns.now.held (take lanes (drop first work.now.patterns.now.patterns)) (first + 1) writer.old writer.new room.old.counts room.new.counts }
+{
+    for lane in 0..lanes {
+        let at = Lane {
+            lane,
+            number: first as u32 + lane + 1,
+        };
+        let mark = write_lane(
+            writer,
+            work.net,
+            planes,
+            at,
+            room.firsts.as_slice(),
+            &mut room.line,
+        );
+        room.counts.add(mark);
+    }
+}

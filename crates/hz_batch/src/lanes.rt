@@ -1,0 +1,120 @@
+//! The line of a lane.
+ghost use Rattle.std.specs.Prelude.{◌≡◌, ◌<◌, List, length, slice_get, Some};
+ghost use Rattle.hz_core.specs.declared.tri.Tri.{Tri};
+ghost use Rattle.hz_plane.specs.declared.stage.Stage.TheVariants.{Spread, Settled};
+ghost use Rattle.hz_plane.specs.Loads.{Loaded};
+ghost use Rattle.hz_plane.specs.View.{AreOf};
+ghost use Rattle.hz_reach.specs.Existence.{ResultOfAExists, ResultOfBExists};
+ghost use Rattle.hz_report.specs.Outputs.{output_values};
+ghost use Rattle.hz_write.specs.Writer.{Writes, NoneWaits};
+ghost use Rattle.hz_batch.specs.BatchText.{outcome_line, refused_line};
+ghost use Rattle.hz_batch.specs.Columns.{AreColumns};
+ghost use Rattle.hz_batch.specs.Counts.{IsMarkOf, settled_mark};
+ghost use Rattle.hz_batch.specs.Outcome.{Outcome, IsOutcome};
+ghost use Rattle.hz_batch.specs.Lines.{IsLineFor};
+
+use crate::counts::Mark;
+use crate::firsts::Column;
+use hz_core::Circuit;
+use hz_net::Net;
+use hz_outside::Sink;
+use hz_plane::{LaneFault, Planes};
+use hz_report::OutputLine;
+use hz_write::Piece::{Number, Text};
+use hz_write::Writer;
+
+// Gives the line of a lane, whose pattern has a number, and says what is counted of it.
+pub(crate) fn write_lane<K: Sink>(
+    writer: &mut Writer<'_, K>,
+    net: &Net,
+    planes: &Planes,
+    at: Lane,
+    firsts: &[Column],
+    line: &mut OutputLine<'_>,
+) -> Mark
+    requires a_exists { ResultOfAExists }
+    requires b_exists { ResultOfBExists }
+    requires net { AreOf net.now planes.now }
+    requires stage { planes.now.stage ≡ Settled }
+    requires lane { at.lane < 512 }
+    requires loaded { (loaded : Loaded) × (slice_get planes.now.lanes at.lane ≡ Some (Some loaded)) }
+    requires firsts { AreColumns net.now Spread planes.now.lanes net.now.outputs firsts.now }
+    requires count { length firsts.now ≡ length net.now.outputs }
+    requires line { IsLineFor net.now line.old }
+    ensures line { IsLineFor net.now line.new }
+    ensures gave { (loaded : Loaded) → slice_get planes.now.lanes at.lane ≡ Some (Some loaded) → (outcome : Outcome) × IsOutcome net.now loaded.listed loaded.input outcome × IsMarkOf outcome result × Writes K.output K.faults (outcome_line net.now at.number outcome) writer.old writer.new }
+    ensures none_waits { NoneWaits writer.new }
+{
+    let _variables = net.len();
+    match planes.fault(net, at.lane) {
+        Some(LaneFault::Open { gate }) => {
+            write_refused(writer, net.circuit(), at.number, b" open ", gate);
+            Mark::Open
+        }
+        Some(LaneFault::Unstable { gate }) => {
+            write_refused(writer, net.circuit(), at.number, b" unstable ", gate);
+            Mark::Unstable
+        }
+        None => {
+            set_line(net, planes, at.lane, firsts, line);
+            line.write(writer, at.number);
+            settled_mark(planes.is_unsettled(at.lane))
+        }
+    }
+}
+
+/// A lane, and the number of the pattern that it holds.
+#[derive(Clone, Copy, Debug)]
+pub(crate) struct Lane {
+    pub(crate) lane: u32,
+    pub(crate) number: u32,
+}
+
+// Gives the line of a pattern whose start is refused for a gate.
+#[tactic(auto, using(hz_write::proofs::Writers::writes_same), unfolding(crate::specs::BatchText::refused_line, hz_write::specs::Writes::line_of))]
+fn write_refused<'p, K: Sink>(
+    writer: &mut Writer<'_, K>,
+    circuit: &'p Circuit,
+    number: u32,
+    word: &'p [u8],
+    gate: u32,
+)
+    requires { gate < length circuit.now.names }
+    ensures gave { Writes K.output K.faults (refused_line circuit.now number word.now gate) writer.old writer.new }
+    ensures none_waits { NoneWaits writer.new }
+{
+    writer.line(&[Number(number), Text(word), Text(circuit.name(gate))]);
+}
+
+// Gives the outputs of a line their values in a lane.
+fn set_line(net: &Net, planes: &Planes, lane: u32, firsts: &[Column], line: &mut OutputLine<'_>)
+    requires net { AreOf net.now planes.now }
+    requires stage { planes.now.stage ≡ Settled }
+    requires lane { lane < 512 }
+    requires firsts { AreColumns net.now Spread planes.now.lanes net.now.outputs firsts.now }
+    requires count { length firsts.now ≡ length net.now.outputs }
+    requires line { IsLineFor net.now line.old }
+    ensures line { IsLineFor net.now line.new }
+    ensures values { (loaded : Loaded) (a b : List Tri) → slice_get planes.now.lanes lane ≡ Some (Some loaded) → IsOutcome net.now loaded.listed loaded.input (Outcome.Settled a b) → line.new.values ≡ output_values net.now a b }
+{
+    let _variables = net.len();
+    let outputs = net.circuit().outputs();
+    for place in 0..outputs.len() {
+        line.set(
+            place,
+            firsts[place][lane as usize],
+            planes.get(lane, outputs[place]),
+        );
+    }
+}
+
+// What is counted of a pattern whose start is accepted.
+fn settled_mark(unsettled: bool) -> Mark
+    ensures { result ≡ settled_mark unsettled }
+{
+    if unsettled {
+        Mark::Unsettled
+    } else {
+        Mark::Steady
+    }
+}

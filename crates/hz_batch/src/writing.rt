@@ -1,0 +1,119 @@
+//! All patterns, and the last line.
+ghost use Rattle.std.specs.Prelude.{◌≡◌, ℕ, List, false, length, IfOk, OnOk};
+ghost use Rattle.hz_plane.specs.View.{AreOf};
+ghost use Rattle.hz_pass.specs.Decided.{StartsAreDecided};
+ghost use Rattle.hz_reach.specs.Existence.{ResultOfAExists, ResultOfBExists};
+ghost use Rattle.hz_text.specs.PatternText.{ArePatternsFor};
+ghost use Rattle.hz_write.specs.Writer.{Writes, has_failed};
+ghost use Rattle.hz_write.specs.Writes.{Wrote};
+ghost use Rattle.hz_batch.specs.Answer.{WroteBatch};
+ghost use Rattle.hz_batch.specs.BatchText.{IsBatchText};
+ghost use Rattle.hz_batch.specs.Blocks.{block_count, planes_after};
+ghost use Rattle.hz_batch.specs.Counts.{no_counts};
+ghost use Rattle.hz_batch.specs.Inside.{IsWork, IsRoomFor};
+
+use crate::blocks::{Room, Work, write_blocks};
+use crate::counts::Counts;
+use crate::fault::BatchFault;
+use crate::held::held_gates;
+use hz_core::{Memory, Tri};
+use hz_net::Net;
+use hz_outside::{PutFault, Sink};
+use hz_pass::starts_are_decided;
+use hz_plane::Planes;
+use hz_reach::passes_end;
+use hz_report::OutputLine;
+use hz_text::Patterns;
+use hz_write::Writer;
+use std::alloc::Global;
+
+/// Writes the line of each pattern, and then how many there are of each kind. The planes are those of the network.
+pub fn batch<K: Sink>(
+    alloc: Global,
+    net: &Net,
+    patterns: &Patterns,
+    planes: &mut Planes,
+    out: &mut K,
+) -> Result<(), BatchFault>
+    requires patterns { ArePatternsFor net.now patterns.now }
+    requires planes { AreOf net.now planes.old }
+    ensures wrote { (text : List ℕ) × IsBatchText net.now patterns.now text × WroteBatch K.output K.faults text out.old out.new result }
+    ensures planes { OnOk result (planes.new ≡ planes_after patterns.now planes.old (block_count (length patterns.now.patterns))) }
+{
+    match write_batch(alloc, net, patterns, planes, out) {
+        Ok(()) => Ok(()),
+        Err(PutFault::Failed) => Err(BatchFault::Sink),
+        Err(PutFault::Memory) => Err(BatchFault::Memory),
+    }
+}
+
+// Writes the text of patterns.
+fn write_batch<K: Sink>(
+    alloc: Global,
+    net: &Net,
+    patterns: &Patterns,
+    planes: &mut Planes,
+    out: &mut K,
+) -> Result<(), PutFault>
+    requires patterns { ArePatternsFor net.now patterns.now }
+    requires planes { AreOf net.now planes.old }
+    ensures wrote { (text : List ℕ) × IsBatchText net.now patterns.now text × Wrote K.output K.faults text out.old out.new result }
+    ensures planes { OnOk result (planes.new ≡ planes_after patterns.now planes.old (block_count (length patterns.now.patterns))) }
+{
+    starts_are_decided();
+    passes_end();
+    let _variables = net.len();
+    let Ok(held) = held_gates(alloc, patterns.held()) else {
+        return Err(PutFault::Memory);
+    };
+    let Ok(mut room) = room_for(alloc, net) else {
+        return Err(PutFault::Memory);
+    };
+    let work = Work {
+        net,
+        patterns,
+        held: held.as_slice(),
+    };
+    let mut writer = Writer::new(out);
+    write_all(&mut writer, &work, planes, &mut room);
+    writer.finish()
+}
+
+// The room for blocks.
+fn room_for<'n>(alloc: Global, net: &'n Net) -> Result<Room<'n>, Memory>
+    ensures room { IfOk result (IsRoomFor net.now) }
+    ensures counts { IfOk result (λ room. room.counts ≡ no_counts) }
+{
+    let circuit = net.circuit();
+    let line = OutputLine::new(alloc, circuit)?;
+    let firsts = vec![in alloc; [Tri::Unknown; 512]; circuit.outputs().len()]?;
+    Ok(Room {
+        line,
+        firsts,
+        counts: Counts::new(),
+    })
+}
+
+// Gives the lines of all patterns, and the last one.
+fn write_all<K: Sink>(
+    writer: &mut Writer<'_, K>,
+    work: &Work<'_>,
+    planes: &mut Planes,
+    room: &mut Room<'_>,
+)
+    requires decided { StartsAreDecided }
+    requires a_exists { ResultOfAExists }
+    requires b_exists { ResultOfBExists }
+    requires work { IsWork work.now }
+    requires net { AreOf work.now.net.now planes.old }
+    requires room { IsRoomFor work.now.net.now room.old }
+    requires counts { room.old.counts ≡ no_counts }
+    ensures gave { (text : List ℕ) × IsBatchText work.now.net.now work.now.patterns.now text × Writes K.output K.faults text writer.old writer.new }
+    ensures planes { has_failed writer.new ≡ false → planes.new ≡ planes_after work.now.patterns.now planes.old (block_count (length work.now.patterns.now.patterns)) }
+{
+    write_blocks(writer, work, planes, room);
+    if writer.has_failed() {
+        return;
+    }
+    room.counts.write(writer, work.patterns.count());
+}

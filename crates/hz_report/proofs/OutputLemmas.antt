@@ -1,0 +1,164 @@
+-- The words of outputs, and where their letters stand.
+use Rattle.std.proofs.Common.{◌≡◌, ◌∙◌, refl, sym, ap, subst, ℕ, zero, suc, ◌+◌, ◌-◌, ◌<◌, ◌≤◌, List, [], ◌∷◌, ◌++◌, length, set, map, take, get_or, slice_get, Some, append_assoc, arith}
+use Rattle.std.proofs.lemmas.List.{length-append, length-map, map-append, append-nil, set-append_right, get_or_default, take_more}
+use Rattle.std.proofs.lemmas.Option.{get_or_from_slice_get}
+use Rattle.hz_core.specs.declared.tri.Tri.{Tri}
+use Rattle.hz_core.specs.declared.tri.Tri.TheVariants.{Zero, One, Unknown}
+use Rattle.hz_core.specs.Netlist.{Netlist, node_name}
+use Rattle.hz_report.specs.Outputs.{output_stem, output_word, output_words}
+use Rattle.hz_report.specs.LineInside.{letter_places}
+use Rattle.hz_report.specs.Words.{tri_letter}
+
+-- a value has one letter
+one-letter : (value : Tri) → length (tri_letter value) ≡ 1
+one-letter Zero = refl
+one-letter One = refl
+one-letter Unknown = refl
+
+-- how long the word of an output is
+word-length : (netlist : Netlist) (node : ℕ) (values : Tri × Tri) → length (output_word netlist node values) ≡ length (output_stem netlist node) + 2
+word-length netlist node values =
+    omega (arith, length-append (output_stem netlist node) (tri_letter values.0 ++ tri_letter values.1), length-append (tri_letter values.0) (tri_letter values.1), one-letter values.0, one-letter values.1)
+
+-- where the letters of an output stand
+abbrev letter_place : Netlist → List ℕ → ℕ → ℕ
+letter_place netlist [] place = 0
+letter_place netlist (node ∷ nodes) zero = length (output_stem netlist node)
+letter_place netlist (node ∷ nodes) (suc place) = length (output_stem netlist node) + 2 + letter_place netlist nodes place
+
+place-at : (netlist : Netlist) (start : ℕ) (nodes : List ℕ) (place : ℕ) → place < length nodes → get_or (letter_places netlist start nodes) place 0 ≡ start + letter_place netlist nodes place
+place-at netlist start [] place inside = absurd (omega (arith, inside))
+place-at netlist start (node ∷ nodes) zero inside = refl
+place-at netlist start (node ∷ nodes) (suc place) inside =
+    let later = place-at netlist (start + length (output_stem netlist node) + 2) nodes place (omega (arith, inside)) in
+    omega (arith, later)
+
+length-places : (netlist : Netlist) (start : ℕ) (nodes : List ℕ) → length (letter_places netlist start nodes) ≡ length nodes
+length-places netlist start [] = refl
+length-places netlist start (node ∷ nodes) = ap suc (length-places netlist (start + length (output_stem netlist node) + 2) nodes)
+
+-- both letters are in the text
+place-inside : (netlist : Netlist) (nodes : List ℕ) (values : List (Tri × Tri)) (place : ℕ) → length values ≡ length nodes → place < length nodes → letter_place netlist nodes place + 1 < length (output_words netlist nodes values)
+place-inside netlist [] values place long inside = absurd (omega (arith, inside))
+place-inside netlist (node ∷ nodes) [] place long inside = absurd (omega (arith, long))
+place-inside netlist (node ∷ nodes) (pair ∷ values) zero long inside =
+    omega (arith, word-length netlist node pair, length-append (output_word netlist node pair) (output_words netlist nodes values))
+place-inside netlist (node ∷ nodes) (pair ∷ values) (suc place) long inside =
+    omega (arith, place-inside netlist nodes values place (omega (arith, long)) (omega (arith, inside)), word-length netlist node pair, length-append (output_word netlist node pair) (output_words netlist nodes values))
+
+-- the two letters behind a stem
+two-set : (stem rest : List ℕ) (a b x y : ℕ) → set (set ((stem ++ (a ∷ b ∷ [])) ++ rest) (length stem) x) (length stem + 1) y ≡ (stem ++ (x ∷ y ∷ [])) ++ rest
+two-set [] rest a b x y = refl
+two-set (byte ∷ stem) rest a b x y =
+    let next : suc (length stem) + 1 ≡ suc (length stem + 1) = omega arith in
+    rw next (ap (λ (list : List ℕ). byte ∷ list) (two-set stem rest a b x y))
+
+letters-set : (netlist : Netlist) (node : ℕ) (rest : List ℕ) (was now : Tri × Tri) (x y : ℕ) → tri_letter now.0 ≡ x ∷ [] → tri_letter now.1 ≡ y ∷ [] →
+    set (set (output_word netlist node was ++ rest) (length (output_stem netlist node)) x) (length (output_stem netlist node) + 1) y ≡ output_word netlist node now ++ rest
+letters-set netlist node rest was now x y first second =
+    rw (first, second) (by_letters was.0 was.1)
+  where
+    by_letters : (one other : Tri) → set (set ((output_stem netlist node ++ (tri_letter one ++ tri_letter other)) ++ rest) (length (output_stem netlist node)) x) (length (output_stem netlist node) + 1) y ≡ (output_stem netlist node ++ (x ∷ y ∷ [])) ++ rest
+    by_letters Zero Zero = two-set (output_stem netlist node) rest 48 48 x y
+    by_letters Zero One = two-set (output_stem netlist node) rest 48 49 x y
+    by_letters Zero Unknown = two-set (output_stem netlist node) rest 48 88 x y
+    by_letters One Zero = two-set (output_stem netlist node) rest 49 48 x y
+    by_letters One One = two-set (output_stem netlist node) rest 49 49 x y
+    by_letters One Unknown = two-set (output_stem netlist node) rest 49 88 x y
+    by_letters Unknown Zero = two-set (output_stem netlist node) rest 88 48 x y
+    by_letters Unknown One = two-set (output_stem netlist node) rest 88 49 x y
+    by_letters Unknown Unknown = two-set (output_stem netlist node) rest 88 88 x y
+
+-- a byte behind a word
+set-behind : (word rest : List ℕ) (n k i x : ℕ) → length word ≡ n → i ≡ n + k → set (word ++ rest) i x ≡ word ++ set rest k x
+set-behind word rest n k i x long at =
+    let there : n ≤ i = omega (arith, at) in
+    let back : i - n ≡ k = omega (arith, at) in
+    set-append_right word rest n i x long there ∙ ap (λ (m : ℕ). word ++ set rest m x) back
+
+-- an output gets other values: its two letters change
+words-set : (netlist : Netlist) (nodes : List ℕ) (values : List (Tri × Tri)) (place : ℕ) (now : Tri × Tri) (x y : ℕ) → length values ≡ length nodes → place < length nodes → tri_letter now.0 ≡ x ∷ [] → tri_letter now.1 ≡ y ∷ [] →
+    set (set (output_words netlist nodes values) (letter_place netlist nodes place) x) (letter_place netlist nodes place + 1) y ≡ output_words netlist nodes (set values place now)
+words-set netlist [] values place now x y long inside first second = absurd (omega (arith, inside))
+words-set netlist (node ∷ nodes) [] place now x y long inside first second = absurd (omega (arith, long))
+words-set netlist (node ∷ nodes) (pair ∷ values) zero now x y long inside first second = letters-set netlist node (output_words netlist nodes values) pair now x y first second
+words-set netlist (node ∷ nodes) (pair ∷ values) (suc place) now x y long inside first second =
+    let word = output_word netlist node pair in
+    let words = output_words netlist nodes values in
+    let n = length (output_stem netlist node) + 2 in
+    let k = letter_place netlist nodes place in
+    let one = set-behind word words n k (n + k) x (word-length netlist node pair) refl in
+    let two = set-behind word (set words k x) n (k + 1) (n + k + 1) y (word-length netlist node pair) (omega arith) in
+    let later = words-set netlist nodes values place now x y (omega (arith, long)) (omega (arith, inside)) first second in
+    ap (λ (list : List ℕ). set list (n + k + 1) y) one ∙ two ∙ ap (λ (list : List ℕ). word ++ list) later
+
+-- each output has a place, and its letters stand in the text
+pub has-place : (netlist : Netlist) (values : List (Tri × Tri)) (places : List ℕ) (output : ℕ) → length values ≡ length netlist.outputs → output < length values →
+    places ≡ letter_places netlist 0 netlist.outputs → output < length places
+has-place netlist values places output long inside at = rw at (omega (arith, long, inside, length-places netlist 0 netlist.outputs))
+
+place-is : (netlist : Netlist) (values : List (Tri × Tri)) (places : List ℕ) (output place : ℕ) (d : ℕ) → length values ≡ length netlist.outputs → output < length values →
+    places ≡ letter_places netlist 0 netlist.outputs → place ≡ get_or places output d → place ≡ letter_place netlist netlist.outputs output
+place-is netlist values places output place d long inside at is =
+    let within : output < length netlist.outputs = omega (arith, long, inside) in
+    let there : get_or places output 0 ≡ letter_place netlist netlist.outputs output = rw at (place-at netlist 0 netlist.outputs output within ∙ omega arith) in
+    is ∙ get_or_default places output d 0 (has-place netlist values places output long inside at) ∙ there
+
+pub has-letters : (netlist : Netlist) (values : List (Tri × Tri)) (text places : List ℕ) (output place : ℕ) (d : ℕ) → length values ≡ length netlist.outputs → output < length values →
+    text ≡ output_words netlist netlist.outputs values → places ≡ letter_places netlist 0 netlist.outputs → place ≡ get_or places output d → place + 1 < length text
+has-letters netlist values text places output place d long inside words at is =
+    rw (place-is netlist values places output place d long inside at is, words) (place-inside netlist netlist.outputs values output long (omega (arith, long, inside)))
+
+-- what a line's text is once an output has other values
+pub line-set : (netlist : Netlist) (values : List (Tri × Tri)) (text places : List ℕ) (output place d : ℕ) (now : Tri × Tri) (x y : ℕ) → length values ≡ length netlist.outputs → output < length values →
+    text ≡ output_words netlist netlist.outputs values → places ≡ letter_places netlist 0 netlist.outputs → place ≡ get_or places output d → tri_letter now.0 ≡ x ∷ [] → tri_letter now.1 ≡ y ∷ [] →
+    set (set text place x) (place + 1) y ≡ output_words netlist netlist.outputs (set values output now)
+line-set netlist values text places output place d now x y long inside words at is first second =
+    rw (place-is netlist values places output place d long inside at is, words) (words-set netlist netlist.outputs values output now x y long (omega (arith, long, inside)) first second)
+
+-- one output more
+pub words-push : (netlist : Netlist) (nodes : List ℕ) (values : List (Tri × Tri)) (node : ℕ) (pair : Tri × Tri) → length values ≡ length nodes →
+    output_words netlist (nodes ++ node ∷ []) (values ++ pair ∷ []) ≡ output_words netlist nodes values ++ output_word netlist node pair
+words-push netlist [] [] node pair long = append-nil (output_word netlist node pair)
+words-push netlist [] (other ∷ values) node pair long = absurd (omega (arith, long))
+words-push netlist (other ∷ nodes) [] node pair long = absurd (omega (arith, long))
+words-push netlist (other ∷ nodes) (earlier ∷ values) node pair long =
+    ap (λ (list : List ℕ). output_word netlist other earlier ++ list) (words-push netlist nodes values node pair (omega (arith, long)))
+    ∙ sym (append_assoc (output_word netlist other earlier) (output_words netlist nodes values) (output_word netlist node pair))
+
+pub places-push : (netlist : Netlist) (start : ℕ) (nodes : List ℕ) (values : List (Tri × Tri)) (node n : ℕ) → length values ≡ length nodes → n ≡ start + length (output_words netlist nodes values) + length (output_stem netlist node) →
+    letter_places netlist start (nodes ++ node ∷ []) ≡ letter_places netlist start nodes ++ n ∷ []
+places-push netlist start [] [] node n long is =
+    let same : start + length (output_stem netlist node) ≡ n = omega (arith, is) in
+    ap (λ (m : ℕ). m ∷ []) same
+places-push netlist start [] (other ∷ values) node n long is = absurd (omega (arith, long))
+places-push netlist start (other ∷ nodes) [] node n long is = absurd (omega (arith, long))
+places-push netlist start (other ∷ nodes) (earlier ∷ values) node n long is =
+    let next = start + length (output_stem netlist other) + 2 in
+    let at : n ≡ next + length (output_words netlist nodes values) + length (output_stem netlist node) =
+    omega (arith, is, word-length netlist other earlier, length-append (output_word netlist other earlier) (output_words netlist nodes values)) in
+    ap (λ (list : List ℕ). (start + length (output_stem netlist other)) ∷ list) (places-push netlist next nodes values node n (omega (arith, long)) at)
+
+-- the line of the outputs so far
+pub record IsLineOf (netlist : Netlist) (nodes : List ℕ) (values : List (Tri × Tri)) (text places : List ℕ) : Type 0 where
+  pub values_are : values ≡ map (λ _. (Unknown, Unknown)) nodes
+  pub text_is : text ≡ output_words netlist nodes values
+  pub places_are : places ≡ letter_places netlist 0 nodes
+
+pub line-next : (netlist : Netlist) (items : List ℕ) (i : ℕ) (name : List ℕ) (values now : List (Tri × Tri)) (text text' places places' : List ℕ) →
+    items ≡ netlist.outputs → i < length items → slice_get netlist.names (get_or items i 0) ≡ Some name →
+    IsLineOf netlist (take i netlist.outputs) values text places →
+    now ≡ values ++ (Unknown, Unknown) ∷ [] → text' ≡ text ++ (((32 ∷ name) ++ 61 ∷ []) ++ 88 ∷ 88 ∷ []) → places' ≡ places ++ (length text + length ((32 ∷ name) ++ 61 ∷ [])) ∷ [] →
+    IsLineOf netlist (take (i + 1) netlist.outputs) now text' places'
+line-next netlist items i name values now text text' places places' same inside named line pushed worded placed =
+    let nodes = take i netlist.outputs in
+    let node = get_or items i 0 in
+    let unknown : ℕ → Tri × Tri = λ _. (Unknown, Unknown) in
+    let is : node_name netlist.names node ≡ name = get_or_from_slice_get netlist.names node name [] named in
+    let more : take (i + 1) netlist.outputs ≡ nodes ++ node ∷ [] = subst (λ (list : List ℕ). take (i + 1) list ≡ take i list ++ get_or items i 0 ∷ []) same (take_more items i 0 inside) in
+    let long : length values ≡ length nodes = ap length line.values_are ∙ length-map nodes unknown in
+    record {
+      values_are = pushed ∙ (ap (λ (list : List (Tri × Tri)). list ++ (Unknown, Unknown) ∷ []) line.values_are ∙ (sym (map-append unknown nodes (node ∷ [])) ∙ ap (map unknown) (sym more)));
+      text_is = rw (more, pushed) (worded ∙ (ap (λ (list : List ℕ). list ++ (((32 ∷ name) ++ 61 ∷ []) ++ 88 ∷ 88 ∷ [])) line.text_is ∙ (ap (λ (list : List ℕ). output_words netlist nodes values ++ (((32 ∷ list) ++ 61 ∷ []) ++ 88 ∷ 88 ∷ [])) (sym is) ∙ sym (words-push netlist nodes values node (Unknown, Unknown) long))));
+      places_are = rw more (placed ∙ (ap (λ (list : List ℕ). list ++ (length text + length ((32 ∷ name) ++ 61 ∷ [])) ∷ []) line.places_are ∙ sym (places-push netlist 0 nodes values node (length text + length ((32 ∷ name) ++ 61 ∷ [])) long (rw (is, line.text_is) (omega arith)))));
+    }

@@ -1,0 +1,21 @@
+-- What the fields of a line of outputs stand for.
+use Rattle.std.specs.Prelude.{◌≡◌, ℕ, ◌+◌, List, [], ◌∷◌, length}
+use Rattle.hz_core.specs.Netlist.{Netlist, IsCircuit}
+use Rattle.hz_report.specs.declared.outputs.OutputLine.TheInside.{Inside}
+use Rattle.hz_report.specs.Outputs.{LineOf, output_stem, output_words}
+
+abbrev pub line_of_fields : Inside → LineOf
+line_of_fields fields = record { netlist = fields.circuit.now; values = fields.values.items }
+
+-- where the letters of each output stand in the text, if the text of the first one begins at a start
+abbrev pub letter_places : Netlist → ℕ → List ℕ → List ℕ
+letter_places netlist start [] = []
+letter_places netlist start (node ∷ nodes) =
+    let place = start + length (output_stem netlist node) in place ∷ letter_places netlist (place + 2) nodes
+
+-- two values for each output, the words of all, and where the letters of each stand
+pub record HoldsLine (fields : Inside) : Type 0 where
+  pub circuit : IsCircuit fields.circuit.now
+  pub count : length fields.values.items ≡ length fields.circuit.now.outputs
+  pub text : fields.text.items ≡ output_words fields.circuit.now fields.circuit.now.outputs fields.values.items
+  pub places : fields.places.items ≡ letter_places fields.circuit.now 0 fields.circuit.now.outputs

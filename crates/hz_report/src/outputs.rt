@@ -1,0 +1,116 @@
+//! The line of a number, in which each output of a circuit has two values.
+ghost use Rattle.std.specs.Prelude.{◌≡◌, ◌<◌, ◌+◌, ◌++◌, [], ◌∷◌, length, map, slice_set, IfOk, OnOk};
+ghost use Rattle.hz_core.specs.declared.tri.Tri.TheVariants.{Unknown};
+ghost use Rattle.hz_write.specs.Writer.{Writes, NoneWaits};
+ghost use Rattle.hz_report.specs.Outputs.{outputs_line};
+ghost use Rattle.hz_report.specs.Words.{tri_letter};
+
+use hz_core::{Circuit, Memory, Tri};
+use hz_outside::Sink;
+use hz_write::Piece::{Number, Text};
+use hz_write::Writer;
+use std::alloc::Global;
+use std::marker::Model;
+
+/// The line of a number, in which each output of a circuit has two values: `7 z=X0 carry=11`.
+///
+/// What stands behind the number is kept as bytes, and from one line to the next only letters change.
+#[derive(Drop)]
+pub struct OutputLine<'c> {
+    circuit: &'c Circuit,
+    values: Vec<(Tri, Tri)>,
+    text: Vec<u8>,
+    // Where the letters of each output stand in the text.
+    places: Vec<usize>,
+}
+
+impl<'c> Model for OutputLine<'c> {
+    ghost use Rattle.hz_report.specs.Outputs.{LineOf};
+    ghost use Rattle.hz_report.specs.LineInside.{line_of_fields, HoldsLine};
+
+    ghost Value = { LineOf };
+
+    ghost view = { line_of_fields };
+
+    ghost invariant = { HoldsLine };
+}
+
+impl<'c> OutputLine<'c> {
+    /// The line of a circuit's outputs, with X for each value. Only this call takes memory.
+    pub fn new(alloc: Global, circuit: &'c Circuit) -> Result<OutputLine<'c>, Memory>
+        ensures { IfOk result (λ line. line ≡ record { netlist = circuit.now; values = map (λ _. (Unknown, Unknown)) circuit.now.outputs }) }
+    {
+        let _nodes = circuit.nodes();
+        let mut values = Vec::new(alloc);
+        let mut text = Vec::new(alloc);
+        let mut places = Vec::new(alloc);
+        for node in circuit.outputs() {
+            let Ok(()) = values.push((Tri::Unknown, Tri::Unknown)) else {
+                return Err(Memory);
+            };
+            add_word(circuit.name(*node), &mut text, &mut places)?;
+        }
+        Ok(OutputLine {
+            circuit,
+            values,
+            text,
+            places,
+        })
+    }
+
+    /// Gives an output its two values. Outputs are numbered from 0, in their order.
+    #[inline(always)]
+    pub fn set(&mut self, output: usize, first: Tri, second: Tri)
+        requires { output < length self.old.values }
+        ensures { self.new ≡ record self.old { values = slice_set self.old.values output (first, second) } }
+    {
+        let place = self.places[output];
+        self.text[place] = letter(first);
+        self.text[place + 1] = letter(second);
+        self.values[output] = (first, second);
+    }
+
+    /// Gives the line to a writer, with a number in front.
+    #[tactic(auto, using(hz_write::proofs::Writers::writes_same), unfolding(crate::specs::Outputs::outputs_line))]
+    pub fn write<K: Sink>(&self, writer: &mut Writer<'_, K>, number: u32)
+        ensures gave { Writes K.output K.faults (outputs_line self.now.netlist number self.now.values) writer.old writer.new }
+        ensures none_waits { NoneWaits writer.new }
+    {
+        writer.line(&[Number(number), Text(self.text.as_slice())]);
+    }
+}
+
+// Adds the word of an output to a text, with X for both values, and the place of their letters.
+fn add_word(name: &[u8], text: &mut Vec<u8>, places: &mut Vec<usize>) -> Result<(), Memory>
+    ensures text { OnOk result (text.new.items ≡ text.old.items ++ (((32 ∷ name.now) ++ 61 ∷ []) ++ 88 ∷ 88 ∷ [])) }
+    ensures place { OnOk result (places.new.items ≡ places.old.items ++ (length text.old.items + length ((32 ∷ name.now) ++ 61 ∷ [])) ∷ []) }
+{
+    let Ok(()) = text.push(b' ') else {
+        return Err(Memory);
+    };
+    let Ok(()) = text.extend_from_slice(name) else {
+        return Err(Memory);
+    };
+    let Ok(()) = text.push(b'=') else {
+        return Err(Memory);
+    };
+    let Ok(()) = places.push(text.len()) else {
+        return Err(Memory);
+    };
+    let Ok(()) = text.extend_from_slice(b"XX") else {
+        return Err(Memory);
+    };
+    Ok(())
+}
+
+// The letter of a value.
+#[inline(always)]
+fn letter(value: Tri) -> u8
+    ensures { tri_letter value ≡ result ∷ [] }
+{
+    match value {
+        Tri::Zero => b'0',
+        Tri::One => b'1',
+        Tri::Unknown => b'X',
+    }
+}
