@@ -46,9 +46,13 @@ module _ (netlist : Netlist) (text : RunTextOf) (accepted : AreAccepted netlist 
 -- a run of a text has few steps
 pub steps-few : (netlist : Netlist) (text : RunTextOf) (number : ℕ) (lead : List (List ℕ)) (cycle : Option (List (List ℕ))) → IsRunTextFor netlist text → number < length text.runs → lead ≡ (get_or text.runs number no_run).lead → cycle ≡ (get_or text.runs number no_run).cycle → length lead + length (cycle_steps cycle) < 4294967296
 steps-few netlist text number lead cycle usable below first second =
-    omega (arith, ap length first, ap (λ (c : Option (List (List ℕ))). length (cycle_steps c)) second,
-    length-append (get_or text.runs number no_run).lead (cycle_steps (get_or text.runs number no_run).cycle),
-    run-few text.runs number (get_or text.runs number no_run) refl below usable.few_steps)
+    omega (
+      arith,
+      ap length first,
+      ap (λ (c : Option (List (List ℕ))). length (cycle_steps c)) second,
+      length-append (get_or text.runs number no_run).lead (cycle_steps (get_or text.runs number no_run).cycle),
+      run-few text.runs number (get_or text.runs number no_run) refl below usable.few_steps,
+    )
 
 -- the steps of the last run, by its parts
 pub steps-last : (runs : List RunOf) (number : ℕ) (lead : List (List ℕ)) (cycle : Option (List (List ℕ))) → number ≡ length runs - 1 → lead ≡ (get_or runs number no_run).lead → cycle ≡ (get_or runs number no_run).cycle → lead ++ cycle_steps cycle ≡ steps_of (last_run runs)
