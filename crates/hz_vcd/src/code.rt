@@ -37,3 +37,29 @@ fn digit(value: u32) -> u8
 {
     b'!' + value as u8
 }
+
+/// The variable of a code, if it is one of up to three digits.
+pub(crate) fn read_code(code: &[u8]) -> Option<u32>
+{
+    match code {
+        [a] => digit_of(*a),
+        [a, b] => match digit_of(*a)? {
+            0 => None,
+            high => Some(high * BASE + digit_of(*b)?),
+        },
+        [a, b, c] => match digit_of(*a)? {
+            0 => None,
+            high => Some((high * BASE + digit_of(*b)?) * BASE + digit_of(*c)?),
+        },
+        _ => None,
+    }
+}
+
+// The digit of a byte, if it is one.
+fn digit_of(byte: u8) -> Option<u32>
+{
+    match byte {
+        b'!'..=b'~' => Some((byte - b'!') as u32),
+        _ => None,
+    }
+}

@@ -3,12 +3,25 @@
 //! | Module | What lives in it |
 //! |---|---|
 //! | `writing` | [`write`]: gives the text of a dump to a writer |
+//! | `reading` | [`read`]: what a dump means, or the first word that no dump has there |
+//! | `wave` | [`Wave`]: what a dump means |
+//! | `fault` | [`VcdFault`]: why a text is no dump |
+//! | `head` | the head of a dump |
+//! | `words` | the words of a text |
 //! | `code` | the codes by which a dump names variables |
 #![tactic(auto, using(hz_write::proofs::Writers::writes_then, hz_write::proofs::Writers::writes_nothing))]
 
 mod code;
+mod fault;
+mod head;
+mod reading;
 #[cfg(test)]
 mod tests;
+mod wave;
+mod words;
 mod writing;
 
+pub use fault::VcdFault;
+pub use reading::read;
+pub use wave::Wave;
 pub use writing::write;

@@ -1,0 +1,169 @@
+-- Reading the words of a head.
+use Rattle.std.proofs.Common.{◌≡◌, ◌≢◌, ◌∙◌, ℕ, ◌+◌, Bool, true, false, not, List, [], ◌∷◌, ◌++◌, length, map, take, refl, sym, ap, subst, arith, append_assoc, inl, inr, ◌⊎◌}
+use Rattle.std.specs.List.{flat_map, All}
+use Rattle.std.specs.Str.{bytes_eq}
+use Rattle.std.proofs.lemmas.Slice.Eq.{bytes_eq-Decides}
+use Rattle.std.proofs.lemmas.List.Elements.{All-nil, All-cons, All-head, All-tail}
+use Rattle.hz_vcd.specs.Dump.{end_word, IsBlock, OpensBlock}
+use Rattle.hz_vcd.specs.Reading.{WordsLeft, Ending, Word, BlockEnd, Blocks, Comes, Goes, Stops, Past, Stuck, all_words}
+use Rattle.hz_vcd.proofs.ReadingLaws.{past-word, wrong-word, wrong-end}
+
+-- the parts of lists that are the same
+pub same-first : {X : Type 0} {x y : X} {xs ys : List X} → x ∷ xs ≡ y ∷ ys → x ≡ y
+same-first e = cc
+
+pub same-later : {X : Type 0} {x y : X} {xs ys : List X} → x ∷ xs ≡ y ∷ ys → xs ≡ ys
+same-later e = cc
+
+pub none-is : {X : Type 0} {x : X} {xs : List X} → [] ≡ x ∷ xs → ⊥
+none-is e = cc
+
+-- a word, and then the rest
+module _ (word : List ℕ) (next : Ending) (goes : Goes next []) where
+  pub word-goes : Goes (Word word next) []
+  word-goes = (word ∷ goes.0, goes.1, goes.2, (goes.0, refl, goes.3))
+
+  pub word-end : (was : WordsLeft) (number : ℕ) → was.words ≡ [] → number ≡ was.read + 1 → Stuck (Word word next) was number
+  word-end was number none place = wrong-end (Word word next) was number none place word-goes (λ state steps comes. none-is comes.1)
+
+  pub word-wrong : (was : WordsLeft) (number : ℕ) (found : List ℕ) (later : List (List ℕ)) → was.words ≡ found ∷ later → number ≡ was.read + 1 → found ≢ word → Stuck (Word word next) was number
+  word-wrong was number found later are place differ =
+      wrong-word (Word word next) was found later number are place word-goes (λ more state steps comes. differ (same-first comes.1))
+
+pub word-past : (word : List ℕ) (next : Ending) (was now : WordsLeft) (found : List ℕ) → was.words ≡ found ∷ now.words → now.read ≡ was.read + 1 → found ≡ word → Past (Word word next) was next now
+word-past word next was now found are counts same =
+    past-word (Word word next) was next now word (are ∙ ap (λ (w : List ℕ). w ∷ now.words) same) counts
+    (λ more state steps comes. subst (λ (words : List (List ℕ)). Comes next words state steps) (sym (same-later comes.1)) comes.2)
+    (λ more state steps comes. (more, refl, comes))
+
+-- what the comparison of two words says
+pub same-word : (a b : List ℕ) → false ≡ not (bytes_eq a b) → a ≡ b
+same-word a b e = (bytes_eq-Decides a b).0 (not-false (bytes_eq a b) (sym e))
+  where
+    not-false : (t : Bool) → not t ≡ false → t ≡ true
+    not-false true f = refl
+    not-false false f = absurd (cc)
+
+pub other-word : (a b : List ℕ) → true ≡ not (bytes_eq a b) → a ≢ b
+other-word a b e same = clash (bytes_eq a b) (sym e) ((bytes_eq-Decides a b).1 same)
+  where
+    clash : (t : Bool) → not t ≡ true → t ≡ true → ⊥
+    clash true f g = absurd (cc)
+    clash false f g = absurd (cc)
+
+pub equal-word : (a b : List ℕ) → true ≡ bytes_eq a b → a ≡ b
+equal-word a b e = (bytes_eq-Decides a b).0 (sym e)
+
+pub differing-word : (a b : List ℕ) → false ≡ bytes_eq a b → a ≢ b
+differing-word a b e same = clash (bytes_eq a b) (sym e) ((bytes_eq-Decides a b).1 same)
+  where
+    clash : (t : Bool) → t ≡ false → t ≡ true → ⊥
+    clash true f g = absurd (cc)
+    clash false f g = absurd (cc)
+
+-- words, and then the rest
+pub all-goes : (words : List (List ℕ)) (next : Ending) → Goes next [] → Goes (all_words words next) []
+all-goes [] next goes = goes
+all-goes (word ∷ words) next goes = word-goes word (all_words words next) (all-goes words next goes)
+
+-- the end of a block, and then the rest
+pub block-goes : (next : Ending) → Goes next [] → Goes (BlockEnd next) []
+block-goes next goes = (end_word ∷ goes.0, goes.1, goes.2, ([], goes.0, All-nil (λ word. word ≢ end_word), refl, goes.3))
+
+no-words : (inside : List (List ℕ)) (later : List (List ℕ)) → [] ≡ inside ++ end_word ∷ later → ⊥
+no-words [] later e = none-is e
+no-words (word ∷ inside) later e = none-is e
+
+pub block-end : (next : Ending) (goes : Goes next []) (was : WordsLeft) (number : ℕ) → was.words ≡ [] → number ≡ was.read + 1 → Stuck (BlockEnd next) was number
+block-end next goes was number none place =
+    wrong-end (BlockEnd next) was number none place (block-goes next goes) (λ state steps comes. no-words comes.0 comes.1 comes.3)
+
+pub block-last : (next : Ending) (was now : WordsLeft) (found : List ℕ) → was.words ≡ found ∷ now.words → now.read ≡ was.read + 1 → found ≡ end_word → Past (BlockEnd next) was next now
+block-last next was now found are counts same =
+    past-word (BlockEnd next) was next now end_word (are ∙ ap (λ (w : List ℕ). w ∷ now.words) same) counts
+    (λ more state steps comes. onward more state steps comes.0 comes.1 comes.2 comes.3 comes.4)
+    (λ more state steps comes. ([], more, All-nil (λ word. word ≢ end_word), refl, comes))
+  where
+    onward : (more : List (List ℕ)) (state : List Bool) (steps : List (List ℕ)) (inside later : List (List ℕ)) → All (λ word. word ≢ end_word) inside → end_word ∷ more ≡ inside ++ end_word ∷ later → Comes next later state steps → Comes next more state steps
+    onward more state steps [] later none is comes = subst (λ (words : List (List ℕ)). Comes next words state steps) (sym (same-later is)) comes
+    onward more state steps (word ∷ inside) later none is comes = absurd (All-head (λ word. word ≢ end_word) word inside none (sym (same-first is)))
+
+pub block-inside : (next : Ending) (was now : WordsLeft) (found : List ℕ) → was.words ≡ found ∷ now.words → now.read ≡ was.read + 1 → found ≢ end_word → Past (BlockEnd next) was (BlockEnd next) now
+block-inside next was now found are counts differ =
+    past-word (BlockEnd next) was (BlockEnd next) now found are counts
+    (λ more state steps comes. onward more state steps comes.0 comes.1 comes.2 comes.3 comes.4)
+    (λ more state steps comes. (found ∷ comes.0, comes.1, All-cons (λ word. word ≢ end_word) found comes.0 differ comes.2, ap (λ (words : List (List ℕ)). found ∷ words) comes.3, comes.4))
+  where
+    onward : (more : List (List ℕ)) (state : List Bool) (steps : List (List ℕ)) (inside later : List (List ℕ)) → All (λ word. word ≢ end_word) inside → found ∷ more ≡ inside ++ end_word ∷ later → Comes next later state steps → Comes (BlockEnd next) more state steps
+    onward more state steps [] later none is comes = absurd (differ (same-first is))
+    onward more state steps (word ∷ inside) later none is comes = (inside, later, All-tail (λ word. word ≢ end_word) word inside none, same-later is, comes)
+
+-- blocks and a word, and then the rest
+abbrev pub flat : List (List (List ℕ)) → List (List ℕ)
+flat blocks = flat_map (λ block. block) blocks
+
+pub blocks-goes : (word : List ℕ) (next : Ending) → Goes next [] → Goes (Blocks word next) []
+blocks-goes word next goes = (word ∷ goes.0, goes.1, goes.2, ([], goes.0, All-nil IsBlock, refl, goes.3))
+
+-- the first word of blocks and of what is behind them
+data FirstOf (word found : List ℕ) (more : List (List ℕ)) (later : List (List ℕ)) : List (List (List ℕ)) → Type 0 where
+  itself : found ≡ word → more ≡ later → FirstOf word found more later []
+  opens : (inside : List (List ℕ)) (blocks : List (List (List ℕ))) (block : List (List ℕ)) → OpensBlock found → All (λ w. w ≢ end_word) inside → All IsBlock blocks → more ≡ inside ++ end_word ∷ (flat blocks ++ word ∷ later) → FirstOf word found more later (block ∷ blocks)
+
+first-of : (word found : List ℕ) (more later : List (List ℕ)) (blocks : List (List (List ℕ))) → All IsBlock blocks → found ∷ more ≡ flat blocks ++ word ∷ later → FirstOf word found more later blocks
+first-of word found more later [] all is = itself (same-first is) (same-later is)
+first-of word found more later (block ∷ blocks) all is =
+    let b = All-head IsBlock block blocks all in
+    let there : found ∷ more ≡ ((b.first ∷ b.inside ++ end_word ∷ []) ++ flat blocks) ++ word ∷ later = is ∙ ap (λ (words : List (List ℕ)). (words ++ flat blocks) ++ word ∷ later) b.are in
+    opens b.inside blocks block (subst OpensBlock (sym (same-first there)) b.opens) b.no_end (All-tail IsBlock block blocks all)
+    (same-later there ∙ append_assoc (b.inside ++ end_word ∷ []) (flat blocks) (word ∷ later) ∙ append_assoc b.inside (end_word ∷ []) (flat blocks ++ word ∷ later))
+
+pub blocks-end : (word : List ℕ) (next : Ending) (goes : Goes next []) (was : WordsLeft) (number : ℕ) → was.words ≡ [] → number ≡ was.read + 1 → Stuck (Blocks word next) was number
+blocks-end word next goes was number none place =
+    wrong-end (Blocks word next) was number none place (blocks-goes word next goes) (λ state steps comes. nothing comes.0 comes.1 comes.2 comes.3)
+  where
+    nothing : (blocks : List (List (List ℕ))) (later : List (List ℕ)) → All IsBlock blocks → [] ≡ flat blocks ++ word ∷ later → ⊥
+    nothing [] later all e = none-is e
+    nothing (block ∷ blocks) later all e =
+        let b = All-head IsBlock block blocks all in
+        none-is (e ∙ ap (λ (words : List (List ℕ)). (words ++ flat blocks) ++ word ∷ later) b.are)
+
+pub blocks-wrong : (word : List ℕ) (next : Ending) (goes : Goes next []) (was : WordsLeft) (number : ℕ) (found : List ℕ) (later : List (List ℕ)) → was.words ≡ found ∷ later → number ≡ was.read + 1 → found ≢ word → (OpensBlock found → ⊥) → Stuck (Blocks word next) was number
+blocks-wrong word next goes was number found later are place differ shut =
+    wrong-word (Blocks word next) was found later number are place (blocks-goes word next goes)
+    (λ more state steps comes. nothing more comes.1 comes.0 (first-of word found more comes.1 comes.0 comes.2 comes.3))
+  where
+    nothing : (more later : List (List ℕ)) (blocks : List (List (List ℕ))) → FirstOf word found more later blocks → ⊥
+    nothing more later [] (itself same is) = differ same
+    nothing more later (block ∷ blocks) (opens inside others b open_ none all is) = shut open_
+
+pub blocks-word : (word : List ℕ) (next : Ending) (was now : WordsLeft) (found : List ℕ) → (OpensBlock word → ⊥) → was.words ≡ found ∷ now.words → now.read ≡ was.read + 1 → found ≡ word → Past (Blocks word next) was next now
+blocks-word word next was now found shut are counts same =
+    past-word (Blocks word next) was next now word (are ∙ ap (λ (w : List ℕ). w ∷ now.words) same) counts
+    (λ more state steps comes. onward more state steps comes.1 comes.0 (first-of word word more comes.1 comes.0 comes.2 comes.3) comes.4)
+    (λ more state steps comes. ([], more, All-nil IsBlock, refl, comes))
+  where
+    onward : (more : List (List ℕ)) (state : List Bool) (steps : List (List ℕ)) (later : List (List ℕ)) (blocks : List (List (List ℕ))) → FirstOf word word more later blocks → Comes next later state steps → Comes next more state steps
+    onward more state steps later [] (itself e is) comes = subst (λ (words : List (List ℕ)). Comes next words state steps) (sym is) comes
+    onward more state steps later (block ∷ blocks) (opens inside others b open_ none all is) comes = absurd (shut open_)
+
+pub blocks-open : (word : List ℕ) (next : Ending) (was now : WordsLeft) (found : List ℕ) → OpensBlock found → found ≢ word → was.words ≡ found ∷ now.words → now.read ≡ was.read + 1 → Past (Blocks word next) was (BlockEnd (Blocks word next)) now
+blocks-open word next was now found open_ differ are counts =
+    past-word (Blocks word next) was (BlockEnd (Blocks word next)) now found are counts
+    (λ more state steps comes. onward more state steps comes.1 comes.0 (first-of word found more comes.1 comes.0 comes.2 comes.3) comes.4)
+    (λ more state steps comes. back more state steps comes)
+  where
+    onward : (more : List (List ℕ)) (state : List Bool) (steps : List (List ℕ)) (later : List (List ℕ)) (blocks : List (List (List ℕ))) → FirstOf word found more later blocks → Comes next later state steps → Comes (BlockEnd (Blocks word next)) more state steps
+    onward more state steps later [] (itself same is) comes = absurd (differ same)
+    onward more state steps later (block ∷ blocks) (opens inside others b o none all is) comes =
+        (inside, flat others ++ word ∷ later, none, is, (others, later, all, refl, comes))
+    back : (more : List (List ℕ)) (state : List Bool) (steps : List (List ℕ)) → Comes (BlockEnd (Blocks word next)) more state steps → Comes (Blocks word next) (found ∷ more) state steps
+    back more state steps (inside, rest, none, is, (blocks, later, all, then, comes)) =
+        let block : List (List ℕ) = found ∷ inside ++ end_word ∷ [] in
+        let whole : more ≡ ((inside ++ end_word ∷ []) ++ flat blocks) ++ word ∷ later =
+        is ∙ ap (λ (words : List (List ℕ)). inside ++ end_word ∷ words) then
+        ∙ sym (append_assoc inside (end_word ∷ []) (flat blocks ++ word ∷ later)) ∙ sym (append_assoc (inside ++ end_word ∷ []) (flat blocks) (word ∷ later)) in (
+          block ∷ blocks, later,
+          All-cons IsBlock block blocks (record { first = found; inside = inside; are = refl; opens = open_; no_end = none }) all,
+          ap (λ (words : List (List ℕ)). found ∷ words) whole, comes,
+        )

@@ -1,0 +1,133 @@
+//! Reading dumps.
+
+use crate::code::read_code;
+use crate::fault::VcdFault;
+use crate::head::{expect, expect_all, read_head};
+use crate::wave::Wave;
+use crate::words::Words;
+use hz_gmw::Run;
+use hz_net::Net;
+use itoa::Buffer;
+use std::alloc::Global;
+
+/// Reads a dump of the variables of a network.
+pub fn read(alloc: Global, net: &Net, text: &[u8]) -> Result<Wave, VcdFault> {
+    let mut words = Words::new(text);
+    read_head(alloc, &mut words, net)?;
+    let state = read_state(alloc, &mut words, net.len())?;
+    let run = read_steps(alloc, &mut words, state.as_slice())?;
+    Ok(Wave::of(state, run))
+}
+
+// Reads the state at the time 0.
+fn read_state(alloc: Global, words: &mut Words<'_>, variables: u32) -> Result<Vec<bool>, VcdFault> {
+    expect_all(words, b"#0 $dumpvars")?;
+    let state = read_values(alloc, words, variables)?;
+    expect(words, b"$end")?;
+    Ok(state)
+}
+
+// Reads the bits of all variables.
+fn read_values(alloc: Global, words: &mut Words<'_>, variables: u32) -> Result<Vec<bool>, VcdFault> {
+    let mut state = vec![in alloc; false; variables as usize]?;
+    for var in 0..variables {
+        state[var as usize] = read_value(words, var)?;
+    }
+    Ok(state)
+}
+
+// Reads the bit of a variable.
+fn read_value(words: &mut Words<'_>, var: u32) -> Result<bool, VcdFault> {
+    let token = words.number();
+    let Some(word) = words.next() else {
+        return Err(VcdFault::Form { token });
+    };
+    match value_in(word) {
+        Some((bit, other)) if other == var => Ok(bit),
+        _ => Err(VcdFault::Form { token }),
+    }
+}
+
+// The bit and the variable of a word that gives a variable a bit.
+fn value_in(word: &[u8]) -> Option<(bool, u32)> {
+    match word {
+        [b'0', code @ ..] => Some((false, read_code(code)?)),
+        [b'1', code @ ..] => Some((true, read_code(code)?)),
+        _ => None,
+    }
+}
+
+// Whether a word is that of a time.
+fn is_time(word: &[u8], time: u32) -> bool {
+    let [b'#', digits @ ..] = word else {
+        return false;
+    };
+    digits == Buffer::new().format(time).as_bytes()
+}
+
+// Reads all steps from a state.
+fn read_steps(alloc: Global, words: &mut Words<'_>, start: &[bool]) -> Result<Run, VcdFault> {
+    let mut run = Run::new(alloc);
+    let token = words.number();
+    let Some(word) = words.next() else {
+        return Ok(run);
+    };
+    if start.is_empty() || !is_time(word, 1) {
+        return Err(VcdFault::Form { token });
+    }
+    let mut state = Vec::from_slice(alloc, start)?;
+    let mut times = vec![in alloc; 0; start.len()]?;
+    let mut flips = Vec::new(alloc);
+    let mut time = 1;
+    while read_step(words, time, state.as_mut_slice(), times.as_mut_slice(), &mut flips)? {
+        run.reserve(flips.len(), 1)?;
+        run.push_step(flips.as_slice());
+        flips.clear();
+        time += 1;
+    }
+    run.reserve(flips.len(), 1)?;
+    run.push_step(flips.as_slice());
+    Ok(run)
+}
+
+// Reads the changes of a step, and then the time of the next one; false if the words end in place of it.
+fn read_step(
+    words: &mut Words<'_>,
+    time: u32,
+    state: &mut [bool],
+    times: &mut [u32],
+    flips: &mut Vec<u32>,
+) -> Result<bool, VcdFault> {
+    loop {
+        let token = words.number();
+        let Some(word) = words.next() else {
+            return if flips.is_empty() {
+                Err(VcdFault::Form { token })
+            } else {
+                Ok(false)
+            };
+        };
+        if let Some(var) = change_in(word, time, state, times) {
+            state[var as usize] = !state[var as usize];
+            times[var as usize] = time;
+            let Ok(()) = flips.push(var) else {
+                return Err(VcdFault::Memory);
+            };
+        } else if !flips.is_empty() && is_time(word, time + 1) {
+            return Ok(true);
+        } else {
+            return Err(VcdFault::Form { token });
+        }
+    }
+}
+
+// The variable that a word changes, if it does, and if the variable was not changed at this time.
+fn change_in(word: &[u8], time: u32, state: &[bool], times: &[u32]) -> Option<u32> {
+    let (bit, var) = value_in(word)?;
+    let index = var as usize;
+    if index < state.len() && times[index] != time && state[index] != bit {
+        Some(var)
+    } else {
+        None
+    }
+}
