@@ -1,11 +1,17 @@
 -- Reading the words of a head.
-use Rattle.std.proofs.Common.{◌≡◌, ◌≢◌, ◌∙◌, ℕ, ◌+◌, Bool, true, false, not, List, [], ◌∷◌, ◌++◌, length, map, take, refl, sym, ap, subst, arith, append_assoc, inl, inr, ◌⊎◌}
-use Rattle.std.specs.List.{flat_map, All}
+use Rattle.std.proofs.Common.{◌≡◌, ◌≢◌, ◌∙◌, ℕ, suc, ◌+◌, ◌-◌, ◌<◌, Bool, true, false, not, List, [], ◌∷◌, ◌++◌, length, map, take, refl, sym, ap, subst, arith, append_assoc, inl, inr, ◌⊎◌}
+use Rattle.std.specs.Prelude.{codes}
+use Rattle.std.specs.List.{flat_map, range_with_len, All}
 use Rattle.std.specs.Str.{bytes_eq}
 use Rattle.std.proofs.lemmas.Slice.Eq.{bytes_eq-Decides}
 use Rattle.std.proofs.lemmas.List.Elements.{All-nil, All-cons, All-head, All-tail}
-use Rattle.hz_vcd.specs.Dump.{end_word, IsBlock, OpensBlock}
-use Rattle.hz_vcd.specs.Reading.{WordsLeft, Ending, Word, BlockEnd, Blocks, Comes, Goes, Stops, Past, Stuck, all_words}
+use Rattle.hz_core.specs.Netlist.{Netlist, IsCircuit}
+use Rattle.hz_vcd.specs.Word.{words_of}
+use Rattle.hz_vcd.specs.Printed.{words_line, declaration_line}
+use Rattle.hz_vcd.specs.Dump.{end_word, IsBlock, OpensBlock, Place, fixed, command, head_places, declaration_of, variables_of}
+use Rattle.hz_vcd.proofs.WordLemmas.{Spells-line, Spells-words}
+use Rattle.hz_vcd.proofs.WrittenLaws.{declaration-words}
+use Rattle.hz_vcd.specs.Reading.{WordsLeft, Ending, Word, BlockEnd, Blocks, Comes, Goes, Stops, Past, Stuck, all_words, all_places}
 use Rattle.hz_vcd.proofs.ReadingLaws.{past-word, wrong-word, wrong-end}
 
 -- the parts of lists that are the same
@@ -167,3 +173,68 @@ blocks-open word next was now found open_ differ are counts =
           All-cons IsBlock block blocks (record { first = found; inside = inside; are = refl; opens = open_; no_end = none }) all,
           ap (λ (words : List (List ℕ)). found ∷ words) whole, comes,
         )
+
+-- words and then more of them
+pub all_words-append : (first later : List (List ℕ)) (next : Ending) → all_words (first ++ later) next ≡ all_words first (all_words later next)
+all_words-append [] later next = refl
+all_words-append (word ∷ first) later next = ap (Word word) (all_words-append first later next)
+
+-- fixed places and then more of them
+pub all_places-fixed : (words : List (List ℕ)) (places : List Place) (next : Ending) → all_places (map fixed words ++ places) next ≡ all_words words (all_places places next)
+all_places-fixed [] places next = refl
+all_places-fixed (word ∷ words) places next = ap (Word word) (all_places-fixed words places next)
+
+-- the commands of a head
+abbrev pub after_unit : Ending → Ending
+after_unit next = Blocks (codes "$timescale") (all_words (words_of (codes "1 ns $end")) next)
+
+abbrev pub after_scope : Ending → Ending
+after_scope next = Blocks (codes "$scope") (all_words (words_of (codes "module hazard $end")) next)
+
+abbrev pub after_up : Ending → Ending
+after_up next = Blocks (codes "$upscope") (all_words (words_of (codes "$end")) next)
+
+abbrev pub after_head : Ending → Ending
+after_head next = Blocks (codes "$enddefinitions") (all_words (words_of (codes "$end")) next)
+
+abbrev pub declarations : Netlist → List (List ℕ)
+declarations netlist = flat_map (declaration_of netlist) (range_with_len 0 (variables_of netlist))
+
+pub head-is : (netlist : Netlist) (next : Ending) → all_places (head_places netlist) next ≡ after_unit (after_scope (all_words (declarations netlist) (after_up (after_head next))))
+unfolding head_places words_of
+head-is netlist next =
+    let up = command (codes "$upscope") (end_word ∷ []) in
+    let last = command (codes "$enddefinitions") (end_word ∷ []) in
+    ap (λ (places : List Place). after_unit (after_scope (all_places places next))) (append_assoc (map fixed (declarations netlist)) up last)
+    ∙ ap (λ (rest : Ending). after_unit (after_scope rest)) (all_places-fixed (declarations netlist) (up ++ last) next)
+
+-- the words of a declaration's line
+pub declaration-is : (netlist : Netlist) (var : ℕ) → IsCircuit netlist → var < variables_of netlist → words_of (declaration_line netlist var) ≡ declaration_of netlist var
+declaration-is netlist var circuit there =
+    Spells-words (words_line (declaration_of netlist var)) (declaration_of netlist var) (Spells-line (declaration_of netlist var) (declaration-words netlist var circuit there))
+
+-- one number of a range
+pub range-next : (place count : ℕ) → place < count → range_with_len place (count - place) ≡ place ∷ range_with_len (place + 1) (count - (place + 1))
+range-next place count below =
+    ap (range_with_len place) (next (count - place) (count - (place + 1)) (omega arith)) ∙ ap (λ (n : ℕ). place ∷ range_with_len n (count - (place + 1))) (omega arith)
+  where
+    next : (a b : ℕ) → a ≡ b + 1 → a ≡ suc b
+    next a b e = omega (arith, e)
+
+-- each of these endings goes on
+pub up-goes : (next : Ending) → Goes next [] → Goes (after_up (after_head next)) []
+up-goes next goes = command-goes (codes "$upscope") (codes "$end") (after_head next) (command-goes (codes "$enddefinitions") (codes "$end") next goes)
+  where
+    command-goes : (first later : List ℕ) (next : Ending) → Goes next [] → Goes (Blocks first (all_words (words_of later) next)) []
+    command-goes first later next goes = blocks-goes first (all_words (words_of later) next) (all-goes (words_of later) next goes)
+
+pub head-goes : (next : Ending) → Goes next [] → Goes (after_head next) []
+head-goes next goes = blocks-goes (codes "$enddefinitions") (all_words (words_of (codes "$end")) next) (all-goes (words_of (codes "$end")) next goes)
+
+pub declarations-go : (netlist : Netlist) (next : Ending) → Goes next [] → Goes (all_words (declarations netlist) (after_up (after_head next))) []
+declarations-go netlist next goes = all-goes (declarations netlist) (after_up (after_head next)) (up-goes next goes)
+
+pub scope-goes : (netlist : Netlist) (next : Ending) → Goes next [] → Goes (after_scope (all_words (declarations netlist) (after_up (after_head next)))) []
+scope-goes netlist next goes =
+    let rest = all_words (declarations netlist) (after_up (after_head next)) in
+    blocks-goes (codes "$scope") (all_words (words_of (codes "module hazard $end")) rest) (all-goes (words_of (codes "module hazard $end")) rest (declarations-go netlist next goes))

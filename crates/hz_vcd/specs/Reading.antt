@@ -2,13 +2,14 @@
 use Rattle.std.specs.Prelude.{◌≡◌, ◌≢◌, ℕ, ◌+◌, ◌-◌, ◌<◌, Bool, true, false, not, List, [], ◌∷◌, ◌++◌, length, map, take, codes, All, Option, Some, None, Result, Ok, Err}
 use Rattle.std.specs.Borrow.{Bor}
 use Rattle.std.specs.List.{flat_map, range_with_len}
-use Rattle.hz_core.specs.Netlist.{Netlist}
+use Rattle.hz_core.specs.Limits.{most_variables}
 use Rattle.hz_net.specs.Network.{bit_at}
 use Rattle.hz_gmw.specs.Runs.{end_of}
 use Rattle.hz_vcd.specs.declared.fault.VcdFault.{VcdFault}
 use Rattle.hz_vcd.specs.declared.fault.VcdFault.TheVariants as fault
+use Rattle.hz_vcd.specs.Code.{code_of}
 use Rattle.hz_vcd.specs.Word.{words_of}
-use Rattle.hz_vcd.specs.Dump.{variables_of, end_word, Place, IsBlock, value_word, steps_words, AreFlips}
+use Rattle.hz_vcd.specs.Dump.{end_word, Place, IsBlock, value_word, steps_words, AreFlips}
 
 -- the words that are left of a text, and how many were read
 pub record WordsLeft : Type 0 where
@@ -24,6 +25,21 @@ IsFirstWord text (Some found) = (words_of text ≡ found.0.now ∷ words_of foun
 abbrev pub ReadsNext : WordsLeft → WordsLeft → Option (Bor (List ℕ)) → Type 0
 ReadsNext was now None = (was.words ≡ []) × (now ≡ was)
 ReadsNext was now (Some word) = (was.words ≡ word.now ∷ now.words) × (now.read ≡ was.read + 1)
+
+-- the digit of a byte, if it has one
+abbrev pub IsDigitRead : ℕ → Option ℕ → Type 0
+IsDigitRead byte None = (digit : ℕ) → digit < 94 → byte ≢ 33 + digit
+IsDigitRead byte (Some digit) = (digit < 94) × (byte ≡ 33 + digit)
+
+-- the variable of a code; none if no variable of any network has it
+abbrev pub IsCodeRead : List ℕ → Option ℕ → Type 0
+IsCodeRead code None = (var : ℕ) → var < most_variables → code_of var ≢ code
+IsCodeRead code (Some var) = (code_of var ≡ code) × (var < 830584)
+
+-- the variable and its bit of a word; none if it is no such word of any network
+abbrev pub IsValueRead : List ℕ → Option (Bool × ℕ) → Type 0
+IsValueRead word None = (var : ℕ) (bit : Bool) → var < most_variables → value_word var bit ≢ word
+IsValueRead word (Some found) = (value_word found.1 found.0 ≡ word) × (found.1 < 830584)
 
 -- What may come from some place of a dump on:
 -- a word, and then the rest;

@@ -1,4 +1,5 @@
 //! Why a text is no dump.
+ghost use Rattle.std.specs.Prelude.{◌≡◌};
 
 use hz_core::Memory;
 use std::alloc::AllocError;
