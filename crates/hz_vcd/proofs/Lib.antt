@@ -6,3 +6,4 @@ pub mod WrittenWords
 pub mod WrittenLaws
 pub mod ReadingLaws
 pub mod HeadLaws
+pub mod ValueLaws

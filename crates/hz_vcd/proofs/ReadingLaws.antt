@@ -1,6 +1,6 @@
 -- What the parts of the reader say, one after the other.
 use Rattle.std.proofs.Common.{◌≡◌, ◌∙◌, ℕ, ◌+◌, ◌≤◌, Bool, List, [], ◌∷◌, ◌++◌, length, Result, Ok, Err, refl, sym, ap, subst, arith, append_assoc, length-append}
-use Rattle.std.specs.Prelude.{IsErrAnd}
+use Rattle.std.specs.Prelude.{IsErrAnd, MatchResult}
 use Rattle.std.proofs.lemmas.List.Elements.{All-nil}
 use Rattle.hz_vcd.specs.Dump.{AreFlips}
 use Rattle.hz_vcd.specs.declared.fault.VcdFault.{VcdFault}
@@ -71,3 +71,8 @@ past-shorter a was b now p = omega (arith, ap length p.are, length-append p.fron
 -- an ending that is there
 pub some-goes : Goes (Steps 0 []) []
 some-goes = ([], [], [], (refl, All-nil (AreFlips 0), refl))
+
+-- the same where a value is read
+pub match-exit : {T : Type 0} (why : VcdFault) (a : Ending) (was : WordsLeft) (read : T → Type 0) (result : Result T VcdFault) → IsErrAnd result (λ passed. passed ≡ why) → Fails a was why → MatchResult result read (Fails a was)
+match-exit why a was read (Ok value) is fails = absurd is
+match-exit why a was read (Err passed) is fails = subst (Fails a was) (sym is) fails

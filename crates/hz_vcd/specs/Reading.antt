@@ -5,11 +5,12 @@ use Rattle.std.specs.List.{flat_map, range_with_len}
 use Rattle.hz_core.specs.Limits.{most_variables}
 use Rattle.hz_net.specs.Network.{bit_at}
 use Rattle.hz_gmw.specs.Runs.{end_of}
+use Rattle.hz_text.specs.Printed.{letter_of}
 use Rattle.hz_vcd.specs.declared.fault.VcdFault.{VcdFault}
 use Rattle.hz_vcd.specs.declared.fault.VcdFault.TheVariants as fault
 use Rattle.hz_vcd.specs.Code.{code_of}
 use Rattle.hz_vcd.specs.Word.{words_of}
-use Rattle.hz_vcd.specs.Dump.{end_word, Place, IsBlock, value_word, steps_words, AreFlips}
+use Rattle.hz_vcd.specs.Dump.{end_word, Place, IsBlock, value_word, time_word, steps_words, AreFlips}
 
 -- the words that are left of a text, and how many were read
 pub record WordsLeft : Type 0 where
@@ -35,6 +36,11 @@ IsDigitRead byte (Some digit) = (digit < 94) × (byte ≡ 33 + digit)
 abbrev pub IsCodeRead : List ℕ → Option ℕ → Type 0
 IsCodeRead code None = (var : ℕ) → var < most_variables → code_of var ≢ code
 IsCodeRead code (Some var) = (code_of var ≡ code) × (var < 830584)
+
+-- the bit of a letter, if it has one
+abbrev pub IsBitRead : ℕ → Option Bool → Type 0
+IsBitRead letter None = (bit : Bool) → letter ≢ letter_of bit
+IsBitRead letter (Some bit) = letter ≡ letter_of bit
 
 -- the variable and its bit of a word; none if it is no such word of any network
 abbrev pub IsValueRead : List ℕ → Option (Bool × ℕ) → Type 0
@@ -133,3 +139,20 @@ place_word false word next = Word word next
 abbrev pub all_places : List Place → Ending → Ending
 all_places [] next = next
 all_places (place ∷ places) next = place_word place.after_blocks place.word (all_places places next)
+
+-- the bit of one more variable was read
+abbrev pub ReadsValue : ℕ → ℕ → List Bool → WordsLeft → WordsLeft → Result Bool VcdFault → Type 0
+ReadsValue variables place known was now (Ok bit) = Past (Values variables place known) was (Values variables (place + 1) (known ++ bit ∷ [])) now
+ReadsValue variables place known was now (Err fault) = Fails (Values variables place known) was fault
+
+-- the bits of all variables were read
+abbrev pub AllRead : ℕ → WordsLeft → WordsLeft → List Bool → Type 0
+AllRead variables was now state = (length state ≡ variables) × Past (Values variables 0 []) was (Values variables variables state) now
+
+-- the words before the bits of a state
+abbrev pub state_head : List (List ℕ)
+state_head = time_word 0 ∷ codes "$dumpvars" ∷ []
+
+-- a state was read
+abbrev pub StateRead : ℕ → WordsLeft → WordsLeft → List Bool → Type 0
+StateRead variables was now state = (length state ≡ variables) × Past (all_words state_head (Values variables 0 [])) was (Steps variables state) now

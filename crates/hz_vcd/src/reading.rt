@@ -1,4 +1,8 @@
 //! Reading dumps.
+ghost use Rattle.std.specs.Prelude.{◌≡◌, ◌≢◌, ◌+◌, ◌<◌, ◌≤◌, ◌∷◌, [], ℕ, Bool, List, length, MatchBool, MatchResult};
+ghost use Rattle.hz_core.specs.Limits.{most_variables};
+ghost use Rattle.hz_vcd.specs.Dump.{time_word};
+ghost use Rattle.hz_vcd.specs.Reading.{IsBitRead, IsValueRead, Values, Fails, all_words, ReadsValue, AllRead, StateRead, state_head};
 
 use crate::code::read_code;
 use crate::fault::VcdFault;
@@ -20,7 +24,11 @@ pub fn read(alloc: Global, net: &Net, text: &[u8]) -> Result<Wave, VcdFault> {
 }
 
 // Reads the state at the time 0.
-fn read_state(alloc: Global, words: &mut Words<'_>, variables: u32) -> Result<Vec<bool>, VcdFault> {
+fn read_state(alloc: Global, words: &mut Words<'_>, variables: u32) -> Result<Vec<bool>, VcdFault>
+    requires { variables ≤ most_variables }
+    ensures { MatchResult result (λ state. StateRead variables words.old words.new state.items)
+        (Fails (all_words state_head (Values variables 0 [])) words.old) }
+{
     expect_all(words, b"#0 $dumpvars")?;
     let state = read_values(alloc, words, variables)?;
     expect(words, b"$end")?;
@@ -28,41 +36,93 @@ fn read_state(alloc: Global, words: &mut Words<'_>, variables: u32) -> Result<Ve
 }
 
 // Reads the bits of all variables.
-fn read_values(alloc: Global, words: &mut Words<'_>, variables: u32) -> Result<Vec<bool>, VcdFault> {
-    let mut state = vec![in alloc; false; variables as usize]?;
+fn read_values(alloc: Global, words: &mut Words<'_>, variables: u32) -> Result<Vec<bool>, VcdFault>
+    requires { variables ≤ most_variables }
+    ensures { MatchResult result (λ state. AllRead variables words.old words.new state.items)
+        (Fails (Values variables 0 []) words.old) }
+{
+    let mut state = Vec::new(alloc);
     for var in 0..variables {
-        state[var as usize] = read_value(words, var)?;
+        let bit = read_value(words, var)?;
+        let Ok(()) = state.push(bit) else {
+            return Err(VcdFault::Memory);
+        };
     }
     Ok(state)
 }
 
 // Reads the bit of a variable.
-fn read_value(words: &mut Words<'_>, var: u32) -> Result<bool, VcdFault> {
+fn read_value(words: &mut Words<'_>, var: u32) -> Result<bool, VcdFault>
+    requires { var < most_variables }
+    ensures { (variables : ℕ) (known : List Bool) → length known ≡ var → var < variables
+        → ReadsValue variables var known words.old words.new result }
+{
     let token = words.number();
     let Some(word) = words.next() else {
         return Err(VcdFault::Form { token });
     };
-    match value_in(word) {
-        Some((bit, other)) if other == var => Ok(bit),
-        _ => Err(VcdFault::Form { token }),
+    let Some((bit, found)) = value_in(word) else {
+        return Err(VcdFault::Form { token });
+    };
+    if found != var {
+        return Err(VcdFault::Form { token });
     }
+    Ok(bit)
 }
 
 // The bit and the variable of a word that gives a variable a bit.
-fn value_in(word: &[u8]) -> Option<(bool, u32)> {
+fn value_in(word: &[u8]) -> Option<(bool, u32)>
+    ensures { IsValueRead word.now result }
+{
     match word {
-        [b'0', code @ ..] => Some((false, read_code(code)?)),
-        [b'1', code @ ..] => Some((true, read_code(code)?)),
+        [first, code @ ..] => value_of(*first, code),
+        [] => None,
+    }
+}
+
+// The bit of a letter and the variable of a code.
+fn value_of(first: u8, code: &[u8]) -> Option<(bool, u32)>
+    ensures { IsValueRead (first ∷ code.now) result }
+{
+    let bit = bit_of(first)?;
+    let var = read_code(code)?;
+    Some((bit, var))
+}
+
+// The bit of a letter.
+fn bit_of(letter: u8) -> Option<bool>
+    ensures { IsBitRead letter result }
+{
+    match letter {
+        b'0' => Some(false),
+        b'1' => Some(true),
         _ => None,
     }
 }
 
 // Whether a word is that of a time.
-fn is_time(word: &[u8], time: u32) -> bool {
-    let [b'#', digits @ ..] = word else {
-        return false;
-    };
-    digits == Buffer::new().format(time).as_bytes()
+fn is_time(word: &[u8], time: u32) -> bool
+    ensures { MatchBool result (word.now ≡ time_word time) (word.now ≢ time_word time) }
+{
+    let mut digits = Buffer::new();
+    is_time_of(word, digits.format(time).as_bytes())
+}
+
+// Whether a word is that of the time with these digits.
+fn is_time_of(word: &[u8], digits: &[u8]) -> bool
+    ensures { MatchBool result (word.now ≡ 35 ∷ digits.now) (word.now ≢ 35 ∷ digits.now) }
+{
+    match word {
+        [first, rest @ ..] => is_time_by(*first, rest, digits),
+        [] => false,
+    }
+}
+
+// Whether a byte and the bytes behind it are the word of the time with these digits.
+fn is_time_by(first: u8, rest: &[u8], digits: &[u8]) -> bool
+    ensures { MatchBool result (first ∷ rest.now ≡ 35 ∷ digits.now) (first ∷ rest.now ≢ 35 ∷ digits.now) }
+{
+    first == b'#' && rest == digits
 }
 
 // Reads all steps from a state.
