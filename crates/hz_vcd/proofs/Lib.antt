@@ -7,3 +7,4 @@ pub mod WrittenLaws
 pub mod ReadingLaws
 pub mod HeadLaws
 pub mod ValueLaws
+pub mod StepLaws

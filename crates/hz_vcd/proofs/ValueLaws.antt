@@ -139,3 +139,7 @@ steps-go variables start = ([], start, [], (refl, All-nil (AreFlips variables), 
 pub head-words : words_of (codes "#0 $dumpvars") ≡ state_head
 unfolding words_of
 head-words = ap (λ (digits : List ℕ). (35 ∷ digits) ∷ codes "$dumpvars" ∷ []) (sym (decimal_digit 0 (omega arith)))
+
+-- and it gives it one bit
+pub value-bit : (a b : ℕ) (bit other : Bool) (word : List ℕ) → value_word a bit ≡ word → value_word b other ≡ word → bit ≡ other
+value-bit a b bit other word is too = same-bit bit other (same-first (is ∙ sym too))

@@ -1,10 +1,10 @@
 -- What the parts of the reader say of the words that they read.
-use Rattle.std.specs.Prelude.{◌≡◌, ◌≢◌, ℕ, ◌+◌, ◌-◌, ◌<◌, Bool, true, false, not, List, [], ◌∷◌, ◌++◌, length, map, take, codes, All, Option, Some, None, Result, Ok, Err}
+use Rattle.std.specs.Prelude.{◌≡◌, ◌≢◌, ◌≤◌, IsTrue, slice_index_or, ℕ, ◌+◌, ◌-◌, ◌<◌, Bool, true, false, not, List, [], ◌∷◌, ◌++◌, length, map, take, codes, All, Option, Some, None, Result, Ok, Err}
 use Rattle.std.specs.Borrow.{Bor}
 use Rattle.std.specs.List.{flat_map, range_with_len}
 use Rattle.hz_core.specs.Limits.{most_variables}
 use Rattle.hz_net.specs.Network.{bit_at}
-use Rattle.hz_gmw.specs.Runs.{end_of}
+use Rattle.hz_gmw.specs.Runs.{end_of, is_listed}
 use Rattle.hz_text.specs.Printed.{letter_of}
 use Rattle.hz_vcd.specs.declared.fault.VcdFault.{VcdFault}
 use Rattle.hz_vcd.specs.declared.fault.VcdFault.TheVariants as fault
@@ -156,3 +156,28 @@ state_head = time_word 0 ∷ codes "$dumpvars" ∷ []
 -- a state was read
 abbrev pub StateRead : ℕ → WordsLeft → WordsLeft → List Bool → Type 0
 StateRead variables was now state = (length state ≡ variables) × Past (all_words state_head (Values variables 0 [])) was (Steps variables state) now
+
+-- the words are those of an ending, and mean this state and these steps alone
+pub record Means (ending : Ending) (was : WordsLeft) (state : List Bool) (steps : List (List ℕ)) : Type 0 where
+  pub is : Comes ending was.words state steps
+  pub alone : (other : List Bool) (others : List (List ℕ)) → Comes ending was.words other others → (other ≡ state) × (others ≡ steps)
+
+-- the variable that a word changes at a time, if it does, and was not changed at this time
+abbrev pub IsChangeRead : ℕ → List Bool → List ℕ → List ℕ → Option ℕ → Type 0
+IsChangeRead time state times word None =
+    (var : ℕ) → var < length state → slice_index_or times var 0 ≢ time → value_word var (not (bit_at state var)) ≢ word
+IsChangeRead time state times word (Some var) =
+    (var < length state) × (slice_index_or times var 0 ≢ time) × (value_word var (not (bit_at state var)) ≡ word)
+
+-- the variables with this time are the listed ones, and no time is later
+pub record AreAt (time : ℕ) (times flips : List ℕ) : Type 0 where
+  pub listed : (var : ℕ) → var < length times → slice_index_or times var 0 ≡ time → IsTrue (is_listed flips var)
+  pub here : (var : ℕ) → IsTrue (is_listed flips var) → slice_index_or times var 0 ≡ time
+  pub latest : (var : ℕ) → slice_index_or times var 0 ≤ time
+
+-- a step was read, and then the time of the next one, or the end of the words
+abbrev pub StepRead : ℕ → List Bool → List (List ℕ) → List ℕ → WordsLeft → WordsLeft → Bool → Type 0
+StepRead variables start done flips was now true =
+    AreFlips variables flips × Past (Changes variables start done []) was (Changes variables start (done ++ flips ∷ []) []) now
+StepRead variables start done flips was now false =
+    AreFlips variables flips × Past (Changes variables start done []) was (Changes variables start done flips) now × (now.words ≡ [])

@@ -1,8 +1,9 @@
 //! Reading dumps.
-ghost use Rattle.std.specs.Prelude.{◌≡◌, ◌≢◌, ◌+◌, ◌<◌, ◌≤◌, ◌∷◌, [], ℕ, Bool, List, length, MatchBool, MatchResult};
+ghost use Rattle.std.specs.Prelude.{◌≡◌, ◌≢◌, ◌+◌, ◌<◌, ◌≤◌, ◌∷◌, [], ℕ, Bool, List, length, slice_index_or, MatchBool, MatchResult, OnOk, All};
 ghost use Rattle.hz_core.specs.Limits.{most_variables};
-ghost use Rattle.hz_vcd.specs.Dump.{time_word};
-ghost use Rattle.hz_vcd.specs.Reading.{IsBitRead, IsValueRead, Values, Fails, all_words, ReadsValue, AllRead, StateRead, state_head};
+ghost use Rattle.hz_gmw.specs.Runs.{state_after, end_of};
+ghost use Rattle.hz_vcd.specs.Dump.{AreFlips, time_word};
+ghost use Rattle.hz_vcd.specs.Reading.{IsBitRead, IsValueRead, Values, Steps, Changes, Fails, Means, all_words, ReadsValue, AllRead, StateRead, state_head, StepRead, AreAt, IsChangeRead};
 
 use crate::code::read_code;
 use crate::fault::VcdFault;
@@ -126,28 +127,49 @@ fn is_time_by(first: u8, rest: &[u8], digits: &[u8]) -> bool
 }
 
 // Reads all steps from a state.
-fn read_steps(alloc: Global, words: &mut Words<'_>, start: &[bool]) -> Result<Run, VcdFault> {
-    let mut run = Run::new(alloc);
+fn read_steps(alloc: Global, words: &mut Words<'_>, start: &[bool]) -> Result<Run, VcdFault>
+    requires { length start.now ≤ most_variables }
+    ensures { MatchResult result (λ run. Means (Steps (length start.now) start.now) words.old start.now run.steps)
+        (Fails (Steps (length start.now) start.now) words.old) }
+{
     let token = words.number();
     let Some(word) = words.next() else {
-        return Ok(run);
+        return Ok(Run::new(alloc));
     };
-    if start.is_empty() || !is_time(word, 1) {
+    if start.is_empty() {
+        return Err(VcdFault::Form { token });
+    }
+    if !is_time(word, 1) {
         return Err(VcdFault::Form { token });
     }
     let mut state = Vec::from_slice(alloc, start)?;
     let mut times = vec![in alloc; 0; start.len()]?;
+    read_run(alloc, words, state.as_mut_slice(), times.as_mut_slice())
+}
+
+// Reads the steps of a run from a state, behind the word of the first time.
+fn read_run(alloc: Global, words: &mut Words<'_>, state: &mut [bool], times: &mut [u32]) -> Result<Run, VcdFault>
+    requires few { length state.old ≤ most_variables }
+    requires some { 0 < length state.old }
+    requires times { length times.old ≡ length state.old }
+    requires early { (var : ℕ) → slice_index_or times.old var 0 ≡ 0 }
+    requires read { 1 ≤ words.old.read }
+    ensures { MatchResult result (λ run. Means (Changes (length state.old) state.old [] []) words.old state.old run.steps)
+        (Fails (Changes (length state.old) state.old [] []) words.old) }
+{
     let mut flips = Vec::new(alloc);
+    let mut run = Run::new(alloc);
     let mut time = 1;
-    while read_step(words, time, state.as_mut_slice(), times.as_mut_slice(), &mut flips)? {
+    loop {
+        let more = read_step(words, time, state, times, &mut flips)?;
         run.reserve(flips.len(), 1)?;
         run.push_step(flips.as_slice());
+        if !more {
+            return Ok(run);
+        }
         flips.clear();
         time += 1;
     }
-    run.reserve(flips.len(), 1)?;
-    run.push_step(flips.as_slice());
-    Ok(run)
 }
 
 // Reads the changes of a step, and then the time of the next one; false if the words end in place of it.
@@ -157,37 +179,64 @@ fn read_step(
     state: &mut [bool],
     times: &mut [u32],
     flips: &mut Vec<u32>,
-) -> Result<bool, VcdFault> {
+) -> Result<bool, VcdFault>
+    requires few { length state.old ≤ most_variables }
+    requires some { 0 < length state.old }
+    requires long { length times.old ≡ length state.old }
+    requires fresh { AreAt time times.old [] }
+    requires flips { flips.old.items ≡ [] }
+    requires time { time ≤ words.old.read }
+    ensures read { (start : List Bool) (done : List (List ℕ)) → All (AreFlips (length state.old)) done → end_of start done ≡ state.old
+        → time ≡ length done + 1
+        → MatchResult result (StepRead (length state.old) start done flips.new.items words.old words.new)
+        (Fails (Changes (length state.old) start done []) words.old) }
+    ensures state { OnOk result (state.new ≡ state_after flips.new.items state.old) }
+    ensures times { OnOk result (AreAt time times.new flips.new.items) }
+    ensures long { length times.new ≡ length times.old }
+    ensures shorter { OnOk result (length words.new.words < length words.old.words) }
+    ensures onward { OnOk result (time < words.new.read) }
+{
     loop {
         let token = words.number();
         let Some(word) = words.next() else {
-            return if flips.is_empty() {
-                Err(VcdFault::Form { token })
-            } else {
-                Ok(false)
-            };
+            if flips.is_empty() {
+                return Err(VcdFault::Form { token });
+            }
+            return Ok(false);
         };
-        if let Some(var) = change_in(word, time, state, times) {
-            state[var as usize] = !state[var as usize];
-            times[var as usize] = time;
-            let Ok(()) = flips.push(var) else {
-                return Err(VcdFault::Memory);
-            };
-        } else if !flips.is_empty() && is_time(word, time + 1) {
+        let Some(var) = change_in(word, time, state, times) else {
+            if flips.is_empty() {
+                return Err(VcdFault::Form { token });
+            }
+            if !is_time(word, time + 1) {
+                return Err(VcdFault::Form { token });
+            }
             return Ok(true);
-        } else {
-            return Err(VcdFault::Form { token });
-        }
+        };
+        state[var as usize] = !state[var as usize];
+        times[var as usize] = time;
+        let Ok(()) = flips.push(var) else {
+            return Err(VcdFault::Memory);
+        };
     }
 }
 
-// The variable that a word changes, if it does, and if the variable was not changed at this time.
-fn change_in(word: &[u8], time: u32, state: &[bool], times: &[u32]) -> Option<u32> {
+// The variable that a word changes at a time, if it does, and if the variable was not changed at this time.
+fn change_in(word: &[u8], time: u32, state: &[bool], times: &[u32]) -> Option<u32>
+    requires few { length state.now ≤ most_variables }
+    requires long { length times.now ≡ length state.now }
+    ensures { IsChangeRead time state.now times.now word.now result }
+{
     let (bit, var) = value_in(word)?;
     let index = var as usize;
-    if index < state.len() && times[index] != time && state[index] != bit {
-        Some(var)
-    } else {
-        None
+    if index >= state.len() {
+        return None;
     }
+    if times[index] == time {
+        return None;
+    }
+    if state[index] == bit {
+        return None;
+    }
+    Some(var)
 }

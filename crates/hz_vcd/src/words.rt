@@ -90,7 +90,8 @@ impl<'t> Words<'t> {
 
     /// The number of the next word, counted from 1.
     pub(crate) fn number(&self) -> u32
-        ensures { result ≡ self.now.read + 1 }
+        ensures number { result ≡ self.now.read + 1 }
+        ensures bound { self.now.read ≤ most_text_bytes }
     {
         self.read + 1
     }

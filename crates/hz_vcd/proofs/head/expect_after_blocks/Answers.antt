@@ -13,7 +13,7 @@ pub returns-in_default : goal.returns-in_default
 returns-in_default c = λ next goes.
     let whole = Blocks c.args.wanted.now next in
     past-fails whole c.args.words.now whole c.loop-word.words (fault.Form c.number-token.result) (c.loop-word.invariant next goes)
-    (blocks-end c.args.wanted.now next goes c.loop-word.words c.number-token.result c.in_default.ensures.0 c.number-token.ensures)
+    (blocks-end c.args.wanted.now next goes c.loop-word.words c.number-token.result c.in_default.ensures.0 c.number-token.ensures.number)
 
 pub returns-then-eq : goal.returns-then-eq
 returns-then-eq c = λ next goes.
@@ -25,7 +25,7 @@ pub returns-then-not-opens_block : goal.returns-then-not-opens_block
 returns-then-not-opens_block c = λ next goes.
     let whole = Blocks c.args.wanted.now next in
     past-fails whole c.args.words.now whole c.loop-word.words (fault.Form c.number-token.result) (c.loop-word.invariant next goes)
-    (blocks-wrong c.args.wanted.now next goes c.loop-word.words c.number-token.result c.in-Some.word.now _ c.in-Some.ensures.0 c.number-token.ensures
+    (blocks-wrong c.args.wanted.now next goes c.loop-word.words c.number-token.result c.in-Some.word.now _ c.in-Some.ensures.0 c.number-token.ensures.number
     (differing-word c.in-Some.word.now c.args.wanted.now c.if-eq.ensures) c.if-not-opens_block.ensures)
 
 pub returns-in_err-read_block : goal.returns-in_err-read_block

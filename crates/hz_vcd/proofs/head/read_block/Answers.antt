@@ -11,7 +11,7 @@ loop-word-init c = λ next. past-none (BlockEnd next) c.args.words.now
 pub returns-in_default : goal.returns-in_default
 returns-in_default c = λ next goes.
     past-fails (BlockEnd next) c.args.words.now (BlockEnd next) c.loop-word.words (fault.Form c.number-token.result) (c.loop-word.invariant next)
-    (block-end next goes c.loop-word.words c.number-token.result c.in_default.ensures.0 c.number-token.ensures)
+    (block-end next goes c.loop-word.words c.number-token.result c.in_default.ensures.0 c.number-token.ensures.number)
 
 pub returns-then-is_word : goal.returns-then-is_word
 returns-then-is_word c = λ next goes.
