@@ -8,3 +8,4 @@ pub mod ReadingLaws
 pub mod HeadLaws
 pub mod ValueLaws
 pub mod StepLaws
+pub mod DumpLaws

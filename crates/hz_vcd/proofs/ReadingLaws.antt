@@ -5,7 +5,7 @@ use Rattle.std.proofs.lemmas.List.Elements.{All-nil}
 use Rattle.hz_vcd.specs.Dump.{AreFlips}
 use Rattle.hz_vcd.specs.declared.fault.VcdFault.{VcdFault}
 use Rattle.hz_vcd.specs.declared.fault.VcdFault.TheVariants as fault
-use Rattle.hz_vcd.specs.Reading.{WordsLeft, Ending, Steps, Comes, Goes, Stops, Past, Stuck, Fails, Reads}
+use Rattle.hz_vcd.specs.Reading.{WordsLeft, Ending, Steps, Comes, Goes, Stops, Past, Stuck, Fails, Reads, Means}
 
 -- nothing was read
 pub past-none : (ending : Ending) (was : WordsLeft) → Past ending was ending was
@@ -76,3 +76,10 @@ some-goes = ([], [], [], (refl, All-nil (AreFlips 0), refl))
 pub match-exit : {T : Type 0} (why : VcdFault) (a : Ending) (was : WordsLeft) (read : T → Type 0) (result : Result T VcdFault) → IsErrAnd result (λ passed. passed ≡ why) → Fails a was why → MatchResult result read (Fails a was)
 match-exit why a was read (Ok value) is fails = absurd is
 match-exit why a was read (Err passed) is fails = subst (Fails a was) (sym is) fails
+
+-- what the words behind mean, all of them mean
+pub past-means : (a : Ending) (was : WordsLeft) (b : Ending) (now : WordsLeft) (state : List Bool) (steps : List (List ℕ)) → Past a was b now → Means b now state steps → Means a was state steps
+past-means a was b now state steps p m = record {
+  is = subst (λ (words : List (List ℕ)). Comes a words state steps) (sym p.are) (p.back now.words state steps m.is);
+  alone = λ other others comes. m.alone other others (p.onward now.words other others (subst (λ (words : List (List ℕ)). Comes a words other others) p.are comes));
+}

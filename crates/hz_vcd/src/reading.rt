@@ -1,6 +1,9 @@
 //! Reading dumps.
 ghost use Rattle.std.specs.Prelude.{◌≡◌, ◌≢◌, ◌+◌, ◌<◌, ◌≤◌, ◌∷◌, [], ℕ, Bool, List, length, slice_index_or, MatchBool, MatchResult, OnOk, All};
 ghost use Rattle.hz_core.specs.Limits.{most_variables};
+ghost use Rattle.hz_line.specs.Line.{most_text_bytes};
+ghost use Rattle.hz_vcd.specs.Word.{words_of};
+ghost use Rattle.hz_vcd.specs.FirstWrong.{MeansAlone, IsFaultOf};
 ghost use Rattle.hz_gmw.specs.Runs.{state_after, end_of};
 ghost use Rattle.hz_vcd.specs.Dump.{AreFlips, time_word};
 ghost use Rattle.hz_vcd.specs.Reading.{IsBitRead, IsValueRead, Values, Steps, Changes, Fails, Means, all_words, ReadsValue, AllRead, StateRead, state_head, StepRead, AreAt, IsChangeRead};
@@ -16,7 +19,12 @@ use itoa::Buffer;
 use std::alloc::Global;
 
 /// Reads a dump of the variables of a network.
-pub fn read(alloc: Global, net: &Net, text: &[u8]) -> Result<Wave, VcdFault> {
+///
+/// Time and memory are linear in the text and the network. Values `x` and `z` and vectors are no part of a dump here.
+pub fn read(alloc: Global, net: &Net, text: &[u8]) -> Result<Wave, VcdFault>
+    requires { length text.now ≤ most_text_bytes }
+    ensures { MatchResult result (MeansAlone net.now (words_of text.now)) (IsFaultOf net.now (words_of text.now)) }
+{
     let mut words = Words::new(text);
     read_head(alloc, &mut words, net)?;
     let state = read_state(alloc, &mut words, net.len())?;
@@ -195,6 +203,7 @@ fn read_step(
     ensures long { length times.new ≡ length times.old }
     ensures shorter { OnOk result (length words.new.words < length words.old.words) }
     ensures onward { OnOk result (time < words.new.read) }
+    ensures bound { time ≤ most_text_bytes }
 {
     loop {
         let token = words.number();
