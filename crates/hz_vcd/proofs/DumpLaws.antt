@@ -1,5 +1,6 @@
 -- A dump, as what its reader takes one part after the other.
 use Rattle.std.proofs.Common.{◌≡◌, ◌∙◌, ℕ, ◌+◌, ◌-◌, Bool, true, false, List, [], ◌∷◌, ◌++◌, length, map, take, refl, sym, ap, subst, arith, inl, inr, append_assoc}
+use Rattle.std.specs.Prelude.{codes}
 use Rattle.std.specs.List.{flat_map, range_with_len, All}
 use Rattle.std.proofs.lemmas.List.{append-nil}
 use Rattle.hz_core.specs.Netlist.{Netlist}
@@ -7,7 +8,7 @@ use Rattle.hz_net.specs.Network.{bit_at}
 use Rattle.hz_vcd.specs.declared.fault.VcdFault.{VcdFault}
 use Rattle.hz_vcd.specs.declared.fault.VcdFault.TheVariants as fault
 use Rattle.hz_vcd.specs.Wave.{WaveOf}
-use Rattle.hz_vcd.specs.Dump.{Place, MayStand, StandAt, IsDump, head_places, variables_of, end_word, value_word, state_words, steps_words, AreFlips}
+use Rattle.hz_vcd.specs.Dump.{Place, MayStand, StandAt, IsDump, head_places, variables_of, end_word, value_word, time_word, state_words, steps_words, AreFlips}
 use Rattle.hz_vcd.specs.FirstWrong.{MeansSome, MayGoOn, IsFirstWrong, HasFormFault, MeansAlone, IsFaultOf}
 use Rattle.hz_vcd.specs.Reading.{WordsLeft, Ending, Word, Blocks, Values, Comes, Goes, Past, Stuck, Stops, Fails, Means, all_words, all_places, place_word, state_head}
 use Rattle.hz_vcd.proofs.HeadLaws.{flat}
@@ -25,18 +26,18 @@ places-come (place ∷ places) next head later state steps (blocks, rest, may, a
 -- and back
 pub come-places : (places : List Place) (next : Ending) (words : List (List ℕ)) (state : List Bool) (steps : List (List ℕ)) → Comes (all_places places next) words state steps → (head : List (List ℕ)) × (later : List (List ℕ)) × StandAt places head × (words ≡ head ++ later) × Comes next later state steps
 come-places [] next words state steps comes = ([], words, refl, refl, comes)
-come-places (place ∷ places) next words state steps comes = by place.after_blocks refl comes
+come-places (place ∷ places) next words state steps comes = by place.after_blocks refl (λ rest onward. come-places places next rest state steps onward) comes
   where
-    by : (after : Bool) → place.after_blocks ≡ after → Comes (place_word after place.word (all_places places next)) words state steps → (head : List (List ℕ)) × (later : List (List ℕ)) × StandAt (place ∷ places) head × (words ≡ head ++ later) × Comes next later state steps
-    by true e (blocks, rest, all, are, onward) =
-        let found = come-places places next rest state steps onward in (
+    by : (after : Bool) → place.after_blocks ≡ after → ((rest : List (List ℕ)) → Comes (all_places places next) rest state steps → (head : List (List ℕ)) × (later : List (List ℕ)) × StandAt places head × (rest ≡ head ++ later) × Comes next later state steps) → Comes (place_word after place.word (all_places places next)) words state steps → (head : List (List ℕ)) × (later : List (List ℕ)) × StandAt (place ∷ places) head × (words ≡ head ++ later) × Comes next later state steps
+    by true e further (blocks, rest, all, are, onward) =
+        let found = further rest onward in (
           flat blocks ++ place.word ∷ found.0, found.1,
           (blocks, found.0, subst (λ (after : Bool). MayStand after blocks) (sym e) all, refl, found.2),
           are ∙ ap (λ (later : List (List ℕ)). flat blocks ++ place.word ∷ later) found.3 ∙ sym (append_assoc (flat blocks) (place.word ∷ found.0) found.1),
           found.4,
         )
-    by false e (rest, are, onward) =
-        let found = come-places places next rest state steps onward in (
+    by false e further (rest, are, onward) =
+        let found = further rest onward in (
           place.word ∷ found.0, found.1,
           ([], found.0, subst (λ (after : Bool). MayStand after []) (sym e) refl, refl, found.2),
           are ∙ ap (λ (later : List (List ℕ)). place.word ∷ later) found.3,
@@ -71,7 +72,7 @@ comes-dump netlist words state steps comes =
     let front = map (λ var. value_word var (bit_at state var)) (range_with_len 0 (length state)) in
     let behind : (front ++ end_word ∷ []) ++ steps_words 1 state steps ≡ front ++ end_word ∷ steps_words 1 state steps = append_assoc front (end_word ∷ []) (steps_words 1 state steps) in
     let whole : found.1 ≡ state_words state ++ steps_words 1 state steps =
-    rest.1 ∙ ap (λ (later : List (List ℕ)). _ ∷ later) rest.2.1 ∙ ap (λ (later : List (List ℕ)). _ ∷ _ ∷ later) (there.3 ∙ values ∙ sym behind) in
+    rest.1 ∙ ap (λ (later : List (List ℕ)). time_word 0 ∷ later) rest.2.1 ∙ ap (λ (later : List (List ℕ)). time_word 0 ∷ codes "$dumpvars" ∷ later) (there.3 ∙ values ∙ sym behind) in
     record {
       head = found.0; is_head = found.2; long = there.0; flips = there.1;
       are = found.3 ∙ ap (λ (later : List (List ℕ)). found.0 ++ later) whole ∙ sym (append_assoc found.0 (state_words state) (steps_words 1 state steps));
@@ -91,14 +92,14 @@ fault-of netlist was (fault.Form token) none q = by q.front q.after q.are q.plac
     by front [] are place goes stops =
         let same : was.words ≡ front = are ∙ append-nil front in inr (
           omega (arith, place, none, ap length same),
-          subst (MayGoOn netlist) (sym same) (goes.0, goes.1, goes.2, comes-dump netlist (front ++ goes.0) goes.1 goes.2 goes.3),
+          subst (MayGoOn netlist) (sym same) (goes.0, (goes.1, goes.2, comes-dump netlist (front ++ goes.0) goes.1 goes.2 goes.3)),
           λ some. stops some.0 some.1 (subst (λ (words : List (List ℕ)). Comes (whole_dump netlist) words some.0 some.1) are (dump-comes netlist was.words some.0 some.1 some.2)),
         )
     by front (word ∷ after) are place goes stops = inl (record {
       before = front; word = word; after = after; are = are;
       place = omega (arith, place, none);
-      went_on = (goes.0, goes.1, goes.2, comes-dump netlist (front ++ goes.0) goes.1 goes.2 goes.3);
-      stops = λ some. stops some.0 some.1 some.2
-          (subst (λ (words : List (List ℕ)). Comes (whole_dump netlist) words some.1 some.2) (append_assoc front (word ∷ []) some.0)
-          (dump-comes netlist ((front ++ word ∷ []) ++ some.0) some.1 some.2 some.3));
+      went_on = (goes.0, (goes.1, goes.2, comes-dump netlist (front ++ goes.0) goes.1 goes.2 goes.3));
+      stops = λ some. stops some.0 some.1.0 some.1.1
+          (subst (λ (words : List (List ℕ)). Comes (whole_dump netlist) words some.1.0 some.1.1) (append_assoc front (word ∷ []) some.0)
+          (dump-comes netlist ((front ++ word ∷ []) ++ some.0) some.1.0 some.1.1 some.1.2));
     })

@@ -83,3 +83,13 @@ past-means a was b now state steps p m = record {
   is = subst (λ (words : List (List ℕ)). Comes a words state steps) (sym p.are) (p.back now.words state steps m.is);
   alone = λ other others comes. m.alone other others (p.onward now.words other others (subst (λ (words : List (List ℕ)). Comes a words other others) p.are comes));
 }
+
+-- any fault that is passed on
+pub any-exit : {T : Type 0} (why : VcdFault) (read : T → Type 0) (is_fault : VcdFault → Type 0) (result : Result T VcdFault) → IsErrAnd result (λ passed. passed ≡ why) → is_fault why → MatchResult result read is_fault
+any-exit why read is_fault (Ok value) is fails = absurd is
+any-exit why read is_fault (Err passed) is fails = subst is_fault (sym is) fails
+
+-- words were read, and what the rest means or what is wrong in it is so of all
+pub match-past : {T : Type 0} (a : Ending) (was : WordsLeft) (b : Ending) (now : WordsLeft) (state : List Bool) (steps_of : T → List (List ℕ)) (result : Result T VcdFault) → Past a was b now → MatchResult result (λ run. Means b now state (steps_of run)) (Fails b now) → MatchResult result (λ run. Means a was state (steps_of run)) (Fails a was)
+match-past a was b now state steps_of (Ok run) past means = past-means a was b now state (steps_of run) past means
+match-past a was b now state steps_of (Err why) past fails = past-fails a was b now why past fails
