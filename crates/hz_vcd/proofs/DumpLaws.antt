@@ -31,14 +31,16 @@ come-places (place ∷ places) next words state steps comes = by place.after_blo
     by : (after : Bool) → place.after_blocks ≡ after → ((rest : List (List ℕ)) → Comes (all_places places next) rest state steps → (head : List (List ℕ)) × (later : List (List ℕ)) × StandAt places head × (rest ≡ head ++ later) × Comes next later state steps) → Comes (place_word after place.word (all_places places next)) words state steps → (head : List (List ℕ)) × (later : List (List ℕ)) × StandAt (place ∷ places) head × (words ≡ head ++ later) × Comes next later state steps
     by true e further (blocks, rest, all, are, onward) =
         let found = further rest onward in (
-          flat blocks ++ place.word ∷ found.0, found.1,
+          flat blocks ++ place.word ∷ found.0,
+          found.1,
           (blocks, found.0, subst (λ (after : Bool). MayStand after blocks) (sym e) all, refl, found.2),
           are ∙ ap (λ (later : List (List ℕ)). flat blocks ++ place.word ∷ later) found.3 ∙ sym (append_assoc (flat blocks) (place.word ∷ found.0) found.1),
           found.4,
         )
     by false e further (rest, are, onward) =
         let found = further rest onward in (
-          place.word ∷ found.0, found.1,
+          place.word ∷ found.0,
+          found.1,
           ([], found.0, subst (λ (after : Bool). MayStand after []) (sym e) refl, refl, found.2),
           are ∙ ap (λ (later : List (List ℕ)). place.word ∷ later) found.3,
           found.4,
@@ -74,7 +76,10 @@ comes-dump netlist words state steps comes =
     let whole : found.1 ≡ state_words state ++ steps_words 1 state steps =
     rest.1 ∙ ap (λ (later : List (List ℕ)). time_word 0 ∷ later) rest.2.1 ∙ ap (λ (later : List (List ℕ)). time_word 0 ∷ codes "$dumpvars" ∷ later) (there.3 ∙ values ∙ sym behind) in
     record {
-      head = found.0; is_head = found.2; long = there.0; flips = there.1;
+      head = found.0;
+      is_head = found.2;
+      long = there.0;
+      flips = there.1;
       are = found.3 ∙ ap (λ (later : List (List ℕ)). found.0 ++ later) whole ∙ sym (append_assoc found.0 (state_words state) (steps_words 1 state steps));
     }
 
@@ -96,10 +101,19 @@ fault-of netlist was (fault.Form token) none q = by q.front q.after q.are q.plac
           λ some. stops some.0 some.1 (subst (λ (words : List (List ℕ)). Comes (whole_dump netlist) words some.0 some.1) are (dump-comes netlist was.words some.0 some.1 some.2)),
         )
     by front (word ∷ after) are place goes stops = inl (record {
-      before = front; word = word; after = after; are = are;
+      before = front;
+      word = word;
+      after = after;
+      are = are;
       place = omega (arith, place, none);
       went_on = (goes.0, (goes.1, goes.2, comes-dump netlist (front ++ goes.0) goes.1 goes.2 goes.3));
       stops = λ some. stops some.0 some.1.0 some.1.1
           (subst (λ (words : List (List ℕ)). Comes (whole_dump netlist) words some.1.0 some.1.1) (append_assoc front (word ∷ []) some.0)
           (dump-comes netlist ((front ++ word ∷ []) ++ some.0) some.1.0 some.1.1 some.1.2));
     })
+
+-- a dump has no fault
+pub no-fault : (netlist : Netlist) (words : List (List ℕ)) (state : List Bool) (steps : List (List ℕ)) (number : ℕ) → IsDump netlist words state steps → HasFormFault netlist words number → ⊥
+no-fault netlist words state steps number dump (inr (place, on, none)) = none (state, steps, dump)
+no-fault netlist words state steps number dump (inl wrong) =
+    wrong.stops (wrong.after, (state, steps, subst (λ (all : List (List ℕ)). IsDump netlist all state steps) (wrong.are ∙ sym (append_assoc wrong.before (wrong.word ∷ []) wrong.after)) dump))

@@ -48,6 +48,7 @@ first-word text n some within passes stops =
     filled text zero some within = absurd (omega arith)
     filled [] (suc n) some within = absurd (omega arith)
     filled (byte ∷ text) (suc n) some within = refl
+
     white : (text : List ℕ) (n : ℕ) → 0 < length (drop n text) → (n < length text → is_dark (get_or text n 0) ≡ false) → is_white (get_or (drop n text) 0 0) ≡ true
     white [] zero more stops = absurd (omega arith)
     white [] (suc n) more stops = absurd (omega arith)
@@ -62,6 +63,7 @@ no-word (byte ∷ text) n none stops dark = absurd (clash (is_dark byte) (dark (
     clash : (b : Bool) → b ≡ true → b ≡ false → ⊥
     clash true e f = cc
     clash false e f = cc
+
     at : (n : ℕ) → n ≡ 0 → (n < length (byte ∷ text) → is_dark (get_or (byte ∷ text) n 0) ≡ false) → is_dark byte ≡ false
     at zero none stops = stops (omega arith)
     at (suc n) none stops = absurd (omega (arith, none))

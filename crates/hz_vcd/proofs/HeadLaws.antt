@@ -163,15 +163,18 @@ blocks-open word next was now found open_ differ are counts =
     onward more state steps later [] (itself same is) comes = absurd (differ same)
     onward more state steps later (block ∷ blocks) (opens inside others b o none all is) comes =
         (inside, flat others ++ word ∷ later, none, is, (others, later, all, refl, comes))
+
     back : (more : List (List ℕ)) (state : List Bool) (steps : List (List ℕ)) → Comes (BlockEnd (Blocks word next)) more state steps → Comes (Blocks word next) (found ∷ more) state steps
     back more state steps (inside, rest, none, is, (blocks, later, all, then, comes)) =
         let block : List (List ℕ) = found ∷ inside ++ end_word ∷ [] in
         let whole : more ≡ ((inside ++ end_word ∷ []) ++ flat blocks) ++ word ∷ later =
         is ∙ ap (λ (words : List (List ℕ)). inside ++ end_word ∷ words) then
         ∙ sym (append_assoc inside (end_word ∷ []) (flat blocks ++ word ∷ later)) ∙ sym (append_assoc (inside ++ end_word ∷ []) (flat blocks) (word ∷ later)) in (
-          block ∷ blocks, later,
+          block ∷ blocks,
+          later,
           All-cons IsBlock block blocks (record { first = found; inside = inside; are = refl; opens = open_; no_end = none }) all,
-          ap (λ (words : List (List ℕ)). found ∷ words) whole, comes,
+          ap (λ (words : List (List ℕ)). found ∷ words) whole,
+          comes,
         )
 
 -- words and then more of them

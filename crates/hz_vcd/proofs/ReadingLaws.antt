@@ -39,7 +39,9 @@ past-fails a was b mid (fault.Form token) p q = record {
   are = p.are ∙ ap (λ (later : List (List ℕ)). p.front ++ later) q.are ∙ sym (append_assoc p.front q.front q.after);
   place = omega (arith, p.counts, q.place, length-append p.front q.front);
   goes = (
-    q.goes.0, q.goes.1, q.goes.2,
+    q.goes.0,
+    q.goes.1,
+    q.goes.2,
     subst (λ (words : List (List ℕ)). Comes a words q.goes.1 q.goes.2) (sym (append_assoc p.front q.front q.goes.0)) (p.back (q.front ++ q.goes.0) q.goes.1 q.goes.2 q.goes.3),
   );
   stops = past-stops a was b mid p q.front q.after q.stops;

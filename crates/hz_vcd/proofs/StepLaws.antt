@@ -80,14 +80,18 @@ module _ (variables : ℕ) (start : List Bool) where
       where
         swapped : (a b : ℕ) → nat_eq a b ≡ false → nat_eq b a ≡ false
         swapped a b e = grind (arith, nat_tests, e)
+
         parts : is_listed flips first || (nat_eq first var || is_listed more first) ≡ false
         parts = sym (listed-append flips (var ∷ more) first) ∙ free.0
+
         second : (a b : Bool) → a || b ≡ false → b ≡ false
         second true b e = absurd (cc)
         second false b e = e
+
         front : (a b : Bool) → a || b ≡ false → a ≡ false
         front true b e = absurd (cc)
         front false b e = refl
+
         apart : nat_eq var first ≡ false
         apart = swapped first var (front (nat_eq first var) (is_listed more first) (second (is_listed flips first) (nat_eq first var || is_listed more first) parts))
 
@@ -103,13 +107,16 @@ module _ (variables : ℕ) (start : List Bool) where
                 at : (before : List (List ℕ)) → get_or (before ++ (flips ++ more) ∷ later) (length before) [] ≡ flips ++ more
                 at [] = refl
                 at (first ∷ before) = at before
+
         by : (more : List ℕ) (later : List (List ℕ)) → steps ≡ done ++ (flips ++ more) ∷ later → word ∷ rest ≡ change_words (end_of start done) more ++ steps_words (length done + 2) (end_of start (done ++ (flips ++ more) ∷ [])) later → FirstChange flips word rest state steps
         by (var ∷ more) later is are =
             let here = flips-here (var ∷ more) later is in
             let inside = All-append-right flips (var ∷ more) here.inside in
             let same : flips ++ var ∷ more ≡ (flips ++ var ∷ []) ++ more = sym (append_assoc flips (var ∷ []) more) in
             changes var (same-first are) (All-head (λ v. v < variables) var more inside) (fresh flips more var here.once) (record {
-              more = more; later = later; begins = r.begins;
+              more = more;
+              later = later;
+              begins = r.begins;
               is = is ∙ ap (λ (f : List ℕ). done ++ f ∷ later) same;
               all_flips = r.all_flips;
               are = same-later are ∙ ap (λ (f : List ℕ). change_words (end_of start done) more ++ steps_words (length done + 2) (end_of start (done ++ f ∷ [])) later) same;
@@ -124,7 +131,9 @@ module _ (variables : ℕ) (start : List Bool) where
             let here = subst (AreFlips variables) none (flips-here [] (next ∷ later) is) in
             let long : length done + 2 + 1 ≡ length (done ++ flips ∷ []) + 2 = omega (arith, length-append done (flips ∷ [])) in
             onwards (same-first are) here.some (record {
-              more = next; later = later; begins = r.begins;
+              more = next;
+              later = later;
+              begins = r.begins;
               is = is ∙ ap (λ (f : List ℕ). done ++ f ∷ next ∷ later) none ∙ sym (append_assoc done (flips ∷ []) (next ∷ later));
               all_flips = r.all_flips;
               are = same-later are
@@ -137,7 +146,9 @@ module _ (variables : ℕ) (start : List Bool) where
     change-back flips var rest state steps r =
         let same : (flips ++ var ∷ []) ++ r.more ≡ flips ++ var ∷ r.more = append_assoc flips (var ∷ []) r.more in
         record {
-          more = var ∷ r.more; later = r.later; begins = r.begins;
+          more = var ∷ r.more;
+          later = r.later;
+          begins = r.begins;
           is = r.is ∙ ap (λ (f : List ℕ). done ++ f ∷ r.later) same;
           all_flips = r.all_flips;
           are = ap (λ (words : List (List ℕ)). value_word var (not (bit_at (end_of start done) var)) ∷ words)
@@ -149,7 +160,9 @@ module _ (variables : ℕ) (start : List Bool) where
         let none : flips ++ [] ≡ flips = append-nil flips in
         let long : length (done ++ flips ∷ []) + 2 ≡ suc (length done + 2) = omega (arith, length-append done (flips ∷ [])) in
         record {
-          more = []; later = r.more ∷ r.later; begins = r.begins;
+          more = [];
+          later = r.more ∷ r.later;
+          begins = r.begins;
           is = r.is ∙ append_assoc done (flips ∷ []) (r.more ∷ r.later) ∙ ap (λ (f : List ℕ). done ++ f ∷ r.more ∷ r.later) (sym none);
           all_flips = r.all_flips;
           are = ap (λ (words : List (List ℕ)). time_word (length done + 2) ∷ words)
@@ -164,18 +177,28 @@ module _ (variables : ℕ) (start : List Bool) where
       pub changes-go : (flips : List ℕ) → IsRepeatFree flips → All (λ v. v < variables) flips → Goes (Changes variables start done flips) []
       changes-go [] once inside =
           let first : AreFlips variables (0 ∷ []) = record { some = λ e. none-is (sym e); once = (refl, tt); inside = All-cons (λ v. v < variables) 0 [] some (All-nil (λ v. v < variables)) } in (
-            change_words (end_of start done) (0 ∷ []) ++ [], start, done ++ (0 ∷ []) ∷ [],
+            change_words (end_of start done) (0 ∷ []) ++ [],
+            start,
+            done ++ (0 ∷ []) ∷ [],
             record {
-              more = 0 ∷ []; later = []; begins = refl; is = refl;
+              more = 0 ∷ [];
+              later = [];
+              begins = refl;
+              is = refl;
               all_flips = All-append (AreFlips variables) done ((0 ∷ []) ∷ []) all (All-cons (AreFlips variables) (0 ∷ []) [] first (All-nil (AreFlips variables)));
               are = refl;
             },
           )
       changes-go (first ∷ flips) once inside =
           let whole : AreFlips variables (first ∷ flips) = record { some = λ e. none-is (sym e); once = once; inside = inside } in (
-            [], start, done ++ ((first ∷ flips) ++ []) ∷ [],
+            [],
+            start,
+            done ++ ((first ∷ flips) ++ []) ∷ [],
             record {
-              more = []; later = []; begins = refl; is = refl;
+              more = [];
+              later = [];
+              begins = refl;
+              is = refl;
               all_flips = All-append (AreFlips variables) done (((first ∷ flips) ++ []) ∷ []) all
                   (All-cons (AreFlips variables) ((first ∷ flips) ++ []) [] (subst (AreFlips variables) (sym (append-nil (first ∷ flips))) whole) (All-nil (AreFlips variables)));
               are = refl;
@@ -203,6 +226,7 @@ module _ (variables : ℕ) (start : List Bool) where
           at : (before : List (List ℕ)) (later : List (List ℕ)) → get_or (before ++ [] ∷ later) (length before) [] ≡ []
           at [] later = refl
           at (first ∷ before) later = at before later
+
           nothing : (state : List Bool) (steps : List (List ℕ)) (r : StepGoesOn variables start done [] [] state steps) (more : List ℕ) → steps ≡ done ++ more ∷ r.later → [] ≡ change_words (end_of start done) more ++ steps_words (length done + 2) (end_of start (done ++ r.more ∷ [])) r.later → ⊥
           nothing state steps r [] is are =
               let whole = subst (All (AreFlips variables)) is r.all_flips in
@@ -238,7 +262,10 @@ module _ (variables : ℕ) (start : List Bool) where
     pub ends-there : (flips : List ℕ) (was : WordsLeft) → AreFlips variables flips → All (AreFlips variables) done → was.words ≡ [] → Means (Changes variables start done flips) was start (done ++ flips ∷ [])
     ends-there flips was here all none = record {
       is = record {
-        more = []; later = []; begins = refl; is = ap (λ (f : List ℕ). done ++ f ∷ []) (sym (append-nil flips));
+        more = [];
+        later = [];
+        begins = refl;
+        is = ap (λ (f : List ℕ). done ++ f ∷ []) (sym (append-nil flips));
         all_flips = All-append (AreFlips variables) done (flips ∷ []) all (All-cons (AreFlips variables) flips [] here (All-nil (AreFlips variables)));
         are = none;
       };
@@ -279,11 +306,14 @@ push-changed flips var state below out =
         clash : (b : Bool) → b ≡ false → b ≡ true → ⊥
         clash true e f = absurd (cc)
         clash false e f = absurd (cc)
+
         same : (i var : ℕ) → i ≡ var → nat_eq i var ≡ true
         same i var e = grind (arith, nat_tests, e)
+
         none : (b : Bool) → b || false ≡ b
         none true = refl
         none false = refl
+
     at : (i : ℕ) → i < length state → bit_at (state_after (flips ++ var ∷ []) state) i ≡ bit_at (set (state_after flips state) var (not (bit_at (state_after flips state) var))) i
     at i inside = turned i inside (is_listed flips i) refl (nat_eq i var) refl
 
@@ -318,27 +348,35 @@ at-push time times flips var at below = record {
   where
     same : (v : ℕ) → nat_eq v var ≡ true → v ≡ var
     same v e = grind (arith, nat_tests, e)
+
     other : (v : ℕ) → nat_eq v var ≡ false → v ≢ var
     other v e is = grind (arith, nat_tests, e, is)
+
     kept : (v : ℕ) → nat_eq v var ≡ false → get_or (set times var time) v 0 ≡ get_or times v 0
     kept v e = get_or-set_other times var v time 0 (other v e)
+
     placed : (v : ℕ) → nat_eq v var ≡ true → get_or (set times var time) v 0 ≡ time
     placed v e = ap (λ (n : ℕ). get_or (set times var time) n 0) (same v e) ∙ get_or-set_same times var time 0 below
+
     right : (a : Bool) → a || (true || false) ≡ true
     right true = refl
     right false = refl
+
     none : (a : Bool) → a || (false || false) ≡ a
     none true = refl
     none false = refl
+
     listed : (v : ℕ) → v < length times → get_or (set times var time) v 0 ≡ time → (b : Bool) → nat_eq v var ≡ b → is_listed (flips ++ var ∷ []) v ≡ true
     listed v inside is true e = listed-append flips (var ∷ []) v ∙ ap (λ (b : Bool). is_listed flips v || (b || false)) e ∙ right (is_listed flips v)
     listed v inside is false e =
         listed-append flips (var ∷ []) v ∙ ap (λ (b : Bool). is_listed flips v || (b || false)) e ∙ none (is_listed flips v)
         ∙ at.listed v inside (sym (kept v e) ∙ is)
+
     here : (v : ℕ) → is_listed (flips ++ var ∷ []) v ≡ true → (b : Bool) → nat_eq v var ≡ b → get_or (set times var time) v 0 ≡ time
     here v there true e = placed v e
     here v there false e =
         kept v e ∙ at.here v (sym (listed-append flips (var ∷ []) v ∙ ap (λ (b : Bool). is_listed flips v || (b || false)) e ∙ none (is_listed flips v)) ∙ there)
+
     latest : (v : ℕ) (b : Bool) → nat_eq v var ≡ b → get_or (set times var time) v 0 ≤ time
     latest v true e = omega (arith, placed v e)
     latest v false e = omega (arith, kept v e, at.latest v)
@@ -371,6 +409,7 @@ push-once (first ∷ flips) var once out =
     halves : (a b : Bool) → a || b ≡ false → (a ≡ false) × (b ≡ false)
     halves true b e = absurd (cc)
     halves false b e = (refl, e)
+
     swapped : (a b : ℕ) → nat_eq a b ≡ false → nat_eq b a ≡ false
     swapped a b e = grind (arith, nat_tests, e)
 

@@ -43,7 +43,9 @@ module _ (variables place : ℕ) (known : List Bool) (long : length known ≡ pl
       let size : length state ≡ variables = omega (arith, length-append known (replicate (variables - place) false), length-replicate (variables - place) false, long) in
       let front : take place state ≡ known = ap (λ (n : ℕ). take n state) (sym long) ∙ take-append_seam known (replicate (variables - place) false) in (
         map (λ var. value_word var (bit_at state var)) (range_with_len place (variables - place)) ++ end_word ∷ steps_words 1 state [],
-        state, [], (size, All-nil (AreFlips variables), front, refl),
+        state,
+        [],
+        (size, All-nil (AreFlips variables), front, refl),
       )
 
   module _ (below : place < variables) where
@@ -55,18 +57,21 @@ module _ (variables place : ℕ) (known : List Bool) (long : length known ≡ pl
         let whole = comes.3 ∙ values-next variables place state steps below in
         let same : bit_at state place ≡ bit = sym (same-bit bit (bit_at state place) (same-first (is ∙ same-first whole))) in
         let inside : place < length state = omega (arith, below, comes.0) in (
-          comes.0, comes.1,
+          comes.0,
+          comes.1,
           take_more state place false inside ∙ ap (λ (front : List Bool). front ++ get_or state place false ∷ []) comes.2 ∙ ap (λ (b : Bool). known ++ b ∷ []) same,
           same-later whole,
         ))
         (λ more state steps comes.
         let inside : place < length state = omega (arith, below, comes.0) in
         let parts = same_from_push (take place state) known (get_or state place false) bit (sym (take_more state place false inside) ∙ comes.2) in (
-          comes.0, comes.1, parts.0,
+          comes.0,
+          comes.1,
+          parts.0,
           ap (λ (words : List (List ℕ)). found ∷ words) comes.3
-          ∙ ap (λ (word : List ℕ). word ∷ (map (λ var. value_word var (bit_at state var)) (range_with_len (place + 1) (variables - (place + 1))) ++ end_word ∷ steps_words 1 state steps))
-          (sym is ∙ ap (value_word place) (sym parts.1))
-          ∙ sym (values-next variables place state steps below),
+              ∙ ap (λ (word : List ℕ). word ∷ (map (λ var. value_word var (bit_at state var)) (range_with_len (place + 1) (variables - (place + 1))) ++ end_word ∷ steps_words 1 state steps))
+              (sym is ∙ ap (value_word place) (sym parts.1))
+              ∙ sym (values-next variables place state steps below),
         ))
 
     -- a word that gives no bit, or one of another variable
@@ -116,12 +121,16 @@ value-same a b bit other word small also is too = code-same a b small also (same
 -- all bits are known
 pub values-done : (variables : ℕ) (known : List Bool) (was : WordsLeft) → length known ≡ variables → Past (Values variables variables known) was (Word end_word (Steps variables known)) was
 values-done variables known was long = record {
-  front = []; are = refl; counts = omega arith;
+  front = [];
+  are = refl;
+  counts = omega arith;
   onward = λ more state steps comes.
       let same : state ≡ known = sym (take_all variables state (omega (arith, comes.0))) ∙ comes.2 in
       (steps_words 1 known steps, comes.3 ∙ ends state steps ∙ ap (λ (s : List Bool). end_word ∷ steps_words 1 s steps) same, (same, comes.1, refl));
   back = λ more state steps comes. (
-    ap length comes.2.0 ∙ long, comes.2.1, take_all variables state (omega (arith, ap length comes.2.0, long)) ∙ comes.2.0,
+    ap length comes.2.0 ∙ long,
+    comes.2.1,
+    take_all variables state (omega (arith, ap length comes.2.0, long)) ∙ comes.2.0,
     comes.1 ∙ ap (λ (words : List (List ℕ)). end_word ∷ words) (comes.2.2 ∙ ap (λ (s : List Bool). steps_words 1 s steps) (sym comes.2.0)) ∙ sym (ends state steps),
   );
 }

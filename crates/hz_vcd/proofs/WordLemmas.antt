@@ -8,7 +8,6 @@ use Rattle.std.proofs.lemmas.List.Elements.{All-head, All-tail}
 use Rattle.std.proofs.lemmas.List.Splits.{slice_split-cons_yes, slice_split-cons_no}
 use Rattle.hz_vcd.specs.Word.{is_white, is_dark, is_filled, words_of}
 use Rattle.hz_vcd.specs.Printed.{words_line, word_line, word_lines}
-
 pub use Rattle.hz_vcd.specs.Word.{is_dark}
 
 -- a word: it has bytes, and none of them is white

@@ -11,6 +11,11 @@
 //! | `code` | the codes by which a dump names variables |
 #![tactic(auto, using(hz_write::proofs::Writers::writes_then, hz_write::proofs::Writers::writes_nothing))]
 
+ghost use Rattle.std.specs.Prelude.{ℕ, Bool, List};
+ghost use Rattle.hz_core.specs.Netlist.{Netlist};
+ghost use Rattle.hz_vcd.specs.Dump.{IsDump};
+ghost use Rattle.hz_vcd.specs.FirstWrong.{HasFormFault};
+
 mod code;
 mod fault;
 mod head;
@@ -25,3 +30,10 @@ pub use fault::VcdFault;
 pub use reading::read;
 pub use wave::Wave;
 pub use writing::write;
+
+/// No word of a dump is wrong, and it doesn't end too early. So [`read`] gives the meaning of what [`write`] wrote.
+#[tactic(auto, using(crate::proofs::DumpLaws::no-fault))]
+pub fn dumps_have_no_fault()
+    ensures { (netlist : Netlist) (words : List (List ℕ)) (state : List Bool) (steps : List (List ℕ)) (number : ℕ)
+        → IsDump netlist words state steps → ¬ HasFormFault netlist words number }
+{}

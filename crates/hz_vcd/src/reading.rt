@@ -156,7 +156,12 @@ fn read_steps(alloc: Global, words: &mut Words<'_>, start: &[bool]) -> Result<Ru
 }
 
 // Reads the steps of a run from a state, behind the word of the first time.
-fn read_run(alloc: Global, words: &mut Words<'_>, state: &mut [bool], times: &mut [u32]) -> Result<Run, VcdFault>
+fn read_run(
+    alloc: Global,
+    words: &mut Words<'_>,
+    state: &mut [bool],
+    times: &mut [u32],
+) -> Result<Run, VcdFault>
     requires few { length state.old ≤ most_variables }
     requires some { 0 < length state.old }
     requires times { length times.old ≡ length state.old }

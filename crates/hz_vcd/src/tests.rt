@@ -104,7 +104,8 @@ fn a_lead_and_a_cycle(rt: HostRuntime) -> Result<(), Fail> {
 // Rows of words of a dump of the netlist with the input a, and the number of the first wrong one, or 0.
 #[test]
 fn first_wrong_words(rt: HostRuntime) -> Result<(), Fail> {
-    const HEAD: &str = "$timescale 1 ns $end $scope module hazard $end $var wire 1 ! \\a $end $upscope $end $enddefinitions $end ";
+    const HEAD: &str =
+        "$timescale 1 ns $end $scope module hazard $end $var wire 1 ! \\a $end $upscope $end $enddefinitions $end ";
     let rows = [
         ("", "", 1),
         (HEAD, "#0 $dumpvars 0! $end", 0),

@@ -32,6 +32,6 @@ returns c =
     let middle = c.in_ok-middle.middle in
     let low = c.in_ok-low.low in (
       three-digits high middle low c.args.a c.args.b c.args.c c.in_ok-high.ensures.0 c.in_ok-middle.ensures.0 c.in_ok-low.ensures.0
-      (λ e. absurd (omega (arith, e))) c.in_ok-high.ensures.1 c.in_ok-middle.ensures.1 c.in_ok-low.ensures.1,
+          (λ e. absurd (omega (arith, e))) c.in_ok-high.ensures.1 c.in_ok-middle.ensures.1 c.in_ok-low.ensures.1,
       omega (arith, c.in_ok-high.ensures.0, c.in_ok-middle.ensures.0, c.in_ok-low.ensures.0),
     )
