@@ -1,16 +1,16 @@
 -- A dump, as what its reader takes one part after the other.
-use Rattle.std.proofs.Common.{◌≡◌, ◌∙◌, ℕ, ◌+◌, ◌-◌, Bool, true, false, List, [], ◌∷◌, ◌++◌, length, map, take, refl, sym, ap, subst, arith, inl, inr, append_assoc}
+use Rattle.std.proofs.Common.{◌≡◌, ◌∙◌, ℕ, ◌+◌, ◌-◌, Bool, true, false, List, [], ◌∷◌, ◌++◌, length, map, refl, sym, ap, subst, arith, inl, inr, append_assoc}
 use Rattle.std.specs.Prelude.{codes}
-use Rattle.std.specs.List.{flat_map, range_with_len, All}
+use Rattle.std.specs.List.{range_with_len}
 use Rattle.std.proofs.lemmas.List.{append-nil}
 use Rattle.hz_core.specs.Netlist.{Netlist}
 use Rattle.hz_net.specs.Network.{bit_at}
 use Rattle.hz_vcd.specs.declared.fault.VcdFault.{VcdFault}
 use Rattle.hz_vcd.specs.declared.fault.VcdFault.TheVariants as fault
 use Rattle.hz_vcd.specs.Wave.{WaveOf}
-use Rattle.hz_vcd.specs.Dump.{Place, MayStand, StandAt, IsDump, head_places, variables_of, end_word, value_word, time_word, state_words, steps_words, AreFlips}
-use Rattle.hz_vcd.specs.FirstWrong.{MeansSome, MayGoOn, IsFirstWrong, HasFormFault, MeansAlone, IsFaultOf}
-use Rattle.hz_vcd.specs.Reading.{WordsLeft, Ending, Word, Blocks, Values, Comes, Goes, Past, Stuck, Stops, Fails, Means, all_words, all_places, place_word, state_head}
+use Rattle.hz_vcd.specs.Dump.{Place, MayStand, StandAt, IsDump, head_places, variables_of, end_word, value_word, time_word, state_words, steps_words}
+use Rattle.hz_vcd.specs.FirstWrong.{MayGoOn, HasFormFault, MeansAlone, IsFaultOf}
+use Rattle.hz_vcd.specs.Reading.{WordsLeft, Ending, Values, Comes, Goes, Stops, Fails, Means, all_words, all_places, place_word, state_head}
 use Rattle.hz_vcd.proofs.HeadLaws.{flat}
 
 -- words at places, and what comes behind them
@@ -113,7 +113,7 @@ fault-of netlist was (fault.Form token) none q = by q.front q.after q.are q.plac
     })
 
 -- a dump has no fault
-pub no-fault : (netlist : Netlist) (words : List (List ℕ)) (state : List Bool) (steps : List (List ℕ)) (number : ℕ) → IsDump netlist words state steps → HasFormFault netlist words number → ⊥
-no-fault netlist words state steps number dump (inr (place, on, none)) = none (state, steps, dump)
-no-fault netlist words state steps number dump (inl wrong) =
+pub no_fault : (netlist : Netlist) (words : List (List ℕ)) (state : List Bool) (steps : List (List ℕ)) (number : ℕ) → IsDump netlist words state steps → HasFormFault netlist words number → ⊥
+no_fault netlist words state steps number dump (inr (place, on, none)) = none (state, steps, dump)
+no_fault netlist words state steps number dump (inl wrong) =
     wrong.stops (wrong.after, (state, steps, subst (λ (all : List (List ℕ)). IsDump netlist all state steps) (wrong.are ∙ sym (append_assoc wrong.before (wrong.word ∷ []) wrong.after)) dump))

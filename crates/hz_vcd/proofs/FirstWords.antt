@@ -1,11 +1,11 @@
 -- The first word of a text.
-use Rattle.std.proofs.Common.{◌≡◌, ◌∙◌, ℕ, zero, suc, ◌+◌, ◌<◌, ◌≤◌, Bool, true, false, not, cond, List, [], ◌∷◌, ◌++◌, length, take, drop, get_or, refl, sym, ap, subst, arith}
+use Rattle.std.proofs.Common.{◌≡◌, ◌∙◌, ℕ, zero, suc, ◌<◌, ◌≤◌, Bool, true, false, not, cond, List, [], ◌∷◌, ◌++◌, length, take, drop, get_or, refl, sym, ap, arith}
 use Rattle.std.specs.List.{list_all, filter, slice_split, onto_first}
 use Rattle.std.proofs.lemmas.Bool.{and_parts, not-true}
 use Rattle.std.proofs.lemmas.List.{append-nil, take-append-drop}
 use Rattle.std.proofs.lemmas.List.Splits.{slice_split-cons_no}
 use Rattle.hz_vcd.specs.Word.{is_white, is_dark, is_filled, words_of}
-use Rattle.hz_vcd.proofs.WordLemmas.{IsWord, BeginsWhite, words-none, words-white, words-then}
+use Rattle.hz_vcd.proofs.WordLemmas.{IsWord, words-none, words-white, words-then}
 
 -- a byte that is white or not
 white-or-dark : (byte : ℕ) → is_dark byte ≡ false → is_white byte ≡ true

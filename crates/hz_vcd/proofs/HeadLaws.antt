@@ -1,5 +1,5 @@
 -- Reading the words of a head.
-use Rattle.std.proofs.Common.{◌≡◌, ◌≢◌, ◌∙◌, ℕ, suc, ◌+◌, ◌-◌, ◌<◌, Bool, true, false, not, List, [], ◌∷◌, ◌++◌, length, map, take, refl, sym, ap, subst, arith, append_assoc, inl, inr, ◌⊎◌}
+use Rattle.std.proofs.Common.{◌≡◌, ◌≢◌, ◌∙◌, ℕ, suc, ◌+◌, ◌-◌, ◌<◌, Bool, true, false, not, List, [], ◌∷◌, ◌++◌, map, refl, sym, ap, subst, arith, append_assoc}
 use Rattle.std.specs.Prelude.{codes}
 use Rattle.std.specs.List.{flat_map, range_with_len, All}
 use Rattle.std.specs.Str.{bytes_eq}
@@ -11,7 +11,7 @@ use Rattle.hz_vcd.specs.Printed.{words_line, declaration_line}
 use Rattle.hz_vcd.specs.Dump.{end_word, IsBlock, OpensBlock, Place, fixed, command, head_places, declaration_of, variables_of}
 use Rattle.hz_vcd.proofs.WordLemmas.{Spells-line, Spells-words}
 use Rattle.hz_vcd.proofs.WrittenLaws.{declaration-words}
-use Rattle.hz_vcd.specs.Reading.{WordsLeft, Ending, Word, BlockEnd, Blocks, Comes, Goes, Stops, Past, Stuck, all_words, all_places}
+use Rattle.hz_vcd.specs.Reading.{WordsLeft, Ending, Word, BlockEnd, Blocks, Comes, Goes, Past, Stuck, all_words, all_places}
 use Rattle.hz_vcd.proofs.ReadingLaws.{past-word, wrong-word, wrong-end}
 
 -- the parts of lists that are the same

@@ -32,7 +32,6 @@ pub use wave::Wave;
 pub use writing::write;
 
 /// No word of a dump is wrong, and it doesn't end too early. So [`read`] gives the meaning of what [`write`] wrote.
-#[tactic(auto, using(crate::proofs::DumpLaws::no-fault))]
 pub fn dumps_have_no_fault()
     ensures { (netlist : Netlist) (words : List (List ℕ)) (state : List Bool) (steps : List (List ℕ)) (number : ℕ)
         → IsDump netlist words state steps → ¬ HasFormFault netlist words number }

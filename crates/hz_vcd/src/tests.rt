@@ -118,7 +118,11 @@ fn first_wrong_words(rt: HostRuntime) -> Result<(), Fail> {
         ("$date $end $comment $timescale $end ", HEAD, 24),
         ("$date $end $comment $timescale", "", 5),
     ];
-    let net = Net::build(rt.alloc(), input_alone(rt.alloc())?)?;
+    let circuit = input_alone(rt.alloc())?;
+    if !circuit.whole() {
+        return Err("not whole".into());
+    }
+    let net = Net::build(rt.alloc(), circuit)?;
     for (front, back, wrong) in rows {
         let mut text = String::from_str(rt.alloc(), front)?;
         text.push_str(back)?;

@@ -1,5 +1,5 @@
 -- One block after the other, up to the word.
-use Rattle.std.proofs.Common.{◌<◌, [], length, ap, arith}
+use Rattle.std.proofs.Common.{[], length, ap, arith}
 use Rattle.hz_vcd.specs.Reading.{Blocks, BlockEnd, Steps}
 use Rattle.hz_vcd.specs.declared.fault.VcdFault.TheVariants as fault
 use Rattle.hz_vcd.proofs.ReadingLaws.{past-none, past-past, past-fails, past-shorter, reads-exit, some-goes}

@@ -1,5 +1,5 @@
-use Rattle.std.proofs.Common.{length, []}
-use Rattle.hz_vcd.specs.Reading.{Ending, Goes, Past, BlockEnd}
+use Rattle.std.proofs.Common.{length}
+use Rattle.hz_vcd.specs.Reading.{Ending, Past, BlockEnd}
 use Rattle.hz_vcd.proofs.head.read_block.Given as goal
 
 -- the block goes on

@@ -1,5 +1,5 @@
 -- One command after the other.
-use Rattle.std.proofs.Common.{[], codes, sym, subst}
+use Rattle.std.proofs.Common.{sym, subst}
 use Rattle.hz_vcd.specs.Reading.{Ending, Reads, all_words}
 use Rattle.hz_vcd.proofs.ReadingLaws.{past-past, past-fails, past-reads, reads-exit}
 use Rattle.hz_vcd.proofs.HeadLaws.{declarations, after_unit, after_scope, after_up, after_head, head-is, up-goes, head-goes, scope-goes, declarations-go}

@@ -1,5 +1,5 @@
 -- A variable that is none, one that was changed, or the bit that it has.
-use Rattle.std.proofs.Common.{◌≡◌, ◌∙◌, ◌<◌, ℕ, Bool, false, not, get_or, sym, ap, arith}
+use Rattle.std.proofs.Common.{◌≡◌, ◌∙◌, ℕ, not, get_or, sym, ap, arith}
 use Rattle.hz_net.specs.Network.{bit_at}
 use Rattle.hz_vcd.proofs.ValueLaws.{value-same, value-bit}
 use Rattle.hz_vcd.proofs.StepLaws.{not-itself, bits-same}

@@ -1,4 +1,4 @@
-use Rattle.std.proofs.Common.{◌≡◌, ◌+◌, ◌<◌, ◌≤◌, [], length}
+use Rattle.std.proofs.Common.{◌≡◌, ◌+◌, ◌≤◌, [], length}
 use Rattle.std.specs.List.{All}
 use Rattle.hz_gmw.specs.Runs.{end_of}
 use Rattle.hz_vcd.specs.Dump.{AreFlips}

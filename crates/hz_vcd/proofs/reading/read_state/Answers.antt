@@ -1,8 +1,7 @@
 -- The words before the bits, the bits, and the word behind them.
-use Rattle.std.proofs.Common.{◌≡◌, ◌∙◌, List, [], ℕ, codes, refl, subst, sym, arith}
-use Rattle.hz_vcd.specs.Word.{words_of}
+use Rattle.std.proofs.Common.{List, [], ℕ, refl, subst, arith}
 use Rattle.hz_vcd.specs.Dump.{end_word}
-use Rattle.hz_vcd.specs.Reading.{Past, Fails, Word, Values, Steps, Goes, all_words, state_head, StateRead}
+use Rattle.hz_vcd.specs.Reading.{Past, Fails, Word, Values, Steps, all_words, state_head, StateRead}
 use Rattle.hz_vcd.proofs.ReadingLaws.{past-past, past-fails, match-exit}
 use Rattle.hz_vcd.proofs.ValueLaws.{values-go, values-done, steps-go, head-words}
 use Rattle.hz_vcd.proofs.reading.read_state.Goals as goal

@@ -1,7 +1,6 @@
 use Rattle.std.proofs.Common.{◌≡◌, ◌+◌, ◌<◌, ◌≤◌, ℕ, Bool, List, [], length}
 use Rattle.std.specs.List.{All}
 use Rattle.hz_gmw.specs.Runs.{IsRepeatFree, state_after, end_of}
-use Rattle.hz_vcd.specs.Dump.{AreFlips}
 use Rattle.hz_vcd.specs.Reading.{Past, Changes, AreAt}
 use Rattle.hz_vcd.proofs.reading.read_step.Given as goal
 

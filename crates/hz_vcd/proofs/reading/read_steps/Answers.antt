@@ -1,5 +1,5 @@
 -- No word, another word than that of the first time, or the steps behind it.
-use Rattle.std.proofs.Common.{◌≡◌, ◌∙◌, Bool, List, ℕ, [], length, inl, inr, sym, ap, subst}
+use Rattle.std.proofs.Common.{◌∙◌, Bool, List, [], length, inl, inr, sym, subst}
 use Rattle.std.specs.Prelude.{MatchResult}
 use Rattle.std.proofs.lemmas.Bool.{eqb-true}
 use Rattle.hz_gmw.specs.RunRecord.{RunRecord}

@@ -1,5 +1,5 @@
 -- The bit of the variable, another word or none.
-use Rattle.std.proofs.Common.{◌≡◌, ◌∙◌, ℕ, sym, ap, arith}
+use Rattle.std.proofs.Common.{◌≡◌, ◌∙◌, ℕ, ap, arith}
 use Rattle.hz_vcd.specs.Dump.{value_word}
 use Rattle.hz_vcd.proofs.ValueLaws.{value-past, value-wrong, value-end, value-same}
 use Rattle.hz_vcd.proofs.reading.read_value.Goals as goal

@@ -1,6 +1,6 @@
 -- One bit after the other.
-use Rattle.std.proofs.Common.{◌≡◌, ◌∙◌, ◌+◌, ◌<◌, ℕ, Bool, List, [], ◌∷◌, ◌++◌, length, sym, ap, subst, arith, length-append}
-use Rattle.hz_vcd.specs.Reading.{Past, Values, AllRead}
+use Rattle.std.proofs.Common.{◌+◌, [], ◌∷◌, ◌++◌, arith, length-append}
+use Rattle.hz_vcd.specs.Reading.{Values, AllRead}
 use Rattle.hz_vcd.proofs.ReadingLaws.{past-past, past-fails, match-exit}
 use Rattle.hz_vcd.proofs.reading.read_values.Goals as goal
 

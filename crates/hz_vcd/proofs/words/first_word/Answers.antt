@@ -1,6 +1,5 @@
 -- The bytes before the first white one, if there are any.
-use Rattle.std.proofs.Common.{◌<◌, ◌∙◌, length, ap, arith}
-use Rattle.hz_vcd.specs.Word.{words_of}
+use Rattle.std.proofs.Common.{◌∙◌, arith}
 use Rattle.hz_vcd.proofs.FirstWords.{first-word, no-word}
 use Rattle.hz_vcd.proofs.words.first_word.Goals as goal
 

@@ -1,5 +1,5 @@
 -- One white byte less.
-use Rattle.std.proofs.Common.{◌≡◌, ◌∙◌, ◌<◌, length, sym, arith}
+use Rattle.std.proofs.Common.{◌∙◌, ◌<◌, length, sym, arith}
 use Rattle.std.proofs.lemmas.Grind.{common_steps}
 use Rattle.hz_vcd.proofs.FirstWords.{words-drop}
 use Rattle.hz_vcd.proofs.words.trim_start.Goals as goal
