@@ -126,7 +126,11 @@ fn first_wrong_words(rt: HostRuntime) -> Result<(), Fail> {
     for (front, back, wrong) in rows {
         let mut text = String::from_str(rt.alloc(), front)?;
         text.push_str(back)?;
-        let found = match read(rt.alloc(), &net, text.as_bytes()) {
+        let bytes = text.as_bytes();
+        if bytes.len() > 1000 {
+            return Err("long".into());
+        }
+        let found = match read(rt.alloc(), &net, bytes) {
             Ok(_) => 0,
             Err(VcdFault::Form { token }) => token,
             Err(VcdFault::Memory) => return Err("memory".into()),
