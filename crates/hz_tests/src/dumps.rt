@@ -1,4 +1,4 @@
-//! The bytes of dumps, on circuits whose runs are known.
+//! The bytes of dumps, on circuits whose runs are known, and the first wrong words of others.
 ghost use Rattle.std.specs.Prelude.{IfOk, All};
 ghost use Rattle.hz_vcd.specs.Dump.{AreFlips, variables_of};
 
@@ -6,7 +6,7 @@ use crate::reading::{TWO_WIRES, net_of};
 use hz_gmw::Run;
 use hz_net::Net;
 use hz_outside::PlainSink;
-use hz_vcd::write;
+use hz_vcd::{VcdFault, read, write};
 use hz_write::Writer;
 use std::alloc::Global;
 use std::test::Fail;
@@ -58,5 +58,40 @@ fn dumps_of_runs(rt: HostRuntime) -> Result<(), Fail> {
           #0\n$dumpvars\n0!\n0\"\n0#\n0$\n$end\n#1\n1!\n#2\n1#\n#3\n1\"\n#4\n1$\n#5\n0\"\n"
             .as_slice()
     );
+    Ok(())
+}
+
+// Rows of words of a dump of the netlist with the input a, and the number of the first wrong one, or 0.
+#[test]
+fn first_wrong_words(rt: HostRuntime) -> Result<(), Fail> {
+    const HEAD: &str =
+        "$timescale 1 ns $end $scope module hazard $end $var wire 1 ! \\a $end $upscope $end $enddefinitions $end ";
+    let rows = [
+        ("", "", 1),
+        (HEAD, "#0 $dumpvars 0! $end", 0),
+        (HEAD, "#0 $dumpvars 1! $end #1 0! #2 1!", 0),
+        (HEAD, "#0 $dumpvars 1! $end #1", 24),
+        (HEAD, "#0 $dumpvars 1! $end #1 1!", 24),
+        (HEAD, "#0 $dumpvars 1! $end #1 0! 0!", 25),
+        (HEAD, "#0 $dumpvars 1! $end #1 0! #3", 25),
+        (HEAD, "#0 $comment a $end $dumpvars 1! $end #1 0! #3", 20),
+        ("$date $end $comment $timescale $end ", HEAD, 24),
+        ("$date $end $comment $timescale", "", 5),
+    ];
+    let net = net_of(rt.alloc(), "INPUT(a)\n")?;
+    for (front, back, wrong) in rows {
+        let mut text = String::from_str(rt.alloc(), front)?;
+        text.push_str(back)?;
+        let bytes = text.as_bytes();
+        if bytes.len() > 1000 {
+            return Err("long".into());
+        }
+        let found = match read(rt.alloc(), &net, bytes) {
+            Ok(_) => 0,
+            Err(VcdFault::Form { token }) => token,
+            Err(VcdFault::Memory) => return Err("memory".into()),
+        };
+        assert_eq!(rt; found, wrong);
+    }
     Ok(())
 }

@@ -1,17 +1,14 @@
 -- The words of a text that was written line by line.
-use Rattle.std.proofs.Common.{◌≡◌, ◌∙◌, ℕ, ◌≤◌, ◌==◌, Bool, true, false, not, cond, List, [], ◌∷◌, ◌++◌, refl, sym, ap, arith, append_assoc}
+use Rattle.std.proofs.Common.{◌≡◌, ◌∙◌, ℕ, ◌≤◌, ◌==◌, Bool, true, false, cond, List, [], ◌∷◌, ◌++◌, refl, sym, ap, arith, append_assoc}
 use Rattle.std.specs.List.{list_all, flat_map, filter, slice_split, onto_first, All}
 use Rattle.std.proofs.lemmas.Bool.{and_parts, not-true}
 use Rattle.std.proofs.lemmas.Bool.Decides.{nat_tests}
 use Rattle.std.proofs.lemmas.List.{append-nil}
 use Rattle.std.proofs.lemmas.List.Elements.{All-head, All-tail}
 use Rattle.std.proofs.lemmas.List.Splits.{slice_split-cons_yes, slice_split-cons_no}
-use Rattle.hz_vcd.specs.Word.{is_white, is_filled, words_of}
+use Rattle.hz_vcd.specs.Word.{is_white, is_dark, is_filled, words_of}
 use Rattle.hz_vcd.specs.Printed.{words_line, word_line, word_lines}
-
--- a byte that is not white
-abbrev pub is_dark : ℕ → Bool
-is_dark byte = not (is_white byte)
+pub use Rattle.hz_vcd.specs.Word.{is_dark}
 
 -- a word: it has bytes, and none of them is white
 pub record IsWord (word : List ℕ) : Type 0 where

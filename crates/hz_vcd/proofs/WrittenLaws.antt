@@ -41,7 +41,7 @@ two-words a b p q = All-cons IsWord a (b ∷ []) p (All-cons IsWord b [] q (All-
 four-words : (a b c d : List ℕ) → IsWord a → IsWord b → IsWord c → IsWord d → All IsWord (a ∷ b ∷ c ∷ d ∷ [])
 four-words a b c d p q r s = All-cons IsWord a (b ∷ c ∷ d ∷ []) p (All-cons IsWord b (c ∷ d ∷ []) q (two-words c d r s))
 
-declaration-words : (netlist : Netlist) (var : ℕ) → IsCircuit netlist → var < variables_of netlist → All IsWord (declaration_of netlist var)
+pub declaration-words : (netlist : Netlist) (var : ℕ) → IsCircuit netlist → var < variables_of netlist → All IsWord (declaration_of netlist var)
 declaration-words netlist var circuit there =
     let code = code_of var in
     let name = reference_of netlist var in

@@ -9,6 +9,8 @@
 -- AreFlips variables flips: what a step changes
 -- IsDump netlist words state steps: a dump that means this state and these steps
 -- dump_text netlist state steps: the text of a dump as it is written
+-- MayGoOn netlist words: a dump may begin with these words
+-- HasFormFault netlist words number: the words are no dump, and which is the first that is wrong
 
 pub mod Code
 pub mod Word
@@ -16,3 +18,6 @@ pub mod Dump
 pub mod Printed
 pub mod Steps
 pub mod Inside
+pub mod Wave
+pub mod FirstWrong
+pub mod Reading

@@ -107,7 +107,7 @@ fn write_declarations<K: Sink>(writer: &mut Writer<'_, K>, net: &Net)
 }
 
 // Gives the declaration of a variable.
-fn write_declaration<K: Sink>(writer: &mut Writer<'_, K>, net: &Net, var: u32)
+pub(crate) fn write_declaration<K: Sink>(writer: &mut Writer<'_, K>, net: &Net, var: u32)
     requires var { var < variables_of net.now }
     requires few { variables_of net.now ≤ most_variables }
     ensures { Writes K.output K.faults (declaration_line net.now var) writer.old writer.new }

@@ -18,6 +18,6 @@ returns-in-None-clause-gave g c =
     λ loaded there.
     let circuit = c.len-variables.ensures.circuit in
     let whole = c.len-variables.ensures.whole in
-    let found = results c.args.net.now loaded c.is_unsettled.result c.requires.a_exists c.requires.b_exists (c.in-None.ensures loaded there) (c.is_unsettled.ensures c.args.net.now loaded circuit whole c.requires.net there) in
+    let found = results c.args.net.now loaded c.is_unsettled.result c.requires.a_exists c.requires.b_exists (c.in-None.ensures loaded there) (c.is_unsettled.ensures.start c.args.net.now loaded circuit whole c.requires.net there) in
     let values = c.set_line.ensures.values loaded found.a found.b there found.outcome in
     (Settled found.a found.b, found.outcome, c.settled_mark.ensures ∙ ap settled_mark found.told, rw (c.set_line.ensures.line.same, values) at c.write.ensures.gave)
