@@ -12,8 +12,13 @@ const NETLIST: &str =
 
 const SCRIPT: &str = "start s=1 x=1 y=1\nchange s=0\n";
 
-// Calls the program with words, which one space separates, over the files `n` and `s`. The load and the put of these numbers
-// fail, and of number 0 none does; the put that fails takes so many bytes.
+// Two runs of that change.
+const RUNS: &str =
+    "runs 1\nstart s=1 x=1 y=1 n=0 a=1 b=0 z=1\ninput s=0 x=1 y=1\nrun\nstep s\nstep n(1)\nstep n a(1)\n\
+    run\nend\n";
+
+// Calls the program with words, which one space separates, over the files `n`, `s` and `r`. The load and the put of these
+// numbers fail, and of number 0 none does; the put that fails takes so many bytes.
 fn call(
     alloc: Global,
     line: &str,
@@ -24,6 +29,7 @@ fn call(
     let mut files = MemFiles::new(alloc);
     files.add("n", netlist.as_bytes())?;
     files.add("s", SCRIPT.as_bytes())?;
+    files.add("r", RUNS.as_bytes())?;
     files.fail(load)?;
     let mut out = MemSink::new(alloc);
     out.fail(put, taken)?;
@@ -44,6 +50,8 @@ fn failures(rt: HostRuntime) -> Result<(), Fail> {
         (NETLIST, 1, none, 6, "refused: first file not read\n"),
         (NETLIST, 2, none, 6, "refused: second file not read\n"),
         ("g = AND()\n", 2, none, 3, "refused: netlist line 1: form\n"),
+        (NETLIST, 2, (1, 5), 8, "refus"),
+        ("g = AND()\n", 0, (1, 3), 8, "ref"),
         (NETLIST, 0, (1, 3), 8, "net"),
         (
             NETLIST,
@@ -100,6 +108,58 @@ fn words_alone(rt: HostRuntime) -> Result<(), Fail> {
         let (status, out) = call(rt.alloc(), line, "", 1, (0, 0))?;
         assert_eq!(rt; status.code(), code, "{line}");
         assert_eq!(rt; out.bytes(), text.as_bytes());
+    }
+    Ok(())
+}
+
+// Each put of a job fails in turn, and takes at most so many bytes: what stands then is a front of the whole text.
+fn fail_puts(alloc: Global, line: &str, taken: usize, whole: &[u8]) -> Result<(), Fail> {
+    let mut before = 0;
+    for put in 1..1_000 {
+        let (status, out) = call(alloc, line, NETLIST, 0, (put, taken))?;
+        if status != Status::Sink {
+            return if out.bytes() == whole {
+                Ok(())
+            } else {
+                Err("another text".into())
+            };
+        }
+        if !whole.starts_with(out.bytes()) {
+            return Err("no front of the text".into());
+        }
+        if taken == ALL {
+            is_of_one_line(out.bytes().get(before..).ok_or("less stands")?)?;
+            before = out.bytes().len();
+        }
+    }
+    Err("many puts".into())
+}
+
+// A piece that was put has no byte behind a line feed.
+fn is_of_one_line(piece: &[u8]) -> Result<(), Fail> {
+    match piece.split_last() {
+        Some((_, front)) if front.contains(&b'\n') => Err("bytes of two lines".into()),
+        _ => Ok(()),
+    }
+}
+
+// More bytes than a put has.
+const ALL: usize = 1_000_000;
+
+/// A put that fails takes no byte, one byte, or all that it gets.
+#[test]
+fn each_put_fails(rt: HostRuntime) -> Result<(), Fail> {
+    for line in [
+        "analyse n s",
+        "replay n r",
+        "convert n r",
+        "vcd n r",
+        "demo 1",
+    ] {
+        let (_, whole) = call(rt.alloc(), line, NETLIST, 0, (0, 0))?;
+        for taken in [0, 1, ALL] {
+            fail_puts(rt.alloc(), line, taken, whole.bytes())?;
+        }
     }
     Ok(())
 }
