@@ -5,6 +5,7 @@
 -- WroteWhole, WrotePrefix: the two cases
 -- Observation: what the files show: the bytes under each name, and what was counted
 -- IsJobOutcome told job status text: the outcomes of a job: which text comes with which status
+-- LeavesFiles told job: what a call leaves of the counts, however it ends
 -- IsFilesOutcome, IsFirstTextOutcome, IsSecondFileOutcome: the outcomes of its two files, one after the other
 -- NetlistRefused name bytes line, IsNetlistText name bytes netlist: the first text
 -- comes_of options task netlist text status line: the outcomes of the second text, by the task
@@ -41,6 +42,7 @@ pub mod RunTexts
 pub mod Reports
 pub mod Tasks
 pub mod Outcome
+pub mod LeftFiles
 pub mod Faultless
 pub mod Headline
 pub mod Inside
