@@ -58,7 +58,7 @@ pub(crate) fn write_lane<K: Sink>(
         None => {
             set_line(net, planes, at.lane, firsts, line);
             line.write(writer, at.number);
-            settled_mark(planes.is_unsettled(at.lane) && planes.get(at.lane, 0) == hz_core::Tri::Unknown)
+            settled_mark(planes.is_unsettled(at.lane))
         }
     }
 }

@@ -21,6 +21,7 @@
 -- IsFirstRefusal net input start runs number refused: the first run that is refused, and why
 -- accepted_line runs, no_line netlist number refused: the lines of the verdict
 -- IsConvertOutcome netlist runs status text: the conversion
+-- IsBatchOutcome netlist patterns status text: the text of patterns
 -- good_of task netlist text status: nothing is to be refused of the second text, and the task ends with this status
 -- IsFaultlessJob told job status: nothing is to be refused in the job, which ends with this status
 -- Headline written faults told asked was now status: the headline of a call
@@ -39,6 +40,7 @@ pub mod Verdict
 pub mod Netlists
 pub mod Second
 pub mod RunTexts
+pub mod Batches
 pub mod Reports
 pub mod Tasks
 pub mod Outcome
