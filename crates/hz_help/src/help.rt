@@ -24,6 +24,8 @@ usage:
                           checks the runs that a report shows
   hazard convert NETLIST RUNS
                           writes a run text in version 2
+  hazard batch NETLIST PATTERNS
+                          analyses many patterns of inputs, a line for each
   hazard demo NUMBER [--cap N]
                           analyses a circuit that is made from a number, 1 to 18000
 options:
