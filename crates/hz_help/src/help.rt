@@ -80,19 +80,28 @@ fn tell_line(rt: &HostRuntime, words: &[String], first: &[u8], place: Place) {
     let Some(name) = file_name(rt.alloc(), words, place) else {
         return;
     };
+    let Ok(shown) = visible(rt.alloc(), name.as_bytes()) else {
+        return;
+    };
+    if !is_plain(rt, name) {
+        let _ = eprintln!(rt; "{shown}:{number}: (no plain file, so its line can't be shown)");
+        return;
+    }
     let Ok(file) = DiskFiles::new(rt).load(rt.alloc(), place, name, MOST) else {
         return;
     };
     let Some(line) = line_at(file.as_slice(), number) else {
         return;
     };
-    let (Ok(name), Ok(line)) = (
-        visible(rt.alloc(), name.as_bytes()),
-        visible(rt.alloc(), line),
-    ) else {
+    let Ok(line) = visible(rt.alloc(), line) else {
         return;
     };
-    let _ = eprintln!(rt; "{name}:{number}: {line}");
+    let _ = eprintln!(rt; "{shown}:{number}: {line}");
+}
+
+// Whether a file can be read once more. A pipe gives its bytes only once, and opening it again may wait for ever.
+fn is_plain(rt: &HostRuntime, name: &str) -> bool {
+    fs::metadata(rt, name).is_ok_and(|found| found.is_file())
 }
 
 // The name of the file that was not read, and why.
