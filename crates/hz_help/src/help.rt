@@ -26,6 +26,8 @@ usage:
                           writes a run text in version 2
   hazard vcd NETLIST RUNS
                           writes the last run for a waveform viewer
+  hazard batch NETLIST PATTERNS
+                          analyses many patterns of inputs, a line for each
   hazard demo NUMBER [--cap N]
                           analyses a circuit that is made from a number, 1 to 18000
 options:

@@ -10,11 +10,12 @@ ghost use Rattle.hz_top.specs.Outcome.{observation_of, IsFilesOutcome, IsSecondF
 ghost use Rattle.hz_top.specs.Tasks.{comes_of};
 
 use crate::analysis::Analyses;
+use crate::batching::Batches;
 use crate::converting::Converts;
 use crate::dumping::Dumps;
 use crate::refusal::{refuse_load, refuse_netlist};
 use crate::replaying::Replays;
-use crate::second::{on_runs, on_script};
+use crate::second::{on_patterns, on_runs, on_script};
 use crate::status::Status;
 use hz_line::MAX_TEXT;
 use hz_net::Net;
@@ -98,5 +99,6 @@ fn work_on_text<K: Sink>(
         Task::Replay => on_runs(alloc, &Replays, net, text, out),
         Task::Convert => on_runs(alloc, &Converts, net, text, out),
         Task::Vcd => on_runs(alloc, &Dumps, net, text, out),
+        Task::Batch => on_patterns(alloc, &Batches, net, text, out),
     }
 }

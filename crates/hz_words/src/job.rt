@@ -19,6 +19,8 @@ pub enum Task {
     Convert,
     /// The last run of a run text is written as a value change dump.
     Vcd,
+    /// Each of many patterns is analysed.
+    Batch,
 }
 
 /// What the words ask for.
@@ -100,6 +102,7 @@ fn job_on_files<'w>(
         "replay" => Task::Replay,
         "convert" => Task::Convert,
         "vcd" => Task::Vcd,
+        "batch" => Task::Batch,
         _ => return None,
     };
     Some(Job::OnFiles {
