@@ -23,6 +23,7 @@ pub returns-in-Vcd : goal.returns-in-Vcd
 returns-in-Vcd g c =
     subst (λ (task : Task). Ends g.K.Sink.output g.K.Sink.faults (comes_of c.args.options task c.args.net.now c.args.text.now) c.args.out.now c.on_runs-in-Vcd.new.out c.on_runs-in-Vcd.result)
     (sym c.in-Vcd.is) c.on_runs-in-Vcd.ensures
+
 pub returns-in-Batch : goal.returns-in-Batch
 returns-in-Batch g c =
     subst (λ (task : Task). Ends g.K.Sink.output g.K.Sink.faults (comes_of c.args.options task c.args.net.now c.args.text.now) c.args.out.now c.on_patterns.new.out c.on_patterns.result)
