@@ -39,6 +39,7 @@ pub mod Netlists
 pub mod Second
 pub mod RunTexts
 pub mod Reports
+pub mod Splits
 pub mod Tasks
 pub mod Outcome
 pub mod Faultless

@@ -12,6 +12,7 @@
 //! | `reading_back` | a law on the runs that are printed: they replay |
 //! | `replaying` | the job `replay`: the runs of a run text, step by step |
 //! | `converting` | the job `convert`: a run text, written in version 2 |
+//! | `splitting` | the job `split`: two runs of a change that end in different stable states |
 //! | `verdict` | the line that `replay` writes |
 //! | `running` | the top call |
 #![tactic(auto)]
@@ -26,6 +27,7 @@ mod replaying;
 mod reporting;
 mod running;
 mod second;
+mod splitting;
 mod status;
 #[cfg(test)]
 mod tests;

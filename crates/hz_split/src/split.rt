@@ -1,0 +1,140 @@
+//! The search.
+ghost use Rattle.std.specs.Prelude.{◌≡◌, ◌<◌, ℕ, [], length, slice_index_or, Contains, IfOk};
+ghost use Rattle.hz_core.specs.declared.tri.Tri.TheVariants.{Unknown};
+ghost use Rattle.hz_net.specs.Network.{network_of};
+ghost use Rattle.hz_net.specs.Starts.{IsStableStart};
+ghost use Rattle.hz_desk.specs.Finding.{finding_of, values_b};
+ghost use Rattle.hz_desk.specs.RightFinding.{IsRightFinding};
+ghost use Rattle.hz_split.specs.Attempts.{runs_found, outcome_of};
+ghost use Rattle.hz_split.specs.Splits.{AreSettledRuns};
+
+use crate::flips::{make_run, make_step};
+use crate::found::Found;
+use crate::trial::{Pick, Trial};
+use hz_core::Memory;
+use hz_desk::Finding;
+use hz_gmw::Run;
+use hz_net::Net;
+use std::alloc::Global;
+use std::marker::Model;
+
+/// The most states of a cycle from which attempts go.
+const MAX_FRONTS: usize = 64;
+
+/// What a search found.
+#[derive(Clone, Copy, Debug, PartialEq, Eq)]
+pub enum Outcome {
+    /// No attempt stops at a stable state.
+    Nowhere,
+    /// Attempts stop, and all of them at the same stable state.
+    OneState,
+    /// Two attempts stop at different stable states, so which of the two comes depends on the delays: the race is critical.
+    Critical,
+}
+
+/// All the room that searches on one network take, and the runs that the last one found.
+///
+/// A search makes at most 128 attempts, each of at most two turns for each variable. A turn costs the variables that read the one
+/// that flips. Only `new` takes memory.
+#[derive(Debug, Drop)]
+pub struct Split<'n> {
+    trial: Trial<'n>,
+    // The state from which attempts go.
+    here: Vec<bool>,
+    found: Found,
+}
+
+impl<'n> Model for Split<'n> {
+    ghost use Rattle.hz_split.specs.Splits.{SplitOf};
+
+    ghost Value = { SplitOf };
+
+    ghost use Rattle.hz_split.specs.Inside.{split_of, HoldsSplit};
+
+    ghost view = { split_of };
+
+    ghost invariant = { HoldsSplit };
+}
+
+impl<'n> Split<'n> {
+    /// Room for searches on a network. No run is found.
+    pub fn new(alloc: Global, net: &'n Net) -> Result<Split<'n>, Memory>
+        ensures { IfOk result (λ split. split ≡ record { netlist = net.now; found = [] }) }
+    {
+        Ok(Split {
+            trial: Trial::new(alloc, net)?,
+            here: vec![in alloc; false; net.len() as usize]?,
+            found: Found::new(alloc, net.len())?,
+        })
+    }
+
+    /// Looks for two runs of a change that end in different stable states. The change leaves a variable unsettled, and the finding
+    /// is that of the change, from this start.
+    ///
+    /// Attempts go from the first 64 states of the finding's cycle. From each state there are two. In one the least unstable variable
+    /// flips in each turn, in the other the greatest. The search takes no memory.
+    pub fn search(&mut self, start: &[bool], finding: &Finding) -> Outcome
+        requires start { IsStableStart self.old.netlist start.now }
+        requires input { length finding.now.input ≡ self.old.netlist.inputs }
+        requires right { (cap : ℕ) × IsRightFinding (network_of self.old.netlist) finding.now.input start.now cap (finding_of finding.now) }
+        requires unsettled { Contains (values_b finding.now.rows) Unknown }
+        ensures netlist { self.new.netlist ≡ self.old.netlist }
+        ensures found { self.new.found ≡ runs_found (network_of self.old.netlist) start.now (finding_of finding.now) }
+        ensures outcome { result ≡ outcome_of self.new.found }
+        ensures runs { AreSettledRuns (network_of self.old.netlist) finding.now.input start.now self.new.found }
+    {
+        self.found.clear();
+        self.here.as_mut_slice().copy_from_slice(start);
+        make_run(self.here.as_mut_slice(), &finding.settle);
+        for front in 0..finding.cycle.steps().min(MAX_FRONTS) {
+            self.attempt(finding, front, Pick::Least);
+            self.attempt(finding, front, Pick::Greatest);
+            if self.found.count() == 2 {
+                return Outcome::Critical;
+            }
+            make_step(self.here.as_mut_slice(), finding.cycle.step(front));
+        }
+        self.outcome()
+    }
+
+    /// How many runs were found.
+    pub fn found(&self) -> usize
+        ensures { result ≡ length self.now.found }
+    {
+        self.found.count()
+    }
+
+    /// A run that was found, counted from 0.
+    pub fn run(&self, number: usize) -> &Run
+        requires { number < length self.now.found }
+        ensures { result.now.steps ≡ slice_index_or self.now.found number [] }
+    {
+        self.found.run(number)
+    }
+
+    // Makes an attempt from the state that the first steps of the cycle lead to, unless two runs are found. Keeps its run if it stops.
+    fn attempt(&mut self, finding: &Finding, front: usize, pick: Pick) {
+        if self.found.count() < 2
+            && self
+                .trial
+                .make(finding.input.as_slice(), self.here.as_slice(), pick)
+        {
+            self.found.add(
+                &finding.settle,
+                &finding.cycle,
+                front,
+                self.trial.turns(),
+                self.trial.state(),
+            );
+        }
+    }
+
+    // What the search found.
+    fn outcome(&self) -> Outcome {
+        match self.found.count() {
+            0 => Outcome::Nowhere,
+            1 => Outcome::OneState,
+            _ => Outcome::Critical,
+        }
+    }
+}
