@@ -7,7 +7,7 @@
 -- IsLowestIn words word place, IsHighestIn words word place: the first and the last bit of a word
 -- Summarises upper lower: a bit for each word that has a bit
 -- marks_of count words: of each number below a count whether its bit is set
--- HoldsNumberSet fields: what the code's NumberSet holds
+-- HoldsNumberSet count low middle top: what the code's NumberSet holds
 
 pub mod NumberSets
 pub mod Bits

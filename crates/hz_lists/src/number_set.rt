@@ -28,7 +28,7 @@ impl Model for NumberSet {
 
     ghost view = { λ set. marks_of set.count set.low.items };
 
-    ghost invariant = { HoldsNumberSet };
+    ghost invariant = { λ set. HoldsNumberSet set.count set.low.items set.middle.items set.top.items };
 }
 
 impl NumberSet {
@@ -60,11 +60,13 @@ impl NumberSet {
         requires { number < length self.old }
         ensures { self.new ≡ slice_set self.old number false }
     {
-        if clear_bit(self.low.as_mut_slice(), number)
-            && clear_bit(self.middle.as_mut_slice(), number / 64)
-        {
-            clear_bit(self.top.as_mut_slice(), number / 64 / 64);
+        if !clear_bit(self.low.as_mut_slice(), number) {
+            return;
         }
+        if !clear_bit(self.middle.as_mut_slice(), number / 64) {
+            return;
+        }
+        clear_bit(self.top.as_mut_slice(), number / 64 / 64);
     }
 
     /// The least number of the set.
