@@ -75,9 +75,10 @@ module _ (upper lower lower_after : List ℕ) (place bit : ℕ) (sums : Summaris
   pub Summarises-set : (upper_after : List ℕ) → bit ≡ 1 → IsTurned upper upper_after (place / 64) 1 → Summarises upper_after lower_after
   Summarises-set upper_after one above word =
       elim (cases_eq word (place / 64)) [
-        | inl same ↦
-            (λ none. absurd (omega (arith, above.here, rw same at none)),
-             λ none. absurd (omega (arith, one, is_turned.here, no-slot lower_after place (rw same at none))))
+        | inl same ↦ (
+          λ none. absurd (omega (arith, above.here, rw same at none)),
+          λ none. absurd (omega (arith, one, is_turned.here, no-slot lower_after place (rw same at none))),
+        )
         | inr apart ↦ rw (above.others word apart, is_turned.apart word apart) (sums word)
       ]
 
@@ -93,9 +94,10 @@ module _ (upper lower lower_after : List ℕ) (place bit : ℕ) (sums : Summaris
   pub Summarises-kept : (get_or lower (place / 64) 0 ≡ 0 → get_or lower_after (place / 64) 0 ≡ 0) → get_or lower_after (place / 64) 0 ≢ 0 → Summarises upper lower_after
   Summarises-kept stays some word =
       elim (cases_eq word (place / 64)) [
-        | inl same ↦
-            (λ none. absurd (some (stays ((sums (place / 64)).0 (rw same at none)))),
-             λ none. absurd (some (rw same at none)))
+        | inl same ↦ (
+          λ none. absurd (some (stays ((sums (place / 64)).0 (rw same at none)))),
+          λ none. absurd (some (rw same at none)),
+        )
         | inr apart ↦ rw (is_turned.apart word apart) (sums word)
       ]
 

@@ -1,8 +1,8 @@
 -- Sets of numbers: their marks by the bits of words, and their least and greatest members.
-use Rattle.std.proofs.Common.{◌≡◌, ◌≢◌, ◌∙◌, ℕ, zero, suc, ◌+◌, ◌/◌, ◌<◌, ◌≤◌, Bool, true, false, List, [], ◌∷◌, length, get_or, set, map, replicate, nat_eq, Option, Some, None, inl, inr, refl, sym, ap, arith, rules, length-set, get_or-set_same, get_or-set_other}
+use Rattle.std.proofs.Common.{◌≡◌, ◌≢◌, ◌∙◌, ℕ, zero, suc, ◌+◌, ◌/◌, ◌<◌, ◌≤◌, Bool, true, false, List, [], ◌∷◌, length, get_or, set, map, replicate, nat_eq, Option, Some, None, IsTrue, ◌↔◌, inl, inr, refl, sym, ap, arith, rules, length-set, get_or-set_same, get_or-set_other}
 use Rattle.std.specs.List.{range_with_len}
 use Rattle.std.specs.Option.{option_map}
-use Rattle.std.proofs.lemmas.Bool.{cases_eq, cases_lt}
+use Rattle.std.proofs.lemmas.Bool.{cases_eq, cases_lt, false≢true}
 use Rattle.std.proofs.lemmas.List.{get_or-replicate, length-replicate, get_or_past}
 use Rattle.std.proofs.lemmas.List.FromFn.{get_or-map-range_with_len, length-map-range_with_len, fill_by_all}
 use Rattle.hz_lists.specs.Bits.{slot_bit, IsTurned, Summarises}
@@ -105,9 +105,9 @@ pub holds-none : (count : ℕ) (low middle top : List ℕ) → count ≤ 262144 
     → HoldsNumberSet count low middle top
 holds-none count low middle top few low_is middle_is top_is = record {
   few = few;
-  low_long = ap (length {A = ℕ}) low_is ∙ length-replicate (count / 64 + 1) 0;
-  middle_long = ap (length {A = ℕ}) middle_is ∙ length-replicate (count / 64 / 64 + 1) 0;
-  top_long = ap (length {A = ℕ}) top_is ∙ length-replicate 1 0;
+  low_long = ap (length {A = ℕ}) low_is ∙ length-replicate {A = ℕ} (count / 64 + 1) 0;
+  middle_long = ap (length {A = ℕ}) middle_is ∙ length-replicate {A = ℕ} (count / 64 / 64 + 1) 0;
+  top_long = ap (length {A = ℕ}) top_is ∙ length-replicate {A = ℕ} 1 0;
   of_low = λ word. (λ is. rw low_is (zero-at (count / 64 + 1) word), λ is. rw middle_is (no-slots (count / 64 / 64 + 1) word));
   of_middle = λ word. (λ is. rw middle_is (zero-at (count / 64 / 64 + 1) word), λ is. rw top_is (no-slots 1 word));
   below = λ number is. absurd (omega (arith, is, rw (← low_is) at (no-slots (count / 64 + 1) number)));
@@ -208,6 +208,13 @@ module _ (count : ℕ) (low middle top : List ℕ) (holds : HoldsNumberSet count
         } in
         greatest-slot count low place (holds.below place in_low.set)
         (last-below middle low holds.of_low second place (last-below top middle holds.of_middle first second slot in_middle) in_low)
+
+-- what a test of a word says
+pub no-word : {empty : Bool} {word : ℕ} → IsTrue empty ↔ (word ≡ 0) → empty ≡ true → word ≡ 0
+no-word iff is = iff.0 is
+
+pub some-word : {empty : Bool} {word : ℕ} → IsTrue empty ↔ (word ≡ 0) → empty ≡ false → word ≢ 0
+some-word iff is none = absurd (false≢true (sym is ∙ iff.1 none))
 
 -- the word of a bit has one
 pub has-bit : (upper lower : List ℕ) (word : ℕ) → Summarises upper lower → slot_bit upper word ≡ 1 → get_or lower word 0 ≢ 0

@@ -93,24 +93,3 @@ impl NumberSet {
         Some(highest_in(self.low.as_slice(), middle))
     }
 }
-
-#[cfg(test)]
-mod tests {
-    use super::*;
-    use std::test::Fail;
-
-    #[test]
-    fn finds_the_least_and_the_greatest(rt: HostRuntime) -> Result<(), Fail> {
-        let mut set = NumberSet::new(rt.alloc(), 262144)?;
-        assert_eq!(rt; set.least(), None);
-        for number in [70000, 262143, 0, 64, 4096] {
-            set.insert(number);
-        }
-        assert_eq!(rt; (set.least(), set.greatest()), (Some(0), Some(262143)));
-        for number in [0, 262143, 64, 1] {
-            set.remove(number);
-        }
-        assert_eq!(rt; (set.least(), set.greatest()), (Some(4096), Some(70000)));
-        Ok(())
-    }
-}

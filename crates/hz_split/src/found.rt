@@ -73,7 +73,14 @@ impl Found {
 
     // Adds a run that ends in a state: the first one, or a second one if it ends in another state than the first. The run has
     // the steps of `settle`, so many of `cycle`, and then one for each turn.
-    pub(crate) fn add(&mut self, settle: &Run, cycle: &Run, front: usize, turns: &[u32], state: &[bool])
+    pub(crate) fn add(
+        &mut self,
+        settle: &Run,
+        cycle: &Run,
+        front: usize,
+        turns: &[u32],
+        state: &[bool],
+    )
         requires room { HasRoomFor self.old.variables settle.now.steps cycle.now.steps front turns.now }
         requires state { length state.now ≡ self.old.variables }
         ensures runs { self.new ≡ with_run self.old (settle.now.steps ++ take front cycle.now.steps ++ flips_alone turns.now) state.now }

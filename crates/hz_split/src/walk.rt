@@ -122,13 +122,7 @@ fn look_at(net: &Net, input: &[bool], state: &[bool], var: u32, unstable: &mut N
 }
 
 // Looks at listed variables.
-fn look_at_each(
-    net: &Net,
-    input: &[bool],
-    state: &[bool],
-    list: &[u32],
-    unstable: &mut NumberSet,
-)
+fn look_at_each(net: &Net, input: &[bool], state: &[bool], list: &[u32], unstable: &mut NumberSet)
     requires input { length input.now ≡ net.now.inputs }
     requires state { length state.now ≡ length (network_of net.now) }
     requires list { All (λ var. var < length (network_of net.now)) list.now }

@@ -96,7 +96,11 @@ fn split<K: Sink>(
 fn is_unsettled(finding: &Finding) -> bool
     ensures { result ≡ is_unsettled (finding_of finding.now) }
 {
-    finding.rows.values_b().iter().any(|value| value.bit().is_none())
+    finding
+        .rows
+        .values_b()
+        .iter()
+        .any(|value| value.bit().is_none())
 }
 
 // Looks for two runs of a change, and writes what is found.
@@ -170,12 +174,7 @@ fn outcome_word(outcome: Outcome) -> &'static [u8]
 }
 
 // Gives the runs that were found, each with a cycle without a step.
-fn write_found<K: Sink>(
-    writer: &mut Writer<'_, K>,
-    net: &Net,
-    split: &Split<'_>,
-    no_step: &Run,
-)
+fn write_found<K: Sink>(writer: &mut Writer<'_, K>, net: &Net, split: &Split<'_>, no_step: &Run)
     requires no_step { no_step.now.steps ≡ [] }
     ensures gave { Writes K.output K.faults (flat_map (run_text net.now) (map closed split.now.found)) writer.old writer.new }
     ensures none_waits { NoneWaits writer.new }

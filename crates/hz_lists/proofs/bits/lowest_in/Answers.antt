@@ -1,4 +1,4 @@
-use Rattle.std.proofs.Common.{arith, rules}
+use Rattle.std.proofs.Common.{rules}
 use Rattle.hz_lists.proofs.BitLemmas.{lowest}
 use Rattle.hz_lists.proofs.bits.lowest_in.Goals as goal
 

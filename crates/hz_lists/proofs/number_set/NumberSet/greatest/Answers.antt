@@ -1,7 +1,7 @@
 -- The greatest member, by the bits of the words.
-use Rattle.std.proofs.Common.{◌≡◌, ◌∙◌, sym, ap, List, Bool, rules, arith}
+use Rattle.std.proofs.Common.{◌∙◌, sym, ap, rules}
 use Rattle.hz_lists.specs.NumberSets.{greatest_of}
-use Rattle.hz_lists.proofs.SetLemmas.{none-greatest, found-greatest, has-bit}
+use Rattle.hz_lists.proofs.SetLemmas.{none-greatest, found-greatest}
 use Rattle.hz_lists.proofs.number_set.NumberSet.greatest.Goals as goal
 
 pub returns-then-index-eq0 : goal.returns-then-index-eq0

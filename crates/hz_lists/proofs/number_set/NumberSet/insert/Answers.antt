@@ -1,9 +1,8 @@
 -- The bit of the number is set, and those of its words.
-use Rattle.std.proofs.Common.{◌≡◌, ◌∙◌, ◌<◌, ◌/◌, ℕ, List, Bool, true, set, ap, arith, rules}
+use Rattle.std.proofs.Common.{◌≡◌, ◌∙◌, List, Bool, true, set, ap, arith}
 use Rattle.std.specs.Vec.{with_items}
 use Rattle.std.proofs.lemmas.List.{with_items_is}
-use Rattle.hz_lists.specs.Bits.{IsTurned}
-use Rattle.hz_lists.specs.Inside.{marks_of, HoldsNumberSet}
+use Rattle.hz_lists.specs.Inside.{marks_of}
 use Rattle.hz_lists.proofs.SetLemmas.{below-count, holds-set, marks-turned}
 use Rattle.hz_lists.proofs.number_set.NumberSet.insert.Goals as goal
 

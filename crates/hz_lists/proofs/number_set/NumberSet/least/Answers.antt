@@ -1,7 +1,7 @@
 -- The least member, by the bits of the words.
-use Rattle.std.proofs.Common.{◌≡◌, ◌∙◌, sym, ap, List, Bool, rules, arith}
+use Rattle.std.proofs.Common.{◌∙◌, sym, ap, rules}
 use Rattle.hz_lists.specs.NumberSets.{least_of}
-use Rattle.hz_lists.proofs.SetLemmas.{none-least, found-least, has-bit}
+use Rattle.hz_lists.proofs.SetLemmas.{none-least, found-least}
 use Rattle.hz_lists.proofs.number_set.NumberSet.least.Goals as goal
 
 pub returns-then-index-eq0 : goal.returns-then-index-eq0

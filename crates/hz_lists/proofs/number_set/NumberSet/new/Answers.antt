@@ -1,5 +1,5 @@
 -- No bit is set.
-use Rattle.std.proofs.Common.{◌≡◌, ◌∙◌, ap, ℕ, ◌+◌, ◌/◌, rules}
+use Rattle.std.proofs.Common.{◌≡◌, ◌∙◌, ap, ◌+◌, ◌/◌, rules}
 use Rattle.hz_lists.specs.Inside.{marks_of}
 use Rattle.hz_lists.proofs.BitLemmas.{no_words, no-slots}
 use Rattle.hz_lists.proofs.SetLemmas.{holds-none, no-marks}
