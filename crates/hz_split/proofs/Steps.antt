@@ -1,9 +1,12 @@
 -- Steps one after the other.
-use Rattle.std.proofs.Common.{◌≡◌, ◌∙◌, ℕ, suc, ◌+◌, ◌<◌, ◌≤◌, Bool, List, [], ◌∷◌, length, take, drop, get_or, map, All, refl, sym, ap, arith}
+use Rattle.std.proofs.Common.{◌≡◌, ◌∙◌, ℕ, suc, ◌+◌, ◌<◌, ◌≤◌, Bool, List, [], ◌∷◌, ◌++◌, length, take, drop, get_or, map, All, refl, sym, ap, arith}
 use Rattle.std.proofs.Math.Seq.{drop-cons}
 use Rattle.std.proofs.lemmas.List.{drop_all}
 use Rattle.std.proofs.lemmas.List.Elements.{All-get_or}
+use Rattle.std.proofs.lemmas.List.Sums.{sum_by-cons, sum_by-append}
+use Rattle.hz_gmw.specs.RunRecord.{flip_count}
 use Rattle.hz_gmw.specs.Runs.{state_after, end_of}
+use Rattle.hz_split.specs.Attempts.{flips_alone}
 use Rattle.hz_gmw.proofs.Flips.{length-state_after}
 
 -- the next step, and the steps after it
@@ -28,3 +31,15 @@ made-more steps first state next number flips below is made so_far = record {
 pub made-all : (steps : List (List ℕ)) (first state : List Bool) (number : ℕ) → length steps ≤ number → IsMadeSoFar steps first state number → state ≡ end_of first steps
 made-all steps first state number end so_far =
     ap (λ (rest : List (List ℕ)). end_of state rest) (sym (drop_all number steps end)) ∙ so_far.ends
+
+-- the steps of turns have a flip each
+pub flips-of-turns : (turns : List ℕ) → flip_count (flips_alone turns) ≡ length turns
+flips-of-turns [] = refl
+flips-of-turns (var ∷ turns) = omega (arith, sum_by-cons (length {A = ℕ}) (var ∷ []) (flips_alone turns), flips-of-turns turns)
+
+-- the flips of a run in three parts
+pub flips-of-parts : (run first second : List (List ℕ)) (turns : List ℕ) (before : List (List ℕ)) → before ≡ first ++ second → run ≡ before ++ flips_alone turns → flip_count run ≡ flip_count first + flip_count second + length turns
+flips-of-parts run first second turns before is whole =
+    let all : flip_count run ≡ flip_count before + flip_count (flips_alone turns) = ap flip_count whole ∙ sum_by-append (length {A = ℕ}) before (flips_alone turns) in
+    let two : flip_count before ≡ flip_count first + flip_count second = ap flip_count is ∙ sum_by-append (length {A = ℕ}) first second in
+    omega (arith, all, two, flips-of-turns turns)

@@ -69,3 +69,17 @@ flipped netlist input state marks var circuit inside are =
           ∙ (at-unstable_variables net input state i within
           ∙ sym (is_unstable-state_after netlist input state (var ∷ []) i circuit (ap (λ (list : List ℕ). is_listed list i) (append-nil around) ∙ apart))))
     ])
+
+pub long-marks : (net : List Driver) (input state marks : List Bool) → marks ≡ unstable_variables net input state → length marks ≡ length net
+long-marks net input state marks are = ap (length {A = Bool}) are ∙ length-map-range_with_len (is_unstable net input state) 0 (length net)
+
+-- the same, as the code does it: the variable first, then its readers
+pub flip-marks : (netlist : Netlist) (input state next marks first last : List Bool) (var : ℕ) (readers : List ℕ) → IsCircuit netlist → var < length (network_of netlist) → marks ≡ unstable_variables (network_of netlist) input state
+    → next ≡ state_after (var ∷ []) state → first ≡ set marks var (is_unstable (network_of netlist) input next var) → readers ≡ readers_of netlist var → last ≡ with_looks (network_of netlist) input next first readers
+    → last ≡ unstable_variables (network_of netlist) input next
+flip-marks netlist input state next marks first last var readers circuit inside are is_next is_first is_readers is_last =
+    let net = network_of netlist in
+    let whole : with_looks net input next first readers ≡ with_looks net input next marks (with_readers netlist var) =
+    ap (λ (list : List Bool). with_looks net input next list readers) is_first
+    ∙ ap (λ (list : List ℕ). with_looks net input next (set marks var (is_unstable net input next var)) list) is_readers in
+    is_last ∙ (whole ∙ subst (λ (s : List Bool). with_looks net input s marks (with_readers netlist var) ≡ unstable_variables net input s) (sym is_next) (flipped netlist input state marks var circuit inside are))

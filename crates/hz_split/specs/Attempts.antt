@@ -1,5 +1,5 @@
 -- Attempts: runs of a change that leaves a variable unsettled, which may end in a stable state.
-use Rattle.std.specs.Prelude.{ℕ, zero, suc, ◌*◌, Bool, true, not, List, [], ◌∷◌, ◌++◌, length, map, take, Option, Some, None, min, filter, nat_eq}
+use Rattle.std.specs.Prelude.{ℕ, zero, suc, ◌*◌, Bool, true, not, List, [], ◌∷◌, ◌++◌, length, map, take, Option, Some, None, min, filter, nat_eq, if◌then◌else◌}
 use Rattle.std.specs.Bool.{beq}
 use Rattle.std.specs.List.{range_with_len, flat_map}
 use Rattle.hz_lists.specs.NumberSets.{least_of, greatest_of}
@@ -7,10 +7,10 @@ use Rattle.hz_net.specs.Network.{Driver}
 use Rattle.hz_gmw.specs.Runs.{state_after, end_of}
 use Rattle.hz_gmw.specs.Instability.{unstable_variables, unstable_count}
 use Rattle.hz_desk.specs.Finding.{FindingOf}
-use Rattle.hz_split.specs.declared.split.Outcome.{Outcome}
-use Rattle.hz_split.specs.declared.split.Outcome.TheVariants.{Nowhere, OneState, Critical}
-use Rattle.hz_split.specs.declared.trial.Pick.{Pick}
-use Rattle.hz_split.specs.declared.trial.Pick.TheVariants.{Least, Greatest}
+use Rattle.hz_split.specs.declared.outcome.Outcome.{Outcome}
+use Rattle.hz_split.specs.declared.outcome.Outcome.TheVariants.{Nowhere, OneState, Critical}
+use Rattle.hz_split.specs.declared.pick.Pick.{Pick}
+use Rattle.hz_split.specs.declared.pick.Pick.TheVariants.{Least, Greatest}
 
 -- the least or the greatest marked variable
 abbrev pub picked : Pick → List Bool → Option ℕ

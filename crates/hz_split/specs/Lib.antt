@@ -11,9 +11,17 @@
 -- IsSettledRun net input start run, AreSettledRuns net input start runs: what holds of runs that are found
 -- SplitOf: a circuit, and the runs that are found
 -- with_looks net input state marks list: marks after a look at listed variables
+-- TrialOf: the last attempt; FoundOf: the runs that are found so far
+-- with_run found run state: these runs with one more
+-- HasRoomFor variables settle cycle front turns: a run fits into the room
 -- walk_of, trial_of, found_of, split_of, and HoldsWalk, HoldsTrial, HoldsFound, HoldsSplit: what the code's structs hold
 
 pub mod Attempts
 pub mod Splits
 pub mod Walks
-pub mod Inside
+pub mod Trials
+pub mod FoundRuns
+pub mod InsideWalk
+pub mod InsideTrial
+pub mod InsideFound
+pub mod InsideSplit

@@ -1,8 +1,8 @@
 //! The runs that are found.
 ghost use Rattle.std.specs.Prelude.{◌≡◌, ◌+◌, ◌*◌, ◌<◌, ◌≤◌, ◌++◌, [], length, take, slice_index_or, IfOk};
 ghost use Rattle.hz_gmw.specs.RunRecord.{flip_count};
-ghost use Rattle.hz_split.specs.Attempts.{flips_alone, most_fronts};
-ghost use Rattle.hz_split.specs.Inside.{with_run, HasRoomFor};
+ghost use Rattle.hz_split.specs.Attempts.{flips_alone};
+ghost use Rattle.hz_split.specs.FoundRuns.{with_run, HasRoomFor};
 
 use hz_core::Memory;
 use hz_gmw::Run;
@@ -19,9 +19,11 @@ pub(crate) struct Found {
 }
 
 impl Model for Found {
-    ghost use Rattle.hz_split.specs.Inside.{FoundOf, found_of, HoldsFound};
+    ghost use Rattle.hz_split.specs.FoundRuns.{FoundOf};
 
     ghost Value = { FoundOf };
+
+    ghost use Rattle.hz_split.specs.InsideFound.{found_of, HoldsFound};
 
     ghost view = { found_of };
 

@@ -10,7 +10,9 @@ ghost use Rattle.hz_split.specs.Splits.{AreSettledRuns};
 
 use crate::flips::{make_run, make_step};
 use crate::found::Found;
-use crate::trial::{Pick, Trial};
+use crate::outcome::Outcome;
+use crate::pick::Pick;
+use crate::trial::Trial;
 use hz_core::Memory;
 use hz_desk::Finding;
 use hz_gmw::Run;
@@ -20,17 +22,6 @@ use std::marker::Model;
 
 /// The most states of a cycle from which attempts go.
 const MAX_FRONTS: usize = 64;
-
-/// What a search found.
-#[derive(Clone, Copy, Debug, PartialEq, Eq)]
-pub enum Outcome {
-    /// No attempt stops at a stable state.
-    Nowhere,
-    /// Attempts stop, and all of them at the same stable state.
-    OneState,
-    /// Two attempts stop at different stable states, so which of the two comes depends on the delays: the race is critical.
-    Critical,
-}
 
 /// All the room that searches on one network take, and the runs that the last one found.
 ///
@@ -49,7 +40,7 @@ impl<'n> Model for Split<'n> {
 
     ghost Value = { SplitOf };
 
-    ghost use Rattle.hz_split.specs.Inside.{split_of, HoldsSplit};
+    ghost use Rattle.hz_split.specs.InsideSplit.{split_of, HoldsSplit};
 
     ghost view = { split_of };
 

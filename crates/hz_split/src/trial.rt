@@ -1,22 +1,15 @@
 //! One attempt: from a state, one unstable variable flips in each turn.
 ghost use Rattle.std.specs.Prelude.{◌≡◌, ◌<◌, ◌*◌, length, IfOk};
-ghost use Rattle.hz_core.specs.Netlist.{Netlist};
 ghost use Rattle.hz_net.specs.Network.{network_of};
 ghost use Rattle.hz_gmw.specs.Runs.{end_of};
-ghost use Rattle.hz_split.specs.Attempts.{turns_from, turns_after, flips_alone, is_settled};
+ghost use Rattle.hz_split.specs.Attempts.{turns_from, flips_alone, is_settled};
 
+use crate::pick::Pick;
 use crate::walk::Walk;
 use hz_core::Memory;
 use hz_net::Net;
 use std::alloc::Global;
 use std::marker::Model;
-
-/// Which of the unstable variables flips in a turn.
-#[derive(Clone, Copy, Debug)]
-pub(crate) enum Pick {
-    Least,
-    Greatest,
-}
 
 // Room for an attempt, and the last one: the variables that flipped, one in each turn, and the state after them.
 #[derive(Debug, Drop)]
@@ -27,9 +20,11 @@ pub(crate) struct Trial<'n> {
 }
 
 impl<'n> Model for Trial<'n> {
-    ghost use Rattle.hz_split.specs.Inside.{TrialOf, trial_of, HoldsTrial};
+    ghost use Rattle.hz_split.specs.Trials.{TrialOf};
 
     ghost Value = { TrialOf };
+
+    ghost use Rattle.hz_split.specs.InsideTrial.{trial_of, HoldsTrial};
 
     ghost view = { trial_of };
 

@@ -1,16 +1,15 @@
 //! A state of a network under an input, with its unstable variables in order.
 ghost use Rattle.std.specs.Prelude.{◌≡◌, ◌<◌, ◌∷◌, [], false, length, replicate, slice_set, All, IfOk};
-ghost use Rattle.hz_core.specs.Netlist.{IsCircuit};
 ghost use Rattle.hz_net.specs.Network.{network_of};
 ghost use Rattle.hz_gmw.specs.Instability.{is_unstable, unstable_variables};
 ghost use Rattle.hz_gmw.specs.Follower.{follower_at, follower_after};
 ghost use Rattle.hz_split.specs.Attempts.{picked};
 ghost use Rattle.hz_split.specs.Walks.{with_looks};
 
-use crate::trial::Pick;
+use crate::pick::Pick;
 use hz_core::Memory;
 use hz_lists::NumberSet;
-use hz_net::{Net, network_is_wired, values_read_decide};
+use hz_net::Net;
 use std::alloc::Global;
 use std::marker::Model;
 
@@ -29,7 +28,7 @@ impl<'n> Model for Walk<'n> {
 
     ghost Value = { FollowerOf };
 
-    ghost use Rattle.hz_split.specs.Inside.{walk_of, HoldsWalk};
+    ghost use Rattle.hz_split.specs.InsideWalk.{walk_of, HoldsWalk};
 
     ghost view = { walk_of };
 
@@ -69,8 +68,8 @@ impl<'n> Walk<'n> {
         requires { var < length (network_of self.old.circuit) }
         ensures { self.new ≡ follower_after self.old (var ∷ []) }
     {
-        network_is_wired();
-        values_read_decide();
+        // A getter of the network says that its circuit is one.
+        let _variables = self.net.len();
         self.state[var as usize] = !self.state[var as usize];
         look_at(
             self.net,

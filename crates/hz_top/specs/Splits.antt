@@ -10,8 +10,8 @@ use Rattle.hz_desk.specs.Finding.{FindingOf, values_b}
 use Rattle.hz_seq.specs.Analyses.{Analysis, Found, Stopped, AreAnalyses}
 use Rattle.hz_split.specs.Attempts.{runs_found, outcome_of}
 use Rattle.hz_split.specs.Splits.{AreSettledRuns}
-use Rattle.hz_split.specs.declared.split.Outcome.{Outcome}
-use Rattle.hz_split.specs.declared.split.Outcome.TheVariants.{Nowhere, OneState, Critical}
+use Rattle.hz_split.specs.declared.outcome.Outcome.{Outcome}
+use Rattle.hz_split.specs.declared.outcome.Outcome.TheVariants.{Nowhere, OneState, Critical}
 use Rattle.hz_text.specs.Limits.{most_steps}
 use Rattle.hz_text.specs.RunPrinted.{run_text_printed}
 use Rattle.hz_text.specs.RunValue.{RunOf, RunTextOf, all_steps}

@@ -1,0 +1,29 @@
+-- The runs that are found so far, and the room for more. Words about the inside of hz_split.
+use Rattle.std.specs.Prelude.{ℕ, ◌*◌, ◌≤◌, Bool, List, [], ◌∷◌, length, if◌then◌else◌}
+use Rattle.hz_gmw.specs.RunRecord.{flip_count}
+use Rattle.hz_split.specs.Attempts.{is_other, most_fronts}
+
+-- the runs that are found on a network of so many variables, and the state in which the first one ends
+pub record FoundOf : Type 0 where
+  pub variables : ℕ
+  pub runs : List (List (List ℕ))
+  pub ending : List Bool
+
+-- these runs with one more, which ends in a state: the first one, or a second one if it ends elsewhere
+abbrev pub found_with : FoundOf → List (List (List ℕ)) → List (List ℕ) → List Bool → FoundOf
+found_with found [] run state = record found { runs = run ∷ []; ending = state }
+found_with found (first ∷ []) run state =
+    if is_other found.ending state then record found { runs = first ∷ run ∷ [] } else found
+found_with found (first ∷ second ∷ runs) run state = found
+
+abbrev pub with_run : FoundOf → List (List ℕ) → List Bool → FoundOf
+with_run found run state = found_with found found.runs run state
+
+-- a run fits: it has few steps, and few flips in them
+pub record HasRoomFor (variables : ℕ) (settle cycle : List (List ℕ)) (front : ℕ) (turns : List ℕ) : Type 0 where
+  pub inside : front ≤ length cycle
+  pub few_fronts : front ≤ most_fronts
+  pub settle_flips : flip_count settle ≤ 2 * variables
+  pub settle_steps : length settle ≤ 2 * variables
+  pub cycle_flips : flip_count cycle ≤ 4 * variables
+  pub few_turns : length turns ≤ 2 * variables
