@@ -4,7 +4,7 @@ use Rattle.std.specs.Prelude.{count_by, nat_eq}
 use Rattle.std.specs.List.{range_with_len}
 use Rattle.std.proofs.lemmas.Bool.{false≢true, eqb-true, ne_eqb}
 use Rattle.std.proofs.lemmas.List.{length-append, append-nil, append_assoc, map-append}
-use Rattle.std.specs.Option.{is_none, option_map}
+use Rattle.std.specs.Option.{is_none, is_some, option_map}
 use Rattle.std.proofs.lemmas.List.Sums.{sum_by-cons}
 use Rattle.std.proofs.lemmas.List.FromFn.{length-map-range_with_len}
 use Rattle.hz_net.specs.Network.{Driver, bit_at, IsUnstable, IsStable}
@@ -144,3 +144,10 @@ none-greatest (false ∷ marks) = none-last-false (greatest_of marks) ∙ (none-
 pub picked-settled : (net : List Driver) (input state : List Bool) (pick : Pick) → is_none (picked pick (unstable_variables net input state)) ≡ is_settled net input state
 picked-settled net input state Least = none-least (unstable_variables net input state)
 picked-settled net input state Greatest = none-greatest (unstable_variables net input state)
+
+-- what a test for nothing says
+pub none-from : (found : Option ℕ) (none : Bool) → is_some found ≡ not none → none ≡ is_none found
+none-from None true is = refl
+none-from None false is = absurd (false≢true is)
+none-from (Some number) true is = absurd (false≢true (sym is))
+none-from (Some number) false is = refl

@@ -1,3 +1,4 @@
 mod Steps
 mod WalkLemmas
 mod AttemptLemmas
+mod FoundLemmas

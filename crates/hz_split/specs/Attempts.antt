@@ -1,7 +1,8 @@
 -- Attempts: runs of a change that leaves a variable unsettled, which may end in a stable state.
-use Rattle.std.specs.Prelude.{ℕ, zero, suc, ◌*◌, Bool, true, not, List, [], ◌∷◌, ◌++◌, length, map, take, Option, Some, None, min, filter, nat_eq, if◌then◌else◌}
+use Rattle.std.specs.Prelude.{ℕ, zero, suc, ◌*◌, Bool, not, List, [], ◌∷◌, ◌++◌, length, map, take, Option, Some, None, min, filter, nat_eq}
 use Rattle.std.specs.Bool.{beq}
 use Rattle.std.specs.List.{range_with_len, flat_map}
+use lib.Pointwise.{pointwise}
 use Rattle.hz_lists.specs.NumberSets.{least_of, greatest_of}
 use Rattle.hz_net.specs.Network.{Driver}
 use Rattle.hz_gmw.specs.Runs.{state_after, end_of}
@@ -58,10 +59,7 @@ is_settled net input state = nat_eq (unstable_count net input state) 0
 
 -- whether two states differ at some variable
 abbrev pub is_other : List Bool → List Bool → Bool
-is_other [] [] = not true
-is_other [] (bit ∷ bits) = true
-is_other (bit ∷ bits) [] = true
-is_other (bit ∷ bits) (also ∷ others) = if beq bit also then is_other bits others else true
+is_other state other = not (pointwise beq state other)
 
 -- of runs the first, and the first later one that ends in another state
 abbrev pub first_and_other : List Bool → List (List (List ℕ)) → List (List (List ℕ))

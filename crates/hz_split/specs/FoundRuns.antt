@@ -1,7 +1,10 @@
 -- The runs that are found so far, and the room for more. Words about the inside of hz_split.
-use Rattle.std.specs.Prelude.{ℕ, ◌*◌, ◌≤◌, Bool, List, [], ◌∷◌, length, if◌then◌else◌}
+use Rattle.std.specs.Prelude.{ℕ, ◌*◌, ◌≤◌, Bool, List, [], ◌∷◌, ◌++◌, length, if◌then◌else◌}
 use Rattle.hz_gmw.specs.RunRecord.{flip_count}
-use Rattle.hz_split.specs.Attempts.{is_other, most_fronts}
+use Rattle.hz_gmw.specs.Runs.{end_of}
+use Rattle.hz_net.specs.Network.{Driver}
+use Rattle.hz_split.specs.Attempts.{is_other, is_settled, turns_from, flips_alone, most_fronts}
+use Rattle.hz_split.specs.declared.pick.Pick.{Pick}
 
 -- the runs that are found on a network of so many variables, and the state in which the first one ends
 pub record FoundOf : Type 0 where
@@ -18,6 +21,16 @@ found_with found (first ∷ second ∷ runs) run state = found
 
 abbrev pub with_run : FoundOf → List (List ℕ) → List Bool → FoundOf
 with_run found run state = found_with found found.runs run state
+
+-- these runs after the turns of an attempt from a state: with its run, if the attempt stops at a stable state
+abbrev pub with_turns : List Driver → List Bool → List (List ℕ) → List Bool → List (List ℕ) → FoundOf → FoundOf
+with_turns net input front here turns found =
+    if is_settled net input (end_of here turns) then with_run found (front ++ turns) (end_of here turns) else found
+
+-- these runs after an attempt from the state in which its first steps end
+abbrev pub with_attempt : List Driver → List Bool → Pick → List (List ℕ) → List Bool → FoundOf → FoundOf
+with_attempt net input pick front here found =
+    with_turns net input front here (flips_alone (turns_from net input pick (2 * length net) here)) found
 
 -- a run fits: it has few steps, and few flips in them
 pub record HasRoomFor (variables : ℕ) (settle cycle : List (List ℕ)) (front : ℕ) (turns : List ℕ) : Type 0 where

@@ -1,11 +1,12 @@
 //! The search.
-ghost use Rattle.std.specs.Prelude.{◌≡◌, ◌<◌, ℕ, [], length, slice_index_or, Contains, IfOk};
+ghost use Rattle.std.specs.Prelude.{◌≡◌, ◌<◌, ◌++◌, ℕ, [], length, take, slice_index_or, Contains, IfOk};
 ghost use Rattle.hz_core.specs.declared.tri.Tri.TheVariants.{Unknown};
 ghost use Rattle.hz_net.specs.Network.{network_of};
 ghost use Rattle.hz_net.specs.Starts.{IsStableStart};
 ghost use Rattle.hz_desk.specs.Finding.{finding_of, values_b};
 ghost use Rattle.hz_desk.specs.RightFinding.{IsRightFinding};
 ghost use Rattle.hz_split.specs.Attempts.{runs_found, outcome_of};
+ghost use Rattle.hz_split.specs.FoundRuns.{HasRoomFor, with_attempt};
 ghost use Rattle.hz_split.specs.Splits.{AreSettledRuns};
 
 use crate::flips::{make_run, make_step};
@@ -78,8 +79,22 @@ impl<'n> Split<'n> {
         self.here.as_mut_slice().copy_from_slice(start);
         make_run(self.here.as_mut_slice(), &finding.settle);
         for front in 0..finding.cycle.steps().min(MAX_FRONTS) {
-            self.attempt(finding, front, Pick::Least);
-            self.attempt(finding, front, Pick::Greatest);
+            attempt(
+                &mut self.trial,
+                finding,
+                self.here.as_slice(),
+                front,
+                Pick::Least,
+                &mut self.found,
+            );
+            attempt(
+                &mut self.trial,
+                finding,
+                self.here.as_slice(),
+                front,
+                Pick::Greatest,
+                &mut self.found,
+            );
             if self.found.count() == 2 {
                 return Outcome::Critical;
             }
@@ -103,29 +118,42 @@ impl<'n> Split<'n> {
         self.found.run(number)
     }
 
-    // Makes an attempt from the state that the first steps of the cycle lead to, unless two runs are found. Keeps its run if it stops.
-    fn attempt(&mut self, finding: &Finding, front: usize, pick: Pick) {
-        if self.found.count() < 2
-            && self
-                .trial
-                .make(finding.input.as_slice(), self.here.as_slice(), pick)
-        {
-            self.found.add(
-                &finding.settle,
-                &finding.cycle,
-                front,
-                self.trial.turns(),
-                self.trial.state(),
-            );
-        }
-    }
-
     // What the search found.
-    fn outcome(&self) -> Outcome {
+    fn outcome(&self) -> Outcome
+        ensures { result ≡ outcome_of self.now.found }
+    {
         match self.found.count() {
             0 => Outcome::Nowhere,
             1 => Outcome::OneState,
             _ => Outcome::Critical,
         }
+    }
+}
+
+// Makes an attempt from the state to which the settle run and the first steps of the cycle lead. Adds its run, if it stops at a stable
+// state.
+fn attempt(
+    trial: &mut Trial<'_>,
+    finding: &Finding,
+    here: &[bool],
+    front: usize,
+    pick: Pick,
+    found: &mut Found,
+)
+    requires input { length finding.now.input ≡ trial.old.circuit.inputs }
+    requires here { length here.now ≡ length (network_of trial.old.circuit) }
+    requires variables { found.old.variables ≡ length (network_of trial.old.circuit) }
+    requires room { HasRoomFor (length (network_of trial.old.circuit)) finding.now.settle.steps finding.now.cycle.steps front [] }
+    ensures circuit { trial.new.circuit ≡ trial.old.circuit }
+    ensures found { found.new ≡ with_attempt (network_of trial.old.circuit) finding.now.input pick (finding.now.settle.steps ++ take front finding.now.cycle.steps) here.now found.old }
+{
+    if trial.make(finding.input.as_slice(), here, pick) {
+        found.add(
+            &finding.settle,
+            &finding.cycle,
+            front,
+            trial.turns(),
+            trial.state(),
+        );
     }
 }

@@ -52,9 +52,10 @@ impl<'n> Trial<'n> {
         ensures ends { self.new.state ≡ end_of state.now (flips_alone self.new.turns) }
         ensures settled { result ≡ is_settled (network_of self.old.circuit) input.now self.new.state }
     {
+        let most = 2 * self.net.len();
         self.walk.begin(input, state);
         self.turns.clear();
-        for _turn in 0..2 * self.net.len() {
+        for _turn in 0..most {
             let Some(var) = self.walk.picked(pick) else {
                 return true;
             };

@@ -2,14 +2,14 @@
 use Rattle.std.proofs.Common.{◌≡◌, ◌∙◌, ◌∷◌, ◌*◌, ◌+◌, [], ℕ, Bool, List, Option, Some, length, refl, sym, ap, subst, arith, rules}
 use Rattle.std.specs.Option.{is_none}
 use Rattle.std.proofs.lemmas.List.{length-append}
-use Rattle.hz_core.specs.Netlist.{Netlist}
 use Rattle.hz_net.specs.Network.{network_of}
 use Rattle.hz_gmw.specs.Follower.{FollowerOf}
 use Rattle.hz_gmw.specs.Instability.{unstable_variables}
 use Rattle.hz_gmw.specs.Runs.{state_after}
 use Rattle.hz_gmw.proofs.Flips.{length-state_after}
 use Rattle.hz_split.specs.Attempts.{picked, is_settled}
-use Rattle.hz_split.proofs.AttemptLemmas.{tried-more, tried-stopped, picked-inside, picked-settled, IsTriedSoFar}
+use Rattle.hz_split.specs.Trials.{TrialOf}
+use Rattle.hz_split.proofs.AttemptLemmas.{tried-more, tried-stopped, picked-inside, picked-settled, none-from, IsTriedSoFar}
 use Rattle.hz_split.proofs.trial.Trial.make.Goals as goal
 
 pub returns-in_default-clause-turns : goal.returns-in_default-clause-turns
@@ -48,7 +48,7 @@ loop-turn-preserved c =
       ap (length {A = ℕ}) c.push_reserved.ensures.items ∙ (length-append turns (var ∷ []) ∙ ap (λ (n : ℕ). n + 1) so_far.5),
       rw (c.push_reserved.ensures.items, next)
           (tried-more net c.args.input.now c.args.state.now c.args.pick (2 * length net) turns walk.state so_far.6 var
-          (omega (arith, so_far.5, c.loop-turn-test.true, c.len-turn-end.ensures.len, ap (λ (n : Netlist). length (network_of n)) so_far.0))
+          (omega (arith, so_far.5, c.loop-turn-test.true, c.len-most.ensures.len, ap (λ (t : TrialOf). length (network_of t.circuit)) c.self.view_is))
           (rw (so_far.1, so_far.2) at (sym c.picked.ensures ∙ c.in-Some.is))),
     )
 
@@ -57,4 +57,4 @@ returns-clause-settled c =
     let so_far = c.loop-turn.invariant in
     let net = network_of c.args.self.now.circuit in
     let walk = c.loop-turn.self-inside.walk in
-    c.is_none.ensures ∙ (ap (is_none {T = ℕ}) (rw (so_far.1, so_far.2) at c.picked-2.ensures) ∙ picked-settled net c.args.input.now walk.state c.args.pick)
+    none-from c.picked-2.result c.is_none.result (search rules) ∙ (ap (is_none {T = ℕ}) (rw (so_far.1, so_far.2) at c.picked-2.ensures) ∙ picked-settled net c.args.input.now walk.state c.args.pick)
