@@ -1,10 +1,11 @@
 -- The runs that are found so far, and the room for more. Words about the inside of hz_split.
-use Rattle.std.specs.Prelude.{ℕ, ◌*◌, ◌≤◌, Bool, List, [], ◌∷◌, ◌++◌, length, if◌then◌else◌}
+use Rattle.std.specs.Prelude.{ℕ, ◌*◌, ◌≤◌, Bool, List, [], ◌∷◌, ◌++◌, length, take, slice_index_or, if◌then◌else◌}
 use Rattle.hz_gmw.specs.RunRecord.{flip_count}
-use Rattle.hz_gmw.specs.Runs.{end_of}
+use Rattle.hz_gmw.specs.Runs.{state_after, end_of}
 use Rattle.hz_net.specs.Network.{Driver}
 use Rattle.hz_split.specs.Attempts.{is_other, is_settled, turns_from, flips_alone, most_fronts}
 use Rattle.hz_split.specs.declared.pick.Pick.{Pick}
+use Rattle.hz_split.specs.declared.pick.Pick.TheVariants.{Least, Greatest}
 
 -- the runs that are found on a network of so many variables, and the state in which the first one ends
 pub record FoundOf : Type 0 where
@@ -31,6 +32,13 @@ with_turns net input front here turns found =
 abbrev pub with_attempt : List Driver → List Bool → Pick → List (List ℕ) → List Bool → FoundOf → FoundOf
 with_attempt net input pick front here found =
     with_turns net input front here (flips_alone (turns_from net input pick (2 * length net) here)) found
+
+-- these runs after two attempts from each of some states of a cycle: those before the steps with these numbers, the first of which is here
+abbrev pub with_attempts : List Driver → List Bool → List (List ℕ) → List (List ℕ) → List ℕ → List Bool → FoundOf → FoundOf
+with_attempts net input settle cycle [] here found = found
+with_attempts net input settle cycle (number ∷ numbers) here found =
+    with_attempts net input settle cycle numbers (state_after (slice_index_or cycle number []) here)
+    (with_attempt net input Greatest (settle ++ take number cycle) here (with_attempt net input Least (settle ++ take number cycle) here found))
 
 -- a run fits: it has few steps, and few flips in them
 pub record HasRoomFor (variables : ℕ) (settle cycle : List (List ℕ)) (front : ℕ) (turns : List ℕ) : Type 0 where

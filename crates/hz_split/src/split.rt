@@ -1,12 +1,14 @@
 //! The search.
-ghost use Rattle.std.specs.Prelude.{◌≡◌, ◌<◌, ◌++◌, ℕ, [], length, take, slice_index_or, Contains, IfOk};
+ghost use Rattle.std.specs.Prelude.{◌≡◌, ◌<◌, ◌++◌, ℕ, [], length, take, slice_index_or, Contains, IfOk, All, min};
+ghost use Rattle.std.specs.List.{range_with_len};
 ghost use Rattle.hz_core.specs.declared.tri.Tri.TheVariants.{Unknown};
 ghost use Rattle.hz_net.specs.Network.{network_of};
 ghost use Rattle.hz_net.specs.Starts.{IsStableStart};
 ghost use Rattle.hz_desk.specs.Finding.{finding_of, values_b};
 ghost use Rattle.hz_desk.specs.RightFinding.{IsRightFinding};
-ghost use Rattle.hz_split.specs.Attempts.{runs_found, outcome_of};
-ghost use Rattle.hz_split.specs.FoundRuns.{HasRoomFor, with_attempt};
+ghost use Rattle.hz_gmw.specs.Runs.{IsRepeatFree};
+ghost use Rattle.hz_split.specs.Attempts.{runs_found, outcome_of, most_fronts};
+ghost use Rattle.hz_split.specs.FoundRuns.{HasRoomFor, with_attempt, with_attempts};
 ghost use Rattle.hz_split.specs.Splits.{AreSettledRuns};
 
 use crate::flips::{make_run, make_step};
@@ -78,28 +80,12 @@ impl<'n> Split<'n> {
         self.found.clear();
         self.here.as_mut_slice().copy_from_slice(start);
         make_run(self.here.as_mut_slice(), &finding.settle);
-        for front in 0..finding.cycle.steps().min(MAX_FRONTS) {
-            attempt(
-                &mut self.trial,
-                finding,
-                self.here.as_slice(),
-                front,
-                Pick::Least,
-                &mut self.found,
-            );
-            attempt(
-                &mut self.trial,
-                finding,
-                self.here.as_slice(),
-                front,
-                Pick::Greatest,
-                &mut self.found,
-            );
-            if self.found.count() == 2 {
-                return Outcome::Critical;
-            }
-            make_step(self.here.as_mut_slice(), finding.cycle.step(front));
-        }
+        attempt_all(
+            &mut self.trial,
+            finding,
+            self.here.as_mut_slice(),
+            &mut self.found,
+        );
         self.outcome()
     }
 
@@ -155,5 +141,27 @@ fn attempt(
             trial.turns(),
             trial.state(),
         );
+    }
+}
+
+// Makes two attempts from each of the first states of the cycle, the first of which is here, until two runs are found.
+fn attempt_all(trial: &mut Trial<'_>, finding: &Finding, here: &mut [bool], found: &mut Found)
+    requires input { length finding.now.input ≡ trial.old.circuit.inputs }
+    requires here { length here.old ≡ length (network_of trial.old.circuit) }
+    requires variables { found.old.variables ≡ length (network_of trial.old.circuit) }
+    requires room { HasRoomFor (length (network_of trial.old.circuit)) finding.now.settle.steps finding.now.cycle.steps 0 [] }
+    requires inside { All (All (λ var. var < length (network_of trial.old.circuit))) finding.now.cycle.steps }
+    requires once { All IsRepeatFree finding.now.cycle.steps }
+    ensures circuit { trial.new.circuit ≡ trial.old.circuit }
+    ensures found { found.new ≡ with_attempts (network_of trial.old.circuit) finding.now.input finding.now.settle.steps finding.now.cycle.steps (range_with_len 0 (min (length finding.now.cycle.steps) most_fronts)) here.old found.old }
+{
+    let fronts = finding.cycle.steps().min(MAX_FRONTS);
+    for front in 0..fronts {
+        attempt(trial, finding, here, front, Pick::Least, found);
+        attempt(trial, finding, here, front, Pick::Greatest, found);
+        if found.count() == 2 {
+            return;
+        }
+        make_step(here, finding.cycle.step(front));
     }
 }
