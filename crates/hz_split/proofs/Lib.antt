@@ -2,3 +2,4 @@ mod Steps
 mod WalkLemmas
 mod AttemptLemmas
 mod FoundLemmas
+mod RunFacts

@@ -20,6 +20,7 @@ use hz_core::Memory;
 use hz_desk::Finding;
 use hz_gmw::Run;
 use hz_net::Net;
+use hz_reach::run_counts;
 use std::alloc::Global;
 use std::marker::Model;
 
@@ -77,6 +78,8 @@ impl<'n> Split<'n> {
         ensures outcome { result ≡ outcome_of self.new.found }
         ensures runs { AreSettledRuns (network_of self.old.netlist) finding.now.input start.now self.new.found }
     {
+        // The law says that a run has no more steps than flips.
+        run_counts();
         self.found.clear();
         self.here.as_mut_slice().copy_from_slice(start);
         make_run(self.here.as_mut_slice(), &finding.settle);
