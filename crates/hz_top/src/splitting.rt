@@ -1,6 +1,6 @@
 //! The job `split`: the first change of a script that leaves a variable unsettled, and two runs of it that end in different stable
 //! states.
-ghost use Rattle.std.specs.Prelude.{◌≡◌, ◌<◌, ◌∷◌, ◌++◌, ℕ, List, [], length, map};
+ghost use Rattle.std.specs.Prelude.{◌≡◌, ◌<◌, ℕ, [], length, map, All, Contains};
 ghost use Rattle.std.specs.List.{flat_map};
 ghost use Rattle.hz_core.specs.Netlist.{IsCircuit};
 ghost use Rattle.hz_net.specs.Network.{network_of};
@@ -10,8 +10,10 @@ ghost use Rattle.hz_text.specs.RunPrinted.{run_text};
 ghost use Rattle.hz_text.specs.ScriptText.{IsScriptFor};
 ghost use Rattle.hz_write.specs.Writer.{Writes, NoneWaits};
 ghost use Rattle.hz_write.specs.Writes.{Wrote};
-ghost use Rattle.hz_desk.specs.Finding.{finding_of};
-ghost use Rattle.hz_split.specs.Attempts.{runs_found, outcome_of};
+ghost use Rattle.hz_core.specs.declared.tri.Tri.TheVariants.{Unknown};
+ghost use Rattle.hz_desk.specs.Finding.{finding_of, values_b};
+ghost use Rattle.hz_desk.specs.RightFinding.{IsRightFinding};
+ghost use Rattle.hz_split.specs.Attempts.{outcome_of};
 ghost use Rattle.hz_top.specs.Ends.{Ends};
 ghost use Rattle.hz_top.specs.Splits.{SplitsChanges, SplitsChange, is_unsettled, outcome_word, change_line, split_text, closed};
 
@@ -111,6 +113,11 @@ fn split_change<K: Sink>(
     finding: &Finding,
     out: &mut K,
 ) -> Status
+    requires circuit { IsCircuit net.now }
+    requires start { IsStableStart net.now (map (λ row. row.start) finding.now.rows) }
+    requires input { length finding.now.input ≡ net.now.inputs }
+    requires right { (cap : ℕ) × IsRightFinding (network_of net.now) finding.now.input (map (λ row. row.start) finding.now.rows) cap (finding_of finding.now) }
+    requires unsettled { Contains (values_b finding.now.rows) Unknown }
     ensures { Ends K.output K.faults (SplitsChange net.now number (finding_of finding.now)) out.old out.new result }
 {
     let Ok(mut split) = Split::new(alloc, net) else {
@@ -132,6 +139,11 @@ fn write_split<K: Sink>(
     no_step: &Run,
     out: &mut K,
 ) -> Result<(), PutFault>
+    requires circuit { IsCircuit net.now }
+    requires rows { length finding.now.rows ≡ length (network_of net.now) }
+    requires input { length finding.now.input ≡ net.now.inputs }
+    requires outcome { outcome ≡ outcome_of split.now.found }
+    requires found { All (All (All (λ var. var < length (network_of net.now)))) split.now.found }
     requires no_step { no_step.now.steps ≡ [] }
     ensures { Wrote K.output K.faults (split_text net.now number (finding_of finding.now) split.now.found) out.old out.new result }
 {
@@ -175,7 +187,9 @@ fn outcome_word(outcome: Outcome) -> &'static [u8]
 
 // Gives the runs that were found, each with a cycle without a step.
 fn write_found<K: Sink>(writer: &mut Writer<'_, K>, net: &Net, split: &Split<'_>, no_step: &Run)
+    requires found { All (All (All (λ var. var < length (network_of net.now)))) split.now.found }
     requires no_step { no_step.now.steps ≡ [] }
+    requires none_waits { NoneWaits writer.old }
     ensures gave { Writes K.output K.faults (flat_map (run_text net.now) (map closed split.now.found)) writer.old writer.new }
     ensures none_waits { NoneWaits writer.new }
 {
