@@ -3,3 +3,5 @@ mod WalkLemmas
 mod AttemptLemmas
 mod FoundLemmas
 mod RunFacts
+mod FoundWhole
+mod OutcomeRuns
