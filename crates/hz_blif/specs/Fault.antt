@@ -149,3 +149,16 @@ IsLeastFault text fault = IsLeastOfAll (blif_faults text) fault
 -- no fault stands in the text
 abbrev pub IsFaultless : List ℕ → Type 0
 IsFaultless text = (fault : BlifFault) → ¬ HasFault text fault
+
+-- what is answered in place of a circuit: the least fault, or that memory ran out
+abbrev pub IsBlifRefusal : List ℕ → BlifFault → Type 0
+IsBlifRefusal text Memory = Unit {0}
+IsBlifRefusal text (Form line) = IsLeastFault text (Form line)
+IsBlifRefusal text (Name line) = IsLeastFault text (Name line)
+IsBlifRefusal text (Construct line) = IsLeastFault text (Construct line)
+IsBlifRefusal text (Twice line first) = IsLeastFault text (Twice line first)
+IsBlifRefusal text (Cover line) = IsLeastFault text (Cover line)
+IsBlifRefusal text (Pins line count) = IsLeastFault text (Pins line count)
+IsBlifRefusal text (Constant line) = IsLeastFault text (Constant line)
+IsBlifRefusal text (Undefined line) = IsLeastFault text (Undefined line)
+IsBlifRefusal text (TooMany variables) = IsLeastFault text (TooMany variables)

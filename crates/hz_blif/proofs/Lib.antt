@@ -1,0 +1,5 @@
+pub mod TwoLevel
+pub mod StableElements
+pub mod CoverLaw
+pub mod TokenLemmas
+pub mod NameLaws

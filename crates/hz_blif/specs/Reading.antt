@@ -1,0 +1,44 @@
+-- What the reader's calls return, by the definitions of lines.
+use Rattle.std.specs.Prelude.{◌≡◌, ℕ, suc, ◌+◌, ◌<◌, Bool, true, false, ◌||◌, List, [], ◌∷◌, ◌++◌, map, length, Option, Some, None, if◌then◌else◌}
+use Rattle.std.specs.List.{list_any}
+use Rattle.std.specs.Borrow.{Bor}
+use Rattle.hz_line.specs.Line.{lines_of, lines_of_rest}
+use Rattle.hz_line.specs.Statement.{Numbered}
+use Rattle.hz_blif.specs.declared.line.Line.{Line as LineRead}
+use Rattle.hz_blif.specs.declared.line.Line.TheVariants as read
+use Rattle.hz_blif.specs.declared.line.Course.{Course}
+use Rattle.hz_blif.specs.declared.lines.JoinedLine.{JoinedLine}
+use Rattle.hz_blif.specs.declared.lines.Piece.{Piece}
+use Rattle.hz_blif.specs.Text.{without_comment, goes_on, tokens_of, joined_from}
+use Rattle.hz_blif.specs.Cover.{all_but_last}
+use Rattle.hz_blif.specs.Line.{Line, Blank, Model, Inputs, Outputs, Names, Row, End, Construct, is_statement, is_end, takes_rows_after}
+use Rattle.hz_blif.specs.Fault.{is_forbidden, has_statement, has_end, takes_rows}
+
+-- the first word of a line, with the line after it; none where the line has no token
+abbrev pub IsFirstWord : List ℕ → Option (Bor (List ℕ) × Bor (List ℕ)) → Type 0
+IsFirstWord line None = tokens_of line ≡ []
+IsFirstWord line (Some found) = (tokens_of line ≡ found.0.now ∷ tokens_of found.1.now) × (length found.1.now < length line)
+
+-- words as they are seen: the bytes of each
+abbrev pub bytes_of : List (Bor (List ℕ)) → List (List ℕ)
+bytes_of words = map (λ word. word.now) words
+
+-- a line without its comment, and without the '\' by which it goes on
+pub record IsPieceOf (line : List ℕ) (piece : Piece) : Type 0 where
+  pub goes_on : piece.goes_on ≡ goes_on (without_comment line)
+  pub bytes : piece.bytes.now ≡ if goes_on (without_comment line) then all_but_last (without_comment line) else without_comment line
+
+-- a line of the reader as a line
+abbrev pub line_by : LineRead → Line
+line_by read.Blank = Blank
+line_by (read.Model names) = Model (bytes_of names.now)
+line_by (read.Inputs names) = Inputs (bytes_of names.now)
+line_by (read.Outputs names) = Outputs (bytes_of names.now)
+line_by (read.Names names) = Names (bytes_of names.now)
+line_by (read.Row tokens) = Row (bytes_of tokens.now)
+line_by (read.End rest) = End (bytes_of rest.now)
+line_by read.Construct = Construct
+
+-- what is known of lines that came before another
+abbrev pub course_of : List (Numbered Line) → Course
+course_of lines = record { has_statement = has_statement lines; has_end = has_end lines; takes_rows = takes_rows lines }

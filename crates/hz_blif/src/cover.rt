@@ -1,0 +1,116 @@
+// A cover while its rows are read.
+
+use hz_core::{MAX_PINS, Memory};
+use std::alloc::Global;
+
+/// A cover: the names of its pins and of its output, by their numbers, and its rows so far.
+#[derive(Drop)]
+pub(crate) struct Cover<'t> {
+    /// The line of its `.names`.
+    pub(crate) line: u32,
+    pub(crate) pins: Vec<u32>,
+    pub(crate) output: u32,
+    /// The planes of its rows, no more than a cover may have rows.
+    pub(crate) planes: Vec<&'t [u8]>,
+    /// How many rows it has.
+    rows: u32,
+    /// The last token of its first row.
+    column: &'t [u8],
+    /// Whether some row has no literal.
+    has_bare_row: bool,
+}
+
+impl<'t> Cover<'t> {
+    /// A cover without pins and rows.
+    pub(crate) fn new(alloc: Global) -> Cover<'t> {
+        Cover {
+            line: 0,
+            pins: Vec::new(alloc),
+            output: 0,
+            planes: Vec::new(alloc),
+            rows: 0,
+            column: &[],
+            has_bare_row: false,
+        }
+    }
+
+    /// Begins anew, with the cover of a `.names` on this line. It keeps the room that it has.
+    pub(crate) fn begin(&mut self, line: u32) {
+        self.line = line;
+        self.pins.clear();
+        self.planes.clear();
+        self.rows = 0;
+        self.column = &[];
+        self.has_bare_row = false;
+    }
+
+    /// Adds a row; whether it is a row of this cover.
+    pub(crate) fn add_row(&mut self, tokens: &[&'t [u8]]) -> Result<bool, Memory> {
+        let Some(last) = tokens.last() else {
+            return Ok(false);
+        };
+        if self.rows == 0 {
+            self.column = *last;
+        }
+        self.rows += 1;
+        let Some(plane) = plane_of(tokens, self.pins.len()) else {
+            return Ok(false);
+        };
+        if *last != self.column {
+            return Ok(false);
+        }
+        self.has_bare_row = self.has_bare_row || !has_literal(plane);
+        if self.planes.len() < MAX_PINS {
+            let Ok(()) = self.planes.push(plane) else {
+                return Err(Memory);
+            };
+        }
+        Ok(true)
+    }
+
+    /// Whether the output column is 1.
+    pub(crate) fn column(&self) -> bool {
+        self.column == b"1"
+    }
+
+    /// Whether it is constant: it has no pins, no rows, or a row without a literal.
+    pub(crate) fn is_constant(&self) -> bool {
+        self.pins.is_empty() || self.rows == 0 || self.has_bare_row
+    }
+
+    /// How many pins it has, or else how many rows, if those are more than a gate takes.
+    pub(crate) fn excess(&self) -> Option<u32> {
+        let pins = self.pins.len();
+        if pins > MAX_PINS {
+            Some(pins as u32)
+        } else if self.rows as usize > MAX_PINS {
+            Some(self.rows)
+        } else {
+            None
+        }
+    }
+}
+
+// The plane of a row, if the tokens are a row of a cover with so many pins: it is empty where there are none.
+fn plane_of<'t>(tokens: &[&'t [u8]], pins: usize) -> Option<&'t [u8]> {
+    let (plane, column) = match tokens {
+        [column] => (b"".as_slice(), *column),
+        [plane, column] => (*plane, *column),
+        _ => return None,
+    };
+    if plane.len() == pins && is_plane(plane) && (column == b"0" || column == b"1") {
+        Some(plane)
+    } else {
+        None
+    }
+}
+
+// Whether each byte is one of a plane.
+fn is_plane(plane: &[u8]) -> bool {
+    plane.iter().all(|byte| matches!(*byte, b'0' | b'1' | b'-'))
+}
+
+// Whether a plane has a literal.
+fn has_literal(plane: &[u8]) -> bool {
+    plane.iter().any(|byte| *byte != b'-')
+}
