@@ -84,7 +84,7 @@ gate_names-append : (front back : List Element) → gate_names (front ++ back) �
 gate_names-append [] back = refl
 gate_names-append (Input name ∷ front) back = gate_names-append front back
 gate_names-append (Output name ∷ front) back = gate_names-append front back
-gate_names-append (Cut name data ∷ front) back = gate_names-append front back
+gate_names-append (Cut name source ∷ front) back = gate_names-append front back
 gate_names-append (Gate name kind sources ∷ front) back = ap (λ names. name ∷ names) (gate_names-append front back)
 
 -- the name has a number from a range

@@ -85,7 +85,7 @@ module _ (netlist : Netlist) (input state : List Bool) (circuit : IsCircuit netl
   agrees-from names_before before [] names gates place = tt
   agrees-from names_before before (Input name ∷ rest) names gates place = (tt, agrees-from names_before before rest names gates place)
   agrees-from names_before before (Output name ∷ rest) names gates place = (tt, agrees-from names_before before rest names gates place)
-  agrees-from names_before before (Cut name data ∷ rest) names gates place = (tt, agrees-from names_before before rest names gates place)
+  agrees-from names_before before (Cut name source ∷ rest) names gates place = (tt, agrees-from names_before before rest names gates place)
   agrees-from names_before before (Gate name kind sources ∷ rest) names gates place =
       let gate : NetlistGate = record { kind = kind; sources = map (number_in netlist.names) sources } in (
         gate-agrees names_before (gate_names rest) name before (gates_of netlist.names rest) gate names gates place

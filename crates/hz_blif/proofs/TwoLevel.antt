@@ -14,7 +14,7 @@ use Rattle.hz_blif.specs.Gates.{Literal, literals_from, literals_of, inverter_na
 abbrev pub Agrees : (List ℕ → Bool) → Element → Type 0
 Agrees value (Input name) = Unit {0}
 Agrees value (Output name) = Unit {0}
-Agrees value (Cut name data) = Unit {0}
+Agrees value (Cut name source) = Unit {0}
 Agrees value (Gate name kind sources) = value name ≡ gate_value kind (map value sources)
 
 -- the values agree with each element

@@ -70,7 +70,7 @@ impl<'t> Cover<'t> {
 
     /// Whether the output column is 1.
     pub(crate) fn column(&self) -> bool {
-        self.column == b"1"
+        self.column == b"1".as_slice()
     }
 
     /// Whether it is constant: it has no pins, no rows, or a row without a literal.
@@ -98,7 +98,7 @@ fn plane_of<'t>(tokens: &[&'t [u8]], pins: usize) -> Option<&'t [u8]> {
         [plane, column] => (*plane, *column),
         _ => return None,
     };
-    if plane.len() == pins && is_plane(plane) && (column == b"0" || column == b"1") {
+    if plane.len() == pins && is_plane(plane) && (column == b"0".as_slice() || column == b"1".as_slice()) {
         Some(plane)
     } else {
         None

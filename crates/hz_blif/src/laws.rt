@@ -1,6 +1,6 @@
 //! What holds of the circuits of all texts.
 ghost use Rattle.std.specs.Prelude.{ℕ, List};
-ghost use Rattle.hz_core.specs.Netlist.{IsCircuit};
+ghost use Rattle.hz_core.specs.Netlist.{IsCircuit, IsWhole};
 ghost use Rattle.hz_blif.specs.Circuit.{blif_circuit};
 ghost use Rattle.hz_blif.specs.Fault.{IsFaultless};
 ghost use Rattle.hz_blif.specs.Law.{KeepsCovers};
@@ -9,4 +9,9 @@ ghost use Rattle.hz_blif.specs.Law.{KeepsCovers};
 /// cover function at its output.
 pub fn stable_states_keep_covers()
     ensures { (text : List ℕ) → IsFaultless text → IsCircuit (blif_circuit text) → KeepsCovers text }
+{}
+
+/// A text without a fault is the text of a circuit, each of whose gates has a pin.
+pub fn faultless_text_is_circuit()
+    ensures { (text : List ℕ) → IsFaultless text → IsCircuit (blif_circuit text) × IsWhole (blif_circuit text) }
 {}

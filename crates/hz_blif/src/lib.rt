@@ -15,7 +15,7 @@
 //! | `notes` | what is kept for the faults, and the count of variables |
 //! | `build` | the circuit of a draft |
 //! | `fault` | [`BlifFault`]: why a text is no netlist |
-//! | `laws` | the law that stable states keep the covers |
+//! | `laws` | the laws that a text without a fault is the text of a circuit, and that stable states keep its covers |
 #![tactic(auto)]
 
 mod build;
@@ -31,7 +31,7 @@ mod reading;
 mod words;
 
 pub use fault::BlifFault;
-pub use laws::stable_states_keep_covers;
+pub use laws::{faultless_text_is_circuit, stable_states_keep_covers};
 pub use reading::read;
 
 #[cfg(test)]

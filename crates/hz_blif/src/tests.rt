@@ -162,10 +162,10 @@ fn limits(rt: HostRuntime) -> Result<(), Fail> {
             Some(BlifFault::Pins { line: 2, count: 257 }),
         ),
         (
-            b".inputs a\n.names y",
+            b".names y",
             b" a",
             258,
-            Some(BlifFault::Pins { line: 2, count: 258 }),
+            Some(BlifFault::Pins { line: 1, count: 258 }),
         ),
         (
             b".inputs a\n.names a y\n1 1\n",

@@ -21,7 +21,7 @@ number_in names name = position_or_len (bytes_eq name) names
 abbrev pub gates_of : List (List ℕ) → List Element → List netlist.Gate
 gates_of names [] = []
 gates_of names (Input name ∷ rest) = gates_of names rest
-gates_of names (Cut name data ∷ rest) = gates_of names rest
+gates_of names (Cut name source ∷ rest) = gates_of names rest
 gates_of names (Gate name kind sources ∷ rest) = record { kind = kind; sources = map (number_in names) sources } ∷ gates_of names rest
 gates_of names (Output name ∷ rest) = gates_of names rest
 

@@ -1,6 +1,7 @@
 -- Names that have a number at first sight, with the lines that define and use them first.
 use Rattle.std.specs.Prelude.{◌≡◌, ℕ, List, [], ◌∷◌, ◌++◌, Option, Some, None, is_none, is_some, map, position, if◌then◌else◌}
 use Rattle.std.specs.List.{slice_index_or}
+use Rattle.std.specs.Option.{unwrap_or}
 use Rattle.std.specs.Str.{bytes_eq}
 use Rattle.hz_core.specs.Least.{option_min}
 use Rattle.hz_line.specs.Statement.{Numbered, first_passing_line}
@@ -17,20 +18,24 @@ Names = List Seen
 
 -- the first line stays
 abbrev pub first_line : Option ℕ → ℕ → Option ℕ
-first_line None line = Some line
-first_line (Some first) line = Some first
+first_line known line = Some (unwrap_or known line)
+
+-- a name that no line defines or uses so far
+abbrev pub fresh : List ℕ → Seen
+fresh name = record { name = name; definer = None; user = None }
+
+-- the names with a change of what is known of one of them, which comes last if it is new
+abbrev pub with_change : (Seen → Seen) → Names → List ℕ → Names
+with_change change [] name = change (fresh name) ∷ []
+with_change change (seen ∷ rest) name = if bytes_eq seen.name name then change seen ∷ rest else seen ∷ with_change change rest name
 
 -- the names with one that a line defines
 abbrev pub with_definition : Names → List ℕ → ℕ → Names
-with_definition [] name line = record { name = name; definer = Some line; user = None } ∷ []
-with_definition (seen ∷ rest) name line =
-    if bytes_eq seen.name name then record seen { definer = first_line seen.definer line } ∷ rest else seen ∷ with_definition rest name line
+with_definition names name line = with_change (λ seen. record seen { definer = first_line seen.definer line }) names name
 
 -- the names with one that a line uses
 abbrev pub with_use : Names → List ℕ → ℕ → Names
-with_use [] name line = record { name = name; definer = None; user = Some line } ∷ []
-with_use (seen ∷ rest) name line =
-    if bytes_eq seen.name name then record seen { user = first_line seen.user line } ∷ rest else seen ∷ with_use rest name line
+with_use names name line = with_change (λ seen. record seen { user = first_line seen.user line }) names name
 
 -- what is known of a name
 abbrev pub definer_in : Names → List ℕ → Option ℕ
@@ -58,10 +63,6 @@ first_undefined (seen ∷ rest) = option_min (undefined_line seen) (first_undefi
 -- the names of a list of them, in order
 abbrev pub seen_names : Names → List (List ℕ)
 seen_names names = map (λ seen. seen.name) names
-
--- a name that no line defines or uses so far
-abbrev pub fresh : List ℕ → Seen
-fresh name = record { name = name; definer = None; user = None }
 
 -- what is known of the name with this number
 abbrev pub seen_at : Names → ℕ → Seen

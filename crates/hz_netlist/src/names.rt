@@ -3,8 +3,8 @@
 ghost use Rattle.std.specs.Prelude.{◌≡◌, ◌<◌, ◌++◌, ◌∷◌, [], IfOk, OnOk, Some, None, length, map, position};
 ghost use Rattle.std.specs.Str.{bytes_eq};
 ghost use Rattle.hz_core.specs.NameHash.{hash_of};
-ghost use Rattle.hz_netlist.specs.Names.{seen_names, seen_at, with_definition, with_sight, with_use, first_undefined, fresh};
-ghost use Rattle.hz_netlist.specs.Table.{entry_names};
+ghost use Rattle.hz_netlist.specs.Names.{seen_names, seen_at, with_definition, with_sight, with_use, first_undefined, undefined_line, fresh};
+ghost use Rattle.hz_netlist.specs.Table.{entry_names, seen_of};
 
 use hz_core::{Chains, Memory, NameHashing, Named, find_name, lesser};
 use sha2::{Digest, Sha256};
@@ -20,6 +20,18 @@ pub(crate) struct Entry<'a> {
     pub(crate) name: &'a [u8],
     pub(crate) definer: Option<u32>,
     pub(crate) user: Option<u32>,
+}
+
+impl<'a> Entry<'a> {
+    // The first line that uses the name, if no line defines it.
+    fn undefined(&self) -> Option<u32>
+        ensures { result ≡ undefined_line (seen_of self.now) }
+    {
+        match self.definer {
+            None => self.user,
+            Some(_) => None,
+        }
+    }
 }
 
 impl<'a> Named for Entry<'a> {
@@ -106,6 +118,7 @@ impl<'a> NameTable<'a> {
             return number_of(place);
         }
         let number = number_of(self.len())?;
+        self.scatter()?;
         self.add(name)?;
         Ok(number)
     }
@@ -117,14 +130,11 @@ impl<'a> NameTable<'a> {
         ensures defined { self.new ≡ with_definition self.old (seen_at self.old number).name line }
     {
         let entry = self.entries[number as usize];
-        let first = entry.definer;
-        if first.is_none() {
-            self.entries[number as usize] = Entry {
-                definer: Some(line),
-                ..entry
-            };
-        }
-        first
+        self.entries[number as usize] = Entry {
+            definer: Some(entry.definer.unwrap_or(line)),
+            ..entry
+        };
+        entry.definer
     }
 
     /// Notes that a line uses a name.
@@ -133,12 +143,10 @@ impl<'a> NameTable<'a> {
         ensures { self.new ≡ with_use self.old (seen_at self.old number).name line }
     {
         let entry = self.entries[number as usize];
-        if entry.user.is_none() {
-            self.entries[number as usize] = Entry {
-                user: Some(line),
-                ..entry
-            };
-        }
+        self.entries[number as usize] = Entry {
+            user: Some(entry.user.unwrap_or(line)),
+            ..entry
+        };
     }
 
     /// The first line that uses a name which no line defines.
@@ -147,9 +155,7 @@ impl<'a> NameTable<'a> {
     {
         let mut first = None;
         for entry in &self.entries {
-            if entry.definer.is_none() {
-                first = lesser(first, entry.user);
-            }
+            first = lesser(first, entry.undefined());
         }
         first
     }
@@ -190,9 +196,6 @@ impl<'a> NameTable<'a> {
         requires { position (bytes_eq name.now) (seen_names self.old) ≡ None }
         ensures { OnOk result (self.new ≡ self.old ++ fresh name.now ∷ []) }
     {
-        if self.chains.are_crowded() && !self.is_keyed {
-            self.rekey()?;
-        }
         let Ok(()) = self.entries.reserve(1) else {
             return Err(Memory);
         };
@@ -205,6 +208,17 @@ impl<'a> NameTable<'a> {
             user: None,
         });
         Ok(())
+    }
+
+    // Hashes the names anew, if they were chosen to collide.
+    fn scatter(&mut self) -> Result<(), Memory>
+        ensures { OnOk result (self.new ≡ self.old) }
+    {
+        if self.chains.are_crowded() && !self.is_keyed {
+            self.rekey()
+        } else {
+            Ok(())
+        }
     }
 
     // Hashes the names with a digest of the text as the key.

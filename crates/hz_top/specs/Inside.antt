@@ -11,11 +11,13 @@ use Rattle.hz_gmw.specs.declared.replay_fault.CycleFault.{CycleFault}
 use Rattle.hz_gmw.specs.declared.replay_fault.CycleFault.TheVariants.{Differs, NotStable, Transient}
 use Rattle.hz_pass.specs.declared.completed_start.StartFault.{StartFault}
 use Rattle.hz_pass.specs.declared.completed_start.StartFault.TheVariants as start
-use Rattle.hz_bench.specs.declared.fault.BenchFault.{BenchFault}
 use Rattle.hz_bench.specs.declared.fault.BenchFault.TheVariants as bench
+use Rattle.hz_blif.specs.declared.fault.BlifFault.TheVariants as blif
 use Rattle.hz_text.specs.declared.fault.TextFault.{TextFault}
 use Rattle.hz_text.specs.declared.fault.TextFault.TheVariants as text
 use Rattle.hz_text.specs.RunValue.{RunOf}
+use Rattle.hz_top.specs.declared.netlist.NetlistFault.{NetlistFault}
+use Rattle.hz_top.specs.declared.netlist.NetlistFault.TheVariants.{Bench, Blif}
 use Rattle.hz_top.specs.declared.replaying.RunRefusal.{RunRefusal}
 use Rattle.hz_top.specs.declared.replaying.RunRefusal.TheVariants as refused
 use Rattle.hz_top.specs.declared.status.Status.{Status}
@@ -30,8 +32,9 @@ LoadPrints place load.TooLong own written = Prints status.TooLong (long_line pla
 LoadPrints place load.Memory own written = ⊥
 
 -- what is written of a fault of a netlist's text: nothing if memory ran out
-abbrev pub NetlistPrints : BenchFault → Status → List ℕ → Type 0
-NetlistPrints fault own written = (fault ≢ bench.Memory) × Prints status.Netlist (netlist_fault_line fault) own written
+abbrev pub NetlistPrints : NetlistFault → Status → List ℕ → Type 0
+NetlistPrints fault own written =
+    (fault ≢ Bench bench.Memory) × (fault ≢ Blif blif.Memory) × Prints status.Netlist (netlist_fault_line fault) own written
 
 -- what is written of a fault of a text that is called so: nothing if memory ran out
 abbrev pub TextPrints : List ℕ → Netlist → TextFault → Status → List ℕ → Type 0

@@ -13,7 +13,6 @@ use crate::demo::demo;
 use crate::order::work_on_files;
 use crate::refusal::put_words;
 use crate::status::{Status, status_after};
-use hz_bench::faultless_text_is_circuit;
 use hz_outside::{Files, Sink};
 use hz_words::{Job, WordsFault};
 use std::alloc::Global;
@@ -36,7 +35,8 @@ pub fn run<F: Files, K: Sink>(alloc: Global, words: &[String], files: &mut F, ou
         → ¬ Rose (K.faults out.old) (K.faults out.new)
         → (result ≡ own) ⊎ (result ≡ Status.Memory) }
 {
-    faultless_text_is_circuit();
+    hz_bench::faultless_text_is_circuit();
+    hz_blif::faultless_text_is_circuit();
     let status = answer(alloc, words, files, out);
     status_after(out.flush(), status)
 }

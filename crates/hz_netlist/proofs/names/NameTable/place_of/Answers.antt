@@ -8,7 +8,6 @@ use Rattle.hz_netlist.proofs.NameTableLemmas.{names-in}
 use Rattle.hz_netlist.proofs.names.NameTable.place_of.Goals as goal
 
 pub returns : goal.returns
-returns c = record {
-  place = subst (λ (entries : List Entry). IsDistinct bytes_eq (entry_names entries) → c.find_name.result ≡ position (bytes_eq c.args.name.now) (entry_names entries)) c.as_slice.ensures.value c.find_name.ensures c.self.invariant.distinct
-      ∙ ap (position (bytes_eq c.args.name.now)) (sym (names-in c.self.inside.entries.items) ∙ ap seen_names c.self.view_is);
-}
+returns c =
+    subst (λ (entries : List Entry). IsDistinct bytes_eq (entry_names entries) → c.find_name.result ≡ position (bytes_eq c.args.name.now) (entry_names entries)) c.as_slice.ensures.value c.find_name.ensures c.self.invariant.distinct
+    ∙ ap (position (bytes_eq c.args.name.now)) (sym (names-in c.self.inside.entries.items) ∙ ap seen_names c.self.view_is)
