@@ -109,12 +109,12 @@ names-changed change entries names number one new distinct are few at is =
     ∙ change-at change names number (subst (IsDistinct bytes_eq) (sym (names-in entries) ∙ ap seen_names (sym are)) distinct) few
 
 -- the least of three numbers that may be there
-pub min-assoc : (one other third : Option ℕ) → option_min (option_min one other) third ≡ option_min one (option_min other third)
-min-assoc None other third = refl
-min-assoc (Some one) None third = refl
-min-assoc (Some one) (Some other) None = refl
-min-assoc (Some one) (Some other) (Some third) = ap Some (omega arith)
+pub min_assoc : (one other third : Option ℕ) → option_min (option_min one other) third ≡ option_min one (option_min other third)
+min_assoc None other third = refl
+min_assoc (Some one) None third = refl
+min_assoc (Some one) (Some other) None = refl
+min_assoc (Some one) (Some other) (Some third) = ap Some (omega arith)
 
-pub min-none : (one : Option ℕ) → option_min one None ≡ one
-min-none None = refl
-min-none (Some one) = refl
+pub min_none : (one : Option ℕ) → option_min one None ≡ one
+min_none None = refl
+min_none (Some one) = refl

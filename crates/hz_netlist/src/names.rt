@@ -115,7 +115,8 @@ impl<'a> NameTable<'a> {
         ensures number { IfOk result (λ number. position (bytes_eq name.now) (seen_names self.new) ≡ Some number) }
     {
         if let Some(place) = self.place_of(name) {
-            return number_of(place);
+            let number = number_of(place)?;
+            return Ok(number);
         }
         let number = number_of(self.len())?;
         self.scatter()?;
@@ -150,6 +151,7 @@ impl<'a> NameTable<'a> {
     }
 
     /// The first line that uses a name which no line defines.
+    #[tactic(auto, using(crate::proofs::NameTableLemmas::min_assoc, crate::proofs::NameTableLemmas::min_none))]
     pub fn first_undefined(&self) -> Option<u32>
         ensures { result ≡ first_undefined self.now }
     {

@@ -6,4 +6,4 @@ use Rattle.hz_netlist.proofs.names.NameTable.first_undefined.Given as goal
 
 abbrev pub invariant-loop-entry : goal.invariant-loop-entry
 invariant-loop-entry l =
-    option_min l.first (first_undefined (map seen_of (drop l.entry-index l.entry-items))) ≡ first_undefined l.self.now
+    option_min l.first (first_undefined (map seen_of (drop l.entry-index l.entry-items))) ≡ first_undefined l.self
