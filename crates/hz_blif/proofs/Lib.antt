@@ -3,3 +3,4 @@ pub mod StableElements
 pub mod CoverLaw
 pub mod TokenLemmas
 pub mod NameLaws
+pub mod Examples

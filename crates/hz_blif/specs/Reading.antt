@@ -26,7 +26,7 @@ bytes_of words = map (λ word. word.now) words
 -- a line without its comment, and without the '\' by which it goes on
 pub record IsPieceOf (line : List ℕ) (piece : Piece) : Type 0 where
   pub goes_on : piece.goes_on ≡ goes_on (without_comment line)
-  pub bytes : piece.bytes.now ≡ if goes_on (without_comment line) then all_but_last (without_comment line) else without_comment line
+  pub bytes : piece.bytes.now ≡ (if goes_on (without_comment line) then all_but_last (without_comment line) else without_comment line)
 
 -- a line of the reader as a line
 abbrev pub line_by : LineRead → Line

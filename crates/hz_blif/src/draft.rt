@@ -127,8 +127,9 @@ impl<'t> Draft<'t> {
             let number = self.names.sight(*pin)?;
             push(&mut self.cover.pins, number)?;
         }
-        self.cover.output = self.names.sight(*output)?;
-        self.define(self.cover.output, line);
+        let number = self.names.sight(*output)?;
+        self.cover.output = number;
+        self.define(number, line);
         Ok(())
     }
 
@@ -167,17 +168,12 @@ impl<'t> Draft<'t> {
             output: self.cover.output,
         };
         push(&mut self.constants, constant)?;
-        for pin in &self.cover.pins {
-            push(&mut self.constant_pins, *pin)?;
-        }
-        Ok(())
+        extend(&mut self.constant_pins, self.cover.pins.as_slice())
     }
 
     // Adds the gates of the cover, and notes the uses of its pins.
     fn keep_gates(&mut self) -> Result<(), Memory> {
-        for pin in &self.cover.pins {
-            self.names.note_use(*pin, self.cover.line);
-        }
+        note_uses(&mut self.names, self.cover.pins.as_slice(), self.cover.line);
         let before = self.gates.variables();
         self.gates.add_cover(&self.cover)?;
         self.variables += self.gates.variables() - before;
@@ -185,6 +181,21 @@ impl<'t> Draft<'t> {
             self.gates.clear();
         }
         Ok(())
+    }
+}
+
+// Notes that a line uses names.
+fn note_uses(names: &mut NameTable, numbers: &[u32], line: u32) {
+    for number in numbers {
+        names.note_use(*number, line);
+    }
+}
+
+// Adds numbers to a list.
+fn extend(list: &mut Vec<u32>, numbers: &[u32]) -> Result<(), Memory> {
+    match list.extend_from_slice(numbers) {
+        Ok(()) => Ok(()),
+        Err(_) => Err(Memory),
     }
 }
 

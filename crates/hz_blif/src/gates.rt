@@ -122,9 +122,7 @@ impl Gates {
             row += 1;
             self.add_row(cover, row, *plane)?;
         }
-        for term in &self.terms {
-            push(&mut self.sources, *term)?;
-        }
+        extend(&mut self.sources, self.terms.as_slice())?;
         let kind = if cover.column() { Kind::Or } else { Kind::Nor };
         self.add_gate(cover, Role::Output, kind, planes.len())
     }
@@ -138,7 +136,8 @@ impl Gates {
             }
             return Ok(());
         }
-        push(&mut self.terms, Source::Gate(self.gates.len()))?;
+        let gate = Source::Gate(self.gates.len());
+        push(&mut self.terms, gate)?;
         self.add_gate(cover, Role::Row(row), Kind::And, pins)
     }
 
@@ -147,7 +146,8 @@ impl Gates {
         self.inverted.clear();
         for (pin, name) in cover.pins.iter().enumerate() {
             if has_zero(cover.planes.as_slice(), pin) {
-                push(&mut self.inverted, Source::Gate(self.gates.len()))?;
+                let inverter = Source::Gate(self.gates.len());
+                push(&mut self.inverted, inverter)?;
                 push(&mut self.sources, Source::Name(*name))?;
                 self.add_gate(cover, Role::Inverter(pin as u32 + 1), Kind::Not, 1)?;
             } else {
@@ -163,7 +163,10 @@ impl Gates {
         for (pin, byte) in plane.iter().enumerate() {
             match *byte {
                 b'-' => {}
-                b'0' => push(&mut self.sources, self.inverted[pin])?,
+                b'0' => {
+                    let inverter = self.inverted[pin];
+                    push(&mut self.sources, inverter)?;
+                }
                 _ => push(&mut self.sources, Source::Name(cover.pins[pin]))?,
             }
         }
@@ -211,6 +214,14 @@ fn only_literal(plane: &[u8]) -> Option<Literal> {
 // Whether a pin is 0 in some plane.
 fn has_zero(planes: &[&[u8]], pin: usize) -> bool {
     planes.iter().any(|plane| plane.get(pin) == Some(&b'0'))
+}
+
+// Adds items to a list.
+fn extend(list: &mut Vec<Source>, items: &[Source]) -> Result<(), Memory> {
+    match list.extend_from_slice(items) {
+        Ok(()) => Ok(()),
+        Err(_) => Err(Memory),
+    }
 }
 
 // Adds an item to a list.
