@@ -9,10 +9,15 @@ use Rattle.hz_blif.specs.declared.line.Line.TheVariants as read
 use Rattle.hz_blif.specs.declared.line.Course.{Course}
 use Rattle.hz_blif.specs.declared.lines.JoinedLine.{JoinedLine}
 use Rattle.hz_blif.specs.declared.lines.Piece.{Piece}
-use Rattle.hz_blif.specs.Text.{without_comment, goes_on, tokens_of, joined_from}
+use Rattle.hz_blif.specs.Text.{without_comment, goes_on, is_blank, tokens_of, joined_from}
 use Rattle.hz_blif.specs.Cover.{all_but_last}
 use Rattle.hz_blif.specs.Line.{Line, Blank, Model, Inputs, Outputs, Names, Row, End, Construct, is_statement, is_end, takes_rows_after}
 use Rattle.hz_blif.specs.Fault.{is_forbidden, has_statement, has_end, takes_rows}
+
+-- a line begins with a blank
+abbrev pub begins_blank : List ℕ → Bool
+begins_blank [] = false
+begins_blank (byte ∷ rest) = is_blank byte
 
 -- the first word of a line, with the line after it; none where the line has no token
 abbrev pub IsFirstWord : List ℕ → Option (Bor (List ℕ) × Bor (List ℕ)) → Type 0
@@ -25,8 +30,8 @@ bytes_of words = map (λ word. word.now) words
 
 -- a line without its comment, and without the '\' by which it goes on
 pub record IsPieceOf (line : List ℕ) (piece : Piece) : Type 0 where
-  pub goes_on : piece.goes_on ≡ goes_on (without_comment line)
-  pub bytes : piece.bytes.now ≡ (if goes_on (without_comment line) then all_but_last (without_comment line) else without_comment line)
+  pub joins : piece.goes_on ≡ goes_on (without_comment line)
+  pub front : piece.bytes.now ≡ (if goes_on (without_comment line) then all_but_last (without_comment line) else without_comment line)
 
 -- a line of the reader as a line
 abbrev pub line_by : LineRead → Line
@@ -38,6 +43,13 @@ line_by (read.Names names) = Names (bytes_of names.now)
 line_by (read.Row tokens) = Row (bytes_of tokens.now)
 line_by (read.End rest) = End (bytes_of rest.now)
 line_by read.Construct = Construct
+
+-- what was read of a joined line: its tokens, whether a byte may not stand in it, and what comes after it
+pub record IsJoinedLine (text : List ℕ) (tokens : List (Bor (List ℕ))) (joined : JoinedLine) : Type 0 where
+  pub bytes : List ℕ
+  pub first : (line : ℕ) → joined_from line (lines_of text) ≡ record { line = line; statement = bytes } ∷ joined_from (line + joined.lines) (lines_of_rest joined.rest)
+  pub tokens_are : tokens_of bytes ≡ bytes_of tokens
+  pub forbidden : joined.is_forbidden ≡ list_any is_forbidden bytes
 
 -- what is known of lines that came before another
 abbrev pub course_of : List (Numbered Line) → Course

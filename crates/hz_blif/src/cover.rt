@@ -1,5 +1,11 @@
 // A cover while its rows are read.
 
+ghost use Rattle.std.specs.Prelude.{◌≡◌, ◌∷◌, [], ◌||◌, IfSome, List, is_some, length, ℕ};
+ghost use Rattle.std.specs.List.{list_all};
+ghost use Rattle.std.specs.Str.{bytes_eq};
+ghost use Rattle.hz_blif.specs.Cover.{has_literal, is_plane_byte, is_row, plane_of};
+ghost use Rattle.hz_blif.specs.Reading.{bytes_of};
+
 use hz_core::{MAX_PINS, Memory};
 use std::alloc::Global;
 
@@ -92,25 +98,57 @@ impl<'t> Cover<'t> {
 }
 
 // The plane of a row, if the tokens are a row of a cover with so many pins: it is empty where there are none.
-fn plane_of<'t>(tokens: &[&'t [u8]], pins: usize) -> Option<&'t [u8]> {
+fn plane_of<'t>(tokens: &[&'t [u8]], pins: usize) -> Option<&'t [u8]>
+    ensures row { (names : List (List ℕ)) → length names ≡ pins → is_row names (bytes_of tokens.now) ≡ is_some result }
+    ensures plane { IfSome result (λ plane. plane.now ≡ plane_of (bytes_of tokens.now)) }
+{
     let (plane, column) = match tokens {
         [column] => (b"".as_slice(), *column),
         [plane, column] => (*plane, *column),
         _ => return None,
     };
-    if plane.len() == pins && is_plane(plane) && (column == b"0".as_slice() || column == b"1".as_slice()) {
+    if plane.len() == pins && is_plane(plane) && is_column(column) {
         Some(plane)
     } else {
         None
     }
 }
 
+// Whether a token is an output column.
+fn is_column(token: &[u8]) -> bool
+    ensures { result ≡ (bytes_eq token.now (48 ∷ []) || bytes_eq token.now (49 ∷ [])) }
+{
+    token == b"0".as_slice() || token == b"1".as_slice()
+}
+
 // Whether each byte is one of a plane.
-fn is_plane(plane: &[u8]) -> bool {
-    plane.iter().all(|byte| matches!(*byte, b'0' | b'1' | b'-'))
+fn is_plane(plane: &[u8]) -> bool
+    ensures { result ≡ list_all is_plane_byte plane.now }
+{
+    for byte in plane {
+        if !is_plane_byte(*byte) {
+            return false;
+        }
+    }
+    true
+}
+
+// Whether the byte may stand in a plane.
+#[inline(always)]
+fn is_plane_byte(byte: u8) -> bool
+    ensures { result ≡ is_plane_byte byte }
+{
+    byte == b'0' || byte == b'1' || byte == b'-'
 }
 
 // Whether a plane has a literal.
-fn has_literal(plane: &[u8]) -> bool {
-    plane.iter().any(|byte| *byte != b'-')
+fn has_literal(plane: &[u8]) -> bool
+    ensures { result ≡ has_literal plane.now }
+{
+    for byte in plane {
+        if *byte != b'-' {
+            return true;
+        }
+    }
+    false
 }

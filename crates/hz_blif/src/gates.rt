@@ -3,6 +3,10 @@
 //! The gates of all covers stand one after the other, each with what its pins read: a name of the text, or an inverter or a row gate of its own
 //! cover. These two have names that no text can have, so they are known by their numbers, and never looked up.
 
+ghost use Rattle.std.specs.Prelude.{◌≡◌};
+ghost use Rattle.hz_blif.specs.Gates.{has_zero};
+ghost use Rattle.hz_blif.specs.Reading.{bytes_of};
+
 use crate::cover::Cover;
 use hz_core::{Kind, Memory};
 use std::alloc::Global;
@@ -212,8 +216,15 @@ fn only_literal(plane: &[u8]) -> Option<Literal> {
 }
 
 // Whether a pin is 0 in some plane.
-fn has_zero(planes: &[&[u8]], pin: usize) -> bool {
-    planes.iter().any(|plane| plane.get(pin) == Some(&b'0'))
+fn has_zero(planes: &[&[u8]], pin: usize) -> bool
+    ensures { result ≡ has_zero (bytes_of planes.now) pin }
+{
+    for plane in planes {
+        if plane.get(pin) == Some(&b'0') {
+            return true;
+        }
+    }
+    false
 }
 
 // Adds items to a list.

@@ -1,8 +1,8 @@
 // Joined lines and their tokens.
 
-ghost use Rattle.std.specs.Prelude.{◌≡◌, ◌++◌, OnOk};
+ghost use Rattle.std.specs.Prelude.{◌≡◌, ◌++◌, IfOk, OnOk};
 ghost use Rattle.hz_blif.specs.Text.{without_comment, tokens_of};
-ghost use Rattle.hz_blif.specs.Reading.{IsPieceOf, bytes_of};
+ghost use Rattle.hz_blif.specs.Reading.{IsJoinedLine, IsPieceOf, bytes_of};
 
 use crate::words::{first_word, has_forbidden};
 use hz_core::Memory;
@@ -26,6 +26,7 @@ pub(crate) fn read_line<'t>(
     text: &'t [u8],
     tokens: &mut Vec<&'t [u8]>,
 ) -> Result<JoinedLine<'t>, Memory>
+    ensures { IfOk result (λ joined. IsJoinedLine text.now tokens.new.items joined) }
 {
     tokens.clear();
     let mut lines = 0;

@@ -1,10 +1,10 @@
 // The words of a line.
 
-ghost use Rattle.std.specs.Prelude.{◌≡◌};
-ghost use Rattle.std.specs.List.{list_any};
-ghost use Rattle.hz_blif.specs.Text.{is_blank};
+ghost use Rattle.std.specs.Prelude.{◌≡◌, ◌≤◌, false, length};
+ghost use Rattle.std.specs.List.{list_any, position_or_len};
+ghost use Rattle.hz_blif.specs.Text.{is_blank, tokens_of};
 ghost use Rattle.hz_blif.specs.Fault.{is_forbidden, is_sign};
-ghost use Rattle.hz_blif.specs.Reading.{IsFirstWord};
+ghost use Rattle.hz_blif.specs.Reading.{IsFirstWord, begins_blank};
 
 /// The first word of a line, and the line after it.
 #[inline]
@@ -20,7 +20,11 @@ pub(crate) fn first_word<'a>(line: &'a [u8]) -> Option<(&'a [u8], &'a [u8])>
 
 // A line without the blanks at its front.
 #[inline]
-fn without_blanks<'a>(line: &'a [u8]) -> &'a [u8] {
+fn without_blanks<'a>(line: &'a [u8]) -> &'a [u8]
+    ensures same { tokens_of line.now ≡ tokens_of result.now }
+    ensures all { begins_blank result.now ≡ false }
+    ensures within { length result.now ≤ length line.now }
+{
     let mut rest = line;
     while let [first, others @ ..] = rest {
         if !is_blank(*first) {
@@ -33,7 +37,10 @@ fn without_blanks<'a>(line: &'a [u8]) -> &'a [u8] {
 
 // How many bytes stand before the first blank.
 #[inline]
-fn word_len(line: &[u8]) -> usize {
+fn word_len(line: &[u8]) -> usize
+    ensures value { result ≡ position_or_len is_blank line.now }
+    ensures within { result ≤ length line.now }
+{
     for (index, byte) in line.iter().enumerate() {
         if is_blank(*byte) {
             return index;
