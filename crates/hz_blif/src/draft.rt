@@ -168,12 +168,15 @@ impl<'t> Draft<'t> {
             output: self.cover.output,
         };
         push(&mut self.constants, constant)?;
-        extend(&mut self.constant_pins, self.cover.pins.as_slice())
+        let pins = self.cover.pins.as_slice();
+        extend(&mut self.constant_pins, pins)
     }
 
     // Adds the gates of the cover, and notes the uses of its pins.
     fn keep_gates(&mut self) -> Result<(), Memory> {
-        note_uses(&mut self.names, self.cover.pins.as_slice(), self.cover.line);
+        let line = self.cover.line;
+        let pins = self.cover.pins.as_slice();
+        note_uses(&mut self.names, pins, line);
         let before = self.gates.variables();
         self.gates.add_cover(&self.cover)?;
         self.variables += self.gates.variables() - before;

@@ -126,7 +126,8 @@ impl Gates {
             row += 1;
             self.add_row(cover, row, *plane)?;
         }
-        extend(&mut self.sources, self.terms.as_slice())?;
+        let terms = self.terms.as_slice();
+        extend(&mut self.sources, terms)?;
         let kind = if cover.column() { Kind::Or } else { Kind::Nor };
         self.add_gate(cover, Role::Output, kind, planes.len())
     }

@@ -4,7 +4,7 @@ ghost use Rattle.std.specs.Prelude.{◌≡◌, ◌++◌, ◌∷◌, [], ℕ, Lis
 ghost use Rattle.std.specs.List.{list_any};
 ghost use Rattle.hz_line.specs.Statement.{Numbered};
 ghost use Rattle.hz_blif.specs.Fault.{has_long_name, has_wrong_form, is_ill_formed, is_long, is_sign};
-ghost use Rattle.hz_blif.specs.Line.{Line as LineOf, is_end, is_statement, line_of, names_in, takes_rows_after};
+ghost use Rattle.hz_blif.specs.Line.{Line as LineOf, begins_with_dot, dotted, is_end, is_statement, line_of, names_in, takes_rows_after};
 ghost use Rattle.hz_blif.specs.Reading.{bytes_of, course_of, line_by};
 
 use crate::words::has_sign;
@@ -32,19 +32,42 @@ pub(crate) enum Line<'a, 't> {
 pub(crate) fn line_of<'a, 't>(tokens: &'a [&'t [u8]]) -> Line<'a, 't>
     ensures { line_by result ≡ line_of (bytes_of tokens.now) }
 {
-    let [first, rest @ ..] = tokens else {
+    let Some((first, rest)) = tokens.split_first() else {
         return Line::Blank;
     };
-    if first.first() != Some(&b'.') {
-        return Line::Row(tokens);
+    if begins_with_dot(*first) {
+        dotted(*first, rest)
+    } else {
+        Line::Row(tokens)
     }
-    match *first {
-        b".names" => Line::Names(rest),
-        b".inputs" => Line::Inputs(rest),
-        b".outputs" => Line::Outputs(rest),
-        b".model" => Line::Model(rest),
-        b".end" => Line::End(rest),
-        _ => Line::Construct,
+}
+
+// Whether a token begins with '.'.
+fn begins_with_dot(token: &[u8]) -> bool
+    ensures { result ≡ begins_with_dot token.now }
+{
+    match token {
+        [b'.', ..] => true,
+        _ => false,
+    }
+}
+
+// What a line is whose first token begins with '.'.
+fn dotted<'a, 't>(word: &[u8], rest: &'a [&'t [u8]]) -> Line<'a, 't>
+    ensures { line_by result ≡ dotted word.now (bytes_of rest.now) }
+{
+    if word == b".names".as_slice() {
+        Line::Names(rest)
+    } else if word == b".inputs".as_slice() {
+        Line::Inputs(rest)
+    } else if word == b".outputs".as_slice() {
+        Line::Outputs(rest)
+    } else if word == b".model".as_slice() {
+        Line::Model(rest)
+    } else if word == b".end".as_slice() {
+        Line::End(rest)
+    } else {
+        Line::Construct
     }
 }
 

@@ -1,6 +1,7 @@
 // Joined lines and their tokens.
 
-ghost use Rattle.std.specs.Prelude.{◌≡◌, ◌++◌, IfOk, OnOk};
+ghost use Rattle.std.specs.Prelude.{◌≡◌, ◌+◌, ◌≤◌, ◌++◌, IfOk, OnOk, length};
+ghost use Rattle.hz_line.specs.Line.{most_text_bytes, rest_length};
 ghost use Rattle.hz_blif.specs.Text.{without_comment, tokens_of};
 ghost use Rattle.hz_blif.specs.Reading.{IsJoinedLine, IsPieceOf, bytes_of};
 
@@ -26,7 +27,9 @@ pub(crate) fn read_line<'t>(
     text: &'t [u8],
     tokens: &mut Vec<&'t [u8]>,
 ) -> Result<JoinedLine<'t>, Memory>
-    ensures { IfOk result (λ joined. IsJoinedLine text.now tokens.new.items joined) }
+    requires { length text.now ≤ most_text_bytes }
+    ensures joined { IfOk result (λ joined. IsJoinedLine text.now tokens.new.items joined) }
+    ensures counted { IfOk result (λ joined. joined.lines + rest_length joined.rest ≤ length text.now + 1) }
 {
     tokens.clear();
     let mut lines = 0;
@@ -43,13 +46,17 @@ pub(crate) fn read_line<'t>(
         is_forbidden = is_forbidden || has_forbidden(piece.bytes);
         rest = cut.rest;
         if !piece.goes_on {
-            break;
+            return Ok(JoinedLine {
+                lines,
+                is_forbidden,
+                rest,
+            });
         }
     }
     Ok(JoinedLine {
         lines,
         is_forbidden,
-        rest,
+        rest: None,
     })
 }
 
