@@ -1,15 +1,17 @@
 -- A joined line, read line by line.
-use Rattle.std.proofs.Common.{◌≡◌, ◌∙◌, refl, sym, ap, subst, ℕ, suc, ◌+◌, Bool, true, false, cond, ◌||◌, List, [], ◌∷◌, ◌++◌, Option, None, Some, length, append_assoc, add-zero, arith}
-use Rattle.std.specs.List.{list_any}
+use Rattle.std.proofs.Common.{◌≡◌, ◌∙◌, refl, sym, ap, ℕ, suc, ◌+◌, ◌<◌, Bool, true, false, cond, ◌||◌, List, [], ◌∷◌, ◌++◌, Option, None, Some, length, append_assoc, add-zero, arith}
+use Rattle.std.specs.List.{list_any, slice_split}
+use Rattle.std.specs.Str.Lines.{strip_carriage_return}
 use Rattle.std.specs.Borrow.{Bor}
-use Rattle.std.proofs.lemmas.List.{append-nil}
+use Rattle.std.proofs.lemmas.List.{append-nil, length-map}
+use Rattle.std.proofs.lemmas.List.Splits.{length-slice_split}
 use Rattle.std.proofs.lemmas.List.Folds.{list_any-append}
-use Rattle.hz_line.specs.Line.{lines_of, lines_of_rest}
+use Rattle.hz_line.specs.Line.{is_line_feed, lines_of, lines_of_rest}
 use Rattle.hz_line.specs.Statement.{Numbered}
-use Rattle.hz_blif.specs.declared.lines.Piece.{Piece}
+use Rattle.hz_blif.specs.declared.lines.JoinedLine.{JoinedLine}
 use Rattle.hz_blif.specs.Cover.{all_but_last}
 use Rattle.hz_blif.specs.Fault.{is_forbidden}
-use Rattle.hz_blif.specs.Reading.{IsPieceOf, bytes_of}
+use Rattle.hz_blif.specs.Reading.{IsJoinedLine, bytes_of}
 use Rattle.hz_blif.specs.Text.{goes_on, joined_from, joined_to, tokens_of, with_line, with_space_last, without_comment}
 use Rattle.hz_blif.proofs.TokenLemmas.{space_last, tokens_of-space}
 
@@ -31,16 +33,29 @@ joined-nothing line first rest = by_end (goes_on (without_comment first)) (joine
     by_end true (next ∷ later) = refl
     by_end false later = refl
 
+joined-start : (line : ℕ) (all : List (List ℕ)) → 0 < length all → joined_from line all ≡ joined_to line [] (joined_from line all)
+joined-start line [] some = absurd (omega (arith, some))
+joined-start line (first ∷ rest) some = joined-nothing line first rest
+
 -- at the first line nothing is read
-pub joining-none : (text first : List ℕ) (rest : List (List ℕ)) (left : Bor (List ℕ)) → left.now ≡ text → lines_of text ≡ first ∷ rest → IsJoining text [] 0 false (Some left)
-joining-none text first rest left is lines = record {
-  bytes = [];
-  joined = λ line.
-      ap (joined_from line) lines ∙ joined-nothing line first rest ∙ ap (λ all. joined_to line [] (joined_from line all)) (sym lines)
-      ∙ ap (λ (one : List ℕ). joined_to line [] (joined_from line (lines_of one))) (sym is)
-      ∙ ap (λ (number : ℕ). joined_to line [] (joined_from number (lines_of left.now))) (omega arith);
-  spaced = λ more. refl;
-  seen = refl;
+pub joining-none : (left : Bor (List ℕ)) → IsJoining left.now [] 0 false (Some left)
+joining-none left =
+    let some : 0 < length (lines_of left.now) = omega (arith, length-map (slice_split is_line_feed left.now) strip_carriage_return, length-slice_split is_line_feed left.now) in
+    record {
+      bytes = [];
+      joined = λ line. joined-start line (lines_of left.now) some ∙ ap (λ (number : ℕ). joined_to line [] (joined_from number (lines_of left.now))) (omega arith);
+      spaced = λ more. refl;
+      seen = refl;
+    }
+
+-- the same, told otherwise
+pub joining-told : (text : List ℕ) (tokens : List (List ℕ)) (lines : ℕ) (forbidden : Bool) (rest : Option (Bor (List ℕ))) (tokens_now : List (List ℕ)) (lines_now : ℕ) (forbidden_now : Bool)
+    → IsJoining text tokens lines forbidden rest → tokens_now ≡ tokens → lines_now ≡ lines → forbidden_now ≡ forbidden → IsJoining text tokens_now lines_now forbidden_now rest
+joining-told text tokens lines forbidden rest tokens_now lines_now forbidden_now was same_tokens same_lines same = record {
+  bytes = was.bytes;
+  joined = λ line. was.joined line ∙ ap (λ n. joined_to line was.bytes (joined_from (line + n) (lines_of_rest rest))) (sym same_lines);
+  spaced = λ more. was.spaced more ∙ ap (λ tokens. tokens ++ tokens_of more) (sym same_tokens);
+  seen = same ∙ was.seen;
 }
 
 -- what is joined to a line that was joined before
@@ -118,4 +133,14 @@ joined-end text tokens lines forbidden was = record {
   first = was.joined;
   tokens_are = ap tokens_of (sym (append-nil was.bytes)) ∙ was.spaced [] ∙ append-nil tokens;
   seen = was.seen;
+}
+
+-- and as the reader tells it
+pub joined-line : (text : List ℕ) (tokens : List (Bor (List ℕ))) (tokens_told : List (List ℕ)) (lines : ℕ) (forbidden : Bool) (joined : JoinedLine)
+    → IsJoined text tokens_told lines forbidden joined.rest → bytes_of tokens ≡ tokens_told → joined.lines ≡ lines → joined.is_forbidden ≡ forbidden → IsJoinedLine text tokens joined
+joined-line text tokens tokens_told lines forbidden joined is same_tokens same_lines same = record {
+  bytes = is.bytes;
+  first = λ line. is.first line ∙ ap (λ n. record { line = line; statement = is.bytes } ∷ joined_from (line + n) (lines_of_rest joined.rest)) (sym same_lines);
+  tokens_are = is.tokens_are ∙ sym same_tokens;
+  forbidden = same ∙ is.seen;
 }

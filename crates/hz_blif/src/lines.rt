@@ -43,7 +43,7 @@ pub(crate) fn read_line<'t>(
             Err(Memory) => return Err(Memory),
         }
         lines += 1;
-        is_forbidden = is_forbidden || has_forbidden(piece.bytes);
+        is_forbidden = is_forbidden | has_forbidden(piece.bytes);
         rest = cut.rest;
         if !piece.goes_on {
             return Ok(JoinedLine {
@@ -72,15 +72,22 @@ fn piece_of<'t>(line: &'t [u8]) -> Piece<'t>
     ensures { IsPieceOf line.now result }
 {
     let bytes = without_comment(line);
-    match bytes {
-        [front @ .., b'\\'] => Piece {
-            bytes: front,
-            goes_on: true,
-        },
-        _ => Piece {
+    let Some((last, front)) = bytes.split_last() else {
+        return Piece {
             bytes,
             goes_on: false,
-        },
+        };
+    };
+    if *last == b'\\' {
+        Piece {
+            bytes: front,
+            goes_on: true,
+        }
+    } else {
+        Piece {
+            bytes,
+            goes_on: false,
+        }
     }
 }
 

@@ -12,10 +12,12 @@ pub(crate) fn first_word<'a>(line: &'a [u8]) -> Option<(&'a [u8], &'a [u8])>
     ensures { IsFirstWord line.now result }
 {
     let rest = without_blanks(line);
-    if rest.is_empty() {
-        return None;
+    let len = word_len(rest);
+    if len == 0 {
+        None
+    } else {
+        Some(rest.split_at(len))
     }
-    Some(rest.split_at(word_len(rest)))
 }
 
 // A line without the blanks at its front.
