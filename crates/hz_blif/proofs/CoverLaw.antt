@@ -68,11 +68,9 @@ row-plane : (pins tokens : List (List ℕ)) → is_some_list pins ≡ true → i
 row-plane [] tokens some row = let e : false ≡ true = some in cc
 row-plane (pin ∷ pins) [] some row = omega arith
 row-plane (pin ∷ pins) (plane ∷ []) some row = omega arith
-row-plane (pin ∷ pins) (plane ∷ [] ∷ []) some row = let e : false ≡ true = row in cc
-row-plane (pin ∷ pins) (plane ∷ (column ∷ []) ∷ []) some row =
+row-plane (pin ∷ pins) (plane ∷ column ∷ []) some row =
     let long = eqb-true (length plane) (suc (length pins)) (both (length plane == suc (length pins)) _ (both (length plane == suc (length pins) && list_all is_plane_byte plane) _ row).0).0 in
     omega (arith, long)
-row-plane (pin ∷ pins) (plane ∷ (column ∷ more ∷ rest) ∷ []) some row = let e : false ≡ true = row in cc
 row-plane (pin ∷ pins) (plane ∷ column ∷ more ∷ rest) some row = omega arith
 
 -- rows that are as said, each with a literal, have literals at pins

@@ -3,6 +3,7 @@ pub mod StableElements
 pub mod CoverLaw
 pub mod TokenLemmas
 pub mod LineLemmas
+pub mod RowLemmas
 pub mod JoinLemmas
 pub mod NameLaws
 pub mod Examples

@@ -1,9 +1,8 @@
 // A cover while its rows are read.
 
-ghost use Rattle.std.specs.Prelude.{◌≡◌, ◌∷◌, [], ◌||◌, IfSome, List, is_some, length, ℕ};
+ghost use Rattle.std.specs.Prelude.{◌≡◌, IfSome, List, is_some, length, ℕ};
 ghost use Rattle.std.specs.List.{list_all};
-ghost use Rattle.std.specs.Str.{bytes_eq};
-ghost use Rattle.hz_blif.specs.Cover.{has_literal, is_plane_byte, is_row, plane_of};
+ghost use Rattle.hz_blif.specs.Cover.{has_literal, is_column, is_plane_byte, is_row, plane_of};
 ghost use Rattle.hz_blif.specs.Reading.{bytes_of};
 
 use hz_core::{MAX_PINS, Memory};
@@ -98,25 +97,33 @@ impl<'t> Cover<'t> {
 }
 
 // The plane of a row, if the tokens are a row of a cover with so many pins: it is empty where there are none.
+#[tactic(auto, using(crate::proofs::RowLemmas::row_alone, crate::proofs::RowLemmas::row_not_alone, crate::proofs::RowLemmas::row_of_plane, crate::proofs::RowLemmas::row_without_pins))]
 fn plane_of<'t>(tokens: &[&'t [u8]], pins: usize) -> Option<&'t [u8]>
     ensures row { (names : List (List ℕ)) → length names ≡ pins → is_row names (bytes_of tokens.now) ≡ is_some result }
     ensures plane { IfSome result (λ plane. plane.now ≡ plane_of (bytes_of tokens.now)) }
 {
-    let (plane, column) = match tokens {
-        [column] => (b"".as_slice(), *column),
-        [plane, column] => (*plane, *column),
-        _ => return None,
-    };
-    if plane.len() == pins && is_plane(plane) && is_column(column) {
-        Some(plane)
-    } else {
-        None
+    match tokens {
+        [column] => {
+            if pins == 0 && is_column(*column) {
+                Some(&[])
+            } else {
+                None
+            }
+        }
+        [plane, column] => {
+            if pins > 0 && plane.len() == pins && is_plane(*plane) && is_column(*column) {
+                Some(*plane)
+            } else {
+                None
+            }
+        }
+        _ => None,
     }
 }
 
 // Whether a token is an output column.
 fn is_column(token: &[u8]) -> bool
-    ensures { result ≡ (bytes_eq token.now (48 ∷ []) || bytes_eq token.now (49 ∷ [])) }
+    ensures { result ≡ is_column token.now }
 {
     token == b"0".as_slice() || token == b"1".as_slice()
 }
