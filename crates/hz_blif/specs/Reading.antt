@@ -1,16 +1,18 @@
 -- What the reader's calls return, by the definitions of lines.
-use Rattle.std.specs.Prelude.{◌≡◌, ℕ, suc, ◌+◌, ◌<◌, Bool, true, false, ◌||◌, List, [], ◌∷◌, ◌++◌, map, length, Option, Some, None, if◌then◌else◌}
-use Rattle.std.specs.List.{list_any}
+use Rattle.std.specs.Prelude.{◌≡◌, ℕ, suc, ◌+◌, ◌<◌, Bool, true, false, not, nat_lt, ◌||◌, List, [], ◌∷◌, ◌++◌, map, length, take, Option, Some, None, if◌then◌else◌}
+use Rattle.std.specs.List.{list_all, list_any}
 use Rattle.std.specs.Borrow.{Bor}
 use Rattle.hz_line.specs.Line.{lines_of, lines_of_rest}
 use Rattle.hz_line.specs.Statement.{Numbered}
+use Rattle.hz_blif.specs.declared.cover.Cover.{Cover as CoverRead}
 use Rattle.hz_blif.specs.declared.line.Line.{Line as LineRead}
 use Rattle.hz_blif.specs.declared.line.Line.TheVariants as read
 use Rattle.hz_blif.specs.declared.line.Course.{Course}
 use Rattle.hz_blif.specs.declared.lines.JoinedLine.{JoinedLine}
 use Rattle.hz_blif.specs.declared.lines.Piece.{Piece}
 use Rattle.hz_blif.specs.Text.{without_comment, goes_on, is_blank, tokens_of, joined_from}
-use Rattle.hz_blif.specs.Cover.{all_but_last}
+use Rattle.hz_core.specs.Limits.{most_gate_pins}
+use Rattle.hz_blif.specs.Cover.{all_but_last, first_column, has_literal, plane_of}
 use Rattle.hz_blif.specs.Line.{Line, Blank, Model, Inputs, Outputs, Names, Row, End, Construct, is_statement, is_end, takes_rows_after}
 use Rattle.hz_blif.specs.Fault.{is_forbidden, has_statement, has_end, takes_rows}
 
@@ -54,3 +56,18 @@ pub record IsJoinedLine (text : List ℕ) (tokens : List (Bor (List ℕ))) (join
 -- what is known of lines that came before another
 abbrev pub course_of : List (Numbered Line) → Course
 course_of lines = record { has_statement = has_statement lines; has_end = has_end lines; takes_rows = takes_rows lines }
+
+-- the planes of rows
+abbrev pub planes_in : List (Numbered (List (List ℕ))) → List (List ℕ)
+planes_in rows = map (λ row. plane_of row.statement) rows
+
+-- what is kept of the rows of a cover, which are all as said
+pub record KeepsRows (rows : List (Numbered (List (List ℕ)))) (cover : CoverRead) : Type 0 where
+  pub counted : cover.rows ≡ length rows
+  pub column : cover.column.now ≡ first_column rows
+  pub bare : cover.has_bare_row ≡ not (list_all has_literal (planes_in rows))
+  pub planes_are : bytes_of cover.planes.items ≡ take most_gate_pins (planes_in rows)
+
+-- the count of pins, or else of rows, if it is more than a gate takes
+abbrev pub excess_of : ℕ → ℕ → Option ℕ
+excess_of pins rows = if nat_lt most_gate_pins pins then Some pins else (if nat_lt most_gate_pins rows then Some rows else None)

@@ -1,9 +1,10 @@
 // A cover while its rows are read.
 
-ghost use Rattle.std.specs.Prelude.{◌≡◌, IfSome, List, is_some, length, ℕ};
+ghost use Rattle.std.specs.Prelude.{◌≡◌, ◌+◌, ◌<◌, ◌^◌, ◌∷◌, [], IfSome, List, OnOk, is_some, length, ℕ};
+ghost use Rattle.std.specs.Str.{bytes_eq};
 ghost use Rattle.std.specs.List.{list_all};
 ghost use Rattle.hz_blif.specs.Cover.{has_literal, is_column, is_plane_byte, is_row, plane_of};
-ghost use Rattle.hz_blif.specs.Reading.{bytes_of};
+ghost use Rattle.hz_blif.specs.Reading.{KeepsRows, bytes_of, excess_of};
 
 use hz_core::{MAX_PINS, Memory};
 use std::alloc::Global;
@@ -27,7 +28,9 @@ pub(crate) struct Cover<'t> {
 
 impl<'t> Cover<'t> {
     /// A cover without pins and rows.
-    pub(crate) fn new(alloc: Global) -> Cover<'t> {
+    pub(crate) fn new(alloc: Global) -> Cover<'t>
+        ensures { KeepsRows [] result }
+    {
         Cover {
             line: 0,
             pins: Vec::new(alloc),
@@ -40,7 +43,11 @@ impl<'t> Cover<'t> {
     }
 
     /// Begins anew, with the cover of a `.names` on this line. It keeps the room that it has.
-    pub(crate) fn begin(&mut self, line: u32) {
+    pub(crate) fn begin(&mut self, line: u32)
+        ensures line { self.new.line ≡ line }
+        ensures pins { self.new.pins.items ≡ [] }
+        ensures rows { KeepsRows [] self.new }
+    {
         self.line = line;
         self.pins.clear();
         self.planes.clear();
@@ -50,7 +57,13 @@ impl<'t> Cover<'t> {
     }
 
     /// Adds a row; whether it is a row of this cover.
-    pub(crate) fn add_row(&mut self, tokens: &[&'t [u8]]) -> Result<bool, Memory> {
+    pub(crate) fn add_row(&mut self, tokens: &[&'t [u8]]) -> Result<bool, Memory>
+        requires { self.old.rows + 1 < 2 ^ 32 }
+        ensures pins { self.new.pins ≡ self.old.pins }
+        ensures output { self.new.output ≡ self.old.output }
+        ensures line { self.new.line ≡ self.old.line }
+        ensures counted { OnOk result (self.new.rows ≡ self.old.rows + 1) }
+    {
         let Some(last) = tokens.last() else {
             return Ok(false);
         };
@@ -74,7 +87,9 @@ impl<'t> Cover<'t> {
     }
 
     /// Whether the output column is 1.
-    pub(crate) fn column(&self) -> bool {
+    pub(crate) fn column(&self) -> bool
+        ensures { result ≡ bytes_eq self.now.column.now (49 ∷ []) }
+    {
         self.column == b"1".as_slice()
     }
 
@@ -84,7 +99,10 @@ impl<'t> Cover<'t> {
     }
 
     /// How many pins it has, or else how many rows, if those are more than a gate takes.
-    pub(crate) fn excess(&self) -> Option<u32> {
+    pub(crate) fn excess(&self) -> Option<u32>
+        requires { length self.now.pins.items < 2 ^ 32 }
+        ensures { result ≡ excess_of (length self.now.pins.items) self.now.rows }
+    {
         let pins = self.pins.len();
         if pins > MAX_PINS {
             Some(pins as u32)
