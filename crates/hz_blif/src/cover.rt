@@ -1,10 +1,12 @@
 // A cover while its rows are read.
 
-ghost use Rattle.std.specs.Prelude.{◌≡◌, ◌+◌, ◌<◌, ◌^◌, ◌∷◌, [], IfSome, List, OnOk, is_some, length, ℕ};
+ghost use Rattle.std.specs.Prelude.{◌≡◌, ◌+◌, ◌<◌, ◌^◌, ◌∷◌, ◌||◌, [], IfSome, List, OnOk, is_some, length, not, ℕ};
+ghost use Rattle.hz_line.specs.Statement.{Numbered};
+ghost use Rattle.hz_blif.specs.Text.{is_some_list};
 ghost use Rattle.std.specs.Str.{bytes_eq};
 ghost use Rattle.std.specs.List.{list_all};
 ghost use Rattle.hz_blif.specs.Cover.{has_literal, is_column, is_plane_byte, is_row, plane_of};
-ghost use Rattle.hz_blif.specs.Reading.{KeepsRows, bytes_of, excess_of};
+ghost use Rattle.hz_blif.specs.Reading.{KeepsRows, bytes_of, excess_of, planes_in};
 
 use hz_core::{MAX_PINS, Memory};
 use std::alloc::Global;
@@ -58,7 +60,8 @@ impl<'t> Cover<'t> {
 
     /// Adds a row; whether it is a row of this cover.
     pub(crate) fn add_row(&mut self, tokens: &[&'t [u8]]) -> Result<bool, Memory>
-        requires { self.old.rows + 1 < 2 ^ 32 }
+        requires some { 0 < length tokens.now }
+        requires few { self.old.rows + 1 < 2 ^ 32 }
         ensures pins { self.new.pins ≡ self.old.pins }
         ensures output { self.new.output ≡ self.old.output }
         ensures line { self.new.line ≡ self.old.line }
@@ -94,7 +97,10 @@ impl<'t> Cover<'t> {
     }
 
     /// Whether it is constant: it has no pins, no rows, or a row without a literal.
-    pub(crate) fn is_constant(&self) -> bool {
+    pub(crate) fn is_constant(&self) -> bool
+        ensures { (rows : List (Numbered (List (List ℕ)))) (names : List (List ℕ)) → KeepsRows rows self.now → length names ≡ length self.now.pins.items
+            → result ≡ (not (is_some_list names) || not (is_some_list rows) || not (list_all has_literal (planes_in rows))) }
+    {
         self.pins.is_empty() || self.rows == 0 || self.has_bare_row
     }
 
