@@ -1,11 +1,11 @@
 // A cover while its rows are read.
 
-ghost use Rattle.std.specs.Prelude.{◌≡◌, ◌+◌, ◌<◌, ◌^◌, ◌∷◌, ◌||◌, [], IfSome, List, OnOk, is_some, length, not, ℕ};
+ghost use Rattle.std.specs.Prelude.{◌≡◌, ◌+◌, ◌<◌, ◌^◌, ◌∷◌, ◌++◌, ◌||◌, ◌&&◌, [], IfOk, IfSome, true, List, OnOk, is_some, length, not, ℕ};
 ghost use Rattle.hz_line.specs.Statement.{Numbered};
 ghost use Rattle.hz_blif.specs.Text.{is_some_list};
 ghost use Rattle.std.specs.Str.{bytes_eq};
 ghost use Rattle.std.specs.List.{list_all};
-ghost use Rattle.hz_blif.specs.Cover.{has_literal, is_column, is_plane_byte, is_row, plane_of};
+ghost use Rattle.hz_blif.specs.Cover.{first_column, has_literal, is_column, last_token, is_plane_byte, is_row, plane_of};
 ghost use Rattle.hz_blif.specs.Reading.{KeepsRows, bytes_of, excess_of, planes_in};
 
 use hz_core::{MAX_PINS, Memory};
@@ -66,6 +66,10 @@ impl<'t> Cover<'t> {
         ensures output { self.new.output ≡ self.old.output }
         ensures line { self.new.line ≡ self.old.line }
         ensures counted { OnOk result (self.new.rows ≡ self.old.rows + 1) }
+        ensures right { IfOk result (λ right. (rows : List (Numbered (List (List ℕ)))) (line : ℕ) (names : List (List ℕ)) → KeepsRows rows self.old → length names ≡ length self.old.pins.items
+            → right ≡ (is_row names (bytes_of tokens.now) && bytes_eq (last_token (bytes_of tokens.now)) (first_column (rows ++ record { line = line; statement = bytes_of tokens.now } ∷ [])))) }
+        ensures kept { IfOk result (λ right. right ≡ true → (rows : List (Numbered (List (List ℕ)))) (line : ℕ) → KeepsRows rows self.old
+            → KeepsRows (rows ++ record { line = line; statement = bytes_of tokens.now } ∷ []) self.new) }
     {
         let Some(last) = tokens.last() else {
             return Ok(false);

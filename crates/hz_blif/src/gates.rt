@@ -102,7 +102,11 @@ impl Gates {
         }
         self.add_inverters(cover)?;
         let pins = self.push_literals(cover, plane)?;
-        let kind = if cover.column() { Kind::And } else { Kind::Nand };
+        let kind = if cover.column() {
+            Kind::And
+        } else {
+            Kind::Nand
+        };
         self.add_gate(cover, Role::Output, kind, pins)
     }
 
@@ -179,7 +183,13 @@ impl Gates {
     }
 
     // Adds a gate whose pins read the last sources.
-    fn add_gate(&mut self, cover: &Cover, role: Role, kind: Kind, pins: usize) -> Result<(), Memory> {
+    fn add_gate(
+        &mut self,
+        cover: &Cover,
+        role: Role,
+        kind: Kind,
+        pins: usize,
+    ) -> Result<(), Memory> {
         push(
             &mut self.gates,
             Gate {

@@ -77,9 +77,8 @@ impl<'a, 't> Line<'a, 't> {
         ensures { bytes_of result.now ≡ names_in (line_by self.now) }
     {
         match self {
-            Line::Model(names) | Line::Inputs(names) | Line::Outputs(names) | Line::Names(names) => {
-                *names
-            }
+            Line::Model(names) | Line::Inputs(names) | Line::Outputs(names) | Line::Names(names) =>
+                { *names }
             Line::Blank | Line::Row(_) | Line::End(_) | Line::Construct => &[],
         }
     }

@@ -57,10 +57,16 @@ fn reads(rt: HostRuntime) -> Result<(), Fail> {
         (b"", b";"),
         (b".names $false\n.names $true\n1\n", b";"),
         (b".names q x y\n.inputs a\n.outputs a\n", b"a; a"),
-        (b".inputs a\n.names a y\n1 1\n.outputs y\n", b"a y=BUFF,a; y"),
+        (
+            b".inputs a\n.names a y\n1 1\n.outputs y\n",
+            b"a y=BUFF,a; y",
+        ),
         (b".inputs a\n.names a y\n0 1\n.outputs y\n", b"a y=NOT,a; y"),
         (b".inputs a\n.names a y\n1 0\n.outputs y\n", b"a y=NOT,a; y"),
-        (b".inputs a\n.names a y\n0 0\n.outputs y\n", b"a y=BUFF,a; y"),
+        (
+            b".inputs a\n.names a y\n0 0\n.outputs y\n",
+            b"a y=BUFF,a; y",
+        ),
         (b".inputs a b\n.names a b y\n11 0\n", b"a b y=NAND,a,b;"),
         (
             b".inputs a b\n.names a b y\n00 1\n",
@@ -70,17 +76,17 @@ fn reads(rt: HostRuntime) -> Result<(), Fail> {
             b".inputs a b\n.names a b y\n1- 0\n-0 0\n",
             b"a b y\\n2=NOT,b y=NOR,a,y\\n2;",
         ),
-        (
-            b".names y y\n1 1\n.outputs y y\n",
-            b"y=BUFF,y; y",
-        ),
+        (b".names y y\n1 1\n.outputs y y\n", b"y=BUFF,y; y"),
         (
             b".model m # c\n.inputs a \\\n b \\# c\r\nc\n.names a \\\r\n\tc y # \xff\n\n11 \\\n1\n# x\n.end\n",
             b"a b c y=AND,a,c;",
         ),
         (b".inputs a \\", b"a;"),
-        (b".inputs\n.outputs\n.model\n" , b"refused"),
-        (b".inputs a.b .c\n.names .c a.b a.b.c\n-0 1\n.end\n.end\n", b"refused"),
+        (b".inputs\n.outputs\n.model\n", b"refused"),
+        (
+            b".inputs a.b .c\n.names .c a.b a.b.c\n-0 1\n.end\n.end\n",
+            b"refused",
+        ),
     ];
     for (text, expected) in &cases {
         if text.len() > 16_777_216 {
@@ -98,8 +104,14 @@ fn reads(rt: HostRuntime) -> Result<(), Fail> {
 fn refuses(rt: HostRuntime) -> Result<(), Fail> {
     let alloc = rt.alloc();
     let cases: [(&[u8], BlifFault); 30] = [
-        (b".inputs a\n.outputs z\n\n.latch d q\n.names a z\n1 1\n", BlifFault::Construct { line: 4 }),
-        (b".names a y\n.latch q r\n1 1\n", BlifFault::Form { line: 3 }),
+        (
+            b".inputs a\n.outputs z\n\n.latch d q\n.names a z\n1 1\n",
+            BlifFault::Construct { line: 4 },
+        ),
+        (
+            b".names a y\n.latch q r\n1 1\n",
+            BlifFault::Form { line: 3 },
+        ),
         (b".latch a b\n.model m\n", BlifFault::Construct { line: 1 }),
         (b".end\n.exdc\n", BlifFault::Construct { line: 2 }),
         (b".INPUTS a\n", BlifFault::Construct { line: 1 }),
@@ -115,18 +127,48 @@ fn refuses(rt: HostRuntime) -> Result<(), Fail> {
         (b".inputs a(b\n", BlifFault::Form { line: 1 }),
         (b".latch \xff\n", BlifFault::Form { line: 1 }),
         (b".inputs a a\n", BlifFault::Twice { line: 1, first: 1 }),
-        (b".inputs a\n.names a\n.inputs a\n", BlifFault::Twice { line: 2, first: 1 }),
+        (
+            b".inputs a\n.names a\n.inputs a\n",
+            BlifFault::Twice { line: 2, first: 1 },
+        ),
         (b".inputs a\n.names a y\n1\n", BlifFault::Cover { line: 3 }),
-        (b".inputs a\n.names a y\n1 1\n0 0\n", BlifFault::Cover { line: 4 }),
-        (b".inputs a\n.names a y\n2 1\n", BlifFault::Cover { line: 3 }),
-        (b".inputs a\n.names a y\n1 2\n1 1\n", BlifFault::Cover { line: 3 }),
-        (b".inputs a\n.names a y\n1 1\n1 1 1\n", BlifFault::Cover { line: 4 }),
-        (b".inputs a\n.names a y\n- 1\n.outputs y\n", BlifFault::Constant { line: 2 }),
-        (b".names $false\n.names $false y\n", BlifFault::Constant { line: 1 }),
+        (
+            b".inputs a\n.names a y\n1 1\n0 0\n",
+            BlifFault::Cover { line: 4 },
+        ),
+        (
+            b".inputs a\n.names a y\n2 1\n",
+            BlifFault::Cover { line: 3 },
+        ),
+        (
+            b".inputs a\n.names a y\n1 2\n1 1\n",
+            BlifFault::Cover { line: 3 },
+        ),
+        (
+            b".inputs a\n.names a y\n1 1\n1 1 1\n",
+            BlifFault::Cover { line: 4 },
+        ),
+        (
+            b".inputs a\n.names a y\n- 1\n.outputs y\n",
+            BlifFault::Constant { line: 2 },
+        ),
+        (
+            b".names $false\n.names $false y\n",
+            BlifFault::Constant { line: 1 },
+        ),
         (b".names y y\n", BlifFault::Constant { line: 1 }),
-        (b".names a y\n1 1\n.inputs b\n", BlifFault::Undefined { line: 1 }),
-        (b".inputs b\n.outputs b a\n.names c d\n1 1\n", BlifFault::Undefined { line: 2 }),
-        (b".outputs a \\\nb c\n.inputs a\n.inputs b\n", BlifFault::Undefined { line: 1 }),
+        (
+            b".names a y\n1 1\n.inputs b\n",
+            BlifFault::Undefined { line: 1 },
+        ),
+        (
+            b".inputs b\n.outputs b a\n.names c d\n1 1\n",
+            BlifFault::Undefined { line: 2 },
+        ),
+        (
+            b".outputs a \\\nb c\n.inputs a\n.inputs b\n",
+            BlifFault::Undefined { line: 1 },
+        ),
         (b"\\\n\\\n.outputs a\n", BlifFault::Undefined { line: 1 }),
     ];
     for (text, fault) in &cases {
@@ -159,13 +201,19 @@ fn limits(rt: HostRuntime) -> Result<(), Fail> {
             b".inputs a\n.names a y\n",
             b"1 1\n",
             257,
-            Some(BlifFault::Pins { line: 2, count: 257 }),
+            Some(BlifFault::Pins {
+                line: 2,
+                count: 257,
+            }),
         ),
         (
             b".names y",
             b" a",
             258,
-            Some(BlifFault::Pins { line: 1, count: 258 }),
+            Some(BlifFault::Pins {
+                line: 1,
+                count: 258,
+            }),
         ),
         (
             b".inputs a\n.names a y\n1 1\n",

@@ -206,11 +206,11 @@ may_build elements h =
 
 -- each of their gates has a pin
 gates_whole : (names : List (List ℕ)) (elements : List Element) → AllByRecursion HasRightPins elements → All (λ gate. 1 ≤ length gate.sources) (gates_of names elements)
-gates_whole names []  pins = All-nil _
-gates_whole names (Input name ∷ rest)  pins = gates_whole names rest pins.1
-gates_whole names (Output name ∷ rest)  pins = gates_whole names rest pins.1
-gates_whole names (Cut name source ∷ rest)  pins = gates_whole names rest pins.1
-gates_whole names (Gate name kind sources ∷ rest)  pins =
+gates_whole names [] pins = All-nil _
+gates_whole names (Input name ∷ rest) pins = gates_whole names rest pins.1
+gates_whole names (Output name ∷ rest) pins = gates_whole names rest pins.1
+gates_whole names (Cut name source ∷ rest) pins = gates_whole names rest pins.1
+gates_whole names (Gate name kind sources ∷ rest) pins =
     let count = pins.0 in
     let some = count.0 in
     All-cons (λ (gate : netlist.Gate). 1 ≤ length gate.sources) (record { kind = kind; sources = map (number_in names) sources }) (gates_of names rest)

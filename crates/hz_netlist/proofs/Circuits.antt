@@ -79,4 +79,3 @@ built_circuit elements h =
     let outputs = steps_circuit MayAddOutput with_output_of output_circuit (connected_netlist (unconnected_netlist elements) elements) elements pins may.outputs_may h.named in
     let now = fold with_output_of (connected_netlist (unconnected_netlist elements) elements) elements in
     subst IsCircuit (built-circuit_of_elements elements) (data_circuit now now.cuts outputs outputs.data_nodes)
-

@@ -250,11 +250,7 @@ fn number_of(place: usize) -> Result<u32, Memory>
 }
 
 // Puts the names of entries on chains.
-fn hash_names(
-    entries: &[Entry],
-    hashing: &NameHashing,
-    chains: &mut Chains,
-) -> Result<(), Memory>
+fn hash_names(entries: &[Entry], hashing: &NameHashing, chains: &mut Chains) -> Result<(), Memory>
     ensures { OnOk result (chains.new ≡ chains.old ++ map (hash_of hashing.now) (entry_names entries.now)) }
 {
     for entry in entries {
