@@ -2,7 +2,7 @@
 
 use crate::draft::Draft;
 use crate::gates::{Gate, Role, Source};
-use hz_core::{Circuit, Memory};
+use hz_core::{Chains, Circuit, Memory, NameHashing};
 use hz_netlist::{NameTable, add_outputs, connect_gate};
 use itoa::Buffer;
 use std::alloc::Global;
@@ -12,7 +12,8 @@ pub(crate) fn build(alloc: Global, draft: &Draft) -> Result<Circuit, Memory> {
     let gates = draft.gates.as_slice();
     let nodes = number_nodes(alloc, draft)?;
     let names = draft.inputs.len() + gates.len();
-    let mut circuit = Circuit::with_names(alloc, draft.names.hashing(), names)?;
+    let hashing = choose_hashing(alloc, &draft.names, gates)?;
+    let mut circuit = Circuit::with_names(alloc, hashing, names)?;
     add_inputs(&mut circuit, &draft.names, draft.inputs.as_slice())?;
     add_gates(alloc, &mut circuit, &draft.names, gates)?;
     let pins = resolve_pins(alloc, draft, nodes.as_slice())?;
@@ -71,6 +72,22 @@ fn resolve_outputs(alloc: Global, draft: &Draft, nodes: &[u32]) -> Result<Vec<u3
         };
     }
     Ok(outputs)
+}
+
+// How the names of nodes are hashed: as those of the text, but with a key if the names of gates were chosen to collide.
+fn choose_hashing(alloc: Global, names: &NameTable, gates: &[Gate]) -> Result<NameHashing, Memory> {
+    let hashing = names.hashing();
+    let mut chains = Chains::new(alloc);
+    let mut buffer = Vec::new(alloc);
+    for gate in gates {
+        write_name(&mut buffer, names.name(gate.output), gate.role)?;
+        chains.push(hashing.hash(buffer.as_slice()))?;
+    }
+    if chains.are_crowded() {
+        Ok(names.keyed_hashing())
+    } else {
+        Ok(hashing)
+    }
 }
 
 // Adds the inputs with these names.

@@ -93,6 +93,12 @@ impl<'a> NameTable<'a> {
         self.hashing
     }
 
+    /// The hash with a digest of the text as the key: names that collide in it can't be chosen.
+    pub fn keyed_hashing(&self) -> NameHashing {
+        let digest = Sha256::digest(self.text);
+        NameHashing::keyed(&digest)
+    }
+
     /// The name with this number.
     pub fn name(&self, number: u32) -> &'a [u8]
         requires { number < length self.now }
@@ -227,8 +233,7 @@ impl<'a> NameTable<'a> {
     fn rekey(&mut self) -> Result<(), Memory>
         ensures { OnOk result (self.new ≡ self.old) }
     {
-        let digest = Sha256::digest(self.text);
-        let hashing = NameHashing::keyed(&digest);
+        let hashing = self.keyed_hashing();
         let mut chains = Chains::new(*self.entries.allocator());
         chains.reserve(self.chains.room())?;
         hash_names(self.entries.as_slice(), &hashing, &mut chains)?;
