@@ -9,6 +9,7 @@ pub mod NamedVariables
 pub mod ReplayDecided
 pub mod ReplayCounts
 pub mod TextEnds
+pub mod NetlistTexts
 pub mod FaultlessEndings
 pub mod Writable
 pub mod ReportLines

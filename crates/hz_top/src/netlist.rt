@@ -1,7 +1,7 @@
 //! The first text: a netlist, in the format that the name of its file tells.
 ghost use Rattle.std.specs.Prelude.{◌≡◌, ◌≤◌, IfOk, IfErr, length};
 ghost use Rattle.hz_line.specs.Line.{most_text_bytes};
-ghost use Rattle.hz_top.specs.Netlists.{has_blif_name, IsNetlistText, IsNetlistRefusal};
+ghost use Rattle.hz_top.specs.Netlists.{has_blif_name, IsNetlistText, IsNetlistRefusal, TextsAreCircuits};
 
 use hz_bench::BenchFault;
 use hz_blif::BlifFault;
@@ -46,4 +46,12 @@ fn has_blif_name(name: &[u8]) -> bool
         Some(front) => is_keyword(&name[front..], BLIF),
         None => false,
     }
+}
+
+/// The text of a netlist without a fault is that of a circuit, in each format.
+pub(crate) fn texts_are_circuits()
+    ensures { TextsAreCircuits }
+{
+    hz_bench::faultless_text_is_circuit();
+    hz_blif::faultless_text_is_circuit();
 }

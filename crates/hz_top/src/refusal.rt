@@ -2,8 +2,8 @@
 ghost use Rattle.std.specs.Prelude.{◌≡◌, ◌<◌, length};
 ghost use Rattle.hz_write.specs.Writes.{Wrote};
 ghost use Rattle.hz_top.specs.Ends.{Ends};
-ghost use Rattle.hz_top.specs.Inside.{LoadPrints, NetlistPrints, StartPrints, TextPrints, named_node, named_gate, NamesNode};
-ghost use Rattle.hz_top.specs.Refusal.{words_line, unread_line, long_line, place_word, fault_line, counted_line, variables_line, missing_line, mismatch_line, bench_fault_line, blif_fault_line, netlist_fault_line, text_fault_line, open_line, unstable_line};
+ghost use Rattle.hz_top.specs.Inside.{BenchPrints, BlifPrints, LoadPrints, NetlistPrints, StartPrints, TextPrints, named_node, named_gate, NamesNode};
+ghost use Rattle.hz_top.specs.Refusal.{words_line, unread_line, long_line, place_word, fault_line, counted_line, variables_line, missing_line, mismatch_line, bench_fault_line, blif_fault_line, text_fault_line, open_line, unstable_line};
 
 use crate::netlist::NetlistFault;
 use crate::status::{Status, status_after};
@@ -116,17 +116,7 @@ fn put_variables<K: Sink>(out: &mut K, variables: u32) -> Result<(), PutFault>
     )
 }
 
-// A fault of a netlist's text. If memory ran out, there is no line.
-fn put_netlist_fault<K: Sink>(out: &mut K, fault: NetlistFault) -> Result<(), PutFault>
-    ensures { Wrote K.output K.faults (netlist_fault_line fault) out.old out.new result }
-{
-    match fault {
-        NetlistFault::Bench(fault) => put_bench_fault(out, fault),
-        NetlistFault::Blif(fault) => put_blif_fault(out, fault),
-    }
-}
-
-// A fault of a netlist in the .bench format.
+// A fault of a netlist in the .bench format. If memory ran out, there is no line.
 fn put_bench_fault<K: Sink>(out: &mut K, fault: BenchFault) -> Result<(), PutFault>
     ensures { Wrote K.output K.faults (bench_fault_line fault) out.old out.new result }
 {
@@ -144,7 +134,7 @@ fn put_bench_fault<K: Sink>(out: &mut K, fault: BenchFault) -> Result<(), PutFau
     }
 }
 
-// A fault of a netlist in BLIF.
+// A fault of a netlist in BLIF. If memory ran out, there is no line.
 fn put_blif_fault<K: Sink>(out: &mut K, fault: BlifFault) -> Result<(), PutFault>
     ensures { Wrote K.output K.faults (blif_fault_line fault) out.old out.new result }
 {
@@ -275,10 +265,28 @@ pub(crate) fn refuse_netlist<K: Sink>(out: &mut K, fault: NetlistFault) -> Statu
     ensures { Ends K.output K.faults (NetlistPrints fault) out.old out.new result }
 {
     match fault {
-        NetlistFault::Bench(BenchFault::Memory) | NetlistFault::Blif(BlifFault::Memory) => {
-            Status::Memory
-        }
-        _ => status_after(put_netlist_fault(out, fault), Status::Netlist),
+        NetlistFault::Bench(fault) => refuse_bench(out, fault),
+        NetlistFault::Blif(fault) => refuse_blif(out, fault),
+    }
+}
+
+// Writes why a text is no netlist in the .bench format.
+fn refuse_bench<K: Sink>(out: &mut K, fault: BenchFault) -> Status
+    ensures { Ends K.output K.faults (BenchPrints fault) out.old out.new result }
+{
+    match fault {
+        BenchFault::Memory => Status::Memory,
+        _ => status_after(put_bench_fault(out, fault), Status::Netlist),
+    }
+}
+
+// Writes why a text is no netlist in BLIF.
+fn refuse_blif<K: Sink>(out: &mut K, fault: BlifFault) -> Status
+    ensures { Ends K.output K.faults (BlifPrints fault) out.old out.new result }
+{
+    match fault {
+        BlifFault::Memory => Status::Memory,
+        _ => status_after(put_blif_fault(out, fault), Status::Netlist),
     }
 }
 

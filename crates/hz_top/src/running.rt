@@ -10,6 +10,7 @@ ghost use Rattle.hz_top.specs.Headline.{Headline};
 ghost use Rattle.hz_top.specs.Outcome.{observation_of, IsJobOutcome, MayLoad};
 
 use crate::demo::demo;
+use crate::netlist::texts_are_circuits;
 use crate::order::work_on_files;
 use crate::refusal::put_words;
 use crate::status::{Status, status_after};
@@ -35,8 +36,7 @@ pub fn run<F: Files, K: Sink>(alloc: Global, words: &[String], files: &mut F, ou
         → ¬ Rose (K.faults out.old) (K.faults out.new)
         → (result ≡ own) ⊎ (result ≡ Status.Memory) }
 {
-    hz_bench::faultless_text_is_circuit();
-    hz_blif::faultless_text_is_circuit();
+    texts_are_circuits();
     let status = answer(alloc, words, files, out);
     status_after(out.flush(), status)
 }

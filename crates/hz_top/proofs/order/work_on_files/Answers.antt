@@ -1,6 +1,7 @@
-use Rattle.std.proofs.Common.{refl, inl, inr, ap, ◌∙◌, Err}
+use Rattle.std.proofs.Common.{inl, inr, ap, sym, subst, ◌∙◌, Err}
 use Rattle.hz_outside.specs.declared.fault.Place.TheVariants.{First}
 use Rattle.hz_top.specs.Outcome.{IsFilesOutcome, IsSecondFileOutcome, observation_of}
+use Rattle.hz_top.specs.Netlists.{IsNetlistText}
 use Rattle.hz_top.specs.Tasks.{comes_of}
 use Rattle.hz_top.specs.Refusal.{netlist_fault_line}
 use Rattle.hz_top.specs.Inside.{LoadPrints, NetlistPrints}
@@ -21,21 +22,19 @@ returns-in-Err g c =
           (λ is. c.load.ensures.over (c.in-Err.is ∙ ap Err is)) own text says,
     )) c.refuse_load.ensures
 
-pub returns-in-Err-read : goal.returns-in-Err-read
-returns-in-Err-read g c =
+pub returns-in-Err-read_netlist : goal.returns-in-Err-read_netlist
+returns-in-Err-read_netlist g c =
     let told = observation_of g.F.Files.held g.F.Files.faults g.F.Files.longs c.args.files.now c.load.new.self in
     let comes = IsFilesOutcome told (comes_of c.args.options c.args.task) c.args.first.now c.args.second.now in
-    let fault = c.in-Err-read.fault in
+    let fault = c.in-Err-read_netlist.fault in
+    let bytes = c.as_slice.result.now in
     Ends-more g.K.Sink.output g.K.Sink.faults (NetlistPrints fault) comes c.args.out.now c.refuse_netlist.new.out c.refuse_netlist.result
-    (λ own text says. inr (
-      c.as_slice.result.now,
+    (λ own text says.
+    let refused = netlist-refused c.args.first.now bytes fault c.in-Err-read_netlist.ensures.refusal own text says in
+    inr (
+      bytes,
       (rw c.as_slice.ensures.value c.in-Ok.ensures.bytes, rw c.as_slice.ensures.len c.in-Ok.ensures.short),
-      inl (
-        netlist_fault_line fault,
-        (fault, netlist-refused c.as_slice.result.now fault c.in-Err-read.ensures.fault says.0, refl),
-        (c.load.ensures.other_faults, c.load.ensures.other_longs),
-        says.1,
-      ),
+      inl (netlist_fault_line fault, refused.0, (c.load.ensures.other_faults, c.load.ensures.other_longs), refused.1),
     )) c.refuse_netlist.ensures
 
 pub returns : goal.returns
@@ -54,7 +53,7 @@ returns g c =
       (rw c.as_slice.ensures.value c.in-Ok.ensures.bytes, rw c.as_slice.ensures.len c.in-Ok.ensures.short),
       inr (
         net,
-        (c.in-Ok-read.ensures.faultless, c.in-Ok-build.ensures.ok ∙ c.in-Ok-read.ensures.circuit),
+        subst (IsNetlistText c.args.first.now c.as_slice.result.now) (sym c.in-Ok-build.ensures.ok) c.in-Ok-read_netlist.ensures.netlist,
         IsSecondFileOutcome-before held faults longs c.args.files.now c.load.new.self now (comes net) name
             c.load.ensures.same_files c.load.ensures.other_faults c.load.ensures.other_longs own text says,
       ),
