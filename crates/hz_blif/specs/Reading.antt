@@ -4,7 +4,7 @@ use Rattle.std.specs.List.{list_all, list_any}
 use Rattle.std.specs.Borrow.{Bor}
 use Rattle.hz_line.specs.Line.{lines_of, lines_of_rest}
 use Rattle.hz_line.specs.Statement.{Numbered}
-use Rattle.hz_blif.specs.declared.cover.Cover.{Cover as CoverRead}
+use Rattle.hz_blif.specs.declared.cover.Rows.{Rows}
 use Rattle.hz_blif.specs.declared.line.Line.{Line as LineRead}
 use Rattle.hz_blif.specs.declared.line.Line.TheVariants as read
 use Rattle.hz_blif.specs.declared.line.Course.{Course}
@@ -61,12 +61,16 @@ course_of lines = record { has_statement = has_statement lines; has_end = has_en
 abbrev pub planes_in : List (Numbered (List (List ℕ))) → List (List ℕ)
 planes_in rows = map (λ row. plane_of row.statement) rows
 
+-- what is kept of these planes: whether some plane has no literal, and as many of them as a cover may have rows
+pub record KeepsPlanes (planes : List (List ℕ)) (kept : Rows) : Type 0 where
+  pub bare : kept.has_bare ≡ not (list_all has_literal planes)
+  pub planes_are : bytes_of kept.planes.items ≡ take most_gate_pins planes
+
 -- what is kept of the rows of a cover, which are all as said
-pub record KeepsRows (rows : List (Numbered (List (List ℕ)))) (cover : CoverRead) : Type 0 where
-  pub counted : cover.rows ≡ length rows
-  pub column : cover.column.now ≡ first_column rows
-  pub bare : cover.has_bare_row ≡ not (list_all has_literal (planes_in rows))
-  pub planes_are : bytes_of cover.planes.items ≡ take most_gate_pins (planes_in rows)
+pub record KeepsRows (rows : List (Numbered (List (List ℕ)))) (kept : Rows) : Type 0 where
+  pub counted : kept.count ≡ length rows
+  pub column_is : kept.column.now ≡ first_column rows
+  pub planes_kept : KeepsPlanes (planes_in rows) kept
 
 -- the count of pins, or else of rows, if it is more than a gate takes
 abbrev pub excess_of : ℕ → ℕ → Option ℕ

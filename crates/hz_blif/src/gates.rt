@@ -88,7 +88,7 @@ impl Gates {
 
     /// Adds the gates of a cover that is not constant.
     pub(crate) fn add_cover(&mut self, cover: &Cover) -> Result<(), Memory> {
-        match cover.planes.as_slice() {
+        match cover.planes() {
             [] => Ok(()),
             [plane] => self.add_single(cover, *plane),
             planes => self.add_rows(cover, planes),
@@ -154,7 +154,7 @@ impl Gates {
     fn add_inverters(&mut self, cover: &Cover) -> Result<(), Memory> {
         self.inverted.clear();
         for (pin, name) in cover.pins.iter().enumerate() {
-            if has_zero(cover.planes.as_slice(), pin) {
+            if has_zero(cover.planes(), pin) {
                 let inverter = Source::Gate(self.gates.len());
                 push(&mut self.inverted, inverter)?;
                 push(&mut self.sources, Source::Name(*name))?;
