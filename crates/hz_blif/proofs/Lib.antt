@@ -6,4 +6,5 @@ pub mod LineLemmas
 pub mod RowLemmas
 pub mod JoinLemmas
 pub mod NameLaws
+pub mod WiredPins
 pub mod Examples
