@@ -7,4 +7,5 @@ pub mod RowLemmas
 pub mod JoinLemmas
 pub mod NameLaws
 pub mod WiredPins
+pub mod WiredNames
 pub mod Examples
