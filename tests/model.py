@@ -358,6 +358,22 @@ class Circuit:
                 return f"refused: start: unstable {name}"
         return "start" + "".join(f" {name}={pairs[name]}" for name in self.names)
 
+    def pattern_lines(self, held, patterns):
+        """The text of patterns from these held gates, with every node as an output."""
+        lines, counts = [], {"open": 0, "unstable": 0, "unsettled": 0}
+        for number, (before, after) in enumerate(patterns, 1):
+            words = self.start_line(dict(zip(self.inputs, before), **held)).split()
+            if words[0] == "refused:":
+                lines.append(f"{number} {words[2]} {words[3]}")
+                counts[words[2]] += 1
+                continue
+            nodes = "".join(word[-1] for word in words[1:])
+            (_, a, _), (_, b, _) = Circuit(self.inputs, self.gates, nodes, after).passes()
+            lines.append(f"{number}" + "".join(f" {name}={a[i]}{b[i]}" for i, name in enumerate(self.names)))
+            counts["unsettled"] += "X" in b
+        lines.append(f"patterns {len(patterns)}" + "".join(f" {kind} {count}" for kind, count in counts.items()))
+        return "\n".join(lines) + "\n"
+
     def listings(self):
         """Each way to list all inputs that are no flip-flops, and some flip-flops and gates."""
         for bits in product("01", repeat=len(self.primary)):

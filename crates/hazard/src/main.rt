@@ -1,12 +1,9 @@
 //! The program `hazard`: the words of the command line, the files of the file system, standard output.
 #![tactic(auto)]
 
-mod heard;
-mod help;
-
-use crate::heard::Heard;
-use hz_outside::{DiskFiles, Gathered, StdSink};
-use hz_top::run;
+use hz_help::{Heard, Refusal, tell};
+use hz_outside::{DiskFiles, Gathered, Place, StdSink};
+use hz_top::{Status, run};
 use std::process::ExitCode;
 use std::{env, io};
 
@@ -24,8 +21,28 @@ fn main(rt: HostRuntime) -> ExitCode {
     let mut files = DiskFiles::new(&rt);
     let mut out = Heard::new(Gathered::new(StdSink::new(&rt)));
     let status = run(rt.alloc(), words.as_slice(), &mut files, &mut out);
-    help::tell(&rt, words.as_slice(), out.first(), status);
+    if let Some(refused) = refusal_of(status) {
+        tell(&rt, words.as_slice(), out.first(), refused);
+    }
     ExitCode::from(status.code())
+}
+
+// What is refused with a status of which more is said on standard error.
+fn refusal_of(status: Status) -> Option<Refusal> {
+    match status {
+        Status::Done | Status::No | Status::Start => None,
+        Status::Words => Some(Refusal::Words),
+        Status::Netlist => Some(Refusal::Text {
+            place: Place::First,
+        }),
+        Status::Text => Some(Refusal::Text {
+            place: Place::Second,
+        }),
+        Status::File => Some(Refusal::File),
+        Status::TooLong => Some(Refusal::TooLong),
+        Status::Sink => Some(Refusal::Sink),
+        Status::Memory => Some(Refusal::Memory),
+    }
 }
 
 // The words after the program's name.

@@ -15,7 +15,7 @@ use Rattle.hz_words.specs.Job.{JobOf, OnFiles, Demo}
 use Rattle.hz_top.specs.declared.status.Status.{Status}
 use Rattle.hz_top.specs.declared.status.Status.TheVariants as status
 use Rattle.hz_top.specs.Answer.{Answers}
-use Rattle.hz_top.specs.Faultless.{AreGoodFiles, AreFaultlessFiles, IsFaultlessJob}
+use Rattle.hz_top.specs.Faultless.{AreGoodFiles, IsFaultlessJob}
 use Rattle.hz_top.specs.Netlists.{IsNetlistText}
 use Rattle.hz_top.specs.Outcome.{Observation, IsSecondFileOutcome, IsFilesOutcome, IsJobOutcome}
 use Rattle.hz_top.specs.Tasks.{comes_of}

@@ -1,5 +1,5 @@
 -- What a call wrote, once all that waited is flushed.
-use Rattle.std.proofs.Common.{◌≡◌, ◌∙◌, sym, ap, ◌≤◌, ℕ, inl, inr, List, [], ◌∷◌, ◌++◌, Option, Result, Ok, Err, OnOk, OnErr, refl, subst, rules, arith, append_assoc}
+use Rattle.std.proofs.Common.{◌≡◌, ◌∙◌, sym, ap, ◌≤◌, ℕ, inl, inr, List, [], ◌∷◌, ◌++◌, Option, Result, Ok, Err, OnOk, OnErr, refl, subst, rules, append_assoc}
 use Rattle.std.proofs.lemmas.List.{append-nil}
 use Rattle.hz_outside.specs.Counts.{Rose}
 use Rattle.hz_outside.specs.WrittenText.{Output, Took, TookPrefix, GrewByPrefix, extended_text}
@@ -11,7 +11,6 @@ use Rattle.hz_top.specs.declared.status.Status.TheVariants as status
 use Rattle.hz_top.specs.Answer.{Answers, WroteWhole, WrotePrefix}
 use Rattle.hz_top.specs.Ends.{written_of, Ends, TookWhole, TookFront}
 use Rattle.hz_top.specs.Ending.{status_after}
-use Rattle.hz_top.proofs.PutEndings.{IsEnd}
 
 -- a prefix, of which the flush wrote a prefix
 TookPrefix-then : {xs : List ℕ} {a b c : Output} → TookPrefix a xs b → TookPrefix b [] c → TookPrefix a xs c

@@ -28,14 +28,12 @@ use Rattle.hz_seq.specs.Analyses.{Analysis, Found, Stopped, AreAnalyses, all_sto
 use Rattle.hz_seq.proofs.Existence.{length-analyses}
 use Rattle.hz_seq.proofs.FirstAnalyses.{input-long}
 use Rattle.hz_seq.proofs.NextStart.{next-start}
-use Rattle.hz_line.specs.Line.{most_text_bytes}
 use Rattle.hz_options.specs.declared.options.Options.{Options}
 use Rattle.hz_words.specs.declared.job.Task.TheVariants.{Analyse}
 use Rattle.hz_words.specs.Job.{JobOf}
 use Rattle.hz_top.specs.declared.status.Status.{Status}
 use Rattle.hz_top.specs.declared.status.Status.TheVariants as status
 use Rattle.hz_top.specs.Answer.{Answers, WroteWhole}
-use Rattle.hz_top.specs.Faultless.{AreGoodFiles}
 use Rattle.hz_top.specs.Headline.{TakesBoth, IsExact, StartsAt, IsExactChange, IsStoppedBy, IsExactReport, Headline}
 use Rattle.hz_top.specs.Netlists.{IsNetlistText, TextsAreCircuits}
 use Rattle.hz_top.specs.Outcome.{Observation, IsFilesOutcome, IsJobOutcome}

@@ -1,5 +1,6 @@
 pub mod PutEndings
 pub mod Flushed
+pub mod LeftFiles
 pub mod JobOutcomes
 pub mod ReplayerStepLemmas
 pub mod RunSteps

@@ -3,6 +3,7 @@ use Rattle.std.proofs.Common.{ℕ, ◌<◌, inl, inr, List, [], ◌∷◌, lengt
 use Rattle.hz_core.specs.Netlist.{Netlist, IsCircuit, primary_inputs}
 use Rattle.hz_text.specs.declared.fault.TextFault.{TextFault}
 use Rattle.hz_text.specs.declared.fault.TextFault.TheVariants.{Form, Unknown, Twice, Missing, Bit, Order, TooMany, Memory, Mismatch}
+use Rattle.hz_text.specs.PatternFault.{HasPatternFault, IsPatternRefusal}
 use Rattle.hz_text.specs.RunFault.{resolved_run_statements, first_start, first_input, LeavesOut, IsUnassigned, HasRunFault, IsRunRefusal}
 use Rattle.hz_text.specs.Fault.{IsLeastFaultOrMemory}
 use Rattle.hz_text.specs.ScriptFault.{resolved_statements, IsMissing, HasScriptFault, IsScriptRefusal}
@@ -49,3 +50,7 @@ pub runs-node : (netlist : Netlist) (text : List ℕ) (fault : TextFault) → Is
 runs-node netlist text fault circuit least =
     names-node netlist (HasRunFault netlist text) fault
     (λ node out. left_out-node netlist text node circuit out) least
+
+-- the refusal of patterns names no node
+pub patterns-node : (netlist : Netlist) (text : List ℕ) (fault : TextFault) → IsPatternRefusal netlist text fault → NamesNode netlist (named_node fault)
+patterns-node netlist text fault least = names-node netlist (HasPatternFault netlist text) fault (λ node missing. absurd missing) least

@@ -7,13 +7,17 @@ use Rattle.hz_text.specs.declared.fault.TextFault.{TextFault}
 use Rattle.hz_text.specs.ScriptFault.{HasScriptFault}
 use Rattle.hz_text.specs.ScriptText.{IsValue}
 use Rattle.hz_text.specs.ScriptValue.{ScriptOf}
+use Rattle.hz_text.specs.PatternFault.{HasPatternFault}
+use Rattle.hz_text.specs.PatternText.{IsPatternsValue}
+use Rattle.hz_text.specs.PatternValue.{PatternsOf}
 use Rattle.hz_text.specs.RunFault.{HasRunFault}
 use Rattle.hz_text.specs.RunText.{IsRunValue}
 use Rattle.hz_text.specs.RunValue.{RunTextOf}
 use Rattle.hz_words.specs.declared.job.Task.{Task}
-use Rattle.hz_words.specs.declared.job.Task.TheVariants.{Analyse, Replay, Convert}
+use Rattle.hz_words.specs.declared.job.Task.TheVariants.{Analyse, Replay, Convert, Batch}
 use Rattle.hz_top.specs.declared.status.Status.{Status}
 use Rattle.hz_top.specs.declared.status.Status.TheVariants as status
+use Rattle.hz_top.specs.Batches.{IsBatchOutcome}
 use Rattle.hz_top.specs.Reports.{Reports}
 use Rattle.hz_top.specs.RunTexts.{IsConvertOutcome, EndsReplay}
 use Rattle.hz_top.specs.Second.{IsTextOutcome, Started, IsGoodText}
@@ -45,9 +49,14 @@ replay-ends netlist value wanted own said (inr (number, why, refused, is)) (inr 
 convert-ends : (netlist : Netlist) (value : RunTextOf) (wanted own : Status) (said : List ℕ) → wanted ≡ status.Done → IsConvertOutcome netlist value own said → own ≡ wanted
 convert-ends netlist value wanted own said is says = says.0 ∙ sym is
 
+-- patterns come to their text
+batch-ends : (netlist : Netlist) (value : PatternsOf) (wanted own : Status) (said : List ℕ) → wanted ≡ status.Done → IsBatchOutcome netlist value own said → own ≡ wanted
+batch-ends netlist value wanted own said is says = says.0 ∙ sym is
+
 -- the second text comes to its end, by the task
 pub text-ends : (options : Options) (task : Task) (netlist : Netlist) (text : List ℕ) (wanted own : Status) (said : List ℕ) → good_of task netlist text wanted → comes_of options task netlist text own said → own ≡ wanted
 text-ends options Analyse =
     good-ends (codes "script") HasScriptFault IsValue (Started (Reports options)) (λ netlist script own. IsCompletable netlist script.start × (own ≡ status.Done)) (script-ends options)
 text-ends options Replay = good-ends (codes "runs") HasRunFault IsRunValue IsReplayOutcome EndsReplay replay-ends
 text-ends options Convert = good-ends (codes "runs") HasRunFault IsRunValue IsConvertOutcome (λ netlist runs own. own ≡ status.Done) convert-ends
+text-ends options Batch = good-ends (codes "patterns") HasPatternFault IsPatternsValue IsBatchOutcome (λ netlist patterns own. own ≡ status.Done) batch-ends

@@ -5,6 +5,7 @@
 -- WroteWhole, WrotePrefix: the two cases
 -- Observation: what the files show: the bytes under each name, and what was counted
 -- IsJobOutcome told job status text: the outcomes of a job: which text comes with which status
+-- LeavesFiles told job: what a call leaves of the counts, however it ends
 -- IsFilesOutcome, IsFirstTextOutcome, IsSecondFileOutcome: the outcomes of its two files, one after the other
 -- NetlistRefused name bytes line, IsNetlistText name bytes netlist: the first text
 -- comes_of options task netlist text status line: the outcomes of the second text, by the task
@@ -20,6 +21,7 @@
 -- IsFirstRefusal net input start runs number refused: the first run that is refused, and why
 -- accepted_line runs, no_line netlist number refused: the lines of the verdict
 -- IsConvertOutcome netlist runs status text: the conversion
+-- IsBatchOutcome netlist patterns status text: the text of patterns
 -- good_of task netlist text status: nothing is to be refused of the second text, and the task ends with this status
 -- IsFaultlessJob told job status: nothing is to be refused in the job, which ends with this status
 -- Headline written faults told asked was now status: the headline of a call
@@ -38,9 +40,11 @@ pub mod Verdict
 pub mod Netlists
 pub mod Second
 pub mod RunTexts
+pub mod Batches
 pub mod Reports
 pub mod Tasks
 pub mod Outcome
+pub mod LeftFiles
 pub mod Faultless
 pub mod Headline
 pub mod Inside

@@ -7,6 +7,9 @@ use Rattle.hz_text.specs.Fault.{IsLeastFaultOf}
 use Rattle.hz_text.specs.ScriptFault.{HasScriptFault}
 use Rattle.hz_text.specs.ScriptText.{IsValue}
 use Rattle.hz_text.specs.ScriptValue.{ScriptOf}
+use Rattle.hz_text.specs.PatternFault.{HasPatternFault}
+use Rattle.hz_text.specs.PatternText.{IsPatternsValue}
+use Rattle.hz_text.specs.PatternValue.{PatternsOf}
 use Rattle.hz_text.specs.RunFault.{HasRunFault}
 use Rattle.hz_text.specs.RunText.{IsRunValue}
 use Rattle.hz_text.specs.RunValue.{RunTextOf}
@@ -30,6 +33,10 @@ OfScript = IsTextOutcome (codes "script") HasScriptFault IsValue
 -- what a run text comes to
 abbrev pub OfRuns : (judge : Netlist → RunTextOf → Status → List ℕ → Type 0) → Netlist → List ℕ → Status → List ℕ → Type 0
 OfRuns = IsTextOutcome (codes "runs") HasRunFault IsRunValue
+
+-- what patterns come to
+abbrev pub OfPatterns : (judge : Netlist → PatternsOf → Status → List ℕ → Type 0) → Netlist → List ℕ → Status → List ℕ → Type 0
+OfPatterns = IsTextOutcome (codes "patterns") HasPatternFault IsPatternsValue
 
 -- the start that a script lists is refused
 abbrev pub StartRefused : Netlist → List (Option Bool) → List ℕ → Type 0

@@ -5,15 +5,18 @@ use Rattle.hz_gen.specs.Starts.{IsCompletable}
 use Rattle.hz_options.specs.declared.options.Options.{Options}
 use Rattle.hz_text.specs.ScriptFault.{HasScriptFault}
 use Rattle.hz_text.specs.ScriptText.{IsValue}
+use Rattle.hz_text.specs.PatternFault.{HasPatternFault}
+use Rattle.hz_text.specs.PatternText.{IsPatternsValue}
 use Rattle.hz_text.specs.RunFault.{HasRunFault}
 use Rattle.hz_text.specs.RunText.{IsRunValue}
 use Rattle.hz_words.specs.declared.job.Task.{Task}
-use Rattle.hz_words.specs.declared.job.Task.TheVariants.{Analyse, Replay, Convert}
+use Rattle.hz_words.specs.declared.job.Task.TheVariants.{Analyse, Replay, Convert, Batch}
 use Rattle.hz_top.specs.declared.status.Status.{Status}
 use Rattle.hz_top.specs.declared.status.Status.TheVariants.{Done}
+use Rattle.hz_top.specs.Batches.{IsBatchOutcome}
 use Rattle.hz_top.specs.Reports.{Reports}
 use Rattle.hz_top.specs.RunTexts.{IsConvertOutcome, EndsReplay}
-use Rattle.hz_top.specs.Second.{OfScript, OfRuns, Started, IsGoodText}
+use Rattle.hz_top.specs.Second.{OfScript, OfRuns, OfPatterns, Started, IsGoodText}
 use Rattle.hz_top.specs.Verdict.{IsReplayOutcome}
 
 -- what the second text comes to
@@ -21,9 +24,11 @@ abbrev pub comes_of : Options → Task → Netlist → List ℕ → Status → L
 comes_of options Analyse = OfScript (Started (Reports options))
 comes_of options Replay = OfRuns IsReplayOutcome
 comes_of options Convert = OfRuns IsConvertOutcome
+comes_of options Batch = OfPatterns IsBatchOutcome
 
 -- nothing is to be refused of the second text, and the task ends with this status
 abbrev pub good_of : Task → Netlist → List ℕ → Status → Type 0
 good_of Analyse = IsGoodText HasScriptFault IsValue (λ netlist script own. IsCompletable netlist script.start × (own ≡ Done))
 good_of Replay = IsGoodText HasRunFault IsRunValue EndsReplay
 good_of Convert = IsGoodText HasRunFault IsRunValue (λ netlist runs own. own ≡ Done)
+good_of Batch = IsGoodText HasPatternFault IsPatternsValue (λ netlist patterns own. own ≡ Done)

@@ -13,7 +13,7 @@ ghost use Rattle.hz_top.specs.Outcome.{IsDemoOutcome, IsSummaryOutcome};
 use crate::refusal::refuse_start;
 use crate::status::{Status, status_after};
 use hz_desk::{Desk, Finding};
-use hz_gen::{demo_starts, make};
+use hz_gen::{GenFault, demo_starts, make};
 use hz_net::Net;
 use hz_outside::{PutFault, Sink};
 use hz_pass::complete;
@@ -31,8 +31,11 @@ pub(crate) fn demo<K: Sink>(alloc: Global, number: u32, cap: u64, out: &mut K) -
 {
     // The law says that no start is refused.
     demo_starts();
-    let Ok((circuit, script)) = make(alloc, number) else {
-        return Status::Memory;
+    let (circuit, script) = match make(alloc, number) {
+        Ok(made) => made,
+        Err(GenFault::Memory) => return Status::Memory,
+        // The words take no number for which there is no circuit.
+        Err(GenFault::Range) => unreachable!(),
     };
     let Ok(net) = Net::build(alloc, circuit) else {
         return Status::Memory;
@@ -68,7 +71,7 @@ fn summarise<K: Sink>(
     match sequence.next(script.change(0), cap) {
         Ok(finding) => status_after(put_summary(out, net, finding), Status::Done),
         // Nothing stops a first change.
-        Err(_) => Status::Memory,
+        Err(_) => unreachable!(),
     }
 }
 

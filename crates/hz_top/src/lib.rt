@@ -5,18 +5,20 @@
 //! | `status` | how a call of the program ends |
 //! | `order` | the order of work: two files, and then what the task does with the second text |
 //! | `refusal` | refusals: their lines and their statuses |
-//! | `second` | the second text: what every job does with a script, and with a run text |
+//! | `second` | the second text: what every job does with a script, with a run text, and with patterns |
 //! | `analysis` | the job `analyse`: the start of a script |
 //! | `reporting` | the report of a script's changes |
 //! | `demo` | the job `demo`: the circuit of a number |
 //! | `reading_back` | a law on the runs that are printed: they replay |
 //! | `replaying` | the job `replay`: the runs of a run text, step by step |
 //! | `converting` | the job `convert`: a run text, written in version 2 |
+//! | `batching` | the job `batch`: patterns, 512 at a time |
 //! | `verdict` | the line that `replay` writes |
 //! | `running` | the top call |
 #![tactic(auto)]
 
 mod analysis;
+mod batching;
 mod converting;
 mod demo;
 mod order;

@@ -1,17 +1,20 @@
 //! The order of work on two files: the first file, its netlist, the second file, and then what the task does with its text.
-ghost use Rattle.std.specs.Prelude.{◌≤◌, length};
+ghost use Rattle.std.specs.Prelude.{◌≤◌, length, Some};
 ghost use Rattle.hz_outside.specs.declared.fault.Place.TheVariants.{First, Second};
 ghost use Rattle.hz_options.specs.Numbers.{IsCap};
 ghost use Rattle.hz_top.specs.Ends.{Ends};
+ghost use Rattle.hz_top.specs.LeftFiles.{LeavesFiles};
+ghost use Rattle.hz_words.specs.Job.{OnFiles};
 ghost use Rattle.hz_line.specs.Line.{most_text_bytes};
 ghost use Rattle.hz_top.specs.Outcome.{observation_of, IsFilesOutcome, IsSecondFileOutcome};
 ghost use Rattle.hz_top.specs.Tasks.{comes_of};
 
 use crate::analysis::Analyses;
+use crate::batching::Batches;
 use crate::converting::Converts;
 use crate::refusal::{refuse_load, refuse_netlist};
 use crate::replaying::Replays;
-use crate::second::{on_runs, on_script};
+use crate::second::{on_patterns, on_runs, on_script};
 use crate::status::Status;
 use hz_line::MAX_TEXT;
 use hz_net::Net;
@@ -33,9 +36,11 @@ pub(crate) fn work_on_files<F: Files, K: Sink>(
     requires cap { IsCap options.cap }
     requires first { F.granted files.old First first.now most_text_bytes }
     requires second { F.granted files.old Second second.now most_text_bytes }
-    ensures { Ends K.output K.faults
+    ensures ends { Ends K.output K.faults
         (IsFilesOutcome (observation_of F.held F.faults F.longs files.old files.new) (comes_of options task) first.now second.now)
         out.old out.new result }
+    ensures files { LeavesFiles (observation_of F.held F.faults F.longs files.old files.new)
+        (Some (OnFiles task options first.now second.now)) }
 {
     // The bytes of the first file are freed before the second is loaded.
     let circuit = {
@@ -92,5 +97,6 @@ fn work_on_text<K: Sink>(
         Task::Analyse => on_script(alloc, &Analyses { options }, net, text, out),
         Task::Replay => on_runs(alloc, &Replays, net, text, out),
         Task::Convert => on_runs(alloc, &Converts, net, text, out),
+        Task::Batch => on_patterns(alloc, &Batches, net, text, out),
     }
 }

@@ -7,6 +7,7 @@ ghost use Rattle.hz_top.specs.Answer.{Answers};
 ghost use Rattle.hz_top.specs.Ends.{written_of, Ends};
 ghost use Rattle.hz_top.specs.Faultless.{IsFaultlessJob};
 ghost use Rattle.hz_top.specs.Headline.{Headline};
+ghost use Rattle.hz_top.specs.LeftFiles.{LeavesFiles};
 ghost use Rattle.hz_top.specs.Outcome.{observation_of, IsJobOutcome, MayLoad};
 
 use crate::demo::demo;
@@ -31,6 +32,7 @@ pub fn run<F: Files, K: Sink>(alloc: Global, words: &[String], files: &mut F, ou
     ensures answer { Answers (written_of K.output) K.faults
         (IsJobOutcome (observation_of F.held F.faults F.longs files.old files.new) (job_of (map string_bytes words.now)))
         out.old out.new result }
+    ensures files { LeavesFiles (observation_of F.held F.faults F.longs files.old files.new) (job_of (map string_bytes words.now)) }
     ensures done { (job : JobOf) (own : Status) → job_of (map string_bytes words.now) ≡ Some job
         → IsFaultlessJob (observation_of F.held F.faults F.longs files.old files.new) job own
         → ¬ Rose (K.faults out.old) (K.faults out.new)
@@ -44,9 +46,10 @@ pub fn run<F: Files, K: Sink>(alloc: Global, words: &[String], files: &mut F, ou
 // Reads the words, and does the job that they ask for.
 fn answer<F: Files, K: Sink>(alloc: Global, words: &[String], files: &mut F, out: &mut K) -> Status
     requires { MayLoad (F.granted files.old) (job_of (map string_bytes words.now)) }
-    ensures { Ends K.output K.faults
+    ensures ends { Ends K.output K.faults
         (IsJobOutcome (observation_of F.held F.faults F.longs files.old files.new) (job_of (map string_bytes words.now)))
         out.old out.new result }
+    ensures files { LeavesFiles (observation_of F.held F.faults F.longs files.old files.new) (job_of (map string_bytes words.now)) }
 {
     match hz_words::read(alloc, words) {
         Ok(job) => work(alloc, job, files, out),
@@ -59,9 +62,10 @@ fn answer<F: Files, K: Sink>(alloc: Global, words: &[String], files: &mut F, out
 fn work<F: Files, K: Sink>(alloc: Global, job: Job<'_>, files: &mut F, out: &mut K) -> Status
     requires range { HasNumbersInRange job }
     requires loads { MayLoad (F.granted files.old) (Some (job_model job)) }
-    ensures { Ends K.output K.faults
+    ensures ends { Ends K.output K.faults
         (IsJobOutcome (observation_of F.held F.faults F.longs files.old files.new) (Some (job_model job.entry)))
         out.old out.new result }
+    ensures files { LeavesFiles (observation_of F.held F.faults F.longs files.old files.new) (Some (job_model job.entry)) }
 {
     match job {
         Job::OnFiles {

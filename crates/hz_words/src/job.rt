@@ -17,6 +17,8 @@ pub enum Task {
     Replay,
     /// A run text is written in version 2.
     Convert,
+    /// Each of many patterns is analysed.
+    Batch,
 }
 
 /// What the words ask for.
@@ -97,6 +99,7 @@ fn job_on_files<'w>(
         "analyse" => Task::Analyse,
         "replay" => Task::Replay,
         "convert" => Task::Convert,
+        "batch" => Task::Batch,
         _ => return None,
     };
     Some(Job::OnFiles {

@@ -14,9 +14,9 @@ use Rattle.hz_top.proofs.demo.demo.Goals as goal
 
 pub complete-requires-clause-inputs : goal.complete-requires-clause-inputs
 complete-requires-clause-inputs g c =
-    let fits : IsScriptFor c.in-Ok-build.net c.in-Ok.script = subst (λ (n : Netlist). IsScriptFor n c.in-Ok.script) (sym c.in-Ok-build.ensures.ok) c.in-Ok.ensures.fits in
+    let fits : IsScriptFor c.in-Ok-build.net c.in-Ok.made.1 = subst (λ (n : Netlist). IsScriptFor n c.in-Ok.made.1) (sym c.in-Ok-build.ensures.ok) c.in-Ok.ensures.fits in
     let circuit : IsCircuit c.in-Ok-build.net = subst IsCircuit (sym c.in-Ok-build.ensures.ok) c.in-Ok.ensures.is_circuit in
-    rw c.start.ensures.start (ListsInputs-front c.in-Ok-build.net c.in-Ok.script.start (omega (arith, circuit.nodes, fits.nodes)) fits.inputs)
+    rw c.start.ensures.start (ListsInputs-front c.in-Ok-build.net c.in-Ok.made.1.start (omega (arith, circuit.nodes, fits.nodes)) fits.inputs)
 
 pub summarise-requires-clause-one : goal.summarise-requires-clause-one
 unfolding demo_script

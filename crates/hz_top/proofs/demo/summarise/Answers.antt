@@ -20,8 +20,8 @@ next-requires-clause-inputs g c =
     let same : c.in-Ok-new.sequence.desk.netlist ≡ c.args.net.now = ap (λ (s : SequenceState). s.desk.netlist) c.in-Ok-new.ensures ∙ c.in-Ok.ensures in
     λ k d few. subst (λ (n : Netlist). (get_or c.change.result.now k d).0 < n.inputs) (sym same) (below k d few)
 
-pub returns-in-Ok-next : goal.returns-in-Ok-next
-returns-in-Ok-next g c =
+pub returns : goal.returns
+returns g c =
     let netlist = c.args.net.now in
     let finding = finding_of c.in-Ok-next.finding.now in
     let same : c.in-Ok-new.sequence.desk.netlist ≡ c.args.net.now = ap (λ (s : SequenceState). s.desk.netlist) c.in-Ok-new.ensures ∙ c.in-Ok.ensures in

@@ -6,10 +6,11 @@ use Rattle.hz_top.specs.Refusal.{netlist_fault_line}
 use Rattle.hz_top.specs.Inside.{LoadPrints, NetlistPrints}
 use Rattle.hz_top.proofs.PutEndings.{Ends-more}
 use Rattle.hz_top.proofs.JobOutcomes.{FileRefused-load, IsSecondFileOutcome-before, netlist-refused}
+use Rattle.hz_top.proofs.LeftFiles.{second-stays, first-read}
 use Rattle.hz_top.proofs.order.work_on_files.Goals as goal
 
-pub returns-in-Err : goal.returns-in-Err
-returns-in-Err g c =
+pub returns-in-Err-clause-ends : goal.returns-in-Err-clause-ends
+returns-in-Err-clause-ends g c =
     let told = observation_of g.F.Files.held g.F.Files.faults g.F.Files.longs c.args.files.now c.load.new.self in
     let first = c.args.first.now in
     let comes = IsFilesOutcome told (comes_of c.args.options c.args.task) first c.args.second.now in
@@ -21,8 +22,8 @@ returns-in-Err g c =
           (λ is. c.load.ensures.over (c.in-Err.is ∙ ap Err is)) own text says,
     )) c.refuse_load.ensures
 
-pub returns-in-Err-read : goal.returns-in-Err-read
-returns-in-Err-read g c =
+pub returns-in-Err-read-clause-ends : goal.returns-in-Err-read-clause-ends
+returns-in-Err-read-clause-ends g c =
     let told = observation_of g.F.Files.held g.F.Files.faults g.F.Files.longs c.args.files.now c.load.new.self in
     let comes = IsFilesOutcome told (comes_of c.args.options c.args.task) c.args.first.now c.args.second.now in
     let fault = c.in-Err-read.fault in
@@ -38,8 +39,8 @@ returns-in-Err-read g c =
       ),
     )) c.refuse_netlist.ensures
 
-pub returns : goal.returns
-returns g c =
+pub returns-clause-ends : goal.returns-clause-ends
+returns-clause-ends g c =
     let held = g.F.Files.held in
     let faults = g.F.Files.faults in
     let longs = g.F.Files.longs in
@@ -59,3 +60,24 @@ returns g c =
             c.load.ensures.same_files c.load.ensures.other_faults c.load.ensures.other_longs own text says,
       ),
     )) c.work_on_second.ensures
+
+pub returns-in-Err-clause-files : goal.returns-in-Err-clause-files
+returns-in-Err-clause-files g c =
+    second-stays (observation_of g.F.Files.held g.F.Files.faults g.F.Files.longs c.args.files.now c.load.new.self)
+    c.args.task c.args.options c.args.first.now c.args.second.now (c.load.ensures.other_faults, c.load.ensures.other_longs)
+
+pub returns-in-Err-read-clause-files : goal.returns-in-Err-read-clause-files
+returns-in-Err-read-clause-files g c =
+    second-stays (observation_of g.F.Files.held g.F.Files.faults g.F.Files.longs c.args.files.now c.load.new.self)
+    c.args.task c.args.options c.args.first.now c.args.second.now (c.load.ensures.other_faults, c.load.ensures.other_longs)
+
+pub returns-in_default-clause-files : goal.returns-in_default-clause-files
+returns-in_default-clause-files g c =
+    second-stays (observation_of g.F.Files.held g.F.Files.faults g.F.Files.longs c.args.files.now c.load.new.self)
+    c.args.task c.args.options c.args.first.now c.args.second.now (c.load.ensures.other_faults, c.load.ensures.other_longs)
+
+pub returns-clause-files : goal.returns-clause-files
+returns-clause-files g c =
+    first-read (observation_of g.F.Files.held g.F.Files.faults g.F.Files.longs c.args.files.now c.work_on_second.new.files)
+    c.args.task c.args.options c.args.first.now c.args.second.now c.as_slice.result.now
+    (rw c.as_slice.ensures.value c.in-Ok.ensures.bytes) (rw c.as_slice.ensures.len c.in-Ok.ensures.short) c.in-Ok-read.ensures.faultless

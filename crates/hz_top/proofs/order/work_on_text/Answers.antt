@@ -18,3 +18,8 @@ pub returns-in-Convert : goal.returns-in-Convert
 returns-in-Convert g c =
     subst (λ (task : Task). Ends g.K.Sink.output g.K.Sink.faults (comes_of c.args.options task c.args.net.now c.args.text.now) c.args.out.now c.on_runs-in-Convert.new.out c.on_runs-in-Convert.result)
     (sym c.in-Convert.is) c.on_runs-in-Convert.ensures
+
+pub returns-in-Batch : goal.returns-in-Batch
+returns-in-Batch g c =
+    subst (λ (task : Task). Ends g.K.Sink.output g.K.Sink.faults (comes_of c.args.options task c.args.net.now c.args.text.now) c.args.out.now c.on_patterns.new.out c.on_patterns.result)
+    (sym c.in-Batch.is) c.on_patterns.ensures

@@ -9,8 +9,7 @@ pub loop-number-preserved : goal.loop-number-preserved
 loop-number-preserved g c =
     let patterns = c.args.patterns.now.patterns in
     let number = c.loop-number.number in
-    let there = pattern_there patterns number c.from.result.now c.to.result.now c.from.ensures c.to.ensures in
-    (
+    let there = pattern_there patterns number c.from.result.now c.to.result.now c.from.ensures c.to.ensures in (
       writes_then c.loop-number.invariant.0 c.write_pattern.ensures.gave
           (sym (flat_map_of_take pattern_text patterns number (record { from = c.from.result.now; to = c.to.result.now }) there)),
       c.write_pattern.ensures.none_waits,

@@ -1,7 +1,6 @@
 //! What a person needs next after a refusal, on standard error. No contract speaks of it.
 
 use hz_outside::{DiskFiles, Files, Place};
-use hz_top::Status;
 use hz_words::Job;
 use std::alloc::{AllocError, Global};
 use std::fs;
@@ -25,6 +24,8 @@ usage:
                           checks the runs that a report shows
   hazard convert NETLIST RUNS
                           writes a run text in version 2
+  hazard batch NETLIST PATTERNS
+                          analyses many patterns of inputs, a line for each
   hazard demo NUMBER [--cap N]
                           analyses a circuit that is made from a number, 1 to 18000
 options:
@@ -33,15 +34,32 @@ options:
 example:
   hazard analyse examples/latch.bench examples/latch.txt";
 
-/// Says on standard error what a person needs next, if the job was refused. `first` is the beginning of what was written.
-pub(crate) fn tell(rt: &HostRuntime, words: &[String], first: &[u8], status: Status) {
-    match status {
-        Status::Done | Status::No | Status::Start => {}
-        Status::Words => tell_usage(rt),
-        Status::Netlist | Status::Text => tell_line(rt, words, first, status),
-        Status::File | Status::TooLong => tell_file(rt, words, first, status),
-        Status::Sink => say(rt, "hazard: standard output can't be written"),
-        Status::Memory => say(rt, "hazard: out of memory"),
+/// What was refused.
+#[derive(Clone, Copy)]
+pub enum Refusal {
+    /// The words name no job.
+    Words,
+    /// The text of the file at a place.
+    Text { place: Place },
+    /// A file that was not read.
+    File,
+    /// A file with too many bytes.
+    TooLong,
+    /// The output.
+    Sink,
+    /// Memory.
+    Memory,
+}
+
+/// Says on standard error what a person needs next. `first` is the beginning of what was written.
+pub fn tell(rt: &HostRuntime, words: &[String], first: &[u8], refused: Refusal) {
+    match refused {
+        Refusal::Words => tell_usage(rt),
+        Refusal::Text { place } => tell_line(rt, words, first, place),
+        Refusal::File => tell_unread(rt, words, first),
+        Refusal::TooLong => tell_long(rt, words, first),
+        Refusal::Sink => say(rt, "hazard: standard output can't be written"),
+        Refusal::Memory => say(rt, "hazard: out of memory"),
     }
 }
 
@@ -55,38 +73,9 @@ fn tell_usage(rt: &HostRuntime) {
 }
 
 // The line of the text that has the fault, if it has one.
-fn tell_line(rt: &HostRuntime, words: &[String], first: &[u8], status: Status) {
+fn tell_line(rt: &HostRuntime, words: &[String], first: &[u8], place: Place) {
     let Some(number) = line_number(first) else {
         return;
-    };
-    let place = match status {
-        Status::Netlist => Place::First,
-        _ => Place::Second,
-    };
-    let Some(name) = file_name(rt.alloc(), words, place) else {
-        return;
-    };
-    let Ok(file) = DiskFiles::new(rt).load(rt.alloc(), place, name, MOST) else {
-        return;
-    };
-    let Some(line) = line_at(file.as_slice(), number) else {
-        return;
-    };
-    let (Ok(name), Ok(line)) = (
-        visible(rt.alloc(), name.as_bytes()),
-        visible(rt.alloc(), line),
-    ) else {
-        return;
-    };
-    let _ = eprintln!(rt; "{name}:{number}: {line}");
-}
-
-// The name of the file that was not read, and why.
-fn tell_file(rt: &HostRuntime, words: &[String], first: &[u8], status: Status) {
-    let place = if first.starts_with(b"refused: first") {
-        Place::First
-    } else {
-        Place::Second
     };
     let Some(name) = file_name(rt.alloc(), words, place) else {
         return;
@@ -94,12 +83,57 @@ fn tell_file(rt: &HostRuntime, words: &[String], first: &[u8], status: Status) {
     let Ok(shown) = visible(rt.alloc(), name.as_bytes()) else {
         return;
     };
-    if status == Status::TooLong {
-        let _ = eprintln!(rt; "{shown}: more than {MOST} bytes");
+    if !is_plain(rt, name) {
+        let _ = eprintln!(rt; "{shown}:{number}: (no plain file, so its line can't be shown)");
         return;
     }
+    let Ok(file) = DiskFiles::new(rt).load(rt.alloc(), place, name, MOST) else {
+        return;
+    };
+    let Some(line) = line_at(file.as_slice(), number) else {
+        return;
+    };
+    let Ok(line) = visible(rt.alloc(), line) else {
+        return;
+    };
+    let _ = eprintln!(rt; "{shown}:{number}: {line}");
+}
+
+// Whether a file can be read once more. A pipe gives its bytes only once, and opening it again may wait for ever.
+fn is_plain(rt: &HostRuntime, name: &str) -> bool {
+    fs::metadata(rt, name).is_ok_and(|found| found.is_file())
+}
+
+// The name of the file that was not read, and why.
+fn tell_unread(rt: &HostRuntime, words: &[String], first: &[u8]) {
+    let Some(name) = file_name(rt.alloc(), words, place_in(first)) else {
+        return;
+    };
+    let Ok(shown) = visible(rt.alloc(), name.as_bytes()) else {
+        return;
+    };
     if let Err(error) = fs::open(rt, name).and_then(|mut file| file.read(&mut [0])) {
         let _ = eprintln!(rt; "{shown}: {error}");
+    }
+}
+
+// The name of the file that has too many bytes.
+fn tell_long(rt: &HostRuntime, words: &[String], first: &[u8]) {
+    let Some(name) = file_name(rt.alloc(), words, place_in(first)) else {
+        return;
+    };
+    let Ok(shown) = visible(rt.alloc(), name.as_bytes()) else {
+        return;
+    };
+    let _ = eprintln!(rt; "{shown}: more than {MOST} bytes");
+}
+
+// The place of the file that a refusal names.
+fn place_in(first: &[u8]) -> Place {
+    if first.starts_with(b"refused: first") {
+        Place::First
+    } else {
+        Place::Second
     }
 }
 

@@ -8,7 +8,7 @@ const KEPT: usize = 128;
 
 /// A sink that hands on all that is put, and keeps the first bytes of the first piece.
 #[derive(Drop)]
-pub(crate) struct Heard<K: Drop> {
+pub struct Heard<K: Drop> {
     pub out: K,
     first: [u8; KEPT],
     len: usize,
@@ -16,7 +16,7 @@ pub(crate) struct Heard<K: Drop> {
 
 impl<K: Sink + Drop> Heard<K> {
     /// Nothing was put so far.
-    pub(crate) fn new(out: K) -> Heard<K>
+    pub fn new(out: K) -> Heard<K>
         ensures { result.out ≡ out }
     {
         Heard {
@@ -27,7 +27,7 @@ impl<K: Sink + Drop> Heard<K> {
     }
 
     /// The first bytes of the first piece.
-    pub(crate) fn first(&self) -> &[u8] {
+    pub fn first(&self) -> &[u8] {
         self.first.get(..self.len).unwrap_or(b"")
     }
 

@@ -1,0 +1,42 @@
+-- What is left of the counts of files: both stay, or that of the second, or the first file is a netlist.
+use Rattle.std.proofs.Common.{◌≡◌, ℕ, ◌≤◌, List, length, Option, Some, None, subst, arith, inl, inr}
+use Rattle.std.specs.Prelude.{IfSome}
+use Rattle.hz_outside.specs.declared.fault.Place.{Place}
+use Rattle.hz_outside.specs.declared.fault.Place.TheVariants.{Second}
+use Rattle.hz_line.specs.Line.{most_text_bytes}
+use Rattle.hz_bench.specs.Fault.{IsFaultless}
+use Rattle.hz_options.specs.declared.options.Options.{Options}
+use Rattle.hz_words.specs.declared.job.Task.{Task}
+use Rattle.hz_words.specs.Job.{JobOf, OnFiles, Demo}
+use Rattle.hz_top.specs.Outcome.{Observation, CountsStay}
+use Rattle.hz_top.specs.LeftFiles.{IsRefusedFirst, LeavesFiles}
+
+-- whatever is told
+stays-anyway : (held : Option (List ℕ → List ℕ)) (first : List ℕ) (stays : Type 0) → stays → IfSome held (λ bytes_of. IsRefusedFirst first (bytes_of first) → stays)
+stays-anyway None first stays is = tt
+stays-anyway (Some bytes_of) first stays is = λ refused. is
+
+-- where the second file is not asked for
+pub second-stays : (told : Observation) (task : Task) (options : Options) (first second : List ℕ) → CountsStay told Second → LeavesFiles told (Some (OnFiles task options first second))
+second-stays told task options first second stays = stays-anyway told.held first (CountsStay told Second) stays
+
+-- where no file is asked for
+pub both-stay : (told : Observation) (asked : Option JobOf) → ((place : Place) → CountsStay told place) → LeavesFiles told asked
+both-stay told None stay = stay
+both-stay told (Some (OnFiles task options first second)) stay = second-stays told task options first second (stay Second)
+both-stay told (Some (Demo number options)) stay = stay
+
+-- where the first file is a netlist
+not-refused : (first bytes : List ℕ) → length bytes ≤ most_text_bytes → IsFaultless bytes → IsRefusedFirst first bytes → ⊥
+not-refused first bytes short faultless (inl long) = omega (arith, short, long)
+not-refused first bytes short faultless (inr refused) = faultless refused.1.0 refused.1.1.stands
+
+told-read : (held : Option (List ℕ → List ℕ)) (first bytes : List ℕ) (stays : Type 0) → IfSome held (λ bytes_of. bytes ≡ bytes_of first) → length bytes ≤ most_text_bytes → IsFaultless bytes
+    → IfSome held (λ bytes_of. IsRefusedFirst first (bytes_of first) → stays)
+told-read None first bytes stays is short faultless = tt
+told-read (Some bytes_of) first bytes stays is short faultless =
+    λ refused. absurd (subst (λ (text : List ℕ). IsRefusedFirst first text → ⊥) is (not-refused first bytes short faultless) refused)
+
+pub first-read : (told : Observation) (task : Task) (options : Options) (first second bytes : List ℕ) → IfSome told.held (λ bytes_of. bytes ≡ bytes_of first) → length bytes ≤ most_text_bytes → IsFaultless bytes
+    → LeavesFiles told (Some (OnFiles task options first second))
+first-read told task options first second bytes is short faultless = told-read told.held first bytes (CountsStay told Second) is short faultless

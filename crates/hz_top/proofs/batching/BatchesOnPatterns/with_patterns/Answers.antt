@@ -1,0 +1,9 @@
+-- The sink failed: a prefix of the text was written.
+use Rattle.std.proofs.Common.{refl, inr}
+use Rattle.hz_top.specs.declared.status.Status.TheVariants as status
+use Rattle.hz_top.proofs.batching.BatchesOnPatterns.with_patterns.Goals as goal
+
+pub returns-in-Err-Sink : goal.returns-in-Err-Sink
+returns-in-Err-Sink g c =
+    let wrote = rw c.in-Err-Sink.field-0-is at c.in-Err-Sink.ensures.wrote in
+    (wrote.2.cause refl, inr (status.Done, wrote.0, (refl, wrote.1), wrote.2.front, wrote.2.never_fell))
