@@ -17,6 +17,7 @@
 -- OrThat that holds fault: the fault is that one (memory ran out, say), or this holds of it
 -- AreStatementsOf grammar text statements: the statements of a text without a malformed line
 -- IsUnreadText grammar text why: why a text was not read
+-- Faults, AreFound faults number found, IsLeastOfAll faults fault: the least fault of a text, number by number
 -- HasLineFault line fault: why a line has no tokens
 -- IsNext line next, IsWordFirst line next, IsPunctuationFirst line next: what is taken off a line, by the tokens of all of it
 -- BeginsWith line next, BeginsWithWord line next, BeginsWithPunctuation line next: the same, by the bytes of the line
@@ -28,3 +29,4 @@ pub mod Line
 pub mod Token
 pub mod Statement
 pub mod Reading
+pub mod LeastFault
