@@ -1,9 +1,18 @@
+-- The gates that are held, as pairs, and the start that a lane lists with them
 pub mod HeldLemmas
+-- Values of variables in all lanes, as they are kept one by one
 pub mod ColumnLemmas
+-- The line of a lane, output by output
 pub mod LineLemmas
+-- What a lane comes to
 pub mod OutcomeLemmas
+-- Lanes that are loaded with patterns, one after the other
 pub mod LaneLoads
+-- Lines of patterns one after the other
 pub mod Joined
+-- Blocks one after the other: their patterns, and the planes
 pub mod BlockLaws
+-- Every pattern comes to an outcome, also if it is never looked at
 pub mod Exist
+-- The text of patterns, by what was given and counted
 pub mod Texts

@@ -1,22 +1,44 @@
+-- When a node or a pin may be added
 pub mod BuildLemmas
+-- What holds of statements in which the check found no fault
 pub mod CheckedLemmas
+-- Pins and outputs by the numbers of their nodes
 pub mod ConnectLemmas
+-- The table of names, statement by statement
 pub mod DefinitionLemmas
+-- Lemmas on the table of definitions
 pub mod TableLemmas
+-- Entries as statements, and with their lines
 pub mod EntryLemmas
+-- The first answer of the passes over a text is its least fault
 pub mod FaultLaws
+-- The circuit of a text without fault is one: it is built step by step, and each step makes a circuit of a circuit
 pub mod FaultlessLaws
+-- What is gathered of statements, with one more
 pub mod ReaderLemmas
+-- The circuit of checked statements may be built, and each of its gates has a pin
 pub mod AdmissibleLemmas
+-- The circuit that is built is the circuit of the statements
 pub mod NetlistLemmas
+-- What is noted of statements, with one more
 pub mod NoteLemmas
+-- The numbers of the nodes in the order of the text
 pub mod NumberLemmas
+-- Reading the statements of a text line by line
 pub mod ParseLemmas
+-- A printed text stands for its circuit
 pub mod PrintedCircuit
+-- A printed text has no fault
 pub mod PrintedFaults
+-- A printed text, line by line
 pub mod PrintedLemmas
+-- What the lines of a printed text are
 pub mod PrintedLines
+-- What the reader answers, by the law of faults
 pub mod ReadLaws
+-- From all statements of a text to its nodes and its outputs, and back
 pub mod KeptStatements
+-- The statement that a line means, from the head of its tokens
 pub mod StatementLemmas
+-- The nodes that names stand for, by the table of definitions
 pub mod UseLemmas

@@ -1,2 +1,4 @@
+-- How the output of a sink grows
 pub mod WrittenLemmas
+-- What the files of the file system count gives what every store of files ensures
 mod CountLemmas

@@ -1,5 +1,10 @@
+-- The size of a network by the counts of its circuit, and its nodes
 pub mod Lines
+-- The lines of rows, row by row, and which rows are shown
 pub mod RowLemmas
+-- What comes in a feedback cycle is a variable of the network
 pub mod CycleLemmas
+-- Counts of classes, row by row
 pub mod ClassLemmas
+-- The words of outputs, and where their letters stand
 pub mod OutputLemmas
