@@ -90,8 +90,9 @@ fn write_changes<K: Sink>(
     requires net { sequence.old.desk.netlist ≡ net.now }
     requires start { IsStableStart net.now sequence.old.start }
     requires goes { sequence.old.stopped ≡ None }
-    ensures { (analyses : List Analysis) × AreAnalyses net.now options.cap sequence.old.start script.now.changes analyses
+    ensures gave { (analyses : List Analysis) × AreAnalyses net.now options.cap sequence.old.start script.now.changes analyses
         × Writes K.output K.faults (analyses_text net.now options.show 1 script.now.changes analyses) writer.old writer.new }
+    ensures none_waits { NoneWaits writer.old → NoneWaits writer.new }
 {
     // A getter of the network says that its circuit is whole, and the law, that the changes which are left out have findings.
     let _variables = net.len();

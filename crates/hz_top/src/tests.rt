@@ -17,7 +17,10 @@ const RUNS: &str =
     "runs 1\nstart s=1 x=1 y=1 n=0 a=1 b=0 z=1\ninput s=0 x=1 y=1\nrun\nstep s\nstep n(1)\nstep n a(1)\n\
     run\nend\n";
 
-// Calls the program with words, which one space separates, over the files `n`, `s` and `r`. The load and the put of these
+// Two pairs of bits for its inputs.
+const PATTERNS: &str = "from 111 to 011\nfrom 010 to 101\n";
+
+// Calls the program with words, which one space separates, over the files `n`, `s`, `r` and `p`. The load and the put of these
 // numbers fail, and of number 0 none does; the put that fails takes so many bytes.
 fn call(
     alloc: Global,
@@ -30,6 +33,7 @@ fn call(
     files.add("n", netlist.as_bytes())?;
     files.add("s", SCRIPT.as_bytes())?;
     files.add("r", RUNS.as_bytes())?;
+    files.add("p", PATTERNS.as_bytes())?;
     files.fail(load)?;
     let mut out = MemSink::new(alloc);
     out.fail(put, taken)?;
@@ -154,6 +158,7 @@ fn each_put_fails(rt: HostRuntime) -> Result<(), Fail> {
         "replay n r",
         "convert n r",
         "vcd n r",
+        "batch n p",
         "demo 1",
     ] {
         let (_, whole) = call(rt.alloc(), line, NETLIST, 0, (0, 0))?;

@@ -86,7 +86,8 @@ fn write_within<K: Sink>(
 // Gives the lines of the head.
 #[tactic(auto, using(hz_write::proofs::Writers::writes_then), unfolding(crate::specs::Printed::head_text))]
 fn write_head<K: Sink>(writer: &mut Writer<'_, K>, net: &Net)
-    ensures { Writes K.output K.faults (head_text net.now) writer.old writer.new }
+    ensures gave { Writes K.output K.faults (head_text net.now) writer.old writer.new }
+    ensures none_waits { NoneWaits writer.new }
 {
     writer.line(&[Text(b"$timescale 1 ns $end")]);
     writer.line(&[Text(b"$scope module hazard $end")]);
@@ -97,9 +98,10 @@ fn write_head<K: Sink>(writer: &mut Writer<'_, K>, net: &Net)
 
 // Gives the declarations of all variables.
 fn write_declarations<K: Sink>(writer: &mut Writer<'_, K>, net: &Net)
-    ensures { Writes K.output K.faults
+    ensures gave { Writes K.output K.faults
         (flat_map (declaration_line net.now) (range_with_len 0 (variables_of net.now)))
         writer.old writer.new }
+    ensures none_waits { NoneWaits writer.old → NoneWaits writer.new }
 {
     for var in 0..net.len() {
         write_declaration(writer, net, var);
@@ -110,7 +112,8 @@ fn write_declarations<K: Sink>(writer: &mut Writer<'_, K>, net: &Net)
 pub(crate) fn write_declaration<K: Sink>(writer: &mut Writer<'_, K>, net: &Net, var: u32)
     requires var { var < variables_of net.now }
     requires few { variables_of net.now ≤ most_variables }
-    ensures { Writes K.output K.faults (declaration_line net.now var) writer.old writer.new }
+    ensures gave { Writes K.output K.faults (declaration_line net.now var) writer.old writer.new }
+    ensures none_waits { NoneWaits writer.new }
 {
     writer.text(b"$var wire 1 ");
     write_code(writer, var);
@@ -135,9 +138,10 @@ fn write_state<K: Sink>(writer: &mut Writer<'_, K>, state: &[bool])
 // Gives the bits of a state.
 fn write_values<K: Sink>(writer: &mut Writer<'_, K>, state: &[bool])
     requires { length state.now ≤ most_variables }
-    ensures { Writes K.output K.faults
+    ensures gave { Writes K.output K.faults
         (flat_map (value_line state.now) (range_with_len 0 (length state.now)))
         writer.old writer.new }
+    ensures none_waits { NoneWaits writer.old → NoneWaits writer.new }
 {
     for var in 0..state.len() as u32 {
         write_value(writer, var, state[var as usize]);

@@ -4,7 +4,7 @@ use Rattle.std.proofs.lemmas.List.{length-take-le, length-append, take-append-dr
 use Rattle.std.proofs.lemmas.Option.{get_or_from_slice_get}
 use Rattle.std.proofs.Math.Seq.{take-suc, take-length}
 use Rattle.hz_text.specs.ScriptValue.{IsChange}
-use Rattle.hz_write.specs.Writer.{Writes}
+use Rattle.hz_write.specs.Writer.{Writes, NoneWaits}
 use Rattle.hz_write.proofs.Writers.{writes_nothing, writes_then, writes_failed}
 use Rattle.hz_seq.specs.Analyses.{Analysis, AreAnalyses}
 use Rattle.hz_seq.proofs.FirstAnalyses.{AreFirstAnalyses, no-changes, all-analyses}
@@ -22,6 +22,7 @@ loop-number-init g c = (
   refl,
   subst (IsStopInside c.args.net.now) (sym c.requires.goes) tt,
   writes_nothing c.args.writer.now,
+  λ waits. waits,
 )
 
 pub write_next-requires-clause-change : goal.write_next-requires-clause-change
@@ -53,17 +54,19 @@ loop-number-preserved g c =
     × AreFirstAnalyses netlist c.args.options.cap start list analyses c.write_next.new.sequence
     × (length analyses ≡ length list)
     × IsStopInside netlist c.write_next.new.sequence.stopped
-    × Writes g.K.Sink.output g.K.Sink.faults (analyses_text netlist c.args.options.show 1 list analyses) c.args.writer.now c.write_next.new.writer) (sym taken) (
+    × Writes g.K.Sink.output g.K.Sink.faults (analyses_text netlist c.args.options.show 1 list analyses) c.args.writer.now c.write_next.new.writer
+    × (NoneWaits c.args.writer.now → NoneWaits c.write_next.new.writer)) (sym taken) (
       so_far.0 ++ made.0 ∷ [],
       goes-on netlist c.args.options.cap start (take number changes) so_far.0 c.loop-number.sequence c.write_next.new.sequence c.requires.circuit so_far.1 change made.0 made.1,
       length-append so_far.0 (made.0 ∷ []) ∙ ap (λ (n : ℕ). n + 1) so_far.2 ∙ sym (length-append (take number changes) (change ∷ [])),
       stop-inside netlist c.args.options.cap start (take number changes) so_far.0 c.loop-number.sequence c.write_next.new.sequence c.requires.circuit so_far.1 change made.0 so_far.3 made.1,
       writes_then so_far.4 lines (text-more netlist c.args.options.show 1 (take number changes) so_far.0 change made.0 so_far.2),
+      λ _. c.write_next.ensures.none_waits,
     )
 
 -- once the output failed, the lines of the changes that are left come to nothing, but they are known to be there
-pub returns-then-has_failed : goal.returns-then-has_failed
-returns-then-has_failed g c =
+pub returns-then-has_failed-clause-gave : goal.returns-then-has_failed-clause-gave
+returns-then-has_failed-clause-gave g c =
     let netlist = c.args.net.now in
     let changes = c.args.script.now.changes in
     let number = c.loop-number.number in
@@ -82,8 +85,8 @@ returns-then-has_failed g c =
       subst (λ (list : List (List (ℕ × Bool))). Writes g.K.Sink.output g.K.Sink.faults (analyses_text netlist c.args.options.show 1 list (so_far.0 ++ rest.0)) c.args.writer.now c.loop-number.writer) whole lines,
     )
 
-pub returns : goal.returns
-returns g c =
+pub returns-clause-gave : goal.returns-clause-gave
+returns-clause-gave g c =
     let changes = c.args.script.now.changes in
     let number = c.loop-number.number in
     let so_far = c.loop-number.invariant in

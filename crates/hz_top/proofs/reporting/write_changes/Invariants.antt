@@ -1,6 +1,6 @@
 -- The changes so far are analysed, and their lines are given.
 use Rattle.std.proofs.Common.{◌≡◌, List, length, take}
-use Rattle.hz_write.specs.Writer.{Writes}
+use Rattle.hz_write.specs.Writer.{Writes, NoneWaits}
 use Rattle.hz_seq.specs.Analyses.{Analysis}
 use Rattle.hz_seq.proofs.FirstAnalyses.{AreFirstAnalyses}
 use Rattle.hz_top.specs.Reports.{analyses_text}
@@ -14,3 +14,4 @@ invariant-loop-number g l =
     × (length analyses ≡ length (take l.number l.script.changes))
     × IsStopInside l.net l.sequence.stopped
     × Writes g.K.Sink.output g.K.Sink.faults (analyses_text l.net l.options.show 1 (take l.number l.script.changes) analyses) l.fn.writer l.writer
+    × (NoneWaits l.fn.writer → NoneWaits l.writer)

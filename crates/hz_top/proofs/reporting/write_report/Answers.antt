@@ -15,7 +15,7 @@ pub returns : goal.returns
 returns g c =
     let netlist = c.args.net.now in
     let changes = c.args.script.now.changes in
-    let made = c.write_changes.ensures in
+    let made = c.write_changes.ensures.gave in
     let cycles = c.free.result.now.cycles in
     let same : c.desk.result.now.netlist ≡ netlist = ap (λ (desk : DeskOf). desk.netlist) c.desk.ensures ∙ c.requires.net in
     let are : AreAnalyses netlist c.args.options.cap c.args.start.now changes made.0 =

@@ -5,5 +5,5 @@ use Rattle.hz_vcd.proofs.head.put_declaration.Goals as goal
 
 pub returns : goal.returns
 returns g c =
-    let wrote = wrote_whole _ _ _ _ _ _ _ _ c.new-writer.ensures.begins c.write_declaration.ensures c.finish.ensures in
+    let wrote = wrote_whole _ _ _ _ _ _ _ _ c.new-writer.ensures.begins c.write_declaration.ensures.gave c.finish.ensures in
     search rules

@@ -36,7 +36,7 @@ returns-clause-gave g c =
     let steps = c.args.lead.now.steps ++ steps_of_cycle c.args.cycle in
     let run = writes_same c.write_run.ensures.gave
     (ap (λ (bits : List Bool). word_lines (state_words bits) ++ word_lines (steps_words 1 bits steps)) c.expand.ensures) in
-    writes_then c.write_head.ensures run
+    writes_then c.write_head.ensures.gave run
     (sym (append_assoc (head_text netlist) (word_lines (state_words state)) (word_lines (steps_words 1 state steps))))
 
 pub returns-clause-dump : goal.returns-clause-dump
