@@ -3,7 +3,9 @@ pub mod ColumnLemmas
 pub mod LineLemmas
 pub mod OutcomeLemmas
 pub mod LaneLoads
+pub mod BroughtAbout
 pub mod Joined
 pub mod BlockLaws
+pub mod TextOf
 pub mod Exist
 pub mod Texts
