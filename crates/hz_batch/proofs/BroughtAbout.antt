@@ -1,7 +1,6 @@
 -- What a pattern brings about where nothing is known of a start but the held gates.
-use Rattle.std.proofs.Common.{◌≡◌, ◌≢◌, ◌∙◌, refl, sym, ap, subst, ℕ, ◌+◌, ◌<◌, ◌≤◌, Bool, List, [], ◌∷◌, length, take, replicate, get_or, Option, Some, None, inl, inr, arith}
-use Rattle.std.specs.Prelude.{◌⊎◌, All}
-use Rattle.std.specs.List.{slice_index_or}
+use Rattle.std.proofs.Common.{◌≡◌, ◌∙◌, refl, sym, subst, ◌<◌, ◌≤◌, Bool, List, [], ◌∷◌, length, take, Option, None, inl, inr, arith}
+use Rattle.std.specs.Prelude.{◌⊎◌}
 use Rattle.std.proofs.lemmas.Bool.{cases_lt}
 use Rattle.std.proofs.lemmas.List.{length-take-le, get_or-take, get_or_past}
 use Rattle.hz_core.specs.declared.tri.Tri.{Tri}
@@ -17,7 +16,7 @@ use Rattle.hz_text.specs.Printed.{listed_from}
 use Rattle.hz_batch.specs.Blocks.{no_gate, without_held}
 use Rattle.hz_batch.specs.Laws.{AreLaws}
 use Rattle.hz_batch.specs.Outcome.{listing_of}
-use Rattle.hz_batch.specs.ResetText.{BothValues, IsBroughtAbout}
+use Rattle.hz_batch.specs.ResetText.{IsBroughtAbout}
 use Rattle.hz_batch.proofs.HeldLemmas.{listing-loaded, listed-no_gate, without_held-for}
 
 -- only gates are held

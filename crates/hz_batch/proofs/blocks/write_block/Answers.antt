@@ -16,7 +16,9 @@ pub write_lanes-requires-clause-firsts : goal.write_lanes-requires-clause-firsts
 write_lanes-requires-clause-firsts g c =
     let netlist = c.args.work.now.net.now in
     let stage = kept_at c.args.work.now.job in
-    let lanes : c.settle.new.self.lanes ≡ c.complete.new.self.lanes = ap (λ (seen : Seen). seen.lanes) c.settle.ensures ∙ ap (λ (seen : Seen). seen.lanes) c.spread_and_keep.ensures.planes in
+    let settled : c.settle.new.self.lanes ≡ c.spread_and_keep.new.planes.lanes = ap (λ (seen : Seen). seen.lanes) c.settle.ensures in
+    let spread : c.spread_and_keep.new.planes.lanes ≡ c.complete.new.self.lanes = ap (λ (seen : Seen). seen.lanes) c.spread_and_keep.ensures.planes in
+    let lanes = settled ∙ spread in
     let columns = written-whole c.args.room.now.firsts.items c.spread_and_keep.new.columns c.args.room.now.firsts.len (c.spread_and_keep.ensures.count ∙ c.as_mut_slice.ensures.len) in
     subst (λ (list : List (List Tri)). AreColumns netlist stage c.settle.new.self.lanes netlist.outputs list) (sym columns)
     (subst (λ (list : List (Option Loaded)). AreColumns netlist stage list netlist.outputs c.spread_and_keep.new.columns) (sym lanes) c.spread_and_keep.ensures.columns)

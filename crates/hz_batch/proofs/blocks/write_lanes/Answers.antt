@@ -1,5 +1,5 @@
 -- The line of one lane more.
-use Rattle.std.proofs.Common.{◌<◌, ◌≤◌, ◌+◌, ◌∷◌, [], refl, sym, subst, ◌∙◌, List, length, take, drop, get_or, arith}
+use Rattle.std.proofs.Common.{◌<◌, ◌≤◌, ◌+◌, ◌∷◌, [], refl, sym, subst, List, length, take, drop, get_or, arith}
 use Rattle.std.proofs.lemmas.List.{length-drop, length-take-le, take_more, get_or-drop}
 use Rattle.hz_text.specs.PatternText.{IsPatternOf}
 use Rattle.hz_text.specs.PatternValue.{PatternOf}

@@ -1,10 +1,8 @@
 -- What the pattern of a lane comes to, by the job.
-use Rattle.std.proofs.Common.{subst, sym, ◌≡◌, Some, List, Option, Bool}
+use Rattle.std.proofs.Common.{subst, ◌≡◌, Some}
 use Rattle.std.specs.Prelude.{slice_get}
-use Rattle.hz_plane.specs.declared.stage.Stage.TheVariants.{Completed, Spread}
 use Rattle.hz_plane.specs.Loads.{Loaded}
 use Rattle.hz_batch.specs.declared.job.Job.{Job}
-use Rattle.hz_batch.specs.declared.job.Job.TheVariants.{Batch, Reset}
 use Rattle.hz_batch.specs.Blocks.{load_of, no_gate}
 use Rattle.hz_batch.specs.Columns.{AreColumns}
 use Rattle.hz_batch.specs.Comes.{kept_at, held_by}
