@@ -17,4 +17,5 @@ pub mod ReportLines
 pub mod SequenceSteps
 pub mod OneChangeScripts
 pub mod ReadBack
+pub mod RightResets
 pub mod Headlines
