@@ -49,13 +49,15 @@ pub(crate) fn write_lane<K: Sink>(
     requires stage { planes.now.stage ≡ Settled }
     requires lane { at.lane < 512 }
     requires loaded { (loaded : Loaded) × (slice_get planes.now.lanes at.lane ≡ Some (Some loaded)) }
-    requires firsts { AreColumns work.now.net.now (kept_at work.now.job) planes.now.lanes work.now.net.now.outputs firsts.now }
+    requires firsts { AreColumns work.now.net.now (kept_at work.now.job) planes.now.lanes work.now.net.now.outputs
+        firsts.now }
     requires count { length firsts.now ≡ length work.now.net.now.outputs }
     requires line { IsLineFor work.now.net.now line.old }
     ensures line { IsLineFor work.now.net.now line.new }
     ensures gave { (pattern : PatternOf) → IsPatternOf work.now.net.now.inputs pattern
         → slice_get planes.now.lanes at.lane ≡ Some (load_of (held_by work.now.job work.now.patterns.now.held) pattern)
-        → (outcome : Outcome) × comes_to work.now.job work.now.net.now work.now.patterns.now.held pattern outcome × IsMarkOf outcome result
+        → (outcome : Outcome)
+        × comes_to work.now.job work.now.net.now work.now.patterns.now.held pattern outcome × IsMarkOf outcome result
         × Writes K.output K.faults (outcome_line work.now.net.now at.number outcome) writer.old writer.new }
     ensures none_waits { NoneWaits writer.new }
 {
@@ -85,7 +87,9 @@ fn write_outcome<K: Sink>(
     requires count { length firsts.now ≡ length net.now.outputs }
     requires line { IsLineFor net.now line.old }
     ensures line { IsLineFor net.now line.new }
-    ensures gave { (loaded : Loaded) → slice_get planes.now.lanes at.lane ≡ Some (Some loaded) → (outcome : Outcome) × IsOutcome net.now loaded.listed loaded.input outcome × IsMarkOf outcome result × Writes K.output K.faults (outcome_line net.now at.number outcome) writer.old writer.new }
+    ensures gave { (loaded : Loaded) → slice_get planes.now.lanes at.lane ≡ Some (Some loaded)
+        → (outcome : Outcome) × IsOutcome net.now loaded.listed loaded.input outcome × IsMarkOf outcome result
+        × Writes K.output K.faults (outcome_line net.now at.number outcome) writer.old writer.new }
     ensures none_waits { NoneWaits writer.new }
 {
     let _variables = net.len();
@@ -131,7 +135,8 @@ fn write_values<K: Sink>(
     let _variables = net.len();
     set_line(net, planes, at.lane, firsts, line);
     line.write(writer, at.number);
-    settled_mark(planes.is_unsettled(at.lane))
+    let stays = planes.is_unsettled(at.lane);
+    settled_mark(stays)
 }
 
 /// A lane, and the number of the pattern that it holds.

@@ -41,8 +41,10 @@ pub fn batch<K: Sink>(
 ) -> Result<(), BatchFault>
     requires patterns { ArePatternsFor net.now patterns.now }
     requires planes { AreOf net.now planes.old }
-    ensures wrote { (text : List ℕ) × IsBatchText net.now patterns.now text × WroteBatch K.output K.faults text out.old out.new result }
-    ensures planes { OnOk result (planes.new ≡ planes_after patterns.now planes.old (block_count (length patterns.now.patterns))) }
+    ensures wrote { (text : List ℕ) × IsBatchText net.now patterns.now text
+        × WroteBatch K.output K.faults text out.old out.new result }
+    ensures planes { OnOk result
+        (planes.new ≡ planes_after patterns.now planes.old (block_count (length patterns.now.patterns))) }
 {
     match write_text(alloc, net, patterns, Job::Batch, planes, out) {
         Ok(()) => Ok(()),
@@ -62,7 +64,8 @@ pub fn reset<K: Sink>(
 ) -> Result<(), BatchFault>
     requires patterns { ArePatternsFor net.now patterns.now }
     requires planes { AreOf net.now planes.old }
-    ensures wrote { (text : List ℕ) × IsResetText net.now patterns.now text × WroteBatch K.output K.faults text out.old out.new result }
+    ensures wrote { (text : List ℕ) × IsResetText net.now patterns.now text
+        × WroteBatch K.output K.faults text out.old out.new result }
     ensures planes { OnOk result
         (planes.new ≡ planes_after (without_held patterns.now) planes.old (block_count (length patterns.now.patterns))) }
 {
@@ -84,7 +87,8 @@ fn write_text<K: Sink>(
 ) -> Result<(), PutFault>
     requires patterns { ArePatternsFor net.now patterns.now }
     requires planes { AreOf net.now planes.old }
-    ensures wrote { (text : List ℕ) × IsTextOf job net.now patterns.now text × Wrote K.output K.faults text out.old out.new result }
+    ensures wrote { (text : List ℕ) × IsTextOf job net.now patterns.now text
+        × Wrote K.output K.faults text out.old out.new result }
     ensures planes { OnOk result
         (planes.new ≡ planes_after (loaded_by job patterns.now) planes.old (block_count (length patterns.now.patterns))) }
 {
@@ -145,8 +149,11 @@ fn write_all<K: Sink>(
     requires net { AreOf work.now.net.now planes.old }
     requires room { IsRoomFor work.now.net.now room.old }
     requires counts { room.old.counts ≡ no_counts }
-    ensures gave { (text : List ℕ) × IsTextOf work.now.job work.now.net.now work.now.patterns.now text × Writes K.output K.faults text writer.old writer.new }
-    ensures planes { has_failed writer.new ≡ false → planes.new ≡ planes_after (loaded_by work.now.job work.now.patterns.now) planes.old (block_count (length work.now.patterns.now.patterns)) }
+    ensures gave { (text : List ℕ) × IsTextOf work.now.job work.now.net.now work.now.patterns.now text
+        × Writes K.output K.faults text writer.old writer.new }
+    ensures planes { has_failed writer.new ≡ false
+        → planes.new ≡ planes_after (loaded_by work.now.job work.now.patterns.now) planes.old
+        (block_count (length work.now.patterns.now.patterns)) }
 {
     write_blocks(writer, work, planes, room);
     if writer.has_failed() {
