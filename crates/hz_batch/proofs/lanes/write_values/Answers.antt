@@ -15,7 +15,7 @@ returns-clause-gave g c =
     λ place inside. (c.requires.firsts place inside c.args.at.lane loaded c.requires.lane there).1 first filled in
     let told : TellsOf AllSettled c.args.net.now loaded settled = λ var value says. says.1 first settled filled settles in
     let values = c.set_line.ensures.values loaded first settled there kept told in
-    let left = c.is_unsettled.ensures.filled c.args.net.now loaded circuit whole c.requires.net there first settled filled settles in (
-      c.settled_mark.ensures ∙ ap settled_mark (unknown-told settled c.is_unsettled.result left),
+    let left = c.is_unsettled-stays.ensures.filled c.args.net.now loaded circuit whole c.requires.net there first settled filled settles in (
+      c.settled_mark.ensures ∙ ap settled_mark (unknown-told settled c.is_unsettled-stays.result left),
       rw (c.set_line.ensures.line.same, values) at c.write.ensures.gave,
     )
