@@ -4,6 +4,7 @@ complete -c hazard -n '__fish_is_first_token' -f -a replay -d 'replay the runs o
 complete -c hazard -n '__fish_is_first_token' -f -a convert -d 'write a run text as version 2'
 complete -c hazard -n '__fish_is_first_token' -f -a vcd -d 'write the last run of a run text for a waveform viewer'
 complete -c hazard -n '__fish_is_first_token' -f -a batch -d 'analyse many patterns of inputs on a netlist'
+complete -c hazard -n '__fish_is_first_token' -f -a reset -d 'say what many patterns bring about from an unknown start'
 complete -c hazard -n '__fish_is_first_token' -f -a demo -d 'make and analyse a circuit of a given size'
 complete -c hazard -n '__fish_seen_subcommand_from demo' -f
 complete -c hazard -l cap -x -d 'count at most so many changes, 1 to 1000000'

@@ -374,6 +374,38 @@ class Circuit:
         lines.append(f"patterns {len(patterns)}" + "".join(f" {kind} {count}" for kind, count in counts.items()))
         return "\n".join(lines) + "\n"
 
+    def unknown_start(self, held):
+        """The start of which nothing is known but the held gates."""
+        return "".join(held.get(name, "X") for name in self.names) + "X" * len(self.wires)
+
+    def settled(self, first, new):
+        """What a ternary state settles to under an input: Algorithm A leads from it to a result, and Algorithm B from there."""
+        spread = until_equal(first, lambda state: "".join(map(join_of, state, self.excitations(state, new))))[-1]
+        return until_equal(spread, lambda state: self.excitations(state, new))[-1]
+
+    def reset_lines(self, held, patterns):
+        """The text of what patterns bring about from the unknown start, with every node as an output."""
+        lines, unknown = [], 0
+        for number, (before, after) in enumerate(patterns, 1):
+            a = self.settled(self.unknown_start(held), before)
+            b = self.settled(a, after)
+            lines.append(f"{number}" + "".join(f" {name}={a[i]}{b[i]}" for i, name in enumerate(self.names)))
+            unknown += "X" in b
+        return "\n".join(lines + [f"patterns {len(patterns)} unknown {unknown}"]) + "\n"
+
+    def outcomes_of_all(self, new):
+        """The outcome states from each state under a new input."""
+        here = Circuit(self.inputs, self.gates, "0" * len(self.names), new)
+        known, onward = {}, {}
+        here.steps = lambda state: known.setdefault(state, Circuit.steps(here, state)) if state not in known else known[state]
+        for bits in product("01", repeat=len(self.start)):
+            onward["".join(bits)] = here.reached(["".join(bits)])
+        lasting = {}
+        for state, later in onward.items():
+            cycle = {other for other in later if state in onward[other]}
+            lasting[state] = (len(cycle) > 1 or here.is_stable(state)) and not here.waits(cycle)
+        return {state: set().union(*(onward[other] for other in later if lasting[other])) for state, later in onward.items()}
+
     def listings(self):
         """Each way to list all inputs that are no flip-flops, and some flip-flops and gates."""
         for bits in product("01", repeat=len(self.primary)):

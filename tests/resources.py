@@ -82,7 +82,7 @@ def jobs(program, folder):
     report = run(program, ["analyse", netlist, script], folder)[1]
     runs = write(folder, "latch.runs", report[report.index(b"runs 2\n"):])
     return [["analyse", netlist, script], ["analyse", netlist, script, "--show", "all"], ["replay", netlist, runs], ["convert", netlist, runs], ["vcd", netlist, runs],
-            ["batch", netlist, write(folder, "latch.patterns", PATTERNS)], ["demo", "1"]]
+            *[[job, netlist, write(folder, "latch.patterns", PATTERNS)] for job in ("batch", "reset")], ["demo", "1"]]
 
 
 def is_front(status, text, whole):

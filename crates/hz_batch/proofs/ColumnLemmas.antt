@@ -8,13 +8,12 @@ use Rattle.hz_core.specs.declared.tri.Tri.TheVariants.{Zero}
 use Rattle.hz_core.specs.Netlist.{Netlist}
 use Rattle.hz_plane.specs.declared.stage.Stage.{Stage}
 use Rattle.hz_plane.specs.Loads.{Loaded}
-use Rattle.hz_plane.specs.View.{IsLaneValue}
-use Rattle.hz_batch.specs.Columns.{IsColumn, AreColumns}
+use Rattle.hz_batch.specs.Columns.{IsTold, IsColumn, AreColumns}
 
 -- a column with the values of the lanes so far
 pub record IsColumnBelow (netlist : Netlist) (stage : Stage) (lanes : List (Option Loaded)) (var end : ℕ) (column : List Tri) : Type 0 where
   pub long : length column ≡ 512
-  pub each : (lane : ℕ) (loaded : Loaded) → lane < end → slice_get lanes lane ≡ Some (Some loaded) → IsLaneValue stage netlist loaded var (get_or column lane Zero)
+  pub each : (lane : ℕ) (loaded : Loaded) → lane < end → slice_get lanes lane ≡ Some (Some loaded) → IsTold stage netlist loaded var (get_or column lane Zero)
 
 pub column-none : (netlist : Netlist) (stage : Stage) (lanes : List (Option Loaded)) (var : ℕ) (column : List Tri) → length column ≡ 512 → IsColumnBelow netlist stage lanes var 0 column
 column-none netlist stage lanes var column long = record {
@@ -23,18 +22,18 @@ column-none netlist stage lanes var column long = record {
 }
 
 pub column-next : (netlist : Netlist) (stage : Stage) (lanes : List (Option Loaded)) (var end : ℕ) (column : List Tri) (value : Tri) → end < 512 → IsColumnBelow netlist stage lanes var end column →
-    ((loaded : Loaded) → slice_get lanes end ≡ Some (Some loaded) → IsLaneValue stage netlist loaded var value) → IsColumnBelow netlist stage lanes var (end + 1) (set column end value)
+    ((loaded : Loaded) → slice_get lanes end ≡ Some (Some loaded) → IsTold stage netlist loaded var value) → IsColumnBelow netlist stage lanes var (end + 1) (set column end value)
 column-next netlist stage lanes var end column value inside before here = record {
   long = length-set column end value ∙ before.long;
   each = λ lane loaded below there. by_place lane loaded below there (cases_eq lane end);
 }
   where
-    by_place : (lane : ℕ) (loaded : Loaded) → lane < end + 1 → slice_get lanes lane ≡ Some (Some loaded) → (lane ≡ end) ⊎ (lane ≢ end) → IsLaneValue stage netlist loaded var (get_or (set column end value) lane Zero)
+    by_place : (lane : ℕ) (loaded : Loaded) → lane < end + 1 → slice_get lanes lane ≡ Some (Some loaded) → (lane ≡ end) ⊎ (lane ≢ end) → IsTold stage netlist loaded var (get_or (set column end value) lane Zero)
     by_place lane loaded below there (inl same) =
         let is : get_or (set column end value) lane Zero ≡ value = rw same (get_or-set_same column end value Zero (omega (arith, inside, before.long))) in
-        subst (λ (v : Tri). IsLaneValue stage netlist loaded var v) (sym is) (here loaded (rw same at there))
+        subst (λ (v : Tri). IsTold stage netlist loaded var v) (sym is) (here loaded (rw same at there))
     by_place lane loaded below there (inr other) =
-        subst (λ (v : Tri). IsLaneValue stage netlist loaded var v) (sym (get_or-set_other column end lane value Zero other)) (before.each lane loaded (omega (arith, below, other)) there)
+        subst (λ (v : Tri). IsTold stage netlist loaded var v) (sym (get_or-set_other column end lane value Zero other)) (before.each lane loaded (omega (arith, below, other)) there)
 
 pub column-whole : (netlist : Netlist) (stage : Stage) (lanes : List (Option Loaded)) (var end : ℕ) (column : List Tri) → 512 ≤ end → IsColumnBelow netlist stage lanes var end column → IsColumn netlist stage lanes var column
 column-whole netlist stage lanes var end column all before = λ lane loaded inside there. before.each lane loaded (omega (arith, inside, all)) there

@@ -6,7 +6,7 @@ use Rattle.std.proofs.lemmas.List.Elements.{All-head, All-tail, All-drop}
 use Rattle.std.proofs.lemmas.Option.{slice_get-get_or}
 use Rattle.hz_outside.specs.WrittenText.{Output}
 use Rattle.hz_core.specs.declared.tri.Tri.{Tri}
-use Rattle.hz_core.specs.Netlist.{Netlist, IsCircuit}
+use Rattle.hz_core.specs.Netlist.{Netlist, IsCircuit, IsWhole}
 use Rattle.hz_net.specs.Network.{network_of}
 use Rattle.hz_net.specs.Passes.{algorithm_a, algorithm_b, IsResult}
 use Rattle.hz_net.specs.Starts.{ListsInputs, IsAcceptedStart}
@@ -18,10 +18,17 @@ use Rattle.hz_write.specs.declared.writer.Writer.{Writer}
 use Rattle.hz_write.specs.Writer.{Writes, has_failed}
 use Rattle.hz_write.proofs.Writers.{writes_then, writes_failed}
 use Rattle.hz_batch.specs.declared.counts.Counts.{Counts}
-use Rattle.hz_batch.specs.BatchText.{outcome_lines, IsBatchText, counts_of}
-use Rattle.hz_batch.specs.Outcome.{Outcome, Open, Unstable, Settled, IsOutcome, AreOutcomes, listing_of}
+use Rattle.hz_batch.specs.declared.job.Job.{Job}
+use Rattle.hz_batch.specs.declared.job.Job.TheVariants.{Batch, Reset}
+use Rattle.hz_batch.specs.BatchText.{outcome_lines}
+use Rattle.hz_batch.specs.Comes.{comes_to, last_of, IsTextOf}
+use Rattle.hz_batch.specs.Each.{AreEach}
+use Rattle.hz_batch.specs.Laws.{AreLaws}
+use Rattle.hz_batch.specs.Outcome.{Outcome, Open, Unstable, Settled, IsOutcome, listing_of}
 use Rattle.hz_batch.specs.Written.{AreWritten}
-use Rattle.hz_batch.proofs.Joined.{outcomes-append, lines-append}
+use Rattle.hz_batch.proofs.BroughtAbout.{brought-about}
+use Rattle.hz_batch.proofs.Joined.{each-append, lines-append}
+use Rattle.hz_batch.proofs.TextOf.{text-of-outcomes}
 
 -- a listed start comes to an outcome
 outcome-exists : (netlist : Netlist) (listed : List (Option Bool)) (input : List Bool) → StartsAreDecided → ResultOfAExists → ResultOfBExists → IsCircuit netlist → length listed ≡ length netlist.names → ListsInputs netlist listed →
@@ -56,43 +63,52 @@ listing-inputs netlist held pattern circuit nodes long = λ input primary.
           ∙ ap (λ (entry : Option Bool). Some entry) (get_or_append_left (map some pattern.from) (drop (length pattern.from) held) none input within ∙ get_or-map some pattern.from input false none inside),
     )
 
+-- a pattern comes to an outcome, by the job
+comes-exists : (job : Job) (netlist : Netlist) (value : PatternsOf) (pattern : PatternOf) → AreLaws → IsCircuit netlist → IsWhole netlist → ArePatternsFor netlist value → IsPatternOf netlist.inputs pattern →
+    (outcome : Outcome) × comes_to job netlist value.held pattern outcome
+comes-exists Batch netlist value pattern laws circuit whole for right =
+    outcome-exists netlist (listing_of value.held pattern) pattern.to laws.decided laws.a_exists laws.b_exists circuit (listing-long netlist value.held pattern circuit for.nodes right.from) (listing-inputs netlist value.held pattern circuit for.nodes right.from)
+comes-exists Reset netlist value pattern laws circuit whole for right =
+    let found = brought-about netlist value pattern laws circuit whole for right in
+    (Settled found.first found.second, found.is)
+
 -- patterns come to outcomes
-pub outcomes-exist : (netlist : Netlist) (held : List (Option Bool)) (patterns : List PatternOf) → StartsAreDecided → ResultOfAExists → ResultOfBExists → IsCircuit netlist → length held ≡ length netlist.names → All (IsPatternOf netlist.inputs) patterns →
-    (outcomes : List Outcome) × AreOutcomes netlist held patterns outcomes
-outcomes-exist netlist held [] decided a_exists b_exists circuit nodes all = ([], tt)
-outcomes-exist netlist held (pattern ∷ patterns) decided a_exists b_exists circuit nodes all =
-    let right = All-head (IsPatternOf netlist.inputs) pattern patterns all in
-    by_both (outcome-exists netlist (listing_of held pattern) pattern.to decided a_exists b_exists circuit (listing-long netlist held pattern circuit nodes right.from) (listing-inputs netlist held pattern circuit nodes right.from))
-    (outcomes-exist netlist held patterns decided a_exists b_exists circuit nodes (All-tail (IsPatternOf netlist.inputs) pattern patterns all))
+pub outcomes-exist : (job : Job) (netlist : Netlist) (value : PatternsOf) (patterns : List PatternOf) → AreLaws → IsCircuit netlist → IsWhole netlist → ArePatternsFor netlist value → All (IsPatternOf netlist.inputs) patterns →
+    (outcomes : List Outcome) × AreEach (comes_to job netlist value.held) patterns outcomes
+outcomes-exist job netlist value [] laws circuit whole for all = ([], tt)
+outcomes-exist job netlist value (pattern ∷ patterns) laws circuit whole for all =
+    by_both (comes-exists job netlist value pattern laws circuit whole for (All-head (IsPatternOf netlist.inputs) pattern patterns all))
+    (outcomes-exist job netlist value patterns laws circuit whole for (All-tail (IsPatternOf netlist.inputs) pattern patterns all))
   where
-    by_both : ((outcome : Outcome) × IsOutcome netlist (listing_of held pattern) pattern.to outcome) → ((outcomes : List Outcome) × AreOutcomes netlist held patterns outcomes) → (outcomes : List Outcome) × AreOutcomes netlist held (pattern ∷ patterns) outcomes
+    by_both : ((outcome : Outcome) × comes_to job netlist value.held pattern outcome) → ((outcomes : List Outcome) × AreEach (comes_to job netlist value.held) patterns outcomes) → (outcomes : List Outcome) × AreEach (comes_to job netlist value.held) (pattern ∷ patterns) outcomes
     by_both (outcome, is) (outcomes, are) = (outcome ∷ outcomes, (is, are))
 
 -- so there is always a text
-pub text-exists : (netlist : Netlist) (value : PatternsOf) → StartsAreDecided → ResultOfAExists → ResultOfBExists → IsCircuit netlist → ArePatternsFor netlist value → (text : List ℕ) × IsBatchText netlist value text
-text-exists netlist value decided a_exists b_exists circuit for = by_outcomes (outcomes-exist netlist value.held value.patterns decided a_exists b_exists circuit for.nodes for.patterns)
+pub text-exists : (job : Job) (netlist : Netlist) (value : PatternsOf) → AreLaws → IsCircuit netlist → IsWhole netlist → ArePatternsFor netlist value → (text : List ℕ) × IsTextOf job netlist value text
+text-exists job netlist value laws circuit whole for = by_outcomes (outcomes-exist job netlist value value.patterns laws circuit whole for for.patterns)
   where
-    by_outcomes : ((outcomes : List Outcome) × AreOutcomes netlist value.held value.patterns outcomes) → (text : List ℕ) × IsBatchText netlist value text
-    by_outcomes (outcomes, are) = (outcome_lines netlist 1 outcomes ++ counts_of outcomes, record { outcomes = outcomes; are_outcomes = are; lines = refl })
+    by_outcomes : ((outcomes : List Outcome) × AreEach (comes_to job netlist value.held) value.patterns outcomes) → (text : List ℕ) × IsTextOf job netlist value text
+    by_outcomes (outcomes, are) = (outcome_lines netlist 1 outcomes ++ last_of job outcomes, text-of-outcomes job netlist value outcomes are)
 
 -- after a fault the lines of the patterns that are left count as given
-pub record AreLines {S : Type 0} (output : S → Output) (faults : S → ℕ) (netlist : Netlist) (held : List (Option Bool)) (patterns : List PatternOf) (was now : Writer S) : Type 0 where
+pub record AreLines {S : Type 0} (output : S → Output) (faults : S → ℕ) (netlist : Netlist) (comes : PatternOf → Outcome → Type 0) (patterns : List PatternOf) (was now : Writer S) : Type 0 where
   pub outcomes : List Outcome
-  pub are_outcomes : AreOutcomes netlist held patterns outcomes
+  pub are_outcomes : AreEach comes patterns outcomes
   pub lines : Writes output faults (outcome_lines netlist 1 outcomes) was now
 
 pub not-both : {failed : Bool} → failed ≡ true → failed ≡ false → ⊥
 not-both is not = cc
 
 module _ {S : Type 0} (output : S → Output) (faults : S → ℕ) where
-  pub written-cut : (netlist : Netlist) (value : PatternsOf) (n : ℕ) (a b : Writer S) (was now : Counts) → StartsAreDecided → ResultOfAExists → ResultOfBExists → IsCircuit netlist → ArePatternsFor netlist value → has_failed b ≡ true →
-      AreWritten output faults netlist value.held (take n value.patterns) 1 a b was now → AreLines output faults netlist value.held value.patterns a b
-  written-cut netlist value n a b was now decided a_exists b_exists circuit for failed first =
-      by_rest (outcomes-exist netlist value.held (drop n value.patterns) decided a_exists b_exists circuit for.nodes (All-drop (IsPatternOf netlist.inputs) n value.patterns for.patterns))
+  pub written-cut : (job : Job) (netlist : Netlist) (value : PatternsOf) (n : ℕ) (a b : Writer S) (was now : Counts) → AreLaws → IsCircuit netlist → IsWhole netlist → ArePatternsFor netlist value → has_failed b ≡ true →
+      AreWritten output faults netlist (comes_to job netlist value.held) (take n value.patterns) 1 a b was now → AreLines output faults netlist (comes_to job netlist value.held) value.patterns a b
+  written-cut job netlist value n a b was now laws circuit whole for failed first =
+      by_rest (outcomes-exist job netlist value (drop n value.patterns) laws circuit whole for (All-drop (IsPatternOf netlist.inputs) n value.patterns for.patterns))
     where
-      by_rest : ((outcomes : List Outcome) × AreOutcomes netlist value.held (drop n value.patterns) outcomes) → AreLines output faults netlist value.held value.patterns a b
+      by_rest : ((outcomes : List Outcome) × AreEach (comes_to job netlist value.held) (drop n value.patterns) outcomes) → AreLines output faults netlist (comes_to job netlist value.held) value.patterns a b
       by_rest (others, are) = record {
         outcomes = first.outcomes ++ others;
-        are_outcomes = subst (λ (patterns : List PatternOf). AreOutcomes netlist value.held patterns (first.outcomes ++ others)) (take-append-drop n value.patterns) (outcomes-append netlist value.held (take n value.patterns) (drop n value.patterns) first.outcomes others first.are_outcomes are);
+        are_outcomes = subst (λ (patterns : List PatternOf). AreEach (comes_to job netlist value.held) patterns (first.outcomes ++ others)) (take-append-drop n value.patterns)
+            (each-append (comes_to job netlist value.held) (take n value.patterns) (drop n value.patterns) first.outcomes others first.are_outcomes are);
         lines = writes_then first.lines (writes_failed (outcome_lines netlist (1 + length first.outcomes) others) failed) (lines-append netlist 1 (1 + length first.outcomes) first.outcomes others refl);
       }

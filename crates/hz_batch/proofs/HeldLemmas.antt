@@ -1,13 +1,17 @@
 -- The gates that are held, as pairs, and the start that a lane lists with them.
 use Rattle.std.proofs.Common.{◌≡◌, ◌∙◌, refl, sym, ap, subst, ℕ, zero, suc, ◌+◌, ◌-◌, ◌<◌, ◌≤◌, Bool, Option, Some, None, List, [], ◌∷◌, ◌++◌, length, map, take, drop, replicate, set, get_or, All, append_assoc, arith}
 use Rattle.std.proofs.lemmas.List.{length-append, length-map, length-take-le, set_at, take_more}
-use Rattle.std.proofs.lemmas.List.{length-drop}
-use Rattle.std.proofs.lemmas.List.Elements.{All-nil, All-cons, All-head, All-tail, All-weaker, All-same}
+use Rattle.std.proofs.lemmas.List.{length-drop, length-replicate, take-replicate}
+use Rattle.std.proofs.lemmas.List.Elements.{All-nil, All-cons, All-head, All-tail, All-weaker, All-same, All-replicate}
 use Rattle.hz_core.specs.Netlist.{Netlist, IsCircuit, IsGateNumber}
 use Rattle.hz_text.specs.PatternText.{ArePatternsFor}
 use Rattle.hz_text.specs.PatternValue.{PatternOf, PatternsOf}
 use Rattle.hz_text.specs.Printed.{listed_from}
 use Rattle.hz_plane.specs.Loads.{held_at, listed_with}
+use Rattle.hz_batch.specs.declared.job.Job.{Job}
+use Rattle.hz_batch.specs.declared.job.Job.TheVariants.{Batch, Reset}
+use Rattle.hz_batch.specs.Blocks.{no_gate, without_held}
+use Rattle.hz_batch.specs.Comes.{loaded_by}
 use Rattle.hz_batch.specs.Held.{held_at_node}
 use Rattle.hz_batch.specs.Outcome.{listing_of}
 
@@ -82,6 +86,28 @@ held-gates netlist value circuit for =
     (All-weaker (λ (pair : ℕ × Bool). (0 + netlist.inputs ≤ pair.0) × (pair.0 < 0 + netlist.inputs + length (drop netlist.inputs value.held))) (λ (pair : ℕ × Bool). IsGateNumber netlist pair.0)
     (λ pair within. (omega (arith, within.0), omega (arith, within.1, long, for.nodes, few)))
     (listed_from (0 + netlist.inputs) (drop netlist.inputs value.held)) (listed-within (0 + netlist.inputs) (drop netlist.inputs value.held)))
+
+-- where no gate is held, none is listed
+pub listed-no_gate : (node : ℕ) (held : List (Option Bool)) → listed_from node (no_gate held) ≡ []
+listed-no_gate node [] = refl
+listed-no_gate node (bit ∷ held) = listed-no_gate (suc node) held
+
+-- patterns without held gates are patterns of the circuit, too
+pub without_held-for : (netlist : Netlist) (value : PatternsOf) → IsCircuit netlist → ArePatternsFor netlist value → ArePatternsFor netlist (without_held value)
+without_held-for netlist value circuit for =
+    let none : Option Bool = None in
+    let few : netlist.inputs ≤ length value.held = omega (arith, circuit.nodes, for.nodes) in
+    record {
+      nodes = length-replicate (length value.held) none ∙ for.nodes;
+      gates = All-same (λ (bit : Option Bool). bit ≡ None) (take netlist.inputs (no_gate value.held)) (replicate netlist.inputs none) (take-replicate netlist.inputs (length value.held) none few)
+          (All-replicate (λ (bit : Option Bool). bit ≡ None) netlist.inputs none refl);
+      patterns = for.patterns;
+      few = for.few;
+    }
+
+pub loaded_by-for : (job : Job) (netlist : Netlist) (value : PatternsOf) → IsCircuit netlist → ArePatternsFor netlist value → ArePatternsFor netlist (loaded_by job value)
+loaded_by-for Batch netlist value circuit for = record { nodes = for.nodes; gates = for.gates; patterns = for.patterns; few = for.few }
+loaded_by-for Reset netlist value circuit for = without_held-for netlist value circuit for
 
 -- the first bits of a pattern with the held gates, as a lane is loaded with them
 pub listing-loaded : (netlist : Netlist) (value : PatternsOf) (pattern : PatternOf) → IsCircuit netlist → ArePatternsFor netlist value → length pattern.from ≡ netlist.inputs →

@@ -1,5 +1,5 @@
 -- Lines of patterns one after the other.
-use Rattle.std.proofs.Common.{◌≡◌, ◌∙◌, refl, ap, ℕ, ◌+◌, ◌≤◌, Bool, true, false, cond, List, [], ◌∷◌, ◌++◌, length, Option, append_assoc, arith}
+use Rattle.std.proofs.Common.{◌≡◌, ◌∙◌, refl, ap, ℕ, ◌+◌, ◌≤◌, Bool, true, false, cond, List, [], ◌∷◌, ◌++◌, length, append_assoc, arith}
 use Rattle.std.specs.List.{count_by, list_any}
 use Rattle.std.proofs.lemmas.List.Sums.{sum_by-append, count_by-le-length}
 use Rattle.hz_outside.specs.WrittenText.{Output}
@@ -12,21 +12,22 @@ use Rattle.hz_batch.specs.declared.counts.Counts.{Counts}
 use Rattle.hz_batch.specs.declared.counts.Mark.{Mark}
 use Rattle.hz_batch.specs.BatchText.{outcome_line, outcome_lines, is_open, is_unstable, is_unsettled, is_unknown}
 use Rattle.hz_batch.specs.Counts.{AddsCounts, AreWithin, IsMarkOf, with_mark, settled_mark}
-use Rattle.hz_batch.specs.Outcome.{Outcome, Open, Unstable, Settled, IsOutcome, AreOutcomes, listing_of}
+use Rattle.hz_batch.specs.Each.{AreEach}
+use Rattle.hz_batch.specs.Outcome.{Outcome, Open, Unstable, Settled}
 use Rattle.hz_batch.specs.Written.{AreWritten}
 
 -- patterns after patterns
-pub outcomes-append : (netlist : Netlist) (held : List (Option Bool)) (patterns more : List PatternOf) (outcomes others : List Outcome) → AreOutcomes netlist held patterns outcomes → AreOutcomes netlist held more others → AreOutcomes netlist held (patterns ++ more) (outcomes ++ others)
-outcomes-append netlist held [] more [] others are also = also
-outcomes-append netlist held [] more (outcome ∷ outcomes) others are also = absurd are
-outcomes-append netlist held (pattern ∷ patterns) more [] others are also = absurd are
-outcomes-append netlist held (pattern ∷ patterns) more (outcome ∷ outcomes) others are also = (are.0, outcomes-append netlist held patterns more outcomes others are.1 also)
+pub each-append : {X : Type 0} (of : PatternOf → X → Type 0) (patterns more : List PatternOf) (things others : List X) → AreEach of patterns things → AreEach of more others → AreEach of (patterns ++ more) (things ++ others)
+each-append of [] more [] others are also = also
+each-append of [] more (thing ∷ things) others are also = absurd are
+each-append of (pattern ∷ patterns) more [] others are also = absurd are
+each-append of (pattern ∷ patterns) more (thing ∷ things) others are also = (are.0, each-append of patterns more things others are.1 also)
 
-pub outcomes-length : (netlist : Netlist) (held : List (Option Bool)) (patterns : List PatternOf) (outcomes : List Outcome) → AreOutcomes netlist held patterns outcomes → length outcomes ≡ length patterns
-outcomes-length netlist held [] [] are = refl
-outcomes-length netlist held [] (outcome ∷ outcomes) are = absurd are
-outcomes-length netlist held (pattern ∷ patterns) [] are = absurd are
-outcomes-length netlist held (pattern ∷ patterns) (outcome ∷ outcomes) are = omega (arith, outcomes-length netlist held patterns outcomes are.1)
+pub each-length : {X : Type 0} (of : PatternOf → X → Type 0) (patterns : List PatternOf) (things : List X) → AreEach of patterns things → length things ≡ length patterns
+each-length of [] [] are = refl
+each-length of [] (thing ∷ things) are = absurd are
+each-length of (pattern ∷ patterns) [] are = absurd are
+each-length of (pattern ∷ patterns) (thing ∷ things) are = omega (arith, each-length of patterns things are.1)
 
 -- lines after lines
 pub lines-append : (netlist : Netlist) (number next : ℕ) (outcomes others : List Outcome) → next ≡ number + length outcomes → outcome_lines netlist number outcomes ++ outcome_lines netlist next others ≡ outcome_lines netlist number (outcomes ++ others)
@@ -50,9 +51,9 @@ adds-none : (a : Counts) → AddsCounts [] a a
 adds-none a = record { open_starts = omega arith; unstable_starts = omega arith; unsettled = omega arith }
 
 -- counts stay within the number of patterns
-pub within-after : (netlist : Netlist) (held : List (Option Bool)) (patterns : List PatternOf) (outcomes : List Outcome) (first all : ℕ) (a b : Counts) → AreOutcomes netlist held patterns outcomes → AddsCounts outcomes a b → AreWithin first a → first + length patterns ≤ all → AreWithin all b
-within-after netlist held patterns outcomes first all a b are adds within few =
-    let long = outcomes-length netlist held patterns outcomes are in
+pub within-after : (comes : PatternOf → Outcome → Type 0) (patterns : List PatternOf) (outcomes : List Outcome) (first all : ℕ) (a b : Counts) → AreEach comes patterns outcomes → AddsCounts outcomes a b → AreWithin first a → first + length patterns ≤ all → AreWithin all b
+within-after comes patterns outcomes first all a b are adds within few =
+    let long = each-length comes patterns outcomes are in
     record {
       open_starts = omega (arith, adds.open_starts, within.open_starts, count_by-le-length is_open outcomes, long, few);
       unstable_starts = omega (arith, adds.unstable_starts, within.unstable_starts, count_by-le-length is_unstable outcomes, long, few);
@@ -70,26 +71,26 @@ adds-one (Settled first second) told a b is counted = rw (counted, is) (by_answe
     by_answer false told = record { open_starts = omega arith; unstable_starts = omega arith; unsettled = rw (← told) (omega arith) }
 
 module _ {S : Type 0} {output : S → Output} {faults : S → ℕ} where
-  pub written-none : (netlist : Netlist) (held : List (Option Bool)) (number : ℕ) (writer : Writer S) (counts : Counts) → AreWritten output faults netlist held [] number writer writer counts counts
-  written-none netlist held number writer counts = record { outcomes = []; are_outcomes = tt; lines = writes_nothing writer; adds = adds-none counts }
+  pub written-none : (netlist : Netlist) (comes : PatternOf → Outcome → Type 0) (number : ℕ) (writer : Writer S) (counts : Counts) → AreWritten output faults netlist comes [] number writer writer counts counts
+  written-none netlist comes number writer counts = record { outcomes = []; are_outcomes = tt; lines = writes_nothing writer; adds = adds-none counts }
 
   -- patterns after patterns
-  pub written-then : (netlist : Netlist) (held : List (Option Bool)) (patterns more : List PatternOf) (number next : ℕ) (a b c : Writer S) (was now last : Counts) → next ≡ number + length patterns →
-      AreWritten output faults netlist held patterns number a b was now → AreWritten output faults netlist held more next b c now last → AreWritten output faults netlist held (patterns ++ more) number a c was last
-  written-then netlist held patterns more number next a b c was now last is first second =
-      let long = outcomes-length netlist held patterns first.outcomes first.are_outcomes in
+  pub written-then : (netlist : Netlist) (comes : PatternOf → Outcome → Type 0) (patterns more : List PatternOf) (number next : ℕ) (a b c : Writer S) (was now last : Counts) → next ≡ number + length patterns →
+      AreWritten output faults netlist comes patterns number a b was now → AreWritten output faults netlist comes more next b c now last → AreWritten output faults netlist comes (patterns ++ more) number a c was last
+  written-then netlist comes patterns more number next a b c was now last is first second =
+      let long = each-length comes patterns first.outcomes first.are_outcomes in
       record {
         outcomes = first.outcomes ++ second.outcomes;
-        are_outcomes = outcomes-append netlist held patterns more first.outcomes second.outcomes first.are_outcomes second.are_outcomes;
+        are_outcomes = each-append comes patterns more first.outcomes second.outcomes first.are_outcomes second.are_outcomes;
         lines = writes_then first.lines second.lines (lines-append netlist number next first.outcomes second.outcomes (omega (arith, is, long)));
         adds = adds-append first.outcomes second.outcomes was now last first.adds second.adds;
       }
 
   -- one pattern
-  pub written-one : (netlist : Netlist) (held : List (Option Bool)) (pattern : PatternOf) (number : ℕ) (a b : Writer S) (was now : Counts) (told : Mark) → now ≡ with_mark was told →
-      ((outcome : Outcome) × IsOutcome netlist (listing_of held pattern) pattern.to outcome × IsMarkOf outcome told × Writes output faults (outcome_line netlist number outcome) a b) →
-      AreWritten output faults netlist held (pattern ∷ []) number a b was now
-  written-one netlist held pattern number a b was now told counted (outcome, is, marked, writes) = record {
+  pub written-one : (netlist : Netlist) (comes : PatternOf → Outcome → Type 0) (pattern : PatternOf) (number : ℕ) (a b : Writer S) (was now : Counts) (told : Mark) → now ≡ with_mark was told →
+      ((outcome : Outcome) × comes pattern outcome × IsMarkOf outcome told × Writes output faults (outcome_line netlist number outcome) a b) →
+      AreWritten output faults netlist comes (pattern ∷ []) number a b was now
+  written-one netlist comes pattern number a b was now told counted (outcome, is, marked, writes) = record {
     outcomes = outcome ∷ [];
     are_outcomes = (is, tt);
     lines = writes_then writes (writes_nothing b) refl;

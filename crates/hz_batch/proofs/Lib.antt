@@ -8,10 +8,14 @@ pub mod LineLemmas
 pub mod OutcomeLemmas
 -- Lanes that are loaded with patterns, one after the other
 pub mod LaneLoads
+-- What a pattern brings about where nothing is known of a start but the held gates
+pub mod BroughtAbout
 -- Lines of patterns one after the other
 pub mod Joined
 -- Blocks one after the other: their patterns, and the planes
 pub mod BlockLaws
+-- The text of patterns, by their outcomes
+pub mod TextOf
 -- Every pattern comes to an outcome, also if it is never looked at
 pub mod Exist
 -- The text of patterns, by what was given and counted

@@ -8,7 +8,8 @@ use Rattle.hz_net.specs.Network.{network_of, value_at}
 use Rattle.hz_net.specs.Passes.{algorithm_a, algorithm_b, IsResult}
 use Rattle.hz_net.specs.Starts.{IsAcceptedStart}
 use Rattle.hz_plane.specs.Loads.{Loaded}
-use Rattle.hz_plane.specs.View.{HasUnknown, IsUnsettled}
+use Rattle.hz_plane.specs.declared.stage.Stage.TheVariants.{Spread, Settled as AllSettled}
+use Rattle.hz_plane.specs.View.{HasUnknown, IsLaneValue, IsUnsettled}
 use Rattle.hz_reach.specs.Existence.{ResultOfAExists, ResultOfBExists}
 use Rattle.hz_batch.specs.BatchText.{is_unknown}
 use Rattle.hz_batch.specs.Outcome.{Settled, IsOutcome}
@@ -29,9 +30,17 @@ some-unknown (One ∷ state) zero inside is = cc
 some-unknown (Zero ∷ state) (suc var) inside is = some-unknown state var (omega (arith, inside)) is
 some-unknown (One ∷ state) (suc var) inside is = some-unknown state var (omega (arith, inside)) is
 
-unknown-told : (state : List Tri) (answer : Bool) → HasUnknown state answer → answer ≡ list_any is_unknown state
+pub unknown-told : (state : List Tri) (answer : Bool) → HasUnknown state answer → answer ≡ list_any is_unknown state
 unknown-told state true (var, inside, is) = sym (some-unknown state var inside is)
 unknown-told state false none = sym (none-unknown state none)
+
+-- the values of a lane in both results, by what the planes say at both stages
+pub first-of-a : (netlist : Netlist) (loaded : Loaded) (var : ℕ) (value : Tri) (a b : List Tri) → IsLaneValue Spread netlist loaded var value → IsOutcome netlist loaded.listed loaded.input (Settled a b) → value ≡ value_at a var
+first-of-a netlist loaded var value a b says (start, accepted, (rounds, are, is), of_b) = rw is (says start rounds accepted are)
+
+pub second-of-b : (netlist : Netlist) (loaded : Loaded) (var : ℕ) (value : Tri) (a b : List Tri) → IsLaneValue AllSettled netlist loaded var value → IsOutcome netlist loaded.listed loaded.input (Settled a b) → value ≡ value_at b var
+second-of-b netlist loaded var value a b says (start, accepted, (rounds, are, is), (rest, are_rest, is_rest)) =
+    rw is_rest (rw (← is) at (says start rounds rest accepted are (rw is at are_rest)))
 
 -- both results from an accepted start, and whether an X is left
 pub record HasResults (netlist : Netlist) (loaded : Loaded) (unsettled : Bool) : Type 0 where

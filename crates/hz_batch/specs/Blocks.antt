@@ -14,6 +14,13 @@ load_of held pattern = Some (record { input = pattern.to; listed = listing_of he
 abbrev pub lanes_with : List (Option Bool) → List PatternOf → List (Option Loaded)
 lanes_with held patterns = map (load_of held) patterns ++ replicate (512 - length patterns) None
 
+-- no gate is held
+abbrev pub no_gate : List (Option Bool) → List (Option Bool)
+no_gate held = replicate (length held) None
+
+abbrev pub without_held : PatternsOf → PatternsOf
+without_held patterns = record patterns { held = no_gate patterns.held }
+
 -- how many blocks patterns fill; the last may be shorter
 abbrev pub block_count : ℕ → ℕ
 block_count patterns = (patterns + 511) / 512

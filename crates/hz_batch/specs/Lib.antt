@@ -1,19 +1,27 @@
 -- Words, with their arguments, in the order in which one needs them.
 --
+-- AreEach of patterns things: one thing for each pattern
 -- listing_of held pattern: the start that a pattern lists
 -- Outcome, IsOutcome netlist held pattern outcome: what a pattern comes to
 -- AreOutcomes netlist held patterns outcomes: each pattern comes to one
 -- outcome_line netlist number outcome: the line of a pattern
 -- counts_line outcomes: the last line
 -- IsBatchText netlist patterns text: the text of patterns
+-- IsBroughtAbout netlist held pattern values: what a pattern brings about from the unknown start
+-- unknown_line patterns unknown: the last line of these
+-- IsResetText netlist patterns text: the text of what patterns bring about
 -- WroteBatch output faults text was now result: the text was written, or a prefix of it
 -- block_count patterns, block_of patterns block: patterns in blocks of 512
 -- planes_after patterns was blocks: the planes after so many blocks
 
+pub mod Each
 pub mod Outcome
 pub mod BatchText
+pub mod ResetText
 pub mod Blocks
 pub mod Answer
+pub mod Comes
+pub mod Laws
 pub mod Held
 pub mod Counts
 pub mod Columns

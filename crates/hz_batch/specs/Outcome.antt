@@ -1,11 +1,12 @@
 -- What a pattern comes to: its start is refused, or both algorithms give their results.
-use Rattle.std.specs.Prelude.{ℕ, Bool, Option, Some, List, [], ◌∷◌, ◌++◌, map, drop, length}
+use Rattle.std.specs.Prelude.{ℕ, Bool, Option, Some, List, ◌++◌, map, drop, length}
 use Rattle.hz_core.specs.declared.tri.Tri.{Tri}
 use Rattle.hz_core.specs.Netlist.{Netlist}
 use Rattle.hz_net.specs.Network.{network_of}
 use Rattle.hz_net.specs.Passes.{algorithm_a, algorithm_b, IsResult}
 use Rattle.hz_net.specs.Starts.{IsAcceptedStart, IsLeastOpen, IsLeastUnstable}
 use Rattle.hz_text.specs.PatternValue.{PatternOf}
+use Rattle.hz_batch.specs.Each.{AreEach}
 
 -- The start of a pattern is refused for its least open gate, or if no gate is open for its least unstable one. Otherwise there
 -- are the results of Algorithms A and B.
@@ -29,8 +30,4 @@ IsOutcome netlist listed input (Settled a b) =
 
 -- what each pattern comes to, by the start that it lists and its second bits
 abbrev pub AreOutcomes : Netlist → (held : List (Option Bool)) → List PatternOf → List Outcome → Type 0
-AreOutcomes netlist held [] [] = Unit {0}
-AreOutcomes netlist held [] (outcome ∷ outcomes) = ⊥
-AreOutcomes netlist held (pattern ∷ patterns) [] = ⊥
-AreOutcomes netlist held (pattern ∷ patterns) (outcome ∷ outcomes) =
-    IsOutcome netlist (listing_of held pattern) pattern.to outcome × AreOutcomes netlist held patterns outcomes
+AreOutcomes netlist held = AreEach (λ pattern. IsOutcome netlist (listing_of held pattern) pattern.to)

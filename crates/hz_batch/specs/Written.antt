@@ -1,5 +1,5 @@
 -- What the lines of patterns give to a writer, and what they add to the counts.
-use Rattle.std.specs.Prelude.{ℕ, Bool, Option, List}
+use Rattle.std.specs.Prelude.{ℕ, List}
 use Rattle.hz_outside.specs.WrittenText.{Output}
 use Rattle.hz_core.specs.Netlist.{Netlist}
 use Rattle.hz_text.specs.PatternValue.{PatternOf}
@@ -8,11 +8,12 @@ use Rattle.hz_write.specs.Writer.{Writes}
 use Rattle.hz_batch.specs.declared.counts.Counts.{Counts}
 use Rattle.hz_batch.specs.BatchText.{outcome_lines}
 use Rattle.hz_batch.specs.Counts.{AddsCounts}
-use Rattle.hz_batch.specs.Outcome.{Outcome, AreOutcomes}
+use Rattle.hz_batch.specs.Each.{AreEach}
+use Rattle.hz_batch.specs.Outcome.{Outcome}
 
 -- the lines of patterns, the first of which has a number, were given to a writer, and were counted
-pub record AreWritten {S : Type 0} (output : S → Output) (faults : S → ℕ) (netlist : Netlist) (held : List (Option Bool)) (patterns : List PatternOf) (number : ℕ) (was now : Writer S) (counts counts' : Counts) : Type 0 where
+pub record AreWritten {S : Type 0} (output : S → Output) (faults : S → ℕ) (netlist : Netlist) (comes : PatternOf → Outcome → Type 0) (patterns : List PatternOf) (number : ℕ) (was now : Writer S) (counts counts' : Counts) : Type 0 where
   pub outcomes : List Outcome
-  pub are_outcomes : AreOutcomes netlist held patterns outcomes
+  pub are_outcomes : AreEach comes patterns outcomes
   pub lines : Writes output faults (outcome_lines netlist number outcomes) was now
   pub adds : AddsCounts outcomes counts counts'

@@ -1,20 +1,22 @@
 //! Blocks of patterns.
 ghost use Rattle.std.specs.Prelude.{◌≡◌, ◌<◌, ◌≤◌, ◌+◌, ◌*◌, ◌^◌, ◌-◌, List, false, length, min, take, drop};
-ghost use Rattle.hz_plane.specs.declared.stage.Stage.TheVariants.{Loading, Spread, Settled};
+ghost use Rattle.hz_plane.specs.declared.stage.Stage.TheVariants.{Loading, Completed, Spread, Settled};
 ghost use Rattle.hz_plane.specs.View.{AreOf};
-ghost use Rattle.hz_pass.specs.Decided.{StartsAreDecided};
-ghost use Rattle.hz_reach.specs.Existence.{ResultOfAExists, ResultOfBExists};
 ghost use Rattle.hz_write.specs.Writer.{Writes, NoneWaits, has_failed};
 ghost use Rattle.hz_batch.specs.Blocks.{lanes_with, block_count, planes_after};
 ghost use Rattle.hz_batch.specs.BatchText.{outcome_lines};
 ghost use Rattle.hz_batch.specs.Columns.{AreColumns};
 ghost use Rattle.hz_batch.specs.Counts.{AddsCounts, AreWithin, no_counts};
+ghost use Rattle.hz_batch.specs.Comes.{comes_to, held_by, loaded_by, kept_at};
+ghost use Rattle.hz_batch.specs.Each.{AreEach};
 ghost use Rattle.hz_batch.specs.Inside.{IsWork, IsRoomFor};
-ghost use Rattle.hz_batch.specs.Outcome.{Outcome, AreOutcomes};
+ghost use Rattle.hz_batch.specs.Laws.{AreLaws};
+ghost use Rattle.hz_batch.specs.Outcome.{Outcome};
 ghost use Rattle.hz_batch.specs.Written.{AreWritten};
 
 use crate::counts::Counts;
 use crate::firsts::{Column, keep_values};
+use crate::job::Job;
 use crate::lanes::{Lane, write_lane};
 use hz_net::Net;
 use hz_outside::Sink;
@@ -29,8 +31,10 @@ pub(crate) const BLOCK: usize = 512;
 /// What a block is made of.
 #[derive(Drop)]
 pub(crate) struct Work<'w> {
+    pub(crate) job: Job,
     pub(crate) net: &'w Net,
     pub(crate) patterns: &'w Patterns,
+    /// The gates that are held at the start.
     pub(crate) held: &'w [(u32, bool)],
 }
 
@@ -49,15 +53,18 @@ pub(crate) fn write_blocks<K: Sink>(
     planes: &mut Planes,
     room: &mut Room<'_>,
 )
-    requires decided { StartsAreDecided }
-    requires a_exists { ResultOfAExists }
-    requires b_exists { ResultOfBExists }
+    requires laws { AreLaws }
     requires work { IsWork work.now }
     requires net { AreOf work.now.net.now planes.old }
     requires room { IsRoomFor work.now.net.now room.old }
     requires counts { room.old.counts ≡ no_counts }
-    ensures gave { (outcomes : List Outcome) × AreOutcomes work.now.net.now work.now.patterns.now.held work.now.patterns.now.patterns outcomes × Writes K.output K.faults (outcome_lines work.now.net.now 1 outcomes) writer.old writer.new × (has_failed writer.new ≡ false → AddsCounts outcomes no_counts room.new.counts) }
-    ensures planes { has_failed writer.new ≡ false → planes.new ≡ planes_after work.now.patterns.now planes.old (block_count (length work.now.patterns.now.patterns)) }
+    ensures gave { (outcomes : List Outcome)
+        × AreEach (comes_to work.now.job work.now.net.now work.now.patterns.now.held) work.now.patterns.now.patterns outcomes
+        × Writes K.output K.faults (outcome_lines work.now.net.now 1 outcomes) writer.old writer.new
+        × (has_failed writer.new ≡ false → AddsCounts outcomes no_counts room.new.counts) }
+    ensures planes { has_failed writer.new ≡ false
+        → planes.new ≡ planes_after (loaded_by work.now.job work.now.patterns.now) planes.old
+        (block_count (length work.now.patterns.now.patterns)) }
 {
     let _variables = work.net.len();
     for block in 0..work.patterns.count().div_ceil(BLOCK) {
@@ -76,22 +83,26 @@ fn write_block<K: Sink>(
     planes: &mut Planes,
     room: &mut Room<'_>,
 )
-    requires a_exists { ResultOfAExists }
-    requires b_exists { ResultOfBExists }
+    requires laws { AreLaws }
     requires work { IsWork work.now }
     requires first { first < length work.now.patterns.now.patterns }
     requires net { AreOf work.now.net.now planes.old }
     requires room { IsRoomFor work.now.net.now room.old }
     requires counts { AreWithin first room.old.counts }
     ensures room { IsRoomFor work.now.net.now room.new }
-    ensures gave { AreWritten K.output K.faults work.now.net.now work.now.patterns.now.held (take 512 (drop first work.now.patterns.now.patterns)) (first + 1) writer.old writer.new room.old.counts room.new.counts }
-    ensures planes { planes.new ≡ record planes.old { stage = Settled; settles = min (planes.old.settles + 1) (2 ^ 64 - 1); lanes = lanes_with work.now.patterns.now.held (take 512 (drop first work.now.patterns.now.patterns)) } }
+    ensures gave { AreWritten K.output K.faults work.now.net.now
+        (comes_to work.now.job work.now.net.now work.now.patterns.now.held) (take 512 (drop first work.now.patterns.now.patterns))
+        (first + 1) writer.old writer.new room.old.counts room.new.counts }
+    ensures planes { planes.new ≡ record planes.old {
+      stage = Settled;
+      settles = min (planes.old.settles + 1) (2 ^ 64 - 1);
+      lanes = lanes_with (held_by work.now.job work.now.patterns.now.held) (take 512 (drop first work.now.patterns.now.patterns));
+    } }
 {
     let lanes = (work.patterns.count() - first).min(BLOCK) as u32;
     load(work, first, lanes, planes);
     planes.complete(work.net);
-    planes.spread(work.net);
-    keep_values(work.net, planes, room.firsts.as_mut_slice());
+    spread_and_keep(work, planes, room.firsts.as_mut_slice());
     planes.settle(work.net);
     write_lanes(writer, work, planes, first, lanes, room);
 }
@@ -102,7 +113,10 @@ fn load(work: &Work<'_>, first: usize, lanes: u32, planes: &mut Planes)
     requires lanes { lanes ≤ 512 }
     requires last { first + lanes ≤ length work.now.patterns.now.patterns }
     requires net { AreOf work.now.net.now planes.old }
-    ensures { planes.new ≡ record planes.old { stage = Loading; lanes = lanes_with work.now.patterns.now.held (take lanes (drop first work.now.patterns.now.patterns)) } }
+    ensures { planes.new ≡ record planes.old {
+      stage = Loading;
+      lanes = lanes_with (held_by work.now.job work.now.patterns.now.held) (take lanes (drop first work.now.patterns.now.patterns));
+    } }
 {
     let _variables = work.net.len();
     planes.clear();
@@ -118,6 +132,29 @@ fn load(work: &Work<'_>, first: usize, lanes: u32, planes: &mut Planes)
     }
 }
 
+// Makes Algorithm A, and keeps the first values of the outputs: those that it comes to, or where nothing is known of a start
+// those that the first bits bring about, before it.
+fn spread_and_keep(work: &Work<'_>, planes: &mut Planes, columns: &mut [Column])
+    requires net { AreOf work.now.net.now planes.old }
+    requires stage { planes.old.stage ≡ Completed }
+    requires count { length columns.old ≡ length work.now.net.now.outputs }
+    ensures planes { planes.new ≡ record planes.old { stage = Spread } }
+    ensures count { length columns.new ≡ length columns.old }
+    ensures columns { AreColumns work.now.net.now (kept_at work.now.job) planes.old.lanes work.now.net.now.outputs
+        columns.new }
+{
+    match work.job {
+        Job::Batch => {
+            planes.spread(work.net);
+            keep_values(work.net, planes, columns);
+        }
+        Job::Reset => {
+            keep_values(work.net, planes, columns);
+            planes.spread(work.net);
+        }
+    }
+}
+
 // Gives the lines of the first lanes.
 fn write_lanes<K: Sink>(
     writer: &mut Writer<'_, K>,
@@ -127,19 +164,22 @@ fn write_lanes<K: Sink>(
     lanes: u32,
     room: &mut Room<'_>,
 )
-    requires a_exists { ResultOfAExists }
-    requires b_exists { ResultOfBExists }
+    requires laws { AreLaws }
     requires work { IsWork work.now }
     requires lanes { lanes ≤ 512 }
     requires last { first + lanes ≤ length work.now.patterns.now.patterns }
     requires net { AreOf work.now.net.now planes.now }
     requires stage { planes.now.stage ≡ Settled }
-    requires loaded { planes.now.lanes ≡ lanes_with work.now.patterns.now.held (take lanes (drop first work.now.patterns.now.patterns)) }
-    requires firsts { AreColumns work.now.net.now Spread planes.now.lanes work.now.net.now.outputs room.old.firsts.items }
+    requires loaded { planes.now.lanes ≡ lanes_with (held_by work.now.job work.now.patterns.now.held)
+        (take lanes (drop first work.now.patterns.now.patterns)) }
+    requires firsts { AreColumns work.now.net.now (kept_at work.now.job) planes.now.lanes work.now.net.now.outputs
+        room.old.firsts.items }
     requires room { IsRoomFor work.now.net.now room.old }
     requires counts { AreWithin first room.old.counts }
     ensures room { IsRoomFor work.now.net.now room.new }
-    ensures gave { AreWritten K.output K.faults work.now.net.now work.now.patterns.now.held (take lanes (drop first work.now.patterns.now.patterns)) (first + 1) writer.old writer.new room.old.counts room.new.counts }
+    ensures gave { AreWritten K.output K.faults work.now.net.now
+        (comes_to work.now.job work.now.net.now work.now.patterns.now.held) (take lanes (drop first work.now.patterns.now.patterns))
+        (first + 1) writer.old writer.new room.old.counts room.new.counts }
 {
     for lane in 0..lanes {
         let at = Lane {
@@ -148,7 +188,7 @@ fn write_lanes<K: Sink>(
         };
         let mark = write_lane(
             writer,
-            work.net,
+            work,
             planes,
             at,
             room.firsts.as_slice(),

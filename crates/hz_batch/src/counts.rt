@@ -1,9 +1,12 @@
 //! What is counted of patterns.
 ghost use Rattle.std.specs.Prelude.{◌≡◌};
 ghost use Rattle.hz_batch.specs.BatchText.{counts_line};
+ghost use Rattle.hz_batch.specs.Comes.{last_line};
 ghost use Rattle.hz_batch.specs.Counts.{AreWithin, with_mark, no_counts};
+ghost use Rattle.hz_batch.specs.ResetText.{unknown_line};
 ghost use Rattle.hz_write.specs.Writer.{Writes, NoneWaits};
 
+use crate::job::Job;
 use hz_outside::Sink;
 use hz_write::Piece::{Count, Number, Text};
 use hz_write::Writer;
@@ -54,10 +57,23 @@ impl Counts {
         }
     }
 
-    // Gives the line of so many patterns.
+    // Gives the last line, of so many patterns.
+    pub(crate) fn write<K: Sink>(self, writer: &mut Writer<'_, K>, job: Job, patterns: usize)
+        ensures gave { Writes K.output K.faults
+            (last_line job patterns self.open_starts self.unstable_starts self.unsettled) writer.old writer.new }
+        ensures none_waits { NoneWaits writer.new }
+    {
+        match job {
+            Job::Batch => self.write_counts(writer, patterns),
+            Job::Reset => self.write_unknown(writer, patterns),
+        }
+    }
+
+    // Gives the line of what starts were refused, and of what stayed X.
     #[tactic(auto, using(hz_write::proofs::Writers::writes_same), unfolding(crate::specs::BatchText::counts_line, hz_write::specs::Writes::line_of))]
-    pub(crate) fn write<K: Sink>(self, writer: &mut Writer<'_, K>, patterns: usize)
-        ensures gave { Writes K.output K.faults (counts_line patterns self.open_starts self.unstable_starts self.unsettled) writer.old writer.new }
+    fn write_counts<K: Sink>(self, writer: &mut Writer<'_, K>, patterns: usize)
+        ensures gave { Writes K.output K.faults
+            (counts_line patterns self.open_starts self.unstable_starts self.unsettled) writer.old writer.new }
         ensures none_waits { NoneWaits writer.new }
     {
         writer.line(&[
@@ -68,6 +84,19 @@ impl Counts {
             Text(b" unstable "),
             Number(self.unstable_starts),
             Text(b" unsettled "),
+            Number(self.unsettled),
+        ]);
+    }
+    // Gives the line of what stayed X.
+    #[tactic(auto, using(hz_write::proofs::Writers::writes_same), unfolding(crate::specs::ResetText::unknown_line, hz_write::specs::Writes::line_of))]
+    fn write_unknown<K: Sink>(self, writer: &mut Writer<'_, K>, patterns: usize)
+        ensures gave { Writes K.output K.faults (unknown_line patterns self.unsettled) writer.old writer.new }
+        ensures none_waits { NoneWaits writer.new }
+    {
+        writer.line(&[
+            Text(b"patterns "),
+            Count(patterns),
+            Text(b" unknown "),
             Number(self.unsettled),
         ]);
     }

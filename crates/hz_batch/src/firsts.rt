@@ -1,4 +1,4 @@
-//! The values of the outputs in Algorithm A.
+//! The first values of the outputs.
 ghost use Rattle.std.specs.Prelude.{◌≡◌, ◌<◌, length};
 ghost use Rattle.hz_plane.specs.View.{AreOf};
 ghost use Rattle.hz_batch.specs.Columns.{IsColumn, AreColumns};

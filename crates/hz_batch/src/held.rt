@@ -1,13 +1,31 @@
 //! The gates that are held.
 ghost use Rattle.std.specs.Prelude.{◌≡◌, ◌<◌, ◌^◌, ◌++◌, length, IfOk, OnOk};
 ghost use Rattle.hz_text.specs.Printed.{listed_from};
+ghost use Rattle.hz_batch.specs.Comes.{held_by};
 ghost use Rattle.hz_batch.specs.Held.{held_at_node};
 
+use crate::job::Job;
 use hz_core::Memory;
 use std::alloc::Global;
 
+// The gates that are held at the start of each pattern. From a start of which nothing else is known the first bits make no
+// difference of them: Algorithm A makes every variable X.
+pub(crate) fn held_at_start(
+    alloc: Global,
+    job: Job,
+    held: &[Option<bool>],
+) -> Result<Vec<(u32, bool)>, Memory>
+    requires { length held.now < 2 ^ 32 }
+    ensures { IfOk result (λ gates. gates.items ≡ listed_from 0 (held_by job held.now)) }
+{
+    match job {
+        Job::Batch => held_gates(alloc, held),
+        Job::Reset => Ok(Vec::new(alloc)),
+    }
+}
+
 // The gates that are held, with their bits, in the order of the nodes. There is an entry for each node.
-pub(crate) fn held_gates(alloc: Global, held: &[Option<bool>]) -> Result<Vec<(u32, bool)>, Memory>
+fn held_gates(alloc: Global, held: &[Option<bool>]) -> Result<Vec<(u32, bool)>, Memory>
     requires { length held.now < 2 ^ 32 }
     ensures { IfOk result (λ gates. gates.items ≡ listed_from 0 held.now) }
 {

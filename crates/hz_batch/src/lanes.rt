@@ -1,20 +1,31 @@
 //! The line of a lane.
 ghost use Rattle.std.specs.Prelude.{◌≡◌, ◌<◌, List, length, slice_get, Some};
 ghost use Rattle.hz_core.specs.declared.tri.Tri.{Tri};
-ghost use Rattle.hz_plane.specs.declared.stage.Stage.TheVariants.{Spread, Settled};
+ghost use Rattle.hz_net.specs.Network.{network_of};
+ghost use Rattle.hz_net.specs.TernaryStarts.{SettlesTo};
+ghost use Rattle.hz_plane.specs.declared.stage.Stage.TheVariants.{Completed, Spread, Settled};
+ghost use Rattle.hz_plane.specs.Lanes.{IsFilledStart};
 ghost use Rattle.hz_plane.specs.Loads.{Loaded};
 ghost use Rattle.hz_plane.specs.View.{AreOf};
 ghost use Rattle.hz_reach.specs.Existence.{ResultOfAExists, ResultOfBExists};
 ghost use Rattle.hz_report.specs.Outputs.{output_values};
+ghost use Rattle.hz_text.specs.PatternText.{IsPatternOf};
+ghost use Rattle.hz_text.specs.PatternValue.{PatternOf};
 ghost use Rattle.hz_write.specs.Writer.{Writes, NoneWaits};
 ghost use Rattle.hz_batch.specs.BatchText.{outcome_line, refused_line};
-ghost use Rattle.hz_batch.specs.Columns.{AreColumns};
+ghost use Rattle.hz_batch.specs.Blocks.{load_of};
+ghost use Rattle.hz_batch.specs.Columns.{AreColumns, HasColumns, TellsOf};
+ghost use Rattle.hz_batch.specs.Comes.{comes_to, held_by, kept_at};
 ghost use Rattle.hz_batch.specs.Counts.{IsMarkOf, settled_mark};
+ghost use Rattle.hz_batch.specs.Inside.{IsWork};
+ghost use Rattle.hz_batch.specs.Laws.{AreLaws};
 ghost use Rattle.hz_batch.specs.Outcome.{Outcome, IsOutcome};
 ghost use Rattle.hz_batch.specs.Lines.{IsLineFor};
 
+use crate::blocks::Work;
 use crate::counts::Mark;
 use crate::firsts::Column;
+use crate::job::Job;
 use hz_core::Circuit;
 use hz_net::Net;
 use hz_outside::Sink;
@@ -25,6 +36,40 @@ use hz_write::Writer;
 
 // Gives the line of a lane, whose pattern has a number, and says what is counted of it.
 pub(crate) fn write_lane<K: Sink>(
+    writer: &mut Writer<'_, K>,
+    work: &Work<'_>,
+    planes: &Planes,
+    at: Lane,
+    firsts: &[Column],
+    line: &mut OutputLine<'_>,
+) -> Mark
+    requires laws { AreLaws }
+    requires work { IsWork work.now }
+    requires net { AreOf work.now.net.now planes.now }
+    requires stage { planes.now.stage ≡ Settled }
+    requires lane { at.lane < 512 }
+    requires loaded { (loaded : Loaded) × (slice_get planes.now.lanes at.lane ≡ Some (Some loaded)) }
+    requires firsts { AreColumns work.now.net.now (kept_at work.now.job) planes.now.lanes work.now.net.now.outputs
+        firsts.now }
+    requires count { length firsts.now ≡ length work.now.net.now.outputs }
+    requires line { IsLineFor work.now.net.now line.old }
+    ensures line { IsLineFor work.now.net.now line.new }
+    ensures gave { (pattern : PatternOf) → IsPatternOf work.now.net.now.inputs pattern
+        → slice_get planes.now.lanes at.lane ≡ Some (load_of (held_by work.now.job work.now.patterns.now.held) pattern)
+        → (outcome : Outcome)
+        × comes_to work.now.job work.now.net.now work.now.patterns.now.held pattern outcome × IsMarkOf outcome result
+        × Writes K.output K.faults (outcome_line work.now.net.now at.number outcome) writer.old writer.new }
+    ensures none_waits { NoneWaits writer.new }
+{
+    let _variables = work.net.len();
+    match work.job {
+        Job::Batch => write_outcome(writer, work.net, planes, at, firsts, line),
+        Job::Reset => write_values(writer, work.net, planes, at, firsts, line),
+    }
+}
+
+// Gives the line of a lane that lists a start: the gate for which the start is refused, or what both algorithms come to.
+fn write_outcome<K: Sink>(
     writer: &mut Writer<'_, K>,
     net: &Net,
     planes: &Planes,
@@ -42,7 +87,9 @@ pub(crate) fn write_lane<K: Sink>(
     requires count { length firsts.now ≡ length net.now.outputs }
     requires line { IsLineFor net.now line.old }
     ensures line { IsLineFor net.now line.new }
-    ensures gave { (loaded : Loaded) → slice_get planes.now.lanes at.lane ≡ Some (Some loaded) → (outcome : Outcome) × IsOutcome net.now loaded.listed loaded.input outcome × IsMarkOf outcome result × Writes K.output K.faults (outcome_line net.now at.number outcome) writer.old writer.new }
+    ensures gave { (loaded : Loaded) → slice_get planes.now.lanes at.lane ≡ Some (Some loaded)
+        → (outcome : Outcome) × IsOutcome net.now loaded.listed loaded.input outcome × IsMarkOf outcome result
+        × Writes K.output K.faults (outcome_line net.now at.number outcome) writer.old writer.new }
     ensures none_waits { NoneWaits writer.new }
 {
     let _variables = net.len();
@@ -61,6 +108,35 @@ pub(crate) fn write_lane<K: Sink>(
             settled_mark(planes.is_unsettled(at.lane))
         }
     }
+}
+
+// Gives the line of a lane that lists the inputs alone: what the first bits bring about, and what that settles to.
+fn write_values<K: Sink>(
+    writer: &mut Writer<'_, K>,
+    net: &Net,
+    planes: &Planes,
+    at: Lane,
+    firsts: &[Column],
+    line: &mut OutputLine<'_>,
+) -> Mark
+    requires net { AreOf net.now planes.now }
+    requires stage { planes.now.stage ≡ Settled }
+    requires lane { at.lane < 512 }
+    requires firsts { AreColumns net.now Completed planes.now.lanes net.now.outputs firsts.now }
+    requires count { length firsts.now ≡ length net.now.outputs }
+    requires line { IsLineFor net.now line.old }
+    ensures line { IsLineFor net.now line.new }
+    ensures gave { (loaded : Loaded) (first settled : List Tri) → slice_get planes.now.lanes at.lane ≡ Some (Some loaded)
+        → IsFilledStart net.now loaded.listed first → SettlesTo (network_of net.now) loaded.input first settled
+        → IsMarkOf (Outcome.Settled first settled) result
+        × Writes K.output K.faults (outcome_line net.now at.number (Outcome.Settled first settled)) writer.old writer.new }
+    ensures none_waits { NoneWaits writer.new }
+{
+    let _variables = net.len();
+    set_line(net, planes, at.lane, firsts, line);
+    line.write(writer, at.number);
+    let stays = planes.is_unsettled(at.lane);
+    settled_mark(stays)
 }
 
 /// A lane, and the number of the pattern that it holds.
@@ -91,11 +167,11 @@ fn set_line(net: &Net, planes: &Planes, lane: u32, firsts: &[Column], line: &mut
     requires net { AreOf net.now planes.now }
     requires stage { planes.now.stage ≡ Settled }
     requires lane { lane < 512 }
-    requires firsts { AreColumns net.now Spread planes.now.lanes net.now.outputs firsts.now }
     requires count { length firsts.now ≡ length net.now.outputs }
     requires line { IsLineFor net.now line.old }
     ensures line { IsLineFor net.now line.new }
-    ensures values { (loaded : Loaded) (a b : List Tri) → slice_get planes.now.lanes lane ≡ Some (Some loaded) → IsOutcome net.now loaded.listed loaded.input (Outcome.Settled a b) → line.new.values ≡ output_values net.now a b }
+    ensures values { (loaded : Loaded) (a b : List Tri) → slice_get planes.now.lanes lane ≡ Some (Some loaded)
+        → HasColumns net.now.outputs firsts.now lane a → TellsOf Settled net.now loaded b → line.new.values ≡ output_values net.now a b }
 {
     let _variables = net.len();
     let outputs = net.circuit().outputs();
@@ -108,7 +184,7 @@ fn set_line(net: &Net, planes: &Planes, lane: u32, firsts: &[Column], line: &mut
     }
 }
 
-// What is counted of a pattern whose start is accepted.
+// What is counted of a pattern for which there are values.
 fn settled_mark(unsettled: bool) -> Mark
     ensures { result ≡ settled_mark unsettled }
 {

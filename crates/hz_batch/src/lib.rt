@@ -1,12 +1,16 @@
 //! Patterns of a circuit, 512 at a time: the line of each, and how many there are of each kind.
 //!
+//! A pattern begins at the start that its first bits and the held gates give ([`batch`]), or at the start of which nothing else
+//! is known ([`reset`]). Planes that list the first bits alone hold what these bring about from there.
+//!
 //! | Module | What lives in it |
 //! |---|---|
-//! | `writing` | [`batch`]: block after block, and the last line |
+//! | `writing` | [`batch`] and [`reset`]: block after block, and the last line |
+//! | `job` | which of both is made |
 //! | `blocks` | a block: its lanes are loaded, all passes are made, and the line of each lane is written |
 //! | `lanes` | the line of a lane |
-//! | `firsts` | the values of the outputs in Algorithm A, which are kept until those in Algorithm B are there |
-//! | `held` | the gates that are held |
+//! | `firsts` | the first values of the outputs, which are kept until the second ones are there |
+//! | `held` | the gates that are held at the start |
 //! | `counts` | what is counted |
 //! | `fault` | [`BatchFault`]: why the text was not written |
 #![tactic(auto, using(hz_write::proofs::Writers::writes_then, hz_write::proofs::Writers::writes_nothing))]
@@ -16,8 +20,9 @@ mod counts;
 mod fault;
 mod firsts;
 mod held;
+mod job;
 mod lanes;
 mod writing;
 
 pub use fault::BatchFault;
-pub use writing::batch;
+pub use writing::{batch, reset};

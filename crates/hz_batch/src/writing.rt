@@ -1,28 +1,32 @@
 //! All patterns, and the last line.
 ghost use Rattle.std.specs.Prelude.{◌≡◌, ℕ, List, false, length, IfOk, OnOk};
 ghost use Rattle.hz_plane.specs.View.{AreOf};
-ghost use Rattle.hz_pass.specs.Decided.{StartsAreDecided};
-ghost use Rattle.hz_reach.specs.Existence.{ResultOfAExists, ResultOfBExists};
 ghost use Rattle.hz_text.specs.PatternText.{ArePatternsFor};
 ghost use Rattle.hz_write.specs.Writer.{Writes, has_failed};
 ghost use Rattle.hz_write.specs.Writes.{Wrote};
 ghost use Rattle.hz_batch.specs.Answer.{WroteBatch};
 ghost use Rattle.hz_batch.specs.BatchText.{IsBatchText};
 ghost use Rattle.hz_batch.specs.Blocks.{block_count, planes_after};
+ghost use Rattle.hz_batch.specs.Comes.{IsTextOf, loaded_by};
 ghost use Rattle.hz_batch.specs.Counts.{no_counts};
 ghost use Rattle.hz_batch.specs.Inside.{IsWork, IsRoomFor};
+ghost use Rattle.hz_batch.specs.Laws.{AreLaws};
+ghost use Rattle.hz_batch.specs.ResetText.{IsResetText};
+ghost use Rattle.hz_batch.specs.Blocks.{without_held};
 
 use crate::blocks::{Room, Work, write_blocks};
 use crate::counts::Counts;
 use crate::fault::BatchFault;
-use crate::held::held_gates;
+use crate::held::held_at_start;
+use crate::job::Job;
 use hz_core::{Memory, Tri};
 use hz_net::Net;
 use hz_outside::{PutFault, Sink};
 use hz_pass::starts_are_decided;
-use hz_plane::Planes;
+use hz_plane::{Planes, listed_inputs_fill};
 use hz_reach::passes_end;
 use hz_report::OutputLine;
+use hz_reset::{held_is_forgotten, values_exist};
 use hz_text::Patterns;
 use hz_write::Writer;
 use std::alloc::Global;
@@ -37,10 +41,35 @@ pub fn batch<K: Sink>(
 ) -> Result<(), BatchFault>
     requires patterns { ArePatternsFor net.now patterns.now }
     requires planes { AreOf net.now planes.old }
-    ensures wrote { (text : List ℕ) × IsBatchText net.now patterns.now text × WroteBatch K.output K.faults text out.old out.new result }
-    ensures planes { OnOk result (planes.new ≡ planes_after patterns.now planes.old (block_count (length patterns.now.patterns))) }
+    ensures wrote { (text : List ℕ) × IsBatchText net.now patterns.now text
+        × WroteBatch K.output K.faults text out.old out.new result }
+    ensures planes { OnOk result
+        (planes.new ≡ planes_after patterns.now planes.old (block_count (length patterns.now.patterns))) }
 {
-    match write_batch(alloc, net, patterns, planes, out) {
+    match write_text(alloc, net, patterns, Job::Batch, planes, out) {
+        Ok(()) => Ok(()),
+        Err(PutFault::Failed) => Err(BatchFault::Sink),
+        Err(PutFault::Memory) => Err(BatchFault::Memory),
+    }
+}
+
+/// Writes for each pattern what its bits bring about where nothing is known of a start but the held gates, and then for how
+/// many patterns some variable stays X. The planes are those of the network.
+pub fn reset<K: Sink>(
+    alloc: Global,
+    net: &Net,
+    patterns: &Patterns,
+    planes: &mut Planes,
+    out: &mut K,
+) -> Result<(), BatchFault>
+    requires patterns { ArePatternsFor net.now patterns.now }
+    requires planes { AreOf net.now planes.old }
+    ensures wrote { (text : List ℕ) × IsResetText net.now patterns.now text
+        × WroteBatch K.output K.faults text out.old out.new result }
+    ensures planes { OnOk result
+        (planes.new ≡ planes_after (without_held patterns.now) planes.old (block_count (length patterns.now.patterns))) }
+{
+    match write_text(alloc, net, patterns, Job::Reset, planes, out) {
         Ok(()) => Ok(()),
         Err(PutFault::Failed) => Err(BatchFault::Sink),
         Err(PutFault::Memory) => Err(BatchFault::Memory),
@@ -48,28 +77,31 @@ pub fn batch<K: Sink>(
 }
 
 // Writes the text of patterns.
-fn write_batch<K: Sink>(
+fn write_text<K: Sink>(
     alloc: Global,
     net: &Net,
     patterns: &Patterns,
+    job: Job,
     planes: &mut Planes,
     out: &mut K,
 ) -> Result<(), PutFault>
     requires patterns { ArePatternsFor net.now patterns.now }
     requires planes { AreOf net.now planes.old }
-    ensures wrote { (text : List ℕ) × IsBatchText net.now patterns.now text × Wrote K.output K.faults text out.old out.new result }
-    ensures planes { OnOk result (planes.new ≡ planes_after patterns.now planes.old (block_count (length patterns.now.patterns))) }
+    ensures wrote { (text : List ℕ) × IsTextOf job net.now patterns.now text
+        × Wrote K.output K.faults text out.old out.new result }
+    ensures planes { OnOk result
+        (planes.new ≡ planes_after (loaded_by job patterns.now) planes.old (block_count (length patterns.now.patterns))) }
 {
-    starts_are_decided();
-    passes_end();
+    laws_hold();
     let _variables = net.len();
-    let Ok(held) = held_gates(alloc, patterns.held()) else {
+    let Ok(held) = held_at_start(alloc, job, patterns.held()) else {
         return Err(PutFault::Memory);
     };
     let Ok(mut room) = room_for(alloc, net) else {
         return Err(PutFault::Memory);
     };
     let work = Work {
+        job,
         net,
         patterns,
         held: held.as_slice(),
@@ -77,6 +109,17 @@ fn write_batch<K: Sink>(
     let mut writer = Writer::new(out);
     write_all(&mut writer, &work, planes, &mut room);
     writer.finish()
+}
+
+// Every pattern comes to something, and planes that list the inputs alone hold what these bring about.
+fn laws_hold()
+    ensures { AreLaws }
+{
+    starts_are_decided();
+    passes_end();
+    values_exist();
+    held_is_forgotten();
+    listed_inputs_fill();
 }
 
 // The room for blocks.
@@ -101,19 +144,20 @@ fn write_all<K: Sink>(
     planes: &mut Planes,
     room: &mut Room<'_>,
 )
-    requires decided { StartsAreDecided }
-    requires a_exists { ResultOfAExists }
-    requires b_exists { ResultOfBExists }
+    requires laws { AreLaws }
     requires work { IsWork work.now }
     requires net { AreOf work.now.net.now planes.old }
     requires room { IsRoomFor work.now.net.now room.old }
     requires counts { room.old.counts ≡ no_counts }
-    ensures gave { (text : List ℕ) × IsBatchText work.now.net.now work.now.patterns.now text × Writes K.output K.faults text writer.old writer.new }
-    ensures planes { has_failed writer.new ≡ false → planes.new ≡ planes_after work.now.patterns.now planes.old (block_count (length work.now.patterns.now.patterns)) }
+    ensures gave { (text : List ℕ) × IsTextOf work.now.job work.now.net.now work.now.patterns.now text
+        × Writes K.output K.faults text writer.old writer.new }
+    ensures planes { has_failed writer.new ≡ false
+        → planes.new ≡ planes_after (loaded_by work.now.job work.now.patterns.now) planes.old
+        (block_count (length work.now.patterns.now.patterns)) }
 {
     write_blocks(writer, work, planes, room);
     if writer.has_failed() {
         return;
     }
-    room.counts.write(writer, work.patterns.count());
+    room.counts.write(writer, work.job, work.patterns.count());
 }

@@ -28,6 +28,8 @@ usage:
                           writes the last run for a waveform viewer
   hazard batch NETLIST PATTERNS
                           analyses many patterns of inputs, a line for each
+  hazard reset NETLIST PATTERNS
+                          says what many patterns bring about from an unknown start
   hazard demo NUMBER [--cap N]
                           analyses a circuit that is made from a number, 1 to 18000
 options:

@@ -3,7 +3,9 @@
 -- SettlesAlong net first inputs values: a ternary state settles under one input after the other
 -- IsOutcomeAlong net start inputs state: states one after the other, each an outcome of the one before under the next input
 -- HoldsGates netlist held: no node is held but gates
+-- IsRoomFor variables room: there is room for a pass over so many variables
 -- HoldsReset fields: the fields of the code's Reset have room for each variable
 
 pub mod Values
+pub mod Room
 pub mod Inside

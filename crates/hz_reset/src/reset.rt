@@ -4,6 +4,7 @@ ghost use Rattle.std.specs.List.{slice_index_or, range_with_len};
 ghost use Rattle.hz_core.specs.declared.tri.Tri.TheVariants.{Unknown};
 ghost use Rattle.hz_net.specs.Network.{network_of, value_at};
 ghost use Rattle.hz_net.specs.TernaryStarts.{SettlesTo, held_value, unknown_start};
+ghost use Rattle.hz_reset.specs.Room.{IsRoomFor};
 
 use hz_core::{Memory, Tri};
 use hz_net::Net;
@@ -21,10 +22,7 @@ use std::sync::ledger::{Blank, Ledger};
 #[derive(Debug, Drop)]
 pub struct Reset {
     values: Vec<Tri>,
-    // Room for a pass.
-    rounds: Vec<u32>,
-    work: Vec<Tri>,
-    front: Front,
+    room: Room,
 }
 
 impl Model for Reset {
@@ -48,9 +46,11 @@ impl Reset {
         let variables = net.len() as usize;
         Ok(Reset {
             values: vec![in alloc; Tri::Unknown; variables]?,
-            rounds: vec![in alloc; 0; variables]?,
-            work: vec![in alloc; Tri::Unknown; variables]?,
-            front: Front::new(alloc, net)?,
+            room: Room {
+                rounds: vec![in alloc; 0; variables]?,
+                work: vec![in alloc; Tri::Unknown; variables]?,
+                front: Front::new(alloc, net)?,
+            },
         })
     }
 
@@ -74,9 +74,7 @@ impl Reset {
             net,
             input,
             self.values.as_mut_slice(),
-            self.rounds.as_mut_slice(),
-            self.work.as_mut_slice(),
-            &mut self.front,
+            &mut self.room,
             Blank::new(1),
         );
     }
@@ -88,6 +86,14 @@ impl Reset {
     {
         self.values[var as usize]
     }
+}
+
+// What a pass needs beside the values, used anew for each.
+#[derive(Debug, Drop)]
+struct Room {
+    rounds: Vec<u32>,
+    work: Vec<Tri>,
+    front: Front,
 }
 
 // Writes the values of a start where nothing is known but what is held.
@@ -109,28 +115,21 @@ fn held_value(held: &[Option<bool>], var: usize) -> Tri
 }
 
 // Both passes over the values. They count their evaluations in a ledger of their own.
-fn pass<L: Ledger>(
-    net: &Net,
-    input: &[bool],
-    values: &mut [Tri],
-    rounds: &mut [u32],
-    work: &mut [Tri],
-    front: &mut Front,
-    ledger: Blank,
-)
+fn pass<L: Ledger>(net: &Net, input: &[bool], values: &mut [Tri], room: &mut Room, ledger: Blank)
     requires input { length input.now ≡ net.now.inputs }
     requires values { length values.old ≡ length (network_of net.now) }
-    requires rounds { length rounds.old ≡ length (network_of net.now) }
-    requires work { length work.old ≡ length (network_of net.now) }
-    requires front { front.old ≡ length (network_of net.now) }
+    requires room { IsRoomFor (length (network_of net.now)) room.old }
     requires name { ledger.name ≡ L.name }
     requires parts { ledger.parts ≡ L.parts }
     requires some { 0 < ledger.parts }
     ensures settled { SettlesTo (network_of net.now) input.now values.old values.new }
-    ensures front { front.new ≡ front.old }
+    ensures room { IsRoomFor (length (network_of net.now)) room.new }
 {
     let (book, share) = ledger.open::<L>();
     let mut steps = Steps::new(book, share);
+    let rounds = room.rounds.as_mut_slice();
+    let work = room.work.as_mut_slice();
+    let front = &mut room.front;
     spread_from(net, input, values, rounds, work, front, &mut steps);
     settle(net, input, values, rounds, work, front, &mut steps);
 }

@@ -36,5 +36,7 @@ pub mod SequenceSteps
 pub mod OneChangeScripts
 -- Runs that are accepted are printed as a text that replays, and those of a right finding are
 pub mod ReadBack
+-- What patterns bring about where nobody knows the start is right
+pub mod RightResets
 -- The headline, from the answer of a call
 pub mod Headlines

@@ -14,11 +14,12 @@ use Rattle.hz_text.specs.RunFault.{HasRunFault}
 use Rattle.hz_text.specs.RunText.{IsRunValue}
 use Rattle.hz_text.specs.RunValue.{RunTextOf}
 use Rattle.hz_words.specs.declared.job.Task.{Task}
-use Rattle.hz_words.specs.declared.job.Task.TheVariants.{Analyse, Replay, Convert, Vcd, Batch}
+use Rattle.hz_words.specs.declared.job.Task.TheVariants.{Analyse, Replay, Convert, Vcd, Batch, Reset}
 use Rattle.hz_top.specs.declared.status.Status.{Status}
 use Rattle.hz_top.specs.declared.status.Status.TheVariants as status
 use Rattle.hz_top.specs.Batches.{IsBatchOutcome}
 use Rattle.hz_top.specs.Reports.{Reports}
+use Rattle.hz_top.specs.Resets.{IsResetOutcome}
 use Rattle.hz_top.specs.RunTexts.{IsConvertOutcome, EndsReplay}
 use Rattle.hz_top.specs.Second.{IsTextOutcome, Started, IsGoodText}
 use Rattle.hz_top.specs.Tasks.{comes_of, good_of}
@@ -56,6 +57,10 @@ convert-ends netlist value wanted own said is says = says.0 ∙ sym is
 batch-ends : (netlist : Netlist) (value : PatternsOf) (wanted own : Status) (said : List ℕ) → wanted ≡ status.Done → IsBatchOutcome netlist value own said → own ≡ wanted
 batch-ends netlist value wanted own said is says = says.0 ∙ sym is
 
+-- and so they do where nobody knows the start
+reset-ends : (netlist : Netlist) (value : PatternsOf) (wanted own : Status) (said : List ℕ) → wanted ≡ status.Done → IsResetOutcome netlist value own said → own ≡ wanted
+reset-ends netlist value wanted own said is says = says.0 ∙ sym is
+
 -- the second text comes to its end, by the task
 pub text-ends : (options : Options) (task : Task) (netlist : Netlist) (text : List ℕ) (wanted own : Status) (said : List ℕ) → good_of task netlist text wanted → comes_of options task netlist text own said → own ≡ wanted
 text-ends options Analyse =
@@ -66,3 +71,4 @@ text-ends options Convert = good-ends (codes "runs") HasRunFault IsRunValue IsCo
 text-ends options Vcd =
     good-ends (codes "runs") HasRunFault IsRunValue (Replayed IsLastWritten) EndsReplay (replay-ends IsLastWritten (λ netlist value own said says. says.0))
 text-ends options Batch = good-ends (codes "patterns") HasPatternFault IsPatternsValue IsBatchOutcome (λ netlist patterns own. own ≡ status.Done) batch-ends
+text-ends options Reset = good-ends (codes "patterns") HasPatternFault IsPatternsValue IsResetOutcome (λ netlist patterns own. own ≡ status.Done) reset-ends

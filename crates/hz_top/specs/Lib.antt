@@ -24,6 +24,7 @@
 -- Replayed judge netlist runs status text: the first refusal, or what a judge says of runs that are accepted
 -- IsVcdOutcome netlist runs status text: the last run as a dump
 -- IsBatchOutcome netlist patterns status text: the text of patterns
+-- IsResetOutcome netlist patterns status text: the text of what they bring about, and that each value is right
 -- good_of task netlist text status: nothing is to be refused of the second text, and the task ends with this status
 -- IsFaultlessJob told job status: nothing is to be refused in the job, which ends with this status
 -- Headline written faults told asked was now status: the headline of a call
@@ -44,6 +45,7 @@ pub mod Second
 pub mod RunTexts
 pub mod Dumps
 pub mod Batches
+pub mod Resets
 pub mod Reports
 pub mod Tasks
 pub mod Outcome

@@ -10,11 +10,12 @@ use Rattle.hz_text.specs.PatternText.{IsPatternsValue}
 use Rattle.hz_text.specs.RunFault.{HasRunFault}
 use Rattle.hz_text.specs.RunText.{IsRunValue}
 use Rattle.hz_words.specs.declared.job.Task.{Task}
-use Rattle.hz_words.specs.declared.job.Task.TheVariants.{Analyse, Replay, Convert, Vcd, Batch}
+use Rattle.hz_words.specs.declared.job.Task.TheVariants.{Analyse, Replay, Convert, Vcd, Batch, Reset}
 use Rattle.hz_top.specs.declared.status.Status.{Status}
 use Rattle.hz_top.specs.declared.status.Status.TheVariants.{Done}
 use Rattle.hz_top.specs.Batches.{IsBatchOutcome}
 use Rattle.hz_top.specs.Reports.{Reports}
+use Rattle.hz_top.specs.Resets.{IsResetOutcome}
 use Rattle.hz_top.specs.RunTexts.{IsConvertOutcome, EndsReplay}
 use Rattle.hz_top.specs.Dumps.{IsVcdOutcome}
 use Rattle.hz_top.specs.Second.{OfScript, OfRuns, OfPatterns, Started, IsGoodText}
@@ -27,6 +28,7 @@ comes_of options Replay = OfRuns IsReplayOutcome
 comes_of options Convert = OfRuns IsConvertOutcome
 comes_of options Vcd = OfRuns IsVcdOutcome
 comes_of options Batch = OfPatterns IsBatchOutcome
+comes_of options Reset = OfPatterns IsResetOutcome
 
 -- nothing is to be refused of the second text, and the task ends with this status
 abbrev pub good_of : Task → Netlist → List ℕ → Status → Type 0
@@ -35,3 +37,4 @@ good_of Replay = IsGoodText HasRunFault IsRunValue EndsReplay
 good_of Convert = IsGoodText HasRunFault IsRunValue (λ netlist runs own. own ≡ Done)
 good_of Vcd = IsGoodText HasRunFault IsRunValue EndsReplay
 good_of Batch = IsGoodText HasPatternFault IsPatternsValue (λ netlist patterns own. own ≡ Done)
+good_of Reset = IsGoodText HasPatternFault IsPatternsValue (λ netlist patterns own. own ≡ Done)

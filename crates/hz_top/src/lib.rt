@@ -14,6 +14,7 @@
 //! | `converting` | the job `convert`: a run text, written in version 2 |
 //! | `dumping` | the job `vcd`: the last run of a run text as a value change dump |
 //! | `batching` | the job `batch`: patterns, 512 at a time |
+//! | `resetting` | the job `reset`: what patterns bring about where nobody knows the start |
 //! | `verdict` | the line that `replay` writes |
 //! | `running` | the top call |
 #![tactic(auto)]
@@ -28,6 +29,7 @@ mod reading_back;
 mod refusal;
 mod replaying;
 mod reporting;
+mod resetting;
 mod running;
 mod second;
 mod status;

@@ -15,6 +15,7 @@ use crate::converting::Converts;
 use crate::dumping::Dumps;
 use crate::refusal::{refuse_load, refuse_netlist};
 use crate::replaying::Replays;
+use crate::resetting::Resets;
 use crate::second::{on_patterns, on_runs, on_script};
 use crate::status::Status;
 use hz_line::MAX_TEXT;
@@ -100,5 +101,6 @@ fn work_on_text<K: Sink>(
         Task::Convert => on_runs(alloc, &Converts, net, text, out),
         Task::Vcd => on_runs(alloc, &Dumps, net, text, out),
         Task::Batch => on_patterns(alloc, &Batches, net, text, out),
+        Task::Reset => on_patterns(alloc, &Resets, net, text, out),
     }
 }

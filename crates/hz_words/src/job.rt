@@ -21,6 +21,8 @@ pub enum Task {
     Vcd,
     /// Each of many patterns is analysed.
     Batch,
+    /// What each of many patterns brings about where nobody knows the start.
+    Reset,
 }
 
 /// What the words ask for.
@@ -103,6 +105,7 @@ fn job_on_files<'w>(
         "convert" => Task::Convert,
         "vcd" => Task::Vcd,
         "batch" => Task::Batch,
+        "reset" => Task::Reset,
         _ => return None,
     };
     Some(Job::OnFiles {

@@ -2,12 +2,12 @@
 use Rattle.std.proofs.Common.{◌≡◌, ◌∙◌, ◌+◌, ◌-◌, ◌^◌, ap, sym, subst, ℕ, List, Option, min}
 use Rattle.hz_core.specs.declared.tri.Tri.{Tri}
 use Rattle.hz_text.specs.PatternValue.{PatternOf}
-use Rattle.hz_plane.specs.declared.stage.Stage.{Stage}
-use Rattle.hz_plane.specs.declared.stage.Stage.TheVariants.{Loading, Spread, Settled as AllSettled}
+use Rattle.hz_plane.specs.declared.stage.Stage.TheVariants.{Loading, Settled as AllSettled}
 use Rattle.hz_plane.specs.Loads.{Loaded}
 use Rattle.hz_plane.specs.View.{Seen}
 use Rattle.hz_batch.specs.Blocks.{lanes_with}
 use Rattle.hz_batch.specs.Columns.{AreColumns}
+use Rattle.hz_batch.specs.Comes.{comes_to, held_by, kept_at}
 use Rattle.hz_batch.specs.Written.{AreWritten}
 use Rattle.hz_batch.proofs.BlockLaws.{written-whole, fewer}
 use Rattle.hz_batch.proofs.blocks.write_block.Goals as goal
@@ -15,21 +15,23 @@ use Rattle.hz_batch.proofs.blocks.write_block.Goals as goal
 pub write_lanes-requires-clause-firsts : goal.write_lanes-requires-clause-firsts
 write_lanes-requires-clause-firsts g c =
     let netlist = c.args.work.now.net.now in
-    let stage : c.spread.new.self.stage ≡ Spread = ap (λ (seen : Seen). seen.stage) c.spread.ensures in
-    let lanes : c.settle.new.self.lanes ≡ c.spread.new.self.lanes = ap (λ (seen : Seen). seen.lanes) c.settle.ensures in
-    let columns = written-whole c.args.room.now.firsts.items c.keep_values.new.columns c.args.room.now.firsts.len (c.keep_values.ensures.count ∙ c.as_mut_slice.ensures.len) in
-    subst (λ (list : List (List Tri)). AreColumns netlist Spread c.settle.new.self.lanes netlist.outputs list) (sym columns)
-    (subst (λ (list : List (Option Loaded)). AreColumns netlist Spread list netlist.outputs c.keep_values.new.columns) (sym lanes)
-    (subst (λ (now : Stage). AreColumns netlist now c.spread.new.self.lanes netlist.outputs c.keep_values.new.columns) stage c.keep_values.ensures.columns))
+    let stage = kept_at c.args.work.now.job in
+    let settled : c.settle.new.self.lanes ≡ c.spread_and_keep.new.planes.lanes = ap (λ (seen : Seen). seen.lanes) c.settle.ensures in
+    let spread : c.spread_and_keep.new.planes.lanes ≡ c.complete.new.self.lanes = ap (λ (seen : Seen). seen.lanes) c.spread_and_keep.ensures.planes in
+    let lanes = settled ∙ spread in
+    let columns = written-whole c.args.room.now.firsts.items c.spread_and_keep.new.columns c.args.room.now.firsts.len (c.spread_and_keep.ensures.count ∙ c.as_mut_slice.ensures.len) in
+    subst (λ (list : List (List Tri)). AreColumns netlist stage c.settle.new.self.lanes netlist.outputs list) (sym columns)
+    (subst (λ (list : List (Option Loaded)). AreColumns netlist stage list netlist.outputs c.spread_and_keep.new.columns) (sym lanes) c.spread_and_keep.ensures.columns)
 
 pub returns-clause-gave : goal.returns-clause-gave
 returns-clause-gave g c =
-    subst (λ (block : List PatternOf). AreWritten g.K.Sink.output g.K.Sink.faults c.args.work.now.net.now c.args.work.now.patterns.now.held block (c.args.first + 1) c.args.writer.now c.write_lanes.new.writer c.args.room.now.counts c.write_lanes.new.room.counts)
+    let comes = comes_to c.args.work.now.job c.args.work.now.net.now c.args.work.now.patterns.now.held in
+    subst (λ (block : List PatternOf). AreWritten g.K.Sink.output g.K.Sink.faults c.args.work.now.net.now comes block (c.args.first + 1) c.args.writer.now c.write_lanes.new.writer c.args.room.now.counts c.write_lanes.new.room.counts)
     (fewer c.args.work.now.patterns.now.patterns c.args.first c.min-lanes.result (c.min-lanes.ensures ∙ ap (λ (n : ℕ). min (n - c.args.first) 512) c.count.ensures)) c.write_lanes.ensures.gave
 
 pub returns-clause-planes : goal.returns-clause-planes
 returns-clause-planes g c =
-    let held = c.args.work.now.patterns.now.held in
+    let held = held_by c.args.work.now.job c.args.work.now.patterns.now.held in
     let settled : Seen → Seen = λ (seen : Seen). record seen { stage = AllSettled; settles = min (seen.settles + 1) (2 ^ 64 - 1) } in
-    c.settle.ensures ∙ (ap settled c.spread.ensures ∙ (ap settled c.complete.ensures ∙ (ap settled c.load.ensures
+    c.settle.ensures ∙ (ap settled c.spread_and_keep.ensures.planes ∙ (ap settled c.complete.ensures ∙ (ap settled c.load.ensures
     ∙ ap (λ (block : List PatternOf). settled (record c.args.planes.now { stage = Loading; lanes = lanes_with held block })) (fewer c.args.work.now.patterns.now.patterns c.args.first c.min-lanes.result (c.min-lanes.ensures ∙ ap (λ (n : ℕ). min (n - c.args.first) 512) c.count.ensures)))))

@@ -3,6 +3,7 @@ use Rattle.std.proofs.Common.{◌<◌, ◌≤◌, ◌+◌, ◌*◌, ◌∙◌, r
 use Rattle.std.proofs.lemmas.List.{length-take-le}
 use Rattle.hz_text.specs.PatternValue.{PatternOf}
 use Rattle.hz_batch.specs.Blocks.{block_count}
+use Rattle.hz_batch.specs.Comes.{comes_to, loaded_by}
 use Rattle.hz_batch.specs.Counts.{no_counts}
 use Rattle.hz_batch.specs.Written.{AreWritten}
 use Rattle.hz_batch.proofs.BlockLaws.{block-begins, blocks-same, take-blocks, after-next}
@@ -16,8 +17,8 @@ loop-block-init g c = (rw c.requires.counts (written-none _ _ _ c.args.writer.no
 pub returns-then-has_failed-clause-gave : goal.returns-then-has_failed-clause-gave
 returns-then-has_failed-clause-gave g c =
     let failed = sym c.has_failed.ensures ∙ c.if-has_failed.true in
-    let lines = written-cut g.K.Sink.output g.K.Sink.faults c.args.work.now.net.now c.args.work.now.patterns.now (c.loop-block.block * 512) c.args.writer.now c.loop-block.writer no_counts c.loop-block.room.counts
-    c.requires.decided c.requires.a_exists c.requires.b_exists c.len-variables.ensures.circuit c.requires.work.patterns failed c.loop-block.invariant.0 in
+    let lines = written-cut g.K.Sink.output g.K.Sink.faults c.args.work.now.job c.args.work.now.net.now c.args.work.now.patterns.now (c.loop-block.block * 512) c.args.writer.now c.loop-block.writer no_counts c.loop-block.room.counts
+    c.requires.laws c.len-variables.ensures.circuit c.len-variables.ensures.whole c.requires.work.patterns failed c.loop-block.invariant.0 in
     (lines.outcomes, lines.are_outcomes, lines.lines, λ fine. absurd (not-both failed fine))
 
 pub write_block-requires-clause-counts : goal.write_block-requires-clause-counts
@@ -28,21 +29,21 @@ write_block-requires-clause-counts g c =
     let below : c.loop-block.block < block_count (length patterns) = blocks-same c.loop-block.block (length patterns) (rw (c.div_ceil-block-end.ensures, c.count.ensures) at c.loop-block-test.true) in
     let begins = block-begins c.loop-block.block (length patterns) below in
     let few : 0 + length (take n patterns) ≤ n = omega (arith, length-take-le n patterns (omega (arith, begins))) in
-    within-after c.args.work.now.net.now c.args.work.now.patterns.now.held (take n patterns) before.outcomes 0 n no_counts c.loop-block.room.counts before.are_outcomes before.adds
+    within-after (comes_to c.args.work.now.job c.args.work.now.net.now c.args.work.now.patterns.now.held) (take n patterns) before.outcomes 0 n no_counts c.loop-block.room.counts before.are_outcomes before.adds
     (record { open_starts = omega arith; unstable_starts = omega arith; unsettled = omega arith }) few
 
 pub loop-block-preserved : goal.loop-block-preserved
 loop-block-preserved g c =
     let patterns = c.args.work.now.patterns.now.patterns in
     let netlist = c.args.work.now.net.now in
-    let held = c.args.work.now.patterns.now.held in
+    let comes = comes_to c.args.work.now.job netlist c.args.work.now.patterns.now.held in
     let block = c.loop-block.block in
     let n = block * 512 in
     let below : block < block_count (length patterns) = blocks-same block (length patterns) (rw (c.div_ceil-block-end.ensures, c.count.ensures) at c.loop-block-test.true) in
     let begins = block-begins block (length patterns) below in
-    let more = written-then netlist held (take n patterns) (take 512 (drop n patterns)) 1 (n + 1) c.args.writer.now c.loop-block.writer c.write_block.new.writer no_counts c.loop-block.room.counts c.write_block.new.room.counts
+    let more = written-then netlist comes (take n patterns) (take 512 (drop n patterns)) 1 (n + 1) c.args.writer.now c.loop-block.writer c.write_block.new.writer no_counts c.loop-block.room.counts c.write_block.new.room.counts
     (omega (arith, length-take-le n patterns (omega (arith, begins)))) c.loop-block.invariant.0 c.write_block.ensures.gave in (
-      subst (λ (list : List PatternOf). AreWritten g.K.Sink.output g.K.Sink.faults netlist held list 1 c.args.writer.now c.write_block.new.writer no_counts c.write_block.new.room.counts) (take-blocks patterns block) more,
+      subst (λ (list : List PatternOf). AreWritten g.K.Sink.output g.K.Sink.faults netlist comes list 1 c.args.writer.now c.write_block.new.writer no_counts c.write_block.new.room.counts) (take-blocks patterns block) more,
       c.write_block.ensures.room,
-      after-next c.args.work.now.patterns.now c.args.planes.now c.loop-block.planes c.write_block.new.planes block c.loop-block.invariant.2 c.write_block.ensures.planes,
+      after-next (loaded_by c.args.work.now.job c.args.work.now.patterns.now) c.args.planes.now c.loop-block.planes c.write_block.new.planes block c.loop-block.invariant.2 c.write_block.ensures.planes,
     )

@@ -1,23 +1,40 @@
--- The fault of the lane, or both results.
-use Rattle.std.proofs.Common.{refl, ap, ◌∙◌}
-use Rattle.hz_batch.specs.Outcome.{Open, Unstable, Settled}
-use Rattle.hz_batch.specs.Counts.{settled_mark}
-use Rattle.hz_batch.proofs.OutcomeLemmas.{results}
+-- What the pattern of a lane comes to, by the job.
+use Rattle.std.proofs.Common.{subst, ◌≡◌, Some}
+use Rattle.std.specs.Prelude.{slice_get}
+use Rattle.hz_plane.specs.Loads.{Loaded}
+use Rattle.hz_batch.specs.declared.job.Job.{Job}
+use Rattle.hz_batch.specs.Blocks.{load_of, no_gate}
+use Rattle.hz_batch.specs.Columns.{AreColumns}
+use Rattle.hz_batch.specs.Comes.{kept_at, held_by}
+use Rattle.hz_batch.specs.Outcome.{Settled, listing_of}
+use Rattle.hz_batch.proofs.BroughtAbout.{brought-about}
 use Rattle.hz_batch.proofs.lanes.write_lane.Goals as goal
 
-pub returns-in-Some-Open-clause-gave : goal.returns-in-Some-Open-clause-gave
-returns-in-Some-Open-clause-gave g c =
-    λ loaded there. (Open c.in-Some-Open.gate, rw c.in-Some-Open.field-0-is at (c.in-Some-Open.ensures loaded there), refl, rw c.circuit.ensures.same at c.write_refused.ensures.gave)
+pub write_outcome-requires-clause-firsts : goal.write_outcome-requires-clause-firsts
+write_outcome-requires-clause-firsts g c =
+    subst (λ (job : Job). AreColumns c.args.work.now.net.now (kept_at job) c.args.planes.now.lanes c.args.work.now.net.now.outputs c.args.firsts.now) c.in-Batch.is c.requires.firsts
 
-pub returns-in-Some-Unstable-clause-gave : goal.returns-in-Some-Unstable-clause-gave
-returns-in-Some-Unstable-clause-gave g c =
-    λ loaded there. (Unstable c.in-Some-Unstable.gate, rw c.in-Some-Unstable.field-0-is at (c.in-Some-Unstable.ensures loaded there), refl, rw c.circuit-in-Some-Unstable.ensures.same at c.write_refused-in-Some-Unstable.ensures.gave)
+pub write_values-requires-clause-firsts : goal.write_values-requires-clause-firsts
+write_values-requires-clause-firsts g c =
+    subst (λ (job : Job). AreColumns c.args.work.now.net.now (kept_at job) c.args.planes.now.lanes c.args.work.now.net.now.outputs c.args.firsts.now) c.in-Reset.is c.requires.firsts
 
-pub returns-in-None-clause-gave : goal.returns-in-None-clause-gave
-returns-in-None-clause-gave g c =
-    λ loaded there.
-    let circuit = c.len-variables.ensures.circuit in
-    let whole = c.len-variables.ensures.whole in
-    let found = results c.args.net.now loaded c.is_unsettled.result c.requires.a_exists c.requires.b_exists (c.in-None.ensures loaded there) (c.is_unsettled.ensures.start c.args.net.now loaded circuit whole c.requires.net there) in
-    let values = c.set_line.ensures.values loaded found.a found.b there found.outcome in
-    (Settled found.a found.b, found.outcome, c.settled_mark.ensures ∙ ap settled_mark found.told, rw (c.set_line.ensures.line.same, values) at c.write.ensures.gave)
+pub returns-in-Batch-clause-gave : goal.returns-in-Batch-clause-gave
+returns-in-Batch-clause-gave g c =
+    λ pattern right there.
+    let held = c.args.work.now.patterns.now.held in
+    let loaded : Loaded = record { input = pattern.to; listed = listing_of held pattern } in
+    let here : slice_get c.args.planes.now.lanes c.args.at.lane ≡ Some (Some loaded) =
+    subst (λ (job : Job). slice_get c.args.planes.now.lanes c.args.at.lane ≡ Some (load_of (held_by job held) pattern)) c.in-Batch.is there in
+    rw c.in-Batch.is (c.write_outcome.ensures.gave loaded here)
+
+pub returns-in-Reset-clause-gave : goal.returns-in-Reset-clause-gave
+returns-in-Reset-clause-gave g c =
+    λ pattern right there.
+    let held = c.args.work.now.patterns.now.held in
+    let netlist = c.args.work.now.net.now in
+    let loaded : Loaded = record { input = pattern.to; listed = listing_of (no_gate held) pattern } in
+    let here : slice_get c.args.planes.now.lanes c.args.at.lane ≡ Some (Some loaded) =
+    subst (λ (job : Job). slice_get c.args.planes.now.lanes c.args.at.lane ≡ Some (load_of (held_by job held) pattern)) c.in-Reset.is there in
+    let found = brought-about netlist c.args.work.now.patterns.now pattern c.requires.laws c.len-variables.ensures.circuit c.len-variables.ensures.whole c.requires.work.patterns right in
+    let said = c.write_values.ensures.gave loaded found.first found.second here found.filled found.settles in
+    rw c.in-Reset.is (Settled found.first found.second, found.is, said.0, said.1)

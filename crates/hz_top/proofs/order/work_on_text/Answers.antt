@@ -28,3 +28,8 @@ pub returns-in-Batch : goal.returns-in-Batch
 returns-in-Batch g c =
     subst (λ (task : Task). Ends g.K.Sink.output g.K.Sink.faults (comes_of c.args.options task c.args.net.now c.args.text.now) c.args.out.now c.on_patterns.new.out c.on_patterns.result)
     (sym c.in-Batch.is) c.on_patterns.ensures
+
+pub returns-in-Reset : goal.returns-in-Reset
+returns-in-Reset g c =
+    subst (λ (task : Task). Ends g.K.Sink.output g.K.Sink.faults (comes_of c.args.options task c.args.net.now c.args.text.now) c.args.out.now c.on_patterns-in-Reset.new.out c.on_patterns-in-Reset.result)
+    (sym c.in-Reset.is) c.on_patterns-in-Reset.ensures

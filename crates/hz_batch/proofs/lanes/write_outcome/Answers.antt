@@ -1,0 +1,29 @@
+-- The fault of the lane, or both results.
+use Rattle.std.proofs.Common.{refl, ap, ◌∙◌, [], get_or}
+use Rattle.hz_core.specs.declared.tri.Tri.TheVariants.{Zero}
+use Rattle.hz_plane.specs.declared.stage.Stage.TheVariants.{Settled as AllSettled}
+use Rattle.hz_batch.specs.Columns.{HasColumns, TellsOf}
+use Rattle.hz_batch.specs.Outcome.{Open, Unstable, Settled}
+use Rattle.hz_batch.specs.Counts.{settled_mark}
+use Rattle.hz_batch.proofs.OutcomeLemmas.{results, first-of-a, second-of-b}
+use Rattle.hz_batch.proofs.lanes.write_outcome.Goals as goal
+
+pub returns-in-Some-Open-clause-gave : goal.returns-in-Some-Open-clause-gave
+returns-in-Some-Open-clause-gave g c =
+    λ loaded there. (Open c.in-Some-Open.gate, rw c.in-Some-Open.field-0-is at (c.in-Some-Open.ensures loaded there), refl, rw c.circuit.ensures.same at c.write_refused.ensures.gave)
+
+pub returns-in-Some-Unstable-clause-gave : goal.returns-in-Some-Unstable-clause-gave
+returns-in-Some-Unstable-clause-gave g c =
+    λ loaded there. (Unstable c.in-Some-Unstable.gate, rw c.in-Some-Unstable.field-0-is at (c.in-Some-Unstable.ensures loaded there), refl, rw c.circuit-in-Some-Unstable.ensures.same at c.write_refused-in-Some-Unstable.ensures.gave)
+
+pub returns-in-None-clause-gave : goal.returns-in-None-clause-gave
+returns-in-None-clause-gave g c =
+    λ loaded there.
+    let circuit = c.len-variables.ensures.circuit in
+    let whole = c.len-variables.ensures.whole in
+    let found = results c.args.net.now loaded c.is_unsettled.result c.requires.a_exists c.requires.b_exists (c.in-None.ensures loaded there) (c.is_unsettled.ensures.start c.args.net.now loaded circuit whole c.requires.net there) in
+    let kept : HasColumns c.args.net.now.outputs c.args.firsts.now c.args.at.lane found.a = λ place inside. first-of-a c.args.net.now loaded (get_or c.args.net.now.outputs place 0) (get_or (get_or c.args.firsts.now place []) c.args.at.lane Zero) found.a found.b
+    (c.requires.firsts place inside c.args.at.lane loaded c.requires.lane there).0 found.outcome in
+    let told : TellsOf AllSettled c.args.net.now loaded found.b = λ var value says. second-of-b c.args.net.now loaded var value found.a found.b says.0 found.outcome in
+    let values = c.set_line.ensures.values loaded found.a found.b there kept told in
+    (Settled found.a found.b, found.outcome, c.settled_mark.ensures ∙ ap settled_mark found.told, rw (c.set_line.ensures.line.same, values) at c.write.ensures.gave)

@@ -1,0 +1,39 @@
+//! The job `reset`: what patterns bring about where nobody knows the start, 512 at a time.
+
+use crate::second::OnPatterns;
+use crate::status::Status;
+use hz_batch::{BatchFault, reset};
+use hz_net::Net;
+use hz_outside::Sink;
+use hz_plane::Planes;
+use hz_reset::values_cover;
+use hz_text::Patterns;
+use std::alloc::Global;
+
+/// The job `reset`.
+#[derive(Drop)]
+pub(crate) struct Resets;
+
+impl OnPatterns for Resets {
+    ghost use Rattle.hz_top.specs.Resets.{IsResetOutcome};
+
+    ghost judges = { λ _. IsResetOutcome };
+
+    fn with_patterns<K: Sink>(
+        &self,
+        alloc: Global,
+        net: &Net,
+        patterns: &Patterns,
+        out: &mut K,
+    ) -> Status {
+        values_cover();
+        let Ok(mut planes) = Planes::new(alloc, net) else {
+            return Status::Memory;
+        };
+        match reset(alloc, net, patterns, &mut planes, out) {
+            Ok(()) => Status::Done,
+            Err(BatchFault::Sink) => Status::Sink,
+            Err(BatchFault::Memory) => Status::Memory,
+        }
+    }
+}
