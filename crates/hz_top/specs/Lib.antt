@@ -45,6 +45,7 @@ pub mod RunTexts
 pub mod Dumps
 pub mod Batches
 pub mod Reports
+pub mod Splits
 pub mod Tasks
 pub mod Outcome
 pub mod LeftFiles

@@ -14,6 +14,7 @@
 //! | `converting` | the job `convert`: a run text, written in version 2 |
 //! | `dumping` | the job `vcd`: the last run of a run text as a value change dump |
 //! | `batching` | the job `batch`: patterns, 512 at a time |
+//! | `splitting` | the job `split`: two runs of a change that end in different stable states |
 //! | `verdict` | the line that `replay` writes |
 //! | `running` | the top call |
 #![tactic(auto)]
@@ -30,6 +31,7 @@ mod replaying;
 mod reporting;
 mod running;
 mod second;
+mod splitting;
 mod status;
 #[cfg(test)]
 mod tests;

@@ -1,0 +1,3 @@
+mod BitLemmas
+mod SetLemmas
+pub mod Members

@@ -1,0 +1,7 @@
+mod Steps
+mod WalkLemmas
+mod AttemptLemmas
+mod FoundLemmas
+mod RunFacts
+mod FoundWhole
+mod OutcomeRuns
