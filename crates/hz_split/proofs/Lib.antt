@@ -4,4 +4,4 @@ mod AttemptLemmas
 mod FoundLemmas
 mod RunFacts
 mod FoundWhole
-mod OutcomeRuns
+pub mod OutcomeRuns

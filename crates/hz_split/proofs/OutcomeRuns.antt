@@ -39,15 +39,19 @@ settled-stable netlist input state settled i inside =
     let still : is_unstable net input state i ≡ false = weight-none (is_unstable net input state i) (omega (arith, none, one-bound netlist input state i inside)) in
     stable-bit (bit_at state i) (excitation net input state i) still
 
+-- a stable state alone is a nontransient cycle
+pub stable-cycle : (net : List Driver) (input state : List Bool) → IsStable net input state → IsNontransient net input state []
+stable-cycle net input state stable = record {
+  cycle = record { run = tt; closed = refl; alone = λ none. stable };
+  lasts = λ waits. waits.3.0.1 (stable waits.0 waits.1);
+}
+
 -- a stable state that a run reaches is an outcome state
 stable-outcome : (net : List Driver) (input start : List Bool) (run : List (List ℕ)) → IsRun net input start run → IsStable net input (end_of start run) → IsOutcome net input start (end_of start run)
 stable-outcome net input start run is_run stable = record {
   first = end_of start run;
   steps = [];
-  cycle = record {
-    cycle = record { run = tt; closed = refl; alone = λ none. stable };
-    lasts = λ waits. waits.3.0.1 (stable waits.0 waits.1);
-  };
+  cycle = stable-cycle net input (end_of start run) stable;
   member = end_of start run;
   on_cycle = (0, omega arith, refl);
   reached = (run, is_run, refl);

@@ -18,3 +18,5 @@ pub mod SequenceSteps
 pub mod OneChangeScripts
 pub mod ReadBack
 pub mod Headlines
+pub mod SplitLines
+pub mod SplitRuns

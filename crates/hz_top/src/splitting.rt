@@ -1,6 +1,6 @@
 //! The job `split`: the first change of a script that leaves a variable unsettled, and two runs of it that end in different stable
 //! states.
-ghost use Rattle.std.specs.Prelude.{◌≡◌, ◌<◌, ℕ, [], length, map, All, Contains};
+ghost use Rattle.std.specs.Prelude.{◌≡◌, ◌<◌, ℕ, [], None, length, map, All, Contains};
 ghost use Rattle.std.specs.List.{flat_map};
 ghost use Rattle.hz_core.specs.Netlist.{IsCircuit};
 ghost use Rattle.hz_net.specs.Network.{network_of};
@@ -80,6 +80,26 @@ fn split<K: Sink>(
     let Ok(mut sequence) = Sequence::new(alloc, desk, start) else {
         return Status::Memory;
     };
+    split_changes(alloc, net, script, cap, &mut sequence, out)
+}
+
+// Makes changes, one after the other. The first one that leaves a variable unsettled is the last that is made.
+fn split_changes<K: Sink>(
+    alloc: Global,
+    net: &Net,
+    script: &Script,
+    cap: u64,
+    sequence: &mut Sequence<'_>,
+    out: &mut K,
+) -> Status
+    requires circuit { IsCircuit net.now }
+    requires script { IsScriptFor net.now script.now }
+    requires cap { IsCap cap }
+    requires net { sequence.old.desk.netlist ≡ net.now }
+    requires start { IsStableStart net.now sequence.old.start }
+    requires goes { sequence.old.stopped ≡ None }
+    ensures { Ends K.output K.faults (SplitsChanges cap net.now sequence.old.start script.now.changes) out.old out.new result }
+{
     for number in 0..script.changes() {
         match sequence.next(script.change(number), cap) {
             Ok(finding) => {
