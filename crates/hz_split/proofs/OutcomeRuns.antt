@@ -102,8 +102,8 @@ other-differs state other differs same =
 passes-first : {X : Type 0} (p : X → Bool) (list : List X) (x : X) (rest : List X) → filter p list ≡ x ∷ rest → p x ≡ true
 passes-first {X} p [] x rest is = absurd (cc)
 passes-first {X} p (y ∷ list) x rest is = elim (cases_Bool (p y)) [
-  | inl yes ↦ (let same : y ∷ filter p list ≡ x ∷ rest = sym (ap (λ (b : Bool). cond b (y ∷ filter p list) (filter p list)) yes) ∙ is in let here : y ≡ x = cc in rw (← here) yes)
-  | inr no ↦ passes-first p list x rest (sym (ap (λ (b : Bool). cond b (y ∷ filter p list) (filter p list)) no) ∙ is)
+  | inl passes ↦ (let same : y ∷ filter p list ≡ x ∷ rest = sym (ap (λ (b : Bool). cond b (y ∷ filter p list) (filter p list)) passes) ∙ is in let here : y ≡ x = cc in rw (← here) passes)
+  | inr fails ↦ passes-first p list x rest (sym (ap (λ (b : Bool). cond b (y ∷ filter p list) (filter p list)) fails) ∙ is)
 ]
 
 pair-differs : (start : List Bool) (run : List (List ℕ)) (others : List (List (List ℕ))) → ((other : List (List ℕ)) (rest : List (List (List ℕ))) → others ≡ other ∷ rest → end_of start run ≢ end_of start other)
@@ -124,7 +124,7 @@ few-first start (run ∷ runs) =
     one-more (x ∷ list) = omega arith
 
 differ-first : (start : List Bool) (runs : List (List (List ℕ))) → AllPairs (λ (one two : List (List ℕ)). end_of start one ≢ end_of start two) (first_and_other start runs)
-differ-first start [] i j d before inside = absurd (omega (arith, inside))
+differ-first start [] = λ i j d before inside. absurd (omega (arith, inside))
 differ-first start (run ∷ runs) =
     let p = λ (later : List (List ℕ)). is_other (end_of start run) (end_of start later) in
     pair-differs start run (filter p runs) (λ other rest is. other-differs (end_of start run) (end_of start other) (passes-first p runs other rest is))
