@@ -1,16 +1,14 @@
 -- Attempts are runs, and those that stop end in stable outcome states.
-use Rattle.std.proofs.Common.{◌≡◌, ◌≢◌, ◌∙◌, ℕ, zero, suc, ◌+◌, ◌-◌, ◌*◌, ◌<◌, ◌≤◌, Bool, true, false, not, List, [], ◌∷◌, ◌++◌, length, map, get_or, Option, Some, None, IfSome, All, cond, IsTrue, refl, sym, ap, subst, arith, inl, inr}
+use Rattle.std.proofs.Common.{◌≡◌, ◌∙◌, ℕ, zero, suc, ◌+◌, ◌-◌, ◌*◌, ◌<◌, ◌≤◌, Bool, true, false, not, List, [], ◌∷◌, ◌++◌, length, Option, Some, None, IfSome, cond, IsTrue, refl, sym, ap, subst, arith, inl, inr}
 use Rattle.std.specs.Prelude.{count_by, nat_eq}
-use Rattle.std.specs.List.{range_with_len}
-use Rattle.std.proofs.lemmas.Bool.{false≢true, eqb-true, ne_eqb}
+use Rattle.std.proofs.lemmas.Bool.{false≢true, ne_eqb}
 use Rattle.std.proofs.lemmas.List.{length-append, append-nil, append_assoc, map-append}
 use Rattle.std.specs.Option.{is_none, is_some, option_map}
 use Rattle.std.proofs.lemmas.List.Sums.{sum_by-cons}
 use Rattle.std.proofs.lemmas.List.FromFn.{length-map-range_with_len}
-use Rattle.hz_net.specs.Network.{Driver, bit_at, IsUnstable, IsStable}
-use Rattle.hz_gmw.specs.Runs.{is_listed, state_after, end_of, IsStep, IsRun, IsReachable}
-use Rattle.hz_gmw.specs.Cycles.{IsOutcome, IsNontransient, IsCycle}
-use Rattle.hz_gmw.specs.Instability.{is_unstable, unstable_variables, unstable_count}
+use Rattle.hz_net.specs.Network.{Driver, IsUnstable}
+use Rattle.hz_gmw.specs.Runs.{is_listed, state_after, end_of, IsStep, IsRun}
+use Rattle.hz_gmw.specs.Instability.{is_unstable, unstable_variables}
 use Rattle.hz_gmw.proofs.LeastLemmas.{listed-cases}
 use Rattle.hz_gmw.proofs.Paths.{end_of-append, IsRun-append}
 use Rattle.hz_gmw.proofs.ReplayLemmas.{unstable-true, at-unstable_variables}

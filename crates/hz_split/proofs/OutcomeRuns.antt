@@ -1,8 +1,8 @@
 -- Attempts that stop end in stable outcome states, and two that are found in different ones.
-use Rattle.std.proofs.Common.{◌≡◌, ◌≢◌, ◌∙◌, ℕ, zero, suc, ◌+◌, ◌<◌, ◌≤◌, Bool, true, false, not, List, [], ◌∷◌, ◌++◌, length, take, drop, get_or, map, cond, All, inl, inr, refl, sym, ap, subst, arith}
+use Rattle.std.proofs.Common.{◌≡◌, ◌≢◌, ◌∙◌, ℕ, zero, suc, ◌≤◌, Bool, true, false, not, List, [], ◌∷◌, ◌++◌, length, take, drop, map, cond, All, inl, inr, refl, sym, ap, subst, arith}
 use Rattle.std.specs.Bool.{beq}
-use Rattle.std.specs.List.{filter, flat_map, range_with_len, AllPairs}
-use Rattle.std.proofs.lemmas.Bool.{cases_Bool, eqb-true, false≢true, false_from_ne_true}
+use Rattle.std.specs.List.{filter, flat_map, AllPairs}
+use Rattle.std.proofs.lemmas.Bool.{cases_Bool, eqb-true, false≢true}
 use Rattle.std.proofs.lemmas.List.{take-append-drop}
 use Rattle.std.proofs.lemmas.List.Concat.{flat_map-cons}
 use Rattle.std.proofs.lemmas.List.Elements.{All-nil, All-cons, All-head, All-tail, All-append, All-filter}
@@ -12,7 +12,7 @@ use Rattle.hz_net.specs.Network.{Driver, network_of, bit_at, excitation, IsStabl
 use Rattle.hz_gmw.specs.Cycles.{IsOutcome, IsNontransient}
 use Rattle.hz_gmw.specs.Instability.{is_unstable, unstable_count}
 use Rattle.hz_gmw.specs.Runs.{end_of, IsRun}
-use Rattle.hz_gmw.proofs.Bits.{beq-refl, beq-same}
+use Rattle.hz_gmw.proofs.Bits.{beq-refl}
 use Rattle.hz_gmw.proofs.Counting.{weight}
 use Rattle.hz_gmw.proofs.Counts.{one-bound}
 use Rattle.hz_gmw.proofs.Paths.{IsRun-append, IsRun-front}

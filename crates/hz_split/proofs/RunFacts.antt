@@ -1,8 +1,7 @@
 -- What a right finding says of its runs: their steps change variables that are there, and each once, and they are few.
-use Rattle.std.proofs.Common.{◌≡◌, ◌∙◌, ℕ, ◌*◌, ◌<◌, ◌≤◌, Bool, List, [], ◌∷◌, length, map, All, sym, ap, arith}
+use Rattle.std.proofs.Common.{◌≡◌, ◌∙◌, ℕ, ◌<◌, ◌≤◌, Bool, List, [], ◌∷◌, length, All, sym, ap, arith}
 use Rattle.std.proofs.lemmas.List.{length-map}
 use Rattle.std.proofs.lemmas.List.Elements.{All-nil, All-cons}
-use Rattle.hz_core.specs.declared.tri.Tri.{Tri}
 use Rattle.hz_core.specs.Ternary.{unknown_count}
 use Rattle.hz_net.specs.Network.{Driver}
 use Rattle.hz_net.proofs.Sequences.{unknown_count-le-length}

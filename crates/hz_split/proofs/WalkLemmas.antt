@@ -1,6 +1,5 @@
 -- The marks of unstable variables, when a variable flips.
-use Rattle.std.proofs.Common.{◌≡◌, ◌≢◌, ◌∙◌, ℕ, ◌+◌, ◌<◌, Bool, true, false, not, cond, List, [], ◌∷◌, ◌++◌, length, set, get_or, All, inl, inr, refl, sym, ap, subst, arith, nat_eq}
-use Rattle.std.specs.List.{flat_map}
+use Rattle.std.proofs.Common.{◌≡◌, ◌∙◌, ℕ, ◌<◌, Bool, true, false, List, [], ◌∷◌, length, set, inl, inr, refl, sym, ap, subst, arith}
 use Rattle.std.proofs.lemmas.Bool.{cases_eq, cases_Bool, false≢true}
 use Rattle.std.proofs.lemmas.List.{length-set, get_or-set_same, get_or-set_other, append-nil}
 use Rattle.std.proofs.lemmas.List.FromFn.{length-map-range_with_len}
@@ -10,7 +9,6 @@ use Rattle.hz_net.specs.Reads.{readers_of}
 use Rattle.hz_gmw.specs.CurrentState.{with_readers}
 use Rattle.hz_gmw.specs.Instability.{is_unstable, unstable_variables}
 use Rattle.hz_gmw.specs.Runs.{is_listed, state_after}
-use Rattle.hz_gmw.proofs.Flips.{state_after-one}
 use Rattle.hz_gmw.proofs.LeastLemmas.{listed-head, listed-cases, listed-other}
 use Rattle.hz_gmw.proofs.ReplayLemmas.{at-unstable_variables, unstable-list}
 use Rattle.hz_gmw.proofs.Unchanged.{is_unstable-state_after}

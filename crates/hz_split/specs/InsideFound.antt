@@ -1,5 +1,5 @@
 -- What the fields of the runs that are found stand for. Words about the inside of hz_split.
-use Rattle.std.specs.Prelude.{ℕ, ◌+◌, ◌*◌, ◌≤◌, [], ◌∷◌, length, take}
+use Rattle.std.specs.Prelude.{◌+◌, ◌*◌, ◌≤◌, [], ◌∷◌, length, take}
 use Rattle.hz_gmw.specs.RunRecord.{flip_count}
 use Rattle.hz_split.specs.FoundRuns.{FoundOf}
 use Rattle.hz_split.specs.declared.found.Found.TheInside.{Inside}

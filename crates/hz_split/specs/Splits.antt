@@ -1,5 +1,5 @@
 -- What holds of the runs that are found.
-use Rattle.std.specs.Prelude.{◌≡◌, ◌≢◌, ◌≤◌, ℕ, Bool, List, length, All}
+use Rattle.std.specs.Prelude.{◌≢◌, ◌≤◌, ℕ, Bool, List, length, All}
 use Rattle.std.specs.List.{AllPairs}
 use Rattle.hz_core.specs.Netlist.{Netlist}
 use Rattle.hz_net.specs.Network.{Driver, IsStable}

@@ -1,5 +1,5 @@
 -- Each variable changes in turn.
-use Rattle.std.proofs.Common.{◌∙◌, ◌<◌, Bool, not, refl, arith, get_or, length}
+use Rattle.std.proofs.Common.{◌∙◌, not, refl, arith, get_or}
 use Rattle.std.proofs.lemmas.List.{length-set}
 use Rattle.hz_net.specs.Network.{bit_at}
 use Rattle.hz_gmw.proofs.CurrentStateLemmas.{flip-step, flip-state}

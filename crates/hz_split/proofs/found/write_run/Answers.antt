@@ -1,5 +1,5 @@
 -- The flips of the three parts.
-use Rattle.std.proofs.Common.{◌≡◌, ◌∙◌, ◌++◌, List, ℕ, take, ap, arith}
+use Rattle.std.proofs.Common.{◌∙◌, ◌++◌, List, ℕ, take, ap, arith}
 use Rattle.hz_split.proofs.Steps.{flips-of-parts}
 use Rattle.hz_split.proofs.found.write_run.Goals as goal
 

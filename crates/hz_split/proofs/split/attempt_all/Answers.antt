@@ -1,5 +1,5 @@
 -- Two attempts from a state, and then the others.
-use Rattle.std.proofs.Common.{◌≡◌, ◌∙◌, ◌+◌, ◌-◌, ◌<◌, ◌++◌, ℕ, Bool, List, [], length, take, get_or, min, refl, sym, ap, arith}
+use Rattle.std.proofs.Common.{◌∙◌, ◌+◌, ◌-◌, ◌<◌, ◌++◌, ℕ, Bool, List, [], length, take, get_or, min, refl, sym, ap, arith}
 use Rattle.std.specs.List.{range_with_len}
 use Rattle.hz_net.specs.Network.{network_of}
 use Rattle.hz_gmw.specs.Runs.{state_after}

@@ -1,6 +1,5 @@
 -- The run is the second one, or it ends where the first one does.
-use Rattle.std.proofs.Common.{◌≡◌, ◌∙◌, ℕ, List, [], ◌∷◌, take, sym, ap, arith, rules}
-use Rattle.std.proofs.lemmas.Bool.{cases_eq}
+use Rattle.std.proofs.Common.{◌≡◌, ◌∙◌, ℕ, List, [], ◌∷◌, take, sym, ap, arith}
 use Rattle.hz_split.proofs.FoundLemmas.{found_as, second-added, same-kept, two-kept}
 use Rattle.hz_split.proofs.found.Found.add.Goals as goal
 use Rattle.hz_split.proofs.found.Found.add.Goals.{else-self-eq1-via-then-self-eq1+else-ne, else-self-eq1-via-else-self-eq1}

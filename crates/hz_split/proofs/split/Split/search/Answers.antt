@@ -1,11 +1,10 @@
 -- The attempts of a right finding.
-use Rattle.std.proofs.Common.{◌≡◌, ◌∙◌, ◌<◌, ◌≤◌, ◌++◌, ℕ, List, [], Bool, length, take, map, min, All, sym, ap, subst, rules, arith}
+use Rattle.std.proofs.Common.{◌≡◌, ◌∙◌, ◌++◌, ℕ, List, [], Bool, length, take, map, min, sym, ap, subst, arith}
 use Rattle.std.specs.List.{range_with_len}
 use Rattle.std.specs.Vec.{with_items}
 use Rattle.std.proofs.lemmas.List.{append-nil, with_items_is}
 use Rattle.hz_core.specs.Netlist.{Netlist}
 use Rattle.hz_net.specs.Network.{network_of}
-use Rattle.hz_gmw.specs.RunRecord.{flip_count}
 use Rattle.hz_desk.specs.Finding.{finding_of}
 use Rattle.hz_gmw.specs.Runs.{end_of}
 use Rattle.hz_split.specs.Attempts.{attempts, most_fronts}

@@ -1,15 +1,12 @@
 -- The turns of an attempt.
-use Rattle.std.proofs.Common.{◌≡◌, ◌∙◌, ◌∷◌, ◌*◌, ◌+◌, [], ℕ, Bool, List, Option, Some, length, refl, sym, ap, subst, arith, rules}
+use Rattle.std.proofs.Common.{◌∙◌, ◌∷◌, ◌*◌, ◌+◌, [], ℕ, Bool, length, sym, ap, arith, rules}
 use Rattle.std.specs.Option.{is_none}
 use Rattle.std.proofs.lemmas.List.{length-append}
 use Rattle.hz_net.specs.Network.{network_of}
 use Rattle.hz_gmw.specs.Follower.{FollowerOf}
-use Rattle.hz_gmw.specs.Instability.{unstable_variables}
-use Rattle.hz_gmw.specs.Runs.{state_after}
 use Rattle.hz_gmw.proofs.Flips.{length-state_after}
-use Rattle.hz_split.specs.Attempts.{picked, is_settled}
 use Rattle.hz_split.specs.Trials.{TrialOf}
-use Rattle.hz_split.proofs.AttemptLemmas.{tried-more, tried-stopped, picked-inside, picked-settled, none-from, IsTriedSoFar}
+use Rattle.hz_split.proofs.AttemptLemmas.{tried-more, tried-stopped, picked-inside, picked-settled, none-from}
 use Rattle.hz_split.proofs.trial.Trial.make.Goals as goal
 
 pub returns-in_default-clause-turns : goal.returns-in_default-clause-turns

@@ -1,5 +1,5 @@
 -- The variable and its readers are looked at.
-use Rattle.std.proofs.Common.{◌≡◌, ◌∙◌, ◌<◌, ℕ, Bool, false, not, List, [], ◌∷◌, length, set, sym, ap, subst, arith}
+use Rattle.std.proofs.Common.{◌≡◌, ◌∙◌, ◌<◌, Bool, false, not, [], ◌∷◌, length, set, sym, ap, subst, arith}
 use Rattle.std.proofs.lemmas.List.{length-set, get_or_read}
 use Rattle.hz_net.specs.Network.{network_of}
 use Rattle.hz_gmw.specs.Follower.{FollowerOf, follower_at, follower_after}
