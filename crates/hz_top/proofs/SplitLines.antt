@@ -1,8 +1,9 @@
 -- The text of changes, of which the first that leaves a variable unsettled is the last that is made.
-use Rattle.std.proofs.Common.{◌≡◌, ◌∙◌, ℕ, ◌+◌, Bool, true, false, List, [], ◌∷◌, ◌++◌, length, map, codes, Option, None, refl, sym, ap, subst, arith, inl, inr}
-use Rattle.std.specs.List.{list_any, Contains}
+use Rattle.std.proofs.Common.{◌≡◌, ◌∙◌, ℕ, ◌+◌, ◌<◌, Bool, true, false, List, [], ◌∷◌, ◌++◌, length, map, take, get_or, codes, Option, None, refl, sym, ap, subst, arith, inl, inr}
+use Rattle.std.specs.List.{list_any, flat_map, Contains}
 use Rattle.std.proofs.lemmas.Bool.{false≢true}
-use Rattle.std.proofs.lemmas.List.{append-nil}
+use Rattle.std.proofs.lemmas.List.{append-nil, map-append, take_more}
+use Rattle.std.proofs.lemmas.List.Concat.{flat_map-append}
 use Rattle.std.proofs.lemmas.List.Elements.{Contains-get_or}
 use Rattle.std.proofs.lemmas.List.Folds.{list_any_at}
 use Rattle.hz_core.specs.declared.tri.Tri.{Tri}
@@ -16,7 +17,9 @@ use Rattle.hz_seq.proofs.FirstAnalyses.{AreFirstAnalyses, AreLaterAnalyses, all-
 use Rattle.hz_seq.proofs.Existence.{settled-or-unknown}
 use Rattle.hz_top.specs.declared.status.Status.{Status}
 use Rattle.hz_top.specs.declared.status.Status.TheVariants as status
-use Rattle.hz_top.specs.Splits.{is_unknown, is_unsettled, changes_text, split_text, found_in, AreSplits, SplitsChange, SplitsChanges}
+use Rattle.hz_text.specs.RunValue.{RunOf}
+use Rattle.hz_write.specs.Writes.{line_of}
+use Rattle.hz_top.specs.Splits.{closed, is_unknown, is_unsettled, changes_text, split_text, found_in, AreSplits, SplitsChange, SplitsChanges}
 use Rattle.hz_top.proofs.Writable.{first-inside}
 
 -- changes that leave no variable unsettled
@@ -36,7 +39,7 @@ quiet-text netlist number (Stopped var ∷ analyses) more quiet = absurd quiet
 -- and of their runs nothing is said
 quiet-splits : (netlist : Netlist) (analyses more : List Analysis) → AreQuiet analyses → AreSplits netlist more → AreSplits netlist (analyses ++ more)
 quiet-splits netlist [] more quiet splits = splits
-quiet-splits netlist (Found finding ∷ analyses) more quiet splits = rw quiet.0 (quiet-splits netlist analyses more quiet.1 splits)
+quiet-splits netlist (Found finding ∷ analyses) more quiet splits = inr (quiet.0, quiet-splits netlist analyses more quiet.1 splits)
 quiet-splits netlist (Stopped var ∷ analyses) more quiet splits = absurd quiet
 
 pub quiet-more : (finding : FindingOf) (analyses : List Analysis) → AreQuiet analyses → is_unsettled finding ≡ false → AreQuiet (analyses ++ Found finding ∷ [])
@@ -87,19 +90,28 @@ module _ (netlist : Netlist) (cap : ℕ) (start : List Bool) (before : List (Lis
       let line : changes_text netlist (1 + length analyses) last ≡ split_text netlist (length before + 1) finding (found_in netlist finding) =
       rw unsettled (ap (λ (n : ℕ). split_text netlist n finding (found_in netlist finding)) number) in (
         says.0,
-        analyses ++ last,
-        are,
-        quiet-splits netlist analyses last quiet (rw unsettled says.1),
-        says.2 ∙ sym (quiet-text netlist 1 analyses last quiet ∙ line),
+        (analyses ++ last, are, quiet-splits netlist analyses last quiet (inl (unsettled, says.1)), says.2 ∙ sym (quiet-text netlist 1 analyses last quiet ∙ line)),
       )
 
   -- all changes settle
-  pub ends-settled : (own : Status) (text : List ℕ) → own ≡ status.Done → text ≡ codes "split settled\n" → SplitsChanges cap netlist start before own text
+  pub ends-settled : (own : Status) (text : List ℕ) → own ≡ status.Done → text ≡ line_of (codes "split settled" ∷ []) → SplitsChanges cap netlist start before own text
   ends-settled own text done is =
-      let line : changes_text netlist 1 analyses ≡ codes "split settled\n" = ap (changes_text netlist 1) (sym (append-nil analyses)) ∙ quiet-text netlist 1 analyses [] quiet in (
+      let line : changes_text netlist 1 analyses ≡ line_of (codes "split settled" ∷ []) = ap (changes_text netlist 1) (sym (append-nil analyses)) ∙ quiet-text netlist 1 analyses [] quiet in (
         done,
-        analyses,
-        all-analyses netlist cap start before analyses was first,
-        subst (AreSplits netlist) (append-nil analyses) (quiet-splits netlist analyses [] quiet tt),
-        is ∙ sym line,
+        (
+          analyses,
+          all-analyses netlist cap start before analyses was first,
+          subst (AreSplits netlist) (append-nil analyses) (quiet-splits netlist analyses [] quiet tt),
+          is ∙ sym line,
+        ),
       )
+
+-- one run more
+pub closed-more : (text_of : RunOf → List ℕ) (found : List (List (List ℕ))) (number : ℕ) → number < length found
+    → flat_map text_of (map closed (take (number + 1) found)) ≡ flat_map text_of (map closed (take number found)) ++ text_of (closed (get_or found number []))
+closed-more text_of found number below =
+    let run = get_or found number [] in
+    ap (λ (runs : List (List (List ℕ))). flat_map text_of (map closed runs)) (take_more found number [] below)
+    ∙ (ap (flat_map text_of) (map-append closed (take number found) (run ∷ []))
+    ∙ (flat_map-append text_of (map closed (take number found)) (closed run ∷ [])
+    ∙ ap (λ (text : List ℕ). flat_map text_of (map closed (take number found)) ++ text) (append-nil (text_of (closed run)))))

@@ -1,5 +1,5 @@
 -- What the job `split` comes to.
-use Rattle.std.specs.Prelude.{◌≡◌, ℕ, ◌+◌, ◌≤◌, Bool, true, false, List, [], ◌∷◌, ◌++◌, length, map, take, codes, decimal, Some, if◌then◌else◌}
+use Rattle.std.specs.Prelude.{◌≡◌, ℕ, ◌+◌, ◌≤◌, ◌⊎◌, Bool, true, false, List, [], ◌∷◌, ◌++◌, length, map, take, codes, decimal, Some, if◌then◌else◌}
 use Rattle.std.specs.List.{list_any}
 use Rattle.hz_core.specs.declared.tri.Tri.{Tri}
 use Rattle.hz_core.specs.declared.tri.Tri.TheVariants.{Zero, One, Unknown}
@@ -15,7 +15,7 @@ use Rattle.hz_split.specs.declared.outcome.Outcome.TheVariants.{Nowhere, OneStat
 use Rattle.hz_text.specs.Limits.{most_steps}
 use Rattle.hz_text.specs.RunPrinted.{run_text_printed}
 use Rattle.hz_text.specs.RunValue.{RunOf, RunTextOf, all_steps}
-use Rattle.hz_write.specs.Writes.{newline}
+use Rattle.hz_write.specs.Writes.{line_of}
 use Rattle.hz_top.specs.declared.status.Status.{Status}
 use Rattle.hz_top.specs.declared.status.Status.TheVariants as status
 use Rattle.hz_top.specs.RunTexts.{ReplaysAs}
@@ -38,7 +38,7 @@ outcome_word Critical = codes "critical"
 
 -- the number of a change, and what the search comes to
 unfoldable pub change_line : ℕ → Outcome → List ℕ
-change_line number outcome = codes "split change " ++ decimal number ++ codes " " ++ outcome_word outcome ++ newline
+change_line number outcome = line_of (codes "split change " ∷ decimal number ∷ codes " " ∷ outcome_word outcome ∷ [])
 
 -- a run that ends in a stable state, with this state alone as its cycle
 abbrev pub closed : List (List ℕ) → RunOf
@@ -64,7 +64,7 @@ found_in netlist finding = runs_found (network_of netlist) (map (λ row. row.sta
 
 -- the text of changes, the first of which has a number: that of the first one which leaves a variable unsettled
 abbrev pub changes_text : Netlist → ℕ → List Analysis → List ℕ
-changes_text netlist number [] = codes "split settled\n"
+changes_text netlist number [] = line_of (codes "split settled" ∷ [])
 changes_text netlist number (Stopped var ∷ analyses) = []
 changes_text netlist number (Found finding ∷ analyses) =
     if is_unsettled finding then split_text netlist number finding (found_in netlist finding)
@@ -78,12 +78,12 @@ pub record IsSplitOf (netlist : Netlist) (finding : FindingOf) : Type 0 where
       length (all_steps (map closed (found_in netlist finding))) ≤ most_steps → flip_count (all_steps (map closed (found_in netlist finding))) ≤ most_steps →
       ReplaysAs netlist (run_text_printed netlist (runs_of_split netlist finding (found_in netlist finding))) (map closed (found_in netlist finding))
 
--- what holds of the runs of the first change that leaves a variable unsettled
+-- so it is of the first change that leaves a variable unsettled
 abbrev pub AreSplits : Netlist → List Analysis → Type 0
 AreSplits netlist [] = Unit {0}
 AreSplits netlist (Stopped var ∷ analyses) = Unit {0}
 AreSplits netlist (Found finding ∷ analyses) =
-    if is_unsettled finding then IsSplitOf netlist finding else AreSplits netlist analyses
+    ((is_unsettled finding ≡ true) × IsSplitOf netlist finding) ⊎ ((is_unsettled finding ≡ false) × AreSplits netlist analyses)
 
 -- The job is done with this text, by the analyses of the changes from a start.
 abbrev pub SplitsChanges : ℕ → Netlist → List Bool → List (List (ℕ × Bool)) → Status → List ℕ → Type 0

@@ -1,6 +1,6 @@
 //! The job `split`: the first change of a script that leaves a variable unsettled, and two runs of it that end in different stable
 //! states.
-ghost use Rattle.std.specs.Prelude.{◌≡◌, ◌<◌, ℕ, [], None, length, map, All, Contains};
+ghost use Rattle.std.specs.Prelude.{◌≡◌, ◌<◌, ℕ, [], None, true, length, map, All};
 ghost use Rattle.std.specs.List.{flat_map};
 ghost use Rattle.hz_core.specs.Netlist.{IsCircuit};
 ghost use Rattle.hz_net.specs.Network.{network_of};
@@ -10,8 +10,7 @@ ghost use Rattle.hz_text.specs.RunPrinted.{run_text};
 ghost use Rattle.hz_text.specs.ScriptText.{IsScriptFor};
 ghost use Rattle.hz_write.specs.Writer.{Writes, NoneWaits};
 ghost use Rattle.hz_write.specs.Writes.{Wrote};
-ghost use Rattle.hz_core.specs.declared.tri.Tri.TheVariants.{Unknown};
-ghost use Rattle.hz_desk.specs.Finding.{finding_of, values_b};
+ghost use Rattle.hz_desk.specs.Finding.{finding_of};
 ghost use Rattle.hz_desk.specs.RightFinding.{IsRightFinding};
 ghost use Rattle.hz_split.specs.Attempts.{outcome_of};
 ghost use Rattle.hz_top.specs.Ends.{Ends};
@@ -28,7 +27,7 @@ use hz_outside::{PutFault, Sink};
 use hz_pass::complete;
 use hz_seq::Sequence;
 use hz_split::{Outcome, Split};
-use hz_text::{Script, write_end, write_run, write_states};
+use hz_text::{Script, printed_runs_are_read, write_end, write_run, write_states};
 use hz_write::Piece::{Number, Text};
 use hz_write::{Writer, put_line};
 use std::alloc::Global;
@@ -137,9 +136,11 @@ fn split_change<K: Sink>(
     requires start { IsStableStart net.now (map (λ row. row.start) finding.now.rows) }
     requires input { length finding.now.input ≡ net.now.inputs }
     requires right { (cap : ℕ) × IsRightFinding (network_of net.now) finding.now.input (map (λ row. row.start) finding.now.rows) cap (finding_of finding.now) }
-    requires unsettled { Contains (values_b finding.now.rows) Unknown }
+    requires unsettled { is_unsettled (finding_of finding.now) ≡ true }
     ensures { Ends K.output K.faults (SplitsChange net.now number (finding_of finding.now)) out.old out.new result }
 {
+    // The law says that what is printed is read as these runs.
+    printed_runs_are_read();
     let Ok(mut split) = Split::new(alloc, net) else {
         return Status::Memory;
     };
