@@ -10,6 +10,7 @@ use Rattle.hz_core.specs.declared.tri.Tri.{Tri}
 use Rattle.hz_core.specs.declared.tri.Tri.TheVariants.{Zero, One, Unknown}
 use Rattle.hz_core.specs.Ternary.{tri_of}
 use Rattle.hz_core.specs.Netlist.{Netlist}
+use Rattle.hz_desk.specs.declared.finding.Row.{Row}
 use Rattle.hz_desk.specs.Finding.{FindingOf, values_b}
 use Rattle.hz_seq.specs.Analyses.{Analysis, Found, Stopped, AreAnalyses, all_stopped}
 use Rattle.hz_seq.specs.Sequence.{SequenceState, IsFindingOfChange, IsFirstUnknown, IsSettledAt, IsLeftBy}
@@ -17,9 +18,11 @@ use Rattle.hz_seq.proofs.FirstAnalyses.{AreFirstAnalyses, AreLaterAnalyses, all-
 use Rattle.hz_seq.proofs.Existence.{settled-or-unknown}
 use Rattle.hz_top.specs.declared.status.Status.{Status}
 use Rattle.hz_top.specs.declared.status.Status.TheVariants as status
+use Rattle.hz_split.specs.Attempts.{outcome_of}
+use Rattle.hz_text.specs.RunPrinted.{states_text, run_text, run_text_printed}
 use Rattle.hz_text.specs.RunValue.{RunOf}
 use Rattle.hz_write.specs.Writes.{line_of}
-use Rattle.hz_top.specs.Splits.{closed, is_unknown, is_unsettled, changes_text, split_text, found_in, AreSplits, SplitsChange, SplitsChanges}
+use Rattle.hz_top.specs.Splits.{closed, change_line, is_unknown, is_unsettled, changes_text, split_text, found_in, AreSplits, SplitsChange, SplitsChanges}
 use Rattle.hz_top.proofs.Writable.{first-inside}
 
 -- changes that leave no variable unsettled
@@ -115,3 +118,10 @@ closed-more text_of found number below =
     ∙ (ap (flat_map text_of) (map-append closed (take number found) (run ∷ []))
     ∙ (flat_map-append text_of (map closed (take number found)) (closed run ∷ [])
     ∙ ap (λ (text : List ℕ). flat_map text_of (map closed (take number found)) ++ text) (append-nil (text_of (closed run)))))
+
+-- the lines of a change and of its runs, one after the other
+pub split-lines : (netlist : Netlist) (number : ℕ) (finding : FindingOf) (found : List (List (List ℕ)))
+    → change_line number (outcome_of found) ++ (states_text netlist (take (length netlist.names) (map (λ (row : Row). row.start) finding.rows)) finding.input ++ (flat_map (run_text netlist) (map closed found) ++ codes "end\n"))
+    ≡ split_text netlist number finding found
+unfolding split_text run_text_printed
+split-lines netlist number finding found = refl

@@ -5,9 +5,8 @@ use Rattle.hz_core.specs.Netlist.{Netlist}
 use Rattle.hz_net.proofs.Places.{length-network_of}
 use Rattle.hz_desk.specs.declared.finding.Row.{Row}
 use Rattle.hz_desk.specs.Finding.{finding_of}
-use Rattle.hz_text.specs.RunPrinted.{run_text_printed}
 use Rattle.hz_write.proofs.Writers.{writes_then, wrote_whole}
-use Rattle.hz_top.specs.Splits.{split_text}
+use Rattle.hz_top.proofs.SplitLines.{split-lines}
 use Rattle.hz_top.proofs.splitting.write_split.Goals as goal
 
 pub slice_bounds-write_states-end : goal.slice_bounds-write_states-end
@@ -17,12 +16,11 @@ slice_bounds-write_states-end g c =
     sym (length-take-le c.nodes-nodes.result c.starts.result.now (omega (arith, nodes, long, c.requires.rows, length-network_of c.args.net.now c.requires.circuit)))
 
 pub returns : goal.returns
-unfolding split_text run_text_printed
 returns g c =
     let nodes : c.nodes-nodes.result ≡ length c.args.net.now.names = c.nodes-nodes.ensures.nodes ∙ ap (λ (n : Netlist). length n.names) c.circuit.ensures.same in
     let outcome = rw c.requires.outcome at c.write_outcome.ensures.gave in
     let states = rw (c.circuit-2.ensures.same, c.starts.ensures, c.as_slice.ensures, nodes) at c.write_states.ensures.gave in
     let runs = writes_then c.write_found.ensures.gave c.write_end.ensures.gave refl in
-    let lines = writes_then {z = split_text c.args.net.now c.args.number (finding_of c.args.finding.now) c.args.split.now.found} outcome (writes_then states runs refl) refl in
+    let lines = writes_then outcome (writes_then states runs refl) (split-lines c.args.net.now c.args.number (finding_of c.args.finding.now) c.args.split.now.found) in
     let wrote = wrote_whole _ _ _ _ _ _ _ _ c.new-writer.ensures.begins lines c.finish.ensures in
     search rules
