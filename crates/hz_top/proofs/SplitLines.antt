@@ -121,7 +121,7 @@ closed-more text_of found number below =
 
 -- the lines of a change and of its runs, one after the other
 pub split-lines : (netlist : Netlist) (number : ℕ) (finding : FindingOf) (found : List (List (List ℕ)))
-    → change_line number (outcome_of found) ++ (states_text netlist (take (length netlist.names) (map (λ (row : Row). row.start) finding.rows)) finding.input ++ (flat_map (run_text netlist) (map closed found) ++ codes "end\n"))
+    → change_line number (outcome_of found) ++ (states_text netlist (take (length netlist.names) (map (λ (row : Row). row.start) finding.rows)) finding.input ++ flat_map (run_text netlist) (map closed found) ++ codes "end\n")
     ≡ split_text netlist number finding found
 unfolding split_text run_text_printed
 split-lines netlist number finding found = refl

@@ -20,7 +20,7 @@ returns g c =
     let nodes : c.nodes-nodes.result ≡ length c.args.net.now.names = c.nodes-nodes.ensures.nodes ∙ ap (λ (n : Netlist). length n.names) c.circuit.ensures.same in
     let outcome = rw c.requires.outcome at c.write_outcome.ensures.gave in
     let states = rw (c.circuit-2.ensures.same, c.starts.ensures, c.as_slice.ensures, nodes) at c.write_states.ensures.gave in
-    let runs = writes_then c.write_found.ensures.gave c.write_end.ensures.gave refl in
-    let lines = writes_then outcome (writes_then states runs refl) (split-lines c.args.net.now c.args.number (finding_of c.args.finding.now) c.args.split.now.found) in
+    let text = writes_then (writes_then states c.write_found.ensures.gave refl) c.write_end.ensures.gave refl in
+    let lines = writes_then outcome text (split-lines c.args.net.now c.args.number (finding_of c.args.finding.now) c.args.split.now.found) in
     let wrote = wrote_whole _ _ _ _ _ _ _ _ c.new-writer.ensures.begins lines c.finish.ensures in
     search rules
