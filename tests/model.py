@@ -464,6 +464,27 @@ class Circuit:
         found = [f"cycle: {why} {names[var]}" for why, has in kinds for var in range(len(names)) if has(var)]
         return found[0] if found else None
 
+    def attempts(self, settle, cycle):
+        """The runs of the search for two outcomes, in their order. From each of the first 64 states of a cycle at the end of a settle
+        run there are two: in each turn the least unstable variable flips, or the greatest."""
+        for count in range(min(len(cycle), 64)):
+            front = settle + cycle[:count]
+            for pick in (min, max):
+                state, turns = self.states(self.start, front)[-1], []
+                while self.unstable(state) and len(turns) < 2 * len(self.start):
+                    turns.append([pick(self.unstable(state))])
+                    state = turned(state, turns[-1])
+                yield front + turns
+
+    def split(self, settle, cycle):
+        """The first attempt that ends in a stable state, and the first later one that ends in another."""
+        found = {}
+        for lead in self.attempts(settle, cycle):
+            end = self.states(self.start, lead)[-1]
+            if self.is_stable(end) and len(found) < 2:
+                found.setdefault(end, lead)
+        return found
+
     def wanderings(self, chance, count):
         """Runs that wander through the states: most of their steps are steps, some are not."""
         for _ in range(count):

@@ -81,8 +81,8 @@ def jobs(program, folder):
     netlist, script = write(folder, "latch.bench", LATCH), write(folder, "latch.txt", SCRIPT)
     report = run(program, ["analyse", netlist, script], folder)[1]
     runs = write(folder, "latch.runs", report[report.index(b"runs 2\n"):])
-    return [["analyse", netlist, script], ["analyse", netlist, script, "--show", "all"], ["replay", netlist, runs], ["convert", netlist, runs], ["vcd", netlist, runs],
-            *[[job, netlist, write(folder, "latch.patterns", PATTERNS)] for job in ("batch", "reset")], ["demo", "1"]]
+    return [["analyse", netlist, script], ["analyse", netlist, script, "--show", "all"], ["split", netlist, script], ["replay", netlist, runs], ["convert", netlist, runs],
+            ["vcd", netlist, runs], *[[job, netlist, write(folder, "latch.patterns", PATTERNS)] for job in ("batch", "reset")], ["demo", "1"]]
 
 
 def is_front(status, text, whole):

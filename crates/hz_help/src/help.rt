@@ -20,6 +20,8 @@ const USAGE: &str = "\
 usage:
   hazard analyse NETLIST SCRIPT [--cap N] [--show nodes|all]
                           reports what each change of the script may do
+  hazard split NETLIST SCRIPT
+                          looks for two runs of an unsettled change that end differently
   hazard replay NETLIST RUNS
                           checks the runs that a report shows
   hazard convert NETLIST RUNS

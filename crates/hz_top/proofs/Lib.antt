@@ -40,3 +40,7 @@ pub mod ReadBack
 pub mod RightResets
 -- The headline, from the answer of a call
 pub mod Headlines
+-- The text of changes, of which the first that leaves a variable unsettled is the last that is made
+pub mod SplitLines
+-- The runs of a change that end in stable states are accepted by a replay
+pub mod SplitRuns

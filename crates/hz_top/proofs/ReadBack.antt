@@ -43,7 +43,7 @@ same-bits (x ∷ xs) (y ∷ ys) long each =
     cc
 
 -- in a stable state each wire has its source's value, so it is the state that its nodes' values make
-stable-expansion_of :
+pub stable-expansion_of :
     (netlist : Netlist) (input state : List Bool) → IsCircuit netlist → length state ≡ length (network_of netlist) → IsStable (network_of netlist) input state →
     state ≡ expansion_of netlist (take (length netlist.names) state)
 stable-expansion_of netlist input state circuit long stable =

@@ -14,13 +14,14 @@ use Rattle.hz_text.specs.RunFault.{HasRunFault}
 use Rattle.hz_text.specs.RunText.{IsRunValue}
 use Rattle.hz_text.specs.RunValue.{RunTextOf}
 use Rattle.hz_words.specs.declared.job.Task.{Task}
-use Rattle.hz_words.specs.declared.job.Task.TheVariants.{Analyse, Replay, Convert, Vcd, Batch, Reset}
+use Rattle.hz_words.specs.declared.job.Task.TheVariants.{Analyse, Split, Replay, Convert, Vcd, Batch, Reset}
 use Rattle.hz_top.specs.declared.status.Status.{Status}
 use Rattle.hz_top.specs.declared.status.Status.TheVariants as status
 use Rattle.hz_top.specs.Batches.{IsBatchOutcome}
 use Rattle.hz_top.specs.Reports.{Reports}
 use Rattle.hz_top.specs.Resets.{IsResetOutcome}
 use Rattle.hz_top.specs.RunTexts.{IsConvertOutcome, EndsReplay}
+use Rattle.hz_top.specs.Splits.{SplitsChanges}
 use Rattle.hz_top.specs.Second.{IsTextOutcome, Started, IsGoodText}
 use Rattle.hz_top.specs.Tasks.{comes_of, good_of}
 use Rattle.hz_top.specs.Verdict.{Replayed, IsYes}
@@ -39,6 +40,12 @@ script-ends : (options : Options) (netlist : Netlist) (value : ScriptOf) (wanted
 script-ends options netlist value wanted own said good (inl (own_is, inl (gate, opened, line))) = absurd (good.0.closed gate opened)
 script-ends options netlist value wanted own said good (inl (own_is, inr (gate, unstable, line))) = absurd (good.0.stable gate unstable)
 script-ends options netlist value wanted own said good (inr (start, accepted, reports)) = reports.0 ∙ sym good.1
+
+-- a script comes to what is found of its changes
+split-ends : (cap : ℕ) (netlist : Netlist) (value : ScriptOf) (wanted own : Status) (said : List ℕ) → IsCompletable netlist value.start × (wanted ≡ status.Done) → Started (SplitsChanges cap) netlist value own said → own ≡ wanted
+split-ends cap netlist value wanted own said good (inl (own_is, inl (gate, opened, line))) = absurd (good.0.closed gate opened)
+split-ends cap netlist value wanted own said good (inl (own_is, inr (gate, unstable, line))) = absurd (good.0.stable gate unstable)
+split-ends cap netlist value wanted own said good (inr (start, accepted, splits)) = splits.0 ∙ sym good.1
 
 -- a replay comes to the one of both ends that it has, where the judge of runs that are accepted has no other status
 replay-ends : (judge : Netlist → RunTextOf → Status → List ℕ → Type 0)
@@ -65,6 +72,8 @@ reset-ends netlist value wanted own said is says = says.0 ∙ sym is
 pub text-ends : (options : Options) (task : Task) (netlist : Netlist) (text : List ℕ) (wanted own : Status) (said : List ℕ) → good_of task netlist text wanted → comes_of options task netlist text own said → own ≡ wanted
 text-ends options Analyse =
     good-ends (codes "script") HasScriptFault IsValue (Started (Reports options)) (λ netlist script own. IsCompletable netlist script.start × (own ≡ status.Done)) (script-ends options)
+text-ends options Split =
+    good-ends (codes "script") HasScriptFault IsValue (Started (SplitsChanges options.cap)) (λ netlist script own. IsCompletable netlist script.start × (own ≡ status.Done)) (split-ends options.cap)
 text-ends options Replay =
     good-ends (codes "runs") HasRunFault IsRunValue (Replayed IsYes) EndsReplay (replay-ends IsYes (λ netlist value own said says. says.0))
 text-ends options Convert = good-ends (codes "runs") HasRunFault IsRunValue IsConvertOutcome (λ netlist runs own. own ≡ status.Done) convert-ends

@@ -47,6 +47,7 @@ pub mod Dumps
 pub mod Batches
 pub mod Resets
 pub mod Reports
+pub mod Splits
 pub mod Tasks
 pub mod Outcome
 pub mod LeftFiles

@@ -10,7 +10,7 @@ use Rattle.hz_text.specs.PatternText.{IsPatternsValue}
 use Rattle.hz_text.specs.RunFault.{HasRunFault}
 use Rattle.hz_text.specs.RunText.{IsRunValue}
 use Rattle.hz_words.specs.declared.job.Task.{Task}
-use Rattle.hz_words.specs.declared.job.Task.TheVariants.{Analyse, Replay, Convert, Vcd, Batch, Reset}
+use Rattle.hz_words.specs.declared.job.Task.TheVariants.{Analyse, Split, Replay, Convert, Vcd, Batch, Reset}
 use Rattle.hz_top.specs.declared.status.Status.{Status}
 use Rattle.hz_top.specs.declared.status.Status.TheVariants.{Done}
 use Rattle.hz_top.specs.Batches.{IsBatchOutcome}
@@ -19,11 +19,13 @@ use Rattle.hz_top.specs.Resets.{IsResetOutcome}
 use Rattle.hz_top.specs.RunTexts.{IsConvertOutcome, EndsReplay}
 use Rattle.hz_top.specs.Dumps.{IsVcdOutcome}
 use Rattle.hz_top.specs.Second.{OfScript, OfRuns, OfPatterns, Started, IsGoodText}
+use Rattle.hz_top.specs.Splits.{SplitsChanges}
 use Rattle.hz_top.specs.Verdict.{IsReplayOutcome}
 
 -- what the second text comes to
 abbrev pub comes_of : Options → Task → Netlist → List ℕ → Status → List ℕ → Type 0
 comes_of options Analyse = OfScript (Started (Reports options))
+comes_of options Split = OfScript (Started (SplitsChanges options.cap))
 comes_of options Replay = OfRuns IsReplayOutcome
 comes_of options Convert = OfRuns IsConvertOutcome
 comes_of options Vcd = OfRuns IsVcdOutcome
@@ -33,6 +35,7 @@ comes_of options Reset = OfPatterns IsResetOutcome
 -- nothing is to be refused of the second text, and the task ends with this status
 abbrev pub good_of : Task → Netlist → List ℕ → Status → Type 0
 good_of Analyse = IsGoodText HasScriptFault IsValue (λ netlist script own. IsCompletable netlist script.start × (own ≡ Done))
+good_of Split = IsGoodText HasScriptFault IsValue (λ netlist script own. IsCompletable netlist script.start × (own ≡ Done))
 good_of Replay = IsGoodText HasRunFault IsRunValue EndsReplay
 good_of Convert = IsGoodText HasRunFault IsRunValue (λ netlist runs own. own ≡ Done)
 good_of Vcd = IsGoodText HasRunFault IsRunValue EndsReplay

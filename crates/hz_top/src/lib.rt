@@ -15,6 +15,7 @@
 //! | `dumping` | the job `vcd`: the last run of a run text as a value change dump |
 //! | `batching` | the job `batch`: patterns, 512 at a time |
 //! | `resetting` | the job `reset`: what patterns bring about where nobody knows the start |
+//! | `splitting` | the job `split`: two runs of a change that end in different stable states |
 //! | `verdict` | the line that `replay` writes |
 //! | `running` | the top call |
 #![tactic(auto)]
@@ -32,6 +33,7 @@ mod reporting;
 mod resetting;
 mod running;
 mod second;
+mod splitting;
 mod status;
 #[cfg(test)]
 mod tests;

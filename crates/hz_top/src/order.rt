@@ -17,6 +17,7 @@ use crate::refusal::{refuse_load, refuse_netlist};
 use crate::replaying::Replays;
 use crate::resetting::Resets;
 use crate::second::{on_patterns, on_runs, on_script};
+use crate::splitting::Splits;
 use crate::status::Status;
 use hz_line::MAX_TEXT;
 use hz_net::Net;
@@ -97,6 +98,7 @@ fn work_on_text<K: Sink>(
 {
     match task {
         Task::Analyse => on_script(alloc, &Analyses { options }, net, text, out),
+        Task::Split => on_script(alloc, &Splits { options }, net, text, out),
         Task::Replay => on_runs(alloc, &Replays, net, text, out),
         Task::Convert => on_runs(alloc, &Converts, net, text, out),
         Task::Vcd => on_runs(alloc, &Dumps, net, text, out),

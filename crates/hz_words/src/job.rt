@@ -13,6 +13,8 @@ use hz_options::Options;
 pub enum Task {
     /// The changes of a script are analysed.
     Analyse,
+    /// Two runs of an unsettled change of a script are looked for.
+    Split,
     /// The runs of a run text are replayed.
     Replay,
     /// A run text is written in version 2.
@@ -101,6 +103,7 @@ fn job_on_files<'w>(
     let second = second?;
     let task = match word {
         "analyse" => Task::Analyse,
+        "split" => Task::Split,
         "replay" => Task::Replay,
         "convert" => Task::Convert,
         "vcd" => Task::Vcd,

@@ -9,6 +9,11 @@ returns-in-Analyse g c =
     subst (λ (task : Task). Ends g.K.Sink.output g.K.Sink.faults (comes_of c.args.options task c.args.net.now c.args.text.now) c.args.out.now c.on_script.new.out c.on_script.result)
     (sym c.in-Analyse.is) c.on_script.ensures
 
+pub returns-in-Split : goal.returns-in-Split
+returns-in-Split g c =
+    subst (λ (task : Task). Ends g.K.Sink.output g.K.Sink.faults (comes_of c.args.options task c.args.net.now c.args.text.now) c.args.out.now c.on_script-in-Split.new.out c.on_script-in-Split.result)
+    (sym c.in-Split.is) c.on_script-in-Split.ensures
+
 pub returns-in-Replay : goal.returns-in-Replay
 returns-in-Replay g c =
     subst (λ (task : Task). Ends g.K.Sink.output g.K.Sink.faults (comes_of c.args.options task c.args.net.now c.args.text.now) c.args.out.now c.on_runs.new.out c.on_runs.result)
