@@ -3,6 +3,7 @@
 //! | Module | What lives in it |
 //! |---|---|
 //! | `planes` | [`Planes`]: the planes of a network, from loading to the result of Algorithm B |
+//! | `values` | [`LaneValues`]: a variable in all lanes at once |
 //! | `stage` | [`Stage`]: what was done with the planes; [`LaneFault`]: why a lane has no stable start |
 //! | `loads`, `listing` | what each lane was loaded with, and what the lanes list for a node |
 //! | `lanes` | sets of lanes |
@@ -32,9 +33,11 @@ mod rule;
 mod schedule;
 mod stage;
 mod sweep;
+mod values;
 
 pub use planes::Planes;
 pub use stage::{LaneFault, Stage};
+pub use values::LaneValues;
 
 /// A lane that lists the inputs alone, completed, holds what the inputs bring about from a state of which nothing is known.
 #[tactic(auto, using(crate::proofs::UnknownFills::listed_inputs_fill))]

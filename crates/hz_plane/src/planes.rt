@@ -13,7 +13,7 @@ ghost use Rattle.hz_plane.specs.Gates.{pin_sources};
 ghost use Rattle.hz_plane.specs.Lanes.{ListsAllInputs};
 ghost use Rattle.hz_plane.specs.Loads.{Loaded, listed_with};
 ghost use Rattle.hz_plane.specs.Steps.{AreAllPlanes};
-ghost use Rattle.hz_plane.specs.View.{Seen, AreOf, IsLaneValue, IsFilledValue, IsLaneFault, IsUnsettled, LeavesUnknown, value_by, variables_of};
+ghost use Rattle.hz_plane.specs.View.{Seen, AreOf, IsLaneValue, IsFilledValue, IsLaneFault, IsUnsettled, LeavesUnknown, value_by, value_in, variables_of};
 ghost use Rattle.hz_plane.specs.declared.stage.Stage.TheVariants.{Loading, Completed, Spread, Settled};
 
 use crate::faults::{note_faults, unknown_lanes};
@@ -24,6 +24,7 @@ use crate::pair::Pair;
 use crate::passes::{fill, settle, spread};
 use crate::schedule::Schedule;
 use crate::stage::{LaneFault, Stage};
+use crate::values::LaneValues;
 use hz_core::{Memory, Tri};
 use hz_net::Net;
 use std::alloc::Global;
@@ -239,6 +240,24 @@ impl Planes {
         }
     }
 
+    /// The values of a variable in all lanes at once: in each lane that is loaded what `get` says of it.
+    pub fn values(&self, var: u32) -> LaneValues
+        requires { var < variables_of self.now }
+        ensures lane { (netlist : Netlist) (loaded : Loaded) (lane : ℕ) → IsCircuit netlist → IsWhole netlist
+            → AreOf netlist self.now → lane < 512 → slice_get self.now.lanes lane ≡ Some (Some loaded)
+            → IsLaneValue self.now.stage netlist loaded var (value_in result lane) }
+        ensures filled { (netlist : Netlist) (loaded : Loaded) (lane : ℕ) → IsCircuit netlist → IsWhole netlist
+            → AreOf netlist self.now → lane < 512 → slice_get self.now.lanes lane ≡ Some (Some loaded)
+            → IsFilledValue self.now.stage netlist loaded var (value_in result lane) }
+        ensures loading { self.now.stage ≡ Loading
+            → (lane : ℕ) → lane < 512 → value_in result lane ≡ Unknown }
+    {
+        match self.stage {
+            Stage::Loading => LaneValues::unknown(),
+            _ => self.node_values(var),
+        }
+    }
+
     /// Whether some variable is X in a loaded lane, inner nodes and wires too.
     pub fn is_unsettled(&self, lane: u32) -> bool
         requires lane { lane < 512 }
@@ -270,6 +289,24 @@ impl Planes {
             has_lane(pair.zero.as_array(), lane),
             has_lane(pair.one.as_array(), lane),
         )
+    }
+
+    // The values of a node, or of the source of a wire.
+    #[inline(always)]
+    fn node_values(&self, var: u32) -> LaneValues
+        requires var { var < variables_of self.now }
+        ensures lane { (netlist : Netlist) (loaded : Loaded) (lane : ℕ) → IsCircuit netlist → IsWhole netlist
+            → AreOf netlist self.now → lane < 512 → slice_get self.now.lanes lane ≡ Some (Some loaded)
+            → self.now.stage ≢ Loading → IsLaneValue self.now.stage netlist loaded var (value_in result lane) }
+        ensures filled { (netlist : Netlist) (loaded : Loaded) (lane : ℕ) → IsCircuit netlist → IsWhole netlist
+            → AreOf netlist self.now → lane < 512 → slice_get self.now.lanes lane ≡ Some (Some loaded)
+            → self.now.stage ≢ Loading → IsFilledValue self.now.stage netlist loaded var (value_in result lane) }
+    {
+        let pair = &self.values[self.node_of(var) as usize];
+        LaneValues {
+            zero: pair.zero.to_array(),
+            one: pair.one.to_array(),
+        }
     }
 
     // A node itself, or the source of a wire.
