@@ -11,12 +11,13 @@
 //! | `passes` | completed starts, Algorithm A and Algorithm B, in all lanes |
 //! | `sweep` | gates evaluated in place until none would change |
 //! | `faults` | the fault of each lane, and the lanes in which some node is X |
-//! | `schedule`, `order`, `readers`, `lists` | an order of all gates, and which gates read each node |
+//! | `schedule`, `order`, `classes`, `readers`, `lists` | an order of all gates, and which gates read each node |
 //! | `gates` | the gates of the circuit, copied |
 #![tactic(auto)]
 
 ghost use Rattle.hz_plane.specs.View.{ListedInputsFill};
 
+mod classes;
 mod excited;
 mod faults;
 mod gates;
