@@ -11,6 +11,7 @@ pub mod SettleSteps
 pub mod StartSteps
 pub mod Weights
 pub mod Once
+pub mod Known
 pub mod Marks
 pub mod PassLanes
 pub mod FaultLemmas

@@ -25,6 +25,7 @@ mod lanes;
 mod listing;
 mod lists;
 mod loads;
+mod ones;
 mod order;
 mod pair;
 mod passes;
