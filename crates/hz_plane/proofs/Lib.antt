@@ -13,6 +13,7 @@ pub mod Weights
 pub mod Once
 pub mod Known
 pub mod Marks
+pub mod Forwards
 pub mod PassLanes
 pub mod FaultLemmas
 pub mod FaultResults

@@ -9,6 +9,7 @@
 //! | `lanes` | sets of lanes |
 //! | `pair`, `rule`, `excited` | the two planes of a node, what a gate does with its excitation, and the excitation itself |
 //! | `passes` | completed starts, Algorithm A and Algorithm B, in all lanes |
+//! | `forward`, `ones` | gates without feedback, each evaluated once by the lanes in which it is 1 |
 //! | `sweep` | gates evaluated in place until none would change |
 //! | `faults` | the fault of each lane, and the lanes in which some node is X |
 //! | `schedule`, `order`, `classes`, `readers`, `lists` | an order of all gates, and which gates read each node |
@@ -20,6 +21,7 @@ ghost use Rattle.hz_plane.specs.View.{ListedInputsFill};
 mod classes;
 mod excited;
 mod faults;
+mod forward;
 mod gates;
 mod lanes;
 mod listing;
