@@ -15,6 +15,7 @@ pub mod Known
 pub mod Marks
 pub mod Forwards
 pub mod PassLanes
+pub mod ListedBits
 pub mod FaultLemmas
 pub mod FaultResults
 pub mod OrderLemmas
@@ -22,5 +23,6 @@ pub mod ListParts
 pub mod ReaderLemmas
 pub mod GateCopies
 pub mod Held
+pub mod ForwardLanes
 pub mod Fields
 pub mod UnknownFills

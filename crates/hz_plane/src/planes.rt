@@ -16,7 +16,7 @@ ghost use Rattle.hz_plane.specs.Steps.{AreAllPlanes};
 ghost use Rattle.hz_plane.specs.View.{Seen, AreOf, IsLaneValue, IsFilledValue, IsLaneFault, IsUnsettled, LeavesUnknown, value_by, value_in, variables_of};
 ghost use Rattle.hz_plane.specs.declared.stage.Stage.TheVariants.{Loading, Completed, Spread, Settled};
 
-use crate::faults::{note_faults, unknown_lanes};
+use crate::faults::{note_faults, unsettled_lanes};
 use crate::gates::Gates;
 use crate::lanes::has_lane;
 use crate::loads::Loads;
@@ -155,17 +155,20 @@ impl Planes {
         ensures { self.new ≡ record self.old { stage = Completed } }
     {
         let _circuit = net.circuit();
-        fill(
+        let no_gates = self.loads.lists_no_gate();
+        let are_evaluated = fill(
             net,
             &self.schedule,
             self.marks.as_mut_slice(),
             self.loads.listings(),
+            no_gates,
             self.values.as_mut_slice(),
         );
         note_faults(
             net,
             self.loads.listings(),
             self.values.as_slice(),
+            are_evaluated,
             self.faults.as_mut_slice(),
         );
         self.stage = Stage::Completed;
@@ -209,14 +212,14 @@ impl Planes {
             { stage = Settled; settles = min (self.old.settles + 1) (2 ^ 64 - 1) } }
     {
         let _circuit = net.circuit();
-        settle(
+        let are_evaluated = settle(
             net,
             &self.schedule,
             self.marks.as_mut_slice(),
             self.loads.inputs(),
             self.values.as_mut_slice(),
         );
-        self.unsettled = unknown_lanes(self.values.as_slice());
+        self.unsettled = unsettled_lanes(net, self.values.as_slice(), are_evaluated);
         self.stage = Stage::Settled;
         self.settles = self.settles.saturating_add(1);
     }
