@@ -3,6 +3,7 @@ pub mod PlaneLists
 pub mod LaneSets
 pub mod LoadLemmas
 pub mod FaultNotes
+pub mod NoFaults
 pub mod Bits
 pub mod LaneSteps
 pub mod Wholes

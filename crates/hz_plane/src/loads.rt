@@ -10,13 +10,13 @@ use std::alloc::Global;
 use std::marker::Model;
 
 // The lanes that were loaded; for each input the lanes whose new input has a 1 there; for each node what the lanes list; and
-// whether a lane may list a gate.
+// whether it is known that no lane lists a gate.
 #[derive(Debug, Drop)]
 pub(crate) struct Loads {
     loaded: [u64; 8],
     inputs: Vec<[u64; 8]>,
     listings: Vec<Listing>,
-    lists_gates: bool,
+    no_gates: bool,
 }
 
 impl Model for Loads {
@@ -45,7 +45,7 @@ impl Loads {
             loaded: [0; 8],
             inputs: planes,
             listings: no_listings(alloc, nodes)?,
-            lists_gates: false,
+            no_gates: true,
         })
     }
 
@@ -55,7 +55,7 @@ impl Loads {
     {
         self.loaded = [0; 8];
         unlist_all(self.listings.as_mut_slice());
-        self.lists_gates = false;
+        self.no_gates = true;
     }
 
     // Whether it is known that no lane lists a gate.
@@ -65,7 +65,7 @@ impl Loads {
             → (gate : ℕ) → self.now.inputs ≤ gate → gate < self.now.nodes
             → slice_get loaded.listed gate ≡ Some None }
     {
-        !self.lists_gates
+        self.no_gates
     }
 
     // For each input the lanes whose new input has a 1 there.
@@ -103,7 +103,7 @@ impl Loads {
         put_inputs(lane, input, self.inputs.as_mut_slice());
         put_listed(lane, listed, self.listings.as_mut_slice());
         put_lane(&mut self.loaded, lane, true);
-        self.lists_gates = true;
+        self.no_gates = false;
     }
 
     // Loads a lane with a new input, and the listed start that lists the first bits of the inputs, and the held gates.
@@ -135,8 +135,15 @@ impl Loads {
             self.listings.as_mut_slice(),
         );
         put_lane(&mut self.loaded, lane, true);
-        self.lists_gates = self.lists_gates || !held.is_empty();
+        self.no_gates = are_none_with(self.no_gates, held);
     }
+}
+
+// Whether no gate is listed still, if these are.
+fn are_none_with(no_gates: bool, held: &[(u32, bool)]) -> bool
+    ensures { result ≡ true → (no_gates ≡ true) × (length held.now ≡ 0) }
+{
+    no_gates && held.is_empty()
 }
 
 // Nodes that no lane lists.
