@@ -116,21 +116,24 @@ module _ (netlist : Netlist) (circuit : IsCircuit netlist) (whole : IsWhole netl
 
       -- the start that a lane lists, if it lists inputs alone
       pub forward-start : (listed : List (Option Bool)) → ListsAllInputs netlist listed → ListsNoGate netlist listed → ((node : ℕ) (bit : Bool) → node < netlist.inputs → slice_get listed node ≡ Some (Some bit) → HasValue (pair_at planes node) lane (tri_of bit)) → (last : List Tri) × HasLane planes lane last × AreForcedNodes netlist listed last
-      forward-start listed inputs unlisted has =
-          (values, has-values, record {
-            count = values-long;
-            forced = λ node bit few. by-order (λ n. (b : Bool) → value_at values n ≡ tri_of b → IsForced netlist listed n b)
-                (λ input below b is.
-                let given = inputs input below in
-                let same : tri_of given.0 ≡ tri_of b = one_value (pair_at planes input) lane _ _ (has input given.0 below given.1) (has-values.each input (omega (arith, below, circuit.nodes, long))) ∙ is in
-                forced-listed netlist listed input b (given.1 ∙ ap (λ (x : Bool). Some (Some x)) (same-bit given.0 b same)))
-                (λ gate is_gate each b is.
-                forced-extension netlist listed gate (map (value_at values) (gate_at netlist gate).sources) b is_gate (unlisted gate is_gate)
-                (pins-forced listed (gate_at netlist gate).sources (recursion_from_All (λ source. (x : Bool) → value_at values source ≡ tri_of x → IsForced netlist listed source x) (gate_at netlist gate).sources each))
-                (sym (excited-values gate is_gate) ∙ is))
-                node few bit;
-            opens = λ node few unknown. absurd (never-unknown (has_lane (pair_at planes node).one lane) (sym (at-known node few) ∙ unknown));
-          })
+      forward-start listed inputs unlisted has = (
+        values,
+        has-values,
+        record {
+          count = values-long;
+          forced = λ node bit few. by-order (λ n. (b : Bool) → value_at values n ≡ tri_of b → IsForced netlist listed n b)
+              (λ input below b is.
+              let given = inputs input below in
+              let same : tri_of given.0 ≡ tri_of b = one_value (pair_at planes input) lane _ _ (has input given.0 below given.1) (has-values.each input (omega (arith, below, circuit.nodes, long))) ∙ is in
+              forced-listed netlist listed input b (given.1 ∙ ap (λ (x : Bool). Some (Some x)) (same-bit given.0 b same)))
+              (λ gate is_gate each b is.
+              forced-extension netlist listed gate (map (value_at values) (gate_at netlist gate).sources) b is_gate (unlisted gate is_gate)
+              (pins-forced listed (gate_at netlist gate).sources (recursion_from_All (λ source. (x : Bool) → value_at values source ≡ tri_of x → IsForced netlist listed source x) (gate_at netlist gate).sources each))
+              (sym (excited-values gate is_gate) ∙ is))
+              node few bit;
+          opens = λ node few unknown. absurd (never-unknown (has_lane (pair_at planes node).one lane) (sym (at-known node few) ∙ unknown));
+        },
+      )
         where
           same-bit : (bit other : Bool) → tri_of bit ≡ tri_of other → bit ≡ other
           same-bit false false e = refl
@@ -180,11 +183,14 @@ module _ (netlist : Netlist) (circuit : IsCircuit netlist) (whole : IsWhole netl
       -- the result of Algorithm B
       pub forward-settled : (input : List Bool) (first : List Tri) (rest : ℕ) → length first ≡ length (network_of netlist) → ((node : ℕ) → node < netlist.inputs → HasValue (pair_at planes node) lane (tri_of (bit_at input node))) → AreRounds (algorithm_b (network_of netlist) input first) rest → (last : List Tri) × HasLane planes lane last × AreAllOf netlist (algorithm_b (network_of netlist) input first rest) last
       forward-settled input first rest first_long has rounded =
-          let state = algorithm_b (network_of netlist) input first rest in
-          (values, has-values, record {
-            count = values-long;
-            whole = all-is input has state (fixed-result (network_of netlist) input first rest rounded) (length-algorithm_b (network_of netlist) input first first_long rest);
-          })
+          let state = algorithm_b (network_of netlist) input first rest in (
+            values,
+            has-values,
+            record {
+              count = values-long;
+              whole = all-is input has state (fixed-result (network_of netlist) input first rest rounded) (length-algorithm_b (network_of netlist) input first first_long rest);
+            },
+          )
 
 -- two netlists with the same inputs and gates
 

@@ -192,12 +192,7 @@ fn tell_readers(
 }
 
 // Tells the gate of a wire, and files it if it waits for no other pin.
-fn tell_gates(
-    net: &Net,
-    wire: u32,
-    waits: &mut [u32],
-    ready: &mut [Vec<u32>],
-) -> Result<(), Memory>
+fn tell_gates(net: &Net, wire: u32, waits: &mut [u32], ready: &mut [Vec<u32>]) -> Result<(), Memory>
     requires wire { wire < length (network_of net.now) }
     requires waits { length waits.old ≡ length (network_of net.now) }
     requires ready { length ready.old ≡ 24 }

@@ -42,12 +42,7 @@ pub(crate) fn note_faults(
 }
 
 // The same, whatever the values are.
-fn note_all(
-    net: &Net,
-    listings: &[Listing],
-    values: &[Pair],
-    faults: &mut [Option<LaneFault>],
-)
+fn note_all(net: &Net, listings: &[Listing], values: &[Pair], faults: &mut [Option<LaneFault>])
     requires circuit { IsCircuit net.now }
     requires whole { IsWhole net.now }
     requires listings { length listings.now ≡ length net.now.names }
