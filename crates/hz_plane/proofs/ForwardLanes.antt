@@ -1,5 +1,5 @@
 -- What gates without feedback, each evaluated once, hold in a lane: the forced start, and the result of Algorithm B.
-use Rattle.std.proofs.Common.{◌≡◌, ℕ, zero, suc, ◌+◌, ◌-◌, ◌<◌, ◌≤◌, Bool, true, false, Option, Some, None, List, [], ◌∷◌, length, map, get_or, slice_get, refl, sym, ap, ◌∙◌, subst, arith, inl, inr}
+use Rattle.std.proofs.Common.{◌≡◌, ℕ, zero, suc, ◌+◌, ◌<◌, ◌≤◌, Bool, true, false, Option, Some, List, [], ◌∷◌, length, map, get_or, slice_get, refl, sym, ap, ◌∙◌, subst, arith, inl, inr}
 use Rattle.std.specs.List.{AllByRecursion}
 use Rattle.std.proofs.lemmas.Bool.{cases_lt}
 use Rattle.std.proofs.lemmas.List.{length-map, get_or-map, get_or_default}
@@ -26,7 +26,7 @@ use Rattle.hz_plane.specs.Pairs.{no_pair, pair_at}
 use Rattle.hz_plane.specs.Steps.{AreAllPlanes, HasLane, gate_excitation, gate_pair, all_values}
 use Rattle.hz_plane.specs.Sweeps.{IsOrder, IsBack}
 use Rattle.hz_plane.specs.Lanes.{ListsAllInputs, ListsNoGate, AreForcedNodes, AreAllOf}
-use Rattle.hz_plane.specs.Forward.{IsKnownPair, IsForward, AreEvaluated}
+use Rattle.hz_plane.specs.Forward.{IsForward, AreEvaluated}
 use Rattle.hz_plane.proofs.Bits.{one_value}
 use Rattle.hz_plane.proofs.LaneSets.{lane_bit-lt}
 use Rattle.hz_plane.proofs.LaneSteps.{value-of_gate}

@@ -1,13 +1,12 @@
 -- Where each node is known in each lane, and each gate is its own excitation, no lane has a fault.
 use Rattle.std.proofs.Common.{◌≡◌, ℕ, ◌-◌, ◌<◌, min, max, None, List, length, sym, ap, ◌∙◌, subst, arith}
-use Rattle.hz_core.specs.Netlist.{Netlist, IsGateNumber}
+use Rattle.hz_core.specs.Netlist.{Netlist}
 use Rattle.hz_plane.specs.declared.listing.Listing.{Listing}
 use Rattle.hz_plane.specs.declared.pair.Pair.{Pair}
 use Rattle.hz_plane.specs.Bits.{IsPlane, lane_bit}
-use Rattle.hz_plane.specs.Pairs.{pair_at, and_words, or_words, not_words, known_pair}
-use Rattle.hz_plane.specs.Steps.{gate_pair}
+use Rattle.hz_plane.specs.Pairs.{pair_at, and_words, not_words, known_pair}
 use Rattle.hz_plane.specs.Forward.{IsKnownPair, AreEvaluated}
-use Rattle.hz_plane.specs.Faults.{conflict_words, IsUnknownIn, IsConflictIn, IsNoted}
+use Rattle.hz_plane.specs.Faults.{conflict_words, IsUnknownIn, IsNoted}
 use Rattle.hz_plane.proofs.Bits.{plane-and, plane-or, plane-not, lane-and, lane-or, lane-not}
 use Rattle.hz_plane.proofs.LaneSets.{lane_bit-lt}
 

@@ -1,4 +1,4 @@
-use Rattle.std.proofs.Common.{◌≡◌, ◌<◌, ◌∙◌, Bool, Some, None, List, [], length, get_or, sym, ap, subst, arith}
+use Rattle.std.proofs.Common.{◌≡◌, ◌<◌, ◌∙◌, Some, None, [], length, get_or, sym, ap, subst, arith}
 use Rattle.std.proofs.lemmas.List.{get_or-map}
 use Rattle.std.proofs.lemmas.Option.{get_or_from_slice_get}
 use Rattle.hz_core.specs.Netlist.{Netlist, Gate}

@@ -1,4 +1,4 @@
-use Rattle.std.proofs.Common.{◌≡◌, ◌<◌, ◌∙◌, Bool, Option, Some, None, List, length, slice_get, sym, ap, arith}
+use Rattle.std.proofs.Common.{◌<◌, ◌∙◌, Bool, Option, Some, None, length, slice_get, sym, ap, arith}
 use Rattle.std.proofs.lemmas.List.{length-map}
 use Rattle.std.proofs.lemmas.Option.{slice_get-get_or, slice_get_within}
 use Rattle.hz_plane.specs.declared.listing.Listing.{Listing}

@@ -1,4 +1,4 @@
-use Rattle.std.proofs.Common.{◌≡◌, ◌<◌, ◌+◌, ◌-◌, ◌∙◌, ℕ, List, Bool, length, slice_get, sym, ap, subst, arith, rules, inl, inr}
+use Rattle.std.proofs.Common.{◌≡◌, ◌<◌, ◌+◌, ◌-◌, ◌∙◌, ℕ, length, slice_get, sym, ap, subst, arith, rules, inl, inr}
 use Rattle.hz_core.specs.Netlist.{Gate}
 use Rattle.hz_plane.specs.declared.pair.Pair.{Pair}
 use Rattle.hz_plane.specs.declared.stage.Stage.{Stage}
@@ -8,10 +8,10 @@ use Rattle.std.proofs.Common.{sum_by}
 use Rattle.std.proofs.lemmas.Bool.{cases_lt}
 use Rattle.hz_net.specs.Network.{network_of}
 use Rattle.hz_net.proofs.Places.{length-network_of}
-use Rattle.hz_plane.specs.Bits.{HasValue, has_lane}
+use Rattle.hz_plane.specs.Bits.{HasValue}
 use Rattle.hz_plane.specs.Pairs.{pair_at, no_pair}
 use Rattle.hz_plane.specs.Gates.{pin_sources}
-use Rattle.hz_plane.specs.View.{IsFilledValue, value_by, value_in}
+use Rattle.hz_plane.specs.View.{IsFilledValue, value_in}
 use Rattle.hz_plane.proofs.GateCopies.{get_or_same}
 use Rattle.hz_plane.proofs.Held.{IsNodeOf, source-is, filled-value, lane-value, read-lane}
 use Rattle.hz_plane.proofs.planes.Planes.node_values.Goals as goal
