@@ -33,7 +33,7 @@ use Rattle.hz_plane.proofs.PassLanes.{start-wires}
 use Rattle.hz_plane.proofs.FaultResults.{value-unknown, unknown-value}
 
 -- a lane's input is what its sets have
-set-bit : (n : ℕ) → n < 2 → n ≡ bit_number (nat_eq n 1)
+pub set-bit : (n : ℕ) → n < 2 → n ≡ bit_number (nat_eq n 1)
 set-bit zero h = refl
 set-bit (suc zero) h = refl
 set-bit (suc (suc n)) h = absurd (omega (arith, h))

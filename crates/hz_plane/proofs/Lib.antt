@@ -8,6 +8,8 @@ pub mod LaneSets
 pub mod LoadLemmas
 -- Faults as they are noted, lane by lane
 pub mod FaultNotes
+-- Where each node is known in each lane, and each gate is its own excitation, no lane has a fault
+pub mod NoFaults
 -- The lanes of planes: the bits of one lane, and the ternary values that they make
 pub mod Bits
 -- A step over planes is the same step in each lane
@@ -28,6 +30,12 @@ pub mod Once
 pub mod Marks
 -- What the passes over planes make of a lane
 pub mod PassLanes
+-- Pairs with a known bit in each lane: one plane says it all, and a connective of such pairs is one of these planes
+pub mod Known
+-- Gates in an order without feedback: what one evaluation of each makes
+pub mod Forwards
+-- The bits that lanes list for a node, as a pair that is known
+pub mod ListedBits
 -- What forced nodes say of a start: the least open node, the completed start, and which gates are stable in it
 pub mod FaultLemmas
 -- What the faults that were noted say of the listed values of a lane
@@ -42,6 +50,8 @@ pub mod ReaderLemmas
 pub mod GateCopies
 -- What planes hold in a lane, from stage to stage, and what is read of it
 pub mod Held
+-- What gates without feedback, each evaluated once, hold in a lane: the forced start, and the result of Algorithm B
+pub mod ForwardLanes
 -- The fields of planes when lanes are loaded, and other circuits with the same inputs and gates
 pub mod Fields
 -- What listed inputs force, with nothing else listed, is what Algorithm B makes of a state that is X everywhere

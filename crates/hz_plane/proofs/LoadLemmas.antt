@@ -3,13 +3,13 @@ use Rattle.std.proofs.Common.{◌≡◌, ◌≢◌, ℕ, zero, suc, set, ◌+◌
 use Rattle.std.specs.Prelude.{if◌then◌else◌}
 use Rattle.std.specs.List.{fold, range_with_len}
 use Rattle.std.proofs.lemmas.Bool.{cases_eq}
-use Rattle.std.proofs.lemmas.List.{length-map, map-set, get_or-map, get_or-set_same, get_or-set_other, set-get_or, length-set, length-replicate, get_or-replicate, ext_get_or, take_more, take_all, drop_all, append-nil}
+use Rattle.std.proofs.lemmas.List.{length-map, map-set, get_or-map, get_or-set_same, get_or-set_other, set-get_or, length-set, length-replicate, get_or-replicate, get_or-append_right, ext_get_or, take_more, take_all, drop_all, append-nil}
 use Rattle.std.proofs.lemmas.List.Sums.{fold-append}
 use Rattle.std.proofs.lemmas.Option.{slice_get_within, get_or_from_slice_get}
 use Rattle.std.proofs.lemmas.List.FromFn.{length-range_with_len, get_or-range_with_len}
 use Rattle.hz_plane.specs.declared.listing.Listing.{Listing}
 use Rattle.hz_plane.specs.Bits.{has_lane}
-use Rattle.hz_plane.specs.Loads.{Loaded, LaneLoads, lane_input, lane_listed, lane_load, lane_loads, held_at}
+use Rattle.hz_plane.specs.Loads.{Loaded, LaneLoads, lane_input, lane_listed, lane_load, lane_loads, held_at, listed_with}
 use Rattle.hz_plane.proofs.LaneSets.{empty-set}
 
 -- the next item of a list that is written over the beginning of another
@@ -97,6 +97,23 @@ module _
         | inl same ↦ (let wrong : true ≡ false = sym is_loaded ∙ (ap (has_lane loaded') (sym same) ∙ out) in cc)
         | inr differ ↦ others_listed other below differ ∙ was other below (sym (others_loaded other below differ) ∙ out)
       ]
+
+  -- where neither the lane nor any other lists a node, no lane does
+  pub unlisted-next : (node : ℕ) → get_or listed node None ≡ None → ((other : ℕ) → other < 512 → get_or (lane_listed listings other) node None ≡ None) → (other : ℕ) → other < 512 → get_or (lane_listed listings' other) node None ≡ None
+  unlisted-next node none was other below =
+      elim (cases_eq other lane) [
+        | inl same ↦ ap (λ (n : ℕ). get_or (lane_listed listings' n) node None) same ∙ (ap (λ (list : List (Option Bool)). get_or list node None) is_listed ∙ none)
+        | inr differ ↦ ap (λ (list : List (Option Bool)). get_or list node None) (others_listed other below differ) ∙ was other below
+      ]
+
+-- a listed start without held gates lists nothing past the inputs
+pub held-none : (nodes : ℕ) (first : List Bool) (held : List (ℕ × Bool)) (node : ℕ) → held ≡ [] → length first ≤ node → node < nodes → get_or (listed_with nodes first held) node None ≡ None
+held-none nodes first held node empty past inside =
+    let nothing : Option Bool = None in
+    let bits : List (Option Bool) = map (λ (b : Bool). Some b) first in
+    ap (λ (list : List (ℕ × Bool)). get_or (listed_with nodes first list) node None) empty
+    ∙ (get_or-append_right bits (replicate (nodes - length first) nothing) (length first) node nothing (length-map first (λ (b : Bool). Some b)) past
+    ∙ get_or-replicate (nodes - length first) (node - length first) nothing nothing (omega (arith, past, inside)))
 
 -- a slice of a whole vector, written back
 pub written-back : {X : Type 0} (count : ℕ) (new items : List X) → length new ≡ count → length items ≤ count → take count (new ++ drop (length new) items) ≡ new

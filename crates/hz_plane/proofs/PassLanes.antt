@@ -98,10 +98,10 @@ past-with_inputs put (bit ∷ bits) [] i past = refl
 past-with_inputs put (bit ∷ bits) (value ∷ values) zero past = absurd (omega (arith, past))
 past-with_inputs put (bit ∷ bits) (value ∷ values) (suc i) past = past-with_inputs put bits values i (omega (arith, past))
 
-known-planes : (words : List ℕ) → IsPlane words → ArePlanes (known_pair words)
+pub known-planes : (words : List ℕ) → IsPlane words → ArePlanes (known_pair words)
 known-planes words is = record { zero_is = plane-not words is; one_is = is }
 
-known-value : (words : List ℕ) (lane : ℕ) (bit : Bool) → lane < 512 → IsPlane words → lane_bit words lane ≡ bit_number bit → HasValue (known_pair words) lane (tri_of bit)
+pub known-value : (words : List ℕ) (lane : ℕ) (bit : Bool) → lane < 512 → IsPlane words → lane_bit words lane ≡ bit_number bit → HasValue (known_pair words) lane (tri_of bit)
 known-value words lane false inside is e = record { can_be_zero = lane-not lane inside words is ∙ ap (λ (n : ℕ). 1 - n) e; can_be_one = e }
 known-value words lane true inside is e = record { can_be_zero = lane-not lane inside words is ∙ ap (λ (n : ℕ). 1 - n) e; can_be_one = e }
 

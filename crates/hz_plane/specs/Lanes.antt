@@ -62,6 +62,10 @@ pub record AreNodesOf (netlist : Netlist) (state values : List Tri) : Type 0 whe
 abbrev pub ListsAllInputs : Netlist → List (Option Bool) → Type 0
 ListsAllInputs netlist listed = (input : ℕ) → input < netlist.inputs → (bit : Bool) × (slice_get listed input ≡ Some (Some bit))
 
+-- no gate has a listed value
+abbrev pub ListsNoGate : Netlist → List (Option Bool) → Type 0
+ListsNoGate netlist listed = (gate : ℕ) → IsGateNumber netlist gate → slice_get listed gate ≡ Some None
+
 -- a node has the bit to which it is forced, and is X where it is open
 pub record AreForcedNodes (netlist : Netlist) (listed : List (Option Bool)) (values : List Tri) : Type 0 where
   pub count : length values ≡ length netlist.names

@@ -7,6 +7,7 @@ pub mod Loads
 pub mod LoadsInside
 pub mod Faults
 pub mod Sweeps
+pub mod Forward
 pub mod Schedules
 pub mod View
 pub mod Orders

@@ -13,6 +13,8 @@ use Rattle.hz_plane.specs.declared.stage.Stage.{Stage}
 use Rattle.hz_plane.specs.declared.stage.Stage.TheVariants.{Loading, Completed, Spread, Settled}
 use Rattle.hz_plane.specs.declared.stage.LaneFault.{LaneFault}
 use Rattle.hz_plane.specs.declared.stage.LaneFault.TheVariants.{Open, Unstable}
+use Rattle.hz_plane.specs.declared.values.LaneValues.{LaneValues}
+use Rattle.hz_plane.specs.Bits.{has_lane}
 use Rattle.hz_plane.specs.Loads.{Loaded, listed_with}
 use Rattle.hz_plane.specs.Steps.{HasLane}
 use Rattle.hz_plane.specs.Lanes.{AreForcedNodes, AreAllOf, IsFilledStart}
@@ -40,6 +42,10 @@ value_by false false = Unknown
 value_by false true = One
 value_by true false = Zero
 value_by true true = Unknown
+
+-- the value in a lane, by the lanes in which it can be 0, and those in which it can be 1
+abbrev pub value_in : LaneValues → ℕ → Tri
+value_in values lane = value_by (has_lane values.zero lane) (has_lane values.one lane)
 
 -- what `fault` says of the listed values
 abbrev pub IsLaneFault : Netlist → List (Option Bool) → Option LaneFault → Type 0

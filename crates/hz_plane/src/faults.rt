@@ -1,7 +1,8 @@
 //! Why lanes have no stable start: the faults of all lanes in two passes over the nodes.
-ghost use Rattle.std.specs.Prelude.{◌≡◌, ℕ, ◌<◌, ◌≤◌, ◌^◌, None, false, length};
+ghost use Rattle.std.specs.Prelude.{◌≡◌, ℕ, ◌<◌, ◌≤◌, ◌^◌, None, false, true, length};
 ghost use Rattle.hz_core.specs.Netlist.{IsCircuit, IsWhole, IsGateNumber};
 ghost use Rattle.hz_plane.specs.Bits.{has_lane};
+ghost use Rattle.hz_plane.specs.Forward.{AreEvaluated};
 ghost use Rattle.hz_plane.specs.Pairs.{pair_at};
 ghost use Rattle.hz_plane.specs.Steps.{AreAllPlanes, gate_pair};
 ghost use Rattle.hz_plane.specs.Faults.{fault_at, with_fault, conflict_words, IsOpenFault, IsUnstableFault, IsNoted, AreUnknownLanes};
@@ -14,13 +15,34 @@ use crate::stage::LaneFault;
 use hz_net::Net;
 use std::simd::prelude::*;
 
-// Notes why a lane has no stable start, for each lane: the least open node, and if there is none the least unstable gate.
+// Notes why a lane has no stable start, for each lane: the least open node, and if there is none the least unstable gate. Where
+// each gate is its own excitation, as the caller may say, no lane has a fault.
 pub(crate) fn note_faults(
     net: &Net,
     listings: &[Listing],
     values: &[Pair],
+    are_evaluated: bool,
     faults: &mut [Option<LaneFault>],
 )
+    requires circuit { IsCircuit net.now }
+    requires whole { IsWhole net.now }
+    requires listings { length listings.now ≡ length net.now.names }
+    requires values { length values.now ≡ length net.now.names }
+    requires planes { AreAllPlanes values.now }
+    requires evaluated { are_evaluated ≡ true → AreEvaluated net.now values.now }
+    requires faults { length faults.old ≡ 512 }
+    ensures { (lane : ℕ) → lane < 512
+        → IsNoted net.now listings.now values.now lane (fault_at faults.new lane) }
+{
+    if are_evaluated {
+        forget(faults);
+    } else {
+        note_all(net, listings, values, faults);
+    }
+}
+
+// The same, whatever the values are.
+fn note_all(net: &Net, listings: &[Listing], values: &[Pair], faults: &mut [Option<LaneFault>])
     requires circuit { IsCircuit net.now }
     requires whole { IsWhole net.now }
     requires listings { length listings.now ≡ length net.now.names }
@@ -44,8 +66,21 @@ fn forget(faults: &mut [Option<LaneFault>])
     }
 }
 
+// The lanes in which some node is X. There are none where each gate is its own excitation, as the caller may say.
+pub(crate) fn unsettled_lanes(net: &Net, values: &[Pair], are_evaluated: bool) -> [u64; 8]
+    requires values { length values.now ≡ length net.now.names }
+    requires planes { AreAllPlanes values.now }
+    requires evaluated { are_evaluated ≡ true → AreEvaluated net.now values.now }
+    ensures { AreUnknownLanes values.now (length values.now) result }
+{
+    if are_evaluated {
+        return [0; 8];
+    }
+    unknown_lanes(values)
+}
+
 // The lanes in which some node is X.
-pub(crate) fn unknown_lanes(values: &[Pair]) -> [u64; 8]
+fn unknown_lanes(values: &[Pair]) -> [u64; 8]
     requires { AreAllPlanes values.now }
     ensures { AreUnknownLanes values.now (length values.now) result }
 {

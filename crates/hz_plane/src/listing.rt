@@ -1,6 +1,8 @@
 //! What the lanes list for a node.
-ghost use Rattle.std.specs.Prelude.{◌≡◌, ◌≢◌, ℕ, ◌<◌, None, Some, IsTrue};
+ghost use Rattle.std.specs.Prelude.{◌≡◌, ◌≢◌, ℕ, ◌<◌, Bool, None, Some, IsTrue};
+ghost use Rattle.hz_core.specs.Ternary.{tri_of};
 ghost use Rattle.hz_plane.specs.Bits.{ArePlanes, HasValue};
+ghost use Rattle.hz_plane.specs.Forward.{IsKnownPair};
 ghost use Rattle.hz_plane.specs.Lanes.{listed_value};
 ghost use Rattle.hz_plane.specs.Loads.{listed_in};
 
@@ -55,6 +57,21 @@ impl Listing {
         };
         pair.are_planes();
         pair
+    }
+
+    // The listed bit in each lane, and 0 in the lanes that list none.
+    #[inline(always)]
+    pub(crate) fn bits(&self) -> Pair
+        ensures known { IsKnownPair result }
+        ensures lanes { (lane : ℕ) (bit : Bool) → lane < 512 → listed_in self.now lane ≡ Some bit
+            → HasValue result lane (tri_of bit) }
+    {
+        let zeros = u64x8::from_array(self.zeros);
+        let ones = u64x8::from_array(self.ones);
+        is_plane(zeros);
+        is_plane(ones);
+        let one = !zeros & ones;
+        Pair { zero: !one, one }
     }
 
     // Whether no lane lists the node.

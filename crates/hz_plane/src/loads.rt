@@ -1,5 +1,5 @@
 //! What each lane was loaded with.
-ghost use Rattle.std.specs.Prelude.{◌≡◌, ◌≢◌, ◌<◌, ◌≤◌, ◌++◌, ℕ, All, Bool, List, None, Some, IfOk, IsTrue, drop, false, length, map, replicate, slice_get, slice_set};
+ghost use Rattle.std.specs.Prelude.{◌≡◌, ◌≢◌, ◌<◌, ◌≤◌, ◌++◌, ℕ, All, Bool, List, None, Some, IfOk, IsTrue, drop, false, true, length, map, replicate, slice_get, slice_set};
 ghost use Rattle.hz_plane.specs.Bits.{has_lane};
 ghost use Rattle.hz_plane.specs.Loads.{Loaded, lane_input, lane_listed, held_at, listed_with};
 
@@ -9,12 +9,14 @@ use hz_core::Memory;
 use std::alloc::Global;
 use std::marker::Model;
 
-// The lanes that were loaded; for each input the lanes whose new input has a 1 there; for each node what the lanes list.
+// The lanes that were loaded; for each input the lanes whose new input has a 1 there; for each node what the lanes list; and
+// whether it is known that no lane lists a gate.
 #[derive(Debug, Drop)]
 pub(crate) struct Loads {
     loaded: [u64; 8],
     inputs: Vec<[u64; 8]>,
     listings: Vec<Listing>,
+    no_gates: bool,
 }
 
 impl Model for Loads {
@@ -43,6 +45,7 @@ impl Loads {
             loaded: [0; 8],
             inputs: planes,
             listings: no_listings(alloc, nodes)?,
+            no_gates: true,
         })
     }
 
@@ -52,6 +55,17 @@ impl Loads {
     {
         self.loaded = [0; 8];
         unlist_all(self.listings.as_mut_slice());
+        self.no_gates = true;
+    }
+
+    // Whether it is known that no lane lists a gate.
+    pub(crate) fn lists_no_gate(&self) -> bool
+        ensures { result ≡ true → (lane : ℕ) (loaded : Loaded)
+            → slice_get self.now.lanes lane ≡ Some (Some loaded)
+            → (gate : ℕ) → self.now.inputs ≤ gate → gate < self.now.nodes
+            → slice_get loaded.listed gate ≡ Some None }
+    {
+        self.no_gates
     }
 
     // For each input the lanes whose new input has a 1 there.
@@ -89,6 +103,7 @@ impl Loads {
         put_inputs(lane, input, self.inputs.as_mut_slice());
         put_listed(lane, listed, self.listings.as_mut_slice());
         put_lane(&mut self.loaded, lane, true);
+        self.no_gates = false;
     }
 
     // Loads a lane with a new input, and the listed start that lists the first bits of the inputs, and the held gates.
@@ -102,6 +117,7 @@ impl Loads {
         requires lane { lane < 512 }
         requires input { length input.now ≡ self.old.inputs }
         requires first { length first.now ≤ self.old.nodes }
+        requires inputs { length first.now ≤ self.old.inputs }
         requires held { All (λ node. node.0 < self.old.nodes) held.now }
         ensures { self.new ≡ record self.old {
           lanes = slice_set self.old.lanes lane (Some (record {
@@ -119,7 +135,15 @@ impl Loads {
             self.listings.as_mut_slice(),
         );
         put_lane(&mut self.loaded, lane, true);
+        self.no_gates = are_none_with(self.no_gates, held);
     }
+}
+
+// Whether no gate is listed still, if these are.
+fn are_none_with(no_gates: bool, held: &[(u32, bool)]) -> bool
+    ensures { result ≡ true → (no_gates ≡ true) × (length held.now ≡ 0) }
+{
+    no_gates && held.is_empty()
 }
 
 // Nodes that no lane lists.

@@ -3,12 +3,32 @@ ghost use Rattle.std.specs.Prelude.{◌≡◌, ◌+◌, ◌*◌, ◌⊎◌, ◌<
 ghost use Rattle.hz_core.specs.Netlist.{IsGateNumber, variable_count};
 ghost use Rattle.hz_plane.specs.Orders.{IsOrderSoFar, AreGatesOf, HasAllGates};
 
+use crate::classes::place_by_class;
 use hz_core::Memory;
 use hz_net::Net;
 use std::alloc::Global;
 
-// All gates in an order, each after the gates that it reads, but where these would lead back to it.
+// All gates in an order. Without feedback each stands after the gates that it reads, and gates of one class together.
 pub(crate) fn order_gates(alloc: Global, net: &Net) -> Result<Vec<u32>, Memory>
+    ensures gates { IfOk result (λ order. HasAllGates net.now order.items) }
+    ensures few { IfOk result (λ order. length order.items < 2 ^ 32) }
+{
+    let circuit = net.circuit();
+    let _variables = net.len();
+    let Ok(mut placed) = vec![in alloc; false; circuit.nodes() as usize] else {
+        return Err(Memory);
+    };
+    let mut order = Vec::new(alloc);
+    place_by_class(alloc, net, placed.as_mut_slice(), &mut order)?;
+    if order.len() < (circuit.nodes() - circuit.inputs()) as usize {
+        return order_by_search(alloc, net);
+    }
+    place_rest(net, placed.as_mut_slice(), &mut order)?;
+    Ok(order)
+}
+
+// All gates in an order, each after the gates that it reads, but where these would lead back to it.
+fn order_by_search(alloc: Global, net: &Net) -> Result<Vec<u32>, Memory>
     ensures gates { IfOk result (λ order. HasAllGates net.now order.items) }
     ensures few { IfOk result (λ order. length order.items < 2 ^ 32) }
 {
@@ -34,7 +54,7 @@ pub(crate) fn order_gates(alloc: Global, net: &Net) -> Result<Vec<u32>, Memory>
 }
 
 // Puts a gate at the end of the order.
-fn place(gate: u32, placed: &mut [bool], order: &mut Vec<u32>) -> Result<(), Memory>
+pub(crate) fn place(gate: u32, placed: &mut [bool], order: &mut Vec<u32>) -> Result<(), Memory>
     requires { gate < length placed.old }
     ensures placed { placed.new ≡ slice_set placed.old gate true }
     ensures order { OnOk result (order.new.items ≡ order.old.items ++ gate ∷ []) }

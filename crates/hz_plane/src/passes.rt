@@ -1,8 +1,8 @@
 //! The three passes over planes, lane by lane in their clauses.
-ghost use Rattle.std.specs.Prelude.{◌≡◌, ℕ, ◌<◌, ◌≤◌, Bool, List, [], length};
+ghost use Rattle.std.specs.Prelude.{◌≡◌, ℕ, ◌<◌, ◌≤◌, Bool, true, Some, List, [], length};
 ghost use Rattle.std.specs.List.{slice_index_or};
 ghost use Rattle.hz_core.specs.declared.tri.Tri.{Tri};
-ghost use Rattle.hz_core.specs.Ternary.{AllBelow};
+ghost use Rattle.hz_core.specs.Ternary.{tri_of, AllBelow};
 ghost use Rattle.hz_core.specs.Netlist.{Netlist, IsCircuit, IsWhole};
 ghost use Rattle.hz_net.specs.Network.{network_of};
 ghost use Rattle.hz_net.specs.Passes.{excitations, algorithm_b, AreRounds};
@@ -10,9 +10,12 @@ ghost use Rattle.hz_net.specs.TernaryStarts.{algorithm_a_from};
 ghost use Rattle.hz_plane.specs.Pairs.{pair_at, widened_pair, known_pair};
 ghost use Rattle.hz_plane.specs.Steps.{AreAllPlanes, HasLane};
 ghost use Rattle.hz_plane.specs.Schedules.{IsSchedule};
-ghost use Rattle.hz_plane.specs.Lanes.{ListsAllInputs, AreForcedNodes, HasInputs, AreInputPlanes, AreAllOf, listed_values};
-ghost use Rattle.hz_plane.specs.Loads.{lane_listed};
+ghost use Rattle.hz_plane.specs.Bits.{HasValue};
+ghost use Rattle.hz_plane.specs.Forward.{IsKnownPair, AreEvaluated};
+ghost use Rattle.hz_plane.specs.Lanes.{ListsAllInputs, ListsNoGate, AreForcedNodes, HasInputs, AreInputPlanes, AreAllOf, listed_values};
+ghost use Rattle.hz_plane.specs.Loads.{lane_listed, listed_in};
 
+use crate::forward::evaluate_all;
 use crate::listing::Listing;
 use crate::pair::{Pair, is_plane};
 use crate::rule::Rule;
@@ -21,8 +24,76 @@ use crate::sweep::Pass;
 use hz_net::Net;
 use std::simd::prelude::*;
 
-// Fills the starts of all lanes from what they list.
+// Fills the starts of all lanes from what they list. If each lane lists inputs alone, which the caller then says, and no gate
+// reads itself in a circle, each gate is evaluated once. It answers whether this was so.
 pub(crate) fn fill(
+    net: &Net,
+    schedule: &Schedule,
+    marks: &mut [bool],
+    listings: &[Listing],
+    no_gates: bool,
+    values: &mut [Pair],
+) -> bool
+    requires schedule { IsSchedule net.now schedule.now }
+    requires circuit { IsCircuit net.now }
+    requires whole { IsWhole net.now }
+    requires listings { length listings.now ≡ length net.now.names }
+    requires values { length values.old ≡ length net.now.names }
+    requires marks { length marks.old ≡ length schedule.now.order.items }
+    ensures planes { AreAllPlanes values.new }
+    ensures evaluated { result ≡ true → AreEvaluated net.now values.new }
+    ensures lanes { (netlist : Netlist) → IsCircuit netlist → IsWhole netlist
+        → net.now.inputs ≡ netlist.inputs → net.now.gates ≡ netlist.gates
+        → (lane : ℕ) → lane < 512 → ListsAllInputs netlist (lane_listed listings.now lane)
+        → (no_gates ≡ true → ListsNoGate netlist (lane_listed listings.now lane))
+        → (last : List Tri) × HasLane values.new lane last
+        × AreForcedNodes netlist (lane_listed listings.now lane) last }
+{
+    if schedule.is_forward && no_gates {
+        fill_forward(net, schedule, listings, values);
+        return true;
+    }
+    fill_by_steps(net, schedule, marks, listings, values);
+    false
+}
+
+// The same where no gate reads itself in a circle, of the lanes that list inputs alone.
+fn fill_forward(net: &Net, schedule: &Schedule, listings: &[Listing], values: &mut [Pair])
+    requires schedule { IsSchedule net.now schedule.now }
+    requires forward { schedule.now.is_forward ≡ true }
+    requires circuit { IsCircuit net.now }
+    requires whole { IsWhole net.now }
+    requires listings { length listings.now ≡ length net.now.names }
+    requires values { length values.old ≡ length net.now.names }
+    ensures planes { AreAllPlanes values.new }
+    ensures evaluated { AreEvaluated net.now values.new }
+    ensures lanes { (netlist : Netlist) → IsCircuit netlist → IsWhole netlist
+        → net.now.inputs ≡ netlist.inputs → net.now.gates ≡ netlist.gates
+        → (lane : ℕ) → lane < 512 → ListsAllInputs netlist (lane_listed listings.now lane)
+        → ListsNoGate netlist (lane_listed listings.now lane)
+        → (last : List Tri) × HasLane values.new lane last
+        × AreForcedNodes netlist (lane_listed listings.now lane) last }
+{
+    list_bits(net.circuit().inputs() as usize, listings, values);
+    evaluate_all(net, schedule, values);
+}
+
+// Gives the first nodes, of this count, the listed bits, and 0 where none is listed.
+fn list_bits(count: usize, listings: &[Listing], values: &mut [Pair])
+    requires listings { count ≤ length listings.now }
+    requires values { count ≤ length values.old }
+    ensures known { (node : ℕ) → node < count → IsKnownPair (pair_at values.new node) }
+    ensures lanes { (node lane : ℕ) (bit : Bool) → node < count → lane < 512
+        → listed_in (slice_index_or listings.now node (record { zeros = []; ones = [] })) lane ≡ Some bit
+        → HasValue (pair_at values.new node) lane (tri_of bit) }
+{
+    for node in 0..count {
+        values[node] = listings[node].bits();
+    }
+}
+
+// Fills the starts of all lanes by steps at gates.
+fn fill_by_steps(
     net: &Net,
     schedule: &Schedule,
     marks: &mut [bool],
@@ -137,8 +208,69 @@ pub(crate) fn spread(
     pass.run(marks, values);
 }
 
-// Algorithm B in all lanes, from their values, where their excitations lie below them.
+// Algorithm B in all lanes, from their values, where their excitations lie below them. It answers whether no gate reads itself in
+// a circle, so that each was evaluated once.
 pub(crate) fn settle(
+    net: &Net,
+    schedule: &Schedule,
+    marks: &mut [bool],
+    inputs: &[[u64; 8]],
+    values: &mut [Pair],
+) -> bool
+    requires schedule { IsSchedule net.now schedule.now }
+    requires circuit { IsCircuit net.now }
+    requires whole { IsWhole net.now }
+    requires inputs { length inputs.now ≡ net.now.inputs }
+    requires values { length values.old ≡ length net.now.names }
+    requires planes { AreAllPlanes values.old }
+    requires marks { length marks.old ≡ length schedule.now.order.items }
+    ensures planes { AreAllPlanes values.new }
+    ensures evaluated { result ≡ true → AreEvaluated net.now values.new }
+    ensures lanes { (netlist : Netlist) → IsCircuit netlist → IsWhole netlist
+        → net.now.inputs ≡ netlist.inputs → net.now.gates ≡ netlist.gates
+        → (lane : ℕ) (input : List Bool) (first nodes : List Tri) (rest : ℕ)
+        → lane < 512 → HasLane values.old lane nodes → AreAllOf netlist first nodes
+        → HasInputs inputs.now lane input
+        → AllBelow (excitations (network_of netlist) input first) first
+        → AreRounds (algorithm_b (network_of netlist) input first) rest
+        → (last : List Tri) × HasLane values.new lane last
+        × AreAllOf netlist (algorithm_b (network_of netlist) input first rest) last }
+{
+    if schedule.is_forward {
+        settle_forward(net, schedule, inputs, values);
+        return true;
+    }
+    settle_by_steps(net, schedule, marks, inputs, values);
+    false
+}
+
+// The same where no gate reads itself in a circle.
+fn settle_forward(net: &Net, schedule: &Schedule, inputs: &[[u64; 8]], values: &mut [Pair])
+    requires schedule { IsSchedule net.now schedule.now }
+    requires forward { schedule.now.is_forward ≡ true }
+    requires circuit { IsCircuit net.now }
+    requires whole { IsWhole net.now }
+    requires inputs { length inputs.now ≡ net.now.inputs }
+    requires values { length values.old ≡ length net.now.names }
+    ensures planes { AreAllPlanes values.new }
+    ensures evaluated { AreEvaluated net.now values.new }
+    ensures lanes { (netlist : Netlist) → IsCircuit netlist → IsWhole netlist
+        → net.now.inputs ≡ netlist.inputs → net.now.gates ≡ netlist.gates
+        → (lane : ℕ) (input : List Bool) (first nodes : List Tri) (rest : ℕ)
+        → lane < 512 → HasLane values.old lane nodes → AreAllOf netlist first nodes
+        → HasInputs inputs.now lane input
+        → AllBelow (excitations (network_of netlist) input first) first
+        → AreRounds (algorithm_b (network_of netlist) input first) rest
+        → (last : List Tri) × HasLane values.new lane last
+        × AreAllOf netlist (algorithm_b (network_of netlist) input first rest) last }
+{
+    let _variables = net.len();
+    set_inputs(inputs, values);
+    evaluate_all(net, schedule, values);
+}
+
+// The same by steps at gates.
+fn settle_by_steps(
     net: &Net,
     schedule: &Schedule,
     marks: &mut [bool],

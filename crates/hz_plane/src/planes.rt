@@ -13,10 +13,10 @@ ghost use Rattle.hz_plane.specs.Gates.{pin_sources};
 ghost use Rattle.hz_plane.specs.Lanes.{ListsAllInputs};
 ghost use Rattle.hz_plane.specs.Loads.{Loaded, listed_with};
 ghost use Rattle.hz_plane.specs.Steps.{AreAllPlanes};
-ghost use Rattle.hz_plane.specs.View.{Seen, AreOf, IsLaneValue, IsFilledValue, IsLaneFault, IsUnsettled, LeavesUnknown, value_by, variables_of};
+ghost use Rattle.hz_plane.specs.View.{Seen, AreOf, IsLaneValue, IsFilledValue, IsLaneFault, IsUnsettled, LeavesUnknown, value_by, value_in, variables_of};
 ghost use Rattle.hz_plane.specs.declared.stage.Stage.TheVariants.{Loading, Completed, Spread, Settled};
 
-use crate::faults::{note_faults, unknown_lanes};
+use crate::faults::{note_faults, unsettled_lanes};
 use crate::gates::Gates;
 use crate::lanes::has_lane;
 use crate::loads::Loads;
@@ -24,6 +24,7 @@ use crate::pair::Pair;
 use crate::passes::{fill, settle, spread};
 use crate::schedule::Schedule;
 use crate::stage::{LaneFault, Stage};
+use crate::values::LaneValues;
 use hz_core::{Memory, Tri};
 use hz_net::Net;
 use std::alloc::Global;
@@ -154,17 +155,20 @@ impl Planes {
         ensures { self.new ≡ record self.old { stage = Completed } }
     {
         let _circuit = net.circuit();
-        fill(
+        let no_gates = self.loads.lists_no_gate();
+        let are_evaluated = fill(
             net,
             &self.schedule,
             self.marks.as_mut_slice(),
             self.loads.listings(),
+            no_gates,
             self.values.as_mut_slice(),
         );
         note_faults(
             net,
             self.loads.listings(),
             self.values.as_slice(),
+            are_evaluated,
             self.faults.as_mut_slice(),
         );
         self.stage = Stage::Completed;
@@ -208,14 +212,14 @@ impl Planes {
             { stage = Settled; settles = min (self.old.settles + 1) (2 ^ 64 - 1) } }
     {
         let _circuit = net.circuit();
-        settle(
+        let are_evaluated = settle(
             net,
             &self.schedule,
             self.marks.as_mut_slice(),
             self.loads.inputs(),
             self.values.as_mut_slice(),
         );
-        self.unsettled = unknown_lanes(self.values.as_slice());
+        self.unsettled = unsettled_lanes(net, self.values.as_slice(), are_evaluated);
         self.stage = Stage::Settled;
         self.settles = self.settles.saturating_add(1);
     }
@@ -236,6 +240,24 @@ impl Planes {
         match self.stage {
             Stage::Loading => Tri::Unknown,
             _ => self.node_value(lane, var),
+        }
+    }
+
+    /// The values of a variable in all lanes at once: in each lane that is loaded what `get` says of it.
+    pub fn values(&self, var: u32) -> LaneValues
+        requires { var < variables_of self.now }
+        ensures lane { (netlist : Netlist) (loaded : Loaded) (lane : ℕ) → IsCircuit netlist → IsWhole netlist
+            → AreOf netlist self.now → lane < 512 → slice_get self.now.lanes lane ≡ Some (Some loaded)
+            → IsLaneValue self.now.stage netlist loaded var (value_in result lane) }
+        ensures filled { (netlist : Netlist) (loaded : Loaded) (lane : ℕ) → IsCircuit netlist → IsWhole netlist
+            → AreOf netlist self.now → lane < 512 → slice_get self.now.lanes lane ≡ Some (Some loaded)
+            → IsFilledValue self.now.stage netlist loaded var (value_in result lane) }
+        ensures loading { self.now.stage ≡ Loading
+            → (lane : ℕ) → lane < 512 → value_in result lane ≡ Unknown }
+    {
+        match self.stage {
+            Stage::Loading => LaneValues::unknown(),
+            _ => self.node_values(var),
         }
     }
 
@@ -270,6 +292,24 @@ impl Planes {
             has_lane(pair.zero.as_array(), lane),
             has_lane(pair.one.as_array(), lane),
         )
+    }
+
+    // The values of a node, or of the source of a wire.
+    #[inline(always)]
+    fn node_values(&self, var: u32) -> LaneValues
+        requires var { var < variables_of self.now }
+        ensures lane { (netlist : Netlist) (loaded : Loaded) (lane : ℕ) → IsCircuit netlist → IsWhole netlist
+            → AreOf netlist self.now → lane < 512 → slice_get self.now.lanes lane ≡ Some (Some loaded)
+            → self.now.stage ≢ Loading → IsLaneValue self.now.stage netlist loaded var (value_in result lane) }
+        ensures filled { (netlist : Netlist) (loaded : Loaded) (lane : ℕ) → IsCircuit netlist → IsWhole netlist
+            → AreOf netlist self.now → lane < 512 → slice_get self.now.lanes lane ≡ Some (Some loaded)
+            → self.now.stage ≢ Loading → IsFilledValue self.now.stage netlist loaded var (value_in result lane) }
+    {
+        let pair = &self.values[self.node_of(var) as usize];
+        LaneValues {
+            zero: pair.zero.to_array(),
+            one: pair.one.to_array(),
+        }
     }
 
     // A node itself, or the source of a wire.

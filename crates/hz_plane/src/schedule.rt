@@ -1,6 +1,7 @@
 //! All gates in an order, and the places at which each node is read.
-ghost use Rattle.std.specs.Prelude.{IfOk};
+ghost use Rattle.std.specs.Prelude.{◌≡◌, ℕ, ◌<◌, ◌≤◌, [], true, IfOk, length};
 ghost use Rattle.hz_plane.specs.Schedules.{IsSchedule};
+ghost use Rattle.hz_plane.specs.Sweeps.{readers_at};
 
 use crate::lists::Lists;
 use crate::order::order_gates;
@@ -9,13 +10,14 @@ use hz_core::Memory;
 use hz_net::Net;
 use std::alloc::Global;
 
-// The gates in an order; for each node the places of the gates that read it; and for each place those of its gate's
-// readers that stand no later.
+// The gates in an order; for each node the places of the gates that read it; for each place those of its gate's readers that
+// stand no later; and whether there are none of these, as without feedback.
 #[derive(Debug, Drop)]
 pub(crate) struct Schedule {
     pub(crate) order: Vec<u32>,
     pub(crate) readers: Lists,
     pub(crate) back: Lists,
+    pub(crate) is_forward: bool,
 }
 
 impl Schedule {
@@ -26,10 +28,25 @@ impl Schedule {
         let order = order_gates(alloc, net)?;
         let readers = list_readers(alloc, net, order.as_slice())?;
         let back = list_back(alloc, net, order.as_slice(), &readers)?;
+        let is_forward = are_empty(&back, order.len());
         Ok(Schedule {
             order,
             readers,
             back,
+            is_forward,
         })
     }
+}
+
+// Whether the first lists, of this count, are empty.
+fn are_empty(lists: &Lists, count: usize) -> bool
+    requires { count ≤ length lists.now }
+    ensures { result ≡ true → (number : ℕ) → number < count → readers_at lists.now number ≡ [] }
+{
+    for number in 0..count {
+        if !lists.at(number).is_empty() {
+            return false;
+        }
+    }
+    true
 }

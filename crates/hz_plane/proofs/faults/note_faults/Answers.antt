@@ -1,4 +1,10 @@
+use Rattle.std.proofs.Common.{Option, sym, subst, arith}
+use Rattle.hz_plane.specs.declared.stage.LaneFault.{LaneFault}
+use Rattle.hz_plane.specs.Faults.{IsNoted}
+use Rattle.hz_plane.proofs.NoFaults.{none-noted}
 use Rattle.hz_plane.proofs.faults.note_faults.Goals as goal
 
-pub returns : goal.returns
-returns c lane inside = record { first = _; among_nodes = c.note_open-noted.ensures.lanes lane inside; among_gates = c.note_unstable.ensures lane inside }
+pub returns-then-are_evaluated : goal.returns-then-are_evaluated
+returns-then-are_evaluated c lane inside =
+    subst (λ (fault : Option LaneFault). IsNoted c.args.net.now c.args.listings.now c.args.values.now lane fault) (sym (c.forget.ensures lane (omega (arith, inside, c.requires.faults))))
+    (none-noted c.args.net.now c.args.listings.now c.args.values.now lane inside c.requires.values (c.requires.evaluated c.if-are_evaluated.true))

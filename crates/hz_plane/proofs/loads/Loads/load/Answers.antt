@@ -21,6 +21,7 @@ invariant_of-self c =
           c.put_inputs.ensures.here (λ other below differ. c.put_inputs.ensures.others other below differ ∙ ap (λ (sets : List (List ℕ)). lane_input sets other) c.as_mut_slice.ensures.value)
           c.put_listed.ensures.here (λ other below differ. c.put_listed.ensures.others other below differ ∙ ap (λ (all : List Listing). lane_listed all other) c.as_mut_slice-2.ensures.value)
           (length fields.listings.items) c.self.invariant.fresh));
+      no_gates = λ none. cc;
     }
 
 pub returns : goal.returns

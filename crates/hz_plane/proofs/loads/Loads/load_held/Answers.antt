@@ -1,8 +1,9 @@
-use Rattle.std.proofs.Common.{◌≡◌, ◌<◌, ◌≤◌, ◌++◌, ◌∙◌, ℕ, List, Some, None, false, length, take, drop, set, replicate, sym, ap, subst, arith}
+use Rattle.std.proofs.Common.{◌≡◌, ◌<◌, ◌≤◌, ◌++◌, ◌∙◌, ℕ, List, Some, None, false, length, get_or, take, drop, set, replicate, sym, ap, subst, arith}
+use Rattle.std.proofs.lemmas.List.{nil_from_length}
 use Rattle.hz_plane.specs.declared.listing.Listing.{Listing}
 use Rattle.hz_plane.specs.Bits.{has_lane}
 use Rattle.hz_plane.specs.Loads.{LaneLoads, lane_input, lane_listed, listed_with}
-use Rattle.hz_plane.proofs.LoadLemmas.{written-back, fresh-next, loads-next, same-loads}
+use Rattle.hz_plane.proofs.LoadLemmas.{written-back, fresh-next, unlisted-next, held-none, loads-next, same-loads}
 use Rattle.hz_plane.proofs.loads.Loads.load_held.Goals as goal
 
 pub invariant_of-self : goal.invariant_of-self
@@ -21,6 +22,21 @@ invariant_of-self c =
           c.put_inputs.ensures.here (λ other below differ. c.put_inputs.ensures.others other below differ ∙ ap (λ (sets : List (List ℕ)). lane_input sets other) c.as_mut_slice.ensures.value)
           (c.list_start.ensures.here ∙ ap (λ (n : ℕ). listed_with n c.args.first.now c.args.held.now) (ap (length {A = Listing}) c.as_mut_slice-2.ensures.value)) (λ other below differ. c.list_start.ensures.others other below differ ∙ ap (λ (all : List Listing). lane_listed all other) c.as_mut_slice-2.ensures.value)
           (length fields.listings.items) c.self.invariant.fresh));
+      no_gates = λ none other gate below past within.
+          let inputs = c.put_inputs.new.inputs in
+          let input_count : length inputs ≡ fields.inputs.len = c.put_inputs.auto.inputs ∙ c.as_mut_slice.ensures.len in
+          let input_few : length fields.inputs.items ≤ fields.inputs.len = omega (arith, ap (length {A = List ℕ}) c.as_mut_slice.ensures.value, c.as_mut_slice.ensures.len) in
+          let inputs_are : take fields.inputs.len (inputs ++ drop (length inputs) fields.inputs.items) ≡ inputs = written-back fields.inputs.len inputs fields.inputs.items input_count input_few in
+          let input_long : length inputs ≡ length fields.inputs.items = c.put_inputs.auto.inputs ∙ ap (length {A = List ℕ}) c.as_mut_slice.ensures.value in
+          let before = c.are_none_with-self-inside.ensures none in
+          let beyond : length fields.inputs.items ≤ gate = omega (arith, past, ap (length {A = List ℕ}) inputs_are, input_long) in
+          let inside : gate < length fields.listings.items = omega (arith, within, ap (length {A = Listing}) are, long) in
+          let first : length c.args.first.now ≤ gate = omega (arith, beyond, c.requires.inputs, ap (λ (s : LaneLoads). s.inputs) c.self.view_is) in
+          ap (λ (all : List Listing). get_or (lane_listed all other) gate None) are
+          ∙ unlisted-next fields.loaded c.put_lane.new.set fields.inputs.items c.put_inputs.new.inputs fields.listings.items listings c.args.lane c.args.input.now (listed_with (length c.self.inside.listings.items) c.args.first.now c.args.held.now) c.requires.lane c.put_lane.ensures.here c.put_lane.ensures.others
+          c.put_inputs.ensures.here (λ other below differ. c.put_inputs.ensures.others other below differ ∙ ap (λ (sets : List (List ℕ)). lane_input sets other) c.as_mut_slice.ensures.value)
+          (c.list_start.ensures.here ∙ ap (λ (n : ℕ). listed_with n c.args.first.now c.args.held.now) (ap (length {A = Listing}) c.as_mut_slice-2.ensures.value)) (λ other below differ. c.list_start.ensures.others other below differ ∙ ap (λ (all : List Listing). lane_listed all other) c.as_mut_slice-2.ensures.value)
+          gate (held-none (length c.self.inside.listings.items) c.args.first.now c.args.held.now gate (nil_from_length c.args.held.now before.1) first inside) (λ one few. c.self.invariant.no_gates before.0 one gate few beyond inside) other below;
     }
 
 pub returns : goal.returns

@@ -28,6 +28,7 @@ invariant_of-result c =
         order = same-order netlist other circuit of.circuit (sym inputs ∙ of.inputs) (sym gates ∙ of.gates) _ _ scheduled.order;
         back = same-back netlist other circuit of.circuit (sym inputs ∙ of.inputs) (sym gates ∙ of.gates) _ _ scheduled.back;
         few = scheduled.few;
+        forward = scheduled.forward;
       };
       lists = λ lane loaded at. loaded-none lane loaded _ (ap (λ (l : LaneLoads). slice_get l.lanes lane) (sym c.in_ok-loads.ensures) ∙ at);
       lanes = λ other lane loaded of at. tt;

@@ -6,7 +6,7 @@ use Rattle.hz_plane.specs.declared.rule.Rule.TheVariants.{Narrow}
 use Rattle.hz_plane.specs.Lanes.{listed_values}
 use Rattle.hz_plane.specs.Loads.{listed_in, lane_listed}
 use Rattle.hz_plane.proofs.PassLanes.{lane-ran-of, fill-lane, begins-listed}
-use Rattle.hz_plane.proofs.passes.fill.Goals as goal
+use Rattle.hz_plane.proofs.passes.fill_by_steps.Goals as goal
 
 pub returns-clause-lanes : goal.returns-clause-lanes
 returns-clause-lanes c other circuit whole e f lane inside inputs =

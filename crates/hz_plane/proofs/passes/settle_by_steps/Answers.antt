@@ -1,7 +1,7 @@
 use Rattle.std.proofs.Common.{◌≤◌, ◌∙◌, length, arith}
 use Rattle.hz_plane.specs.declared.rule.Rule.TheVariants.{Narrow}
 use Rattle.hz_plane.proofs.PassLanes.{lane-ran-of, put-planes, put-lane, settle-lane}
-use Rattle.hz_plane.proofs.passes.settle.Goals as goal
+use Rattle.hz_plane.proofs.passes.settle_by_steps.Goals as goal
 
 pub run-requires-clause-planes : goal.run-requires-clause-planes
 run-requires-clause-planes c =
