@@ -2,6 +2,7 @@
 use Rattle.std.proofs.Common.{◌≡◌, ◌∙◌, refl, ap, ℕ, ◌+◌, ◌≤◌, Bool, true, false, cond, List, [], ◌∷◌, ◌++◌, length, append_assoc, arith}
 use Rattle.std.specs.List.{count_by, list_any}
 use Rattle.std.proofs.lemmas.List.Sums.{sum_by-append, count_by-le-length}
+use Rattle.hz_core.specs.Ternary.{is_unknown}
 use Rattle.hz_outside.specs.WrittenText.{Output}
 use Rattle.hz_core.specs.Netlist.{Netlist}
 use Rattle.hz_text.specs.PatternValue.{PatternOf}
@@ -10,7 +11,7 @@ use Rattle.hz_write.specs.Writer.{Writes}
 use Rattle.hz_write.proofs.Writers.{writes_then, writes_nothing}
 use Rattle.hz_batch.specs.declared.counts.Counts.{Counts}
 use Rattle.hz_batch.specs.declared.counts.Mark.{Mark}
-use Rattle.hz_batch.specs.BatchText.{outcome_line, outcome_lines, is_open, is_unstable, is_unsettled, is_unknown}
+use Rattle.hz_batch.specs.BatchText.{outcome_line, outcome_lines, is_open, is_unstable, is_unsettled}
 use Rattle.hz_batch.specs.Counts.{AddsCounts, AreWithin, IsMarkOf, with_mark, settled_mark}
 use Rattle.hz_batch.specs.Each.{AreEach}
 use Rattle.hz_batch.specs.Outcome.{Outcome, Open, Unstable, Settled}

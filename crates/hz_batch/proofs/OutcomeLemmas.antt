@@ -1,6 +1,7 @@
 -- What a lane comes to.
 use Rattle.std.proofs.Common.{◌≡◌, ◌≢◌, refl, sym, ℕ, zero, suc, ◌<◌, Bool, true, false, List, [], ◌∷◌, length, arith}
 use Rattle.std.specs.List.{list_any}
+use Rattle.hz_core.specs.Ternary.{is_unknown}
 use Rattle.hz_core.specs.declared.tri.Tri.{Tri}
 use Rattle.hz_core.specs.declared.tri.Tri.TheVariants.{Zero, One, Unknown}
 use Rattle.hz_core.specs.Netlist.{Netlist}
@@ -11,7 +12,6 @@ use Rattle.hz_plane.specs.Loads.{Loaded}
 use Rattle.hz_plane.specs.declared.stage.Stage.TheVariants.{Spread, Settled as AllSettled}
 use Rattle.hz_plane.specs.View.{HasUnknown, IsLaneValue, IsUnsettled}
 use Rattle.hz_reach.specs.Existence.{ResultOfAExists, ResultOfBExists}
-use Rattle.hz_batch.specs.BatchText.{is_unknown}
 use Rattle.hz_batch.specs.Outcome.{Settled, IsOutcome}
 
 -- no value of a state is X

@@ -2,12 +2,13 @@
 use Rattle.std.proofs.Common.{◌≡◌, ◌∙◌, refl, ap, sym, ℕ, ◌+◌, Bool, cond, List, [], ◌∷◌, ◌++◌, length, Option, arith}
 use Rattle.std.specs.List.{count_by, list_any}
 use Rattle.std.proofs.lemmas.List.Sums.{sum_by-cons}
+use Rattle.hz_core.specs.Ternary.{is_unknown}
 use Rattle.hz_core.specs.Netlist.{Netlist}
 use Rattle.hz_text.specs.PatternValue.{PatternOf, PatternsOf}
 use Rattle.hz_report.specs.Outputs.{outputs_line, output_values}
 use Rattle.hz_batch.specs.declared.job.Job.{Job}
 use Rattle.hz_batch.specs.declared.job.Job.TheVariants.{Batch, Reset}
-use Rattle.hz_batch.specs.BatchText.{outcome_lines, is_unsettled, is_unknown}
+use Rattle.hz_batch.specs.BatchText.{outcome_lines, is_unsettled}
 use Rattle.hz_batch.specs.Comes.{comes_to, last_of, IsTextOf}
 use Rattle.hz_batch.specs.Each.{AreEach}
 use Rattle.hz_batch.specs.Outcome.{Outcome, Open, Unstable, Settled}

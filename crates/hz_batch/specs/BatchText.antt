@@ -1,8 +1,7 @@
 -- The text of patterns: a line for each, and the line of how many there are of each kind.
 use Rattle.std.specs.Prelude.{◌≡◌, ℕ, ◌+◌, Bool, true, false, List, [], ◌∷◌, ◌++◌, length, codes, decimal, count_by}
 use Rattle.std.specs.List.{list_any}
-use Rattle.hz_core.specs.declared.tri.Tri.{Tri}
-use Rattle.hz_core.specs.declared.tri.Tri.TheVariants.{Zero, One, Unknown}
+use Rattle.hz_core.specs.Ternary.{is_unknown}
 use Rattle.hz_core.specs.Netlist.{Netlist, node_name}
 use Rattle.hz_write.specs.Writes.{line_of}
 use Rattle.hz_text.specs.PatternValue.{PatternsOf}
@@ -23,12 +22,6 @@ outcome_line netlist number (Settled a b) = outputs_line netlist number (output_
 abbrev pub outcome_lines : Netlist → ℕ → List Outcome → List ℕ
 outcome_lines netlist number [] = []
 outcome_lines netlist number (outcome ∷ outcomes) = outcome_line netlist number outcome ++ outcome_lines netlist (number + 1) outcomes
-
--- the value is X
-abbrev pub is_unknown : Tri → Bool
-is_unknown Zero = false
-is_unknown One = false
-is_unknown Unknown = true
 
 -- a gate is open at the start
 abbrev pub is_open : Outcome → Bool

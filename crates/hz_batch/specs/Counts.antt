@@ -1,11 +1,12 @@
 -- What is counted of patterns, by a mark for each.
 use Rattle.std.specs.Prelude.{◌≡◌, ℕ, ◌+◌, ◌≤◌, Bool, true, false, List, count_by}
 use Rattle.std.specs.List.{list_any}
+use Rattle.hz_core.specs.Ternary.{is_unknown}
 use Rattle.hz_batch.specs.declared.counts.Counts.{Counts}
 use Rattle.hz_batch.specs.declared.counts.Mark.{Mark}
 use Rattle.hz_batch.specs.declared.counts.Mark.TheVariants as mark
 use Rattle.hz_batch.specs.Outcome.{Outcome, Open, Unstable, Settled}
-use Rattle.hz_batch.specs.BatchText.{is_open, is_unstable, is_unsettled, is_unknown}
+use Rattle.hz_batch.specs.BatchText.{is_open, is_unstable, is_unsettled}
 
 -- nothing is counted
 abbrev pub no_counts : Counts

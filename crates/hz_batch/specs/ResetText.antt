@@ -1,6 +1,7 @@
 -- The text of what patterns bring about where nothing is known of a start but the held gates.
 use Rattle.std.specs.Prelude.{◌≡◌, ℕ, ◌+◌, Bool, Option, List, [], ◌∷◌, ◌++◌, length, codes, decimal, count_by}
 use Rattle.std.specs.List.{list_any}
+use Rattle.hz_core.specs.Ternary.{is_unknown}
 use Rattle.hz_core.specs.declared.tri.Tri.{Tri}
 use Rattle.hz_core.specs.Netlist.{Netlist}
 use Rattle.hz_net.specs.Network.{network_of}
@@ -9,7 +10,6 @@ use Rattle.hz_reset.specs.Values.{SettlesAlong}
 use Rattle.hz_write.specs.Writes.{line_of}
 use Rattle.hz_text.specs.PatternValue.{PatternOf, PatternsOf}
 use Rattle.hz_report.specs.Outputs.{outputs_line, output_values}
-use Rattle.hz_batch.specs.BatchText.{is_unknown}
 use Rattle.hz_batch.specs.Each.{AreEach}
 
 -- the values of all variables after the first bits of a pattern, and after its second bits

@@ -8,7 +8,7 @@ use Rattle.std.proofs.lemmas.List.Elements.{Contains-get_or}
 use Rattle.std.proofs.lemmas.List.Folds.{list_any_at}
 use Rattle.hz_core.specs.declared.tri.Tri.{Tri}
 use Rattle.hz_core.specs.declared.tri.Tri.TheVariants.{Zero, One, Unknown}
-use Rattle.hz_core.specs.Ternary.{tri_of}
+use Rattle.hz_core.specs.Ternary.{tri_of, is_unknown}
 use Rattle.hz_core.specs.Netlist.{Netlist}
 use Rattle.hz_desk.specs.declared.finding.Row.{Row}
 use Rattle.hz_desk.specs.Finding.{FindingOf, values_b}
@@ -22,7 +22,7 @@ use Rattle.hz_split.specs.Attempts.{outcome_of}
 use Rattle.hz_text.specs.RunPrinted.{states_text, run_text, run_text_printed}
 use Rattle.hz_text.specs.RunValue.{RunOf}
 use Rattle.hz_write.specs.Writes.{line_of}
-use Rattle.hz_top.specs.Splits.{closed, change_line, is_unknown, is_unsettled, changes_text, split_text, found_in, AreSplits, SplitsChange, SplitsChanges}
+use Rattle.hz_top.specs.Splits.{closed, change_line, is_unsettled, changes_text, split_text, found_in, AreSplits, SplitsChange, SplitsChanges}
 use Rattle.hz_top.proofs.Writable.{first-inside}
 
 -- changes that leave no variable unsettled

@@ -1,8 +1,7 @@
 -- What the job `split` comes to.
 use Rattle.std.specs.Prelude.{◌≡◌, ℕ, ◌+◌, ◌≤◌, ◌⊎◌, Bool, true, false, List, [], ◌∷◌, ◌++◌, length, map, take, codes, decimal, Some, if◌then◌else◌}
 use Rattle.std.specs.List.{list_any}
-use Rattle.hz_core.specs.declared.tri.Tri.{Tri}
-use Rattle.hz_core.specs.declared.tri.Tri.TheVariants.{Zero, One, Unknown}
+use Rattle.hz_core.specs.Ternary.{is_unknown}
 use Rattle.hz_core.specs.Netlist.{Netlist}
 use Rattle.hz_net.specs.Network.{network_of}
 use Rattle.hz_gmw.specs.RunRecord.{flip_count}
@@ -19,12 +18,6 @@ use Rattle.hz_write.specs.Writes.{line_of}
 use Rattle.hz_top.specs.declared.status.Status.{Status}
 use Rattle.hz_top.specs.declared.status.Status.TheVariants as status
 use Rattle.hz_top.specs.RunTexts.{ReplaysAs}
-
--- whether a value is X
-abbrev pub is_unknown : Tri → Bool
-is_unknown Zero = false
-is_unknown One = false
-is_unknown Unknown = true
 
 -- whether a change leaves a variable unsettled
 abbrev pub is_unsettled : FindingOf → Bool
