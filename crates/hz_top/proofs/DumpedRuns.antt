@@ -1,10 +1,10 @@
 -- The last of runs that are accepted may be written as a dump: each of its steps changes variables, none of them twice.
-use Rattle.std.proofs.Common.{◌≡◌, ◌∙◌, refl, sym, ap, subst, ℕ, ◌+◌, ◌-◌, ◌<◌, ◌≤◌, Bool, List, [], ◌∷◌, ◌++◌, length, get_or, Option, Some, None, IfSome, All, arith}
+use Rattle.std.proofs.Common.{◌≡◌, ◌∙◌, refl, sym, ap, subst, ℕ, ◌+◌, ◌-◌, ◌<◌, Bool, List, [], ◌∷◌, ◌++◌, length, get_or, Option, Some, None, IfSome, All, arith}
 use Rattle.std.proofs.lemmas.List.{length-append}
 use Rattle.std.proofs.lemmas.List.Elements.{All-nil, All-cons}
 use Rattle.hz_core.specs.Netlist.{Netlist}
 use Rattle.hz_net.specs.Network.{Driver, network_of}
-use Rattle.hz_gmw.specs.Runs.{IsStep, IsRun, end_of, state_after}
+use Rattle.hz_gmw.specs.Runs.{IsStep, IsRun, state_after}
 use Rattle.hz_gmw.specs.Cycles.{IsNontransient}
 use Rattle.hz_gmw.proofs.SetLemmas.{All-each}
 use Rattle.hz_text.specs.RunText.{IsRunTextFor}

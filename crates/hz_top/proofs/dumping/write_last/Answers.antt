@@ -1,5 +1,5 @@
 -- The steps of a run that is accepted.
-use Rattle.std.proofs.Common.{◌<◌, length, arith}
+use Rattle.std.proofs.Common.{arith}
 use Rattle.std.specs.Option.{option_map}
 use Rattle.hz_top.proofs.DumpedRuns.{lead-flips, behind-flips}
 use Rattle.hz_top.proofs.dumping.write_last.Goals as goal

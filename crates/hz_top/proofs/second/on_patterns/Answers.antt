@@ -1,6 +1,5 @@
 -- The text has a fault, or the job does its part with the script.
-use Rattle.std.proofs.Common.{inl, inr, codes, subst, sym}
-use Rattle.hz_core.specs.Netlist.{IsCircuit}
+use Rattle.std.proofs.Common.{inl, inr, codes}
 use Rattle.hz_text.specs.PatternFault.{HasPatternFault}
 use Rattle.hz_top.specs.Second.{OfPatterns}
 use Rattle.hz_top.specs.Inside.{TextPrints}
