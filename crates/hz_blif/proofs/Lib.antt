@@ -1,0 +1,11 @@
+pub mod TwoLevel
+pub mod StableElements
+pub mod CoverLaw
+pub mod TokenLemmas
+pub mod LineLemmas
+pub mod RowLemmas
+pub mod JoinLemmas
+pub mod NameLaws
+pub mod WiredPins
+pub mod WiredNames
+pub mod Examples
