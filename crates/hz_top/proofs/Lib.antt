@@ -11,6 +11,7 @@ pub mod DumpedRuns
 pub mod ReplayDecided
 pub mod ReplayCounts
 pub mod TextEnds
+pub mod NetlistTexts
 pub mod FaultlessEndings
 pub mod Writable
 pub mod ReportLines
