@@ -1,5 +1,6 @@
 -- Texts of netlists, in the format that the names of their files tell.
-use Rattle.std.proofs.Common.{◌≡◌, ◌∙◌, ℕ, Bool, true, false, List, refl, sym, subst, true≢false}
+use Rattle.std.proofs.Common.{◌≡◌, ◌∙◌, ℕ, Bool, true, false, List, refl, sym, subst}
+use Rattle.std.proofs.lemmas.Bool.{false≢true}
 use Rattle.hz_core.specs.Netlist.{Netlist, IsCircuit, IsWhole}
 use Rattle.hz_bench.specs.Fault as bench
 use Rattle.hz_bench.specs.Netlist.{circuit_of_statements}
@@ -22,7 +23,7 @@ texts-are-circuits bench_law blif_law cover_law name bytes netlist text = by_for
         (law.0, law.1, λ named. cover_law bytes text.0)
     by_format false is text =
         let law = subst (λ (n : Netlist). IsCircuit n × IsWhole n) (sym text.1) (bench_law bytes text.0) in
-        (law.0, law.1, λ named. absurd (true≢false (sym named ∙ is)))
+        (law.0, law.1, λ named. absurd (false≢true (sym is ∙ named)))
 
 -- a text is that of one circuit
 one-in : (is_blif : Bool) (bytes : List ℕ) (netlist other : Netlist) → IsTextIn is_blif bytes netlist → IsTextIn is_blif bytes other → other ≡ netlist
