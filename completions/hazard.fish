@@ -6,5 +6,8 @@ complete -c hazard -n '__fish_is_first_token' -f -a vcd -d 'write the last run o
 complete -c hazard -n '__fish_is_first_token' -f -a batch -d 'analyse many patterns of inputs on a netlist'
 complete -c hazard -n '__fish_is_first_token' -f -a demo -d 'make and analyse a circuit of a given size'
 complete -c hazard -n '__fish_seen_subcommand_from demo' -f
+# netlists, in .bench or .blif, come before other files
+complete -c hazard -n 'test (count (commandline -opc)) -eq 2; and not __fish_seen_subcommand_from demo' -k -a '(__fish_complete_suffix .blif)' -d netlist
+complete -c hazard -n 'test (count (commandline -opc)) -eq 2; and not __fish_seen_subcommand_from demo' -k -a '(__fish_complete_suffix .bench)' -d netlist
 complete -c hazard -l cap -x -d 'count at most so many changes, 1 to 1000000'
 complete -c hazard -l show -x -a 'nodes all' -d 'the variables that have a line'
