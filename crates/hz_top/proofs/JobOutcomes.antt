@@ -34,7 +34,8 @@ use Rattle.hz_line.specs.Line.{most_text_bytes}
 use Rattle.hz_top.specs.Outcome.{FileRefused, Observation, observation_of, IsSecondFileOutcome}
 use Rattle.hz_top.specs.Second.{StartRefused}
 use Rattle.hz_top.specs.Refusal.{unread_line, long_line}
-use Rattle.hz_top.specs.Inside.{LoadPrints, StartPrints}
+use Rattle.hz_top.specs.Inside.{LoadPrints, NetlistPrints, StartPrints}
+use Rattle.hz_top.specs.Answer.{Prints}
 
 -- a load that failed has the line of a file that was not read
 pub LoadPrints-failed : (place : Place) (fault : LoadFault) → fault ≡ load.Failed → LoadPrints place fault status.File (unread_line place)

@@ -79,4 +79,4 @@ pub returns-clause-files : goal.returns-clause-files
 returns-clause-files g c =
     first-read (observation_of g.F.Files.held g.F.Files.faults g.F.Files.longs c.args.files.now c.work_on_second.new.files)
     c.args.task c.args.options c.args.first.now c.args.second.now c.as_slice.result.now
-    c.in-Ok-read_netlist.circuit.now (rw c.as_slice.ensures.value c.in-Ok.ensures.bytes) (rw c.as_slice.ensures.len c.in-Ok.ensures.short) c.in-Ok-read_netlist.ensures.netlist
+    c.in-Ok-read_netlist.circuit (rw c.as_slice.ensures.value c.in-Ok.ensures.bytes) (rw c.as_slice.ensures.len c.in-Ok.ensures.short) c.in-Ok-read_netlist.ensures.netlist
