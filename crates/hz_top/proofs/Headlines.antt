@@ -8,7 +8,7 @@ use Rattle.std.proofs.lemmas.Option.{slice_get_within, get_or_from_slice_get}
 use Rattle.hz_outside.specs.declared.fault.Place.TheVariants.{First, Second}
 use Rattle.hz_core.specs.declared.tri.Tri.{Tri}
 use Rattle.hz_core.specs.declared.tri.Tri.TheVariants.{Zero}
-use Rattle.hz_core.specs.Netlist.{Netlist, IsCircuit, IsWhole}
+use Rattle.hz_core.specs.Netlist.{Netlist, IsCircuit}
 use Rattle.hz_net.specs.Network.{network_of, bit_at, value_at}
 use Rattle.hz_net.specs.Passes.{IsUnknown}
 use Rattle.hz_net.specs.Starts.{IsStableStart, IsAcceptedStart}
