@@ -349,12 +349,13 @@ WRITTEN = {
     "abc-latch.blif": "refused: netlist line 6: construct",
 }
 YOSYS = "read_verilog {}.v; synth -flatten; abc -g AND,OR,XOR; opt_clean; write_blif out.blif"
-# The commands that write such files, as out.blif: in `netlists`, each of the named source.
+# The names under which these programs are installed, and the commands by which they write such files, as out.blif, in a copy of `netlists`.
+INSTALLED = {"yosys": ("yosys",), "abc": ("abc", "berkeley-abc", "yosys-abc")}
 COMMANDS = [
     *[(f"yosys-{name}.blif", ["yosys", "-q", "-p", YOSYS.format(name)]) for name in ("mux", "tied", "latch", "toggle")],
     ("yosys-cover.blif", ["yosys", "-q", "-p", "read_verilog cover.v; synth -flatten -noabc; opt_clean; write_blif out.blif"]),
-    *[(f"abc-{name}.blif", ["berkeley-abc", "-c", f"read_blif {name}.blif; write_blif out.blif"]) for name in ("cover", "tied", "latch")],
-    ("abc-collapsed.blif", ["berkeley-abc", "-c", "read_blif cover.blif; collapse; write_blif out.blif"]),
+    *[(f"abc-{name}.blif", ["abc", "-c", f"read_blif {name}.blif; write_blif out.blif"]) for name in ("cover", "tied", "latch")],
+    ("abc-collapsed.blif", ["abc", "-c", "read_blif cover.blif; collapse; write_blif out.blif"]),
 ]
 
 
