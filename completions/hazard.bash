@@ -1,4 +1,14 @@
 # Completion of hazard's words for bash.
+
+# Leaves netlists and folders of what may come, if there is any.
+_hazard_netlists() {
+  local name netlists=()
+  for name in "${COMPREPLY[@]}"; do
+    [[ ${name,,} == *.bench || ${name,,} == *.blif || -d $name ]] && netlists+=("$name")
+  done
+  ((${#netlists[@]})) && COMPREPLY=("${netlists[@]}")
+}
+
 _hazard() {
   local word=${COMP_WORDS[COMP_CWORD]} before=${COMP_WORDS[COMP_CWORD - 1]}
   case $before in
@@ -14,6 +24,7 @@ _hazard() {
   else
     compopt -o filenames 2>/dev/null
     COMPREPLY=($(compgen -f -- "$word"))
+    ((COMP_CWORD == 2)) && _hazard_netlists
   fi
 }
 complete -F _hazard hazard

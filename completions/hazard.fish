@@ -8,5 +8,8 @@ complete -c hazard -n '__fish_is_first_token' -f -a batch -d 'analyse many patte
 complete -c hazard -n '__fish_is_first_token' -f -a reset -d 'say what many patterns bring about from an unknown start'
 complete -c hazard -n '__fish_is_first_token' -f -a demo -d 'make and analyse a circuit of a given size'
 complete -c hazard -n '__fish_seen_subcommand_from demo' -f
+# netlists, in .bench or .blif, come before other files
+complete -c hazard -n 'test (count (commandline -opc)) -eq 2; and not __fish_seen_subcommand_from demo' -k -a '(__fish_complete_suffix .blif)' -d netlist
+complete -c hazard -n 'test (count (commandline -opc)) -eq 2; and not __fish_seen_subcommand_from demo' -k -a '(__fish_complete_suffix .bench)' -d netlist
 complete -c hazard -l cap -x -d 'count at most so many changes, 1 to 1000000'
 complete -c hazard -l show -x -a 'nodes all' -d 'the variables that have a line'

@@ -7,7 +7,8 @@ takes the value that its data node has before the edge. Which clock it has is sa
 import re
 import sys
 
-from . import netlist, script
+from . import script
+from .circuit import load
 from .errors import DOES_NOT_HOLD, DONE, SCRIPT_FAULT, Failure, read_file
 from .lines import spelt
 
@@ -19,7 +20,7 @@ _EDGE = re.compile(r"(?:([^\s=]+)(?:=([01]))?)?$")
 def run(words, out):
     """Writes the script with its edges written out."""
     report = words.program.analyse(words.netlist, words.script)
-    circuit = netlist.read(read_file(words.netlist))
+    circuit = load(words.netlist)
     _warn(circuit)
     writer = _Writer(words, circuit, report.start, out)
     for statement in script.read(read_file(words.script)):

@@ -2,7 +2,8 @@
 from functools import cached_property
 from typing import NamedTuple, Union
 
-from . import netlist, runtext, script
+from . import runtext, script
+from .circuit import load
 from .errors import DOES_NOT_HOLD, DONE, WRONG_WORDS, Failure, read_file
 from .lines import assigned
 from .network import Network
@@ -50,7 +51,7 @@ class Answer(NamedTuple):
 def run(words, out):
     """Checks the expectations of a script, and writes a line for each that does not hold."""
     report = words.program.analyse(words.netlist, words.script)
-    circuit = netlist.read(read_file(words.netlist))
+    circuit = load(words.netlist)
     expected = expectations(read_file(words.script), circuit)
     network, failed = Network(circuit), 0
     for change in report.changes:

@@ -7,7 +7,8 @@ import os
 import shutil
 import subprocess
 
-from . import netlist, runtext
+from . import runtext
+from .circuit import load
 from .errors import DONE, read_file
 from .network import Network
 from .one_edge import one_edge
@@ -25,7 +26,7 @@ KINDS = CLASSES + (ONE_EDGE,)
 def run(words, out):
     """Writes the page of a netlist and a script."""
     report = words.program.analyse(words.netlist, words.script)
-    circuit = netlist.read(read_file(words.netlist))
+    circuit = load(words.netlist)
     network = Network(circuit)
     data = {
         "title": f"{os.path.basename(words.netlist)}, {os.path.basename(words.script)}",

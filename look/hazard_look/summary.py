@@ -1,6 +1,6 @@
 """The job `summary`: a line for each change of a script, and a sentence for each node that may do more than one clean edge."""
-from . import netlist
-from .errors import DONE, WRONG_WORDS, Failure, read_file
+from .circuit import load
+from .errors import DONE, WRONG_WORDS, Failure
 from .one_edge import one_edge
 
 # How many nodes the line of a change names.
@@ -21,7 +21,7 @@ MEANINGS = {
 def run(words, out):
     """Writes the summary of a netlist and a script."""
     report = words.program.analyse(words.netlist, words.script)
-    circuit = netlist.read(read_file(words.netlist))
+    circuit = load(words.netlist)
     chosen = _chosen(words.only, circuit)
     for change in report.changes:
         edges = one_edge(circuit, change.rows)

@@ -1,9 +1,10 @@
 """The job `why`: a short run in which a node makes its hazard, as a waveform, with the paths that race."""
 from typing import List, NamedTuple
 
-from . import netlist, runtext
+from . import runtext
 from .causes import events_of, races, sentence
-from .errors import DONE, OUTPUT_FAILED, WRONG_WORDS, Failure, read_file
+from .circuit import load
+from .errors import DONE, OUTPUT_FAILED, WRONG_WORDS, Failure
 from .network import Network
 from .one_edge import one_edge
 from .runtext import Run
@@ -27,7 +28,7 @@ class Shown(NamedTuple):
 def run(words, out):
     """Writes why a node has its class in a change."""
     report = words.program.analyse(words.netlist, words.script)
-    circuit = netlist.read(read_file(words.netlist))
+    circuit = load(words.netlist)
     if words.node not in circuit.nodes:
         raise Failure(f"no node is named {words.node}", WRONG_WORDS)
     change = _change(words, report, circuit)

@@ -1,13 +1,10 @@
 -- How a job ends in which nothing is to be refused but a step or a cycle, where memory does not run out and the output is
 -- taken.
-use Rattle.std.proofs.Common.{◌≡◌, ap, ℕ, ◌<◌, ◌≤◌, ◌⊎◌, inl, inr, List, length, Option, Some, IfSome, refl, subst, sym, ◌∙◌, arith}
+use Rattle.std.proofs.Common.{◌≡◌, ℕ, ◌<◌, ◌≤◌, ◌⊎◌, inl, inr, List, length, Option, Some, IfSome, refl, subst, sym, ◌∙◌, arith}
 use Rattle.hz_outside.specs.Counts.{Rose}
 use Rattle.hz_outside.specs.declared.fault.Place.{Place}
 use Rattle.hz_outside.specs.declared.fault.Place.TheVariants.{First, Second}
 use Rattle.hz_core.specs.Netlist.{Netlist}
-use Rattle.hz_bench.specs.Fault.{IsLeastFault}
-use Rattle.hz_bench.specs.Netlist.{circuit_of_statements}
-use Rattle.hz_bench.specs.Text.{statements_of}
 use Rattle.hz_line.specs.Line.{most_text_bytes}
 use Rattle.hz_options.specs.declared.options.Options.{Options}
 use Rattle.hz_words.specs.declared.job.Task.{Task}
@@ -16,9 +13,10 @@ use Rattle.hz_top.specs.declared.status.Status.{Status}
 use Rattle.hz_top.specs.declared.status.Status.TheVariants as status
 use Rattle.hz_top.specs.Answer.{Answers}
 use Rattle.hz_top.specs.Faultless.{AreGoodFiles, IsFaultlessJob}
-use Rattle.hz_top.specs.Netlists.{IsNetlistText}
+use Rattle.hz_top.specs.Netlists.{IsLeastNetlistFault}
 use Rattle.hz_top.specs.Outcome.{Observation, IsSecondFileOutcome, IsFilesOutcome, IsJobOutcome}
 use Rattle.hz_top.specs.Tasks.{comes_of}
+use Rattle.hz_top.proofs.NetlistTexts.{not-both, one-netlist}
 use Rattle.hz_top.proofs.TextEnds.{text-ends}
 
 -- the bytes of a file that is told are the told ones
@@ -45,18 +43,13 @@ second-ends told options task first second wanted good short own said (inr (byte
     text-ends options task good.netlist (good.bytes_of second) wanted own said good.text
     (subst (λ (text : List ℕ). comes_of options task good.netlist text own said) (told-bytes told good.bytes_of second bytes good.is_told is) comes)
 
--- a text is that of one circuit
-one-netlist : (name text bytes : List ℕ) (netlist other : Netlist) → bytes ≡ text → IsNetlistText name text netlist → IsNetlistText name bytes other → other ≡ netlist
-one-netlist name text bytes netlist other same good is =
-    is.1 ∙ ap (λ (text : List ℕ). circuit_of_statements (statements_of text)) same ∙ sym good.1
-
 -- the two files come to their end
 pub files-end : (told : Observation) (options : Options) (task : Task) (first second : List ℕ) (wanted : Status) → AreGoodFiles told task first second wanted → ¬ WasTooLong told First first → ¬ WasTooLong told Second second → (own : Status) (said : List ℕ) → IsFilesOutcome told (comes_of options task) first second own said → own ≡ wanted
 files-end told options task first second wanted good short short_too own said (inl (stay, inl (rose, says))) = absurd (good.none_failed First rose)
 files-end told options task first second wanted good short short_too own said (inl (stay, inr (rose, over, says))) = absurd (short (rose, over))
 files-end told options task first second wanted good short short_too own said (inr (bytes, (is, few), inl (line, (fault, least, is_line), stay, says))) =
-    let here = subst (λ (text : List ℕ). IsLeastFault text fault) (told-bytes told good.bytes_of first bytes good.is_told is) least in
-    absurd (good.is_netlist.0 fault here.stands)
+    let here = subst (λ (text : List ℕ). IsLeastNetlistFault first text fault) (told-bytes told good.bytes_of first bytes good.is_told is) least in
+    absurd (not-both first (good.bytes_of first) good.netlist fault good.is_netlist here)
 files-end told options task first second wanted good short short_too own said (inr (bytes, (is, few), inr (netlist, text, comes))) =
     second-ends told options task first second wanted good short_too own said
     (subst (λ (netlist : Netlist). IsSecondFileOutcome told (comes_of options task netlist) second own said)

@@ -8,7 +8,7 @@ use Rattle.std.proofs.lemmas.Option.{slice_get_within, get_or_from_slice_get}
 use Rattle.hz_outside.specs.declared.fault.Place.TheVariants.{First, Second}
 use Rattle.hz_core.specs.declared.tri.Tri.{Tri}
 use Rattle.hz_core.specs.declared.tri.Tri.TheVariants.{Zero}
-use Rattle.hz_core.specs.Netlist.{Netlist, IsCircuit, IsWhole}
+use Rattle.hz_core.specs.Netlist.{Netlist, IsCircuit}
 use Rattle.hz_net.specs.Network.{network_of, bit_at, value_at}
 use Rattle.hz_net.specs.Passes.{IsUnknown}
 use Rattle.hz_net.specs.Starts.{IsStableStart, IsAcceptedStart}
@@ -16,9 +16,6 @@ use Rattle.hz_gmw.specs.Runs.{is_listed, state_after}
 use Rattle.hz_gmw.specs.Cycles.{states_of}
 use Rattle.hz_gmw.proofs.Flips.{at-state_after, length-state_after}
 use Rattle.hz_reach.specs.Spread.{changes_in}
-use Rattle.hz_bench.specs.Fault.{IsFaultless}
-use Rattle.hz_bench.specs.Netlist.{circuit_of_statements}
-use Rattle.hz_bench.specs.Text.{statements_of}
 use Rattle.hz_text.specs.ScriptText.{IsValue}
 use Rattle.hz_text.specs.ScriptValue.{ScriptOf}
 use Rattle.hz_desk.specs.Finding.{FindingOf, values_a, values_b}
@@ -216,16 +213,13 @@ replays-each netlist analyses replay k finding is =
     subst (AnalysisReplays netlist) (get_or_from_slice_get analyses k (Found finding) (Found finding) is)
     (replay k (Found finding) (slice_get_within analyses k (Found finding) is))
 
--- texts without a fault are those of whole circuits
-pub texts-are-circuits : ((text : List ℕ) → IsFaultless text → IsCircuit (circuit_of_statements (statements_of text)) × IsWhole (circuit_of_statements (statements_of text))) → TextsAreCircuits
-texts-are-circuits law name bytes netlist text = subst (λ (n : Netlist). IsCircuit n × IsWhole n) (sym text.1) (law bytes text.0)
-
 -- a report is exact
 report-exact : TextsAreCircuits → (options : Options) (name first second : List ℕ) (netlist : Netlist) (script : ScriptOf) (start : List Bool) (report : List ℕ) → IsNetlistText name first netlist → IsValue netlist second script → IsAcceptedStart netlist script.start start → IsReport options netlist start script.changes report → IsExactReport options name first second report
 report-exact circuits options name first second netlist script start report text value accepted is =
     record {
       netlist = netlist;
       is_netlist = text;
+      covers = (circuits name first netlist text).2;
       script = script;
       is_script = value;
       start = start;

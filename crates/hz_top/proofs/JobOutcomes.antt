@@ -17,7 +17,14 @@ use Rattle.hz_pass.specs.declared.completed_start.StartFault.{StartFault}
 use Rattle.hz_pass.specs.declared.completed_start.StartFault.TheVariants as start
 use Rattle.hz_bench.specs.declared.fault.BenchFault.{BenchFault}
 use Rattle.hz_bench.specs.declared.fault.BenchFault.TheVariants as bench
-use Rattle.hz_bench.specs.Fault as netlist_fault
+use Rattle.hz_bench.specs.Fault as bench_fault
+use Rattle.hz_blif.specs.declared.fault.BlifFault.{BlifFault}
+use Rattle.hz_blif.specs.declared.fault.BlifFault.TheVariants as blif
+use Rattle.hz_blif.specs.Fault as blif_fault
+use Rattle.hz_top.specs.declared.netlist.NetlistFault.{NetlistFault}
+use Rattle.hz_top.specs.declared.netlist.NetlistFault.TheVariants.{Bench, Blif}
+use Rattle.hz_top.specs.Netlists.{IsNetlistRefusal, NetlistRefused}
+use Rattle.hz_top.specs.Refusal.{netlist_fault_line}
 use Rattle.hz_text.specs.declared.fault.TextFault.{TextFault}
 use Rattle.hz_text.specs.declared.fault.TextFault.TheVariants as reading
 use Rattle.hz_text.specs.Fault.{IsLeastFaultOf, IsLeastFaultOrMemory}
@@ -27,7 +34,8 @@ use Rattle.hz_line.specs.Line.{most_text_bytes}
 use Rattle.hz_top.specs.Outcome.{FileRefused, Observation, observation_of, IsSecondFileOutcome}
 use Rattle.hz_top.specs.Second.{StartRefused}
 use Rattle.hz_top.specs.Refusal.{unread_line, long_line}
-use Rattle.hz_top.specs.Inside.{LoadPrints, StartPrints}
+use Rattle.hz_top.specs.Inside.{LoadPrints, NetlistPrints, StartPrints}
+use Rattle.hz_top.specs.Answer.{Prints}
 
 -- a load that failed has the line of a file that was not read
 pub LoadPrints-failed : (place : Place) (fault : LoadFault) → fault ≡ load.Failed → LoadPrints place fault status.File (unread_line place)
@@ -85,15 +93,33 @@ IsSecondFileOutcome-before held faults longs was mid now comes name same few sho
     inr (bytes, (subst (λ (told : Option (List ℕ → List ℕ)). IfSome told (λ bytes_of. bytes ≡ bytes_of name)) same is, most), says)
 
 -- a refusal of a netlist other than out of memory is the least fault of its text
-pub netlist-refused : (text : List ℕ) (fault : BenchFault) → netlist_fault.IsNetlistRefusal text fault → fault ≢ bench.Memory → netlist_fault.IsLeastFault text fault
-netlist-refused text (bench.Form line) least other = least
-netlist-refused text (bench.Name line) least other = least
-netlist-refused text (bench.KindUnknown line) least other = least
-netlist-refused text (bench.Twice line first) least other = least
-netlist-refused text (bench.Pins line count) least other = least
-netlist-refused text (bench.Undefined line) least other = least
-netlist-refused text (bench.TooMany variables) least other = least
-netlist-refused text bench.Memory least other = absurd (other refl)
+bench-refused : (text : List ℕ) (fault : BenchFault) → bench_fault.IsNetlistRefusal text fault → fault ≢ bench.Memory → bench_fault.IsLeastFault text fault
+bench-refused text (bench.Form line) least other = least
+bench-refused text (bench.Name line) least other = least
+bench-refused text (bench.KindUnknown line) least other = least
+bench-refused text (bench.Twice line first) least other = least
+bench-refused text (bench.Pins line count) least other = least
+bench-refused text (bench.Undefined line) least other = least
+bench-refused text (bench.TooMany variables) least other = least
+bench-refused text bench.Memory least other = absurd (other refl)
+
+blif-refused : (text : List ℕ) (fault : BlifFault) → blif_fault.IsBlifRefusal text fault → fault ≢ blif.Memory → blif_fault.IsLeastFault text fault
+blif-refused text (blif.Form line) least other = least
+blif-refused text (blif.Name line) least other = least
+blif-refused text (blif.Construct line) least other = least
+blif-refused text (blif.Twice line first) least other = least
+blif-refused text (blif.Cover line) least other = least
+blif-refused text (blif.Pins line count) least other = least
+blif-refused text (blif.Constant line) least other = least
+blif-refused text (blif.Undefined line) least other = least
+blif-refused text (blif.TooMany variables) least other = least
+blif-refused text blif.Memory least other = absurd (other refl)
+
+-- a line that is written of a fault of a netlist refuses its text
+pub netlist-refused : (name text : List ℕ) (fault : NetlistFault) → IsNetlistRefusal name text fault → (own : Status) (written : List ℕ) → NetlistPrints fault own written
+    → NetlistRefused name text (netlist_fault_line fault) × Prints status.Netlist (netlist_fault_line fault) own written
+netlist-refused name text (Bench fault) least own written says = ((Bench fault, (least.0, bench-refused text fault least.1 says.0), refl), says.1)
+netlist-refused name text (Blif fault) least own written says = ((Blif fault, (least.0, blif-refused text fault least.1 says.0), refl), says.1)
 
 -- a refusal of a text other than out of memory is the least of the faults that hold
 pub text-refused : (holds : TextFault → Type 0) (fault : TextFault) → IsLeastFaultOrMemory holds fault → fault ≢ reading.Memory → IsLeastFaultOf holds fault

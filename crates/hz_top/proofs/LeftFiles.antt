@@ -4,12 +4,14 @@ use Rattle.std.specs.Prelude.{IfSome}
 use Rattle.hz_outside.specs.declared.fault.Place.{Place}
 use Rattle.hz_outside.specs.declared.fault.Place.TheVariants.{Second}
 use Rattle.hz_line.specs.Line.{most_text_bytes}
-use Rattle.hz_bench.specs.Fault.{IsFaultless}
+use Rattle.hz_core.specs.Netlist.{Netlist}
 use Rattle.hz_options.specs.declared.options.Options.{Options}
 use Rattle.hz_words.specs.declared.job.Task.{Task}
 use Rattle.hz_words.specs.Job.{JobOf, OnFiles, Demo}
 use Rattle.hz_top.specs.Outcome.{Observation, CountsStay}
 use Rattle.hz_top.specs.LeftFiles.{IsRefusedFirst, LeavesFiles}
+use Rattle.hz_top.specs.Netlists.{IsNetlistText}
+use Rattle.hz_top.proofs.NetlistTexts.{not-both}
 
 -- whatever is told
 stays-anyway : (held : Option (List ℕ → List ℕ)) (first : List ℕ) (stays : Type 0) → stays → IfSome held (λ bytes_of. IsRefusedFirst first (bytes_of first) → stays)
@@ -27,16 +29,16 @@ both-stay told (Some (OnFiles task options first second)) stay = second-stays to
 both-stay told (Some (Demo number options)) stay = stay
 
 -- where the first file is a netlist
-not-refused : (first bytes : List ℕ) → length bytes ≤ most_text_bytes → IsFaultless bytes → IsRefusedFirst first bytes → ⊥
-not-refused first bytes short faultless (inl long) = omega (arith, short, long)
-not-refused first bytes short faultless (inr refused) = faultless refused.1.0 refused.1.1.stands
+not-refused : (first bytes : List ℕ) (netlist : Netlist) → length bytes ≤ most_text_bytes → IsNetlistText first bytes netlist → IsRefusedFirst first bytes → ⊥
+not-refused first bytes netlist short text (inl long) = omega (arith, short, long)
+not-refused first bytes netlist short text (inr refused) = not-both first bytes netlist refused.1.0 text refused.1.1
 
-told-read : (held : Option (List ℕ → List ℕ)) (first bytes : List ℕ) (stays : Type 0) → IfSome held (λ bytes_of. bytes ≡ bytes_of first) → length bytes ≤ most_text_bytes → IsFaultless bytes
-    → IfSome held (λ bytes_of. IsRefusedFirst first (bytes_of first) → stays)
-told-read None first bytes stays is short faultless = tt
-told-read (Some bytes_of) first bytes stays is short faultless =
-    λ refused. absurd (subst (λ (text : List ℕ). IsRefusedFirst first text → ⊥) is (not-refused first bytes short faultless) refused)
+told-read : (held : Option (List ℕ → List ℕ)) (first bytes : List ℕ) (netlist : Netlist) (stays : Type 0) → IfSome held (λ bytes_of. bytes ≡ bytes_of first) → length bytes ≤ most_text_bytes
+    → IsNetlistText first bytes netlist → IfSome held (λ bytes_of. IsRefusedFirst first (bytes_of first) → stays)
+told-read None first bytes netlist stays is short text = tt
+told-read (Some bytes_of) first bytes netlist stays is short text =
+    λ refused. absurd (subst (λ (told : List ℕ). IsRefusedFirst first told → ⊥) is (not-refused first bytes netlist short text) refused)
 
-pub first-read : (told : Observation) (task : Task) (options : Options) (first second bytes : List ℕ) → IfSome told.held (λ bytes_of. bytes ≡ bytes_of first) → length bytes ≤ most_text_bytes → IsFaultless bytes
-    → LeavesFiles told (Some (OnFiles task options first second))
-first-read told task options first second bytes is short faultless = told-read told.held first bytes (CountsStay told Second) is short faultless
+pub first-read : (told : Observation) (task : Task) (options : Options) (first second bytes : List ℕ) (netlist : Netlist) → IfSome told.held (λ bytes_of. bytes ≡ bytes_of first) → length bytes ≤ most_text_bytes
+    → IsNetlistText first bytes netlist → LeavesFiles told (Some (OnFiles task options first second))
+first-read told task options first second bytes netlist is short text = told-read told.held first bytes netlist (CountsStay told Second) is short text

@@ -24,6 +24,8 @@ pub mod ReplayDecided
 pub mod ReplayCounts
 -- How a task ends on a second text of which nothing is to be refused
 pub mod TextEnds
+-- Texts of netlists, in the format that the names of their files tell
+pub mod NetlistTexts
 -- How a job ends in which nothing is to be refused but a step or a cycle, where memory does not run out and the output is taken
 pub mod FaultlessEndings
 -- What a report may write: a finding that fits its network, and a variable that is there

@@ -26,7 +26,7 @@ use Rattle.hz_top.specs.declared.status.Status.{Status}
 use Rattle.hz_top.specs.declared.status.Status.TheVariants.{Done, Memory}
 use Rattle.hz_line.specs.Line.{most_text_bytes}
 use Rattle.hz_top.specs.Faultless.{AreGoodFiles}
-use Rattle.hz_top.specs.Netlists.{IsNetlistText}
+use Rattle.hz_top.specs.Netlists.{IsNetlistText, KeepsItsCovers}
 use Rattle.hz_top.specs.Outcome.{Observation}
 use Rattle.hz_top.specs.Reports.{AnalysisReplays, analyses_text}
 
@@ -83,9 +83,11 @@ pub record IsStoppedBy (analyses : List Analysis) (number var : ℕ) : Type 0 wh
 
 -- The report on the text of a netlist, whose file has this name, and on that of a script: its lines are those of the circuit, of the
 -- start and of what each change comes to. Of each change that is made the headline holds, and no change is stopped without a cause.
+-- The network of a text in BLIF keeps its covers.
 pub record IsExactReport (options : Options) (netlist_name netlist_text script_text report : List ℕ) : Type 0 where
   pub netlist : Netlist
   pub is_netlist : IsNetlistText netlist_name netlist_text netlist
+  pub covers : KeepsItsCovers netlist_name netlist_text
   pub script : ScriptOf
   pub is_script : IsValue netlist script_text script
   pub start : List Bool

@@ -3,6 +3,7 @@
 //! | Module | What lives in it |
 //! |---|---|
 //! | `status` | how a call of the program ends |
+//! | `netlist` | the first text, in the format that its file's name tells |
 //! | `order` | the order of work: two files, and then what the task does with the second text |
 //! | `refusal` | refusals: their lines and their statuses |
 //! | `second` | the second text: what every job does with a script, with a run text, and with patterns |
@@ -25,6 +26,7 @@ mod batching;
 mod converting;
 mod demo;
 mod dumping;
+mod netlist;
 mod order;
 mod reading_back;
 mod refusal;

@@ -13,6 +13,7 @@ use crate::analysis::Analyses;
 use crate::batching::Batches;
 use crate::converting::Converts;
 use crate::dumping::Dumps;
+use crate::netlist::read_netlist;
 use crate::refusal::{refuse_load, refuse_netlist};
 use crate::replaying::Replays;
 use crate::resetting::Resets;
@@ -51,7 +52,7 @@ pub(crate) fn work_on_files<F: Files, K: Sink>(
             Ok(text) => text,
             Err(fault) => return refuse_load(out, Place::First, fault),
         };
-        match hz_bench::read(alloc, text.as_slice()) {
+        match read_netlist(alloc, first, text.as_slice()) {
             Ok(circuit) => circuit,
             Err(fault) => return refuse_netlist(out, fault),
         }

@@ -2,11 +2,13 @@
 ghost use Rattle.std.specs.Prelude.{◌≡◌, ◌<◌, length};
 ghost use Rattle.hz_write.specs.Writes.{Wrote};
 ghost use Rattle.hz_top.specs.Ends.{Ends};
-ghost use Rattle.hz_top.specs.Inside.{LoadPrints, NetlistPrints, StartPrints, TextPrints, named_node, named_gate, NamesNode};
-ghost use Rattle.hz_top.specs.Refusal.{words_line, unread_line, long_line, place_word, fault_line, counted_line, variables_line, missing_line, mismatch_line, netlist_fault_line, text_fault_line, open_line, unstable_line};
+ghost use Rattle.hz_top.specs.Inside.{BenchPrints, BlifPrints, LoadPrints, NetlistPrints, StartPrints, TextPrints, named_node, named_gate, NamesNode};
+ghost use Rattle.hz_top.specs.Refusal.{words_line, unread_line, long_line, place_word, fault_line, counted_line, variables_line, missing_line, mismatch_line, bench_fault_line, blif_fault_line, text_fault_line, open_line, unstable_line};
 
+use crate::netlist::NetlistFault;
 use crate::status::{Status, status_after};
 use hz_bench::BenchFault;
+use hz_blif::BlifFault;
 use hz_core::Circuit;
 use hz_outside::{LoadFault, Place, PutFault, Sink};
 use hz_pass::StartFault;
@@ -114,9 +116,9 @@ fn put_variables<K: Sink>(out: &mut K, variables: u32) -> Result<(), PutFault>
     )
 }
 
-// A fault of a netlist's text. If memory ran out, there is no line.
-fn put_netlist_fault<K: Sink>(out: &mut K, fault: BenchFault) -> Result<(), PutFault>
-    ensures { Wrote K.output K.faults (netlist_fault_line fault) out.old out.new result }
+// A fault of a netlist in the .bench format. If memory ran out, there is no line.
+fn put_bench_fault<K: Sink>(out: &mut K, fault: BenchFault) -> Result<(), PutFault>
+    ensures { Wrote K.output K.faults (bench_fault_line fault) out.old out.new result }
 {
     match fault {
         BenchFault::Form { line } => put_at(out, b"netlist", line, b": form"),
@@ -129,6 +131,26 @@ fn put_netlist_fault<K: Sink>(out: &mut K, fault: BenchFault) -> Result<(), PutF
         BenchFault::Undefined { line } => put_at(out, b"netlist", line, b": undefined name"),
         BenchFault::TooMany { variables } => put_variables(out, variables),
         BenchFault::Memory => Ok(()),
+    }
+}
+
+// A fault of a netlist in BLIF. If memory ran out, there is no line.
+fn put_blif_fault<K: Sink>(out: &mut K, fault: BlifFault) -> Result<(), PutFault>
+    ensures { Wrote K.output K.faults (blif_fault_line fault) out.old out.new result }
+{
+    match fault {
+        BlifFault::Form { line } => put_at(out, b"netlist", line, b": form"),
+        BlifFault::Name { line } => put_at(out, b"netlist", line, b": name too long"),
+        BlifFault::Construct { line } => put_at(out, b"netlist", line, b": construct"),
+        BlifFault::Twice { line, first } => {
+            put_counted(out, line, b": defined twice, first on line ", first)
+        }
+        BlifFault::Cover { line } => put_at(out, b"netlist", line, b": cover"),
+        BlifFault::Pins { line, count } => put_counted(out, line, b": pins ", count),
+        BlifFault::Constant { line } => put_at(out, b"netlist", line, b": constant"),
+        BlifFault::Undefined { line } => put_at(out, b"netlist", line, b": undefined name"),
+        BlifFault::TooMany { variables } => put_variables(out, variables),
+        BlifFault::Memory => Ok(()),
     }
 }
 
@@ -239,12 +261,32 @@ pub(crate) fn refuse_load<K: Sink>(out: &mut K, place: Place, fault: LoadFault) 
 }
 
 // Writes why a text is no netlist.
-pub(crate) fn refuse_netlist<K: Sink>(out: &mut K, fault: BenchFault) -> Status
+pub(crate) fn refuse_netlist<K: Sink>(out: &mut K, fault: NetlistFault) -> Status
     ensures { Ends K.output K.faults (NetlistPrints fault) out.old out.new result }
 {
     match fault {
+        NetlistFault::Bench(fault) => refuse_bench(out, fault),
+        NetlistFault::Blif(fault) => refuse_blif(out, fault),
+    }
+}
+
+// Writes why a text is no netlist in the .bench format.
+fn refuse_bench<K: Sink>(out: &mut K, fault: BenchFault) -> Status
+    ensures { Ends K.output K.faults (BenchPrints fault) out.old out.new result }
+{
+    match fault {
         BenchFault::Memory => Status::Memory,
-        _ => status_after(put_netlist_fault(out, fault), Status::Netlist),
+        _ => status_after(put_bench_fault(out, fault), Status::Netlist),
+    }
+}
+
+// Writes why a text is no netlist in BLIF.
+fn refuse_blif<K: Sink>(out: &mut K, fault: BlifFault) -> Status
+    ensures { Ends K.output K.faults (BlifPrints fault) out.old out.new result }
+{
+    match fault {
+        BlifFault::Memory => Status::Memory,
+        _ => status_after(put_blif_fault(out, fault), Status::Netlist),
     }
 }
 

@@ -11,10 +11,10 @@ ghost use Rattle.hz_top.specs.LeftFiles.{LeavesFiles};
 ghost use Rattle.hz_top.specs.Outcome.{observation_of, IsJobOutcome, MayLoad};
 
 use crate::demo::demo;
+use crate::netlist::texts_are_circuits;
 use crate::order::work_on_files;
 use crate::refusal::put_words;
 use crate::status::{Status, status_after};
-use hz_bench::faultless_text_is_circuit;
 use hz_outside::{Files, Sink};
 use hz_words::{Job, WordsFault};
 use std::alloc::Global;
@@ -38,7 +38,7 @@ pub fn run<F: Files, K: Sink>(alloc: Global, words: &[String], files: &mut F, ou
         → ¬ Rose (K.faults out.old) (K.faults out.new)
         → (result ≡ own) ⊎ (result ≡ Status.Memory) }
 {
-    faultless_text_is_circuit();
+    texts_are_circuits();
     let status = answer(alloc, words, files, out);
     status_after(out.flush(), status)
 }

@@ -1,6 +1,7 @@
-use Rattle.std.proofs.Common.{refl, inl, inr, ap, ◌∙◌, Err}
+use Rattle.std.proofs.Common.{inl, inr, ap, sym, subst, ◌∙◌, Err}
 use Rattle.hz_outside.specs.declared.fault.Place.TheVariants.{First}
 use Rattle.hz_top.specs.Outcome.{IsFilesOutcome, IsSecondFileOutcome, observation_of}
+use Rattle.hz_top.specs.Netlists.{IsNetlistText}
 use Rattle.hz_top.specs.Tasks.{comes_of}
 use Rattle.hz_top.specs.Refusal.{netlist_fault_line}
 use Rattle.hz_top.specs.Inside.{LoadPrints, NetlistPrints}
@@ -22,21 +23,19 @@ returns-in-Err-clause-ends g c =
           (λ is. c.load.ensures.over (c.in-Err.is ∙ ap Err is)) own text says,
     )) c.refuse_load.ensures
 
-pub returns-in-Err-read-clause-ends : goal.returns-in-Err-read-clause-ends
-returns-in-Err-read-clause-ends g c =
+pub returns-in-Err-read_netlist-clause-ends : goal.returns-in-Err-read_netlist-clause-ends
+returns-in-Err-read_netlist-clause-ends g c =
     let told = observation_of g.F.Files.held g.F.Files.faults g.F.Files.longs c.args.files.now c.load.new.self in
     let comes = IsFilesOutcome told (comes_of c.args.options c.args.task) c.args.first.now c.args.second.now in
-    let fault = c.in-Err-read.fault in
+    let fault = c.in-Err-read_netlist.fault in
+    let bytes = c.as_slice.result.now in
     Ends-more g.K.Sink.output g.K.Sink.faults (NetlistPrints fault) comes c.args.out.now c.refuse_netlist.new.out c.refuse_netlist.result
-    (λ own text says. inr (
-      c.as_slice.result.now,
+    (λ own text says.
+    let refused = netlist-refused c.args.first.now bytes fault c.in-Err-read_netlist.ensures.refusal own text says in
+    inr (
+      bytes,
       (rw c.as_slice.ensures.value c.in-Ok.ensures.bytes, rw c.as_slice.ensures.len c.in-Ok.ensures.short),
-      inl (
-        netlist_fault_line fault,
-        (fault, netlist-refused c.as_slice.result.now fault c.in-Err-read.ensures.fault says.0, refl),
-        (c.load.ensures.other_faults, c.load.ensures.other_longs),
-        says.1,
-      ),
+      inl (netlist_fault_line fault, refused.0, (c.load.ensures.other_faults, c.load.ensures.other_longs), refused.1),
     )) c.refuse_netlist.ensures
 
 pub returns-clause-ends : goal.returns-clause-ends
@@ -55,7 +54,7 @@ returns-clause-ends g c =
       (rw c.as_slice.ensures.value c.in-Ok.ensures.bytes, rw c.as_slice.ensures.len c.in-Ok.ensures.short),
       inr (
         net,
-        (c.in-Ok-read.ensures.faultless, c.in-Ok-build.ensures.ok ∙ c.in-Ok-read.ensures.circuit),
+        subst (IsNetlistText c.args.first.now c.as_slice.result.now) (sym c.in-Ok-build.ensures.ok) c.in-Ok-read_netlist.ensures.netlist,
         IsSecondFileOutcome-before held faults longs c.args.files.now c.load.new.self now (comes net) name
             c.load.ensures.same_files c.load.ensures.other_faults c.load.ensures.other_longs own text says,
       ),
@@ -66,8 +65,8 @@ returns-in-Err-clause-files g c =
     second-stays (observation_of g.F.Files.held g.F.Files.faults g.F.Files.longs c.args.files.now c.load.new.self)
     c.args.task c.args.options c.args.first.now c.args.second.now (c.load.ensures.other_faults, c.load.ensures.other_longs)
 
-pub returns-in-Err-read-clause-files : goal.returns-in-Err-read-clause-files
-returns-in-Err-read-clause-files g c =
+pub returns-in-Err-read_netlist-clause-files : goal.returns-in-Err-read_netlist-clause-files
+returns-in-Err-read_netlist-clause-files g c =
     second-stays (observation_of g.F.Files.held g.F.Files.faults g.F.Files.longs c.args.files.now c.load.new.self)
     c.args.task c.args.options c.args.first.now c.args.second.now (c.load.ensures.other_faults, c.load.ensures.other_longs)
 
@@ -80,4 +79,4 @@ pub returns-clause-files : goal.returns-clause-files
 returns-clause-files g c =
     first-read (observation_of g.F.Files.held g.F.Files.faults g.F.Files.longs c.args.files.now c.work_on_second.new.files)
     c.args.task c.args.options c.args.first.now c.args.second.now c.as_slice.result.now
-    (rw c.as_slice.ensures.value c.in-Ok.ensures.bytes) (rw c.as_slice.ensures.len c.in-Ok.ensures.short) c.in-Ok-read.ensures.faultless
+    c.in-Ok-read_netlist.circuit (rw c.as_slice.ensures.value c.in-Ok.ensures.bytes) (rw c.as_slice.ensures.len c.in-Ok.ensures.short) c.in-Ok-read_netlist.ensures.netlist

@@ -6,7 +6,7 @@ use Rattle.hz_words.specs.Job.{job_of}
 use Rattle.hz_top.specs.Outcome.{observation_of, IsJobOutcome}
 use Rattle.hz_top.proofs.FaultlessEndings.{asked-end, ends-or-memory}
 use Rattle.hz_top.proofs.Flushed.{Answers-flushed}
-use Rattle.hz_top.proofs.Headlines.{headline, texts-are-circuits}
+use Rattle.hz_top.proofs.Headlines.{headline}
 use Rattle.hz_top.proofs.running.run.Goals as goal
 
 pub returns-clause-answer : goal.returns-clause-answer
@@ -24,7 +24,7 @@ returns-clause-headline g c =
     c.answer-status.result c.flush.result c.status_after.result c.requires.none_waits c.answer-status.ensures.ends
     c.flush.ensures.whole c.flush.ensures.none_waits c.flush.ensures.front c.flush.ensures.failed c.flush.ensures.never_falls c.status_after.ensures in
     headline (written_of g.K.Sink.output) g.K.Sink.faults told asked c.args.out.now c.flush.new.self c.status_after.result
-    (texts-are-circuits c.faultless_text_is_circuit.ensures) answers
+    c.texts_are_circuits.ensures answers
 
 pub returns-clause-done : goal.returns-clause-done
 returns-clause-done g c =

@@ -1,0 +1,28 @@
+-- Words, with their arguments, in the order in which one needs them.
+--
+-- joined_lines text: the lines of a text, without comments, joined where they go on
+-- tokens_of line: the tokens of a line
+-- Line, lines_in text: what a line is, by its first token
+-- Cover, covers_of lines: the covers of a text, each with its rows
+-- is_constant cover, is_skipped lines cover: which covers have no gates
+-- definitions_of lines, uses_of lines: the names that lines define and use
+-- cover_gates cover: the gates of a cover
+-- elements_of lines, blif_circuit text: the circuit of a text
+-- cover_value cover bits: the cover function
+-- HasFault text fault, IsLeastFault text fault: the faults, and which of them is the answer
+-- IsBlifRefusal text fault: that, or memory ran out
+-- IsFaultless text: no fault is in the text
+-- KeepsCovers text: stable states have the cover functions
+-- first_fault text: the least fault, computed
+-- IsFirstWord, IsPieceOf, line_by: what the reader's calls return
+
+pub mod Text
+pub mod Line
+pub mod Cover
+pub mod Gates
+pub mod Circuit
+pub mod Function
+pub mod Fault
+pub mod Law
+pub mod Check
+pub mod Reading

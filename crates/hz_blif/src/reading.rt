@@ -1,0 +1,130 @@
+// Reading a netlist.
+
+ghost use Rattle.std.specs.Prelude.{◌≡◌, ◌≤◌, ◌⊎◌, IfOk, IfErr, OnOk, IsErrOf, length};
+ghost use Rattle.hz_core.specs.Netlist.{IsWhole};
+ghost use Rattle.hz_line.specs.Line.{most_text_bytes};
+ghost use Rattle.hz_blif.specs.Circuit.{blif_circuit};
+ghost use Rattle.hz_blif.specs.Fault.{IsBlifRefusal, IsFaultless, IsLeastFault};
+
+use crate::build::build;
+use crate::draft::Draft;
+use crate::fault::BlifFault;
+use crate::line::{Course, line_of};
+use crate::lines::read_line;
+use crate::notes::{Excess, Redefinition};
+use hz_core::{Circuit, MAX_VARIABLES, Memory};
+use std::alloc::Global;
+
+/// Reads a netlist in BLIF.
+///
+/// A text is cut into lines, a comment from `#` on is left out, and a line that ends in `\` goes on in the next one. Its statements are
+/// `.model`, `.inputs`, `.outputs`, `.names` with the rows that follow it, and `.end`. The circuit has the inputs and outputs in the
+/// order of the text, and the gates of each cover, row by row: `y\nP` for the inverter of pin P, `y\rR` for the gate of row R, and y.
+/// A constant cover is skipped where nothing names its output, and refused elsewhere. It takes time linear in the text.
+pub fn read(alloc: Global, text: &[u8]) -> Result<Circuit, BlifFault>
+    requires { length text.now ≤ most_text_bytes }
+    ensures circuit { IfOk result (λ circuit. circuit ≡ blif_circuit text.now) }
+    ensures whole { IfOk result (λ circuit. IsWhole circuit) }
+    ensures faultless { OnOk result (IsFaultless text.now) }
+    ensures fault { IfErr result (IsBlifRefusal text.now) }
+    ensures exact { (fault : BlifFault) → IsLeastFault text.now fault
+        → IsErrOf result fault ⊎ IsErrOf result BlifFault.Memory }
+{
+    let draft = read_draft(alloc, text)?;
+    check(alloc, &draft)?;
+    let Ok(circuit) = build(alloc, &draft) else {
+        return Err(BlifFault::Memory);
+    };
+    Ok(circuit)
+}
+
+// What is kept of a text, or the first line whose form is wrong.
+fn read_draft<'t>(alloc: Global, text: &'t [u8]) -> Result<Draft<'t>, BlifFault> {
+    let mut draft = Draft::new(alloc, text);
+    let mut tokens = Vec::new(alloc);
+    let mut course = Course::new();
+    let mut number = 1;
+    let mut rest = Some(text);
+    while let Some(left) = rest {
+        let Ok(joined) = read_line(left, &mut tokens) else {
+            return Err(BlifFault::Memory);
+        };
+        let line = line_of(tokens.as_slice());
+        if joined.is_forbidden || course.refuses(&line) {
+            return Err(BlifFault::Form { line: number });
+        }
+        let Ok(()) = draft.names.make_room(left.len()) else {
+            return Err(BlifFault::Memory);
+        };
+        let Ok(()) = draft.add(number, &line) else {
+            return Err(BlifFault::Memory);
+        };
+        course = course.with(&line);
+        number += joined.lines;
+        rest = joined.rest;
+    }
+    match draft.close_cover() {
+        Ok(()) => Ok(draft),
+        Err(Memory) => Err(BlifFault::Memory),
+    }
+}
+
+// The least fault of what was kept, in the order of the faults.
+fn check(alloc: Global, draft: &Draft) -> Result<(), BlifFault> {
+    let notes = draft.notes;
+    if let Some(line) = notes.long_name {
+        return Err(BlifFault::Name { line });
+    }
+    if let Some(line) = notes.construct {
+        return Err(BlifFault::Construct { line });
+    }
+    if let Some(Redefinition { line, first }) = notes.again {
+        return Err(BlifFault::Twice { line, first });
+    }
+    if let Some(line) = notes.wrong_row {
+        return Err(BlifFault::Cover { line });
+    }
+    if let Some(Excess { line, count }) = notes.excess {
+        return Err(BlifFault::Pins { line, count });
+    }
+    match first_used_constant(alloc, draft) {
+        Ok(None) => {}
+        Ok(Some(line)) => return Err(BlifFault::Constant { line }),
+        Err(Memory) => return Err(BlifFault::Memory),
+    }
+    if let Some(line) = draft.names.first_undefined() {
+        return Err(BlifFault::Undefined { line });
+    }
+    if draft.variables > MAX_VARIABLES as usize {
+        return Err(BlifFault::TooMany {
+            variables: draft.variables as u32,
+        });
+    }
+    Ok(())
+}
+
+// The line of the first constant cover whose output a pin or an output names.
+fn first_used_constant(alloc: Global, draft: &Draft) -> Result<Option<u32>, Memory> {
+    if draft.constants.is_empty() {
+        return Ok(None);
+    }
+    let named = marks(alloc, draft.names.len(), draft.constant_pins.as_slice())?;
+    for constant in &draft.constants {
+        let output = constant.output;
+        if named[output as usize] || draft.names.user(output).is_some() {
+            return Ok(Some(constant.line));
+        }
+    }
+    Ok(None)
+}
+
+// A mark for each name, set where the name is among these.
+fn marks(alloc: Global, names: usize, marked: &[u32]) -> Result<Vec<bool>, Memory> {
+    let Ok(mut marks) = vec![in alloc; false; names] else {
+        return Err(Memory);
+    };
+    for number in marked {
+        marks[*number as usize] = true;
+    }
+    Ok(marks)
+}

@@ -1,0 +1,268 @@
+// Names that have a number at first sight.
+
+ghost use Rattle.std.specs.Prelude.{◌≡◌, ◌<◌, ◌++◌, ◌∷◌, [], IfOk, OnOk, Some, None, length, map, position};
+ghost use Rattle.std.specs.Str.{bytes_eq};
+ghost use Rattle.hz_core.specs.NameHash.{hash_of};
+ghost use Rattle.hz_netlist.specs.Names.{seen_names, seen_at, with_definition, with_sight, with_use, first_undefined, undefined_line, fresh};
+ghost use Rattle.hz_netlist.specs.Table.{entry_names, seen_of};
+
+use hz_core::{Chains, Memory, NameHashing, Named, find_name, lesser};
+use sha2::{Digest, Sha256};
+use std::alloc::Global;
+use std::marker::Model;
+
+// How many names a table has room for at first.
+const FIRST_ROOM: usize = 1000;
+
+// A name, and the lines that define and use it first. The name borrows the text.
+#[derive(Clone, Copy)]
+pub(crate) struct Entry<'a> {
+    pub(crate) name: &'a [u8],
+    pub(crate) definer: Option<u32>,
+    pub(crate) user: Option<u32>,
+}
+
+impl<'a> Entry<'a> {
+    // The first line that uses the name, if no line defines it.
+    fn undefined(&self) -> Option<u32>
+        ensures { result ≡ undefined_line (seen_of self.now) }
+    {
+        match self.definer {
+            None => self.user,
+            Some(_) => None,
+        }
+    }
+}
+
+impl<'a> Named for Entry<'a> {
+    ghost name_of = { λ one. one.name.now };
+
+    fn name(&self) -> &[u8] {
+        self.name
+    }
+}
+
+/// The names of a text, in the order of first sight, each with the lines that define and use it first. The number of a name is its place.
+///
+/// Names are hashed plainly, until some chain is longer than chance makes one: then they were chosen to collide, and are hashed with
+/// a digest of the whole text as the key, which nobody knows before the text is written.
+#[derive(Drop)]
+pub struct NameTable<'a> {
+    text: &'a [u8],
+    entries: Vec<Entry<'a>>,
+    hashing: NameHashing,
+    chains: Chains,
+    is_keyed: bool,
+}
+
+impl<'a> Model for NameTable<'a> {
+    ghost use Rattle.hz_netlist.specs.Names.{Names};
+
+    ghost Value = { Names };
+
+    ghost use Rattle.hz_netlist.specs.Table.{names_of, HoldsNames};
+
+    ghost view = { names_of };
+
+    ghost invariant = { HoldsNames };
+}
+
+impl<'a> NameTable<'a> {
+    /// The table of a text, without names so far.
+    pub fn new(alloc: Global, text: &'a [u8]) -> NameTable<'a>
+        ensures { result ≡ [] }
+    {
+        NameTable {
+            text,
+            entries: Vec::new(alloc),
+            hashing: NameHashing::plain(),
+            chains: Chains::new(alloc),
+            is_keyed: false,
+        }
+    }
+
+    /// How many names there are.
+    pub fn len(&self) -> usize
+        ensures { result ≡ length self.now }
+    {
+        self.entries.len()
+    }
+
+    /// How the names are hashed.
+    pub fn hashing(&self) -> NameHashing {
+        self.hashing
+    }
+
+    /// The hash with a digest of the text as the key: names that collide in it can't be chosen.
+    pub fn keyed_hashing(&self) -> NameHashing {
+        let digest = Sha256::digest(self.text);
+        NameHashing::keyed(&digest)
+    }
+
+    /// The name with this number.
+    pub fn name(&self, number: u32) -> &'a [u8]
+        requires { number < length self.now }
+        ensures { result.now ≡ (seen_at self.now number).name }
+    {
+        self.entries[number as usize].name
+    }
+
+    /// The first line that uses the name with this number.
+    pub fn user(&self, number: u32) -> Option<u32>
+        requires { number < length self.now }
+        ensures { result ≡ (seen_at self.now number).user }
+    {
+        self.entries[number as usize].user
+    }
+
+    /// The number of a name; a new name comes last.
+    pub fn sight(&mut self, name: &'a [u8]) -> Result<u32, Memory>
+        ensures seen { OnOk result (self.new ≡ with_sight self.old name.now) }
+        ensures number { IfOk result (λ number. position (bytes_eq name.now) (seen_names self.new) ≡ Some number) }
+    {
+        if let Some(place) = self.place_of(name) {
+            let number = number_of(place)?;
+            return Ok(number);
+        }
+        let number = number_of(self.len())?;
+        self.scatter()?;
+        self.add(name)?;
+        Ok(number)
+    }
+
+    /// Notes that a line defines a name; the first line that did before, if one did.
+    pub fn define(&mut self, number: u32, line: u32) -> Option<u32>
+        requires { number < length self.old }
+        ensures before { result ≡ (seen_at self.old number).definer }
+        ensures defined { self.new ≡ with_definition self.old (seen_at self.old number).name line }
+    {
+        let entry = self.entries[number as usize];
+        self.entries[number as usize] = Entry {
+            definer: Some(entry.definer.unwrap_or(line)),
+            ..entry
+        };
+        entry.definer
+    }
+
+    /// Notes that a line uses a name.
+    pub fn note_use(&mut self, number: u32, line: u32)
+        requires { number < length self.old }
+        ensures { self.new ≡ with_use self.old (seen_at self.old number).name line }
+    {
+        let entry = self.entries[number as usize];
+        self.entries[number as usize] = Entry {
+            user: Some(entry.user.unwrap_or(line)),
+            ..entry
+        };
+    }
+
+    /// The first line that uses a name which no line defines.
+    #[tactic(auto, using(crate::proofs::NameTableLemmas::min_assoc, crate::proofs::NameTableLemmas::min_none))]
+    pub fn first_undefined(&self) -> Option<u32>
+        ensures { result ≡ first_undefined self.now }
+    {
+        let mut first = None;
+        for entry in &self.entries {
+            first = lesser(first, entry.undefined());
+        }
+        first
+    }
+
+    /// Takes room for the names of the rest of the text, so many bytes, if the table is full: as many to a byte as were found in what was
+    /// read so far. So a table of a million names is made anew once or twice, and not twenty times.
+    pub fn make_room(&mut self, left: usize) -> Result<(), Memory>
+        ensures { OnOk result (self.new ≡ self.old) }
+    {
+        let names = self.entries.len();
+        if names < self.chains.room() {
+            return Ok(());
+        }
+        let read = self.text.len().saturating_sub(left);
+        let more = names.saturating_mul(left) / read.max(1);
+        self.reserve(more.max(FIRST_ROOM))
+    }
+
+    // The place of a name in the table.
+    fn place_of(&self, name: &[u8]) -> Option<usize>
+        ensures { result ≡ position (bytes_eq name.now) (seen_names self.now) }
+    {
+        find_name(self.entries.as_slice(), &self.chains, &self.hashing, name)
+    }
+
+    // Makes room for that many more names.
+    fn reserve(&mut self, more: usize) -> Result<(), Memory>
+        ensures { OnOk result (self.new ≡ self.old) }
+    {
+        let Ok(()) = self.entries.reserve(more) else {
+            return Err(Memory);
+        };
+        self.chains.reserve(self.entries.len().saturating_add(more))
+    }
+
+    // Adds a name that the table does not have.
+    fn add(&mut self, name: &'a [u8]) -> Result<(), Memory>
+        requires { position (bytes_eq name.now) (seen_names self.old) ≡ None }
+        ensures { OnOk result (self.new ≡ self.old ++ fresh name.now ∷ []) }
+    {
+        let Ok(()) = self.entries.reserve(1) else {
+            return Err(Memory);
+        };
+        let Ok(()) = self.chains.push(self.hashing.hash(name)) else {
+            return Err(Memory);
+        };
+        self.entries.push_reserved(Entry {
+            name,
+            definer: None,
+            user: None,
+        });
+        Ok(())
+    }
+
+    // Hashes the names anew, if they were chosen to collide.
+    fn scatter(&mut self) -> Result<(), Memory>
+        ensures { OnOk result (self.new ≡ self.old) }
+    {
+        if self.chains.are_crowded() && !self.is_keyed {
+            self.rekey()
+        } else {
+            Ok(())
+        }
+    }
+
+    // Hashes the names with a digest of the text as the key.
+    fn rekey(&mut self) -> Result<(), Memory>
+        ensures { OnOk result (self.new ≡ self.old) }
+    {
+        let hashing = self.keyed_hashing();
+        let mut chains = Chains::new(*self.entries.allocator());
+        chains.reserve(self.chains.room())?;
+        hash_names(self.entries.as_slice(), &hashing, &mut chains)?;
+        self.hashing = hashing;
+        self.chains = chains;
+        self.is_keyed = true;
+        Ok(())
+    }
+}
+
+// A place as a number, of which a table has no more than 32 bits tell.
+fn number_of(place: usize) -> Result<u32, Memory>
+    ensures { IfOk result (λ number. number ≡ place) }
+{
+    match u32::try_from(place) {
+        Ok(number) => Ok(number),
+        Err(_) => Err(Memory),
+    }
+}
+
+// Puts the names of entries on chains.
+fn hash_names(entries: &[Entry], hashing: &NameHashing, chains: &mut Chains) -> Result<(), Memory>
+    ensures { OnOk result (chains.new ≡ chains.old ++ map (hash_of hashing.now) (entry_names entries.now)) }
+{
+    for entry in entries {
+        match chains.push(hashing.hash(entry.name)) {
+            Ok(()) => {}
+            Err(Memory) => return Err(Memory),
+        }
+    }
+    Ok(())
+}
