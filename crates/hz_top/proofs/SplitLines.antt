@@ -7,13 +7,13 @@ use Rattle.std.proofs.lemmas.List.Concat.{flat_map-append}
 use Rattle.std.proofs.lemmas.List.Elements.{Contains-get_or}
 use Rattle.std.proofs.lemmas.List.Folds.{list_any_at}
 use Rattle.hz_core.specs.declared.tri.Tri.{Tri}
-use Rattle.hz_core.specs.declared.tri.Tri.TheVariants.{Zero, One, Unknown}
+use Rattle.hz_core.specs.declared.tri.Tri.TheVariants.{Zero, Unknown}
 use Rattle.hz_core.specs.Ternary.{tri_of, is_unknown}
 use Rattle.hz_core.specs.Netlist.{Netlist}
 use Rattle.hz_desk.specs.declared.finding.Row.{Row}
 use Rattle.hz_desk.specs.Finding.{FindingOf, values_b}
 use Rattle.hz_seq.specs.Analyses.{Analysis, Found, Stopped, AreAnalyses, all_stopped}
-use Rattle.hz_seq.specs.Sequence.{SequenceState, IsFindingOfChange, IsFirstUnknown, IsSettledAt, IsLeftBy}
+use Rattle.hz_seq.specs.Sequence.{SequenceState, IsFindingOfChange, IsFirstUnknown, IsLeftBy}
 use Rattle.hz_seq.proofs.FirstAnalyses.{AreFirstAnalyses, AreLaterAnalyses, all-analyses}
 use Rattle.hz_seq.proofs.Existence.{settled-or-unknown}
 use Rattle.hz_top.specs.declared.status.Status.{Status}

@@ -1,18 +1,16 @@
 -- The runs of a change that end in stable states are accepted by a replay.
-use Rattle.std.proofs.Common.{◌≡◌, ◌∙◌, ℕ, ◌<◌, ◌≤◌, Bool, List, [], ◌∷◌, length, map, take, Some, All, refl, sym, ap, subst, arith}
-use Rattle.std.proofs.lemmas.List.{length-take-le, length-map}
+use Rattle.std.proofs.Common.{◌≡◌, ℕ, ◌<◌, Bool, List, [], ◌∷◌, length, map, take, All, subst, arith}
+use Rattle.std.proofs.lemmas.List.{length-take-le}
 use Rattle.std.proofs.lemmas.List.Elements.{All-nil, All-cons, All-head, All-tail}
 use Rattle.hz_core.specs.Netlist.{Netlist, IsCircuit}
 use Rattle.hz_net.specs.Network.{Driver, network_of}
 use Rattle.hz_net.specs.Starts.{IsStableStart}
 use Rattle.hz_net.proofs.Places.{length-network_of}
-use Rattle.hz_gmw.specs.RunRecord.{flip_count}
 use Rattle.hz_desk.specs.declared.finding.Row.{Row}
 use Rattle.hz_desk.specs.Finding.{FindingOf}
 use Rattle.hz_split.specs.Splits.{IsSettledRun, AreSettledRuns}
 use Rattle.hz_split.proofs.OutcomeRuns.{stable-cycle}
 use Rattle.hz_text.specs.RunReadBack.{PrintedRunsAreRead}
-use Rattle.hz_text.specs.RunValue.{RunOf}
 use Rattle.hz_top.specs.Replaying.{IsAcceptedRun, start_of}
 use Rattle.hz_top.specs.Splits.{closed, found_in, runs_of_split, IsSplitOf}
 use Rattle.hz_top.proofs.ReadBack.{accepted-replays, stable-expansion_of}

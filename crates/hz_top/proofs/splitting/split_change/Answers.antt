@@ -1,6 +1,5 @@
 -- The finding is right, and what is found of it is written.
-use Rattle.std.proofs.Common.{◌≡◌, List, ℕ, Bool, length, map, refl, ap, subst}
-use Rattle.hz_core.specs.Netlist.{Netlist}
+use Rattle.std.proofs.Common.{◌≡◌, map, refl, ap, subst}
 use Rattle.hz_net.specs.Network.{network_of}
 use Rattle.hz_desk.specs.declared.finding.Row.{Row}
 use Rattle.hz_desk.specs.Finding.{finding_of, values_b}

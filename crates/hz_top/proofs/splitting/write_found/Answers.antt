@@ -1,8 +1,7 @@
 -- The lines of each run.
-use Rattle.std.proofs.Common.{◌≡◌, ◌∙◌, ◌<◌, ℕ, List, [], length, take, map, sym, ap, subst, arith}
+use Rattle.std.proofs.Common.{◌≡◌, ◌∙◌, ◌<◌, ℕ, List, length, take, map, sym, ap, arith}
 use Rattle.std.specs.List.{flat_map}
 use Rattle.std.proofs.Math.Seq.{take-length}
-use Rattle.hz_write.specs.Writer.{Writes}
 use Rattle.hz_write.proofs.Writers.{writes_then, writes_same}
 use Rattle.hz_text.specs.RunPrinted.{run_text}
 use Rattle.hz_top.specs.Splits.{closed}

@@ -1,5 +1,5 @@
 -- All that the writer was given.
-use Rattle.std.proofs.Common.{◌≡◌, ◌∙◌, ◌≤◌, ◌++◌, ℕ, Bool, List, length, map, take, refl, sym, ap, rules, arith}
+use Rattle.std.proofs.Common.{◌≡◌, ◌∙◌, Bool, length, refl, sym, ap, rules, arith}
 use Rattle.std.proofs.lemmas.List.{length-take-le, length-map}
 use Rattle.hz_core.specs.Netlist.{Netlist}
 use Rattle.hz_net.proofs.Places.{length-network_of}
