@@ -1,5 +1,7 @@
+pub mod Lists
 pub mod TwoLevel
 pub mod StableElements
+pub mod KeptCovers
 pub mod CoverLaw
 pub mod TokenLemmas
 pub mod LineLemmas
@@ -8,4 +10,7 @@ pub mod JoinLemmas
 pub mod NameLaws
 pub mod WiredPins
 pub mod WiredNames
+pub mod WiredLines
+pub mod WiredGates
+pub mod WiredText
 pub mod Examples
