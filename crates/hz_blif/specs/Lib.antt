@@ -15,6 +15,8 @@
 -- KeepsCovers text: stable states have the cover functions
 -- first_fault text: the least fault, computed
 -- IsFirstWord, IsPieceOf, line_by: what the reader's calls return
+-- elements_by name gates: the elements for which gates stand
+-- HoldsGates gates, IsWhole cover: what the making of gates keeps, and what it asks of a cover
 
 pub mod Text
 pub mod Line
@@ -26,3 +28,4 @@ pub mod Fault
 pub mod Law
 pub mod Check
 pub mod Reading
+pub mod Entries

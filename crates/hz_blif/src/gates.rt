@@ -3,7 +3,9 @@
 //! The gates of all covers stand one after the other, each with what its pins read: a name of the text, or an inverter or a row gate of its own
 //! cover. These two have names that no text can have, so they are known by their numbers, and never looked up.
 
-ghost use Rattle.std.specs.Prelude.{◌≡◌};
+ghost use Rattle.std.specs.Prelude.{◌≡◌, ◌+◌, ◌++◌, [], ℕ, List, OnOk};
+ghost use Rattle.hz_netlist.specs.Element.{variable_total};
+ghost use Rattle.hz_blif.specs.Entries.{AreNamed, HasNamesBelow, HoldsGates, IsWhole, cover_by, elements_by, variables_of};
 ghost use Rattle.hz_blif.specs.Gates.{has_zero};
 ghost use Rattle.hz_blif.specs.Reading.{bytes_of};
 
@@ -56,7 +58,11 @@ pub(crate) struct Gates {
 
 impl Gates {
     /// Without covers.
-    pub(crate) fn new(alloc: Global) -> Gates {
+    pub(crate) fn new(alloc: Global) -> Gates
+        ensures holds { HoldsGates result }
+        ensures gates { result.gates.items ≡ [] }
+        ensures sources { result.sources.items ≡ [] }
+    {
         Gates {
             gates: Vec::new(alloc),
             sources: Vec::new(alloc),
@@ -66,28 +72,48 @@ impl Gates {
     }
 
     /// The gates.
-    pub(crate) fn as_slice(&self) -> &[Gate] {
+    pub(crate) fn as_slice(&self) -> &[Gate]
+        ensures { result.now ≡ self.now.gates.items }
+    {
         self.gates.as_slice()
     }
 
     /// What their pins read.
-    pub(crate) fn sources(&self) -> &[Source] {
+    pub(crate) fn sources(&self) -> &[Source]
+        ensures { result.now ≡ self.now.sources.items }
+    {
         self.sources.as_slice()
     }
 
     /// How many gates and pins there are.
-    pub(crate) fn variables(&self) -> usize {
+    pub(crate) fn variables(&self) -> usize
+        ensures { result ≡ variables_of self.now }
+    {
         self.gates.len() + self.sources.len()
     }
 
     /// Forgets all gates.
-    pub(crate) fn clear(&mut self) {
+    pub(crate) fn clear(&mut self)
+        ensures holds { HoldsGates self.new }
+        ensures gates { self.new.gates.items ≡ [] }
+        ensures sources { self.new.sources.items ≡ [] }
+    {
         self.gates.clear();
         self.sources.clear();
     }
 
     /// Adds the gates of a cover that is not constant.
-    pub(crate) fn add_cover(&mut self, cover: &Cover) -> Result<(), Memory> {
+    pub(crate) fn add_cover(&mut self, cover: &Cover) -> Result<(), Memory>
+        requires whole { IsWhole cover.now }
+        requires holds { HoldsGates self.old }
+        ensures holds { OnOk result (HoldsGates self.new) }
+        ensures named { OnOk result ((names : ℕ)
+            → AreNamed names self.old → HasNamesBelow names cover.now → AreNamed names self.new) }
+        ensures elements { OnOk result ((name : ℕ → List ℕ)
+            → elements_by name self.new ≡ elements_by name self.old ++ cover_by name cover.now) }
+        ensures counted { OnOk result ((name : ℕ → List ℕ)
+            → variables_of self.new ≡ variables_of self.old + variable_total (cover_by name cover.now)) }
+    {
         match cover.planes() {
             [] => Ok(()),
             [plane] => self.add_single(cover, *plane),
