@@ -216,13 +216,13 @@ find-cover test (first ∷ later) low found h e = by_test (test first) refl e (�
 
 pub find-no_cover : (test : Cover → Bool) (covers : List Cover) → find test covers ≡ None → (other : Cover) → Contains covers other → test other ≡ true → ⊥
 find-no_cover test [] e other c p = none_of other c
-find-no_cover test (first ∷ later) e other c p = by_test (test first) refl e
+find-no_cover test (first ∷ later) e other c p = by_test (test first) refl e (λ e rest. find-no_cover test later e other rest p)
   where
-    by_test : (passes : Bool) → test first ≡ passes → cond passes (Some first) (find test later) ≡ None → ⊥
-    by_test true is e = cc
-    by_test false is e = elim (one_of first later other c) [
+    by_test : (passes : Bool) → test first ≡ passes → cond passes (Some first) (find test later) ≡ None → (find test later ≡ None → Contains later other → ⊥) → ⊥
+    by_test true is e ih = cc
+    by_test false is e ih = elim (one_of first later other c) [
       | inl here ↦ true-false (sym p ∙ ap test (sym here) ∙ is)
-      | inr rest ↦ find-no_cover test later e other rest p
+      | inr rest ↦ ih e rest
     ]
 
 -- two covers on one line are one
