@@ -7,6 +7,7 @@ pub mod TokenLemmas
 pub mod LineLemmas
 pub mod RowLemmas
 pub mod JoinLemmas
+pub mod Ascending
 pub mod NameLaws
 pub mod WiredPins
 pub mod WiredNames

@@ -16,6 +16,7 @@
 -- first_fault text: the least fault, computed
 -- IsFirstWord, IsPieceOf, line_by: what the reader's calls return
 -- elements_by name gates: the elements for which gates stand
+-- IsDraftOf text draft, HoldsElements text draft: what is kept of the lines of a text
 -- HoldsGates gates, IsWhole cover: what the making of gates keeps, and what it asks of a cover
 
 pub mod Text
@@ -29,3 +30,4 @@ pub mod Law
 pub mod Check
 pub mod Reading
 pub mod Entries
+pub mod Draft

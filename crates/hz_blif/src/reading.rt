@@ -4,6 +4,7 @@ ghost use Rattle.std.specs.Prelude.{◌≡◌, ◌≤◌, ◌⊎◌, IfOk, IfErr
 ghost use Rattle.hz_core.specs.Netlist.{IsWhole};
 ghost use Rattle.hz_line.specs.Line.{most_text_bytes};
 ghost use Rattle.hz_blif.specs.Circuit.{blif_circuit};
+ghost use Rattle.hz_blif.specs.Draft.{IsDraftOf};
 ghost use Rattle.hz_blif.specs.Fault.{IsBlifRefusal, IsFaultless, IsLeastFault};
 
 use crate::build::build;
@@ -39,7 +40,10 @@ pub fn read(alloc: Global, text: &[u8]) -> Result<Circuit, BlifFault>
 }
 
 // What is kept of a text, or the first line whose form is wrong.
-fn read_draft<'t>(alloc: Global, text: &'t [u8]) -> Result<Draft<'t>, BlifFault> {
+fn read_draft<'t>(alloc: Global, text: &'t [u8]) -> Result<Draft<'t>, BlifFault>
+    requires { length text.now ≤ most_text_bytes }
+    ensures draft { IfOk result (λ draft. IsDraftOf text.now draft) }
+{
     let mut draft = Draft::new(alloc, text);
     let mut tokens = Vec::new(alloc);
     let mut course = Course::new();
