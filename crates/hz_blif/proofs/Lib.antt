@@ -15,3 +15,7 @@ pub mod WiredLines
 pub mod WiredGates
 pub mod WiredText
 pub mod Examples
+pub mod NodeLemmas
+pub mod DraftElements
+pub mod BuildLaws
+pub mod DraftText

@@ -71,6 +71,26 @@ none-before name (one ∷ rest) none = by_test (bytes_eq name one.statement) ref
     by_test false is none more =
         (λ same. let wrong : true ≡ false = sym ((bytes_eq-Decides name one.statement).1 same) ∙ is in cc, more none)
 
+-- and the other way round
+first-none : (name : List ℕ) (before : List (Numbered (List ℕ))) → AllByRecursion (λ other. name ≢ other) (names_of before) → first_passing_line (bytes_eq name) before ≡ None
+first-none name [] differ = refl
+first-none name (one ∷ rest) differ = by_test (bytes_eq name one.statement) refl (first-none name rest differ.1)
+  where
+    by_test : (same : Bool) → bytes_eq name one.statement ≡ same → first_passing_line (bytes_eq name) rest ≡ None
+        → option_map (λ (numbered : Numbered (List ℕ)). numbered.line) (cond same (Some one) (find (λ numbered. bytes_eq name numbered.statement) rest)) ≡ None
+    by_test true is more = absurd (differ.0 ((bytes_eq-Decides name one.statement).0 is))
+    by_test false is more = more
+
+-- a name that stands among names that are apart differs from those before it
+there-among : (P : List ℕ → Type 0) (earlier : List (Numbered (List ℕ))) (one : Numbered (List ℕ)) (rest : List (Numbered (List ℕ))) → AllByRecursion P (names_of (earlier ++ one ∷ rest)) → P one.statement
+there-among P [] one rest all = all.0
+there-among P (first ∷ earlier) one rest all = there-among P earlier one rest all.1
+
+earlier-differ : (earlier : List (Numbered (List ℕ))) (one : Numbered (List ℕ)) (rest : List (Numbered (List ℕ))) → AreApart (names_of (earlier ++ one ∷ rest)) → AllByRecursion (λ other. one.statement ≢ other) (names_of earlier)
+earlier-differ [] one rest apart = tt
+earlier-differ (first ∷ earlier) one rest apart =
+    (λ same. there-among (λ other. first.statement ≢ other) earlier one rest apart.0 (sym same), earlier-differ earlier one rest apart.1)
+
 -- a name that differs from all before it comes behind them
 one-more : (name : List ℕ) (names : List (List ℕ)) → AreApart names → AllByRecursion (λ other. name ≢ other) names → AreApart (names ++ name ∷ [])
 one-more name [] apart differ = (tt, tt)
@@ -98,7 +118,15 @@ defined-apart text faultless before (one ∷ rest) is apart =
   where
     by_first : (first : Option ℕ) → first_passing_line (bytes_eq one.statement) before ≡ first → first ≡ None
     by_first None h = refl
-    by_first (Some first) h = absurd (faultless (fault.Twice one.line first) (before, one.statement, record { after = rest; split = is }, h))
+    by_first (Some first) h = absurd (faultless (fault.Twice one.line first) (record {
+      before = before;
+      name = one.statement;
+      stands = record { after = rest; split = is };
+      first_is = h;
+      earliest = λ earlier other stands.
+          first-none other earlier
+          (earlier-differ earlier (record { line = one.line; statement = other }) stands.after (subst (λ all. AreApart (names_of all)) stands.split apart));
+    }))
 
 definitions-apart : (text : List ℕ) → IsFaultless text → AreApart (names_of (definitions_of (lines_in text)))
 definitions-apart text faultless = defined-apart text faultless [] (definitions_of (lines_in text)) refl tt

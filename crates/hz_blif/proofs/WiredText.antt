@@ -12,6 +12,7 @@ use Rattle.hz_netlist.specs.Build.{Apart, AreWired, HasNodeName, UsesKnown}
 use Rattle.hz_netlist.specs.Circuit.{all_inputs, node_names}
 use Rattle.hz_netlist.specs.Element.{Element, Input, Cut, Gate, Output, input_names, cut_names, gate_names}
 use Rattle.hz_blif.specs.declared.fault.BlifFault.TheVariants as fault
+use Rattle.hz_blif.specs.Built.{IsPlain}
 use Rattle.hz_blif.specs.Circuit.{elements_of}
 use Rattle.hz_blif.specs.Cover.{Cover, cover_of_line, covers_of, definitions_of, definitions_with, inputs_of, inputs_with, is_among, is_constant, is_skipped, is_used, kept_covers, last_token, leading_rows, names_of, on_line, outputs_of, planes_of, uses_of}
 use Rattle.hz_blif.specs.Fault.{HasCover, IsFaultless}
@@ -19,7 +20,7 @@ use Rattle.hz_blif.specs.Gates.{cover_gates, literals_of}
 use Rattle.hz_blif.specs.Line.{Line, Blank, Model, Inputs, Outputs, Names, Row, End, Construct, lines_in}
 use Rattle.hz_blif.proofs.KeptCovers.{HasTerms, kept-terms}
 use Rattle.hz_blif.proofs.Lists.{all-append, all-as, all-both, all-contained, all-cut, all-kept, kept-passing, passing-kept}
-use Rattle.hz_blif.proofs.NameLaws.{AreApart, HaveApartOutputs, IsNameOf, IsPlain, IsSmallCover, covers-apart, gate_names-append, later-names, names-differ}
+use Rattle.hz_blif.proofs.NameLaws.{AreApart, HaveApartOutputs, IsNameOf, IsSmallCover, covers-apart, gate_names-append, later-names, names-differ}
 use Rattle.hz_blif.proofs.WiredGates.{ReadsThat, cover-node, cover-output, cover-read, rows-long}
 use Rattle.hz_blif.proofs.WiredLines.{DifferFromOutputs, HaveNames, covers-have, inputs-have, join-apart, lined, text-apart}
 use Rattle.hz_blif.proofs.WiredNames.{IsTextName, text-names}

@@ -17,6 +17,7 @@
 -- IsFirstWord, IsPieceOf, line_by: what the reader's calls return
 -- elements_by name gates: the elements for which gates stand
 -- IsDraftOf text draft, HoldsElements text draft: what is kept of the lines of a text
+-- IsBuildable draft, elements_of_draft draft: the drafts that can be built, and the elements for which they stand
 -- HoldsGates gates, IsWhole cover: what the making of gates keeps, and what it asks of a cover
 
 pub mod Text
@@ -31,3 +32,4 @@ pub mod Check
 pub mod Reading
 pub mod Entries
 pub mod Draft
+pub mod Built
