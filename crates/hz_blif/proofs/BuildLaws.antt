@@ -1,5 +1,5 @@
 -- The circuit of a draft that can be built is that of its elements.
-use Rattle.std.proofs.Common.{◌≡◌, ◌∙◌, refl, sym, ap, subst, ℕ, zero, suc, ◌+◌, ◌<◌, ◌≤◌, Bool, true, false, List, [], ◌∷◌, ◌++◌, length, map, fold, length-append, arith}
+use Rattle.std.proofs.Common.{◌≡◌, ◌∙◌, refl, sym, ap, subst, ℕ, zero, suc, ◌+◌, ◌<◌, ◌≤◌, Bool, true, false, Some, List, [], ◌∷◌, ◌++◌, length, map, fold, length-append, arith}
 use Rattle.std.specs.Prelude.{All}
 use Rattle.std.specs.List.{AllByRecursion, IsDistinct, list_any}
 use Rattle.std.specs.Str.{bytes_eq}
@@ -212,7 +212,7 @@ module _ (draft : Draft) (can : IsBuildable draft) where
 
       pub build-circuit : fold with_output (with_pins_by bare bare.inputs entries pins) found ≡ circuit_of_elements elements
       build-circuit =
-          let cuts : circuit.cuts ≡ [] = ap (λ (netlist : Netlist). netlist.cuts) (connected-is elements) ∙ ap (λ names. map _ (map (number_in (node_names elements)) names)) parts_are.no_data in
+          let cuts : circuit.cuts ≡ [] = ap (λ (netlist : Netlist). netlist.cuts) (connected-is elements) ∙ ap (λ names. map Some (map (number_in (node_names elements)) names)) parts_are.no_data in
           ap (λ now. fold with_output now found) connected
           ∙ sym (without-data (fold with_output circuit found) (cuts-kept circuit found ∙ cuts))
           ∙ ap with_data_outputs (ap (fold with_output circuit) found_are ∙ sym (outputs-numbered circuit elements))

@@ -65,11 +65,9 @@ steps-cut May step now [] back may = (tt, may)
 steps-cut May step now (first ∷ front) back may = let more = steps-cut May step (step now first) front back may.1 in ((may.0, more.0), more.1)
 
 -- the next step of those that are left
-pub step-next : {A B : Type 0} (May : A → B → Type 0) (step : A → B → A) (now : A) (items : List B) (index : ℕ) (item : B) → index < length items → item ≡ get_or items index item
-    → AreAdmissibleSteps May step now (drop index items) → May now item
-step-next May step now items index item inside is may =
-    let next : drop index items ≡ item ∷ drop (index + 1) items = at_drop_more (λ items. items) items index item inside ∙ ap (λ one. one ∷ drop (index + 1) items) (sym is) in
-    (subst (AreAdmissibleSteps May step now) next may).0
+pub step-at : {A B : Type 0} (May : A → B → Type 0) (step : A → B → A) (now : A) (items : List B) (index : ℕ) (other : B) → index < length items
+    → AreAdmissibleSteps May step now (drop index items) → May now (get_or items index other)
+step-at May step now items index other inside may = (subst (AreAdmissibleSteps May step now) (at_drop_more (λ items. items) items index other inside) may).0
 
 -- steps that change nothing
 pub inputs-idle : {A : Type 0} (step : A → Element → A) → ((name : List ℕ) (now : A) → step now (Input name) ≡ now) → (names : List (List ℕ)) (now : A) → fold step now (map Input names) ≡ now

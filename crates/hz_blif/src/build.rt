@@ -21,13 +21,13 @@ pub(crate) fn build(alloc: Global, draft: &Draft) -> Result<Circuit, Memory>
     ensures { IfOk result (λ circuit. circuit ≡ circuit_of_elements (elements_of_draft draft.now)) }
 {
     let gates = draft.gates.as_slice();
-    let inputs = draft.inputs.len();
+    let inputs = draft.inputs.as_slice();
     let hashing = choose_hashing(alloc, &draft.names, gates)?;
-    let mut circuit = Circuit::with_names(alloc, hashing, inputs + gates.len())?;
-    add_inputs(&mut circuit, &draft.names, draft.inputs.as_slice())?;
+    let mut circuit = Circuit::with_names(alloc, hashing, inputs.len() + gates.len())?;
+    add_inputs(&mut circuit, &draft.names, inputs)?;
     add_gates(alloc, &mut circuit, &draft.names, gates)?;
     let nodes = number_nodes(alloc, draft)?;
-    let pins = resolve_pins(alloc, draft.gates.sources(), nodes.as_slice(), inputs)?;
+    let pins = resolve_pins(alloc, draft.gates.sources(), nodes.as_slice(), inputs.len())?;
     connect_gates(&mut circuit, gates, pins.as_slice())?;
     let outputs = resolve_outputs(alloc, draft.outputs.as_slice(), nodes.as_slice())?;
     add_outputs(alloc, &mut circuit, outputs.as_slice())?;
