@@ -11,7 +11,6 @@ use Rattle.hz_blif.specs.Line.{Line, Blank, Model, Inputs, Outputs, Names, Row, 
 use Rattle.hz_blif.proofs.Lists.{all-append, all-as, all-cut}
 use Rattle.hz_blif.proofs.NameLaws.{AreApart, HaveApartOutputs}
 
-
 all-front : (P : List ℕ → Type 0) (names : List (List ℕ)) → AllByRecursion P names → AllByRecursion P (all_but_last names)
 all-front P [] all = tt
 all-front P (name ∷ []) all = tt

@@ -90,7 +90,12 @@ fn number_gate(nodes: &mut Vec<u32>, gate: &Gate, node: u32)
 }
 
 // The nodes that the pins read.
-fn resolve_pins(alloc: Global, sources: &[Source], nodes: &[u32], inputs: usize) -> Result<Vec<u32>, Memory>
+fn resolve_pins(
+    alloc: Global,
+    sources: &[Source],
+    nodes: &[u32],
+    inputs: usize,
+) -> Result<Vec<u32>, Memory>
     requires names { All (ReadsNameBelow (length nodes.now)) sources.now }
     requires gates { (gates : ℕ) × (inputs + gates ≤ most_variables) × All (ReadsGateBelow gates) sources.now }
     ensures { IfOk result (λ pins. pins.items ≡ map (source_node nodes.now inputs) sources.now) }
