@@ -6,6 +6,7 @@ pub mod LineLemmas
 pub mod RowLemmas
 pub mod JoinLemmas
 pub mod Ascending
+pub mod FaultLaws
 pub mod NameLaws
 pub mod WiredPins
 pub mod WiredNames

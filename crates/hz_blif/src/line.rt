@@ -4,7 +4,7 @@ ghost use Rattle.std.specs.Prelude.{◌≡◌, ◌++◌, ◌∷◌, [], ℕ, Lis
 ghost use Rattle.std.specs.List.{list_any};
 ghost use Rattle.hz_line.specs.Statement.{Numbered};
 ghost use Rattle.hz_blif.specs.Fault.{has_long_name, has_wrong_form, is_ill_formed, is_long, is_sign};
-ghost use Rattle.hz_blif.specs.Line.{Line as LineOf, begins_with_dot, dotted, is_end, is_statement, line_of, names_in, takes_rows_after};
+ghost use Rattle.hz_blif.specs.Line.{Line as LineOf, begins_with_dot, dotted, is_construct, is_end, is_statement, line_of, names_in, takes_rows_after};
 ghost use Rattle.hz_blif.specs.Reading.{bytes_of, course_of, line_by};
 
 use crate::words::has_sign;
@@ -110,6 +110,16 @@ impl<'a, 't> Line<'a, 't> {
         match self {
             Line::Blank | Line::Row(_) => before,
             Line::Names(_) => true,
+            _ => false,
+        }
+    }
+
+    /// Whether a line is a construct that is no statement.
+    pub(crate) fn is_construct(&self) -> bool
+        ensures { result ≡ is_construct (line_by self.now) }
+    {
+        match self {
+            Line::Construct => true,
             _ => false,
         }
     }

@@ -1,1 +1,2 @@
 use Rattle.hz_blif.proofs.Ascending.{covers-ascend}
+use Rattle.hz_blif.proofs.FaultLaws.{twice-none}
