@@ -11,3 +11,4 @@ pub mod NameLaws
 pub mod WiredPins
 pub mod WiredNames
 pub mod Examples
+pub mod LiteralLemmas
