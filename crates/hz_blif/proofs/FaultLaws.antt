@@ -67,23 +67,26 @@ wrong-form-least before [] low h = λ line p. nothing-stands p.0 line p.1 p.2
 wrong-form-least before (first ∷ rest) low h =
     by_test (has_wrong_form before first.statement) refl (wrong_form_after (before ++ first ∷ []) rest) (wrong-form-least (before ++ first ∷ []) rest (suc first.line) h.1)
   where
-    here : (line : ℕ) (p : IsWrongAfter before (first ∷ rest) line) → has_wrong_form before first.statement ≡ false → IsWrongAfter (before ++ first ∷ []) rest line
-    here line (middle, here, s, wrong) right = by_middle middle s wrong
+    in-rest : (line : ℕ) → IsWrongAfter before (first ∷ rest) line → has_wrong_form before first.statement ≡ false → IsWrongAfter (before ++ first ∷ []) rest line
+    in-rest line p right = by_middle p.0 p.1 p.2 p.3
       where
-        by_middle : (middle : List (Numbered Line)) → Stands (first ∷ rest) middle line here → has_wrong_form (before ++ middle) here ≡ true → IsWrongAfter (before ++ first ∷ []) rest line
-        by_middle [] s wrong =
+        by_middle : (middle : List (Numbered Line)) (it : Line) → Stands (first ∷ rest) middle line it → has_wrong_form (before ++ middle) it ≡ true → IsWrongAfter (before ++ first ∷ []) rest line
+        by_middle [] it s wrong =
             let e = s.split in
-            let same : first ≡ record { line = line; statement = here } = cc e in
-            absurd (true-false (sym wrong ∙ ap (λ before. has_wrong_form before here) (append-nil before) ∙ ap (λ (one : Numbered Line). has_wrong_form before one.statement) (sym same) ∙ right))
-        by_middle (head ∷ middle) s wrong =
+            let same : first ≡ record { line = line; statement = it } = cc e in
+            absurd (true-false (sym wrong ∙ ap (λ before. has_wrong_form before it) (append-nil before) ∙ ap (λ (one : Numbered Line). has_wrong_form before one.statement) (sym same) ∙ right))
+        by_middle (head ∷ middle) it s wrong =
             let e = s.split in
             let same : first ≡ head = cc e in
-            let later : rest ≡ middle ++ record { line = line; statement = here } ∷ s.after = cc e in
-            (middle, here, record { after = s.after; split = later },
-              ap (λ before. has_wrong_form before here) (append_assoc before (first ∷ []) middle) ∙ (ap (λ (one : Numbered Line). has_wrong_form (before ++ one ∷ middle) here) same ∙ wrong))
+            let later : rest ≡ middle ++ record { line = line; statement = it } ∷ s.after = cc e in (
+              middle,
+              it,
+              record { after = s.after; split = later },
+              ap (λ before. has_wrong_form before it) (append_assoc before (first ∷ []) middle) ∙ (ap (λ (one : Numbered Line). has_wrong_form (before ++ one ∷ middle) it) same ∙ wrong),
+            )
 
     by_found : (found : Option ℕ) → has_wrong_form before first.statement ≡ false → IsLeastOf (IsWrongAfter (before ++ first ∷ []) rest) found → IsLeastOf (IsWrongAfter before (first ∷ rest)) found
-    by_found None right ih = λ line p. ih line (here line p right)
+    by_found None right ih = λ line p. ih line (in-rest line p right)
     by_found (Some line) right ih = record {
       here = (
         first ∷ ih.here.0,
@@ -91,7 +94,7 @@ wrong-form-least before (first ∷ rest) low h =
         record { after = ih.here.2.after; split = ap (λ (all : List (Numbered Line)). first ∷ all) ih.here.2.split },
         ap (λ before. has_wrong_form before ih.here.1) (sym (append_assoc before (first ∷ []) ih.here.0)) ∙ ih.here.3,
       );
-      least = λ other p. ih.least other (here other p right);
+      least = λ other p. ih.least other (in-rest other p right);
     }
 
     by_test : (wrong : Bool) → has_wrong_form before first.statement ≡ wrong → (found : Option ℕ) → IsLeastOf (IsWrongAfter (before ++ first ∷ []) rest) found
