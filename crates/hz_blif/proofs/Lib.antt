@@ -7,6 +7,7 @@ pub mod RowLemmas
 pub mod JoinLemmas
 pub mod Ascending
 pub mod FaultLaws
+pub mod NumberSteps
 pub mod NameLaws
 pub mod WiredPins
 pub mod WiredNames

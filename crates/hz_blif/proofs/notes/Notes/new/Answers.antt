@@ -1,2 +1,1 @@
-use Rattle.hz_blif.proofs.Ascending.{covers-ascend}
-use Rattle.hz_blif.proofs.FaultLaws.{twice-none}
+use Rattle.hz_blif.proofs.NumberSteps.{names-use}
