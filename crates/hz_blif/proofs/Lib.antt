@@ -13,3 +13,5 @@ pub mod WiredPins
 pub mod WiredNames
 pub mod Examples
 pub mod LiteralLemmas
+pub mod EntryLemmas
+pub mod CoverEntries

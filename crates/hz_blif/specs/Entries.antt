@@ -160,12 +160,6 @@ abbrev pub IsOnlyLiteral : List (List ℕ) → List ℕ → Option LiteralRead �
 IsOnlyLiteral pins plane None = length (literals_of pins plane) ≢ 1
 IsOnlyLiteral pins plane (Some literal) = (literal.pin < length pins) × (literals_of pins plane ≡ literal_at pins literal ∷ [])
 
--- the source that stands for a literal: its pin, or what stands for the pin's 0
-abbrev pub literal_source : List ℕ → List Source → LiteralRead → Source
-literal_source pins inverted literal =
-    if literal.is_plain then source.Name (slice_index_or pins literal.pin 0)
-    else slice_index_or inverted literal.pin (source.Name 0)
-
 -- the source that stands for a byte of a plane, if it is a literal, before others
 abbrev pub literal_source_with : ℕ → Source → ℕ → List Source → List Source
 literal_source_with pin inverter byte rest =

@@ -3,13 +3,14 @@
 //! The gates of all covers stand one after the other, each with what its pins read: a name of the text, or an inverter or a row gate of its own
 //! cover. These two have names that no text can have, so they are known by their numbers, and never looked up.
 
-ghost use Rattle.std.specs.Prelude.{◌≡◌, ◌+◌, ◌<◌, ◌≤◌, ◌++◌, ◌∷◌, [], ℕ, Contains, IfOk, List, OnOk, length, map};
+ghost use Rattle.std.specs.Prelude.{◌≡◌, ◌+◌, ◌<◌, ◌≤◌, ◌++◌, ◌∷◌, [], ℕ, Contains, IfOk, List, OnOk, length, map, if◌then◌else◌};
+ghost use Rattle.hz_core.specs.declared.kind.Kind.TheVariants.{And, Nand, Or, Nor, Not, Buff};
 ghost use Rattle.std.specs.List.{slice_index_or};
 ghost use Rattle.hz_blif.specs.declared.gates.Source.TheVariants.{Name};
 ghost use Rattle.hz_core.specs.Limits.{most_gate_pins};
 ghost use Rattle.hz_netlist.specs.Element.{variable_total};
 ghost use Rattle.hz_blif.specs.Entries.{AreNamed, GrowBy, HasNamesBelow, HoldsGates, IsOnlyLiteral, IsPlane, IsPrefix, IsWhole, ReadAs};
-ghost use Rattle.hz_blif.specs.Entries.{column_by, cover_by, elements_by, inverted_by, inverted_from, inverters_by, literal_at, literal_source, literal_source_with, literal_sources, planes_by, row_gate_by, row_gates_by, term_by, terms_by, variables_of};
+ghost use Rattle.hz_blif.specs.Entries.{column_by, cover_by, elements_by, inverted_by, inverted_from, inverters_by, literal_at, literal_source_with, literal_sources, planes_by, row_gate_by, row_gates_by, term_by, terms_by, variables_of};
 ghost use Rattle.hz_blif.specs.Gates.{has_zero, inverters_from, literal_gate};
 ghost use Rattle.hz_blif.specs.Reading.{bytes_of};
 
@@ -146,11 +147,7 @@ impl Gates {
         }
         self.add_inverters(cover)?;
         let pins = self.push_literals(cover, plane)?;
-        let kind = if cover.column() {
-            Kind::And
-        } else {
-            Kind::Nand
-        };
+        let kind = row_kind(cover.column());
         self.add_gate(cover, Role::Output, kind, pins)
     }
 
@@ -161,11 +158,7 @@ impl Gates {
         ensures { OnOk result (GrowBy cover.now (λ name. literal_gate (name cover.now.output) (column_by cover.now)
             (literal_at (map name cover.now.pins.items) literal) ∷ []) self.old self.new) }
     {
-        let kind = if literal.is_plain == cover.column() {
-            Kind::Buff
-        } else {
-            Kind::Not
-        };
+        let kind = literal_kind(literal.is_plain, cover.column());
         push(&mut self.sources, Source::Name(cover.pins[literal.pin]))?;
         self.add_gate(cover, Role::Output, kind, 1)
     }
@@ -182,7 +175,7 @@ impl Gates {
         self.add_terms(cover, planes)?;
         let terms = self.terms.as_slice();
         extend(&mut self.sources, terms)?;
-        let kind = if cover.column() { Kind::Or } else { Kind::Nor };
+        let kind = rows_kind(cover.column());
         self.add_gate(cover, Role::Output, kind, planes.len())
     }
 
@@ -236,26 +229,16 @@ impl Gates {
         ensures inverted { self.new.inverted ≡ self.old.inverted }
         ensures terms { self.new.terms ≡ self.old.terms }
     {
-        if let Some(literal) = only_literal(plane) {
-            return Ok(self.literal_source(cover, literal));
-        }
+        let before = self.sources.len();
         let pins = self.push_literals(cover, plane)?;
+        if pins == 1 {
+            let literal = self.sources[before];
+            self.sources.truncate(before);
+            return Ok(literal);
+        }
         let gate = Source::Gate(self.gates.len());
         self.add_gate(cover, Role::Row(row), Kind::And, pins)?;
         Ok(gate)
-    }
-
-    // What a literal stands for: its pin, or the pin's inverter.
-    fn literal_source(&self, cover: &Cover, literal: Literal) -> Source
-        requires pin { literal.pin < length cover.now.pins.items }
-        requires inverted { literal.pin < length self.now.inverted.items }
-        ensures { result ≡ literal_source cover.now.pins.items self.now.inverted.items literal }
-    {
-        if literal.is_plain {
-            Source::Name(cover.pins[literal.pin])
-        } else {
-            self.inverted[literal.pin]
-        }
     }
 
     // Adds the inverters of a cover, one for each pin that is 0 in some plane.
@@ -379,6 +362,31 @@ impl Gates {
 pub(crate) struct Literal {
     pin: usize,
     is_plain: bool,
+}
+
+// The kind of the gate of a cover of one row with one literal.
+fn literal_kind(is_plain: bool, column: bool) -> Kind
+    ensures { result ≡ (if is_plain then (if column then Buff else Not) else (if column then Not else Buff)) }
+{
+    if is_plain == column {
+        Kind::Buff
+    } else {
+        Kind::Not
+    }
+}
+
+// The kind of the gate of a cover of one row with several literals.
+fn row_kind(column: bool) -> Kind
+    ensures { result ≡ (if column then And else Nand) }
+{
+    if column { Kind::And } else { Kind::Nand }
+}
+
+// The kind of the gate of a cover of several rows.
+fn rows_kind(column: bool) -> Kind
+    ensures { result ≡ (if column then Or else Nor) }
+{
+    if column { Kind::Or } else { Kind::Nor }
 }
 
 // The literal of a plane that has no other.
