@@ -22,7 +22,7 @@ use Rattle.hz_blif.proofs.EntryLemmas.{elements-same, named-more}
 use Rattle.hz_blif.proofs.NumberSteps.{KeepsNames, constant-numbers-kept, constants-kept, definer-at, definition-names, keeps-same, kept-length, name-kept, names-kept, names-use, numbers-kept, sight-distinct, sight-keeps, sight-named, use-names}
 
 -- the cover that is being read, where there are more names
-current-kept : (old new : Names) (current : Option Cover) (cover : CoverRead) → KeepsNames old new → HoldsCurrent old current cover → HoldsCurrent new current cover
+pub current-kept : (old new : Names) (current : Option Cover) (cover : CoverRead) → KeepsNames old new → HoldsCurrent old current cover → HoldsCurrent new current cover
 current-kept old new None cover kept is = tt
 current-kept old new (Some one) cover kept is = record {
   line = is.line;
@@ -34,7 +34,7 @@ current-kept old new (Some one) cover kept is = record {
 }
 
 -- the gates and the constant covers, where there are more names
-covers-kept : (covers : List Cover) (old : Draft) (names : Names) → KeepsNames old.names names → HoldsCovers covers old → HoldsCovers covers (record old { names = names })
+pub covers-kept : (covers : List Cover) (old : Draft) (names : Names) → KeepsNames old.names names → HoldsCovers covers old → HoldsCovers covers (record old { names = names })
 covers-kept covers old names kept is = record {
   gates = λ few. elements-same (length old.names) (name_at names) (name_at old.names) old.gates is.gate_numbers (λ number few. name-kept old.names names number kept few) ∙ is.gates few;
   holds = is.holds;
@@ -129,7 +129,7 @@ holds-defined read old number line names again few is noted held =
       excess_is = held.excess_is;
       few = held.few;
       uses = held.uses;
-      covers = λ right small. covers-kept read.done old names kept (held.covers right small);
+      covers = λ right small. (let is = covers-kept read.done old names kept (held.covers right small) in record { gates = is.gates; holds = is.holds; gate_numbers = is.gate_numbers; counted = is.counted; constants = is.constants; constant_numbers = is.constant_numbers; pins = is.pins; pin_numbers = is.pin_numbers });
     }
 
 -- one use more
@@ -159,11 +159,11 @@ holds-used read old number line names few is held =
       covers = λ right small. covers-kept read.done old names kept (held.covers right small);
     }
 
-names-push : (names : Names) (numbers more : List ℕ) (number : ℕ) (told : List (List ℕ)) → more ≡ numbers ++ number ∷ [] → names_at names numbers ≡ told → names_at names more ≡ told ++ name_at names number ∷ []
+pub names-push : (names : Names) (numbers more : List ℕ) (number : ℕ) (told : List (List ℕ)) → more ≡ numbers ++ number ∷ [] → names_at names numbers ≡ told → names_at names more ≡ told ++ name_at names number ∷ []
 names-push names numbers more number told is are =
     ap (names_at names) is ∙ map-append (name_at names) numbers (number ∷ []) ∙ ap (λ all. all ++ name_at names number ∷ []) are
 
-numbers-push : (names : Names) (numbers more : List ℕ) (number : ℕ) → more ≡ numbers ++ number ∷ [] → number < length names → AreNumbers names numbers → AreNumbers names more
+pub numbers-push : (names : Names) (numbers more : List ℕ) (number : ℕ) → more ≡ numbers ++ number ∷ [] → number < length names → AreNumbers names numbers → AreNumbers names more
 numbers-push names numbers more number is few are = All-same (λ number. number < length names) more (numbers ++ number ∷ []) is (All-push (λ number. number < length names) numbers number are few)
 
 -- an input more
@@ -220,7 +220,7 @@ pub inputs-twice : (line : ℕ) (names more : List (List ℕ)) (read : Read) →
 inputs-twice line names more read =
     let ins = append_assoc read.inputs names more in
     let defs = append_assoc read.definitions (on_line line names) (on_line line more)
-        ∙ ap (λ all. read.definitions ++ all) (sym (map-append (λ (name : List ℕ). record { line = line; statement = name }) names more)) in
+    ∙ ap (λ all. read.definitions ++ all) (sym (map-append (λ (name : List ℕ). record { line = line; statement = name }) names more)) in
     ap (λ all. record read { inputs = all; definitions = (read.definitions ++ on_line line names) ++ on_line line more }) ins
     ∙ ap (λ all. record read { inputs = read.inputs ++ (names ++ more); definitions = all }) defs
 
@@ -228,7 +228,7 @@ pub outputs-twice : (line : ℕ) (names more : List (List ℕ)) (read : Read) �
 outputs-twice line names more read =
     let outs = append_assoc read.outputs names more in
     let uses = append_assoc read.used (on_line line names) (on_line line more)
-        ∙ ap (λ all. read.used ++ all) (sym (map-append (λ (name : List ℕ). record { line = line; statement = name }) names more)) in
+    ∙ ap (λ all. read.used ++ all) (sym (map-append (λ (name : List ℕ). record { line = line; statement = name }) names more)) in
     ap (λ all. record read { outputs = all; used = (read.used ++ on_line line names) ++ on_line line more }) outs
     ∙ ap (λ all. record read { outputs = read.outputs ++ (names ++ more); used = all }) uses
 

@@ -144,7 +144,9 @@ twice-found before (next ∷ rest) =
             ∙ (ap (first_passing_line (bytes_eq name)) (sym (append_assoc before (next ∷ []) middle)) ∙ ih middle line name off.1)
     by_found (Some one) none ih =
         let is = ih.3 in (
-          ih.0, ih.1, ih.2,
+          ih.0,
+          ih.1,
+          ih.2,
           record {
             middle = next ∷ is.middle;
             name = is.name;
@@ -172,7 +174,9 @@ twice-found before (next ∷ rest) =
         → IsTwiceFound before (next ∷ rest) (twice_or next.line first found)
     by_line None none found ih = by_found found none ih
     by_line (Some first) is found ih = (
-      next.line, first, refl,
+      next.line,
+      first,
+      refl,
       record {
         middle = [];
         name = next.statement;

@@ -8,6 +8,7 @@ pub mod JoinLemmas
 pub mod Ascending
 pub mod FaultLaws
 pub mod NumberSteps
+pub mod DraftSteps
 pub mod NameLaws
 pub mod WiredPins
 pub mod WiredNames

@@ -86,9 +86,9 @@ sight-distinct old name distinct = by_place (position (bytes_eq name) (seen_name
         subst (IsDistinct bytes_eq) (sym (map-append (λ (seen : Seen). seen.name) old (fresh name ∷ [])))
         (IsDistinct-push nat_list_eq_equiv (seen_names old) name distinct (list_any-from_position_none (bytes_eq name) (seen_names old) at))
 
-none-either : (same : Bool) (none : Option ℕ) → cond same none none ≡ none
-none-either true none = refl
-none-either false none = refl
+none-either : (same : Bool) (line : Option ℕ) → cond same line line ≡ line
+none-either true line = refl
+none-either false line = refl
 
 definer-fresh : (old : Names) (name other : List ℕ) → definer_in (old ++ fresh name ∷ []) other ≡ definer_in old other
 definer-fresh [] name other = none-either (bytes_eq name other) None

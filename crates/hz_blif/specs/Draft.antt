@@ -1,5 +1,5 @@
 -- What is kept of the lines of a text.
-use Rattle.std.specs.Prelude.{◌≡◌, ℕ, suc, Bool, ◌+◌, ◌*◌, ◌^◌, ◌<◌, ◌≤◌, not, List, [], ◌∷◌, ◌++◌, length, fold, map, filter, Option, Some, None, option_map, is_some, if◌then◌else◌}
+use Rattle.std.specs.Prelude.{◌≡◌, ℕ, suc, Bool, false, ◌+◌, ◌*◌, ◌^◌, ◌<◌, ◌≤◌, not, List, [], ◌∷◌, ◌++◌, length, fold, map, filter, Option, Some, None, option_map, is_some, if◌then◌else◌}
 use Rattle.std.specs.List.{All, IsDistinct, find, flat_map, list_any, sum_by}
 use Rattle.std.specs.Option.{option_or}
 use Rattle.std.specs.Str.{bytes_eq}
@@ -184,6 +184,10 @@ pub record Holds (read : Read) (draft : Draft) : Type 0 where
   pub few : draft.variables ≤ variable_total (flat_map cover_gates (varying read.done))
   pub uses : draft.notes.wrong_row ≡ None → draft.notes.excess ≡ None → used ≡ read.used
   pub covers : draft.notes.wrong_row ≡ None → draft.notes.excess ≡ None → HoldsCovers read.done draft
+
+-- what is kept once the cover that is being read is closed
+abbrev pub HoldsClosed : Read → Draft → Type 0
+HoldsClosed read draft = Holds (closed read) (record draft { is_open = false })
 
 -- how many bytes a cover takes at least: two variables or more for each
 abbrev pub cover_room : Cover → ℕ

@@ -11,13 +11,14 @@
 //!
 //! What breaks if you add a kind of line: it needs a case of `taking`, and a step that shows `Holds` again.
 
-ghost use Rattle.std.specs.Prelude.{◌≡◌, ◌<◌, ◌++◌, ◌∷◌, [], IfOk, OnOk, None, Some, ℕ, length};
+ghost use Rattle.std.specs.Prelude.{◌≡◌, ◌<◌, ◌++◌, ◌∷◌, [], IfOk, OnOk, None, Some, false, true, ℕ, length};
 ghost use Rattle.hz_line.specs.Statement.{Numbered};
 ghost use Rattle.hz_netlist.specs.Names.{seen_names};
-ghost use Rattle.hz_blif.specs.Cover.{Cover as CoverOf};
-ghost use Rattle.hz_blif.specs.Draft.{Holds, MayGoOn, Read, closed, nothing_read, noting, taking, with_begun, with_cover, with_inputs, with_outputs, with_row};
+ghost use Rattle.hz_blif.specs.declared.draft.Draft.{Draft as DraftOf};
+ghost use Rattle.hz_blif.specs.Cover.{Cover as CoverOf, is_constant, is_too_large, on_line};
+ghost use Rattle.hz_blif.specs.Draft.{AreNumbers, Holds, HoldsClosed, MayGoOn, names_at, Read, closed, nothing_read, noting, taking, with_begun, with_cover, with_inputs, with_outputs, with_row};
 ghost use Rattle.hz_blif.specs.Entries.{name_at};
-ghost use Rattle.hz_blif.specs.Reading.{bytes_of, line_by};
+ghost use Rattle.hz_blif.specs.Reading.{bytes_of, excess_of, line_by};
 
 use crate::cover::Cover;
 use crate::gates::Gates;
@@ -251,15 +252,29 @@ impl<'t> Draft<'t> {
         if !self.is_open {
             return Ok(());
         }
+        self.keep_cover()?;
         self.is_open = false;
+        Ok(())
+    }
+
+    // Keeps the cover that was read, if a later fault may still be the least.
+    fn keep_cover(&mut self) -> Result<(), Memory>
+        requires { MayGoOn self.old }
+        ensures { OnOk result ((read : Read) (cover : CoverOf) → read.current ≡ Some cover → Holds read self.old → HoldsClosed read self.new) }
+    {
         if self.notes.wrong_row.is_some() || self.notes.excess.is_some() {
             return Ok(());
         }
-        self.keep_cover()
+        self.keep_right_cover()
     }
 
-    // Keeps the cover that was read, and nothing but its count if it has too many pins or rows.
-    fn keep_cover(&mut self) -> Result<(), Memory> {
+    // Keeps a cover whose rows are as said, or its count of pins or rows if those are too many.
+    fn keep_right_cover(&mut self) -> Result<(), Memory>
+        requires going { MayGoOn self.old }
+        requires right { self.old.notes.wrong_row ≡ None }
+        requires small { self.old.notes.excess ≡ None }
+        ensures { OnOk result ((read : Read) (cover : CoverOf) → read.current ≡ Some cover → Holds read self.old → HoldsClosed read self.new) }
+    {
         let line = self.cover.line;
         if let Some(count) = self.cover.excess() {
             self.notes.excess = Some(Excess { line, count });
@@ -272,7 +287,12 @@ impl<'t> Draft<'t> {
     }
 
     // Puts the cover with the constant ones.
-    fn keep_constant(&mut self) -> Result<(), Memory> {
+    fn keep_constant(&mut self) -> Result<(), Memory>
+        requires right { self.old.notes.wrong_row ≡ None }
+        requires small { self.old.notes.excess ≡ None }
+        ensures { OnOk result ((read : Read) (cover : CoverOf) → read.current ≡ Some cover → is_too_large cover ≡ false → is_constant cover ≡ true
+            → Holds read self.old → HoldsClosed read self.new) }
+    {
         let constant = Constant {
             line: self.cover.line,
             output: self.cover.output,
@@ -283,7 +303,14 @@ impl<'t> Draft<'t> {
     }
 
     // Adds the gates of the cover, and notes the uses of its pins.
-    fn keep_gates(&mut self) -> Result<(), Memory> {
+    fn keep_gates(&mut self) -> Result<(), Memory>
+        requires going { MayGoOn self.old }
+        requires right { self.old.notes.wrong_row ≡ None }
+        requires small { self.old.notes.excess ≡ None }
+        requires few { excess_of (length self.old.cover.pins.items) self.old.cover.rows.count ≡ None }
+        requires varies { (read : Read) (cover : CoverOf) → read.current ≡ Some cover → Holds read self.old → is_constant cover ≡ false }
+        ensures { OnOk result ((read : Read) (cover : CoverOf) → read.current ≡ Some cover → Holds read self.old → HoldsClosed read self.new) }
+    {
         let line = self.cover.line;
         let pins = self.cover.pins.as_slice();
         note_uses(&mut self.names, pins, line);
@@ -298,7 +325,12 @@ impl<'t> Draft<'t> {
 }
 
 // Notes that a line uses names.
-fn note_uses(names: &mut NameTable, numbers: &[u32], line: u32) {
+fn note_uses(names: &mut NameTable, numbers: &[u32], line: u32)
+    requires { AreNumbers names.old numbers.now }
+    ensures names { seen_names names.new ≡ seen_names names.old }
+    ensures used { (read : Read) (draft : DraftOf) → draft.names ≡ names.old → Holds read draft
+        → Holds (record read { used = read.used ++ on_line line (names_at names.old numbers.now) }) (record draft { names = names.new }) }
+{
     for number in numbers {
         names.note_use(*number, line);
     }

@@ -1,1 +1,1 @@
-use Rattle.hz_blif.proofs.NumberSteps.{names-use}
+use Rattle.hz_blif.proofs.DraftSteps.{inputs-none}
