@@ -78,7 +78,8 @@ impl<'t> Draft<'t> {
     pub(crate) fn make_room(&mut self, left: usize) -> Result<(), Memory>
         ensures { OnOk result ((read : Read) → Holds read self.old → Holds read self.new) }
     {
-        self.names.make_room(left)
+        self.names.make_room(left)?;
+        Ok(())
     }
 
     /// Adds the next line, whose form is right.
@@ -173,13 +174,14 @@ impl<'t> Draft<'t> {
         ensures number { IfOk result (λ number. number < length self.new.names) }
         ensures name { IfOk result (λ number. name_at self.new.names number ≡ name.now) }
     {
-        self.names.sight(name)
+        let number = self.names.sight(name)?;
+        Ok(number)
     }
 
     // Notes that a line defines a name.
     fn define(&mut self, number: u32, line: u32)
         requires { number < length self.old.names }
-        ensures holds { (read : Read) → Holds read self.old
+        ensures { (read : Read) → Holds read self.old
             → Holds (record read { definitions = read.definitions ++ record { line = line; statement = name_at self.old.names number } ∷ [] }) self.new }
     {
         if let Some(first) = self.names.define(number, line) {
