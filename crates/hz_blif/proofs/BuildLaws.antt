@@ -17,7 +17,8 @@ use Rattle.hz_netlist.specs.Names.{Names, seen_names}
 use Rattle.hz_blif.specs.declared.draft.Draft.{Draft}
 use Rattle.hz_blif.specs.declared.gates.Gate.{Gate as GateEntry}
 use Rattle.hz_blif.specs.declared.gates.Source.{Source}
-use Rattle.hz_blif.specs.Built.{AreNodesBy, IsBuildable, IsPlain, MayAddGateEntry, MayAddInputNumbered, MayAddPinsBy, elements_of_draft, node_of, source_node, with_gate_entry, with_gate_nodes, with_input_nodes, with_input_numbered, with_pins_by}
+use Rattle.hz_blif.specs.Built.{AreNodesBy, IsBuildable, MayAddGateEntry, MayAddInputNumbered, MayAddPinsBy, elements_of_draft, node_of, source_node, with_gate_entry, with_gate_nodes, with_input_nodes, with_input_numbered, with_pins_by}
+use Rattle.hz_blif.specs.Plain.{IsPlain}
 use Rattle.hz_blif.specs.Draft.{names_at}
 use Rattle.hz_blif.specs.Entries.{elements_by, gate_name, name_at, source_name}
 use Rattle.hz_blif.proofs.DraftElements.{HasParts, entries-gates, entries-named, fold-append, gates-entered, gates-idle, inputs-idle, inputs-numbered, outputs-idle, parts, pins-entered, sources-known, steps-cut}
@@ -142,10 +143,10 @@ module _ (draft : Draft) (can : IsBuildable draft) where
   bare-names = ap (λ (netlist : Netlist). netlist.names) (sym unconnected ∙ unconnected_netlist-is elements) ∙ nodes_all
 
   -- the table of nodes
-  table : (nodes : List ℕ) → AreNodesBy draft nodes → AreNodesOf draft.names all all nodes × (length nodes ≡ length draft.names)
-  table nodes by =
+  table : (nodes : List ℕ) → AreNodesBy draft nodes → AllByRecursion IsPlain (seen_names draft.names) → AreNodesOf draft.names all all nodes × (length nodes ≡ length draft.names)
+  table nodes by plain_names =
       let start = by.0 in
-      let plain = plain-at draft.names can.plain in
+      let plain = plain-at draft.names plain_names in
       let none : AreNodesOf draft.names all [] start = λ number few among. let e : false ≡ true = among in cc in
       let first = nodes-inputs draft.names all can.distinct apart plain [] made start draft.inputs.items refl can.input_numbers by.1 none in
       let begun = with_input_nodes 0 start draft.inputs.items in
@@ -153,8 +154,8 @@ module _ (draft : Draft) (can : IsBuildable draft) where
       subst (λ nodes. AreNodesOf draft.names all all nodes × (length nodes ≡ length draft.names))
       (ap (λ (node : ℕ). with_gate_nodes node begun entries) (length-map draft.inputs.items name) ∙ sym by.2) last
 
-  pub table-long : (nodes : List ℕ) → AreNodesBy draft nodes → length nodes ≡ length draft.names
-  table-long nodes by = (table nodes by).1
+  pub table-long : (nodes : List ℕ) → AreNodesBy draft nodes → AllByRecursion IsPlain (seen_names draft.names) → length nodes ≡ length draft.names
+  table-long nodes by plain_names = (table nodes by plain_names).1
 
   known : AllByRecursion (UsesKnown all) gates × AllByRecursion (UsesKnown all) (map Output outputs)
   known =
@@ -162,13 +163,13 @@ module _ (draft : Draft) (can : IsBuildable draft) where
       all-cut (UsesKnown all) gates (map Output outputs) (all-cut (UsesKnown all) (map Input inputs) (gates ++ map Output outputs) each).1
 
   -- pins
-  module _ (nodes pins : List ℕ) (by : AreNodesBy draft nodes) (read : pins ≡ map (source_node nodes (length draft.inputs.items)) sources) where
+  module _ (nodes pins : List ℕ) (by : AreNodesBy draft nodes) (plain_names : AllByRecursion IsPlain (seen_names draft.names)) (read : pins ≡ map (source_node nodes (length draft.inputs.items)) sources) where
     pins_are : pins ≡ map (λ source. number_in bare.names (source_name name made source)) sources
     pins_are =
         let holds = can.holds in
         let below = subst (λ (count : ℕ). All (Rattle.hz_blif.specs.Entries.ReadsGateBelow count) sources) (sym (length-map entries (gate_name name))) holds.below in
         read ∙ ap (λ (count : ℕ). map (source_node nodes count) sources) (sym (length-map draft.inputs.items name))
-        ∙ sources-numbered draft.names inputs made nodes sources apart (table nodes by).0 can.gate_numbers.sources below (sources-known name made all entries sources holds.sized known.0)
+        ∙ sources-numbered draft.names inputs made nodes sources apart (table nodes by plain_names).0 can.gate_numbers.sources below (sources-known name made all entries sources holds.sized known.0)
         ∙ ap (λ names. map (λ source. number_in names (source_name name made source)) sources) (sym bare-names)
 
     pins_may : AreAdmissibleSteps MayAddPins with_pins_of (initial_builder bare) gates
@@ -201,7 +202,7 @@ module _ (draft : Draft) (can : IsBuildable draft) where
       found_are : found ≡ map (number_in circuit.names) (output_names elements)
       found_are =
           let names : circuit.names ≡ all = ap (λ (netlist : Netlist). netlist.names) (connected-is elements) ∙ nodes_all in
-          named ∙ outputs-numbers draft.names all nodes draft.outputs.items (table nodes by).0 can.output_numbers (used-names all outputs known.1)
+          named ∙ outputs-numbers draft.names all nodes draft.outputs.items (table nodes by plain_names).0 can.output_numbers (used-names all outputs known.1)
           ∙ ap (map (number_in all)) (sym parts_are.outputs_are)
           ∙ ap (λ names. map (number_in names) (output_names elements)) (sym names)
 

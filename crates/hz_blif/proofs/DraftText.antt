@@ -1,13 +1,12 @@
 -- The elements of a draft of a text without fault are those of the text, and the draft can be built.
 use Rattle.std.proofs.Common.{◌≡◌, ◌∙◌, sym, ap, subst, ℕ, List, ◌++◌, map}
-use Rattle.std.specs.List.{AllByRecursion, flat_map}
+use Rattle.std.specs.List.{flat_map}
 use Rattle.std.proofs.lemmas.Simd.{map-map}
 use Rattle.hz_line.specs.Statement.{Numbered}
 use Rattle.hz_netlist.specs.Build.{AreWired}
 use Rattle.hz_netlist.specs.Element.{Element, Input, Output}
-use Rattle.hz_netlist.specs.Names.{seen_names}
 use Rattle.hz_blif.specs.declared.draft.Draft.{Draft}
-use Rattle.hz_blif.specs.Built.{IsBuildable, IsPlain, elements_of_draft}
+use Rattle.hz_blif.specs.Built.{IsBuildable, elements_of_draft}
 use Rattle.hz_blif.specs.Circuit.{elements_of}
 use Rattle.hz_blif.specs.Cover.{inputs_of, kept_covers, outputs_of}
 use Rattle.hz_blif.specs.Draft.{HoldsElements, names_at}
@@ -28,11 +27,10 @@ elements-of-text text draft holds =
     ∙ ap (λ (outputs : List Element). map Input (inputs_of lines) ++ (text_gates ++ outputs))
     (ap (map Output) holds.outputs ∙ map-map Output (λ (output : Numbered (List ℕ)). output.statement) (outputs_of lines))
 
-pub buildable : (text : List ℕ) (draft : Draft) → IsFaultless text → HoldsElements text draft → AllByRecursion IsPlain (seen_names draft.names) → IsBuildable draft
-buildable text draft faultless holds plain = record {
+pub buildable : (text : List ℕ) (draft : Draft) → IsFaultless text → HoldsElements text draft → IsBuildable draft
+buildable text draft faultless holds = record {
   wired = subst AreWired (sym (elements-of-text text draft holds)) (wired-text text faultless);
   distinct = holds.distinct;
-  plain = plain;
   input_numbers = holds.input_numbers;
   output_numbers = holds.output_numbers;
   gate_numbers = holds.gate_numbers;

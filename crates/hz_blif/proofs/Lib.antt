@@ -8,6 +8,11 @@ pub mod LineLemmas
 pub mod RowLemmas
 pub mod JoinLemmas
 pub mod Ascending
+pub mod FaultLaws
+pub mod NumberSteps
+pub mod DraftSteps
+pub mod PlainLemmas
+pub mod SignLemmas
 pub mod NameLaws
 pub mod WiredPins
 pub mod WiredNames
@@ -19,3 +24,6 @@ pub mod NodeLemmas
 pub mod DraftElements
 pub mod BuildLaws
 pub mod DraftText
+pub mod LiteralLemmas
+pub mod EntryLemmas
+pub mod CoverEntries

@@ -17,7 +17,8 @@ use Rattle.hz_blif.specs.declared.gates.Role.{Role}
 use Rattle.hz_blif.specs.declared.gates.Role.TheVariants as role
 use Rattle.hz_blif.specs.declared.gates.Source.{Source}
 use Rattle.hz_blif.specs.declared.gates.Source.TheVariants as source
-use Rattle.hz_blif.specs.Built.{IsPlain, node_of, source_node, with_gate_nodes, with_input_nodes, with_role_node}
+use Rattle.hz_blif.specs.Built.{node_of, source_node, with_gate_nodes, with_input_nodes, with_role_node}
+use Rattle.hz_blif.specs.Plain.{IsPlain}
 use Rattle.hz_blif.specs.Draft.{AreNumbers, names_at}
 use Rattle.hz_blif.specs.Entries.{ReadsGateBelow, ReadsNameBelow, gate_name, name_at, role_name, source_name}
 use Rattle.hz_blif.specs.Gates.{inverter_name, row_name}

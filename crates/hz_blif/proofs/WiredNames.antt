@@ -11,7 +11,7 @@ use Rattle.hz_line.specs.Line.{lines_of}
 use Rattle.hz_line.specs.Statement.{Numbered}
 use Rattle.hz_netlist.proofs.Tests.{either}
 use Rattle.hz_blif.proofs.Lists.{all-contained}
-use Rattle.hz_blif.specs.Built.{IsPlain}
+use Rattle.hz_blif.specs.Plain.{IsPlain}
 use Rattle.hz_blif.specs.declared.fault.BlifFault.TheVariants as fault
 use Rattle.hz_blif.specs.Fault.{IsFaultless, has_end, has_long_name, has_wrong_form, is_forbidden, is_ill_formed, is_long, is_sign, longest_blif_name}
 use Rattle.hz_blif.specs.Line.{Line, Blank, Model, Inputs, Outputs, Names, Row, End, Construct, begins_with_dot, dotted, is_statement, line_of, lines_in, names_in}

@@ -12,7 +12,7 @@ use Rattle.hz_netlist.specs.Build.{Apart, AreWired, HasNodeName, UsesKnown}
 use Rattle.hz_netlist.specs.Circuit.{all_inputs, node_names}
 use Rattle.hz_netlist.specs.Element.{Element, Input, Cut, Gate, Output, input_names, cut_names, gate_names}
 use Rattle.hz_blif.specs.declared.fault.BlifFault.TheVariants as fault
-use Rattle.hz_blif.specs.Built.{IsPlain}
+use Rattle.hz_blif.specs.Plain.{IsPlain}
 use Rattle.hz_blif.specs.Circuit.{elements_of}
 use Rattle.hz_blif.specs.Cover.{Cover, cover_of_line, covers_of, definitions_of, definitions_with, inputs_of, inputs_with, is_among, is_constant, is_skipped, is_used, kept_covers, last_token, leading_rows, names_of, on_line, outputs_of, planes_of, uses_of}
 use Rattle.hz_blif.specs.Fault.{HasCover, IsFaultless}

@@ -1,6 +1,6 @@
 -- The circuit of a draft: the elements for which it stands, and the steps in which they are built.
-use Rattle.std.specs.Prelude.{◌≡◌, ◌≢◌, ℕ, suc, ◌+◌, ◌<◌, ◌≤◌, List, [], ◌∷◌, ◌++◌, length, map, take, drop, fold, slice_set, slice_index_or}
-use Rattle.std.specs.List.{AllByRecursion, IsDistinct}
+use Rattle.std.specs.Prelude.{◌≡◌, ℕ, suc, ◌+◌, ◌<◌, ◌≤◌, List, [], ◌∷◌, ◌++◌, length, map, take, drop, fold, slice_set, slice_index_or}
+use Rattle.std.specs.List.{IsDistinct}
 use Rattle.std.specs.Str.{bytes_eq}
 use Rattle.hz_core.specs.Limits.{most_variables}
 use Rattle.hz_core.specs.Netlist.{Netlist, with_gate, with_input}
@@ -16,22 +16,16 @@ use Rattle.hz_blif.specs.declared.gates.Source.TheVariants as source
 use Rattle.hz_blif.specs.Draft.{AreNumbers, names_at}
 use Rattle.hz_blif.specs.Entries.{AreNamed, HoldsGates, elements_by, gate_name, name_at}
 
--- a name of a text has no '\'
-abbrev pub IsPlain : List ℕ → Type 0
-IsPlain [] = Unit {0}
-IsPlain (byte ∷ rest) = (byte ≢ 92) × IsPlain rest
-
 -- the elements of a draft
 abbrev pub elements_of_draft : Draft → List Element
 elements_of_draft draft =
     map Input (names_at draft.names draft.inputs.items)
     ++ (elements_by (name_at draft.names) draft.gates ++ map Output (names_at draft.names draft.outputs.items))
 
--- a draft whose elements make a circuit; its names have no '\', and none has two numbers
+-- a draft whose elements make a circuit, and in which no name has two numbers
 pub record IsBuildable (draft : Draft) : Type 0 where
   pub wired : AreWired (elements_of_draft draft)
   pub distinct : IsDistinct bytes_eq (seen_names draft.names)
-  pub plain : AllByRecursion IsPlain (seen_names draft.names)
   pub input_numbers : AreNumbers draft.names draft.inputs.items
   pub output_numbers : AreNumbers draft.names draft.outputs.items
   pub gate_numbers : AreNamed (length draft.names) draft.gates

@@ -15,6 +15,7 @@
 -- KeepsCovers text: stable states have the cover functions
 -- first_fault text: the least fault, computed
 -- IsFirstWord, IsPieceOf, line_by: what the reader's calls return
+-- IsPlain name: a name that no gate of a cover gets from its place in the cover
 -- elements_by name gates: the elements for which gates stand
 -- IsDraftOf text draft, HoldsElements text draft: what is kept of the lines of a text
 -- IsBuildable draft, elements_of_draft draft: the drafts that can be built, and the elements for which they stand
@@ -33,3 +34,4 @@ pub mod Reading
 pub mod Entries
 pub mod Draft
 pub mod Built
+pub mod Plain

@@ -1,17 +1,21 @@
 // The circuit of a draft.
 
 ghost use Rattle.std.specs.Prelude.{◌≡◌, ◌+◌, ◌++◌, ◌<◌, ◌≤◌, ℕ, All, decimal, IfOk, OnOk, fold, length, map};
+ghost use Rattle.std.specs.List.{AllByRecursion};
 ghost use Rattle.hz_core.specs.Limits.{most_variables};
 ghost use Rattle.hz_netlist.specs.Build.{AreAdmissibleSteps};
 ghost use Rattle.hz_netlist.specs.Circuit.{circuit_of_elements};
+ghost use Rattle.hz_netlist.specs.Names.{seen_names};
 ghost use Rattle.hz_blif.specs.Built.{AreNodesBy, IsBuildable, MayAddGateEntry, MayAddInputNumbered, MayAddPinsBy, elements_of_draft, node_of, source_node, with_gate_entry, with_gate_nodes, with_input_nodes, with_input_numbered, with_pins_by, with_role_node};
 ghost use Rattle.hz_blif.specs.Draft.{AreNumbers};
 ghost use Rattle.hz_blif.specs.Entries.{ReadsGateBelow, ReadsNameBelow, name_at, role_name};
+ghost use Rattle.hz_blif.specs.Plain.{IsPlain};
 
 use crate::draft::Draft;
 use crate::gates::{Gate, Role, Source};
+use crate::names::TextNames;
 use hz_core::{Chains, Circuit, Memory, NameHashing};
-use hz_netlist::{NameTable, add_outputs, connect_gate};
+use hz_netlist::{add_outputs, connect_gate};
 use itoa::Buffer;
 use std::alloc::Global;
 
@@ -39,7 +43,8 @@ fn number_nodes(alloc: Global, draft: &Draft) -> Result<Vec<u32>, Memory>
     requires inputs { AreNumbers draft.now.names draft.now.inputs.items }
     requires gates { All (λ gate. gate.output < length draft.now.names) draft.now.gates.gates.items }
     requires few { length draft.now.inputs.items + length draft.now.gates.gates.items ≤ most_variables }
-    ensures { IfOk result (λ nodes. AreNodesBy draft.now nodes.items) }
+    ensures nodes { IfOk result (λ nodes. AreNodesBy draft.now nodes.items) }
+    ensures plain { OnOk result (AllByRecursion IsPlain (seen_names draft.now.names)) }
 {
     let Ok(mut nodes) = vec![in alloc; 0u32; draft.names.len()] else {
         return Err(Memory);
@@ -132,7 +137,7 @@ fn resolve_outputs(alloc: Global, names: &[u32], nodes: &[u32]) -> Result<Vec<u3
 }
 
 // How the names of nodes are hashed: as those of the text, but with a key if the names of gates were chosen to collide.
-fn choose_hashing(alloc: Global, names: &NameTable, gates: &[Gate]) -> Result<NameHashing, Memory>
+fn choose_hashing(alloc: Global, names: &TextNames, gates: &[Gate]) -> Result<NameHashing, Memory>
     requires { All (λ gate. gate.output < length names.now) gates.now }
 {
     let hashing = names.hashing();
@@ -150,7 +155,7 @@ fn choose_hashing(alloc: Global, names: &NameTable, gates: &[Gate]) -> Result<Na
 }
 
 // Adds the inputs with these names.
-fn add_inputs(circuit: &mut Circuit, names: &NameTable, inputs: &[u32]) -> Result<(), Memory>
+fn add_inputs(circuit: &mut Circuit, names: &TextNames, inputs: &[u32]) -> Result<(), Memory>
     requires numbers { AreNumbers names.now inputs.now }
     requires may { AreAdmissibleSteps (MayAddInputNumbered (name_at names.now)) (with_input_numbered (name_at names.now)) circuit.old inputs.now }
     ensures { OnOk result (circuit.new ≡ fold (with_input_numbered (name_at names.now)) circuit.old inputs.now) }
@@ -168,7 +173,7 @@ fn add_inputs(circuit: &mut Circuit, names: &NameTable, inputs: &[u32]) -> Resul
 fn add_gates(
     alloc: Global,
     circuit: &mut Circuit,
-    names: &NameTable,
+    names: &TextNames,
     gates: &[Gate],
 ) -> Result<(), Memory>
     requires numbers { All (λ gate. gate.output < length names.now) gates.now }
@@ -188,7 +193,7 @@ fn add_gates(
 // Adds a gate, without pins. The buffer is for its name.
 fn add_gate(
     circuit: &mut Circuit,
-    names: &NameTable,
+    names: &TextNames,
     buffer: &mut Vec<u8>,
     gate: &Gate,
 ) -> Result<(), Memory>

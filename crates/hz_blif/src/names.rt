@@ -1,10 +1,10 @@
 // The names of a text, which have no '\', so that no gate of a cover is taken for one of them.
 
-ghost use Rattle.std.specs.Prelude.{◌≡◌, ◌<◌, [], IfOk, OnOk, Some, length, position};
+ghost use Rattle.std.specs.Prelude.{◌≡◌, ◌<◌, [], IfOk, OnErr, OnOk, Some, length, position};
 ghost use Rattle.std.specs.List.{AllByRecursion};
 ghost use Rattle.std.specs.Str.{bytes_eq};
 ghost use Rattle.hz_netlist.specs.Names.{first_undefined, seen_at, seen_names, with_definition, with_sight, with_use};
-ghost use Rattle.hz_blif.specs.Built.{IsPlain};
+ghost use Rattle.hz_blif.specs.Plain.{IsPlain};
 
 use hz_core::{Memory, NameHashing};
 use hz_netlist::NameTable;
@@ -78,6 +78,7 @@ impl<'t> TextNames<'t> {
         requires { IsPlain name.now }
         ensures seen { OnOk result (self.new ≡ with_sight self.old name.now) }
         ensures number { IfOk result (λ number. position (bytes_eq name.now) (seen_names self.new) ≡ Some number) }
+        ensures err { OnErr result (self.new ≡ self.old) }
     {
         self.table.sight(name)
     }
@@ -108,7 +109,7 @@ impl<'t> TextNames<'t> {
 
     /// Takes room for the names of the rest of the text, so many bytes.
     pub(crate) fn make_room(&mut self, left: usize) -> Result<(), Memory>
-        ensures { OnOk result (self.new ≡ self.old) }
+        ensures { self.new ≡ self.old }
     {
         self.table.make_room(left)
     }

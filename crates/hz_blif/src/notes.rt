@@ -1,5 +1,8 @@
 // What is noted of the lines of a text while they are read.
 
+ghost use Rattle.std.specs.Prelude.{◌≡◌, Some};
+ghost use Rattle.std.specs.Option.{option_or};
+
 /// A line that defines a name which was defined before, and the first line that did.
 #[derive(Clone, Copy)]
 pub(crate) struct Redefinition {
@@ -38,7 +41,9 @@ impl Notes {
 }
 
 /// Notes something, if nothing is noted yet.
-pub(crate) fn note<T: Copy>(first: &mut Option<T>, here: T) {
+pub(crate) fn note<T: Copy>(first: &mut Option<T>, here: T)
+    ensures { first.new ≡ option_or first.old (Some here) }
+{
     if first.is_none() {
         *first = Some(here);
     }

@@ -57,7 +57,7 @@ fn read_draft<'t>(alloc: Global, text: &'t [u8]) -> Result<Draft<'t>, BlifFault>
         if joined.is_forbidden || course.refuses(&line) {
             return Err(BlifFault::Form { line: number });
         }
-        let Ok(()) = draft.names.make_room(left.len()) else {
+        let Ok(()) = draft.make_room(left.len()) else {
             return Err(BlifFault::Memory);
         };
         let Ok(()) = draft.add(number, &line) else {
@@ -99,9 +99,10 @@ fn check(alloc: Global, draft: &Draft) -> Result<(), BlifFault> {
     if let Some(line) = draft.names.first_undefined() {
         return Err(BlifFault::Undefined { line });
     }
-    if draft.variables > MAX_VARIABLES as usize {
+    let variables = draft.inputs.len() + draft.variables;
+    if variables > MAX_VARIABLES as usize {
         return Err(BlifFault::TooMany {
-            variables: draft.variables as u32,
+            variables: variables as u32,
         });
     }
     Ok(())

@@ -18,7 +18,7 @@ number_nodes-requires-clause-few c = few-nodes c.args.draft.now c.requires
 
 pub resolve_pins-requires-clause-names : goal.resolve_pins-requires-clause-names
 resolve_pins-requires-clause-names c =
-    let long = table-long c.args.draft.now c.requires c.in_ok-nodes.nodes.items c.in_ok-nodes.ensures in
+    let long = table-long c.args.draft.now c.requires c.in_ok-nodes.nodes.items c.in_ok-nodes.ensures.nodes c.in_ok-nodes.ensures.plain in
     rw (c.sources.ensures, c.as_slice.ensures.value)
     (subst (λ (count : ℕ). All (ReadsNameBelow count) c.args.draft.now.gates.sources.items) (sym long) c.requires.gate_numbers.sources)
 
@@ -32,11 +32,11 @@ connect_gates-requires c =
     ∙ ap (λ inputs. map (source_node c.in_ok-nodes.nodes.items (length inputs)) c.sources.result.now) c.as_slice-inputs.ensures.value
     ∙ ap (map (source_node c.in_ok-nodes.nodes.items (length c.args.draft.now.inputs.items))) c.sources.ensures in
     rw (c.in_ok-add_gates.ensures, c.in_ok-add_inputs.ensures, c.in_ok-circuit.ensures, c.as_slice-inputs.ensures.value, c.as_slice-gates.ensures, c.as_slice-2.ensures.value)
-    (build-pins c.args.draft.now c.requires c.in_ok-nodes.nodes.items c.in_ok-pins.pins.items c.in_ok-nodes.ensures read)
+    (build-pins c.args.draft.now c.requires c.in_ok-nodes.nodes.items c.in_ok-pins.pins.items c.in_ok-nodes.ensures.nodes c.in_ok-nodes.ensures.plain read)
 
 pub resolve_outputs-requires : goal.resolve_outputs-requires
 resolve_outputs-requires c =
-    let long = table-long c.args.draft.now c.requires c.in_ok-nodes.nodes.items c.in_ok-nodes.ensures in
+    let long = table-long c.args.draft.now c.requires c.in_ok-nodes.nodes.items c.in_ok-nodes.ensures.nodes c.in_ok-nodes.ensures.plain in
     rw (c.as_slice-3.ensures.value, c.as_slice-4.ensures.value)
     (subst (λ (count : ℕ). All (λ number. number < count) c.args.draft.now.outputs.items) (sym long) c.requires.output_numbers)
 
@@ -48,7 +48,7 @@ add_outputs-requires c =
     let named = c.in_ok-outputs.ensures ∙ ap (λ nodes. map (node_of nodes) c.as_slice-3.result.now) c.as_slice-4.ensures.value
     ∙ ap (map (node_of c.in_ok-nodes.nodes.items)) c.as_slice-3.ensures.value in
     rw (c.in_ok-connect_gates.ensures, c.in_ok-add_gates.ensures, c.in_ok-add_inputs.ensures, c.in_ok-circuit.ensures, c.as_slice-inputs.ensures.value, c.as_slice-gates.ensures, c.as_slice-2.ensures.value, c.as_slice-5.ensures.value)
-    (build-outputs c.args.draft.now c.requires c.in_ok-nodes.nodes.items c.in_ok-pins.pins.items c.in_ok-nodes.ensures read c.in_ok-outputs.outputs.items named)
+    (build-outputs c.args.draft.now c.requires c.in_ok-nodes.nodes.items c.in_ok-pins.pins.items c.in_ok-nodes.ensures.nodes c.in_ok-nodes.ensures.plain read c.in_ok-outputs.outputs.items named)
 
 pub returns : goal.returns
 returns c =
@@ -58,4 +58,4 @@ returns c =
     let named = c.in_ok-outputs.ensures ∙ ap (λ nodes. map (node_of nodes) c.as_slice-3.result.now) c.as_slice-4.ensures.value
     ∙ ap (map (node_of c.in_ok-nodes.nodes.items)) c.as_slice-3.ensures.value in
     rw (c.in_ok-add_outputs.ensures, c.in_ok-connect_gates.ensures, c.in_ok-add_gates.ensures, c.in_ok-add_inputs.ensures, c.in_ok-circuit.ensures, c.as_slice-inputs.ensures.value, c.as_slice-gates.ensures, c.as_slice-2.ensures.value, c.as_slice-5.ensures.value)
-    (build-circuit c.args.draft.now c.requires c.in_ok-nodes.nodes.items c.in_ok-pins.pins.items c.in_ok-nodes.ensures read c.in_ok-outputs.outputs.items named)
+    (build-circuit c.args.draft.now c.requires c.in_ok-nodes.nodes.items c.in_ok-pins.pins.items c.in_ok-nodes.ensures.nodes c.in_ok-nodes.ensures.plain read c.in_ok-outputs.outputs.items named)

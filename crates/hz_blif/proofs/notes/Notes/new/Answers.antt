@@ -1,0 +1,1 @@
+use Rattle.hz_blif.proofs.DraftSteps.{inputs-none}

@@ -1,1 +1,0 @@
-use Rattle.hz_blif.proofs.Ascending.{covers-ascend}
