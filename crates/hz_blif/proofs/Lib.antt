@@ -9,6 +9,8 @@ pub mod Ascending
 pub mod FaultLaws
 pub mod NumberSteps
 pub mod DraftSteps
+pub mod CoverSteps
+pub mod Closing
 pub mod NameLaws
 pub mod WiredPins
 pub mod WiredNames

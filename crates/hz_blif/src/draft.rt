@@ -229,7 +229,8 @@ impl<'t> Draft<'t> {
             → Holds (record read { current = Some (record cover { pins = cover.pins ++ pin.now ∷ [] }) }) self.new) }
     {
         let number = self.sight(pin)?;
-        push(&mut self.cover.pins, number)
+        push(&mut self.cover.pins, number)?;
+        Ok(())
     }
 
     // Adds a row to the cover that is being read, if one is. Behind a row that is not as said none is looked at.
@@ -237,7 +238,10 @@ impl<'t> Draft<'t> {
         requires { MayGoOn self.old }
         ensures { OnOk result ((read : Read) → Holds read self.old → Holds (with_row line (bytes_of tokens.now) read) self.new) }
     {
-        if !self.is_open || self.notes.wrong_row.is_some() {
+        if !self.is_open {
+            return Ok(());
+        }
+        if self.notes.wrong_row.is_some() {
             return Ok(());
         }
         if !self.cover.add_row(tokens)? {
@@ -261,18 +265,24 @@ impl<'t> Draft<'t> {
 
     // Keeps the cover that was read, if a later fault may still be the least.
     fn keep_cover(&mut self) -> Result<(), Memory>
-        requires { MayGoOn self.old }
+        requires going { MayGoOn self.old }
+        requires reading { self.old.is_open ≡ true }
         ensures { OnOk result ((read : Read) (cover : CoverOf) → read.current ≡ Some cover → Holds read self.old → HoldsClosed read self.new) }
     {
-        if self.notes.wrong_row.is_some() || self.notes.excess.is_some() {
+        if self.notes.wrong_row.is_some() {
             return Ok(());
         }
-        self.keep_right_cover()
+        if self.notes.excess.is_some() {
+            return Ok(());
+        }
+        self.keep_right_cover()?;
+        Ok(())
     }
 
     // Keeps a cover whose rows are as said, or its count of pins or rows if those are too many.
     fn keep_right_cover(&mut self) -> Result<(), Memory>
         requires going { MayGoOn self.old }
+        requires reading { self.old.is_open ≡ true }
         requires right { self.old.notes.wrong_row ≡ None }
         requires small { self.old.notes.excess ≡ None }
         ensures { OnOk result ((read : Read) (cover : CoverOf) → read.current ≡ Some cover → Holds read self.old → HoldsClosed read self.new) }
@@ -301,12 +311,14 @@ impl<'t> Draft<'t> {
         };
         push(&mut self.constants, constant)?;
         let pins = self.cover.pins.as_slice();
-        extend(&mut self.constant_pins, pins)
+        extend(&mut self.constant_pins, pins)?;
+        Ok(())
     }
 
     // Adds the gates of the cover, and notes the uses of its pins.
     fn keep_gates(&mut self) -> Result<(), Memory>
         requires going { MayGoOn self.old }
+        requires reading { self.old.is_open ≡ true }
         requires right { self.old.notes.wrong_row ≡ None }
         requires small { self.old.notes.excess ≡ None }
         requires few { excess_of (length self.old.cover.pins.items) self.old.cover.rows.count ≡ None }

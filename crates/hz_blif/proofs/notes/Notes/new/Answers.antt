@@ -1,1 +1,1 @@
-use Rattle.hz_blif.proofs.DraftSteps.{inputs-none}
+use Rattle.hz_blif.proofs.Closing.{holds-excess}
