@@ -207,5 +207,134 @@ holds-excess read one old count at right small large held =
       covers = λ right small. absurd (gone small);
     }
   where
-    gone : Some (record { line = old.cover.line; count = count }) ≡ None → ⊥
+    this : Option Excess
+    this = Some (record { line = old.cover.line; count = count })
+
+    gone : this ≡ None → ⊥
     gone e = cc
+
+-- a constant cover
+uses-constant : (constant : Bool) (one : Cover) (used : List (Numbered (List ℕ))) → is_constant one ≡ constant → constant ≡ true → used ++ cover_uses one ≡ used
+uses-constant false one used is h = let e : false ≡ true = h in cc
+uses-constant true one used is h = ap (λ constant. used ++ cond constant [] (on_line one.line one.pins)) is ∙ append-nil used
+
+constant-last : (done : List Cover) (one : Cover) → is_constant one ≡ true → filter is_constant (done ++ one ∷ []) ≡ filter is_constant done ++ one ∷ []
+constant-last done one is = filter-append is_constant done (one ∷ []) ∙ ap (λ constant. filter is_constant done ++ cond constant (one ∷ []) []) is
+
+varying-constant : (done : List Cover) (one : Cover) → is_constant one ≡ true → varying (done ++ one ∷ []) ≡ varying done
+varying-constant done one is =
+    filter-append (λ (cover : Cover). not (is_constant cover)) done (one ∷ []) ∙ ap (λ constant. varying done ++ cond (not constant) (one ∷ []) []) is ∙ append-nil (varying done)
+
+constant-varies : (done : List Cover) (one : Cover) → is_constant one ≡ false → filter is_constant (done ++ one ∷ []) ≡ filter is_constant done
+constant-varies done one is = filter-append is_constant done (one ∷ []) ∙ ap (λ constant. filter is_constant done ++ cond constant (one ∷ []) []) is ∙ append-nil (filter is_constant done)
+
+varying-varies : (done : List Cover) (one : Cover) → is_constant one ≡ false → varying (done ++ one ∷ []) ≡ varying done ++ one ∷ []
+varying-varies done one is =
+    filter-append (λ (cover : Cover). not (is_constant cover)) done (one ∷ []) ∙ ap (λ constant. varying done ++ cond (not constant) (one ∷ []) []) is
+
+pins-append : (front back : List Cover) → flat_map (λ cover. cover.pins) (front ++ back) ≡ flat_map (λ cover. cover.pins) front ++ flat_map (λ cover. cover.pins) back
+pins-append [] back = refl
+pins-append (cover ∷ front) back = ap (λ all. cover.pins ++ all) (pins-append front back) ∙ sym (append_assoc cover.pins (flat_map (λ cover. cover.pins) front) (flat_map (λ cover. cover.pins) back))
+
+pub holds-constant : (read : Read) (one : Cover) (old : Draft) (constants : List Constant) (pins : List ℕ) (vec : Draft) → vec.constants.items ≡ constants → vec.constant_pins.items ≡ pins
+    → vec ≡ record old { constants = vec.constants; constant_pins = vec.constant_pins }
+    → read.current ≡ Some one → old.notes.wrong_row ≡ None → old.notes.excess ≡ None → is_too_large one ≡ false → is_constant one ≡ true
+    → constants ≡ old.constants.items ++ record { line = old.cover.line; output = old.cover.output } ∷ [] → pins ≡ old.constant_pins.items ++ old.cover.pins.items
+    → Holds read old → HoldsClosed read vec
+holds-constant read one old constants pins vec constants_at pins_at same at right small large constant constants_are pins_are held =
+    let is = held-cover read one old at right held in
+    let was = held.covers right small in
+    let all : covers_with read.done read.current ≡ read.done ++ one ∷ [] = ap (covers_with read.done) at in
+    let uses : uses_with read.used read.current ≡ read.used = ap (uses_with read.used) at ∙ uses-constant (is_constant one) one read.used refl constant in
+    let kept : HoldsCovers (read.done ++ one ∷ []) (record old { constants = vec.constants; constant_pins = vec.constant_pins }) = record {
+      gates = λ few. was.gates few ∙ ap (flat_map cover_gates) (sym (varying-constant read.done one constant));
+      holds = was.holds;
+      gate_numbers = was.gate_numbers;
+      counted = was.counted ∙ ap (λ covers. variable_total (flat_map cover_gates covers)) (sym (varying-constant read.done one constant));
+      constants = ap (map (constant_by old.names)) (constants_at ∙ constants_are)
+          ∙ map-append (constant_by old.names) old.constants.items (record { line = old.cover.line; output = old.cover.output } ∷ [])
+          ∙ ap (λ kept. kept ++ constant_by old.names (record { line = old.cover.line; output = old.cover.output }) ∷ []) was.constants
+          ∙ ap (λ line. map output_on (filter is_constant read.done) ++ record { line = line; statement = name_at old.names old.cover.output } ∷ []) is.line
+          ∙ ap (λ name. map output_on (filter is_constant read.done) ++ record { line = one.line; statement = name } ∷ []) is.output
+          ∙ sym (ap (map output_on) (constant-last read.done one constant) ∙ map-append output_on (filter is_constant read.done) (one ∷ []));
+      constant_numbers = All-same (λ constant. constant.output < length old.names) vec.constants.items (old.constants.items ++ record { line = old.cover.line; output = old.cover.output } ∷ []) (constants_at ∙ constants_are)
+          (All-push (λ constant. constant.output < length old.names) old.constants.items (record { line = old.cover.line; output = old.cover.output }) was.constant_numbers is.output_number);
+      pins = ap (names_at old.names) (pins_at ∙ pins_are) ∙ map-append (name_at old.names) old.constant_pins.items old.cover.pins.items
+          ∙ ap (λ kept. kept ++ names_at old.names old.cover.pins.items) was.pins ∙ ap (λ more. flat_map (λ cover. cover.pins) (filter is_constant read.done) ++ more) (is.pins ∙ sym (append-nil one.pins))
+          ∙ sym (ap (flat_map (λ cover. cover.pins)) (constant-last read.done one constant) ∙ pins-append (filter is_constant read.done) (one ∷ []));
+      pin_numbers = All-same (λ number. number < length old.names) vec.constant_pins.items (old.constant_pins.items ++ old.cover.pins.items) (pins_at ∙ pins_are)
+          (All-append (λ number. number < length old.names) old.constant_pins.items old.cover.pins.items was.pin_numbers is.pin_numbers);
+    } in
+    subst (λ (draft : Draft). Holds (closed read) (record draft { is_open = false })) (sym same)
+    (record {
+      long_name = held.long_name;
+      construct = held.construct;
+      distinct = held.distinct;
+      used = held.used;
+      named = held.named;
+      again = held.again;
+      inputs = held.inputs;
+      input_numbers = held.input_numbers;
+      outputs = held.outputs;
+      output_numbers = held.output_numbers;
+      wrong_row_is = held.wrong_row_is;
+      is_open = refl;
+      current = λ right. tt;
+      excess_is = λ right. held.excess_is right
+          ∙ sym (ap (λ covers. excess_found (find is_too_large covers)) all ∙ ap excess_found (find-last read.done one)
+          ∙ ap (λ large. excess_found (option_or (find is_too_large read.done) (cond large (Some one) None))) large ∙ ap excess_found (or-none (find is_too_large read.done)));
+      few = (let was = held.few in let more = varying-last read.done one in let same = ap (λ covers. variable_total (flat_map cover_gates (varying covers))) all in omega (arith, was, more, same));
+      uses = λ right small. held.uses right small ∙ sym uses;
+      covers = λ right small. retold (covers_with read.done read.current) (read.done ++ one ∷ []) (record old { constants = vec.constants; constant_pins = vec.constant_pins }) all kept;
+    })
+  where
+    retold : (covers same : List Cover) (draft : Draft) → covers ≡ same → HoldsCovers same draft → HoldsCovers covers (record draft { is_open = false })
+    retold covers same draft is h =
+        subst (λ covers. HoldsCovers covers (record draft { is_open = false })) (sym is)
+        (record { gates = h.gates; holds = h.holds; gate_numbers = h.gate_numbers; counted = h.counted; constants = h.constants; constant_numbers = h.constant_numbers; pins = h.pins; pin_numbers = h.pin_numbers })
+
+-- a cover with gates, whose pins' uses are noted
+pub holds-grown : (read : Read) (one : Cover) (old : Draft) (gates : Gates) (variables : ℕ)
+    → read.current ≡ Some one → old.notes.wrong_row ≡ None → old.notes.excess ≡ None → is_too_large one ≡ false → is_constant one ≡ false
+    → variables ≡ old.variables + variable_total (cover_gates one) → HoldsGates gates → AreNamed (length old.names) gates
+    → (variables ≤ most_variables → elements_by (name_at old.names) gates ≡ elements_by (name_at old.names) old.gates ++ cover_gates one)
+    → Holds (record read { used = read.used ++ on_line one.line one.pins }) old → HoldsClosed read (record old { gates = gates; variables = variables })
+holds-grown read one old gates variables at right small large varies counted holds named grown held =
+    let was = held.covers right small in
+    let all : covers_with read.done read.current ≡ read.done ++ one ∷ [] = ap (covers_with read.done) at in
+    let uses : uses_with read.used read.current ≡ read.used ++ on_line one.line one.pins = ap (uses_with read.used) at ∙ ap (λ constant. read.used ++ cond constant [] (on_line one.line one.pins)) varies in
+    let more : flat_map cover_gates (varying (read.done ++ one ∷ [])) ≡ flat_map cover_gates (varying read.done) ++ cover_gates one =
+    ap (flat_map cover_gates) (varying-varies read.done one varies) ∙ gates-append (varying read.done) (one ∷ []) ∙ ap (λ last. flat_map cover_gates (varying read.done) ++ last) (append-nil (cover_gates one)) in
+    let total : variables ≡ variable_total (flat_map cover_gates (varying (read.done ++ one ∷ []))) =
+    counted ∙ ap (λ n. n + variable_total (cover_gates one)) was.counted ∙ sym (ap variable_total more ∙ sum_by-append element_variables (flat_map cover_gates (varying read.done)) (cover_gates one)) in
+    let kept : HoldsCovers (read.done ++ one ∷ []) (record old { gates = gates; variables = variables; is_open = false }) = record {
+      gates = λ few. grown few ∙ ap (λ before. before ++ cover_gates one) (was.gates (omega (arith, few, counted))) ∙ sym more;
+      holds = holds;
+      gate_numbers = named;
+      counted = total;
+      constants = was.constants ∙ ap (map output_on) (sym (constant-varies read.done one varies));
+      constant_numbers = was.constant_numbers;
+      pins = was.pins ∙ ap (flat_map (λ cover. cover.pins)) (sym (constant-varies read.done one varies));
+      pin_numbers = was.pin_numbers;
+    } in
+    record {
+      long_name = held.long_name;
+      construct = held.construct;
+      distinct = held.distinct;
+      used = held.used;
+      named = held.named;
+      again = held.again;
+      inputs = held.inputs;
+      input_numbers = held.input_numbers;
+      outputs = held.outputs;
+      output_numbers = held.output_numbers;
+      wrong_row_is = held.wrong_row_is;
+      is_open = refl;
+      current = λ right. tt;
+      excess_is = λ right. held.excess_is right
+          ∙ sym (ap (λ covers. excess_found (find is_too_large covers)) all ∙ ap excess_found (find-last read.done one)
+          ∙ ap (λ large. excess_found (option_or (find is_too_large read.done) (cond large (Some one) None))) large ∙ ap excess_found (or-none (find is_too_large read.done)));
+      few = (let same = ap (λ covers. variable_total (flat_map cover_gates (varying covers))) all in omega (arith, total, same));
+      uses = λ right small. held.uses right small ∙ sym uses;
+      covers = λ right small. subst (λ covers. HoldsCovers covers (record old { gates = gates; variables = variables; is_open = false })) (sym all) kept;
+    }

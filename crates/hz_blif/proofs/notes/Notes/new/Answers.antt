@@ -1,1 +1,1 @@
-use Rattle.hz_blif.proofs.Closing.{holds-excess}
+use Rattle.hz_blif.proofs.Closing.{holds-grown}
