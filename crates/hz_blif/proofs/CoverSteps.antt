@@ -140,16 +140,16 @@ holds-pin read one old cover number current none same is few held =
       wrong_row_is = held.wrong_row_is ∙ (ap (λ current. first_of (map wrong_row (covers_with read.done current))) current ∙ (wrong-without_rows read.done one none ∙ sym (wrong-without_rows read.done more none)));
       is_open = held.is_open ∙ ap is_some current;
       current = λ right. (
-        let was = current-at old.names read.current one old.cover current (held.current right) in
-        record {
-          line = ap (λ (cover : CoverRead). cover.line) same ∙ was.line;
-          pins = names-push old.names old.cover.pins.items cover.pins.items number one.pins is was.pins;
-          pin_numbers = numbers-push old.names old.cover.pins.items cover.pins.items number is few was.pin_numbers;
-          output = ap (λ (cover : CoverRead). name_at old.names cover.output) same ∙ was.output;
-          output_number = (let few = was.output_number in omega (arith, few, ap (λ (cover : CoverRead). cover.output) same));
-          rows = subst (λ (cover : CoverRead). KeepsRows one.rows cover.rows) (sym same) was.rows;
-        }
-      );
+          let was = current-at old.names read.current one old.cover current (held.current right) in
+          record {
+            line = ap (λ (cover : CoverRead). cover.line) same ∙ was.line;
+            pins = names-push old.names old.cover.pins.items cover.pins.items number one.pins is was.pins;
+            pin_numbers = numbers-push old.names old.cover.pins.items cover.pins.items number is few was.pin_numbers;
+            output = ap (λ (cover : CoverRead). name_at old.names cover.output) same ∙ was.output;
+            output_number = (let few = was.output_number in omega (arith, few, ap (λ (cover : CoverRead). cover.output) same));
+            rows = subst (λ (cover : CoverRead). KeepsRows one.rows cover.rows) (sym same) was.rows;
+          }
+          );
       excess_is = held.excess_is;
       few = held.few;
       uses = held.uses;

@@ -11,6 +11,9 @@ pub mod NumberSteps
 pub mod DraftSteps
 pub mod CoverSteps
 pub mod Closing
+pub mod ReadLaws
+pub mod TextRoom
+pub mod LoopSteps
 pub mod NameLaws
 pub mod WiredPins
 pub mod WiredNames

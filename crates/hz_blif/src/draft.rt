@@ -74,22 +74,29 @@ impl<'t> Draft<'t> {
         }
     }
 
-    /// Takes room for names, where so many bytes of the text are left.
-    pub(crate) fn make_room(&mut self, left: usize) -> Result<(), Memory>
+    // Takes room for names, where so many bytes of the text are left.
+    fn make_room(&mut self, left: usize) -> Result<(), Memory>
         ensures { OnOk result ((read : Read) → Holds read self.old → Holds read self.new) }
     {
         self.names.make_room(left)?;
         Ok(())
     }
 
-    /// Adds the next line, whose form is right.
-    pub(crate) fn add(&mut self, number: u32, line: &Line<'_, 't>) -> Result<(), Memory>
+    /// Adds the next line, whose form is right; with it so many bytes of the text are left.
+    pub(crate) fn add(
+        &mut self,
+        left: usize,
+        number: u32,
+        line: &Line<'_, 't>,
+    ) -> Result<(), Memory>
         requires { MayGoOn self.old }
         ensures { OnOk result ((read : Read) → Holds read self.old
             → Holds (taking number (line_by line.now) (noting number (line_by line.now) read)) self.new) }
     {
+        self.make_room(left)?;
         self.note_line(number, line);
-        self.take(number, line)
+        self.take(number, line)?;
+        Ok(())
     }
 
     // Notes a line with a long name, and a construct that is no statement.

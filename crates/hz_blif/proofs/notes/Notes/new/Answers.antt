@@ -1,1 +1,1 @@
-use Rattle.hz_blif.proofs.Closing.{holds-grown}
+use Rattle.hz_blif.proofs.LoopSteps.{reading-end}
