@@ -79,6 +79,13 @@ pins-fit draft going opened right =
     let short : sum_by cover_room (read.done ++ current.0 ∷ []) < 2 ^ 31 = subst (λ (one : Option Cover). sum_by cover_room (covers_with read.done one) < 2 ^ 31) current.1 going.short in
     omega (arith, counted, same, room, short)
 
+-- its counts are told
+pub counts-told : (read : Read) (one : Cover) (draft : Draft) → read.current ≡ Some one → draft.notes.wrong_row ≡ None → Holds read draft
+    → (length draft.cover.pins.items ≡ length one.pins) × (draft.cover.rows.count ≡ length one.rows)
+counts-told read one draft at right held =
+    let is = held-cover read one draft at right held in
+    (sym (length-map draft.cover.pins.items (name_at draft.names)) ∙ ap length is.pins, is.rows.counted)
+
 -- too many pins or rows
 pub too-large : (one : Cover) (pins rows : ℕ) (count : ℕ) → pins ≡ length one.pins → rows ≡ length one.rows → excess_of pins rows ≡ Some count → (is_too_large one ≡ true) × (count_of one ≡ count)
 too-large one pins rows count same many e =

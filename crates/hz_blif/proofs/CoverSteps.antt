@@ -71,7 +71,7 @@ or-none : {A : Type 0} (one : Option A) → option_or one None ≡ one
 or-none None = refl
 or-none (Some item) = refl
 
-wrong-last : (done : List Cover) (cover : Cover) → first_of (map wrong_row (done ++ cover ∷ [])) ≡ option_or (first_of (map wrong_row done)) (wrong_row cover)
+pub wrong-last : (done : List Cover) (cover : Cover) → first_of (map wrong_row (done ++ cover ∷ [])) ≡ option_or (first_of (map wrong_row done)) (wrong_row cover)
 wrong-last done cover =
     ap first_found (map-append wrong_row done (cover ∷ [])) ∙ first-append (map wrong_row done) (wrong_row cover ∷ [])
     ∙ ap (option_or (first_of (map wrong_row done))) (by_row (wrong_row cover))

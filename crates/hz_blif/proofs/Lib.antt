@@ -14,6 +14,8 @@ pub mod Closing
 pub mod ReadLaws
 pub mod TextRoom
 pub mod LoopSteps
+pub mod Growing
+pub mod FoundFaults
 pub mod NameLaws
 pub mod WiredPins
 pub mod WiredNames

@@ -297,12 +297,14 @@ impl<'t> Draft<'t> {
         let line = self.cover.line;
         if let Some(count) = self.cover.excess() {
             self.notes.excess = Some(Excess { line, count });
-            Ok(())
-        } else if self.cover.is_constant() {
-            self.keep_constant()
-        } else {
-            self.keep_gates()
+            return Ok(());
         }
+        if self.cover.is_constant() {
+            self.keep_constant()?;
+            return Ok(());
+        }
+        self.keep_gates()?;
+        Ok(())
     }
 
     // Puts the cover with the constant ones.
@@ -340,6 +342,7 @@ impl<'t> Draft<'t> {
         self.variables += self.gates.variables() - before;
         if self.variables > MAX_VARIABLES as usize {
             self.gates.clear();
+            return Ok(());
         }
         Ok(())
     }
