@@ -114,6 +114,17 @@ grow-none cover old new holds gates_are sources_are = record {
   elements = λ name. rw (gates_are, sources_are) (sym (append-nil (elements_by name old)));
 }
 
+-- what grew stays so while gates and sources stay
+pub grow-kept : (cover : Cover) (old now new : Gates) (more : (ℕ → List ℕ) → List Element) → GrowBy cover more old now → new.gates.items ≡ now.gates.items
+    → new.sources.items ≡ now.sources.items → GrowBy cover more old new
+grow-kept cover old now new more grown gates_are sources_are = record {
+  holds = record { sized = rw (gates_are, sources_are) grown.holds.sized; below = rw (gates_are, sources_are) grown.holds.below };
+  named = λ count was below.
+      let named = grown.named count was below in
+      record { outputs = rw (gates_are) named.outputs; sources = rw (sources_are) named.sources };
+  elements = λ name. rw (gates_are, sources_are) (grown.elements name);
+}
+
 -- gates that grow twice
 pub grow-twice : (cover : Cover) (old now new : Gates) (first second : (ℕ → List ℕ) → List Element) → GrowBy cover first old now → GrowBy cover second now new
     → GrowBy cover (λ name. first name ++ second name) old new
