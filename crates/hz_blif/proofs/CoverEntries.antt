@@ -1,6 +1,6 @@
 -- The gates of a cover, pin by pin and row by row.
 use Rattle.std.proofs.Common.{◌≡◌, ◌≢◌, ◌∙◌, refl, sym, ap, subst, ℕ, suc, ◌+◌, ◌<◌, ◌≤◌, Bool, true, false, cond, not, List, [], ◌∷◌, ◌++◌, length, map, take, drop, get_or, append_assoc, arith}
-use Rattle.std.specs.Prelude.{◌==◌, Contains, if◌then◌else◌}
+use Rattle.std.specs.Prelude.{◌==◌, ◌||◌, Contains, if◌then◌else◌}
 use Rattle.std.specs.List.{All, list_all, list_any, slice_index_or}
 use Rattle.std.proofs.lemmas.List.{get_or-map, get_or_at, length-map, map_push}
 use Rattle.std.proofs.lemmas.List.Elements.{All-contains, All-cons, All-from_get_or, All-get_or, All-head, All-nil, All-tail, All-weaker}
@@ -199,7 +199,7 @@ some-literal place (pin ∷ pins) [] long some = absurd (omega (arith, long))
 some-literal place (pin ∷ pins) (byte ∷ plane) long some =
     by_byte (byte == 45) (some-literal (suc place) pins plane (omega (arith, long))) some
   where
-    by_byte : (dash : Bool) → (has_literal plane ≡ true → 0 < length (literals_from (suc place) pins plane)) → cond (not dash) true (has_literal plane) ≡ true
+    by_byte : (dash : Bool) → (has_literal plane ≡ true → 0 < length (literals_from (suc place) pins plane)) → (not dash || has_literal plane) ≡ true
         → 0 < length (cond dash (literals_from (suc place) pins plane) (record { place = place; pin = pin; plain = not (byte == 48) } ∷ literals_from (suc place) pins plane))
     by_byte true later h = later h
     by_byte false later h = omega arith
