@@ -1,8 +1,10 @@
 -- The gates of a cover, pin by pin and row by row.
 use Rattle.std.proofs.Common.{◌≡◌, ◌≢◌, ◌∙◌, refl, sym, ap, subst, ℕ, suc, ◌+◌, ◌<◌, ◌≤◌, Bool, true, false, cond, not, List, [], ◌∷◌, ◌++◌, length, map, take, drop, get_or, append_assoc, arith}
 use Rattle.std.specs.Prelude.{◌==◌, ◌||◌, Contains, if◌then◌else◌}
+use Rattle.std.specs.Borrow.{Bor}
+use Rattle.hz_blif.specs.Reading.{bytes_of}
 use Rattle.std.specs.List.{All, list_all, list_any, slice_index_or}
-use Rattle.std.proofs.lemmas.List.{get_or-map, get_or_at, length-map, map_push}
+use Rattle.std.proofs.lemmas.List.{get_or-map, get_or_at, length-map, length-take-le, map_push, take_more}
 use Rattle.std.proofs.lemmas.List.Elements.{All-contains, All-cons, All-from_get_or, All-get_or, All-head, All-nil, All-tail, All-weaker}
 use Rattle.std.proofs.lemmas.List.Folds.{list_all_at, list_any_at}
 use Rattle.hz_core.specs.declared.kind.Kind.{Kind}
@@ -281,3 +283,80 @@ pub one-source : (before sources : List Source) (one : Source) → length source
 one-source before [] one single at = absurd (omega (arith, single))
 one-source before (first ∷ []) one single at = ap (λ (one : Source). one ∷ []) (sym (at ∙ get_or_at before first [] one (length before) refl))
 one-source before (first ∷ second ∷ rest) one single at = absurd (omega (arith, single))
+
+-- the loops over pins and over rows, one step on
+pub inverters-step : (name : ℕ → List ℕ) (cover : Cover) (i pin : ℕ) → i < length cover.pins.items → pin ≡ get_or cover.pins.items i 0
+    → inverters_from (name cover.output) (planes_by cover) 0 (map name (take i cover.pins.items)) ++ inverters_from (name cover.output) (planes_by cover) i (name pin ∷ [])
+    ≡ inverters_from (name cover.output) (planes_by cover) 0 (map name (take (i + 1) cover.pins.items))
+inverters-step name cover i pin there is =
+    let pins = cover.pins.items in
+    let front = map name (take i pins) in
+    let place : 0 + length front ≡ i = omega (arith, there, length-map (take i pins) name, length-take-le i pins (omega (arith, there))) in
+    sym (ap (λ (pins : List ℕ). inverters_from (name cover.output) (planes_by cover) 0 (map name pins)) (take_more pins i 0 there)
+    ∙ (ap (inverters_from (name cover.output) (planes_by cover) 0) (map_push name (take i pins) (get_or pins i 0))
+    ∙ (inverters-more (name cover.output) (planes_by cover) 0 front (name (get_or pins i 0))
+    ∙ (ap (λ (n : ℕ). inverters_from (name cover.output) (planes_by cover) 0 front ++ inverters_from (name cover.output) (planes_by cover) n (name (get_or pins i 0) ∷ [])) place
+    ∙ ap (λ (pin : ℕ). inverters_from (name cover.output) (planes_by cover) 0 front ++ inverters_from (name cover.output) (planes_by cover) i (name pin ∷ [])) (sym is)))))
+
+pub inverted-step : (name : ℕ → List ℕ) (cover : Cover) (i pin : ℕ) → i < length cover.pins.items → pin ≡ get_or cover.pins.items i 0
+    → inverted_from (name cover.output) (planes_by cover) 0 (map name (take i cover.pins.items)) ++ inverted_from (name cover.output) (planes_by cover) i (name pin ∷ [])
+    ≡ inverted_from (name cover.output) (planes_by cover) 0 (map name (take (i + 1) cover.pins.items))
+inverted-step name cover i pin there is =
+    let pins = cover.pins.items in
+    let front = map name (take i pins) in
+    let place : 0 + length front ≡ i = omega (arith, there, length-map (take i pins) name, length-take-le i pins (omega (arith, there))) in
+    sym (ap (λ (pins : List ℕ). inverted_from (name cover.output) (planes_by cover) 0 (map name pins)) (take_more pins i 0 there)
+    ∙ (ap (inverted_from (name cover.output) (planes_by cover) 0) (map_push name (take i pins) (get_or pins i 0))
+    ∙ (inverted-more (name cover.output) (planes_by cover) 0 front (name (get_or pins i 0))
+    ∙ (ap (λ (n : ℕ). inverted_from (name cover.output) (planes_by cover) 0 front ++ inverted_from (name cover.output) (planes_by cover) n (name (get_or pins i 0) ∷ [])) place
+    ∙ ap (λ (pin : ℕ). inverted_from (name cover.output) (planes_by cover) 0 front ++ inverted_from (name cover.output) (planes_by cover) i (name pin ∷ [])) (sym is)))))
+
+take-bytes : (words : List (Bor (List ℕ))) (i : ℕ) (d : Bor (List ℕ)) → i < length words → take (i + 1) (bytes_of words) ≡ take i (bytes_of words) ++ (get_or words i d).now ∷ []
+take-bytes words i d there =
+    let now = λ (word : Bor (List ℕ)). word.now in
+    take_more (bytes_of words) i [] (omega (arith, there, length-map words now))
+    ∙ ap (λ (plane : List ℕ). take i (bytes_of words) ++ plane ∷ []) (get_or-map now words i d [] there)
+
+taken : (words : List (Bor (List ℕ))) (i : ℕ) → i < length words → length (take i (bytes_of words)) ≡ i
+taken words i there = length-take-le i (bytes_of words) (omega (arith, there, length-map words (λ (word : Bor (List ℕ)). word.now)))
+
+pub rows-step : (name : ℕ → List ℕ) (cover : Cover) (words : List (Bor (List ℕ))) (i : ℕ) (d : Bor (List ℕ)) (row : ℕ) → i < length words → i + 1 ≡ row
+    → row_gates_by name cover (take i (bytes_of words)) ++ row_gate_by name cover row (get_or words i d).now ≡ row_gates_by name cover (take (i + 1) (bytes_of words))
+rows-step name cover words i d row there is =
+    sym (ap (row_gates_by name cover) (take-bytes words i d there)
+    ∙ rows-grown name cover (take i (bytes_of words)) (get_or words i d).now row (omega (arith, is, taken words i there)))
+
+pub terms-step : (name : ℕ → List ℕ) (cover : Cover) (words : List (Bor (List ℕ))) (i : ℕ) (d : Bor (List ℕ)) (row : ℕ) → i < length words → i + 1 ≡ row
+    → terms_by name cover (take i (bytes_of words)) ++ term_by name cover row (get_or words i d).now ∷ [] ≡ terms_by name cover (take (i + 1) (bytes_of words))
+terms-step name cover words i d row there is =
+    sym (ap (terms_by name cover) (take-bytes words i d there)
+    ∙ rows-termed name cover (take i (bytes_of words)) (get_or words i d).now row (omega (arith, is, taken words i there)))
+
+pub plane-there : (words : List (Bor (List ℕ))) (i : ℕ) (d : Bor (List ℕ)) → i < length words → Contains (bytes_of words) (get_or words i d).now
+plane-there words i d there =
+    let now = λ (word : Bor (List ℕ)). word.now in
+    (i, omega (arith, there, length-map words now), get_or-map now words i d (get_or words i d).now there)
+
+-- the one plane of a cover
+pub single-plane : (cover : Cover) (plane : List ℕ) → IsWhole cover → planes_by cover ≡ plane ∷ [] → IsPlane cover plane
+single-plane cover plane whole one = whole-plane cover plane whole (subst (λ (planes : List (List ℕ)). Contains planes plane) (sym one) (0, omega arith, refl))
+
+pub plane-long : (name : ℕ → List ℕ) (cover : Cover) (plane : List ℕ) → IsPlane cover plane → length (map name cover.pins.items) ≡ length plane
+plane-long name cover plane is = length-map cover.pins.items name ∙ sym is.long
+
+pub plane-some : (name : ℕ → List ℕ) (cover : Cover) (plane : List ℕ) → IsPlane cover plane → 0 < length (literals_by name cover plane)
+plane-some name cover plane is = some-literal 1 (map name cover.pins.items) plane (sym (plane-long name cover plane is)) is.literal
+
+-- there is a term for each row
+terms-length : (output : List ℕ) (row : ℕ) (rows : List (List Literal)) → length (terms_from output row rows) ≡ length rows
+terms-length output row [] = refl
+terms-length output row (literals ∷ rows) = ap suc (terms-length output (suc row) rows)
+
+pub terms-long : (cover : Cover) (gates : List GateEntry) (terms : List Source) (words : List (Bor (List ℕ))) → ReadAs cover gates terms (λ name. terms_by name cover (bytes_of words))
+    → length words ≡ length terms
+terms-long cover gates terms words reads =
+    let name : ℕ → List ℕ = λ number. [] in
+    sym (length-map words (λ (word : Bor (List ℕ)). word.now))
+    ∙ (sym (length-map (bytes_of words) (literals_by name cover))
+    ∙ (sym (terms-length (name cover.output) 1 (map (literals_by name cover) (bytes_of words)))
+    ∙ (sym (ap length (reads.reads name)) ∙ length-map terms (source_name name (map (gate_name name) gates)))))
