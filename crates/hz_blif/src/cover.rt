@@ -63,6 +63,7 @@ impl<'t> Cover<'t> {
         ensures pins { self.new.pins ≡ self.old.pins }
         ensures output { self.new.output ≡ self.old.output }
         ensures line { self.new.line ≡ self.old.line }
+        ensures counted { self.new.rows.count ≡ self.old.rows.count + 1 }
         ensures right { IfOk result (λ right. (rows : List (Numbered (List (List ℕ)))) (line : ℕ) (names : List (List ℕ))
             → KeepsRows rows self.old.rows → length names ≡ length self.old.pins.items
             → right ≡ (is_row names (bytes_of tokens.now) && bytes_eq (last_token (bytes_of tokens.now)) (first_column (rows ++ record { line = line; statement = bytes_of tokens.now } ∷ [])))) }
@@ -137,6 +138,7 @@ impl<'t> Rows<'t> {
     // Adds a row of a cover with so many pins; whether it is as said.
     fn add(&mut self, tokens: &[&'t [u8]], pins: usize) -> Result<bool, Memory>
         requires { self.old.count + 1 < 2 ^ 32 }
+        ensures counted { self.new.count ≡ self.old.count + 1 }
         ensures right { IfOk result (λ right. (rows : List (Numbered (List (List ℕ)))) (line : ℕ) (names : List (List ℕ)) → KeepsRows rows self.old → length names ≡ pins
             → right ≡ (is_row names (bytes_of tokens.now) && bytes_eq (last_token (bytes_of tokens.now)) (first_column (rows ++ record { line = line; statement = bytes_of tokens.now } ∷ [])))) }
         ensures kept { IfOk result (λ right. right ≡ true → (rows : List (Numbered (List (List ℕ)))) (line : ℕ) → KeepsRows rows self.old
