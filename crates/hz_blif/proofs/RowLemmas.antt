@@ -86,18 +86,3 @@ planes-pushed planes plane old new literal keeps is room bare more =
           ∙ (ap (λ (planes : List (List ℕ)). planes ++ plane.now ∷ []) (keeps.planes_are ∙ take_all most_gate_pins planes (omega (arith, few)))
           ∙ sym (take_all most_gate_pins (planes ++ plane.now ∷ []) (omega (arith, few, length_push planes plane.now)))));
     }
-
--- what is kept of rows, with one row more
-pub rows-kept : (rows : List (Numbered (List (List ℕ)))) (row : Numbered (List (List ℕ))) (old new : Rows) → KeepsRows rows old → new.count ≡ old.count + 1
-    → new.column.now ≡ first_column (rows ++ row ∷ []) → KeepsPlanes (planes_in rows ++ plane_of row.statement ∷ []) new → KeepsRows (rows ++ row ∷ []) new
-rows-kept rows row old new keeps counted column planes = record {
-  counted = counted ∙ (ap (λ (count : ℕ). count + 1) keeps.counted ∙ sym (length_push rows row));
-  column_is = column;
-  planes_kept = subst (λ (planes : List (List ℕ)). KeepsPlanes planes new) (sym (planes_in_more row rows)) planes;
-}
-
-pub planes-same : (planes : List (List ℕ)) (old new : Rows) → KeepsPlanes planes old → new.has_bare ≡ old.has_bare → new.planes.items ≡ old.planes.items → KeepsPlanes planes new
-planes-same planes old new keeps bare same = record {
-  bare = bare ∙ keeps.bare;
-  planes_are = ap bytes_of same ∙ keeps.planes_are;
-}
