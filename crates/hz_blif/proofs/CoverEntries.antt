@@ -16,7 +16,7 @@ use Rattle.hz_blif.specs.declared.gates.Literal.{Literal as LiteralRead}
 use Rattle.hz_blif.specs.declared.gates.Source.{Source}
 use Rattle.hz_blif.specs.declared.gates.Source.TheVariants as source
 use Rattle.hz_blif.specs.Cover.{has_literal}
-use Rattle.hz_blif.specs.Entries.{HasNamesBelow, IsPlane, IsWhole, ReadAs, ReadsGateBelow, ReadsNameBelow, column_by, cover_by, gate_name, inverted_by, inverted_from, inverters_by, literal_at, literal_source_with, literal_sources, literals_by, planes_by, row_gate_by, row_gates_by, source_name, term_by, terms_by}
+use Rattle.hz_blif.specs.Entries.{HasNamesBelow, IsPlane, IsWholeCover, ReadAs, ReadsGateBelow, ReadsNameBelow, column_by, cover_by, gate_name, inverted_by, inverted_from, inverters_by, literal_at, literal_source_with, literal_sources, literals_by, planes_by, row_gate_by, row_gates_by, source_name, term_by, terms_by}
 use Rattle.hz_blif.specs.Gates.{Literal, gates_of_row, gates_of_rows, has_zero, inverter_name, inverters_from, literal_gate, literal_name, literal_names, literals_from, literals_of, row_gate_with, row_gates_from, row_name, term, terms_from}
 
 -- one pin more
@@ -104,7 +104,7 @@ test-contained test items item all there = by_test (test item) refl
         let fails : list_all test items ≡ false = list_all_at test items there.0 item there.1 (ap test there.2 ∙ h) in
         let e : true ≡ false = sym all ∙ fails in cc
 
-pub whole-plane : (cover : Cover) (plane : List ℕ) → IsWhole cover → Contains (planes_by cover) plane → IsPlane cover plane
+pub whole-plane : (cover : Cover) (plane : List ℕ) → IsWholeCover cover → Contains (planes_by cover) plane → IsPlane cover plane
 whole-plane cover plane whole there = record {
   among = there;
   long = All-contains (λ (plane : List ℕ). length plane ≡ length cover.pins.items) (planes_by cover) plane whole.planes there;
@@ -338,7 +338,7 @@ plane-there words i d there =
     (i, omega (arith, there, length-map words now), get_or-map now words i d (get_or words i d).now there)
 
 -- the one plane of a cover
-pub single-plane : (cover : Cover) (plane : List ℕ) → IsWhole cover → planes_by cover ≡ plane ∷ [] → IsPlane cover plane
+pub single-plane : (cover : Cover) (plane : List ℕ) → IsWholeCover cover → planes_by cover ≡ plane ∷ [] → IsPlane cover plane
 single-plane cover plane whole one = whole-plane cover plane whole (subst (λ (planes : List (List ℕ)). Contains planes plane) (sym one) (0, omega arith, refl))
 
 pub plane-long : (name : ℕ → List ℕ) (cover : Cover) (plane : List ℕ) → IsPlane cover plane → length (map name cover.pins.items) ≡ length plane

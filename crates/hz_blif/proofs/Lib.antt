@@ -12,3 +12,4 @@ pub mod Examples
 pub mod LiteralLemmas
 pub mod EntryLemmas
 pub mod CoverEntries
+pub mod CoverText

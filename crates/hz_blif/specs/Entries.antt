@@ -77,7 +77,7 @@ pub record HasNamesBelow (names : ℕ) (cover : Cover) : Type 0 where
   pub output : cover.output < names
 
 -- a cover that gates can be made of: it has a row, each row has a byte for each pin and a literal, and no gate gets too many pins
-pub record IsWhole (cover : Cover) : Type 0 where
+pub record IsWholeCover (cover : Cover) : Type 0 where
   pub some : 0 < length cover.rows.planes.items
   pub planes : All (λ plane. length plane ≡ length cover.pins.items) (bytes_of cover.rows.planes.items)
   pub literals : list_all has_literal (bytes_of cover.rows.planes.items) ≡ true

@@ -16,7 +16,7 @@
 -- first_fault text: the least fault, computed
 -- IsFirstWord, IsPieceOf, line_by: what the reader's calls return
 -- elements_by name gates: the elements for which gates stand
--- HoldsGates gates, IsWhole cover: what the making of gates keeps, and what it asks of a cover
+-- HoldsGates gates, IsWholeCover cover: what the making of gates keeps, and what it asks of a cover
 
 pub mod Text
 pub mod Line

@@ -9,7 +9,7 @@ ghost use Rattle.std.specs.List.{slice_index_or};
 ghost use Rattle.hz_blif.specs.declared.gates.Source.TheVariants.{Name};
 ghost use Rattle.hz_core.specs.Limits.{most_gate_pins};
 ghost use Rattle.hz_netlist.specs.Element.{variable_total};
-ghost use Rattle.hz_blif.specs.Entries.{AreNamed, GrowBy, HasNamesBelow, HoldsGates, IsOnlyLiteral, IsPlane, IsPrefix, IsWhole, ReadAs};
+ghost use Rattle.hz_blif.specs.Entries.{AreNamed, GrowBy, HasNamesBelow, HoldsGates, IsOnlyLiteral, IsPlane, IsPrefix, IsWholeCover, ReadAs};
 ghost use Rattle.hz_blif.specs.Entries.{column_by, cover_by, elements_by, inverted_by, inverted_from, inverters_by, literal_at, literal_source_with, literal_sources, planes_by, row_gate_by, row_gates_by, term_by, terms_by, variables_of};
 ghost use Rattle.hz_blif.specs.Gates.{has_zero, inverters_from, literal_gate};
 ghost use Rattle.hz_blif.specs.Reading.{bytes_of};
@@ -109,7 +109,7 @@ impl Gates {
 
     /// Adds the gates of a cover that is not constant.
     pub(crate) fn add_cover(&mut self, cover: &Cover) -> Result<(), Memory>
-        requires whole { IsWhole cover.now }
+        requires whole { IsWholeCover cover.now }
         requires holds { HoldsGates self.old }
         ensures holds { OnOk result (HoldsGates self.new) }
         ensures named { OnOk result ((names : ℕ)
@@ -124,7 +124,7 @@ impl Gates {
 
     // Adds the gates of a cover by how many rows it has.
     fn add_planes(&mut self, cover: &Cover) -> Result<(), Memory>
-        requires whole { IsWhole cover.now }
+        requires whole { IsWholeCover cover.now }
         requires holds { HoldsGates self.old }
         ensures { OnOk result (GrowBy cover.now (λ name. cover_by name cover.now) self.old self.new) }
     {
@@ -137,7 +137,7 @@ impl Gates {
 
     // Adds the gates of a cover of one row.
     fn add_single(&mut self, cover: &Cover, plane: &[u8]) -> Result<(), Memory>
-        requires whole { IsWhole cover.now }
+        requires whole { IsWholeCover cover.now }
         requires holds { HoldsGates self.old }
         requires plane { bytes_of cover.now.rows.planes.items ≡ plane.now ∷ [] }
         ensures { OnOk result (GrowBy cover.now (λ name. cover_by name cover.now) self.old self.new) }
@@ -165,7 +165,7 @@ impl Gates {
 
     // Adds the gates of a cover of several rows.
     fn add_rows(&mut self, cover: &Cover, planes: &[&[u8]]) -> Result<(), Memory>
-        requires whole { IsWhole cover.now }
+        requires whole { IsWholeCover cover.now }
         requires holds { HoldsGates self.old }
         requires planes { planes.now ≡ cover.now.rows.planes.items }
         requires several { 1 < length planes.now }
@@ -181,7 +181,7 @@ impl Gates {
 
     // Adds the gates of rows with two literals or more, and makes the terms of all rows.
     fn add_terms(&mut self, cover: &Cover, planes: &[&[u8]]) -> Result<(), Memory>
-        requires whole { IsWhole cover.now }
+        requires whole { IsWholeCover cover.now }
         requires holds { HoldsGates self.old }
         requires planes { planes.now ≡ cover.now.rows.planes.items }
         requires inverted { ReadAs cover.now self.old.gates.items self.old.inverted.items (λ name. inverted_by name cover.now) }
