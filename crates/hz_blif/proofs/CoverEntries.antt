@@ -1,11 +1,11 @@
 -- The gates of a cover, pin by pin and row by row.
-use Rattle.std.proofs.Common.{◌≡◌, ◌≢◌, ◌∙◌, refl, sym, ap, subst, ℕ, suc, ◌+◌, ◌<◌, ◌≤◌, Bool, true, false, cond, not, List, [], ◌∷◌, ◌++◌, length, map, take, drop, get_or, append_assoc, arith}
+use Rattle.std.proofs.Common.{◌≡◌, ◌≢◌, ◌∙◌, refl, sym, ap, subst, ℕ, suc, ◌+◌, ◌<◌, Bool, true, false, cond, not, List, [], ◌∷◌, ◌++◌, length, map, take, drop, get_or, append_assoc, arith}
 use Rattle.std.specs.Prelude.{◌==◌, ◌||◌, Contains, if◌then◌else◌}
 use Rattle.std.specs.Borrow.{Bor}
 use Rattle.hz_blif.specs.Reading.{bytes_of}
-use Rattle.std.specs.List.{All, list_all, list_any, slice_index_or}
+use Rattle.std.specs.List.{All, list_all, slice_index_or}
 use Rattle.std.proofs.lemmas.List.{get_or-map, get_or_at, length-map, length-take-le, map_push, take_more}
-use Rattle.std.proofs.lemmas.List.Elements.{All-contains, All-cons, All-from_get_or, All-get_or, All-head, All-nil, All-tail, All-weaker}
+use Rattle.std.proofs.lemmas.List.Elements.{All-contains, All-cons, All-head, All-nil, All-tail}
 use Rattle.std.proofs.lemmas.List.Folds.{list_all_at, list_any_at}
 use Rattle.hz_core.specs.declared.kind.Kind.{Kind}
 use Rattle.hz_core.specs.declared.kind.Kind.TheVariants.{And, Nand, Or, Nor, Not, Buff}
@@ -16,8 +16,8 @@ use Rattle.hz_blif.specs.declared.gates.Literal.{Literal as LiteralRead}
 use Rattle.hz_blif.specs.declared.gates.Source.{Source}
 use Rattle.hz_blif.specs.declared.gates.Source.TheVariants as source
 use Rattle.hz_blif.specs.Cover.{has_literal}
-use Rattle.hz_blif.specs.Entries.{HasNamesBelow, IsPlane, IsWholeCover, ReadAs, ReadsGateBelow, ReadsNameBelow, column_by, cover_by, gate_name, inverted_by, inverted_from, inverters_by, literal_at, literal_source_with, literal_sources, literals_by, planes_by, row_gate_by, row_gates_by, source_name, term_by, terms_by}
-use Rattle.hz_blif.specs.Gates.{Literal, gates_of_row, gates_of_rows, has_zero, inverter_name, inverters_from, literal_gate, literal_name, literal_names, literals_from, literals_of, row_gate_with, row_gates_from, row_name, term, terms_from}
+use Rattle.hz_blif.specs.Entries.{IsPlane, IsWholeCover, ReadAs, ReadsGateBelow, ReadsNameBelow, column_by, cover_by, gate_name, inverted_by, inverted_from, inverters_by, literal_at, literal_sources, literals_by, planes_by, row_gate_by, row_gates_by, source_name, term_by, terms_by}
+use Rattle.hz_blif.specs.Gates.{Literal, gates_of_row, gates_of_rows, has_zero, inverter_name, inverters_from, literal_gate, literal_name, literal_names, literals_from, row_gate_with, row_gates_from, row_name, term, terms_from}
 
 -- one pin more
 pub inverters-more : (output : List ℕ) (planes : List (List ℕ)) (before : ℕ) (pins : List (List ℕ)) (pin : List ℕ)

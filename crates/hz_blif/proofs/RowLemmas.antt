@@ -1,5 +1,5 @@
 -- When tokens are a row.
-use Rattle.std.proofs.Common.{◌≡◌, ◌∙◌, refl, ap, subst, sym, ℕ, ◌+◌, ◌<◌, ◌≤◌, Bool, true, false, not, List, [], ◌∷◌, ◌++◌, length, map, arith}
+use Rattle.std.proofs.Common.{◌≡◌, ◌∙◌, refl, ap, sym, ℕ, ◌<◌, ◌≤◌, Bool, true, false, not, List, [], ◌∷◌, ◌++◌, length, arith}
 use Rattle.std.specs.Prelude.{◌==◌, ◌&&◌, ◌||◌}
 use Rattle.std.specs.Borrow.{Bor}
 use Rattle.std.specs.List.{list_all}
@@ -9,7 +9,7 @@ use Rattle.hz_core.specs.Limits.{most_gate_pins}
 use Rattle.hz_blif.specs.declared.cover.Rows.{Rows}
 use Rattle.hz_line.specs.Statement.{Numbered}
 use Rattle.hz_blif.specs.Cover.{first_column, has_literal, is_column, is_plane_byte, is_row, last_token, plane_of}
-use Rattle.hz_blif.specs.Reading.{KeepsPlanes, KeepsRows, bytes_of, planes_in}
+use Rattle.hz_blif.specs.Reading.{KeepsPlanes, bytes_of, planes_in}
 
 -- the column alone is a row where there are no pins
 pub row_alone : (names : List (List ℕ)) (column : List ℕ) → length names ≡ 0 → is_row names (column ∷ []) ≡ is_column column

@@ -1,6 +1,5 @@
 use Rattle.std.proofs.lemmas.Result.{on_ok_weaker}
 use Rattle.hz_blif.proofs.EntryLemmas.{grown-counted}
-use Rattle.hz_blif.proofs.CoverText.{cover-text, whole-text}
 use Rattle.hz_blif.proofs.gates.Gates.add_cover.Goals as goal
 
 pub returns-clause-counted : goal.returns-clause-counted

@@ -1,4 +1,4 @@
-use Rattle.std.proofs.Common.{◌≡◌, ◌∷◌, ◌++◌, ◌<◌, [], ℕ, List, ap, get_or, length, map, take, arith}
+use Rattle.std.proofs.Common.{◌∷◌, ◌++◌, ◌<◌, [], ℕ, List, ap, get_or, length, map, take, arith}
 use Rattle.hz_blif.specs.Entries.{inverted_from, planes_by}
 use Rattle.hz_blif.specs.Gates.{inverters_from}
 use Rattle.hz_blif.proofs.CoverEntries.{inverted-step, inverters-step}
