@@ -21,7 +21,7 @@ use Rattle.hz_blif.specs.declared.gates.Gates.{Gates}
 use Rattle.hz_blif.specs.Check.{first_of, wrong_row}
 use Rattle.hz_blif.specs.Cover.{Cover, column_of, first_column, has_literal, is_column, is_constant, is_plane_byte, is_row, is_too_large, is_wrong_row, plane_of, planes_of, on_line}
 use Rattle.hz_blif.specs.Draft.{Holds, HoldsClosed, HoldsCover, MayGoOn, Read, covers_with, cover_room, names_at, varying}
-use Rattle.hz_blif.specs.Entries.{AreNamed, HasNamesBelow, HoldsGates, IsWhole, cover_by, elements_by, name_at}
+use Rattle.hz_blif.specs.Entries.{AreNamed, HasNamesBelow, HoldsGates, IsWholeCover, cover_by, elements_by, name_at}
 use Rattle.hz_core.specs.declared.kind.Kind.TheVariants.{And, Nand, Or, Nor, Not, Buff}
 use Rattle.hz_blif.specs.Gates.{Literal, inverter_name, literal_name, row_name, cover_gates, gates_of_row, gates_of_rows, has_zero, inverters_from, literal_gate, literal_names, literals_from, literals_of, row_gate_with, row_gates_from, terms_from}
 use Rattle.hz_blif.specs.Reading.{bytes_of, planes_in}
@@ -99,7 +99,7 @@ some-length : {A : Type 0} (items : List A) → is_some_list items ≡ true → 
 some-length [] h = let e : false ≡ true = h in absurd (let x = e in cc)
 some-length (first ∷ rest) h = omega arith
 
-pub whole-cover : (read : Read) (one : Cover) (draft : Draft) → read.current ≡ Some one → draft.notes.wrong_row ≡ None → is_too_large one ≡ false → is_constant one ≡ false → Holds read draft → IsWhole draft.cover
+pub whole-cover : (read : Read) (one : Cover) (draft : Draft) → read.current ≡ Some one → draft.notes.wrong_row ≡ None → is_too_large one ≡ false → is_constant one ≡ false → Holds read draft → IsWholeCover draft.cover
 whole-cover read one draft at right large constant held =
     let is = held-cover read one draft at right held in
     let small = small-pins one large in

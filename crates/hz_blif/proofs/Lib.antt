@@ -23,3 +23,4 @@ pub mod Examples
 pub mod LiteralLemmas
 pub mod EntryLemmas
 pub mod CoverEntries
+pub mod CoverText

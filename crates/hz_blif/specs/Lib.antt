@@ -17,7 +17,7 @@
 -- IsFirstWord, IsPieceOf, line_by: what the reader's calls return
 -- elements_by name gates: the elements for which gates stand
 -- IsDraftOf text draft, HoldsElements text draft: what is kept of the lines of a text
--- HoldsGates gates, IsWhole cover: what the making of gates keeps, and what it asks of a cover
+-- HoldsGates gates, IsWholeCover cover: what the making of gates keeps, and what it asks of a cover
 
 pub mod Text
 pub mod Line
