@@ -1,9 +1,9 @@
 -- What entries of gates stand for, as gates and sources are appended.
-use Rattle.std.proofs.Common.{◌≡◌, ◌∙◌, refl, sym, ap, subst, ℕ, suc, ◌+◌, ◌-◌, ◌<◌, ◌≤◌, List, [], ◌∷◌, ◌++◌, length, map, take, drop, get_or, append_assoc, arith}
+use Rattle.std.proofs.Common.{◌≡◌, ◌∙◌, refl, sym, ap, subst, ℕ, ◌+◌, ◌<◌, ◌≤◌, List, [], ◌∷◌, ◌++◌, length, map, take, drop, get_or, append_assoc, arith}
 use Rattle.std.specs.Prelude.{Contains}
-use Rattle.std.specs.List.{All, slice_index_or, sum_by}
-use Rattle.std.proofs.lemmas.List.{append-nil, drop-append-le, get_or-map, get_or_append_left, get_or_push, length-append, length-drop, length-map, length-take-le, length_push, map-append, map_push, take-append-le, take_all}
-use Rattle.std.proofs.lemmas.List.Elements.{All-append, All-drop, All-from_get_or, All-get_or, All-head, All-nil, All-push, All-tail, All-take, All-weaker, All-contains}
+use Rattle.std.specs.List.{All, sum_by}
+use Rattle.std.proofs.lemmas.List.{append-nil, drop-append-le, get_or_append_left, get_or_push, length-append, length-drop, length-map, length-take-le, length_push, map-append, map_push, take-append-le, take_all}
+use Rattle.std.proofs.lemmas.List.Elements.{All-append, All-drop, All-head, All-nil, All-push, All-tail, All-take, All-weaker, All-contains}
 use Rattle.std.proofs.lemmas.List.Sums.{sum_by-append, sum_by-cons, sum_by_push}
 use Rattle.hz_netlist.specs.Element.{Element, Gate, element_variables, variable_total}
 use Rattle.hz_blif.specs.declared.cover.Cover.{Cover}
@@ -11,7 +11,7 @@ use Rattle.hz_blif.specs.declared.gates.Gate.{Gate as GateEntry}
 use Rattle.hz_blif.specs.declared.gates.Gates.{Gates}
 use Rattle.hz_blif.specs.declared.gates.Source.{Source}
 use Rattle.hz_blif.specs.declared.gates.Source.TheVariants as source
-use Rattle.hz_blif.specs.Entries.{AreNamed, GrowBy, HasNamesBelow, HoldsGates, IsPrefix, ReadAs, ReadsGateBelow, ReadsNameBelow, elements_by, elements_from, gate_name, role_name, source_name, variables_of}
+use Rattle.hz_blif.specs.Entries.{AreNamed, GrowBy, HoldsGates, IsPrefix, ReadAs, ReadsGateBelow, ReadsNameBelow, elements_by, elements_from, gate_name, role_name, source_name, variables_of}
 
 -- how many pins gates have
 abbrev pub pin_total : List GateEntry → ℕ
@@ -112,6 +112,17 @@ grow-none cover old new holds gates_are sources_are = record {
   holds = record { sized = rw (gates_are, sources_are) holds.sized; below = rw (gates_are, sources_are) holds.below };
   named = λ count was below. record { outputs = rw (gates_are) was.outputs; sources = rw (sources_are) was.sources };
   elements = λ name. rw (gates_are, sources_are) (sym (append-nil (elements_by name old)));
+}
+
+-- what grew stays so while gates and sources stay
+pub grow-kept : (cover : Cover) (old now new : Gates) (more : (ℕ → List ℕ) → List Element) → GrowBy cover more old now → new.gates.items ≡ now.gates.items
+    → new.sources.items ≡ now.sources.items → GrowBy cover more old new
+grow-kept cover old now new more grown gates_are sources_are = record {
+  holds = record { sized = rw (gates_are, sources_are) grown.holds.sized; below = rw (gates_are, sources_are) grown.holds.below };
+  named = λ count was below.
+      let named = grown.named count was below in
+      record { outputs = rw (gates_are) named.outputs; sources = rw (sources_are) named.sources };
+  elements = λ name. rw (gates_are, sources_are) (grown.elements name);
 }
 
 -- gates that grow twice

@@ -55,14 +55,14 @@ nothing-stands [] line item s = (let e = s.split in cc e)
 nothing-stands (first ∷ rest) line item s = (let e = s.split in cc e)
 
 -- the first line whose form is wrong is the least
-abbrev IsWrongAfter : List (Numbered Line) → List (Numbered Line) → ℕ → Type 0
+abbrev pub IsWrongAfter : List (Numbered Line) → List (Numbered Line) → ℕ → Type 0
 IsWrongAfter before items line = (middle : List (Numbered Line)) × (here : Line) × Stands items middle line here × (has_wrong_form (before ++ middle) here ≡ true)
 
 append-nil : {A : Type 0} (items : List A) → items ++ [] ≡ items
 append-nil [] = refl
 append-nil {A} (first ∷ rest) = ap (λ (all : List A). first ∷ all) (append-nil rest)
 
-wrong-form-least : (before items : List (Numbered Line)) (low : ℕ) → Ascends low items → IsLeastOf (IsWrongAfter before items) (wrong_form_after before items)
+pub wrong-form-least : (before items : List (Numbered Line)) (low : ℕ) → Ascends low items → IsLeastOf (IsWrongAfter before items) (wrong_form_after before items)
 wrong-form-least before [] low h = λ line p. nothing-stands p.0 line p.1 p.2
 wrong-form-least before (first ∷ rest) low h =
     by_test (has_wrong_form before first.statement) refl (wrong_form_after (before ++ first ∷ []) rest) (wrong-form-least (before ++ first ∷ []) rest (suc first.line) h.1)
@@ -106,19 +106,19 @@ wrong-form-least before (first ∷ rest) low h =
     }
 
 -- the first name that was defined before
-record IsTwiceAfter (before items : List (Numbered (List ℕ))) (line first : ℕ) : Type 0 where
-  middle : List (Numbered (List ℕ))
-  name : List ℕ
-  stands : Stands items middle line name
-  first_is : first_passing_line (bytes_eq name) (before ++ middle) ≡ Some first
-  earliest : (earlier : List (Numbered (List ℕ))) (other_line : ℕ) (other : List ℕ) → Stands middle earlier other_line other → first_passing_line (bytes_eq other) (before ++ earlier) ≡ None
+pub record IsTwiceAfter (before items : List (Numbered (List ℕ))) (line first : ℕ) : Type 0 where
+  pub middle : List (Numbered (List ℕ))
+  pub name : List ℕ
+  pub stands : Stands items middle line name
+  pub first_is : first_passing_line (bytes_eq name) (before ++ middle) ≡ Some first
+  pub earliest : (earlier : List (Numbered (List ℕ))) (other_line : ℕ) (other : List ℕ) → Stands middle earlier other_line other → first_passing_line (bytes_eq other) (before ++ earlier) ≡ None
 
-abbrev IsTwiceFound : List (Numbered (List ℕ)) → List (Numbered (List ℕ)) → Option BlifFault → Type 0
+abbrev pub IsTwiceFound : List (Numbered (List ℕ)) → List (Numbered (List ℕ)) → Option BlifFault → Type 0
 IsTwiceFound before items None =
     (middle : List (Numbered (List ℕ))) (line : ℕ) (name : List ℕ) → Stands items middle line name → first_passing_line (bytes_eq name) (before ++ middle) ≡ None
 IsTwiceFound before items (Some one) = (line : ℕ) × (first : ℕ) × (one ≡ fault.Twice line first) × IsTwiceAfter before items line first
 
-twice-found : (before items : List (Numbered (List ℕ))) → IsTwiceFound before items (twice_after before items)
+pub twice-found : (before items : List (Numbered (List ℕ))) → IsTwiceFound before items (twice_after before items)
 twice-found before [] = λ middle line name s. absurd (nothing-stands middle line name s)
 twice-found before (next ∷ rest) =
     by_line (first_passing_line (bytes_eq next.statement) before) refl (twice_after (before ++ next ∷ []) rest) (twice-found (before ++ next ∷ []) rest)

@@ -13,6 +13,13 @@ pub mod NumberSteps
 pub mod DraftSteps
 pub mod PlainLemmas
 pub mod SignLemmas
+pub mod CoverSteps
+pub mod Closing
+pub mod ReadLaws
+pub mod TextRoom
+pub mod LoopSteps
+pub mod Growing
+pub mod FoundFaults
 pub mod NameLaws
 pub mod WiredPins
 pub mod WiredNames
@@ -27,3 +34,4 @@ pub mod DraftText
 pub mod LiteralLemmas
 pub mod EntryLemmas
 pub mod CoverEntries
+pub mod CoverText

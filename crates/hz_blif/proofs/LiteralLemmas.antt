@@ -1,12 +1,12 @@
 -- The literals of a plane, pin by pin.
-use Rattle.std.proofs.Common.{◌≡◌, ◌≢◌, ◌∙◌, refl, sym, ap, subst, ℕ, suc, ◌+◌, ◌<◌, inl, inr, Bool, true, false, cond, not, List, [], ◌∷◌, ◌++◌, length, map, drop, Option, Some, None, get_or, append_assoc, arith}
-use Rattle.std.specs.Prelude.{◌==◌, if◌then◌else◌}
+use Rattle.std.proofs.Common.{◌≡◌, refl, ℕ, suc, ◌+◌, ◌<◌, Bool, true, false, cond, List, [], ◌∷◌, ◌++◌, length, drop, Option, Some, None, get_or, arith}
+use Rattle.std.specs.Prelude.{◌==◌}
 use Rattle.std.proofs.lemmas.List.{drop_more, drop_all}
 use Rattle.hz_blif.specs.declared.gates.Literal.{Literal as LiteralRead}
 use Rattle.hz_blif.specs.declared.gates.Source.{Source}
 use Rattle.hz_blif.specs.declared.gates.Source.TheVariants as source
-use Rattle.hz_blif.specs.Entries.{IsOnlyLiteral, literal_at, literal_source_with, literal_sources}
-use Rattle.hz_blif.specs.Gates.{Literal, literal_with, literals_from, literals_of}
+use Rattle.hz_blif.specs.Entries.{literal_at, literal_source_with, literal_sources}
+use Rattle.hz_blif.specs.Gates.{Literal, literal_with, literals_from}
 
 -- a literal that was found
 abbrev pub literal_found : List (List ℕ) → Option LiteralRead → List Literal

@@ -24,12 +24,12 @@ pub record KeepsNames (old new : Names) : Type 0 where
 pub keeps-same : (old new : Names) → seen_names new ≡ seen_names old → KeepsNames old new
 keeps-same old new same = record { more = []; is = same ∙ sym (append-nil (seen_names old)) }
 
-name_at-get : (names : Names) (number : ℕ) → name_at names number ≡ get_or (seen_names names) number []
+pub name_at-get : (names : Names) (number : ℕ) → name_at names number ≡ get_or (seen_names names) number []
 name_at-get [] number = refl
 name_at-get (seen ∷ rest) zero = refl
 name_at-get (seen ∷ rest) (suc number) = name_at-get rest number
 
-seen-length : (names : Names) → length (seen_names names) ≡ length names
+pub seen-length : (names : Names) → length (seen_names names) ≡ length names
 seen-length names = length-map names (λ (seen : Seen). seen.name)
 
 pub kept-length : (old new : Names) → KeepsNames old new → length old ≤ length new

@@ -14,6 +14,7 @@ use Rattle.hz_blif.specs.declared.draft.Draft.{Draft}
 use Rattle.hz_blif.specs.declared.fault.BlifFault.{BlifFault}
 use Rattle.hz_blif.specs.declared.fault.BlifFault.TheVariants as fault
 use Rattle.hz_blif.specs.declared.notes.Excess.{Excess}
+use Rattle.hz_blif.specs.declared.notes.Notes.{Notes}
 use Rattle.hz_blif.specs.declared.notes.Redefinition.{Redefinition}
 use Rattle.hz_blif.specs.Check.{count_of, first_of, twice_after, wrong_form_after, wrong_row}
 use Rattle.hz_blif.specs.Cover.{Cover, all_but_last, cover_of_line, inputs_of, is_constant, is_too_large, kept_covers, last_token, leading_rows, names_of, on_line, outputs_of, outputs_with, plane_of}
@@ -61,6 +62,10 @@ twice_fault again = fault.Twice again.line again.first
 
 abbrev pub pins_fault : Excess → BlifFault
 pins_fault excess = fault.Pins excess.line excess.count
+
+-- nothing is noted
+abbrev pub no_notes : Notes
+no_notes = record { long_name = None; construct = None; again = None; wrong_row = None; excess = None }
 
 -- the gates of covers that are not constant, up to the most variables, and the constant covers with their pins
 pub record HoldsCovers (covers : List Cover) (draft : Draft) : Type 0 where

@@ -45,7 +45,8 @@ elements_from name made (gate ∷ gates) sources =
 
 -- the elements for which gates stand, where the names of the text are these by their numbers
 abbrev pub elements_by : (ℕ → List ℕ) → Gates → List Element
-elements_by name gates = elements_from name (map (gate_name name) gates.gates.items) gates.gates.items gates.sources.items
+elements_by name gates =
+    elements_from name (map (gate_name name) gates.gates.items) gates.gates.items gates.sources.items
 
 -- how many gates and pins there are
 abbrev pub variables_of : Gates → ℕ
@@ -76,8 +77,9 @@ pub record HasNamesBelow (names : ℕ) (cover : Cover) : Type 0 where
   pub pins : All (λ pin. pin < names) cover.pins.items
   pub output : cover.output < names
 
--- a cover that gates can be made of: it has a row, each row has a byte for each pin and a literal, and no gate gets too many pins
-pub record IsWhole (cover : Cover) : Type 0 where
+-- a cover that gates can be made of: it has a row, each row has a byte for each pin and a literal, and no gate gets too
+-- many pins
+pub record IsWholeCover (cover : Cover) : Type 0 where
   pub some : 0 < length cover.rows.planes.items
   pub planes : All (λ plane. length plane ≡ length cover.pins.items) (bytes_of cover.rows.planes.items)
   pub literals : list_all has_literal (bytes_of cover.rows.planes.items) ≡ true
@@ -110,7 +112,8 @@ inverters_by name cover = inverters_from (name cover.output) (planes_by cover) 0
 abbrev pub inverted_from : List ℕ → List (List ℕ) → ℕ → List (List ℕ) → List (List ℕ)
 inverted_from output planes before [] = []
 inverted_from output planes before (pin ∷ pins) =
-    (if has_zero planes before then inverter_name output (suc before) else pin) ∷ inverted_from output planes (suc before) pins
+    (if has_zero planes before then inverter_name output (suc before) else pin)
+    ∷ inverted_from output planes (suc before) pins
 
 abbrev pub inverted_by : (ℕ → List ℕ) → Cover → List (List ℕ)
 inverted_by name cover = inverted_from (name cover.output) (planes_by cover) 0 (map name cover.pins.items)
@@ -153,12 +156,14 @@ pub record GrowBy (cover : Cover) (more : (ℕ → List ℕ) → List Element) (
 
 -- a literal of a plane, whose pins these are
 abbrev pub literal_at : List (List ℕ) → LiteralRead → Literal
-literal_at pins literal = record { place = suc literal.pin; pin = slice_index_or pins literal.pin []; plain = literal.is_plain }
+literal_at pins literal =
+    record { place = suc literal.pin; pin = slice_index_or pins literal.pin []; plain = literal.is_plain }
 
 -- the one literal of a plane; none if it has no literal or several
 abbrev pub IsOnlyLiteral : List (List ℕ) → List ℕ → Option LiteralRead → Type 0
 IsOnlyLiteral pins plane None = length (literals_of pins plane) ≢ 1
-IsOnlyLiteral pins plane (Some literal) = (literal.pin < length pins) × (literals_of pins plane ≡ literal_at pins literal ∷ [])
+IsOnlyLiteral pins plane (Some literal) =
+    (literal.pin < length pins) × (literals_of pins plane ≡ literal_at pins literal ∷ [])
 
 -- the source that stands for a byte of a plane, if it is a literal, before others
 abbrev pub literal_source_with : ℕ → Source → ℕ → List Source → List Source
@@ -170,4 +175,5 @@ abbrev pub literal_sources : List ℕ → List Source → List ℕ → List Sour
 literal_sources [] inverted plane = []
 literal_sources (pin ∷ pins) [] plane = []
 literal_sources (pin ∷ pins) (inverter ∷ inverted) [] = []
-literal_sources (pin ∷ pins) (inverter ∷ inverted) (byte ∷ plane) = literal_source_with pin inverter byte (literal_sources pins inverted plane)
+literal_sources (pin ∷ pins) (inverter ∷ inverted) (byte ∷ plane) =
+    literal_source_with pin inverter byte (literal_sources pins inverted plane)

@@ -19,7 +19,7 @@
 -- elements_by name gates: the elements for which gates stand
 -- IsDraftOf text draft, HoldsElements text draft: what is kept of the lines of a text
 -- IsBuildable draft, elements_of_draft draft: the drafts that can be built, and the elements for which they stand
--- HoldsGates gates, IsWhole cover: what the making of gates keeps, and what it asks of a cover
+-- HoldsGates gates, IsWholeCover cover: what the making of gates keeps, and what it asks of a cover
 
 pub mod Text
 pub mod Line

@@ -75,23 +75,30 @@ impl<'t> Draft<'t> {
         }
     }
 
-    /// Takes room for names, where so many bytes of the text are left.
-    pub(crate) fn make_room(&mut self, left: usize) -> Result<(), Memory>
+    // Takes room for names, where so many bytes of the text are left.
+    fn make_room(&mut self, left: usize) -> Result<(), Memory>
         ensures { OnOk result ((read : Read) → Holds read self.old → Holds read self.new) }
     {
         self.names.make_room(left)?;
         Ok(())
     }
 
-    /// Adds the next line, whose form is right.
-    pub(crate) fn add(&mut self, number: u32, line: &Line<'_, 't>) -> Result<(), Memory>
+    /// Adds the next line, whose form is right; with it so many bytes of the text are left.
+    pub(crate) fn add(
+        &mut self,
+        left: usize,
+        number: u32,
+        line: &Line<'_, 't>,
+    ) -> Result<(), Memory>
         requires going { MayGoOn self.old }
         requires plain { HasPlainWords line.now }
         ensures { OnOk result ((read : Read) → Holds read self.old
             → Holds (taking number (line_by line.now) (noting number (line_by line.now) read)) self.new) }
     {
+        self.make_room(left)?;
         self.note_line(number, line);
-        self.take(number, line)
+        self.take(number, line)?;
+        Ok(())
     }
 
     // Notes a line with a long name, and a construct that is no statement.
@@ -241,7 +248,8 @@ impl<'t> Draft<'t> {
             → Holds (record read { current = Some (record cover { pins = cover.pins ++ pin.now ∷ [] }) }) self.new) }
     {
         let number = self.sight(pin)?;
-        push(&mut self.cover.pins, number)
+        push(&mut self.cover.pins, number)?;
+        Ok(())
     }
 
     // Adds a row to the cover that is being read, if one is. Behind a row that is not as said none is looked at.
@@ -249,7 +257,10 @@ impl<'t> Draft<'t> {
         requires { MayGoOn self.old }
         ensures { OnOk result ((read : Read) → Holds read self.old → Holds (with_row line (bytes_of tokens.now) read) self.new) }
     {
-        if !self.is_open || self.notes.wrong_row.is_some() {
+        if !self.is_open {
+            return Ok(());
+        }
+        if self.notes.wrong_row.is_some() {
             return Ok(());
         }
         if !self.cover.add_row(tokens)? {
@@ -273,18 +284,24 @@ impl<'t> Draft<'t> {
 
     // Keeps the cover that was read, if a later fault may still be the least.
     fn keep_cover(&mut self) -> Result<(), Memory>
-        requires { MayGoOn self.old }
+        requires going { MayGoOn self.old }
+        requires reading { self.old.is_open ≡ true }
         ensures { OnOk result ((read : Read) (cover : CoverOf) → read.current ≡ Some cover → Holds read self.old → HoldsClosed read self.new) }
     {
-        if self.notes.wrong_row.is_some() || self.notes.excess.is_some() {
+        if self.notes.wrong_row.is_some() {
             return Ok(());
         }
-        self.keep_right_cover()
+        if self.notes.excess.is_some() {
+            return Ok(());
+        }
+        self.keep_right_cover()?;
+        Ok(())
     }
 
     // Keeps a cover whose rows are as said, or its count of pins or rows if those are too many.
     fn keep_right_cover(&mut self) -> Result<(), Memory>
         requires going { MayGoOn self.old }
+        requires reading { self.old.is_open ≡ true }
         requires right { self.old.notes.wrong_row ≡ None }
         requires small { self.old.notes.excess ≡ None }
         ensures { OnOk result ((read : Read) (cover : CoverOf) → read.current ≡ Some cover → Holds read self.old → HoldsClosed read self.new) }
@@ -292,12 +309,14 @@ impl<'t> Draft<'t> {
         let line = self.cover.line;
         if let Some(count) = self.cover.excess() {
             self.notes.excess = Some(Excess { line, count });
-            Ok(())
-        } else if self.cover.is_constant() {
-            self.keep_constant()
-        } else {
-            self.keep_gates()
+            return Ok(());
         }
+        if self.cover.is_constant() {
+            self.keep_constant()?;
+            return Ok(());
+        }
+        self.keep_gates()?;
+        Ok(())
     }
 
     // Puts the cover with the constant ones.
@@ -313,12 +332,14 @@ impl<'t> Draft<'t> {
         };
         push(&mut self.constants, constant)?;
         let pins = self.cover.pins.as_slice();
-        extend(&mut self.constant_pins, pins)
+        extend(&mut self.constant_pins, pins)?;
+        Ok(())
     }
 
     // Adds the gates of the cover, and notes the uses of its pins.
     fn keep_gates(&mut self) -> Result<(), Memory>
         requires going { MayGoOn self.old }
+        requires reading { self.old.is_open ≡ true }
         requires right { self.old.notes.wrong_row ≡ None }
         requires small { self.old.notes.excess ≡ None }
         requires few { excess_of (length self.old.cover.pins.items) self.old.cover.rows.count ≡ None }
@@ -333,6 +354,7 @@ impl<'t> Draft<'t> {
         self.variables += self.gates.variables() - before;
         if self.variables > MAX_VARIABLES as usize {
             self.gates.clear();
+            return Ok(());
         }
         Ok(())
     }

@@ -9,7 +9,7 @@ ghost use Rattle.std.specs.List.{slice_index_or};
 ghost use Rattle.hz_blif.specs.declared.gates.Source.TheVariants.{Name};
 ghost use Rattle.hz_core.specs.Limits.{most_gate_pins};
 ghost use Rattle.hz_netlist.specs.Element.{variable_total};
-ghost use Rattle.hz_blif.specs.Entries.{AreNamed, GrowBy, HasNamesBelow, HoldsGates, IsOnlyLiteral, IsPlane, IsPrefix, IsWhole, ReadAs};
+ghost use Rattle.hz_blif.specs.Entries.{AreNamed, GrowBy, HasNamesBelow, HoldsGates, IsOnlyLiteral, IsPlane, IsPrefix, IsWholeCover, ReadAs};
 ghost use Rattle.hz_blif.specs.Entries.{column_by, cover_by, elements_by, inverted_by, inverted_from, inverters_by, literal_at, literal_source_with, literal_sources, planes_by, row_gate_by, row_gates_by, term_by, terms_by, variables_of};
 ghost use Rattle.hz_blif.specs.Gates.{has_zero, inverters_from, literal_gate};
 ghost use Rattle.hz_blif.specs.Reading.{bytes_of};
@@ -109,7 +109,7 @@ impl Gates {
 
     /// Adds the gates of a cover that is not constant.
     pub(crate) fn add_cover(&mut self, cover: &Cover) -> Result<(), Memory>
-        requires whole { IsWhole cover.now }
+        requires whole { IsWholeCover cover.now }
         requires holds { HoldsGates self.old }
         ensures holds { OnOk result (HoldsGates self.new) }
         ensures named { OnOk result ((names : ℕ)
@@ -124,7 +124,7 @@ impl Gates {
 
     // Adds the gates of a cover by how many rows it has.
     fn add_planes(&mut self, cover: &Cover) -> Result<(), Memory>
-        requires whole { IsWhole cover.now }
+        requires whole { IsWholeCover cover.now }
         requires holds { HoldsGates self.old }
         ensures { OnOk result (GrowBy cover.now (λ name. cover_by name cover.now) self.old self.new) }
     {
@@ -137,7 +137,7 @@ impl Gates {
 
     // Adds the gates of a cover of one row.
     fn add_single(&mut self, cover: &Cover, plane: &[u8]) -> Result<(), Memory>
-        requires whole { IsWhole cover.now }
+        requires whole { IsWholeCover cover.now }
         requires holds { HoldsGates self.old }
         requires plane { bytes_of cover.now.rows.planes.items ≡ plane.now ∷ [] }
         ensures { OnOk result (GrowBy cover.now (λ name. cover_by name cover.now) self.old self.new) }
@@ -151,7 +151,8 @@ impl Gates {
         self.add_gate(cover, Role::Output, kind, pins)
     }
 
-    // Adds the gate of a cover of one row with one literal: a buffer where the literal equals the output column, else an inverter.
+    // Adds the gate of a cover of one row with one literal: a buffer where the literal equals the output column, else
+    // an inverter.
     fn add_literal(&mut self, cover: &Cover, literal: Literal) -> Result<(), Memory>
         requires pin { literal.pin < length cover.now.pins.items }
         requires holds { HoldsGates self.old }
@@ -165,7 +166,7 @@ impl Gates {
 
     // Adds the gates of a cover of several rows.
     fn add_rows(&mut self, cover: &Cover, planes: &[&[u8]]) -> Result<(), Memory>
-        requires whole { IsWhole cover.now }
+        requires whole { IsWholeCover cover.now }
         requires holds { HoldsGates self.old }
         requires planes { planes.now ≡ cover.now.rows.planes.items }
         requires several { 1 < length planes.now }
@@ -181,13 +182,14 @@ impl Gates {
 
     // Adds the gates of rows with two literals or more, and makes the terms of all rows.
     fn add_terms(&mut self, cover: &Cover, planes: &[&[u8]]) -> Result<(), Memory>
-        requires whole { IsWhole cover.now }
+        requires whole { IsWholeCover cover.now }
         requires holds { HoldsGates self.old }
         requires planes { planes.now ≡ cover.now.rows.planes.items }
         requires inverted { ReadAs cover.now self.old.gates.items self.old.inverted.items (λ name. inverted_by name cover.now) }
-        ensures grown { OnOk result (GrowBy cover.now (λ name. row_gates_by name cover.now (bytes_of planes.now)) self.old self.new) }
-        ensures terms { OnOk result
-            (ReadAs cover.now self.new.gates.items self.new.terms.items (λ name. terms_by name cover.now (bytes_of planes.now))) }
+        ensures grown { OnOk result
+            (GrowBy cover.now (λ name. row_gates_by name cover.now (bytes_of planes.now)) self.old self.new) }
+        ensures terms { OnOk result (ReadAs cover.now self.new.gates.items self.new.terms.items
+            (λ name. terms_by name cover.now (bytes_of planes.now))) }
     {
         self.terms.clear();
         let mut row = 0;
@@ -206,10 +208,12 @@ impl Gates {
         requires holds { HoldsGates self.old }
         requires plane { IsPlane cover.now plane.now }
         requires inverted { ReadAs cover.now self.old.gates.items self.old.inverted.items (λ name. inverted_by name cover.now) }
-        ensures grown { OnOk result (GrowBy cover.now (λ name. row_gate_by name cover.now row plane.now) self.old self.new) }
+        ensures grown { OnOk result
+            (GrowBy cover.now (λ name. row_gate_by name cover.now row plane.now) self.old self.new) }
         ensures terms { OnOk result ((names : (ℕ → List ℕ) → List (List ℕ))
             → ReadAs cover.now self.old.gates.items self.old.terms.items names
-            → ReadAs cover.now self.new.gates.items self.new.terms.items (λ name. names name ++ term_by name cover.now row plane.now ∷ [])) }
+            → ReadAs cover.now self.new.gates.items self.new.terms.items
+            (λ name. names name ++ term_by name cover.now row plane.now ∷ [])) }
         ensures inverted { OnOk result
             (ReadAs cover.now self.new.gates.items self.new.inverted.items (λ name. inverted_by name cover.now)) }
     {
@@ -222,7 +226,8 @@ impl Gates {
         requires holds { HoldsGates self.old }
         requires plane { IsPlane cover.now plane.now }
         requires inverted { ReadAs cover.now self.old.gates.items self.old.inverted.items (λ name. inverted_by name cover.now) }
-        ensures grown { OnOk result (GrowBy cover.now (λ name. row_gate_by name cover.now row plane.now) self.old self.new) }
+        ensures grown { OnOk result
+            (GrowBy cover.now (λ name. row_gate_by name cover.now row plane.now) self.old self.new) }
         ensures term { IfOk result (λ source.
             ReadAs cover.now self.new.gates.items (source ∷ []) (λ name. term_by name cover.now row plane.now ∷ [])) }
         ensures gates { OnOk result (IsPrefix self.old.gates.items self.new.gates.items) }
@@ -264,11 +269,12 @@ impl Gates {
         requires few { pin < most_gate_pins }
         requires holds { HoldsGates self.old }
         requires name { Contains cover.now.pins.items name }
-        ensures grown { OnOk result (GrowBy cover.now (λ names. inverters_from (names cover.now.output) (planes_by cover.now) pin (names name ∷ [])) self.old self.new) }
+        ensures grown { OnOk result (GrowBy cover.now
+            (λ names. inverters_from (names cover.now.output) (planes_by cover.now) pin (names name ∷ [])) self.old self.new) }
         ensures inverted { OnOk result ((before : (ℕ → List ℕ) → List (List ℕ))
             → ReadAs cover.now self.old.gates.items self.old.inverted.items before
-            → ReadAs cover.now self.new.gates.items self.new.inverted.items
-            (λ names. before names ++ inverted_from (names cover.now.output) (planes_by cover.now) pin (names name ∷ []))) }
+            → ReadAs cover.now self.new.gates.items self.new.inverted.items (λ names. before names
+            ++ inverted_from (names cover.now.output) (planes_by cover.now) pin (names name ∷ []))) }
     {
         let source = self.add_inverter(cover, pin, name)?;
         push(&mut self.inverted, source)
@@ -279,7 +285,8 @@ impl Gates {
         requires few { pin < most_gate_pins }
         requires holds { HoldsGates self.old }
         requires name { Contains cover.now.pins.items name }
-        ensures grown { OnOk result (GrowBy cover.now (λ names. inverters_from (names cover.now.output) (planes_by cover.now) pin (names name ∷ [])) self.old self.new) }
+        ensures grown { OnOk result (GrowBy cover.now
+            (λ names. inverters_from (names cover.now.output) (planes_by cover.now) pin (names name ∷ [])) self.old self.new) }
         ensures source { IfOk result (λ source. ReadAs cover.now self.new.gates.items (source ∷ [])
             (λ names. inverted_from (names cover.now.output) (planes_by cover.now) pin (names name ∷ []))) }
         ensures gates { OnOk result (IsPrefix self.old.gates.items self.new.gates.items) }
@@ -340,7 +347,8 @@ impl Gates {
     // Adds a gate whose pins read the last sources.
     fn add_gate(&mut self, cover: &Cover, role: Role, kind: Kind, pins: usize) -> Result<(), Memory>
         ensures gates { OnOk result (self.new.gates.items
-            ≡ self.old.gates.items ++ record { role = role; kind = kind; output = cover.now.output; pins = pins } ∷ []) }
+            ≡ self.old.gates.items
+            ++ record { role = role; kind = kind; output = cover.now.output; pins = pins } ∷ []) }
         ensures sources { self.new.sources ≡ self.old.sources }
         ensures inverted { self.new.inverted ≡ self.old.inverted }
         ensures terms { self.new.terms ≡ self.old.terms }

@@ -2,6 +2,7 @@
 
 ghost use Rattle.std.specs.Prelude.{◌≡◌, Some};
 ghost use Rattle.std.specs.Option.{option_or};
+ghost use Rattle.hz_blif.specs.Draft.{no_notes};
 
 /// A line that defines a name which was defined before, and the first line that did.
 #[derive(Clone, Copy)]
@@ -29,7 +30,9 @@ pub(crate) struct Notes {
 
 impl Notes {
     /// Of no lines.
-    pub(crate) fn new() -> Notes {
+    pub(crate) fn new() -> Notes
+        ensures { result ≡ no_notes }
+    {
         Notes {
             long_name: None,
             construct: None,

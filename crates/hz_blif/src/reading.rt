@@ -1,6 +1,6 @@
 // Reading a netlist.
 
-ghost use Rattle.std.specs.Prelude.{◌≡◌, ◌≤◌, ◌⊎◌, IfOk, IfErr, OnOk, IsErrOf, length};
+ghost use Rattle.std.specs.Prelude.{◌≡◌, ◌≤◌, ◌⊎◌, IfOk, IfErr, MatchResult, OnOk, IsErrOf, length};
 ghost use Rattle.hz_core.specs.Netlist.{IsWhole};
 ghost use Rattle.hz_line.specs.Line.{most_text_bytes};
 ghost use Rattle.hz_blif.specs.Circuit.{blif_circuit};
@@ -42,7 +42,7 @@ pub fn read(alloc: Global, text: &[u8]) -> Result<Circuit, BlifFault>
 // What is kept of a text, or the first line whose form is wrong.
 fn read_draft<'t>(alloc: Global, text: &'t [u8]) -> Result<Draft<'t>, BlifFault>
     requires { length text.now ≤ most_text_bytes }
-    ensures draft { IfOk result (λ draft. IsDraftOf text.now draft) }
+    ensures { MatchResult result (λ draft. IsDraftOf text.now draft) (λ fault. IsBlifRefusal text.now fault) }
 {
     let mut draft = Draft::new(alloc, text);
     let mut tokens = Vec::new(alloc);
@@ -54,13 +54,13 @@ fn read_draft<'t>(alloc: Global, text: &'t [u8]) -> Result<Draft<'t>, BlifFault>
             return Err(BlifFault::Memory);
         };
         let line = line_of(tokens.as_slice());
-        if joined.is_forbidden || course.refuses(&line) {
+        if joined.is_forbidden {
             return Err(BlifFault::Form { line: number });
         }
-        let Ok(()) = draft.make_room(left.len()) else {
-            return Err(BlifFault::Memory);
-        };
-        let Ok(()) = draft.add(number, &line) else {
+        if course.refuses(&line) {
+            return Err(BlifFault::Form { line: number });
+        }
+        let Ok(()) = draft.add(left.len(), number, &line) else {
             return Err(BlifFault::Memory);
         };
         course = course.with(&line);

@@ -9,5 +9,5 @@ abbrev pub invariant-loop-number : goal.invariant-loop-number
 invariant-loop-number l = record {
   names : seen_names l.names ≡ seen_names l.fn.names;
   used : (read : Read) (draft : DraftOf) → draft.names ≡ l.fn.names → Holds read draft
-    → Holds (record read { used = read.used ++ on_line l.line (names_at l.fn.names (take l.number-index l.numbers)) }) (record draft { names = l.names });
+      → Holds (record read { used = read.used ++ on_line l.line (names_at l.fn.names (take l.number-index l.numbers)) }) (record draft { names = l.names });
 }

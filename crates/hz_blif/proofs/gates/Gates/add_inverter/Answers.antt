@@ -1,5 +1,4 @@
 use Rattle.std.proofs.Common.{◌≡◌, ◌∙◌, ◌∷◌, [], ap, refl, sym, true}
-use Rattle.std.proofs.lemmas.Result.{on_ok_weaker}
 use Rattle.hz_blif.specs.Entries.{planes_by}
 use Rattle.hz_blif.specs.Gates.{has_zero}
 use Rattle.hz_blif.specs.Reading.{bytes_of}

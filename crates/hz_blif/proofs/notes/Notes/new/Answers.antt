@@ -1,1 +1,2 @@
-use Rattle.hz_blif.proofs.DraftSteps.{inputs-none}
+use Rattle.hz_blif.proofs.Growing.{holds-gates}
+use Rattle.hz_blif.proofs.FoundFaults.{answer-exact}
