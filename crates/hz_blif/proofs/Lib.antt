@@ -16,6 +16,8 @@ pub mod TextRoom
 pub mod LoopSteps
 pub mod Growing
 pub mod FoundFaults
+pub mod CheckLaws
+pub mod UseLaws
 pub mod NameLaws
 pub mod WiredPins
 pub mod WiredNames

@@ -1,10 +1,10 @@
 // Reading a netlist.
 
-ghost use Rattle.std.specs.Prelude.{◌≡◌, ◌≤◌, ◌⊎◌, IfOk, IfErr, MatchResult, OnOk, IsErrOf, length};
+ghost use Rattle.std.specs.Prelude.{◌≡◌, ◌≤◌, ◌⊎◌, ℕ, List, IfOk, IfErr, MatchResult, OnOk, IsErrOf, length};
 ghost use Rattle.hz_core.specs.Netlist.{IsWhole};
 ghost use Rattle.hz_line.specs.Line.{most_text_bytes};
 ghost use Rattle.hz_blif.specs.Circuit.{blif_circuit};
-ghost use Rattle.hz_blif.specs.Draft.{IsDraftOf};
+ghost use Rattle.hz_blif.specs.Draft.{IsClean, IsDraftOf, IsDraftOfSome};
 ghost use Rattle.hz_blif.specs.Fault.{IsBlifRefusal, IsFaultless, IsLeastFault};
 
 use crate::build::build;
@@ -74,7 +74,21 @@ fn read_draft<'t>(alloc: Global, text: &'t [u8]) -> Result<Draft<'t>, BlifFault>
 }
 
 // The least fault of what was kept, in the order of the faults.
-fn check(alloc: Global, draft: &Draft) -> Result<(), BlifFault> {
+fn check(alloc: Global, draft: &Draft) -> Result<(), BlifFault>
+    requires { IsDraftOfSome draft.now }
+    ensures { (text : List ℕ) → IsDraftOf text draft.now
+        → MatchResult result (λ done. IsFaultless text) (λ fault. IsBlifRefusal text fault) }
+{
+    check_notes(draft)?;
+    check_names(alloc, draft)?;
+    Ok(())
+}
+
+// The least fault of those that were noted.
+fn check_notes(draft: &Draft) -> Result<(), BlifFault>
+    ensures clean { OnOk result (IsClean draft.now) }
+    ensures fault { IfErr result (λ fault. (text : List ℕ) → IsDraftOf text draft.now → IsBlifRefusal text fault) }
+{
     let notes = draft.notes;
     if let Some(line) = notes.long_name {
         return Err(BlifFault::Name { line });
@@ -91,6 +105,16 @@ fn check(alloc: Global, draft: &Draft) -> Result<(), BlifFault> {
     if let Some(Excess { line, count }) = notes.excess {
         return Err(BlifFault::Pins { line, count });
     }
+    Ok(())
+}
+
+// The least fault of names that are constant or undefined, and of the count of variables, where nothing is noted.
+fn check_names(alloc: Global, draft: &Draft) -> Result<(), BlifFault>
+    requires draft { IsDraftOfSome draft.now }
+    requires clean { IsClean draft.now }
+    ensures { (text : List ℕ) → IsDraftOf text draft.now
+        → MatchResult result (λ done. IsFaultless text) (λ fault. IsBlifRefusal text fault) }
+{
     match first_used_constant(alloc, draft) {
         Ok(None) => {}
         Ok(Some(line)) => return Err(BlifFault::Constant { line }),

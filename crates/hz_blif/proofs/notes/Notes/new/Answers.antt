@@ -1,2 +1,2 @@
-use Rattle.hz_blif.proofs.Growing.{holds-gates}
-use Rattle.hz_blif.proofs.FoundFaults.{answer-exact}
+use Rattle.hz_blif.proofs.CheckLaws.{found-last}
+use Rattle.hz_blif.proofs.UseLaws.{kept-varying}
