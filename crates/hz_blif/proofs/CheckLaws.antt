@@ -24,7 +24,7 @@ use Rattle.hz_blif.proofs.ReadLaws.{is-read}
 skip : (one : Option BlifFault) (rest : List (Option BlifFault)) → one ≡ None → first_found (one ∷ rest) ≡ first_found rest
 skip one rest none = ap (λ one. first_found (one ∷ rest)) none
 
-stop : (one : Option BlifFault) (rest : List (Option BlifFault)) (found : BlifFault) → one ≡ Some found → first_found (one ∷ rest) ≡ Some found
+pub stop : (one : Option BlifFault) (rest : List (Option BlifFault)) (found : BlifFault) → one ≡ Some found → first_found (one ∷ rest) ≡ Some found
 stop one rest found is = ap (λ one. first_found (one ∷ rest)) is
 
 -- the notes are the first faults of their numbers
@@ -83,11 +83,11 @@ found-excess text draft excess is name construct again right at =
 
 -- behind these the last three are asked
 pub found-last : (text : List ℕ) (draft : Draft) → IsDraftOf text draft → IsClean draft → first_fault text ≡ first_found (
-  option_map (λ (cover : Cover). fault.Constant cover.line) (find (λ cover. is_constant cover && not (is_skipped (lines_in text) cover)) (covers_of (lines_in text)))
-  ∷ option_map fault.Undefined (least_of (map (undefined_use (names_of (definitions_of (lines_in text)))) (uses_of (lines_in text))))
-  ∷ too_many (variable_total (elements_of (lines_in text)))
-  ∷ []
-)
+    option_map (λ (cover : Cover). fault.Constant cover.line) (find (λ cover. is_constant cover && not (is_skipped (lines_in text) cover)) (covers_of (lines_in text)))
+    ∷ option_map fault.Undefined (least_of (map (undefined_use (names_of (definitions_of (lines_in text)))) (uses_of (lines_in text))))
+    ∷ too_many (variable_total (elements_of (lines_in text)))
+    ∷ []
+    )
 found-last text draft is clean =
     let n = are-noted text draft is in
     skip _ _ n.form ∙ (skip _ _ (n.name ∙ ap (option_map fault.Name) clean.long_name) ∙ (skip _ _ (n.construct ∙ ap (option_map fault.Construct) clean.construct)

@@ -18,6 +18,8 @@ pub mod Growing
 pub mod FoundFaults
 pub mod CheckLaws
 pub mod UseLaws
+pub mod Undefined
+pub mod LastFaults
 pub mod NameLaws
 pub mod WiredPins
 pub mod WiredNames

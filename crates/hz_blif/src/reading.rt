@@ -1,10 +1,11 @@
 // Reading a netlist.
 
-ghost use Rattle.std.specs.Prelude.{◌≡◌, ◌≤◌, ◌⊎◌, ℕ, List, IfOk, IfErr, MatchResult, OnOk, IsErrOf, length};
+ghost use Rattle.std.specs.Prelude.{◌≡◌, ◌<◌, ◌≤◌, ◌⊎◌, false, nat_eq, ℕ, List, IfOk, IfErr, MatchResult, OnOk, IsErrOf, length};
+ghost use Rattle.std.specs.List.{All, list_any, slice_index_or};
 ghost use Rattle.hz_core.specs.Netlist.{IsWhole};
 ghost use Rattle.hz_line.specs.Line.{most_text_bytes};
 ghost use Rattle.hz_blif.specs.Circuit.{blif_circuit};
-ghost use Rattle.hz_blif.specs.Draft.{IsClean, IsDraftOf, IsDraftOfSome};
+ghost use Rattle.hz_blif.specs.Draft.{AreNumbers, IsClean, IsDraftOf, IsDraftOfSome, first_used};
 ghost use Rattle.hz_blif.specs.Fault.{IsBlifRefusal, IsFaultless, IsLeastFault};
 
 use crate::build::build;
@@ -133,7 +134,11 @@ fn check_names(alloc: Global, draft: &Draft) -> Result<(), BlifFault>
 }
 
 // The line of the first constant cover whose output a pin or an output names.
-fn first_used_constant(alloc: Global, draft: &Draft) -> Result<Option<u32>, Memory> {
+fn first_used_constant(alloc: Global, draft: &Draft) -> Result<Option<u32>, Memory>
+    requires outputs { All (λ constant. constant.output < length draft.now.names) draft.now.constants.items }
+    requires pins { AreNumbers draft.now.names draft.now.constant_pins.items }
+    ensures { IfOk result (λ found. found ≡ first_used draft.now draft.now.constants.items) }
+{
     if draft.constants.is_empty() {
         return Ok(None);
     }
@@ -148,7 +153,11 @@ fn first_used_constant(alloc: Global, draft: &Draft) -> Result<Option<u32>, Memo
 }
 
 // A mark for each name, set where the name is among these.
-fn marks(alloc: Global, names: usize, marked: &[u32]) -> Result<Vec<bool>, Memory> {
+fn marks(alloc: Global, names: usize, marked: &[u32]) -> Result<Vec<bool>, Memory>
+    requires { All (λ number. number < names) marked.now }
+    ensures long { IfOk result (λ marks. length marks.items ≡ names) }
+    ensures set { IfOk result (λ marks. (number : ℕ) → number < names → slice_index_or marks.items number false ≡ list_any (nat_eq number) marked.now) }
+{
     let Ok(mut marks) = vec![in alloc; false; names] else {
         return Err(Memory);
     };
