@@ -80,15 +80,15 @@ found-line text number fault_at P (Some line) rest is at stands by least more = 
 }
 
 -- names defined twice
-abbrev Climbs : ℕ → List (Numbered (List ℕ)) → Type 0
+abbrev pub Climbs : ℕ → List (Numbered (List ℕ)) → Type 0
 Climbs low [] = Unit {0}
 Climbs low (first ∷ rest) = (low ≤ first.line) × Climbs first.line rest
 
-climbs-weaker : (low high : ℕ) (items : List (Numbered (List ℕ))) → low ≤ high → Climbs high items → Climbs low items
+pub climbs-weaker : (low high : ℕ) (items : List (Numbered (List ℕ))) → low ≤ high → Climbs high items → Climbs low items
 climbs-weaker low high [] l h = tt
 climbs-weaker low high (first ∷ rest) l h = (omega (arith, l, h.0), h.1)
 
-climbs-on_line : (line high : ℕ) (names : List (List ℕ)) (items : List (Numbered (List ℕ))) → line ≤ high → Climbs high items → Climbs line (on_line line names ++ items)
+pub climbs-on_line : (line high : ℕ) (names : List (List ℕ)) (items : List (Numbered (List ℕ))) → line ≤ high → Climbs high items → Climbs line (on_line line names ++ items)
 climbs-on_line line high [] items l h = climbs-weaker line high items l h
 climbs-on_line line high (name ∷ names) items l h = (omega arith, climbs-on_line line high names items l h)
 
@@ -110,7 +110,7 @@ definitions-climb (first ∷ rest) low h = by_line first.statement (definitions-
     by_line (End tokens) ih = none ih
     by_line ConstructLine ih = none ih
 
-climbs-to : (low : ℕ) (items : List (Numbered (List ℕ))) (one : Numbered (List ℕ)) → Climbs low items → Contains items one → low ≤ one.line
+pub climbs-to : (low : ℕ) (items : List (Numbered (List ℕ))) (one : Numbered (List ℕ)) → Climbs low items → Contains items one → low ≤ one.line
 climbs-to low [] one h c = absurd (none_of one c)
 climbs-to low (first ∷ rest) one h c = elim (one_of first rest one c) [
   | inl here ↦ omega (arith, h.0, ap (λ (one : Numbered (List ℕ)). one.line) here)
@@ -191,9 +191,11 @@ not-true false h = refl
 
 found-constant : (text : List ℕ) (found : Option Cover) (rest : List (Option BlifFault)) → find (λ cover. is_constant cover && not (is_skipped (lines_in text) cover)) (covers_of (lines_in text)) ≡ found
     → AreFound (blif_faults text) 8 rest → AreFound (blif_faults text) 7 (option_map (λ (cover : Cover). fault.Constant cover.line) found ∷ rest)
-found-constant text None rest e more =
-    (λ other p same. (let is = (at_number text other 7 p same).0 in
-      find-no_cover (is_used_constant (lines_in text)) (covers_of (lines_in text)) e is.0 is.1 (both-is (is_constant is.0) (not (is_skipped (lines_in text) is.0)) is.3 (ap not is.4))), more)
+found-constant text None rest e more = (
+  λ other p same. (let is = (at_number text other 7 p same).0 in
+      find-no_cover (is_used_constant (lines_in text)) (covers_of (lines_in text)) e is.0 is.1 (both-is (is_constant is.0) (not (is_skipped (lines_in text) is.0)) is.3 (ap not is.4))),
+  more,
+)
 found-constant text (Some cover) rest e more =
     let is = find-cover (is_used_constant (lines_in text)) (covers_of (lines_in text)) 1 cover (covers-ascend text) e in
     let parts = both (is_constant cover) (not (is_skipped (lines_in text) cover)) is.passes in
@@ -201,9 +203,9 @@ found-constant text (Some cover) rest e more =
       stands = (cover, is.among, refl, parts.0, not-true (is_skipped (lines_in text) cover) parts.1);
       number_is = refl;
       least = λ other p same. (
-        let it = (at_number text other 7 p same).0 in
-        let up = is.least it.0 it.1 (both-is (is_constant it.0) (not (is_skipped (lines_in text) it.0)) it.3 (ap not it.4)) in omega (arith, up, it.2)
-      );
+          let it = (at_number text other 7 p same).0 in
+          let up = is.least it.0 it.1 (both-is (is_constant it.0) (not (is_skipped (lines_in text) it.0)) it.3 (ap not it.4)) in omega (arith, up, it.2)
+          );
     }
 
 -- names that are undefined
@@ -211,7 +213,7 @@ min-fold : (known : Option ℕ) (lines : List (Option ℕ)) → fold option_min 
 min-fold known [] = sym (min_none known)
 min-fold known (first ∷ rest) = min-fold (option_min known first) rest ∙ (min_assoc known first (fold option_min None rest) ∙ ap (option_min known) (sym (min-fold first rest)))
 
-abbrev IsUndefinedIn : List (List ℕ) → List (Numbered (List ℕ)) → ℕ → Type 0
+abbrev pub IsUndefinedIn : List (List ℕ) → List (Numbered (List ℕ)) → ℕ → Type 0
 IsUndefinedIn defined uses line = (name : List ℕ) × Contains uses (record { line = line; statement = name }) × (is_among defined name ≡ false)
 
 abbrev IsHere : List (List ℕ) → Numbered (List ℕ) → ℕ → Type 0
@@ -235,7 +237,7 @@ here-least : (defined : List (List ℕ)) (first : Numbered (List ℕ)) (known : 
 here-least defined first true is = λ line h. (let e : true ≡ false = sym is ∙ h.1 in cc)
 here-least defined first false is = record { here = (refl, is); least = λ other h. omega (arith, h.0) }
 
-undefined-least : (defined : List (List ℕ)) (uses : List (Numbered (List ℕ))) → IsLeastOf (IsUndefinedIn defined uses) (least_of (map (undefined_use defined) uses))
+pub undefined-least : (defined : List (List ℕ)) (uses : List (Numbered (List ℕ))) → IsLeastOf (IsUndefinedIn defined uses) (least_of (map (undefined_use defined) uses))
 undefined-least defined [] = λ line p. none_of _ p.1
 undefined-least defined (first ∷ rest) =
     subst (IsLeastOf (IsUndefinedIn defined (first ∷ rest))) (sym (min-fold (undefined_use defined first) (map (undefined_use defined) rest)))

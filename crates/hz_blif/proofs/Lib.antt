@@ -20,6 +20,10 @@ pub mod TextRoom
 pub mod LoopSteps
 pub mod Growing
 pub mod FoundFaults
+pub mod CheckLaws
+pub mod UseLaws
+pub mod Undefined
+pub mod LastFaults
 pub mod NameLaws
 pub mod WiredPins
 pub mod WiredNames

@@ -1,13 +1,14 @@
 -- What is kept of the lines of a text.
-use Rattle.std.specs.Prelude.{◌≡◌, ℕ, suc, Bool, false, ◌+◌, ◌*◌, ◌^◌, ◌<◌, ◌≤◌, not, List, [], ◌∷◌, ◌++◌, length, fold, map, filter, Option, Some, None, option_map, is_some, if◌then◌else◌}
+use Rattle.std.specs.Prelude.{◌≡◌, ℕ, suc, Bool, false, ◌+◌, ◌*◌, ◌^◌, ◌<◌, ◌≤◌, not, List, [], ◌∷◌, ◌++◌, length, fold, map, filter, Option, Some, None, option_map, is_some, nat_eq, ◌||◌, if◌then◌else◌}
 use Rattle.std.specs.List.{All, IsDistinct, find, flat_map, list_any, sum_by}
 use Rattle.std.specs.Option.{option_or}
 use Rattle.std.specs.Str.{bytes_eq}
 use Rattle.hz_core.specs.Least.{option_min}
 use Rattle.hz_core.specs.Limits.{most_variables}
+use Rattle.hz_line.specs.Line.{most_text_bytes}
 use Rattle.hz_line.specs.Statement.{Numbered, first_passing_line}
 use Rattle.hz_netlist.specs.Element.{variable_total}
-use Rattle.hz_netlist.specs.Names.{Names as NamesOf, AreNamesOf, seen_names}
+use Rattle.hz_netlist.specs.Names.{Names as NamesOf, AreNamesOf, seen_at, seen_names}
 use Rattle.hz_blif.specs.declared.cover.Cover.{Cover as CoverRead}
 use Rattle.hz_blif.specs.declared.draft.Constant.{Constant as ConstantKept}
 use Rattle.hz_blif.specs.declared.draft.Draft.{Draft}
@@ -208,6 +209,29 @@ pub record MayGoOn (draft : Draft) : Type 0 where
 pub record IsDraftOf (text : List ℕ) (draft : Draft) : Type 0 where
   pub formed : option_min (first_passing_line (list_any is_forbidden) (joined_lines text)) (wrong_form_after [] (lines_in text)) ≡ None
   pub holds : Holds (closed (read_of (lines_in text))) draft
+
+-- nothing is noted of lines and covers
+pub record IsClean (draft : Draft) : Type 0 where
+  pub long_name : draft.notes.long_name ≡ None
+  pub construct : draft.notes.construct ≡ None
+  pub again : draft.notes.again ≡ None
+  pub wrong_row : draft.notes.wrong_row ≡ None
+  pub excess : draft.notes.excess ≡ None
+
+-- a pin of a constant cover or a use that was noted names it
+abbrev pub is_used_number : Draft → ℕ → Bool
+is_used_number draft number = list_any (nat_eq number) draft.constant_pins.items || is_some (seen_at draft.names number).user
+
+-- the line of the first of these constant covers whose output is used
+abbrev pub first_used : Draft → List ConstantKept → Option ℕ
+first_used draft [] = None
+first_used draft (constant ∷ rest) = if is_used_number draft constant.output then Some constant.line else first_used draft rest
+
+-- a draft of a text that may be read
+pub record IsDraftOfSome (draft : Draft) : Type 0 where
+  pub text : List ℕ
+  pub small : length text ≤ most_text_bytes
+  pub is : IsDraftOf text draft
 
 -- what a draft holds of a text without a fault: the names of its elements, by their numbers
 pub record HoldsElements (text : List ℕ) (draft : Draft) : Type 0 where

@@ -1,10 +1,11 @@
 // Reading a netlist.
 
-ghost use Rattle.std.specs.Prelude.{◌≡◌, ◌≤◌, ◌⊎◌, IfOk, IfErr, MatchResult, OnOk, IsErrOf, length};
+ghost use Rattle.std.specs.Prelude.{◌≡◌, ◌<◌, ◌≤◌, ◌⊎◌, false, nat_eq, ℕ, List, IfOk, IfErr, MatchResult, OnOk, IsErrOf, length};
+ghost use Rattle.std.specs.List.{All, list_any, slice_index_or};
 ghost use Rattle.hz_core.specs.Netlist.{IsWhole};
 ghost use Rattle.hz_line.specs.Line.{most_text_bytes};
 ghost use Rattle.hz_blif.specs.Circuit.{blif_circuit};
-ghost use Rattle.hz_blif.specs.Draft.{IsDraftOf};
+ghost use Rattle.hz_blif.specs.Draft.{AreNumbers, IsClean, IsDraftOf, IsDraftOfSome, first_used};
 ghost use Rattle.hz_blif.specs.Fault.{IsBlifRefusal, IsFaultless, IsLeastFault};
 
 use crate::build::build;
@@ -74,7 +75,21 @@ fn read_draft<'t>(alloc: Global, text: &'t [u8]) -> Result<Draft<'t>, BlifFault>
 }
 
 // The least fault of what was kept, in the order of the faults.
-fn check(alloc: Global, draft: &Draft) -> Result<(), BlifFault> {
+fn check(alloc: Global, draft: &Draft) -> Result<(), BlifFault>
+    requires { IsDraftOfSome draft.now }
+    ensures { (text : List ℕ) → IsDraftOf text draft.now
+        → MatchResult result (λ done. IsFaultless text) (λ fault. IsBlifRefusal text fault) }
+{
+    check_notes(draft)?;
+    check_names(alloc, draft)?;
+    Ok(())
+}
+
+// The least fault of those that were noted.
+fn check_notes(draft: &Draft) -> Result<(), BlifFault>
+    ensures clean { OnOk result (IsClean draft.now) }
+    ensures fault { IfErr result (λ fault. (text : List ℕ) → IsDraftOf text draft.now → IsBlifRefusal text fault) }
+{
     let notes = draft.notes;
     if let Some(line) = notes.long_name {
         return Err(BlifFault::Name { line });
@@ -91,6 +106,16 @@ fn check(alloc: Global, draft: &Draft) -> Result<(), BlifFault> {
     if let Some(Excess { line, count }) = notes.excess {
         return Err(BlifFault::Pins { line, count });
     }
+    Ok(())
+}
+
+// The least fault of names that are constant or undefined, and of the count of variables, where nothing is noted.
+fn check_names(alloc: Global, draft: &Draft) -> Result<(), BlifFault>
+    requires draft { IsDraftOfSome draft.now }
+    requires clean { IsClean draft.now }
+    ensures { (text : List ℕ) → IsDraftOf text draft.now
+        → MatchResult result (λ done. IsFaultless text) (λ fault. IsBlifRefusal text fault) }
+{
     match first_used_constant(alloc, draft) {
         Ok(None) => {}
         Ok(Some(line)) => return Err(BlifFault::Constant { line }),
@@ -109,7 +134,11 @@ fn check(alloc: Global, draft: &Draft) -> Result<(), BlifFault> {
 }
 
 // The line of the first constant cover whose output a pin or an output names.
-fn first_used_constant(alloc: Global, draft: &Draft) -> Result<Option<u32>, Memory> {
+fn first_used_constant(alloc: Global, draft: &Draft) -> Result<Option<u32>, Memory>
+    requires outputs { All (λ constant. constant.output < length draft.now.names) draft.now.constants.items }
+    requires pins { AreNumbers draft.now.names draft.now.constant_pins.items }
+    ensures { IfOk result (λ found. found ≡ first_used draft.now draft.now.constants.items) }
+{
     if draft.constants.is_empty() {
         return Ok(None);
     }
@@ -124,7 +153,11 @@ fn first_used_constant(alloc: Global, draft: &Draft) -> Result<Option<u32>, Memo
 }
 
 // A mark for each name, set where the name is among these.
-fn marks(alloc: Global, names: usize, marked: &[u32]) -> Result<Vec<bool>, Memory> {
+fn marks(alloc: Global, names: usize, marked: &[u32]) -> Result<Vec<bool>, Memory>
+    requires { All (λ number. number < names) marked.now }
+    ensures long { IfOk result (λ marks. length marks.items ≡ names) }
+    ensures set { IfOk result (λ marks. (number : ℕ) → number < names → slice_index_or marks.items number false ≡ list_any (nat_eq number) marked.now) }
+{
     let Ok(mut marks) = vec![in alloc; false; names] else {
         return Err(Memory);
     };
