@@ -1,5 +1,5 @@
 -- Exactly when each fault stands in a text, and which of several is the answer.
-use Rattle.std.specs.Prelude.{◌≡◌, ℕ, ◌<◌, ◌≤◌, ◌⊎◌, Bool, true, false, not, ◌==◌, ◌||◌, ◌&&◌, nat_le, nat_lt, List, ◌∷◌, ◌++◌, length, fold, Some, Contains}
+use Rattle.std.specs.Prelude.{◌≡◌, ℕ, ◌<◌, ◌≤◌, ◌⊎◌, Bool, true, false, not, ◌==◌, ◌||◌, ◌&&◌, nat_le, nat_lt, List, ◌∷◌, ◌++◌, length, fold, Some, None, Contains}
 use Rattle.std.specs.List.{list_any}
 use Rattle.std.specs.Str.{bytes_eq}
 use Rattle.hz_core.specs.Limits.{most_variables, most_gate_pins}
@@ -89,10 +89,13 @@ HasThat test text line = (here : Line) × Contains (lines_in text) (record { lin
 abbrev pub HasCover : List ℕ → CoverOf → Type 0
 HasCover text cover = Contains (covers_of (lines_in text)) cover
 
--- the line defines a name that was defined before, first on that line
-abbrev pub IsSecond : List (Numbered (List ℕ)) → ℕ → ℕ → Type 0
-IsSecond definitions line first =
-    (before : List (Numbered (List ℕ))) × (name : List ℕ) × Stands definitions before line name × (first_passing_line (bytes_eq name) before ≡ Some first)
+-- the line defines a name that was defined before, first on line `first`; of several such names on one line the earliest counts
+pub record IsSecond (definitions : List (Numbered (List ℕ))) (line first : ℕ) : Type 0 where
+  pub before : List (Numbered (List ℕ))
+  pub name : List ℕ
+  pub stands : Stands definitions before line name
+  pub first_is : first_passing_line (bytes_eq name) before ≡ Some first
+  pub earliest : (earlier : List (Numbered (List ℕ))) (other : List ℕ) → Stands before earlier line other → first_passing_line (bytes_eq other) earlier ≡ None
 
 -- the line uses a name that no line defines
 abbrev pub UsesUndefined : List (Numbered (List ℕ)) → List (Numbered (List ℕ)) → ℕ → Type 0

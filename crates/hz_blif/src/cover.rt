@@ -63,10 +63,13 @@ impl<'t> Cover<'t> {
         ensures pins { self.new.pins ≡ self.old.pins }
         ensures output { self.new.output ≡ self.old.output }
         ensures line { self.new.line ≡ self.old.line }
+        ensures counted { self.new.rows.count ≡ self.old.rows.count + 1 }
         ensures right { IfOk result (λ right. (rows : List (Numbered (List (List ℕ)))) (line : ℕ) (names : List (List ℕ))
             → KeepsRows rows self.old.rows → length names ≡ length self.old.pins.items
-            → right ≡ (is_row names (bytes_of tokens.now) && bytes_eq (last_token (bytes_of tokens.now)) (first_column (rows ++ record { line = line; statement = bytes_of tokens.now } ∷ [])))) }
-        ensures kept { IfOk result (λ right. right ≡ true → (rows : List (Numbered (List (List ℕ)))) (line : ℕ) → KeepsRows rows self.old.rows
+            → right ≡ (is_row names (bytes_of tokens.now) && bytes_eq (last_token (bytes_of tokens.now))
+            (first_column (rows ++ record { line = line; statement = bytes_of tokens.now } ∷ [])))) }
+        ensures kept { IfOk result (λ right. right ≡ true → (rows : List (Numbered (List (List ℕ)))) (line : ℕ)
+            → KeepsRows rows self.old.rows
             → KeepsRows (rows ++ record { line = line; statement = bytes_of tokens.now } ∷ []) self.new.rows) }
     {
         let pins = self.pins.len();
@@ -89,7 +92,8 @@ impl<'t> Cover<'t> {
 
     /// Whether it is constant: it has no pins, no rows, or a row without a literal.
     pub(crate) fn is_constant(&self) -> bool
-        ensures { (rows : List (Numbered (List (List ℕ)))) (names : List (List ℕ)) → KeepsRows rows self.now.rows → length names ≡ length self.now.pins.items
+        ensures { (rows : List (Numbered (List (List ℕ)))) (names : List (List ℕ))
+            → KeepsRows rows self.now.rows → length names ≡ length self.now.pins.items
             → result ≡ (not (is_some_list names) || not (is_some_list rows) || not (list_all has_literal (planes_in rows))) }
     {
         self.pins.is_empty() || self.rows.count == 0 || self.rows.has_bare
@@ -137,9 +141,13 @@ impl<'t> Rows<'t> {
     // Adds a row of a cover with so many pins; whether it is as said.
     fn add(&mut self, tokens: &[&'t [u8]], pins: usize) -> Result<bool, Memory>
         requires { self.old.count + 1 < 2 ^ 32 }
-        ensures right { IfOk result (λ right. (rows : List (Numbered (List (List ℕ)))) (line : ℕ) (names : List (List ℕ)) → KeepsRows rows self.old → length names ≡ pins
-            → right ≡ (is_row names (bytes_of tokens.now) && bytes_eq (last_token (bytes_of tokens.now)) (first_column (rows ++ record { line = line; statement = bytes_of tokens.now } ∷ [])))) }
-        ensures kept { IfOk result (λ right. right ≡ true → (rows : List (Numbered (List (List ℕ)))) (line : ℕ) → KeepsRows rows self.old
+        ensures counted { self.new.count ≡ self.old.count + 1 }
+        ensures right { IfOk result (λ right. (rows : List (Numbered (List (List ℕ)))) (line : ℕ) (names : List (List ℕ))
+            → KeepsRows rows self.old → length names ≡ pins
+            → right ≡ (is_row names (bytes_of tokens.now) && bytes_eq (last_token (bytes_of tokens.now))
+            (first_column (rows ++ record { line = line; statement = bytes_of tokens.now } ∷ [])))) }
+        ensures kept { IfOk result (λ right. right ≡ true → (rows : List (Numbered (List (List ℕ)))) (line : ℕ)
+            → KeepsRows rows self.old
             → KeepsRows (rows ++ record { line = line; statement = bytes_of tokens.now } ∷ []) self.new) }
     {
         self.count_row(tokens);
@@ -154,7 +162,8 @@ impl<'t> Rows<'t> {
     fn count_row(&mut self, tokens: &[&'t [u8]])
         requires { self.old.count + 1 < 2 ^ 32 }
         ensures counted { self.new.count ≡ self.old.count + 1 }
-        ensures column { (rows : List (Numbered (List (List ℕ)))) (line : ℕ) → self.old.count ≡ length rows → self.old.column.now ≡ first_column rows
+        ensures column { (rows : List (Numbered (List (List ℕ)))) (line : ℕ)
+            → self.old.count ≡ length rows → self.old.column.now ≡ first_column rows
             → self.new.column.now ≡ first_column (rows ++ record { line = line; statement = bytes_of tokens.now } ∷ []) }
         ensures planes { self.new.planes ≡ self.old.planes }
         ensures bare { self.new.has_bare ≡ self.old.has_bare }
@@ -168,7 +177,8 @@ impl<'t> Rows<'t> {
     // The plane of a row, if it is as said and its column is that of the first row.
     fn plane_of(&self, tokens: &[&'t [u8]], pins: usize) -> Option<&'t [u8]>
         ensures row { (names : List (List ℕ)) → length names ≡ pins
-            → is_some result ≡ (is_row names (bytes_of tokens.now) && bytes_eq (last_token (bytes_of tokens.now)) self.now.column.now) }
+            → is_some result ≡ (is_row names (bytes_of tokens.now)
+            && bytes_eq (last_token (bytes_of tokens.now)) self.now.column.now) }
         ensures plane { IfSome result (λ plane. plane.now ≡ plane_of (bytes_of tokens.now)) }
     {
         let plane = plane_of(tokens, pins)?;
@@ -183,7 +193,8 @@ impl<'t> Rows<'t> {
     fn push(&mut self, plane: &'t [u8]) -> Result<(), Memory>
         ensures counted { self.new.count ≡ self.old.count }
         ensures column { self.new.column ≡ self.old.column }
-        ensures kept { OnOk result ((planes : List (List ℕ)) → KeepsPlanes planes self.old → KeepsPlanes (planes ++ plane.now ∷ []) self.new) }
+        ensures kept { OnOk result ((planes : List (List ℕ))
+            → KeepsPlanes planes self.old → KeepsPlanes (planes ++ plane.now ∷ []) self.new) }
     {
         self.has_bare = self.has_bare | !has_literal(plane);
         if self.planes.len() >= MAX_PINS {

@@ -1,5 +1,9 @@
 // What is noted of the lines of a text while they are read.
 
+ghost use Rattle.std.specs.Prelude.{◌≡◌, Some};
+ghost use Rattle.std.specs.Option.{option_or};
+ghost use Rattle.hz_blif.specs.Draft.{no_notes};
+
 /// A line that defines a name which was defined before, and the first line that did.
 #[derive(Clone, Copy)]
 pub(crate) struct Redefinition {
@@ -26,7 +30,9 @@ pub(crate) struct Notes {
 
 impl Notes {
     /// Of no lines.
-    pub(crate) fn new() -> Notes {
+    pub(crate) fn new() -> Notes
+        ensures { result ≡ no_notes }
+    {
         Notes {
             long_name: None,
             construct: None,
@@ -38,7 +44,9 @@ impl Notes {
 }
 
 /// Notes something, if nothing is noted yet.
-pub(crate) fn note<T: Copy>(first: &mut Option<T>, here: T) {
+pub(crate) fn note<T: Copy>(first: &mut Option<T>, here: T)
+    ensures { first.new ≡ option_or first.old (Some here) }
+{
     if first.is_none() {
         *first = Some(here);
     }

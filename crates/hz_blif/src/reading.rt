@@ -1,9 +1,11 @@
 // Reading a netlist.
 
-ghost use Rattle.std.specs.Prelude.{◌≡◌, ◌≤◌, ◌⊎◌, IfOk, IfErr, OnOk, IsErrOf, length};
+ghost use Rattle.std.specs.Prelude.{◌≡◌, ◌<◌, ◌≤◌, ◌⊎◌, false, nat_eq, ℕ, List, IfOk, IfErr, MatchResult, OnOk, IsErrOf, length};
+ghost use Rattle.std.specs.List.{All, list_any, slice_index_or};
 ghost use Rattle.hz_core.specs.Netlist.{IsWhole};
 ghost use Rattle.hz_line.specs.Line.{most_text_bytes};
 ghost use Rattle.hz_blif.specs.Circuit.{blif_circuit};
+ghost use Rattle.hz_blif.specs.Draft.{AreNumbers, IsClean, IsDraftOf, IsDraftOfSome, first_used};
 ghost use Rattle.hz_blif.specs.Fault.{IsBlifRefusal, IsFaultless, IsLeastFault};
 
 use crate::build::build;
@@ -39,7 +41,10 @@ pub fn read(alloc: Global, text: &[u8]) -> Result<Circuit, BlifFault>
 }
 
 // What is kept of a text, or the first line whose form is wrong.
-fn read_draft<'t>(alloc: Global, text: &'t [u8]) -> Result<Draft<'t>, BlifFault> {
+fn read_draft<'t>(alloc: Global, text: &'t [u8]) -> Result<Draft<'t>, BlifFault>
+    requires { length text.now ≤ most_text_bytes }
+    ensures { MatchResult result (λ draft. IsDraftOf text.now draft) (λ fault. IsBlifRefusal text.now fault) }
+{
     let mut draft = Draft::new(alloc, text);
     let mut tokens = Vec::new(alloc);
     let mut course = Course::new();
@@ -50,13 +55,13 @@ fn read_draft<'t>(alloc: Global, text: &'t [u8]) -> Result<Draft<'t>, BlifFault>
             return Err(BlifFault::Memory);
         };
         let line = line_of(tokens.as_slice());
-        if joined.is_forbidden || course.refuses(&line) {
+        if joined.is_forbidden {
             return Err(BlifFault::Form { line: number });
         }
-        let Ok(()) = draft.names.make_room(left.len()) else {
-            return Err(BlifFault::Memory);
-        };
-        let Ok(()) = draft.add(number, &line) else {
+        if course.refuses(&line) {
+            return Err(BlifFault::Form { line: number });
+        }
+        let Ok(()) = draft.add(left.len(), number, &line) else {
             return Err(BlifFault::Memory);
         };
         course = course.with(&line);
@@ -70,7 +75,21 @@ fn read_draft<'t>(alloc: Global, text: &'t [u8]) -> Result<Draft<'t>, BlifFault>
 }
 
 // The least fault of what was kept, in the order of the faults.
-fn check(alloc: Global, draft: &Draft) -> Result<(), BlifFault> {
+fn check(alloc: Global, draft: &Draft) -> Result<(), BlifFault>
+    requires { IsDraftOfSome draft.now }
+    ensures { (text : List ℕ) → IsDraftOf text draft.now
+        → MatchResult result (λ done. IsFaultless text) (λ fault. IsBlifRefusal text fault) }
+{
+    check_notes(draft)?;
+    check_names(alloc, draft)?;
+    Ok(())
+}
+
+// The least fault of those that were noted.
+fn check_notes(draft: &Draft) -> Result<(), BlifFault>
+    ensures clean { OnOk result (IsClean draft.now) }
+    ensures fault { IfErr result (λ fault. (text : List ℕ) → IsDraftOf text draft.now → IsBlifRefusal text fault) }
+{
     let notes = draft.notes;
     if let Some(line) = notes.long_name {
         return Err(BlifFault::Name { line });
@@ -87,6 +106,16 @@ fn check(alloc: Global, draft: &Draft) -> Result<(), BlifFault> {
     if let Some(Excess { line, count }) = notes.excess {
         return Err(BlifFault::Pins { line, count });
     }
+    Ok(())
+}
+
+// The least fault of names that are constant or undefined, and of the count of variables, where nothing is noted.
+fn check_names(alloc: Global, draft: &Draft) -> Result<(), BlifFault>
+    requires draft { IsDraftOfSome draft.now }
+    requires clean { IsClean draft.now }
+    ensures { (text : List ℕ) → IsDraftOf text draft.now
+        → MatchResult result (λ done. IsFaultless text) (λ fault. IsBlifRefusal text fault) }
+{
     match first_used_constant(alloc, draft) {
         Ok(None) => {}
         Ok(Some(line)) => return Err(BlifFault::Constant { line }),
@@ -95,16 +124,21 @@ fn check(alloc: Global, draft: &Draft) -> Result<(), BlifFault> {
     if let Some(line) = draft.names.first_undefined() {
         return Err(BlifFault::Undefined { line });
     }
-    if draft.variables > MAX_VARIABLES as usize {
+    let variables = draft.inputs.len() + draft.variables;
+    if variables > MAX_VARIABLES as usize {
         return Err(BlifFault::TooMany {
-            variables: draft.variables as u32,
+            variables: variables as u32,
         });
     }
     Ok(())
 }
 
 // The line of the first constant cover whose output a pin or an output names.
-fn first_used_constant(alloc: Global, draft: &Draft) -> Result<Option<u32>, Memory> {
+fn first_used_constant(alloc: Global, draft: &Draft) -> Result<Option<u32>, Memory>
+    requires outputs { All (λ constant. constant.output < length draft.now.names) draft.now.constants.items }
+    requires pins { AreNumbers draft.now.names draft.now.constant_pins.items }
+    ensures { IfOk result (λ found. found ≡ first_used draft.now draft.now.constants.items) }
+{
     if draft.constants.is_empty() {
         return Ok(None);
     }
@@ -119,7 +153,11 @@ fn first_used_constant(alloc: Global, draft: &Draft) -> Result<Option<u32>, Memo
 }
 
 // A mark for each name, set where the name is among these.
-fn marks(alloc: Global, names: usize, marked: &[u32]) -> Result<Vec<bool>, Memory> {
+fn marks(alloc: Global, names: usize, marked: &[u32]) -> Result<Vec<bool>, Memory>
+    requires { All (λ number. number < names) marked.now }
+    ensures long { IfOk result (λ marks. length marks.items ≡ names) }
+    ensures set { IfOk result (λ marks. (number : ℕ) → number < names → slice_index_or marks.items number false ≡ list_any (nat_eq number) marked.now) }
+{
     let Ok(mut marks) = vec![in alloc; false; names] else {
         return Err(Memory);
     };

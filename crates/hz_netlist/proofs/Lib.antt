@@ -12,3 +12,5 @@ pub mod BuiltCircuit
 pub mod Admissible
 -- What is built of elements that make a circuit is one: each step makes a circuit of a circuit
 pub mod Circuits
+-- Pins and outputs by the numbers of their nodes
+pub mod Connect

@@ -1,0 +1,7 @@
+use Rattle.std.proofs.Common.{take}
+use Rattle.hz_blif.specs.Draft.{Holds, Read, with_inputs}
+use Rattle.hz_blif.specs.Reading.{bytes_of}
+use Rattle.hz_blif.proofs.draft.Draft.add_inputs.Given as goal
+
+abbrev pub invariant-loop-name : goal.invariant-loop-name
+invariant-loop-name l = (read : Read) → Holds read l.fn.self → Holds (with_inputs l.line (bytes_of (take l.name-index l.names)) read) l.self
