@@ -20,7 +20,12 @@ const RUNS: &str =
 // Two pairs of bits for its inputs.
 const PATTERNS: &str = "from 111 to 011\nfrom 010 to 101\n";
 
-// Calls the program with words, which one space separates, over the files `n`, `s`, `r` and `p`. The load and the put of these
+// A latch, and a change that it may settle in two ways.
+const LATCH: &str = "INPUT(r)\nINPUT(s)\nq = NOR(r, qb)\nqb = NOR(s, q)\n";
+
+const RACE: &str = "start r=1 s=1\nchange r=0 s=0\n";
+
+// Calls the program with words, which one space separates, over the files `n`, `s`, `r`, `p` and `race`. The load and the put of these
 // numbers fail, and of number 0 none does; the put that fails takes so many bytes.
 fn call(
     alloc: Global,
@@ -34,6 +39,7 @@ fn call(
     files.add("s", SCRIPT.as_bytes())?;
     files.add("r", RUNS.as_bytes())?;
     files.add("p", PATTERNS.as_bytes())?;
+    files.add("race", RACE.as_bytes())?;
     files.fail(load)?;
     let mut out = MemSink::new(alloc);
     out.fail(put, taken)?;
@@ -117,10 +123,16 @@ fn words_alone(rt: HostRuntime) -> Result<(), Fail> {
 }
 
 // Each put of a job fails in turn, and takes at most so many bytes: what stands then is a front of the whole text.
-fn fail_puts(alloc: Global, line: &str, taken: usize, whole: &[u8]) -> Result<(), Fail> {
+fn fail_puts(
+    alloc: Global,
+    line: &str,
+    netlist: &str,
+    taken: usize,
+    whole: &[u8],
+) -> Result<(), Fail> {
     let mut before = 0;
     for put in 1..1_000 {
-        let (status, out) = call(alloc, line, NETLIST, 0, (put, taken))?;
+        let (status, out) = call(alloc, line, netlist, 0, (put, taken))?;
         if status != Status::Sink {
             return if out.bytes() == whole {
                 Ok(())
@@ -153,17 +165,20 @@ const ALL: usize = 1_000_000;
 /// A put that fails takes no byte, one byte, or all that it gets.
 #[test]
 fn each_put_fails(rt: HostRuntime) -> Result<(), Fail> {
-    for line in [
-        "analyse n s",
-        "replay n r",
-        "convert n r",
-        "vcd n r",
-        "batch n p",
-        "demo 1",
-    ] {
-        let (_, whole) = call(rt.alloc(), line, NETLIST, 0, (0, 0))?;
+    let rows = [
+        ("analyse n s", NETLIST),
+        ("split n race", LATCH),
+        ("replay n r", NETLIST),
+        ("convert n r", NETLIST),
+        ("vcd n r", NETLIST),
+        ("batch n p", NETLIST),
+        ("reset n p", NETLIST),
+        ("demo 1", NETLIST),
+    ];
+    for (line, netlist) in rows {
+        let (_, whole) = call(rt.alloc(), line, netlist, 0, (0, 0))?;
         for taken in [0, 1, ALL] {
-            fail_puts(rt.alloc(), line, taken, whole.bytes())?;
+            fail_puts(rt.alloc(), line, netlist, taken, whole.bytes())?;
         }
     }
     Ok(())
