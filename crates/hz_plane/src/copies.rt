@@ -54,6 +54,7 @@ fn all_pins(alloc: Global, net: &Net, order: &[u32]) -> Result<Vec<SmallVec<u32,
 }
 
 // A list of the same nodes.
+#[tactic(auto, using(std::proofs::lemmas::List::take_more))]
 fn copy_of(alloc: Global, nodes: &[u32]) -> Result<SmallVec<u32, 4>, Memory>
     ensures { IfOk result (λ list. list.items ≡ nodes.now) }
 {
