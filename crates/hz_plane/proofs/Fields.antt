@@ -12,6 +12,7 @@ use Rattle.hz_plane.specs.declared.stage.Stage.{Stage}
 use Rattle.hz_plane.specs.declared.stage.Stage.TheVariants.{Loading, Settled}
 use Rattle.hz_plane.specs.declared.planes.Planes.TheInside.{Inside}
 use Rattle.hz_plane.specs.Gates.{pin_sources}
+use Rattle.hz_plane.specs.Forward.{kinds_at, pins_at}
 use Rattle.hz_plane.specs.Sweeps.{IsOrder, IsBack}
 use Rattle.hz_plane.specs.Loads.{Loaded, LaneLoads, held_at, listed_with}
 use Rattle.hz_plane.specs.View.{Seen, LaneHolds}
@@ -99,6 +100,18 @@ module _ (netlist other : Netlist) (circuit : IsCircuit netlist) (circuit' : IsC
     inside = is.inside;
     reads = λ place reader below up contains. is.reads place reader below up (subst (λ (g : Gate). Contains g.sources (slice_index order place)) (sym (same-gate_at (slice_index order reader))) contains);
   }
+
+-- the kinds and the pins of its gates are the same there
+bare : ℕ → List Gate → Netlist
+bare inputs gates = record { names = []; inputs = inputs; cuts = []; gates = gates; outputs = [] }
+
+pub same-kinds : (netlist other : Netlist) (order : List ℕ) → netlist.inputs ≡ other.inputs → netlist.gates ≡ other.gates → kinds_at netlist order ≡ kinds_at other order
+unfolding bare
+same-kinds netlist other order e f = ap (λ (n : ℕ). kinds_at (bare n netlist.gates) order) e ∙ ap (λ (g : List Gate). kinds_at (bare other.inputs g) order) f
+
+pub same-pins : (netlist other : Netlist) (order : List ℕ) → netlist.inputs ≡ other.inputs → netlist.gates ≡ other.gates → pins_at netlist order ≡ pins_at other order
+unfolding bare
+same-pins netlist other order e f = ap (λ (n : ℕ). pins_at (bare n netlist.gates) order) e ∙ ap (λ (g : List Gate). pins_at (bare other.inputs g) order) f
 
 -- a listed start with held gates lists the inputs still
 pub held-lists : (held : List (ℕ × Bool)) (inputs : ℕ) (listed : List (Option Bool)) → ((k : ℕ) (d : ℕ × Bool) → k < length held → inputs ≤ (get_or held k d).0) →

@@ -1,11 +1,20 @@
 -- Gates without feedback, evaluated in an order in which each stands after the gates that it reads.
-use Rattle.std.specs.Prelude.{◌≡◌, ℕ, ◌<◌, List, [], length, slice_index}
-use Rattle.hz_core.specs.Netlist.{Netlist, IsGateNumber}
+use Rattle.std.specs.Prelude.{◌≡◌, ℕ, ◌<◌, List, [], length, map, slice_index}
+use Rattle.hz_core.specs.declared.kind.Kind.{Kind}
+use Rattle.hz_core.specs.Netlist.{Netlist, IsGateNumber, gate_at}
 use Rattle.hz_plane.specs.declared.pair.Pair.{Pair}
 use Rattle.hz_plane.specs.Bits.{IsPlane}
 use Rattle.hz_plane.specs.Pairs.{pair_at, known_pair}
 use Rattle.hz_plane.specs.Steps.{gate_pair}
 use Rattle.hz_plane.specs.Sweeps.{readers_at}
+
+-- the kinds of the gates of an order
+abbrev pub kinds_at : Netlist → List ℕ → List Kind
+kinds_at netlist order = map (λ gate. (gate_at netlist gate).kind) order
+
+-- the nodes that each of them reads
+abbrev pub pins_at : Netlist → List ℕ → List (List ℕ)
+pins_at netlist order = map (λ gate. (gate_at netlist gate).sources) order
 
 -- a pair that has a known bit in each lane
 pub record IsKnownPair (pair : Pair) : Type 0 where

@@ -9,6 +9,7 @@ ghost use Rattle.hz_plane.specs.Steps.{gate_pair};
 use crate::ones::excited_ones;
 use crate::pair::Pair;
 use crate::schedule::Schedule;
+use hz_core::Kind;
 use hz_net::Net;
 
 // Gives each gate its excitation, if each input has a known bit in each lane. Then each gate has one too.
@@ -42,22 +43,25 @@ fn evaluate_at(net: &Net, schedule: &Schedule, place: usize, planes: &mut [Pair]
     ensures inputs { (input : ℕ) → input < net.now.inputs
         → pair_at planes.new input ≡ pair_at planes.old input }
 {
-    evaluate(net, schedule.order.as_slice()[place], planes);
+    let gate = schedule.order.as_slice()[place];
+    let kind = schedule.kinds.as_slice()[place];
+    evaluate(net, gate, kind, schedule.pins.at(place), planes);
 }
 
-// Gives a gate its excitation, if each node that it reads has a known bit in each lane.
+// Gives a gate its excitation, by its kind and by the nodes that it reads, if each of these has a known bit in each lane.
 #[inline(always)]
-fn evaluate(net: &Net, gate: u32, planes: &mut [Pair])
+fn evaluate(net: &Net, gate: u32, kind: Kind, sources: &[u32], planes: &mut [Pair])
     requires gate { IsGateNumber net.now gate }
     requires circuit { IsCircuit net.now }
     requires whole { IsWhole net.now }
     requires long { length planes.old ≡ length net.now.names }
+    requires kind { kind ≡ (gate_at net.now gate).kind }
+    requires sources { sources.now ≡ (gate_at net.now gate).sources }
     requires known { All (λ source. IsKnownPair (pair_at planes.old source))
         (gate_at net.now gate).sources }
     ensures made { planes.new ≡ slice_set planes.old gate (gate_pair net.now planes.old gate) }
     ensures known { IsKnownPair (gate_pair net.now planes.old gate) }
 {
-    let circuit = net.circuit();
-    let one = excited_ones(circuit.kind(gate), circuit.sources(gate), planes);
+    let one = excited_ones(kind, sources, planes);
     planes[gate as usize] = Pair { zero: !one, one };
 }

@@ -12,13 +12,14 @@
 //! | `forward`, `ones` | gates without feedback, each evaluated once by the lanes in which it is 1 |
 //! | `sweep` | gates evaluated in place until none would change |
 //! | `faults` | the fault of each lane, and the lanes in which some node is X |
-//! | `schedule`, `order`, `classes`, `readers`, `lists` | an order of all gates, and which gates read each node |
+//! | `schedule`, `order`, `classes`, `readers`, `copies`, `lists` | an order of all gates, and which gates read each node |
 //! | `gates` | the gates of the circuit, copied |
 #![tactic(auto)]
 
 ghost use Rattle.hz_plane.specs.View.{ListedInputsFill};
 
 mod classes;
+mod copies;
 mod excited;
 mod faults;
 mod forward;

@@ -3,21 +3,24 @@ ghost use Rattle.std.specs.Prelude.{◌≡◌, ℕ, ◌<◌, ◌≤◌, [], true
 ghost use Rattle.hz_plane.specs.Schedules.{IsSchedule};
 ghost use Rattle.hz_plane.specs.Sweeps.{readers_at};
 
+use crate::copies::{list_kinds, list_pins};
 use crate::lists::Lists;
 use crate::order::order_gates;
 use crate::readers::{list_back, list_readers};
-use hz_core::Memory;
+use hz_core::{Kind, Memory};
 use hz_net::Net;
 use std::alloc::Global;
 
 // The gates in an order; for each node the places of the gates that read it; for each place those of its gate's readers that
-// stand no later; and whether there are none of these, as without feedback.
+// stand no later; whether there are none of these, as without feedback; and the kind and the pins of the gate at each place.
 #[derive(Debug, Drop)]
 pub(crate) struct Schedule {
     pub(crate) order: Vec<u32>,
     pub(crate) readers: Lists,
     pub(crate) back: Lists,
     pub(crate) is_forward: bool,
+    pub(crate) kinds: Vec<Kind>,
+    pub(crate) pins: Lists,
 }
 
 impl Schedule {
@@ -29,11 +32,15 @@ impl Schedule {
         let readers = list_readers(alloc, net, order.as_slice())?;
         let back = list_back(alloc, net, order.as_slice(), &readers)?;
         let is_forward = are_empty(&back, order.len());
+        let kinds = list_kinds(alloc, net, order.as_slice())?;
+        let pins = list_pins(alloc, net, order.as_slice())?;
         Ok(Schedule {
             order,
             readers,
             back,
             is_forward,
+            kinds,
+            pins,
         })
     }
 }

@@ -3,7 +3,7 @@ use Rattle.hz_core.specs.Netlist.{Netlist, Gate}
 use Rattle.hz_plane.specs.declared.stage.Stage.TheVariants.{Loading}
 use Rattle.hz_plane.specs.Loads.{LaneLoads}
 use Rattle.hz_plane.specs.Gates.{pin_sources}
-use Rattle.hz_plane.proofs.Fields.{same-order, same-back, sources-inside, loaded-none, same-seen}
+use Rattle.hz_plane.proofs.Fields.{same-order, same-back, same-kinds, same-pins, sources-inside, loaded-none, same-seen}
 use Rattle.hz_plane.proofs.planes.Planes.new.Goals as goal
 
 pub invariant_of-result : goal.invariant_of-result
@@ -29,6 +29,8 @@ invariant_of-result c =
         back = same-back netlist other circuit of.circuit (sym inputs ∙ of.inputs) (sym gates ∙ of.gates) _ _ scheduled.back;
         few = scheduled.few;
         forward = scheduled.forward;
+        kinds = scheduled.kinds ∙ same-kinds netlist other _ (sym inputs ∙ of.inputs) (sym gates ∙ of.gates);
+        pins = scheduled.pins ∙ same-pins netlist other _ (sym inputs ∙ of.inputs) (sym gates ∙ of.gates);
       };
       lists = λ lane loaded at. loaded-none lane loaded _ (ap (λ (l : LaneLoads). slice_get l.lanes lane) (sym c.in_ok-loads.ensures) ∙ at);
       lanes = λ other lane loaded of at. tt;
