@@ -19,11 +19,13 @@ use Rattle.hz_blif.specs.declared.fault.BlifFault.TheVariants as fault
 use Rattle.hz_blif.specs.declared.gates.Gates.{Gates}
 use Rattle.hz_blif.specs.declared.notes.Notes.{Notes}
 use Rattle.hz_blif.specs.Check.{count_of, first_of, wrong_row}
-use Rattle.hz_blif.specs.Cover.{Cover, first_column, is_constant, is_row, is_too_large, is_wrong_row, last_token, on_line}
-use Rattle.hz_blif.specs.Draft.{AreNumbers, Holds, HoldsClosed, HoldsCover, HoldsCovers, HoldsCurrent, Read, closed, constant_by, covers_with, names_at, no_notes, nothing_read, pins_fault, row_added, twice_fault, uses_with, varying, with_row}
+use Rattle.hz_blif.specs.Cover.{Cover, all_but_last, first_column, is_constant, is_row, is_too_large, is_wrong_row, last_token, on_line}
+use Rattle.hz_blif.specs.Draft.{AreNumbers, Holds, HoldsClosed, HoldsCover, HoldsCovers, HoldsCurrent, Read, closed, constant_by, covers_with, names_at, no_notes, nothing_read, pins_fault, row_added, twice_fault, uses_with, varying, with_begun, with_cover, with_row}
 use Rattle.hz_blif.specs.Entries.{AreNamed, HoldsGates, elements_by, name_at}
 use Rattle.hz_blif.specs.Gates.{cover_gates}
-use Rattle.hz_blif.specs.Reading.{KeepsRows}
+use Rattle.hz_blif.specs.Reading.{KeepsRows, bytes_of}
+use Rattle.std.specs.Borrow.{Bor}
+use Rattle.hz_blif.proofs.RowLemmas.{last_token_last}
 use Rattle.hz_blif.proofs.EntryLemmas.{elements-none, named-none}
 use Rattle.hz_blif.proofs.DraftSteps.{names-push, numbers-push, holds-used}
 use Rattle.hz_blif.proofs.NumberSteps.{name-kept, names-kept, keeps-same}
@@ -315,3 +317,21 @@ uses-step line names numbers index used few =
     ∙ ap (λ all. used ++ all)
     (sym (map-append (λ (name : List ℕ). record { line = line; statement = name }) (names_at names (take index numbers)) (name_at names (get_or numbers index 0) ∷ []))
     ∙ ap (on_line line) (sym (map-append (name_at names) (take index numbers) (get_or numbers index 0 ∷ [])) ∙ ap (names_at names) (sym (take_more numbers index 0 few))))
+
+-- a cover by its pins and its output
+all_but-last : (pins : List (List ℕ)) (output : List ℕ) → all_but_last (pins ++ output ∷ []) ≡ pins
+all_but-last [] output = refl
+all_but-last (pin ∷ []) output = refl
+all_but-last (pin ∷ next ∷ rest) output = ap (λ (all : List (List ℕ)). pin ∷ all) (all_but-last (next ∷ rest) output)
+
+pub with_cover-split : (line : ℕ) (pins : List (List ℕ)) (output : List ℕ) (read : Read) → with_cover line (pins ++ output ∷ []) read ≡ with_begun line pins output read
+with_cover-split line [] output read = refl
+with_cover-split line (pin ∷ pins) output read =
+    ap (λ some. with_begun line some (last_token ((pin ∷ pins) ++ output ∷ [])) read) (all_but-last (pin ∷ pins) output)
+    ∙ ap (λ output. with_begun line (pin ∷ pins) output read) (last_token_last (pin ∷ pins) output)
+
+pub pins-step : (pins : List (Bor (List ℕ))) (front : List (List ℕ)) (index : ℕ) (default : Bor (List ℕ)) → index < length pins
+    → (front ++ bytes_of (take index pins)) ++ (get_or pins index default).now ∷ [] ≡ front ++ bytes_of (take (index + 1) pins)
+pins-step pins front index default few =
+    append_assoc front (bytes_of (take index pins)) ((get_or pins index default).now ∷ [])
+    ∙ ap (λ all. front ++ all) (sym (ap bytes_of (take_more pins index default few) ∙ map-append (λ (word : Bor (List ℕ)). word.now) (take index pins) (get_or pins index default ∷ [])))

@@ -209,11 +209,12 @@ impl<'t> Draft<'t> {
         requires { ArePlain names.now }
         ensures { OnOk result ((read : Read) → read.current ≡ None → Holds read self.old → Holds (with_cover line (bytes_of names.now) read) self.new) }
     {
-        let [pins @ .., output] = names else {
+        let Some((output, pins)) = names.split_last() else {
             return Ok(());
         };
         self.begin_cover(line, *output)?;
-        self.add_pins(pins)
+        self.add_pins(pins)?;
+        Ok(())
     }
 
     // Begins a cover with this output, without pins.

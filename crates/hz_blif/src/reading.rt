@@ -13,7 +13,6 @@ use crate::draft::Draft;
 use crate::fault::BlifFault;
 use crate::line::{Course, line_of};
 use crate::lines::read_line;
-use crate::notes::{Excess, Redefinition};
 use hz_core::{Circuit, MAX_VARIABLES, Memory};
 use std::alloc::Global;
 
@@ -97,14 +96,20 @@ fn check_notes(draft: &Draft) -> Result<(), BlifFault>
     if let Some(line) = notes.construct {
         return Err(BlifFault::Construct { line });
     }
-    if let Some(Redefinition { line, first }) = notes.again {
-        return Err(BlifFault::Twice { line, first });
+    if let Some(again) = notes.again {
+        return Err(BlifFault::Twice {
+            line: again.line,
+            first: again.first,
+        });
     }
     if let Some(line) = notes.wrong_row {
         return Err(BlifFault::Cover { line });
     }
-    if let Some(Excess { line, count }) = notes.excess {
-        return Err(BlifFault::Pins { line, count });
+    if let Some(excess) = notes.excess {
+        return Err(BlifFault::Pins {
+            line: excess.line,
+            count: excess.count,
+        });
     }
     Ok(())
 }

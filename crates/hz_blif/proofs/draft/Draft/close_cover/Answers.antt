@@ -1,5 +1,3 @@
-use Rattle.std.proofs.Common.{Option, None, Some, refl, absurd}
-use Rattle.hz_blif.specs.Cover.{Cover}
 use Rattle.hz_blif.proofs.CoverSteps.{holds-closed_apart}
 use Rattle.hz_blif.proofs.Closing.{held-current}
 use Rattle.hz_blif.proofs.draft.Draft.close_cover.Goals as goal
