@@ -39,3 +39,4 @@ pub mod LiteralLemmas
 pub mod EntryLemmas
 pub mod CoverEntries
 pub mod CoverText
+pub mod DraftHolds
