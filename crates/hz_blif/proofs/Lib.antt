@@ -1,5 +1,7 @@
+pub mod Lists
 pub mod TwoLevel
 pub mod StableElements
+pub mod KeptCovers
 pub mod CoverLaw
 pub mod TokenLemmas
 pub mod LineLemmas
@@ -9,6 +11,8 @@ pub mod Ascending
 pub mod FaultLaws
 pub mod NumberSteps
 pub mod DraftSteps
+pub mod PlainLemmas
+pub mod SignLemmas
 pub mod CoverSteps
 pub mod Closing
 pub mod ReadLaws
@@ -23,8 +27,16 @@ pub mod LastFaults
 pub mod NameLaws
 pub mod WiredPins
 pub mod WiredNames
+pub mod WiredLines
+pub mod WiredGates
+pub mod WiredText
 pub mod Examples
+pub mod NodeLemmas
+pub mod DraftElements
+pub mod BuildLaws
+pub mod DraftText
 pub mod LiteralLemmas
 pub mod EntryLemmas
 pub mod CoverEntries
 pub mod CoverText
+pub mod DraftHolds

@@ -7,14 +7,11 @@ use Rattle.std.specs.Prelude.{if◌then◌else◌}
 use Rattle.std.specs.List.{flat_map}
 use Rattle.hz_blif.specs.Cover.{Cover, planes_of, column_of}
 use Rattle.std.specs.List.{AllByRecursion}
+use Rattle.hz_blif.proofs.Lists.{all-append, all-as}
 use Rattle.hz_core.specs.declared.kind.Kind.TheVariants.{And, Nand, Or, Nor, Not, Buff}
 use Rattle.hz_netlist.specs.Element.{Element, Input, Cut, Gate, Output, gate_names}
+use Rattle.hz_blif.specs.Plain.{IsPlain}
 use Rattle.hz_blif.specs.Gates.{Literal, inverter_name, row_name, has_zero, inverters_from, row_gate_with, row_gates_from, literal_names, literals_of, literal_gate, terms_from, gates_of_row, gates_of_rows, cover_gates}
-
--- a name of a text has no '\'
-abbrev pub IsPlain : List ℕ → Type 0
-IsPlain [] = Unit {0}
-IsPlain (byte ∷ rest) = (byte ≢ 92) × IsPlain rest
 
 first-same : (one other : ℕ) (rest more : List ℕ) → one ∷ rest ≡ other ∷ more → (one ≡ other) × (rest ≡ more)
 first-same one other rest more h = (cc, cc)
@@ -64,23 +61,15 @@ abbrev pub AreApart : List (List ℕ) → Type 0
 AreApart [] = Unit {0}
 AreApart (name ∷ rest) = AllByRecursion (λ other. name ≢ other) rest × AreApart rest
 
-each-append : (P : List ℕ → Type 0) (front back : List (List ℕ)) → AllByRecursion P front → AllByRecursion P back → AllByRecursion P (front ++ back)
-each-append P [] back all more = more
-each-append P (name ∷ front) back all more = (all.0, each-append P front back all.1 more)
-
-each-as : (P Q : List ℕ → Type 0) → ((name : List ℕ) → P name → Q name) → (names : List (List ℕ)) → AllByRecursion P names → AllByRecursion Q names
-each-as P Q turn [] all = tt
-each-as P Q turn (name ∷ names) all = (turn name all.0, each-as P Q turn names all.1)
-
 append-apart : (P Q : List ℕ → Type 0) → ((one other : List ℕ) → P one → Q other → one ≢ other) → (front back : List (List ℕ)) → AreApart front → AreApart back
     → AllByRecursion P front → AllByRecursion Q back → AreApart (front ++ back)
 append-apart P Q differ [] back apart apart_back all all_back = apart_back
 append-apart P Q differ (name ∷ front) back apart apart_back all all_back = (
-  each-append (λ other. name ≢ other) front back apart.0 (each-as Q (λ other. name ≢ other) (λ other q. differ name other all.0 q) back all_back),
+  all-append (λ other. name ≢ other) front back apart.0 (all-as Q (λ other. name ≢ other) (λ other q. differ name other all.0 q) back all_back),
   append-apart P Q differ front back apart.1 apart_back all.1 all_back,
 )
 
-gate_names-append : (front back : List Element) → gate_names (front ++ back) ≡ gate_names front ++ gate_names back
+pub gate_names-append : (front back : List Element) → gate_names (front ++ back) ≡ gate_names front ++ gate_names back
 gate_names-append [] back = refl
 gate_names-append (Input name ∷ front) back = gate_names-append front back
 gate_names-append (Output name ∷ front) back = gate_names-append front back
@@ -100,7 +89,7 @@ inverters-named output planes before (pin ∷ pins) high plain within small =
   where
     wider : (names : List (List ℕ)) → AllByRecursion (HasPlace (inverter_name output) (suc before) high) names → AllByRecursion (HasPlace (inverter_name output) before high) names
     wider names all =
-        each-as (HasPlace (inverter_name output) (suc before) high) (HasPlace (inverter_name output) before high)
+        all-as (HasPlace (inverter_name output) (suc before) high) (HasPlace (inverter_name output) before high)
         (λ name at. let above = at.1 in (at.0, omega (arith, above), at.2, at.3)) names all
 
     by_need : (needed : Bool)
@@ -113,7 +102,7 @@ inverters-named output planes before (pin ∷ pins) high plain within small =
         let here : suc before ≤ high = omega (arith, within) in (
           ((suc before, omega arith, here, refl), wider _ later.0),
           (
-            each-as (HasPlace (inverter_name output) (suc before) high) (λ other. inverter_name output (suc before) ≢ other)
+            all-as (HasPlace (inverter_name output) (suc before) high) (λ other. inverter_name output (suc before) ≢ other)
                 (λ other at same.
                 let above = at.1 in
                 let below = at.2 in
@@ -141,7 +130,7 @@ rows-named output row (literals ∷ rows) high plain within small =
     wider : (names : List (List ℕ)) → AllByRecursion (λ name. (place : ℕ) × (suc row ≤ place) × (place ≤ high) × (name ≡ row_name output place)) names
         → AllByRecursion (λ name. (place : ℕ) × (row ≤ place) × (place ≤ high) × (name ≡ row_name output place)) names
     wider names all =
-        each-as (λ name. (place : ℕ) × (suc row ≤ place) × (place ≤ high) × (name ≡ row_name output place)) (λ name. (place : ℕ) × (row ≤ place) × (place ≤ high) × (name ≡ row_name output place))
+        all-as (λ name. (place : ℕ) × (suc row ≤ place) × (place ≤ high) × (name ≡ row_name output place)) (λ name. (place : ℕ) × (row ≤ place) × (place ≤ high) × (name ≡ row_name output place))
         (λ name at. let above = at.1 in (at.0, omega (arith, above), at.2, at.3)) names all
 
     by_literals : (literals : List Literal)
@@ -154,7 +143,7 @@ rows-named output row (literals ∷ rows) high plain within small =
         let here : row ≤ high = omega (arith, within) in (
           ((row, omega arith, here, refl), wider _ later.0),
           (
-            each-as (λ name. (place : ℕ) × (suc row ≤ place) × (place ≤ high) × (name ≡ row_name output place)) (λ other. row_name output row ≢ other)
+            all-as (λ name. (place : ℕ) × (suc row ≤ place) × (place ≤ high) × (name ≡ row_name output place)) (λ other. row_name output row ≢ other)
                 (λ other at same.
                 let above = at.1 in
                 let below = at.2 in
@@ -183,7 +172,7 @@ rows-marked output row high name at = (114 ∷ decimal at.0, at.3 ∙ append_ass
 with-output : (output : List ℕ) (names : List (List ℕ)) → IsPlain output → AllByRecursion (Marked output) names → AreApart names
     → AllByRecursion (IsNameOf output) (names ++ output ∷ []) × AreApart (names ++ output ∷ [])
 with-output output names plain all apart = (
-  each-append (IsNameOf output) names (output ∷ []) (each-as (Marked output) (IsNameOf output) (λ name marked. inr marked) names all) (inl refl, tt),
+  all-append (IsNameOf output) names (output ∷ []) (all-as (Marked output) (IsNameOf output) (λ name marked. inr marked) names all) (inl refl, tt),
   append-apart (Marked output) (λ name. name ≡ output)
       (λ one other marked is same. plain-no_mark output output marked.0 plain (sym is ∙ (sym same ∙ marked.1)))
       names (output ∷ []) apart (tt, tt) all (refl, tt),
@@ -211,7 +200,7 @@ row-own output pins column planes (one ∷ two ∷ more) plain small =
     let named = inverters-named output planes 0 pins (length pins) plain (omega arith) small in
     subst (λ names. AllByRecursion (IsNameOf output) names × AreApart names) (sym (gate_names-append inverters (last ∷ [])))
     (with-output output (gate_names inverters) plain
-    (each-as (HasPlace (inverter_name output) 0 (length pins)) (Marked output) (inverters-marked output 0 (length pins)) (gate_names inverters) named.0) named.1)
+    (all-as (HasPlace (inverter_name output) 0 (length pins)) (Marked output) (inverters-marked output 0 (length pins)) (gate_names inverters) named.0) named.1)
 
 pub cover-own : (output : List ℕ) (pins : List (List ℕ)) (column : Bool) (planes : List (List ℕ)) (rows : List (List Literal)) → IsPlain output → length pins < 2 ^ 64 → length rows < 2 ^ 64
     → AreOwn output (gates_of_rows output pins column planes rows)
@@ -225,9 +214,9 @@ cover-own output pins column planes (first ∷ second ∷ rows) plain small few 
     let named = inverters-named output planes 0 pins (length pins) plain (omega arith) small in
     let numbered = rows-named output 1 (first ∷ second ∷ rows) (length (first ∷ second ∷ rows)) plain (omega arith) few in
     let RowAt = λ (name : List ℕ). (place : ℕ) × (1 ≤ place) × (place ≤ length (first ∷ second ∷ rows)) × (name ≡ row_name output place) in
-    let marked = each-append (Marked output) (gate_names inverters) (gate_names row_gates)
-    (each-as (HasPlace (inverter_name output) 0 (length pins)) (Marked output) (inverters-marked output 0 (length pins)) (gate_names inverters) named.0)
-    (each-as RowAt (Marked output) (rows-marked output 1 (length (first ∷ second ∷ rows))) (gate_names row_gates) numbered.0) in
+    let marked = all-append (Marked output) (gate_names inverters) (gate_names row_gates)
+    (all-as (HasPlace (inverter_name output) 0 (length pins)) (Marked output) (inverters-marked output 0 (length pins)) (gate_names inverters) named.0)
+    (all-as RowAt (Marked output) (rows-marked output 1 (length (first ∷ second ∷ rows))) (gate_names row_gates) numbered.0) in
     let apart = append-apart (HasPlace (inverter_name output) 0 (length pins)) RowAt
     (λ one other at row same. inverter-row-apart output output at.0 row.0 plain plain (sym at.3 ∙ (same ∙ row.3)))
     (gate_names inverters) (gate_names row_gates) named.1 numbered.1 named.0 numbered.0 in
@@ -251,15 +240,15 @@ pub record IsSmallCover (cover : Cover) : Type 0 where
   pub pins : length cover.pins < 2 ^ 64
   pub rows : length (map (literals_of cover.pins) (planes_of cover)) < 2 ^ 64
 
-later-names : (output : List ℕ) (covers : List Cover) → AllByRecursion IsSmallCover covers → AllByRecursion (λ cover. output ≢ cover.output) covers
+pub later-names : (output : List ℕ) (covers : List Cover) → AllByRecursion IsSmallCover covers → AllByRecursion (λ cover. output ≢ cover.output) covers
     → AllByRecursion (λ name. (other : List ℕ) × IsPlain other × (output ≢ other) × IsNameOf other name) (gate_names (flat_map cover_gates covers))
 later-names output [] small differ = tt
 later-names output (cover ∷ rest) small differ =
     let own = cover-own cover.output cover.pins (column_of cover) (planes_of cover) (map (literals_of cover.pins) (planes_of cover)) small.0.plain small.0.pins small.0.rows in
     let P = λ (name : List ℕ). (other : List ℕ) × IsPlain other × (output ≢ other) × IsNameOf other name in
     subst (AllByRecursion P) (sym (gate_names-append (cover_gates cover) (flat_map cover_gates rest)))
-    (each-append P (gate_names (cover_gates cover)) (gate_names (flat_map cover_gates rest))
-    (each-as (IsNameOf cover.output) P (λ name is. (cover.output, small.0.plain, differ.0, is)) (gate_names (cover_gates cover)) own.0)
+    (all-append P (gate_names (cover_gates cover)) (gate_names (flat_map cover_gates rest))
+    (all-as (IsNameOf cover.output) P (λ name is. (cover.output, small.0.plain, differ.0, is)) (gate_names (cover_gates cover)) own.0)
     (later-names output rest small.1 differ.1))
 
 -- the outputs of covers are apart

@@ -5,37 +5,17 @@ use Rattle.std.specs.Str.{bytes_eq}
 use Rattle.std.proofs.Math.Seq.{get_or-append_seam}
 use Rattle.std.proofs.lemmas.List.{ext_get_or, get_or-map, length-map}
 use Rattle.std.proofs.lemmas.Simd.{map-map}
-use Rattle.std.proofs.lemmas.Map.Keys.{IsDistinct-head, IsDistinct-tail}
 use Rattle.hz_core.specs.Gate.{gate_value}
 use Rattle.hz_core.specs.Netlist.{Netlist, IsCircuit, IsGateNumber, gate_at, Gate as NetlistGate}
-use Rattle.std.proofs.Common.{cond, not}
-use Rattle.std.specs.List.{AllByRecursion}
-use Rattle.std.proofs.lemmas.Slice.Eq.{bytes_eq-Decides}
 use Rattle.hz_netlist.specs.Circuit.{number_in, gates_of, all_inputs, circuit_of_elements}
 use Rattle.hz_netlist.specs.Element.{Element, Input, Cut, Gate, Output, gate_names}
 use Rattle.hz_blif.specs.Law.{node_value}
-use Rattle.hz_netlist.proofs.Tests.{same_name}
+use Rattle.hz_netlist.proofs.Numbers.{number-placed}
 use Rattle.hz_blif.proofs.TwoLevel.{AgreeWithAll}
 use Rattle.hz_net.specs.Network.{network_of, bit_at, driver_value, IsStable}
 use Rattle.hz_net.specs.Variables.{first_wire, at_wires}
 use Rattle.hz_net.proofs.Places.{no_gate, driver_at-gate, driver_at-pin, length-network_of, first_wire-bound}
 use Rattle.hz_net.proofs.Wires.{length-at_wires, get_or-at_wires}
-
--- a name stands in a list of distinct names where it stands
-number-placed : (front back : List (List ℕ)) (name : List ℕ) → IsDistinct bytes_eq (front ++ name ∷ back) → number_in (front ++ name ∷ back) name ≡ length front
-number-placed [] back name distinct = ap (λ same. cond (not same) (1 + number_in back name) 0) ((bytes_eq-Decides name name).1 refl)
-number-placed (first ∷ front) back name distinct =
-    let apart : bytes_eq first name ≡ false = away front back (IsDistinct-head bytes_eq first (front ++ name ∷ back) distinct) in
-    let rest = number-placed front back name (IsDistinct-tail bytes_eq first (front ++ name ∷ back) distinct) in
-    let total : 1 + number_in (front ++ name ∷ back) name ≡ suc (length front) = omega (arith, rest) in
-    ap (λ same. cond (not same) (1 + number_in (front ++ name ∷ back) name) 0) (flipped name first apart) ∙ total
-  where
-    away : (front back : List (List ℕ)) → AllByRecursion (λ other. bytes_eq first other ≡ false) (front ++ name ∷ back) → bytes_eq first name ≡ false
-    away [] back all = all.0
-    away (one ∷ front) back all = away front back all.1
-
-    flipped : (one other : List ℕ) → bytes_eq other one ≡ false → bytes_eq one other ≡ false
-    flipped one other h = same_name one other ∙ h
 
 module _ (netlist : Netlist) (input state : List Bool) (circuit : IsCircuit netlist)
     (long : length state ≡ length (network_of netlist)) (stable : IsStable (network_of netlist) input state) where

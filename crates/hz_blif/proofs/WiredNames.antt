@@ -1,16 +1,19 @@
 -- The names of a text without fault: what their bytes are, and how long they are.
-use Rattle.std.proofs.Common.{◌≡◌, ◌∙◌, refl, sym, ap, subst, ℕ, suc, ◌≤◌, ◌<◌, ◌+◌, inl, inr, Bool, true, false, not, cond, ◌&&◌, ◌||◌, ◌==◌, List, [], ◌∷◌, ◌++◌, length, map, filter, take_while, append_assoc, codes, arith}
-use Rattle.std.specs.Prelude.{Contains, nat_lt}
+use Rattle.std.proofs.Common.{◌≡◌, ◌≢◌, ◌∙◌, refl, sym, ap, subst, ℕ, suc, ◌≤◌, ◌<◌, ◌+◌, inl, inr, Bool, true, false, not, cond, ◌&&◌, ◌||◌, ◌==◌, List, [], ◌∷◌, ◌++◌, length, map, filter, take_while, append_assoc, codes, arith}
+use Rattle.std.specs.Prelude.{Contains, nat_le, nat_lt}
 use Rattle.std.specs.List.{AllByRecursion, list_all, list_any, onto_first, slice_split}
 use Rattle.std.specs.Str.{bytes_eq}
 use Rattle.std.proofs.lemmas.Bool.Decides.{nat_tests}
 use Rattle.std.proofs.lemmas.List.Folds.{list_all-append}
 use Rattle.std.proofs.lemmas.List.Sums.{take_while-cons}
+use Rattle.hz_core.specs.Netlist.{is_name_byte}
 use Rattle.hz_line.specs.Line.{lines_of}
 use Rattle.hz_line.specs.Statement.{Numbered}
 use Rattle.hz_netlist.proofs.Tests.{either}
+use Rattle.hz_blif.proofs.Lists.{all-contained}
+use Rattle.hz_blif.specs.Plain.{IsPlain}
 use Rattle.hz_blif.specs.declared.fault.BlifFault.TheVariants as fault
-use Rattle.hz_blif.specs.Fault.{IsFaultless, has_end, has_long_name, has_wrong_form, is_forbidden, is_ill_formed, is_long, is_sign}
+use Rattle.hz_blif.specs.Fault.{IsFaultless, has_end, has_long_name, has_wrong_form, is_forbidden, is_ill_formed, is_long, is_sign, longest_blif_name}
 use Rattle.hz_blif.specs.Line.{Line, Blank, Model, Inputs, Outputs, Names, Row, End, Construct, begins_with_dot, dotted, is_statement, line_of, lines_in, names_in}
 use Rattle.hz_blif.specs.Text.{goes_on, is_blank, is_some_list, joined_from, joined_lines, joined_to, tokens_of, with_space_last, without_comment}
 
@@ -110,17 +113,12 @@ names-by P (first ∷ rest) all = by_dot (begins_with_dot first)
         (bytes_eq first (codes ".end"))
     by_dot false = tt
 
--- what holds of each item
-each : {A : Type 0} (P : A → Type 0) (items : List A) → ((item : A) → Contains items item → P item) → AllByRecursion P items
-each P [] holds = tt
-each P (first ∷ rest) holds = (holds first (0, omega arith, refl), each P rest (λ item there. holds item (suc there.0, omega (arith, there.1), there.2)))
-
 -- no byte of a joined line is forbidden
 abbrev IsAllowedLine : Numbered (List ℕ) → Type 0
 IsAllowedLine line = list_any is_forbidden line.statement ≡ false
 
 allowed : (text : List ℕ) → IsFaultless text → AllByRecursion IsAllowedLine (joined_lines text)
-allowed text faultless = each IsAllowedLine (joined_lines text) (λ line there. by_test line there (list_any is_forbidden line.statement) refl)
+allowed text faultless = all-contained IsAllowedLine (joined_lines text) (λ line there. by_test line there (list_any is_forbidden line.statement) refl)
   where
     by_test : (line : Numbered (List ℕ)) → Contains (joined_lines text) line → (some : Bool) → list_any is_forbidden line.statement ≡ some → some ≡ false
     by_test line there true h = absurd (faultless (fault.Form line.line) (inl (line.statement, there, h)))
@@ -130,7 +128,7 @@ allowed text faultless = each IsAllowedLine (joined_lines text) (λ line there. 
 abbrev HasPlainNames : Numbered Line → Type 0
 HasPlainNames line = list_any (list_any is_sign) (names_in line.statement) ≡ false
 
-pub plain-names : (text : List ℕ) → IsFaultless text → (before after : List (Numbered Line)) → lines_in text ≡ before ++ after → AllByRecursion HasPlainNames after
+plain-names : (text : List ℕ) → IsFaultless text → (before after : List (Numbered Line)) → lines_in text ≡ before ++ after → AllByRecursion HasPlainNames after
 plain-names text faultless before [] is = tt
 plain-names text faultless before (one ∷ rest) is = (
   by_wrong (has_wrong_form before one.statement) refl,
@@ -147,22 +145,112 @@ plain-names text faultless before (one ∷ rest) is = (
 abbrev HasShortNames : Numbered Line → Type 0
 HasShortNames line = has_long_name line.statement ≡ false
 
-pub short-names : (text : List ℕ) → IsFaultless text → AllByRecursion HasShortNames (lines_in text)
-short-names text faultless = each HasShortNames (lines_in text) (λ line there. by_test line there (has_long_name line.statement) refl)
+short-names : (text : List ℕ) → IsFaultless text → AllByRecursion HasShortNames (lines_in text)
+short-names text faultless = all-contained HasShortNames (lines_in text) (λ line there. by_test line there (has_long_name line.statement) refl)
   where
     by_test : (line : Numbered Line) → Contains (lines_in text) line → (long : Bool) → has_long_name line.statement ≡ long → long ≡ false
     by_test line there true h = absurd (faultless (fault.Name line.line) (line.statement, there, h))
     by_test line there false h = refl
 
--- the names of a text are tokens without '#' whose bytes are allowed
+-- a byte that may stand in a joined line
+abbrev is_right : ℕ → Bool
+is_right byte = is_kept byte && not (is_forbidden byte)
+
+right-line : (bytes : List ℕ) → AreClean bytes → list_any is_forbidden bytes ≡ false → list_all is_right bytes ≡ true
+right-line [] clean free = refl
+right-line (byte ∷ rest) clean free =
+    let kept = both (is_kept byte) (list_all is_kept rest) clean in
+    let allowed = either (is_forbidden byte) (list_any is_forbidden rest) free in
+    and-true (is_right byte) (list_all is_right rest) (and-true (is_kept byte) (not (is_forbidden byte)) kept.0 (ap not allowed.0)) (right-line rest kept.1 allowed.1)
+
+-- the names of a text are tokens of such bytes
 abbrev HasTokenNames : Numbered Line → Type 0
-HasTokenNames line = AllByRecursion (IsTokenBy is_kept) (names_in line.statement)
+HasTokenNames line = AllByRecursion (IsTokenBy is_right) (names_in line.statement)
 
-token-lines : (lines : List (Numbered (List ℕ))) → AllByRecursion IsCleanLine lines
+token-lines : (lines : List (Numbered (List ℕ))) → AllByRecursion IsCleanLine lines → AllByRecursion IsAllowedLine lines
     → AllByRecursion HasTokenNames (map (λ (line : Numbered (List ℕ)). record { line = line.line; statement = line_of (tokens_of line.statement) }) lines)
-token-lines [] all = tt
-token-lines (line ∷ lines) all =
-    (names-by (IsTokenBy is_kept) (tokens_of line.statement) (tokens-by is_kept line.statement all.0), token-lines lines all.1)
+token-lines [] clean free = tt
+token-lines (line ∷ lines) clean free = (
+  names-by (IsTokenBy is_right) (tokens_of line.statement) (tokens-by is_right line.statement (right-line line.statement clean.0 free.0)),
+  token-lines lines clean.1 free.1,
+)
 
-pub token-names : (text : List ℕ) → AllByRecursion HasTokenNames (lines_in text)
-token-names text = token-lines (joined_lines text) (clean-joined 1 (lines_of text))
+-- a name as texts have them: a name of a node, without '\', and so short that there is room for what the names of gates add to it
+pub record IsTextName (name : List ℕ) : Type 0 where
+  pub some : 1 ≤ length name
+  pub short : length name ≤ longest_blif_name
+  pub bytes : list_all is_name_byte name ≡ true
+  pub plain : IsPlain name
+
+byte-right : (byte : ℕ) → (is_right byte && not (is_blank byte)) ≡ true → is_sign byte ≡ false → (is_name_byte byte ≡ true) × (byte ≢ 92)
+byte-right byte right unsigned =
+    let parts = both (is_right byte) (not (is_blank byte)) right in
+    let more = both (is_kept byte) (not (is_forbidden byte)) parts.0 in
+    let e : (byte == 35) ≡ false = not-true (byte == 35) more.0 in
+    let blank = either (byte == 32) (byte == 9) (not-true (is_blank byte) parts.1) in
+    let range = in-range (byte == 9) (nat_le 0x20 byte) (nat_le byte 0x7e) blank.1 more.1 in
+    let four = either (byte == 40 || byte == 41 || byte == 44 || byte == 61) (byte == 92) unsigned in
+    let three = either (byte == 40 || byte == 41 || byte == 44) (byte == 61) four.0 in
+    let two = either (byte == 40 || byte == 41) (byte == 44) three.0 in
+    let one = either (byte == 40) (byte == 41) two.0 in
+    let space : (byte == 32) ≡ false = blank.0 in
+    let above : nat_le 0x20 byte ≡ true = range.0 in
+    let high : nat_le byte 126 ≡ true = range.1 in
+    let low : nat_le 33 byte ≡ true = grind (arith, nat_tests, space, above) in
+    let a : (byte == 40) ≡ false = one.0 in
+    let b : (byte == 41) ≡ false = one.1 in
+    let c : (byte == 44) ≡ false = two.1 in
+    let d : (byte == 61) ≡ false = three.1 in
+    let mark : (byte == 92) ≡ false = four.1 in
+    (rw (low, high, a, b, c, d, e) refl, λ same. let wrong : (byte == 92) ≡ true = grind (arith, nat_tests, same) in let both_ways : false ≡ true = sym mark ∙ wrong in cc)
+  where
+    not-true : (b : Bool) → not b ≡ true → b ≡ false
+    not-true true h = let e : false ≡ true = h in cc
+    not-true false h = refl
+
+    in-range : (tab above below : Bool) → tab ≡ false → not (not (tab || (above && below))) ≡ true → (above ≡ true) × (below ≡ true)
+    in-range true above below off h = let e : true ≡ false = off in cc
+    in-range false true true off h = (refl, refl)
+    in-range false true false off h = let e : false ≡ true = h in cc
+    in-range false false below off h = let e : false ≡ true = h in cc
+
+word-right : (word : List ℕ) → IsWordBy is_right word → list_any is_sign word ≡ false → (list_all is_name_byte word ≡ true) × IsPlain word
+word-right [] right unsigned = (refl, tt)
+word-right (byte ∷ rest) right unsigned =
+    let parts = both (is_right byte && not (is_blank byte)) _ right in
+    let signs = either (is_sign byte) (list_any is_sign rest) unsigned in
+    let here = byte-right byte parts.0 signs.0 in
+    let more = word-right rest parts.1 signs.1 in
+    (and-true (is_name_byte byte) (list_all is_name_byte rest) here.0 more.0, (here.1, more.1))
+
+some-bytes : (name : List ℕ) → is_some_list name ≡ true → 1 ≤ length name
+some-bytes [] some = let e : false ≡ true = some in cc
+some-bytes (byte ∷ rest) some = omega arith
+
+short-bytes : (name : List ℕ) → is_long name ≡ false → length name ≤ longest_blif_name
+short-bytes name short = grind (arith, nat_tests, short)
+
+names-right : (names : List (List ℕ)) → AllByRecursion (IsTokenBy is_right) names → list_any (list_any is_sign) names ≡ false → list_any is_long names ≡ false → AllByRecursion IsTextName names
+names-right [] tokens plain short = tt
+names-right (name ∷ names) tokens plain short =
+    let signs = either (list_any is_sign name) (list_any (list_any is_sign) names) plain in
+    let lengths = either (is_long name) (list_any is_long names) short in
+    let word = word-right name tokens.0.0 signs.0 in (
+      record { some = some-bytes name tokens.0.1; short = short-bytes name lengths.0; bytes = word.0; plain = word.1 },
+      names-right names tokens.1 signs.1 lengths.1,
+    )
+
+-- the names of a line are names as texts have them
+abbrev pub HasTextNames : Numbered Line → Type 0
+HasTextNames line = AllByRecursion IsTextName (names_in line.statement)
+
+lines-right : (lines : List (Numbered Line)) → AllByRecursion HasTokenNames lines → AllByRecursion HasPlainNames lines → AllByRecursion HasShortNames lines → AllByRecursion HasTextNames lines
+lines-right [] tokens plain short = tt
+lines-right (line ∷ lines) tokens plain short =
+    (names-right (names_in line.statement) tokens.0 plain.0 short.0, lines-right lines tokens.1 plain.1 short.1)
+
+-- the names of a text without fault are names as texts have them
+pub text-names : (text : List ℕ) → IsFaultless text → AllByRecursion HasTextNames (lines_in text)
+text-names text faultless =
+    lines-right (lines_in text) (token-lines (joined_lines text) (clean-joined 1 (lines_of text)) (allowed text faultless)) (plain-names text faultless [] (lines_in text) refl)
+    (short-names text faultless)

@@ -8,7 +8,8 @@ use Rattle.hz_core.specs.declared.kind.Kind.TheVariants.{And, Nand, Or, Nor, Not
 use Rattle.hz_core.specs.Limits.{most_gate_pins, most_variables}
 use Rattle.hz_line.specs.Statement.{Numbered}
 use Rattle.hz_netlist.specs.Build.{HasRightPins}
-use Rattle.hz_netlist.specs.Element.{Element, Input, Gate, Output, variable_total}
+use Rattle.hz_netlist.specs.Element.{Element, Input, Cut, Gate, Output, variable_total}
+use Rattle.hz_blif.proofs.Lists.{all-append, all-contained, all-kept}
 use Rattle.hz_blif.specs.declared.fault.BlifFault.TheVariants as fault
 use Rattle.hz_blif.specs.Circuit.{elements_of}
 use Rattle.hz_blif.specs.Cover.{Cover, covers_of, inputs_of, is_skipped, kept_covers, outputs_of, plane_of, planes_of, column_of}
@@ -16,26 +17,19 @@ use Rattle.hz_blif.specs.Fault.{HasCover, IsFaultless}
 use Rattle.hz_blif.specs.Gates.{Literal, cover_gates, gates_of_row, gates_of_rows, inverter_name, inverters_from, has_zero, literal_gate, literal_name, literal_names, literals_from, literals_of, row_gates_from, row_name, terms_from}
 use Rattle.hz_blif.specs.Line.{lines_in}
 
-pub all-append : (P : Element → Type 0) (front back : List Element) → AllByRecursion P front → AllByRecursion P back → AllByRecursion P (front ++ back)
-all-append P [] back one other = other
-all-append P (first ∷ front) back one other = (one.0, all-append P front back one.1 other)
+-- an element is a gate that has a pin, and no more than its kind takes
+abbrev pub IsRightGate : Element → Type 0
+IsRightGate (Input name) = ⊥
+IsRightGate (Cut name source) = ⊥
+IsRightGate (Gate name kind sources) = HasRightPins (Gate name kind sources)
+IsRightGate (Output name) = ⊥
 
--- what holds of each item holds of those that pass a test
-pub each-kept : {A : Type 0} (P : A → Type 0) (test : A → Bool) (items : List A) → ((item : A) → Contains items item → P item) → AllByRecursion P (filter test items)
-each-kept P test [] holds = tt
-each-kept P test (first ∷ rest) holds =
-    by_test (test first) (holds first (0, omega arith, refl)) (each-kept P test rest (λ item there. holds item (suc there.0, omega (arith, there.1), there.2)))
-  where
-    by_test : (passes : Bool) → P first → AllByRecursion P (filter test rest) → AllByRecursion P (cond passes (first ∷ filter test rest) (filter test rest))
-    by_test true here more = (here, more)
-    by_test false here more = more
-
-inverters-right : (output : List ℕ) (planes : List (List ℕ)) (before : ℕ) (pins : List (List ℕ)) → AllByRecursion HasRightPins (inverters_from output planes before pins)
+inverters-right : (output : List ℕ) (planes : List (List ℕ)) (before : ℕ) (pins : List (List ℕ)) → AllByRecursion IsRightGate (inverters_from output planes before pins)
 inverters-right output planes before [] = tt
 inverters-right output planes before (pin ∷ pins) = by_need (has_zero planes before) (inverters-right output planes (suc before) pins)
   where
-    by_need : (needed : Bool) → AllByRecursion HasRightPins (inverters_from output planes (suc before) pins)
-        → AllByRecursion HasRightPins (cond needed (Gate (inverter_name output (suc before)) Not (pin ∷ []) ∷ inverters_from output planes (suc before) pins) (inverters_from output planes (suc before) pins))
+    by_need : (needed : Bool) → AllByRecursion IsRightGate (inverters_from output planes (suc before) pins)
+        → AllByRecursion IsRightGate (cond needed (Gate (inverter_name output (suc before)) Not (pin ∷ []) ∷ inverters_from output planes (suc before) pins) (inverters_from output planes (suc before) pins))
     by_need true more = ((omega arith, omega arith), more)
     by_need false more = more
 
@@ -57,7 +51,7 @@ rows-few : (pins planes : List (List ℕ)) → length pins ≤ most_gate_pins �
 rows-few pins [] few = tt
 rows-few pins (plane ∷ planes) few = (omega (arith, few, literals-few 1 pins plane), rows-few pins planes few)
 
-row_gates-right : (output : List ℕ) (row : ℕ) (rows : List (List Literal)) → AllByRecursion AreFew rows → AllByRecursion HasRightPins (row_gates_from output row rows)
+row_gates-right : (output : List ℕ) (row : ℕ) (rows : List (List Literal)) → AllByRecursion AreFew rows → AllByRecursion IsRightGate (row_gates_from output row rows)
 row_gates-right output row [] few = tt
 row_gates-right output row ([] ∷ rows) few = row_gates-right output (suc row) rows few.1
 row_gates-right output row ((one ∷ []) ∷ rows) few = row_gates-right output (suc row) rows few.1
@@ -69,33 +63,33 @@ terms-length : (output : List ℕ) (row : ℕ) (rows : List (List Literal)) → 
 terms-length output row [] = refl
 terms-length output row (literals ∷ rows) = ap suc (terms-length output (suc row) rows)
 
-joined-right : (column : Bool) (name : List ℕ) (sources : List (List ℕ)) → 1 ≤ length sources → length sources ≤ most_gate_pins → HasRightPins (Gate name (if column then Or else Nor) sources)
+joined-right : (column : Bool) (name : List ℕ) (sources : List (List ℕ)) → 1 ≤ length sources → length sources ≤ most_gate_pins → IsRightGate (Gate name (if column then Or else Nor) sources)
 joined-right true name sources some few = (some, few)
 joined-right false name sources some few = (some, few)
 
-single-right : (column : Bool) (name : List ℕ) (sources : List (List ℕ)) → 1 ≤ length sources → length sources ≤ most_gate_pins → HasRightPins (Gate name (if column then And else Nand) sources)
+single-right : (column : Bool) (name : List ℕ) (sources : List (List ℕ)) → 1 ≤ length sources → length sources ≤ most_gate_pins → IsRightGate (Gate name (if column then And else Nand) sources)
 single-right true name sources some few = (some, few)
 single-right false name sources some few = (some, few)
 
 literal-right : (output pin : List ℕ) (column plain : Bool)
-    → HasRightPins (if plain then Gate output (if column then Buff else Not) (pin ∷ []) else Gate output (if column then Not else Buff) (pin ∷ []))
+    → IsRightGate (if plain then Gate output (if column then Buff else Not) (pin ∷ []) else Gate output (if column then Not else Buff) (pin ∷ []))
 literal-right output pin true true = (omega arith, omega arith)
 literal-right output pin true false = (omega arith, omega arith)
 literal-right output pin false true = (omega arith, omega arith)
 literal-right output pin false false = (omega arith, omega arith)
 
 row-right : (output : List ℕ) (pins : List (List ℕ)) (column : Bool) (planes : List (List ℕ)) (literals : List Literal) → AreFew literals
-    → AllByRecursion HasRightPins (gates_of_row output pins column planes literals)
+    → AllByRecursion IsRightGate (gates_of_row output pins column planes literals)
 row-right output pins column planes [] few = tt
 row-right output pins column planes (literal ∷ []) few = (literal-right output literal.pin column literal.plain, tt)
 row-right output pins column planes (one ∷ two ∷ more) few =
     let long = length-map (one ∷ two ∷ more) (literal_name output) in
     let names = literal_names output (one ∷ two ∷ more) in
-    all-append HasRightPins (inverters_from output planes 0 pins) (Gate output (if column then And else Nand) names ∷ []) (inverters-right output planes 0 pins)
+    all-append IsRightGate (inverters_from output planes 0 pins) (Gate output (if column then And else Nand) names ∷ []) (inverters-right output planes 0 pins)
     (single-right column output names (omega (arith, long)) (omega (arith, long, few)), tt)
 
 rows-right : (output : List ℕ) (pins : List (List ℕ)) (column : Bool) (planes : List (List ℕ)) (rows : List (List Literal)) → AllByRecursion AreFew rows → length rows ≤ most_gate_pins
-    → AllByRecursion HasRightPins (gates_of_rows output pins column planes rows)
+    → AllByRecursion IsRightGate (gates_of_rows output pins column planes rows)
 rows-right output pins column planes [] few short = tt
 rows-right output pins column planes (literals ∷ []) few short = row-right output pins column planes literals few.0
 rows-right output pins column planes (first ∷ second ∷ rows) few short =
@@ -104,23 +98,30 @@ rows-right output pins column planes (first ∷ second ∷ rows) few short =
     let terms = terms_from output 1 (first ∷ second ∷ rows) in
     let last = Gate output (if column then Or else Nor) terms in
     let long = terms-length output 1 (first ∷ second ∷ rows) in
-    all-append HasRightPins (inverters_from output planes 0 pins) (row_gates ++ last ∷ []) (inverters-right output planes 0 pins)
-    (all-append HasRightPins row_gates (last ∷ []) (row_gates-right output 1 (first ∷ second ∷ rows) few)
+    all-append IsRightGate (inverters_from output planes 0 pins) (row_gates ++ last ∷ []) (inverters-right output planes 0 pins)
+    (all-append IsRightGate row_gates (last ∷ []) (row_gates-right output 1 (first ∷ second ∷ rows) few)
     (joined-right column output terms (omega (arith, long)) (omega (arith, long, short)), tt))
 
 -- a cover that no gate's pins are too few for
-abbrev FitsGates : Cover → Type 0
+abbrev pub FitsGates : Cover → Type 0
 FitsGates cover = (length cover.pins ≤ most_gate_pins) × (length cover.rows ≤ most_gate_pins)
 
-cover-right : (cover : Cover) → FitsGates cover → AllByRecursion HasRightPins (cover_gates cover)
+cover-right : (cover : Cover) → FitsGates cover → AllByRecursion IsRightGate (cover_gates cover)
 cover-right cover fits =
     let rows = map (literals_of cover.pins) (planes_of cover) in
     rows-right cover.output cover.pins (column_of cover) (planes_of cover) rows (rows-few cover.pins (planes_of cover) fits.0)
     (omega (arith, fits.1, length-map (planes_of cover) (literals_of cover.pins), length-map cover.rows (λ (row : Numbered (List (List ℕ))). plane_of row.statement)))
 
-covers-right : (covers : List Cover) → AllByRecursion FitsGates covers → AllByRecursion HasRightPins (flat_map cover_gates covers)
+covers-right : (covers : List Cover) → AllByRecursion FitsGates covers → AllByRecursion IsRightGate (flat_map cover_gates covers)
 covers-right [] fit = tt
-covers-right (cover ∷ rest) fit = all-append HasRightPins (cover_gates cover) (flat_map cover_gates rest) (cover-right cover fit.0) (covers-right rest fit.1)
+covers-right (cover ∷ rest) fit = all-append IsRightGate (cover_gates cover) (flat_map cover_gates rest) (cover-right cover fit.0) (covers-right rest fit.1)
+
+right-pins : (gates : List Element) → AllByRecursion IsRightGate gates → AllByRecursion HasRightPins gates
+right-pins [] all = tt
+right-pins (Input name ∷ rest) all = absurd all.0
+right-pins (Cut name source ∷ rest) all = absurd all.0
+right-pins (Gate name kind sources ∷ rest) all = (all.0, right-pins rest all.1)
+right-pins (Output name ∷ rest) all = absurd all.0
 
 inputs-right : (names : List (List ℕ)) → AllByRecursion HasRightPins (map Input names)
 inputs-right [] = tt
@@ -130,7 +131,7 @@ outputs-right : (outputs : List (Numbered (List ℕ))) → AllByRecursion HasRig
 outputs-right [] = tt
 outputs-right (output ∷ outputs) = (tt, outputs-right outputs)
 
-fits : (text : List ℕ) → IsFaultless text → (cover : Cover) → HasCover text cover → FitsGates cover
+pub fits : (text : List ℕ) → IsFaultless text → (cover : Cover) → HasCover text cover → FitsGates cover
 fits text faultless cover there = elim (cases_lt most_gate_pins (length cover.pins)) [
   | inl more ↦ absurd (faultless (fault.Pins cover.line (length cover.pins)) (cover, there, refl, inl (more, refl)))
   | inr no_more ↦
@@ -142,6 +143,11 @@ fits text faultless cover there = elim (cases_lt most_gate_pins (length cover.pi
 ]
 
 -- each gate of a text without fault has a pin, and no more than its kind takes
+pub gates-right : (text : List ℕ) → IsFaultless text → AllByRecursion IsRightGate (flat_map cover_gates (kept_covers (lines_in text)))
+gates-right text faultless =
+    let lines = lines_in text in
+    covers-right (kept_covers lines) (all-kept FitsGates (λ cover. not (is_skipped lines cover)) (covers_of lines) (all-contained FitsGates (covers_of lines) (fits text faultless)))
+
 pub wired-pins : (text : List ℕ) → IsFaultless text → AllByRecursion HasRightPins (elements_of (lines_in text))
 wired-pins text faultless =
     let lines = lines_in text in
@@ -149,7 +155,7 @@ wired-pins text faultless =
     let outputs : List Element = map (λ (output : Numbered (List ℕ)). Output output.statement) (outputs_of lines) in
     all-append HasRightPins (map Input (inputs_of lines)) (gates ++ outputs) (inputs-right (inputs_of lines))
     (all-append HasRightPins gates outputs
-    (covers-right (kept_covers lines) (each-kept FitsGates (λ cover. not (is_skipped lines cover)) (covers_of lines) (fits text faultless)))
+    (right-pins gates (gates-right text faultless))
     (outputs-right (outputs_of lines)))
 
 -- and they are not too many

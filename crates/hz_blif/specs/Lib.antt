@@ -15,8 +15,10 @@
 -- KeepsCovers text: stable states have the cover functions
 -- first_fault text: the least fault, computed
 -- IsFirstWord, IsPieceOf, line_by: what the reader's calls return
+-- IsPlain name: a name that no gate of a cover gets from its place in the cover
 -- elements_by name gates: the elements for which gates stand
 -- IsDraftOf text draft, HoldsElements text draft: what is kept of the lines of a text
+-- IsBuildable draft, elements_of_draft draft: the drafts that can be built, and the elements for which they stand
 -- HoldsGates gates, IsWholeCover cover: what the making of gates keeps, and what it asks of a cover
 
 pub mod Text
@@ -31,3 +33,5 @@ pub mod Check
 pub mod Reading
 pub mod Entries
 pub mod Draft
+pub mod Built
+pub mod Plain

@@ -18,14 +18,15 @@ ghost use Rattle.hz_blif.specs.declared.draft.Draft.{Draft as DraftOf};
 ghost use Rattle.hz_blif.specs.Cover.{Cover as CoverOf, is_constant, is_too_large, on_line};
 ghost use Rattle.hz_blif.specs.Draft.{AreNumbers, Holds, HoldsClosed, MayGoOn, names_at, Read, closed, nothing_read, noting, taking, with_begun, with_cover, with_inputs, with_outputs, with_row};
 ghost use Rattle.hz_blif.specs.Entries.{name_at};
+ghost use Rattle.hz_blif.specs.Plain.{ArePlain, HasPlainWords, IsPlain};
 ghost use Rattle.hz_blif.specs.Reading.{bytes_of, excess_of, line_by};
 
 use crate::cover::Cover;
 use crate::gates::Gates;
 use crate::line::Line;
+use crate::names::TextNames;
 use crate::notes::{Excess, Notes, Redefinition, note};
 use hz_core::{MAX_VARIABLES, Memory};
-use hz_netlist::NameTable;
 use std::alloc::Global;
 
 /// A constant cover: the line of its `.names`, and the number of its output's name.
@@ -38,7 +39,7 @@ pub(crate) struct Constant {
 /// What was read of a text.
 #[derive(Drop)]
 pub(crate) struct Draft<'t> {
-    pub(crate) names: NameTable<'t>,
+    pub(crate) names: TextNames<'t>,
     /// The inputs and outputs, by the numbers of their names, in the order of the text.
     pub(crate) inputs: Vec<u32>,
     pub(crate) outputs: Vec<u32>,
@@ -61,7 +62,7 @@ impl<'t> Draft<'t> {
         ensures { Holds nothing_read result }
     {
         Draft {
-            names: NameTable::new(alloc, text),
+            names: TextNames::new(alloc, text),
             inputs: Vec::new(alloc),
             outputs: Vec::new(alloc),
             gates: Gates::new(alloc),
@@ -89,7 +90,8 @@ impl<'t> Draft<'t> {
         number: u32,
         line: &Line<'_, 't>,
     ) -> Result<(), Memory>
-        requires { MayGoOn self.old }
+        requires going { MayGoOn self.old }
+        requires plain { HasPlainWords line.now }
         ensures { OnOk result ((read : Read) → Holds read self.old
             → Holds (taking number (line_by line.now) (noting number (line_by line.now) read)) self.new) }
     {
@@ -113,7 +115,8 @@ impl<'t> Draft<'t> {
 
     // Takes what a line says.
     fn take(&mut self, number: u32, line: &Line<'_, 't>) -> Result<(), Memory>
-        requires { MayGoOn self.old }
+        requires going { MayGoOn self.old }
+        requires plain { HasPlainWords line.now }
         ensures { OnOk result ((read : Read) → Holds read self.old → Holds (taking number (line_by line.now) read) self.new) }
     {
         match line {
@@ -137,6 +140,7 @@ impl<'t> Draft<'t> {
 
     // Adds inputs.
     fn add_inputs(&mut self, line: u32, names: &[&'t [u8]]) -> Result<(), Memory>
+        requires { ArePlain names.now }
         ensures { OnOk result ((read : Read) → Holds read self.old → Holds (with_inputs line (bytes_of names.now) read) self.new) }
     {
         for name in names {
@@ -147,6 +151,7 @@ impl<'t> Draft<'t> {
 
     // Adds an input.
     fn add_input(&mut self, line: u32, name: &'t [u8]) -> Result<(), Memory>
+        requires { IsPlain name.now }
         ensures { OnOk result ((read : Read) → Holds read self.old → Holds (with_inputs line (name.now ∷ []) read) self.new) }
     {
         let number = self.sight(name)?;
@@ -157,6 +162,7 @@ impl<'t> Draft<'t> {
 
     // Adds outputs.
     fn add_outputs(&mut self, line: u32, names: &[&'t [u8]]) -> Result<(), Memory>
+        requires { ArePlain names.now }
         ensures { OnOk result ((read : Read) → Holds read self.old → Holds (with_outputs line (bytes_of names.now) read) self.new) }
     {
         for name in names {
@@ -167,6 +173,7 @@ impl<'t> Draft<'t> {
 
     // Adds an output.
     fn add_output(&mut self, line: u32, name: &'t [u8]) -> Result<(), Memory>
+        requires { IsPlain name.now }
         ensures { OnOk result ((read : Read) → Holds read self.old → Holds (with_outputs line (name.now ∷ []) read) self.new) }
     {
         let number = self.sight(name)?;
@@ -177,6 +184,7 @@ impl<'t> Draft<'t> {
 
     // The number of a name.
     fn sight(&mut self, name: &'t [u8]) -> Result<u32, Memory>
+        requires { IsPlain name.now }
         ensures holds { OnOk result ((read : Read) → Holds read self.old → Holds read self.new) }
         ensures number { IfOk result (λ number. number < length self.new.names) }
         ensures name { IfOk result (λ number. name_at self.new.names number ≡ name.now) }
@@ -198,6 +206,7 @@ impl<'t> Draft<'t> {
 
     // Begins a cover with these names: its pins, and last its output.
     fn open_cover(&mut self, line: u32, names: &[&'t [u8]]) -> Result<(), Memory>
+        requires { ArePlain names.now }
         ensures { OnOk result ((read : Read) → read.current ≡ None → Holds read self.old → Holds (with_cover line (bytes_of names.now) read) self.new) }
     {
         let Some((output, pins)) = names.split_last() else {
@@ -210,6 +219,7 @@ impl<'t> Draft<'t> {
 
     // Begins a cover with this output, without pins.
     fn begin_cover(&mut self, line: u32, output: &'t [u8]) -> Result<(), Memory>
+        requires { IsPlain output.now }
         ensures { OnOk result ((read : Read) → read.current ≡ None → Holds read self.old → Holds (with_begun line [] output.now read) self.new) }
     {
         let number = self.sight(output)?;
@@ -222,6 +232,7 @@ impl<'t> Draft<'t> {
 
     // Adds pins to the cover that began.
     fn add_pins(&mut self, pins: &[&'t [u8]]) -> Result<(), Memory>
+        requires { ArePlain pins.now }
         ensures { OnOk result ((read : Read) (cover : CoverOf) → read.current ≡ Some cover → cover.rows ≡ [] → Holds read self.old
             → Holds (record read { current = Some (record cover { pins = cover.pins ++ bytes_of pins.now }) }) self.new) }
     {
@@ -233,6 +244,7 @@ impl<'t> Draft<'t> {
 
     // Adds a pin to the cover that began.
     fn add_pin(&mut self, pin: &'t [u8]) -> Result<(), Memory>
+        requires { IsPlain pin.now }
         ensures { OnOk result ((read : Read) (cover : CoverOf) → read.current ≡ Some cover → cover.rows ≡ [] → Holds read self.old
             → Holds (record read { current = Some (record cover { pins = cover.pins ++ pin.now ∷ [] }) }) self.new) }
     {
@@ -350,7 +362,7 @@ impl<'t> Draft<'t> {
 }
 
 // Notes that a line uses names.
-fn note_uses(names: &mut NameTable, numbers: &[u32], line: u32)
+fn note_uses(names: &mut TextNames, numbers: &[u32], line: u32)
     requires { AreNumbers names.old numbers.now }
     ensures names { seen_names names.new ≡ seen_names names.old }
     ensures used { (read : Read) (draft : DraftOf) → draft.names ≡ names.old → Holds read draft

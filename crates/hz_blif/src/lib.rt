@@ -9,6 +9,7 @@
 //! | `lines` | joined lines and their tokens |
 //! | `words` | the words of a line |
 //! | `line` | what a line is, by its first token, and whether it may stand there |
+//! | `names` | the names of a text, which no gate of a cover has |
 //! | `draft` | what is kept of the lines: names, covers, outputs |
 //! | `cover` | a cover while its rows are read |
 //! | `gates` | the gates of a cover |
@@ -26,6 +27,7 @@ mod gates;
 mod laws;
 mod line;
 mod lines;
+mod names;
 mod notes;
 mod reading;
 mod words;

@@ -1,10 +1,11 @@
 // What a line is, and whether it may stand where it stands.
 
-ghost use Rattle.std.specs.Prelude.{◌≡◌, ◌++◌, ◌∷◌, [], ℕ, List};
+ghost use Rattle.std.specs.Prelude.{◌≡◌, ◌++◌, ◌∷◌, [], ℕ, List, false};
 ghost use Rattle.std.specs.List.{list_any};
 ghost use Rattle.hz_line.specs.Statement.{Numbered};
 ghost use Rattle.hz_blif.specs.Fault.{has_long_name, has_wrong_form, is_ill_formed, is_long, is_sign};
 ghost use Rattle.hz_blif.specs.Line.{Line as LineOf, begins_with_dot, dotted, is_construct, is_end, is_statement, line_of, names_in, takes_rows_after};
+ghost use Rattle.hz_blif.specs.Plain.{HasPlainWords};
 ghost use Rattle.hz_blif.specs.Reading.{bytes_of, course_of, line_by};
 
 use crate::words::has_sign;
@@ -133,7 +134,8 @@ impl<'a, 't> Line<'a, 't> {
 
     // Whether some name has a byte that may not stand in one.
     fn has_sign(&self) -> bool
-        ensures { result ≡ list_any (list_any is_sign) (names_in (line_by self.now)) }
+        ensures sign { result ≡ list_any (list_any is_sign) (names_in (line_by self.now)) }
+        ensures plain { result ≡ false → HasPlainWords self.now }
     {
         have_sign(self.names())
     }
@@ -188,7 +190,8 @@ impl Course {
 
     /// Whether the form of the next line is wrong.
     pub(crate) fn refuses(&self, line: &Line) -> bool
-        ensures { (before : List (Numbered LineOf)) → self.now ≡ course_of before → result ≡ has_wrong_form before (line_by line.now) }
+        ensures refuses { (before : List (Numbered LineOf)) → self.now ≡ course_of before → result ≡ has_wrong_form before (line_by line.now) }
+        ensures plain { result ≡ false → HasPlainWords line.now }
     {
         self.is_ill_formed(line) || line.has_sign() || (line.is_statement() && self.has_end)
     }

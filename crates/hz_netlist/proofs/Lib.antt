@@ -5,3 +5,4 @@ pub mod Numbers
 pub mod BuiltCircuit
 pub mod Admissible
 pub mod Circuits
+pub mod Connect

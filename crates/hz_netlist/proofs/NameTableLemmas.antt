@@ -82,10 +82,23 @@ holds-changed old new number one entry was at same hashing entries chains =
       distinct = subst (IsDistinct bytes_eq) (sym names) was.distinct;
     }
 
-apart-at : (name : List ℕ) (names : Names) (number : ℕ) → AllByRecursion (λ other. bytes_eq name other ≡ false) (seen_names names) → number < length names → bytes_eq name (seen_at names number).name ≡ false
+pub apart-at : (name : List ℕ) (names : Names) (number : ℕ) → AllByRecursion (λ other. bytes_eq name other ≡ false) (seen_names names) → number < length names → bytes_eq name (seen_at names number).name ≡ false
 apart-at name [] number all few = absurd (omega (arith, few))
 apart-at name (seen ∷ rest) zero all few = all.0
 apart-at name (seen ∷ rest) (suc number) all few = apart-at name rest number all.1 (omega (arith, few))
+
+-- no name has two numbers
+pub same-number : (names : Names) (one other : ℕ) → IsDistinct bytes_eq (seen_names names) → one < length names → other < length names → (seen_at names one).name ≡ (seen_at names other).name → one ≡ other
+same-number [] one other distinct few few_other same = absurd (omega (arith, few))
+same-number (seen ∷ rest) zero zero distinct few few_other same = refl
+same-number (seen ∷ rest) zero (suc other) distinct few few_other same =
+    let differ = apart-at seen.name rest other (IsDistinct-head bytes_eq seen.name (seen_names rest) distinct) (omega (arith, few_other)) in
+    let wrong = sym ((bytes_eq-Decides seen.name (seen_at rest other).name).1 same) ∙ differ in cc
+same-number (seen ∷ rest) (suc one) zero distinct few few_other same =
+    let differ = apart-at seen.name rest one (IsDistinct-head bytes_eq seen.name (seen_names rest) distinct) (omega (arith, few)) in
+    let wrong = sym ((bytes_eq-Decides seen.name (seen_at rest one).name).1 (sym same)) ∙ differ in cc
+same-number (seen ∷ rest) (suc one) (suc other) distinct few few_other same =
+    ap suc (same-number rest one other (IsDistinct-tail bytes_eq seen.name (seen_names rest) distinct) (omega (arith, few)) (omega (arith, few_other)) same)
 
 -- a change in the place of a name is a change of the name
 pub change-at : (change : Seen → Seen) (names : Names) (number : ℕ) → IsDistinct bytes_eq (seen_names names) → number < length names → set names number (change (seen_at names number)) ≡ with_change change names (seen_at names number).name

@@ -1,6 +1,6 @@
 // Names that have a number at first sight.
 
-ghost use Rattle.std.specs.Prelude.{◌≡◌, ◌<◌, ◌++◌, ◌∷◌, [], IfOk, OnOk, Some, None, length, map, position};
+ghost use Rattle.std.specs.Prelude.{◌≡◌, ◌<◌, ◌++◌, ◌∷◌, [], IfOk, OnErr, OnOk, Some, None, length, map, position};
 ghost use Rattle.std.specs.Str.{bytes_eq};
 ghost use Rattle.hz_core.specs.NameHash.{hash_of};
 ghost use Rattle.hz_netlist.specs.Names.{seen_names, seen_at, with_definition, with_sight, with_use, first_undefined, undefined_line, fresh};
@@ -119,6 +119,7 @@ impl<'a> NameTable<'a> {
     pub fn sight(&mut self, name: &'a [u8]) -> Result<u32, Memory>
         ensures seen { OnOk result (self.new ≡ with_sight self.old name.now) }
         ensures number { IfOk result (λ number. position (bytes_eq name.now) (seen_names self.new) ≡ Some number) }
+        ensures err { OnErr result (self.new ≡ self.old) }
     {
         if let Some(place) = self.place_of(name) {
             let number = number_of(place)?;
@@ -171,7 +172,7 @@ impl<'a> NameTable<'a> {
     /// Takes room for the names of the rest of the text, so many bytes, if the table is full: as many to a byte as were found in what was
     /// read so far. So a table of a million names is made anew once or twice, and not twenty times.
     pub fn make_room(&mut self, left: usize) -> Result<(), Memory>
-        ensures { OnOk result (self.new ≡ self.old) }
+        ensures { self.new ≡ self.old }
     {
         let names = self.entries.len();
         if names < self.chains.room() {
@@ -191,7 +192,7 @@ impl<'a> NameTable<'a> {
 
     // Makes room for that many more names.
     fn reserve(&mut self, more: usize) -> Result<(), Memory>
-        ensures { OnOk result (self.new ≡ self.old) }
+        ensures { self.new ≡ self.old }
     {
         let Ok(()) = self.entries.reserve(more) else {
             return Err(Memory);
@@ -202,7 +203,8 @@ impl<'a> NameTable<'a> {
     // Adds a name that the table does not have.
     fn add(&mut self, name: &'a [u8]) -> Result<(), Memory>
         requires { position (bytes_eq name.now) (seen_names self.old) ≡ None }
-        ensures { OnOk result (self.new ≡ self.old ++ fresh name.now ∷ []) }
+        ensures ok { OnOk result (self.new ≡ self.old ++ fresh name.now ∷ []) }
+        ensures err { OnErr result (self.new ≡ self.old) }
     {
         let Ok(()) = self.entries.reserve(1) else {
             return Err(Memory);
@@ -220,7 +222,7 @@ impl<'a> NameTable<'a> {
 
     // Hashes the names anew, if they were chosen to collide.
     fn scatter(&mut self) -> Result<(), Memory>
-        ensures { OnOk result (self.new ≡ self.old) }
+        ensures { self.new ≡ self.old }
     {
         if self.chains.are_crowded() && !self.is_keyed {
             self.rekey()
@@ -231,7 +233,7 @@ impl<'a> NameTable<'a> {
 
     // Hashes the names with a digest of the text as the key.
     fn rekey(&mut self) -> Result<(), Memory>
-        ensures { OnOk result (self.new ≡ self.old) }
+        ensures { self.new ≡ self.old }
     {
         let hashing = self.keyed_hashing();
         let mut chains = Chains::new(*self.entries.allocator());

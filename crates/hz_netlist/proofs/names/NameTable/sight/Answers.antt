@@ -9,5 +9,5 @@ returns-in-Some-clause-seen c = sight-found c.args.self.now c.args.name.now c.in
 
 pub returns-clause-number : goal.returns-clause-number
 returns-clause-number c =
-    ap (λ (names : Names). position (bytes_eq c.args.name.now) (seen_names names)) (c.in_ok-add.ensures ∙ ap (λ (names : Names). names ++ fresh c.args.name.now ∷ []) c.in_ok-scatter.ensures)
+    ap (λ (names : Names). position (bytes_eq c.args.name.now) (seen_names names)) (c.in_ok-add.ensures.ok ∙ ap (λ (names : Names). names ++ fresh c.args.name.now ∷ []) c.scatter.ensures)
     ∙ (place-new c.args.self.now c.args.name.now (sym c.place_of.ensures ∙ c.in_default.is) ∙ ap Some (sym (c.in_ok-number-2.ensures ∙ c.len.ensures)))
