@@ -37,3 +37,11 @@ pub returns-clause-exact : goal.returns-clause-exact
 returns-clause-exact c =
     let faultless = c.in_ok-check.ensures c.args.text.now c.in_ok-draft.ensures in
     λ fault h. absurd (faultless fault h.stands)
+
+pub returns-in_err-check-clause-exact : goal.returns-in_err-check-clause-exact
+returns-in_err-check-clause-exact c =
+    let p = err_from_is_err_and c.from_residual-in_err-check.result c.from_residual-in_err-check.ensures.1 in
+    λ fault h. rw (p.1, p.2) (elim (answer-exact c.args.text.now c.in_err-check.field-0.0 fault (c.in_err-check.ensures c.args.text.now c.in_ok-draft.ensures) h) [
+      | inl same ↦ inl (ap Err same)
+      | inr memory ↦ inr (ap Err memory)
+    ])
