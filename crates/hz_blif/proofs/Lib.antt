@@ -80,3 +80,4 @@ pub mod EntryLemmas
 pub mod CoverEntries
 -- A cover that was read, and the cover of the text
 pub mod CoverText
+pub mod DraftHolds

@@ -15,8 +15,8 @@ read_line-requires c =
     let was = subst (λ (rest : Option (Bor (List ℕ))). IsReading c.args.text.now c.loop-rest.draft c.loop-rest.course c.loop-rest.number rest) c.in-Some.is c.loop-rest.invariant in
     reading-left c.args.text.now c.loop-rest.draft c.loop-rest.course c.loop-rest.number c.in-Some.left c.requires was
 
-pub add-requires : goal.add-requires
-add-requires c = reading-short c.args.text.now c.loop-rest.draft c.loop-rest.course c.loop-rest.number c.loop-rest.rest c.requires c.loop-rest.invariant
+pub add-requires-clause-going : goal.add-requires-clause-going
+add-requires-clause-going c = reading-short c.args.text.now c.loop-rest.draft c.loop-rest.course c.loop-rest.number c.loop-rest.rest c.requires c.loop-rest.invariant
 
 pub overflow_add-number : goal.overflow_add-number
 overflow_add-number c =
@@ -29,7 +29,7 @@ loop-rest-preserved c =
     let was = subst (λ (rest : Option (Bor (List ℕ))). IsReading c.args.text.now c.loop-rest.draft c.loop-rest.course c.loop-rest.number rest) c.in-Some.is c.loop-rest.invariant in
     reading-more c.args.text.now c.loop-rest.draft c.add.new.self c.loop-rest.course c.with-course.result c.loop-rest.number c.in-Some.left c.read_line.new.tokens.items c.in-Ok.joined
     (line_by c.line_of-line.result) c.refuses.result was c.in-Ok.ensures.joined c.in-Ok.ensures.counted c.if-joined.false
-    (c.line_of-line.ensures ∙ ap (λ tokens. line_of (bytes_of tokens)) c.as_slice.ensures.value) c.if-refuses.false c.refuses.ensures c.with-course.ensures c.in-Ok-add.ensures
+    (c.line_of-line.ensures ∙ ap (λ tokens. line_of (bytes_of tokens)) c.as_slice.ensures.value) c.if-refuses.false c.refuses.ensures.refuses c.with-course.ensures c.in-Ok-add.ensures
 
 pub loop-rest-smaller : goal.loop-rest-smaller
 loop-rest-smaller c =
@@ -49,4 +49,4 @@ pub returns-then-refuses : goal.returns-then-refuses
 returns-then-refuses c =
     let was = subst (λ (rest : Option (Bor (List ℕ))). IsReading c.args.text.now c.loop-rest.draft c.loop-rest.course c.loop-rest.number rest) c.in-Some.is c.loop-rest.invariant in
     reading-fault c.args.text.now c.loop-rest.draft c.loop-rest.course c.loop-rest.number c.in-Some.left c.read_line.new.tokens.items c.in-Ok.joined (line_by c.line_of-line.result) c.refuses.result was c.in-Ok.ensures.joined
-    (c.line_of-line.ensures ∙ ap (λ tokens. line_of (bytes_of tokens)) c.as_slice.ensures.value) (inr (c.if-refuses.true, c.refuses.ensures))
+    (c.line_of-line.ensures ∙ ap (λ tokens. line_of (bytes_of tokens)) c.as_slice.ensures.value) (inr (c.if-refuses.true, c.refuses.ensures.refuses))
