@@ -80,4 +80,5 @@ pub mod EntryLemmas
 pub mod CoverEntries
 -- A cover that was read, and the cover of the text
 pub mod CoverText
+-- What a draft of a text without fault holds: the elements of the text
 pub mod DraftHolds
