@@ -73,6 +73,7 @@ fn first_wrong_words(rt: HostRuntime) -> Result<(), Fail> {
         (HEAD, "#0 $dumpvars 1! $end #1", 24),
         (HEAD, "#0 $dumpvars 1! $end #1 1!", 24),
         (HEAD, "#0 $dumpvars 1! $end #1 0! 0!", 25),
+        (HEAD, "#0 $dumpvars 1! $end #1 0! 1!", 25),
         (HEAD, "#0 $dumpvars 1! $end #1 0! #3", 25),
         (HEAD, "#0 $comment a $end $dumpvars 1! $end #1 0! #3", 20),
         ("$date $end $comment $timescale $end ", HEAD, 24),

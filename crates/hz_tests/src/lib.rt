@@ -8,6 +8,7 @@
 //! | `replays` | what a replayer knows of each state of a run |
 //! | `words` | feedback cycles, and the words of the other variables |
 //! | `planes` | starts and both algorithms in lanes of bit planes |
+//! | `resets` | what inputs bring about from an unknown start |
 //! | `netlists` | circuits that are read and printed, and generated ones |
 //! | `texts` | scripts, patterns and run texts that are read and printed, and patterns that are refused |
 //! | `lines` | how many puts a line takes |
@@ -36,6 +37,8 @@ mod planes;
 mod reading;
 #[cfg(test)]
 mod replays;
+#[cfg(test)]
+mod resets;
 #[cfg(test)]
 mod texts;
 #[cfg(test)]
