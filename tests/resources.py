@@ -109,9 +109,16 @@ def refused_memory(program, folder):
         with open(counted) as file:
             requests = int(file.read())
         yield f"{words} asks for memory", requests > 10, True
-        for number in range(1, requests + 2):
+        asked_again = []
+        for number in range(1, requests + 1):
             status, text = run(program, words, folder, env={**around, "REFUSED": str(number)})
             yield f"{words} with request {number} of {requests} refused", is_front(status, text, whole) or (status, text), True
+            if status != MEMORY:
+                asked_again.append(number)
+        # A list of the library that can't grow by half asks once more, for one item: its first request may be refused.
+        yield f"{words} is out of memory at all but three requests at most", asked_again[3:], []
+        status, text = run(program, words, folder, env={**around, "REFUSED": str(requests + 1)})
+        yield f"{words} with no request left to refuse", (status, text), whole
 
 
 def memory_limits(program, folder):
