@@ -16,6 +16,8 @@ LATCH = "INPUT(r)\nINPUT(s)\nOUTPUT(q)\nOUTPUT(qb)\nq = NOR(r, qb)\nqb = NOR(s, 
 SCRIPT = "start r=1 s=1\nchange r=0 s=0\n"
 COVERS = ".inputs s x y\n.outputs z\n.names $false\n.names s x y z\n11- 1\n0-1 1\n"
 PATTERNS = "hold q=0\nfrom 11 to 00\nfrom 10 to 00\nfrom 00 to 01\nfrom 01 to 00\n"
+# More than a block of patterns.
+MANY_PATTERNS = "from 11 to 00\n" * 512 + "from 10 to 00\n"
 
 # An allocator in front of the C library's: it counts the requests that the program makes once it has begun, and refuses the one with
 # the number REFUSED. In the end it writes their number into the file COUNTED.
@@ -83,7 +85,8 @@ def jobs(program, folder):
     report = run(program, ["analyse", netlist, script], folder)[1]
     runs = write(folder, "latch.runs", report[report.index(b"runs 2\n"):])
     return [["analyse", netlist, script], ["analyse", netlist, script, "--show", "all"], ["split", netlist, script], ["replay", netlist, runs], ["convert", netlist, runs],
-            ["vcd", netlist, runs], *[[job, netlist, write(folder, "latch.patterns", PATTERNS)] for job in ("batch", "reset")], ["demo", "1"],
+            ["vcd", netlist, runs], *[[job, netlist, write(folder, "latch.patterns", PATTERNS)] for job in ("batch", "reset")],
+            ["batch", netlist, write(folder, "many.patterns", MANY_PATTERNS)], ["demo", "1"],
             ["analyse", write(folder, "mux.blif", COVERS), write(folder, "mux.txt", "start s=1 x=1 y=1\nchange s=0\n")]]
 
 
