@@ -37,14 +37,16 @@ impl LaneValues {
     }
 }
 
-// The value that can be 0, or 1, or both.
+// The value that can be 0, or 1, or both. Bits of many lanes are random, so this is written to take no branch.
 #[inline(always)]
 pub(crate) fn value_by(zero: bool, one: bool) -> Tri
     ensures { result ≡ value_by zero one }
 {
-    match (zero, one) {
-        (true, false) => Tri::Zero,
-        (false, true) => Tri::One,
-        _ => Tri::Unknown,
+    if zero == one {
+        Tri::Unknown
+    } else if one {
+        Tri::One
+    } else {
+        Tri::Zero
     }
 }
