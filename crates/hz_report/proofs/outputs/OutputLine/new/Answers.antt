@@ -1,5 +1,5 @@
 -- One output more, until all are there.
-use Rattle.std.proofs.Common.{◌≡◌, ◌≤◌, ◌∙◌, ℕ, List, length, ap, arith}
+use Rattle.std.proofs.Common.{◌≡◌, ◌≤◌, ℕ, List, length, ap, arith}
 use Rattle.hz_core.specs.declared.tri.Tri.{Tri}
 use Rattle.hz_report.proofs.OutputLemmas.{line-next, line-whole}
 use Rattle.hz_report.proofs.outputs.OutputLine.new.Goals as goal

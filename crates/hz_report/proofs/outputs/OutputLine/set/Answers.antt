@@ -1,5 +1,5 @@
 -- Two letters change.
-use Rattle.std.proofs.Common.{◌≡◌, ◌<◌, ◌+◌, ◌∙◌, List, length, set, ap, sym, arith, rules, get_or}
+use Rattle.std.proofs.Common.{◌≡◌, ◌∙◌, List, length, set, ap, sym, arith, rules}
 use Rattle.std.specs.Vec.{vec_len}
 use Rattle.std.proofs.lemmas.List.{length-set}
 use Rattle.hz_core.specs.declared.tri.Tri.{Tri}
