@@ -1,6 +1,6 @@
 -- The gates that are held, as pairs, and the start that a lane lists with them
 pub mod HeldLemmas
--- Values of variables in all lanes, as they are kept one by one
+-- Values of variables in all lanes, as they are kept one after the other
 pub mod ColumnLemmas
 -- The line of a lane, output by output
 pub mod LineLemmas

@@ -10,17 +10,18 @@ ghost use Rattle.hz_batch.specs.Counts.{AddsCounts, AreWithin, no_counts};
 ghost use Rattle.hz_batch.specs.Comes.{comes_to, held_by, loaded_by, kept_at};
 ghost use Rattle.hz_batch.specs.Each.{AreEach};
 ghost use Rattle.hz_batch.specs.Inside.{IsWork, IsRoomFor};
+ghost use Rattle.hz_batch.specs.Kept.{HoldBoth};
 ghost use Rattle.hz_batch.specs.Laws.{AreLaws};
 ghost use Rattle.hz_batch.specs.Outcome.{Outcome};
 ghost use Rattle.hz_batch.specs.Written.{AreWritten};
 
+use crate::columns::{Columns, keep_values};
 use crate::counts::Counts;
-use crate::firsts::{Column, keep_values};
 use crate::job::Job;
 use crate::lanes::{Lane, write_lane};
 use hz_net::Net;
 use hz_outside::Sink;
-use hz_plane::Planes;
+use hz_plane::{LaneValues, Planes};
 use hz_report::OutputLine;
 use hz_text::Patterns;
 use hz_write::Writer;
@@ -42,7 +43,7 @@ pub(crate) struct Work<'w> {
 #[derive(Drop)]
 pub(crate) struct Room<'w> {
     pub(crate) line: OutputLine<'w>,
-    pub(crate) firsts: Vec<Column>,
+    pub(crate) columns: Columns,
     pub(crate) counts: Counts,
 }
 
@@ -102,8 +103,9 @@ fn write_block<K: Sink>(
     let lanes = (work.patterns.count() - first).min(BLOCK) as u32;
     load(work, first, lanes, planes);
     planes.complete(work.net);
-    spread_and_keep(work, planes, room.firsts.as_mut_slice());
+    spread_and_keep(work, planes, room.columns.firsts.as_mut_slice());
     planes.settle(work.net);
+    keep_values(work.net, planes, room.columns.seconds.as_mut_slice());
     write_lanes(writer, work, planes, first, lanes, room);
 }
 
@@ -134,7 +136,7 @@ fn load(work: &Work<'_>, first: usize, lanes: u32, planes: &mut Planes)
 
 // Makes Algorithm A, and keeps the first values of the outputs: those that it comes to, or where nothing is known of a start
 // those that the first bits bring about, before it.
-fn spread_and_keep(work: &Work<'_>, planes: &mut Planes, columns: &mut [Column])
+fn spread_and_keep(work: &Work<'_>, planes: &mut Planes, columns: &mut [LaneValues])
     requires net { AreOf work.now.net.now planes.old }
     requires stage { planes.old.stage ≡ Completed }
     requires count { length columns.old ≡ length work.now.net.now.outputs }
@@ -172,8 +174,7 @@ fn write_lanes<K: Sink>(
     requires stage { planes.now.stage ≡ Settled }
     requires loaded { planes.now.lanes ≡ lanes_with (held_by work.now.job work.now.patterns.now.held)
         (take lanes (drop first work.now.patterns.now.patterns)) }
-    requires firsts { AreColumns work.now.net.now (kept_at work.now.job) planes.now.lanes work.now.net.now.outputs
-        room.old.firsts.items }
+    requires columns { HoldBoth work.now.net.now (kept_at work.now.job) planes.now.lanes room.old.columns }
     requires room { IsRoomFor work.now.net.now room.old }
     requires counts { AreWithin first room.old.counts }
     ensures room { IsRoomFor work.now.net.now room.new }
@@ -186,14 +187,7 @@ fn write_lanes<K: Sink>(
             lane,
             number: first as u32 + lane + 1,
         };
-        let mark = write_lane(
-            writer,
-            work,
-            planes,
-            at,
-            room.firsts.as_slice(),
-            &mut room.line,
-        );
+        let mark = write_lane(writer, work, planes, at, &room.columns, &mut room.line);
         room.counts.add(mark);
     }
 }

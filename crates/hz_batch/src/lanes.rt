@@ -14,17 +14,18 @@ ghost use Rattle.hz_text.specs.PatternValue.{PatternOf};
 ghost use Rattle.hz_write.specs.Writer.{Writes, NoneWaits};
 ghost use Rattle.hz_batch.specs.BatchText.{outcome_line, refused_line};
 ghost use Rattle.hz_batch.specs.Blocks.{load_of};
-ghost use Rattle.hz_batch.specs.Columns.{AreColumns, HasColumns, TellsOf};
+ghost use Rattle.hz_batch.specs.Columns.{HasColumns};
 ghost use Rattle.hz_batch.specs.Comes.{comes_to, held_by, kept_at};
 ghost use Rattle.hz_batch.specs.Counts.{IsMarkOf, settled_mark};
 ghost use Rattle.hz_batch.specs.Inside.{IsWork};
+ghost use Rattle.hz_batch.specs.Kept.{AreColumnsFor, HoldBoth};
 ghost use Rattle.hz_batch.specs.Laws.{AreLaws};
 ghost use Rattle.hz_batch.specs.Outcome.{Outcome, IsOutcome};
 ghost use Rattle.hz_batch.specs.Lines.{IsLineFor};
 
 use crate::blocks::Work;
+use crate::columns::Columns;
 use crate::counts::Mark;
-use crate::firsts::Column;
 use crate::job::Job;
 use hz_core::Circuit;
 use hz_net::Net;
@@ -40,7 +41,7 @@ pub(crate) fn write_lane<K: Sink>(
     work: &Work<'_>,
     planes: &Planes,
     at: Lane,
-    firsts: &[Column],
+    columns: &Columns,
     line: &mut OutputLine<'_>,
 ) -> Mark
     requires laws { AreLaws }
@@ -49,9 +50,7 @@ pub(crate) fn write_lane<K: Sink>(
     requires stage { planes.now.stage ≡ Settled }
     requires lane { at.lane < 512 }
     requires loaded { (loaded : Loaded) × (slice_get planes.now.lanes at.lane ≡ Some (Some loaded)) }
-    requires firsts { AreColumns work.now.net.now (kept_at work.now.job) planes.now.lanes work.now.net.now.outputs
-        firsts.now }
-    requires count { length firsts.now ≡ length work.now.net.now.outputs }
+    requires columns { HoldBoth work.now.net.now (kept_at work.now.job) planes.now.lanes columns.now }
     requires line { IsLineFor work.now.net.now line.old }
     ensures line { IsLineFor work.now.net.now line.new }
     ensures gave { (pattern : PatternOf) → IsPatternOf work.now.net.now.inputs pattern
@@ -63,8 +62,8 @@ pub(crate) fn write_lane<K: Sink>(
 {
     let _variables = work.net.len();
     match work.job {
-        Job::Batch => write_outcome(writer, work.net, planes, at, firsts, line),
-        Job::Reset => write_values(writer, work.net, planes, at, firsts, line),
+        Job::Batch => write_outcome(writer, work.net, planes, at, columns, line),
+        Job::Reset => write_values(writer, work.net, planes, at, columns, line),
     }
 }
 
@@ -74,7 +73,7 @@ fn write_outcome<K: Sink>(
     net: &Net,
     planes: &Planes,
     at: Lane,
-    firsts: &[Column],
+    columns: &Columns,
     line: &mut OutputLine<'_>,
 ) -> Mark
     requires a_exists { ResultOfAExists }
@@ -83,8 +82,7 @@ fn write_outcome<K: Sink>(
     requires stage { planes.now.stage ≡ Settled }
     requires lane { at.lane < 512 }
     requires loaded { (loaded : Loaded) × (slice_get planes.now.lanes at.lane ≡ Some (Some loaded)) }
-    requires firsts { AreColumns net.now Spread planes.now.lanes net.now.outputs firsts.now }
-    requires count { length firsts.now ≡ length net.now.outputs }
+    requires columns { HoldBoth net.now Spread planes.now.lanes columns.now }
     requires line { IsLineFor net.now line.old }
     ensures line { IsLineFor net.now line.new }
     ensures gave { (loaded : Loaded) → slice_get planes.now.lanes at.lane ≡ Some (Some loaded)
@@ -103,7 +101,7 @@ fn write_outcome<K: Sink>(
             Mark::Unstable
         }
         None => {
-            set_line(net, planes, at.lane, firsts, line);
+            set_line(net, columns, at.lane, line);
             line.write(writer, at.number);
             settled_mark(planes.is_unsettled(at.lane))
         }
@@ -116,14 +114,13 @@ fn write_values<K: Sink>(
     net: &Net,
     planes: &Planes,
     at: Lane,
-    firsts: &[Column],
+    columns: &Columns,
     line: &mut OutputLine<'_>,
 ) -> Mark
     requires net { AreOf net.now planes.now }
     requires stage { planes.now.stage ≡ Settled }
     requires lane { at.lane < 512 }
-    requires firsts { AreColumns net.now Completed planes.now.lanes net.now.outputs firsts.now }
-    requires count { length firsts.now ≡ length net.now.outputs }
+    requires columns { HoldBoth net.now Completed planes.now.lanes columns.now }
     requires line { IsLineFor net.now line.old }
     ensures line { IsLineFor net.now line.new }
     ensures gave { (loaded : Loaded) (first settled : List Tri) → slice_get planes.now.lanes at.lane ≡ Some (Some loaded)
@@ -133,7 +130,7 @@ fn write_values<K: Sink>(
     ensures none_waits { NoneWaits writer.new }
 {
     let _variables = net.len();
-    set_line(net, planes, at.lane, firsts, line);
+    set_line(net, columns, at.lane, line);
     line.write(writer, at.number);
     let stays = planes.is_unsettled(at.lane);
     settled_mark(stays)
@@ -163,24 +160,18 @@ fn write_refused<'p, K: Sink>(
 }
 
 // Gives the outputs of a line their values in a lane.
-fn set_line(net: &Net, planes: &Planes, lane: u32, firsts: &[Column], line: &mut OutputLine<'_>)
-    requires net { AreOf net.now planes.now }
-    requires stage { planes.now.stage ≡ Settled }
+fn set_line(net: &Net, columns: &Columns, lane: u32, line: &mut OutputLine<'_>)
     requires lane { lane < 512 }
-    requires count { length firsts.now ≡ length net.now.outputs }
+    requires columns { AreColumnsFor net.now columns.now }
     requires line { IsLineFor net.now line.old }
     ensures line { IsLineFor net.now line.new }
-    ensures values { (loaded : Loaded) (a b : List Tri) → slice_get planes.now.lanes lane ≡ Some (Some loaded)
-        → HasColumns net.now.outputs firsts.now lane a → TellsOf Settled net.now loaded b → line.new.values ≡ output_values net.now a b }
+    ensures values { (a b : List Tri) → HasColumns net.now.outputs columns.now.firsts.items lane a
+        → HasColumns net.now.outputs columns.now.seconds.items lane b → line.new.values ≡ output_values net.now a b }
 {
-    let _variables = net.len();
-    let outputs = net.circuit().outputs();
-    for place in 0..outputs.len() {
-        line.set(
-            place,
-            firsts[place][lane as usize],
-            planes.get(lane, outputs[place]),
-        );
+    let firsts = columns.firsts.as_slice();
+    let seconds = columns.seconds.as_slice();
+    for place in 0..net.circuit().outputs().len() {
+        line.set(place, firsts[place].get(lane), seconds[place].get(lane));
     }
 }
 

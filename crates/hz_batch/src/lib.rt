@@ -9,16 +9,16 @@
 //! | `job` | which of both is made |
 //! | `blocks` | a block: its lanes are loaded, all passes are made, and the line of each lane is written |
 //! | `lanes` | the line of a lane |
-//! | `firsts` | the first values of the outputs, which are kept until the second ones are there |
+//! | `columns` | the first and the second values of the outputs, as they are kept for all lanes |
 //! | `held` | the gates that are held at the start |
 //! | `counts` | what is counted |
 //! | `fault` | [`BatchFault`]: why the text was not written |
 #![tactic(auto, using(hz_write::proofs::Writers::writes_then, hz_write::proofs::Writers::writes_nothing))]
 
 mod blocks;
+mod columns;
 mod counts;
 mod fault;
-mod firsts;
 mod held;
 mod job;
 mod lanes;

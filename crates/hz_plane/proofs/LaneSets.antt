@@ -1,7 +1,7 @@
 -- Sets of lanes: a lane more, a lane less, and no lane.
 use Rattle.std.proofs.Common.{◌≡◌, ◌≢◌, ℕ, zero, suc, set, w64, ◌*◌, ◌^◌, ◌-◌, ◌<◌, ◌/◌, ◌%◌, max, Bool, true, false, Some, None, List, [], ◌∷◌, length, get_or, refl, sym, ap, ◌∙◌, arith, inl, inr, nat_eq}
 use Rattle.std.specs.Int.{bit_at, bit_not}
-use Rattle.std.specs.Int.Bits.{bit_and, bit_or}
+use Rattle.std.specs.Int.Bits.{bit_and, bit_or, or_zero_r}
 use Rattle.std.proofs.lemmas.Bool.{cases_eq}
 use Rattle.std.proofs.lemmas.List.{get_or-set_same, get_or-set_other}
 use Rattle.std.proofs.lemmas.Nat.Bits.{bit_at-lt, bit_at-zero, bit_at_set_same, bit_at_set_other, bit_at_clear_same, bit_at_clear_other}
@@ -49,6 +49,23 @@ module _ (words : List ℕ) (lane : ℕ) (inside : lane < 512) (long : length wo
   pub added-others : (other : ℕ) → other ≢ lane → has_lane (set words (lane / 64) (bit_or (get_or words (lane / 64) 0) mask)) other ≡ has_lane words other
   added-others other differ =
       ap (λ (n : ℕ). nat_eq n 1) (there _ other differ (λ i few apart. bit_at_set_other w64 (get_or words (lane / 64) 0) (lane % 64) (omega arith) i apart))
+
+  -- a set with the lane in it, or as it was
+  abbrev pub joined : Bool → List ℕ
+  joined bit = set words (lane / 64) (bit_or (get_or words (lane / 64) 0) (bit_number bit * 2 ^ (lane % 64) % 2 ^ 64))
+
+  no-mask : bit_or (get_or words (lane / 64) 0) (0 * 2 ^ (lane % 64) % 2 ^ 64) ≡ get_or words (lane / 64) 0
+  no-mask =
+      let none : 0 * 2 ^ (lane % 64) % 2 ^ 64 ≡ 0 = omega arith in
+      ap (bit_or (get_or words (lane / 64) 0)) none ∙ or_zero_r (get_or words (lane / 64) 0)
+
+  pub joined-here : (bit : Bool) → has_lane words lane ≡ false → has_lane (joined bit) lane ≡ bit
+  joined-here true out = added-here
+  joined-here false out = ap (λ (n : ℕ). nat_eq n 1) (here _ ∙ ap (λ (n : ℕ). bit_at n (lane % 64)) no-mask) ∙ out
+
+  pub joined-others : (bit : Bool) (other : ℕ) → other ≢ lane → has_lane (joined bit) other ≡ has_lane words other
+  joined-others true other differ = added-others other differ
+  joined-others false other differ = ap (λ (n : ℕ). nat_eq n 1) (there _ other differ (λ i few apart. ap (λ (n : ℕ). bit_at n i) no-mask))
 
   pub removed-here : has_lane (set words (lane / 64) (bit_and (get_or words (lane / 64) 0) (bit_not w64 mask))) lane ≡ false
   removed-here = out-of-set _ (here _ ∙ bit_at_clear_same w64 (get_or words (lane / 64) 0) (lane % 64) (omega arith))

@@ -3,7 +3,7 @@ use Rattle.std.proofs.Common.{◌≡◌, ◌≢◌, ℕ, zero, suc, set, ◌+◌
 use Rattle.std.specs.Prelude.{if◌then◌else◌}
 use Rattle.std.specs.List.{fold, range_with_len}
 use Rattle.std.proofs.lemmas.Bool.{cases_eq}
-use Rattle.std.proofs.lemmas.List.{length-map, map-set, get_or-map, get_or-set_same, get_or-set_other, set-get_or, length-set, length-replicate, get_or-replicate, get_or-append_right, ext_get_or, take_more, take_all, drop_all, append-nil}
+use Rattle.std.proofs.lemmas.List.{length-map, map-set, get_or-map, get_or-set_same, get_or-set_other, set-get_or, length-set, length-replicate, get_or-replicate, get_or-append_right, get_or-drop, length-drop, take-append-drop, ext_get_or, take_more, take_all, drop_all, append-nil}
 use Rattle.std.proofs.lemmas.List.Sums.{fold-append}
 use Rattle.std.proofs.lemmas.Option.{slice_get_within, get_or_from_slice_get}
 use Rattle.std.proofs.lemmas.List.FromFn.{length-range_with_len, get_or-range_with_len}
@@ -40,6 +40,18 @@ pub drop-replicate : {X : Type 0} (count all : ℕ) (x : X) → drop count (repl
 drop-replicate zero all x = (let e : all ≡ all - 0 = omega arith in ap (λ (n : ℕ). replicate n x) e)
 drop-replicate (suc count) zero x = (let e : 0 ≡ zero - suc count = omega arith in ap (λ (n : ℕ). replicate n x) e)
 drop-replicate (suc count) (suc all) x = (let e : all - count ≡ suc all - suc count = omega arith in drop-replicate count all x ∙ ap (λ (n : ℕ). replicate n x) e)
+
+-- nothing is listed once the first nodes are unlisted, if nothing is listed behind them
+pub unlisted-whole : (count n : ℕ) (old : List (Option Bool)) → length old ≡ n → count ≤ n → ((node : ℕ) → count ≤ node → node < n → get_or old node None ≡ None) → take count (replicate n None) ++ drop count old ≡ replicate n None
+unlisted-whole count n old long few none =
+    let nothing : Option Bool = None in
+    let all : List (Option Bool) = replicate n nothing in
+    let size : length all ≡ n = length-replicate n nothing in
+    let left : length (drop count old) ≡ length (drop count all) = omega (arith, length-drop count old, length-drop count all, long, size) in
+    let rest : drop count old ≡ drop count all = ext_get_or nothing (drop count old) (drop count all) left (λ k below.
+    let within : count + k < n = omega (arith, below, length-drop count old, long) in
+    get_or-drop count old k nothing ∙ (none (count + k) (omega arith) within ∙ sym (get_or-drop count all k nothing ∙ get_or-replicate n (count + k) nothing nothing within))) in
+    ap (λ (list : List (Option Bool)). take count all ++ list) rest ∙ take-append-drop count all
 
 -- one held gate more
 pub held-next : (held : List (ℕ × Bool)) (listed : List (Option Bool)) (k : ℕ) (d : ℕ × Bool) → k < length held →

@@ -26,6 +26,19 @@ pub(crate) fn put_lane(set: &mut [u64; 8], lane: u32, is_in: bool)
     }
 }
 
+// Takes a lane that is not in a set into it, if it is to be in. This takes no branch.
+#[inline(always)]
+pub(crate) fn join_lane(set: &mut [u64; 8], lane: u32, is_in: bool)
+    requires lane { lane < 512 }
+    requires out { has_lane set.old lane ≡ false }
+    ensures here { has_lane set.new lane ≡ is_in }
+    ensures others { (other : ℕ) → other < 512 → other ≢ lane
+        → has_lane set.new other ≡ has_lane set.old other }
+{
+    let word = (lane / 64) as usize;
+    set[word] |= (is_in as u64) << (lane % 64);
+}
+
 #[inline(always)]
 fn add_lane(set: &mut [u64; 8], lane: u32)
     requires { lane < 512 }

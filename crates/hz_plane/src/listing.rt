@@ -6,7 +6,7 @@ ghost use Rattle.hz_plane.specs.Forward.{IsKnownPair};
 ghost use Rattle.hz_plane.specs.Lanes.{listed_value};
 ghost use Rattle.hz_plane.specs.Loads.{listed_in};
 
-use crate::lanes::put_lane;
+use crate::lanes::{join_lane, put_lane};
 use crate::pair::{Pair, is_plane, is_zero};
 use std::simd::prelude::*;
 
@@ -26,6 +26,19 @@ impl Listing {
             zeros: [0; 8],
             ones: [0; 8],
         }
+    }
+
+    // Lists a bit for the node in a lane that lists none.
+    #[inline(always)]
+    pub(crate) fn list(&mut self, lane: u32, bit: bool)
+        requires lane { lane < 512 }
+        requires none { listed_in self.old lane ≡ None }
+        ensures here { listed_in self.new lane ≡ Some bit }
+        ensures others { (other : ℕ) → other < 512 → other ≢ lane
+            → listed_in self.new other ≡ listed_in self.old other }
+    {
+        join_lane(&mut self.zeros, lane, !bit);
+        join_lane(&mut self.ones, lane, bit);
     }
 
     // Lists a value for the node in a lane, or none.

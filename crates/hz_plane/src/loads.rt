@@ -1,5 +1,6 @@
 //! What each lane was loaded with.
 ghost use Rattle.std.specs.Prelude.{◌≡◌, ◌≢◌, ◌<◌, ◌≤◌, ◌++◌, ℕ, All, Bool, List, None, Some, IfOk, IsTrue, drop, false, true, length, map, replicate, slice_get, slice_set};
+ghost use Rattle.std.specs.List.{slice_index_or};
 ghost use Rattle.hz_plane.specs.Bits.{has_lane};
 ghost use Rattle.hz_plane.specs.Loads.{Loaded, lane_input, lane_listed, held_at, listed_with};
 
@@ -54,7 +55,8 @@ impl Loads {
         ensures { self.new ≡ record self.old { lanes = replicate 512 None } }
     {
         self.loaded = [0; 8];
-        unlist_all(self.listings.as_mut_slice());
+        let count = listed_count(self.no_gates, self.inputs.len(), self.listings.len());
+        unlist_first(self.listings.as_mut_slice(), count);
         self.no_gates = true;
     }
 
@@ -162,11 +164,23 @@ fn no_listings(alloc: Global, nodes: u32) -> Result<Vec<Listing>, Memory>
     Ok(listings)
 }
 
-// Lets no lane list a node.
-fn unlist_all(listings: &mut [Listing])
-    ensures { (lane : ℕ) → lane_listed listings.new lane ≡ replicate (length listings.old) None }
+// How many nodes some lane may list: the inputs, if no lane lists a gate.
+fn listed_count(no_gates: bool, inputs: usize, nodes: usize) -> usize
+    ensures few { result ≤ nodes }
+    ensures rest { result < nodes → (no_gates ≡ true) × (inputs ≤ result) }
 {
-    for node in 0..listings.len() {
+    if no_gates { inputs.min(nodes) } else { nodes }
+}
+
+// Lets no lane list a node. The nodes after the first ones are not listed already.
+fn unlist_first(listings: &mut [Listing], count: usize)
+    requires few { count ≤ length listings.old }
+    requires rest { (lane node : ℕ) → lane < 512 → count ≤ node → node < length listings.old
+        → slice_index_or (lane_listed listings.old lane) node None ≡ None }
+    ensures { (lane : ℕ) → lane < 512
+        → lane_listed listings.new lane ≡ replicate (length listings.old) None }
+{
+    for node in 0..count {
         listings[node] = Listing::none();
     }
 }
@@ -236,17 +250,19 @@ fn unlist(lane: u32, loaded: &[u64; 8], listings: &mut [Listing])
     }
 }
 
-// Lets a lane list the first bits of the inputs.
+// Lets a lane that lists no input list the first bits of the inputs.
 fn list_inputs(lane: u32, first: &[bool], listings: &mut [Listing])
     requires lane { lane < 512 }
     requires first { length first.now ≤ length listings.old }
+    requires none { (node : ℕ) → node < length first.now
+        → slice_index_or (lane_listed listings.old lane) node None ≡ None }
     ensures here { lane_listed listings.new lane ≡ map Some first.now
         ++ drop (length first.now) (lane_listed listings.old lane) }
     ensures others { (other : ℕ) → other < 512 → other ≢ lane
         → lane_listed listings.new other ≡ lane_listed listings.old other }
 {
     for node in 0..first.len() {
-        listings[node].put(lane, Some(first[node]));
+        listings[node].list(lane, first[node]);
     }
 }
 

@@ -24,7 +24,7 @@ use crate::pair::Pair;
 use crate::passes::{fill, settle, spread};
 use crate::schedule::Schedule;
 use crate::stage::{LaneFault, Stage};
-use crate::values::LaneValues;
+use crate::values::{LaneValues, value_by};
 use hz_core::{Memory, Tri};
 use hz_net::Net;
 use std::alloc::Global;
@@ -350,16 +350,4 @@ fn unknown_values(alloc: Global, nodes: u32) -> Result<Vec<Pair>, Memory>
         };
     }
     Ok(values)
-}
-
-// The value that can be 0, or 1, or both.
-#[inline(always)]
-fn value_by(zero: bool, one: bool) -> Tri
-    ensures { result ≡ value_by zero one }
-{
-    match (zero, one) {
-        (true, false) => Tri::Zero,
-        (false, true) => Tri::One,
-        _ => Tri::Unknown,
-    }
 }

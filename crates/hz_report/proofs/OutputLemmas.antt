@@ -1,12 +1,12 @@
 -- The words of outputs, and where their letters stand.
 use Rattle.std.proofs.Common.{◌≡◌, ◌∙◌, refl, sym, ap, subst, ℕ, zero, suc, ◌+◌, ◌-◌, ◌<◌, ◌≤◌, List, [], ◌∷◌, ◌++◌, length, set, map, take, get_or, slice_get, Some, append_assoc, arith}
-use Rattle.std.proofs.lemmas.List.{length-append, length-map, map-append, append-nil, set-append_right, get_or_default, take_more}
+use Rattle.std.proofs.lemmas.List.{length-append, length-map, map-append, append-nil, set-append_right, get_or-append_right, get_or_default, take_more, take_all}
 use Rattle.std.proofs.lemmas.Option.{get_or_from_slice_get}
 use Rattle.hz_core.specs.declared.tri.Tri.{Tri}
 use Rattle.hz_core.specs.declared.tri.Tri.TheVariants.{Zero, One, Unknown}
 use Rattle.hz_core.specs.Netlist.{Netlist, node_name}
 use Rattle.hz_report.specs.Outputs.{output_stem, output_word, output_words}
-use Rattle.hz_report.specs.LineInside.{letter_places}
+use Rattle.hz_report.specs.LineInside.{letter_places, letter_value, values_at}
 use Rattle.hz_report.specs.Words.{tri_letter}
 
 -- a value has one letter
@@ -139,26 +139,107 @@ places-push netlist start (other ∷ nodes) (earlier ∷ values) node n long is 
     omega (arith, is, word-length netlist other earlier, length-append (output_word netlist other earlier) (output_words netlist nodes values)) in
     ap (λ (list : List ℕ). (start + length (output_stem netlist other)) ∷ list) (places-push netlist next nodes values node n (omega (arith, long)) at)
 
--- the line of the outputs so far
-pub record IsLineOf (netlist : Netlist) (nodes : List ℕ) (values : List (Tri × Tri)) (text places : List ℕ) : Type 0 where
-  pub values_are : values ≡ map (λ _. (Unknown, Unknown)) nodes
-  pub text_is : text ≡ output_words netlist nodes values
+-- the letters behind a stem
+letters-at : (stem rest : List ℕ) (a b : ℕ) → (get_or ((stem ++ (a ∷ b ∷ [])) ++ rest) (length stem) 0 ≡ a) × (get_or ((stem ++ (a ∷ b ∷ [])) ++ rest) (length stem + 1) 0 ≡ b)
+letters-at [] rest a b = (refl, refl)
+letters-at (byte ∷ stem) rest a b =
+    let later = letters-at stem rest a b in
+    let next : suc (length stem) + 1 ≡ suc (length stem + 1) = omega arith in
+    (later.0, ap (λ (n : ℕ). get_or (((byte ∷ stem) ++ (a ∷ b ∷ [])) ++ rest) n 0) next ∙ later.1)
+
+-- the values that the letters of a text say at a place
+abbrev said : List ℕ → ℕ → Tri × Tri
+said text place = (letter_value (get_or text place 0), letter_value (get_or text (place + 1) 0))
+
+-- the letters of an output say its values
+said-by-word : (netlist : Netlist) (node : ℕ) (pair : Tri × Tri) (front rest : List ℕ) → said (front ++ (output_word netlist node pair ++ rest)) (length front + length (output_stem netlist node)) ≡ pair
+said-by-word netlist node pair front rest = by_letters pair.0 pair.1
+  where
+    moved : (word : List ℕ) → said (front ++ word) (length front + length (output_stem netlist node)) ≡ said word (length (output_stem netlist node))
+    moved word =
+        let n = length front in
+        let k = length (output_stem netlist node) in
+        let one : n + k - n ≡ k = omega arith in
+        let two : n + k + 1 - n ≡ k + 1 = omega arith in
+        let first : get_or (front ++ word) (n + k) 0 ≡ get_or word k 0 = get_or-append_right front word n (n + k) 0 refl (omega arith) ∙ ap (λ (m : ℕ). get_or word m 0) one in
+        let second : get_or (front ++ word) (n + k + 1) 0 ≡ get_or word (k + 1) 0 = get_or-append_right front word n (n + k + 1) 0 refl (omega arith) ∙ ap (λ (m : ℕ). get_or word m 0) two in
+        rw (first, second) refl
+
+    by_bytes : (a b : ℕ) → said (front ++ ((output_stem netlist node ++ (a ∷ b ∷ [])) ++ rest)) (length front + length (output_stem netlist node)) ≡ (letter_value a, letter_value b)
+    by_bytes a b =
+        let at = letters-at (output_stem netlist node) rest a b in
+        moved ((output_stem netlist node ++ (a ∷ b ∷ [])) ++ rest) ∙ rw (at.0, at.1) refl
+
+    by_letters : (one other : Tri) → said (front ++ ((output_stem netlist node ++ (tri_letter one ++ tri_letter other)) ++ rest)) (length front + length (output_stem netlist node)) ≡ (one, other)
+    by_letters Zero Zero = by_bytes 48 48
+    by_letters Zero One = by_bytes 48 49
+    by_letters Zero Unknown = by_bytes 48 88
+    by_letters One Zero = by_bytes 49 48
+    by_letters One One = by_bytes 49 49
+    by_letters One Unknown = by_bytes 49 88
+    by_letters Unknown Zero = by_bytes 88 48
+    by_letters Unknown One = by_bytes 88 49
+    by_letters Unknown Unknown = by_bytes 88 88
+
+-- the letters of all outputs say their values
+said-behind : (netlist : Netlist) (nodes : List ℕ) (values : List (Tri × Tri)) (front : List ℕ) (n : ℕ) → length values ≡ length nodes → length front ≡ n →
+    values_at (front ++ output_words netlist nodes values) (letter_places netlist n nodes) ≡ values
+said-behind netlist [] [] front n long at = refl
+said-behind netlist [] (pair ∷ values) front n long at = absurd (omega (arith, long))
+said-behind netlist (node ∷ nodes) [] front n long at = absurd (omega (arith, long))
+said-behind netlist (node ∷ nodes) (pair ∷ values) front n long at =
+    let word = output_word netlist node pair in
+    let words = output_words netlist nodes values in
+    let stem = length (output_stem netlist node) in
+    let next : length (front ++ word) ≡ n + stem + 2 = omega (arith, length-append front word, word-length netlist node pair, at) in
+    let later : values_at (front ++ (word ++ words)) (letter_places netlist (n + stem + 2) nodes) ≡ values =
+    ap (λ (text : List ℕ). values_at text (letter_places netlist (n + stem + 2) nodes)) (sym (append_assoc front word words))
+    ∙ said-behind netlist nodes values (front ++ word) (n + stem + 2) (omega (arith, long)) next in
+    let here : said (front ++ (word ++ words)) (n + stem) ≡ pair =
+    ap (λ (m : ℕ). said (front ++ (word ++ words)) (m + stem)) (sym at) ∙ said-by-word netlist node pair front words in
+    ap (λ (first : Tri × Tri). first ∷ values_at (front ++ (word ++ words)) (letter_places netlist (n + stem + 2) nodes)) here ∙ ap (λ (rest : List (Tri × Tri)). pair ∷ rest) later
+
+pub said-by-line : (netlist : Netlist) (values : List (Tri × Tri)) (text places : List ℕ) → length values ≡ length netlist.outputs → text ≡ output_words netlist netlist.outputs values → places ≡ letter_places netlist 0 netlist.outputs → values_at text places ≡ values
+said-by-line netlist values text places long words at = rw (words, at) (said-behind netlist netlist.outputs values [] 0 long refl)
+
+-- there are two values for each output
+pub count-values : (netlist : Netlist) (text places : List ℕ) → places ≡ letter_places netlist 0 netlist.outputs → length (values_at text places) ≡ length netlist.outputs
+count-values netlist text places at = length-map places (said text) ∙ (ap (length {A = ℕ}) at ∙ length-places netlist 0 netlist.outputs)
+
+-- the line of the outputs so far, with X for each value
+abbrev pub unknowns : List ℕ → List (Tri × Tri)
+unknowns nodes = map (λ _. (Unknown, Unknown)) nodes
+
+pub record IsLineOf (netlist : Netlist) (nodes text places : List ℕ) : Type 0 where
+  pub text_is : text ≡ output_words netlist nodes (unknowns nodes)
   pub places_are : places ≡ letter_places netlist 0 nodes
 
-pub line-next : (netlist : Netlist) (items : List ℕ) (i : ℕ) (name : List ℕ) (values now : List (Tri × Tri)) (text text' places places' : List ℕ) →
+pub line-next : (netlist : Netlist) (items : List ℕ) (i : ℕ) (name text text' places places' : List ℕ) →
     items ≡ netlist.outputs → i < length items → slice_get netlist.names (get_or items i 0) ≡ Some name →
-    IsLineOf netlist (take i netlist.outputs) values text places →
-    now ≡ values ++ (Unknown, Unknown) ∷ [] → text' ≡ text ++ (((32 ∷ name) ++ 61 ∷ []) ++ 88 ∷ 88 ∷ []) → places' ≡ places ++ (length text + length ((32 ∷ name) ++ 61 ∷ [])) ∷ [] →
-    IsLineOf netlist (take (i + 1) netlist.outputs) now text' places'
-line-next netlist items i name values now text text' places places' same inside named line pushed worded placed =
+    IsLineOf netlist (take i netlist.outputs) text places →
+    text' ≡ text ++ (((32 ∷ name) ++ 61 ∷ []) ++ 88 ∷ 88 ∷ []) → places' ≡ places ++ (length text + length ((32 ∷ name) ++ 61 ∷ [])) ∷ [] →
+    IsLineOf netlist (take (i + 1) netlist.outputs) text' places'
+line-next netlist items i name text text' places places' same inside named line worded placed =
     let nodes = take i netlist.outputs in
     let node = get_or items i 0 in
+    let values = unknowns nodes in
     let unknown : ℕ → Tri × Tri = λ _. (Unknown, Unknown) in
     let is : node_name netlist.names node ≡ name = get_or_from_slice_get netlist.names node name [] named in
     let more : take (i + 1) netlist.outputs ≡ nodes ++ node ∷ [] = subst (λ (list : List ℕ). take (i + 1) list ≡ take i list ++ get_or items i 0 ∷ []) same (take_more items i 0 inside) in
-    let long : length values ≡ length nodes = ap length line.values_are ∙ length-map nodes unknown in
+    let long : length values ≡ length nodes = length-map nodes unknown in
+    let pushed : unknowns (nodes ++ node ∷ []) ≡ values ++ (Unknown, Unknown) ∷ [] = map-append unknown nodes (node ∷ []) in
     record {
-      values_are = pushed ∙ (ap (λ (list : List (Tri × Tri)). list ++ (Unknown, Unknown) ∷ []) line.values_are ∙ (sym (map-append unknown nodes (node ∷ [])) ∙ ap (map unknown) (sym more)));
       text_is = rw (more, pushed) (worded ∙ (ap (λ (list : List ℕ). list ++ (((32 ∷ name) ++ 61 ∷ []) ++ 88 ∷ 88 ∷ [])) line.text_is ∙ (ap (λ (list : List ℕ). output_words netlist nodes values ++ (((32 ∷ list) ++ 61 ∷ []) ++ 88 ∷ 88 ∷ [])) (sym is) ∙ sym (words-push netlist nodes values node (Unknown, Unknown) long))));
       places_are = rw more (placed ∙ (ap (λ (list : List ℕ). list ++ (length text + length ((32 ∷ name) ++ 61 ∷ [])) ∷ []) line.places_are ∙ sym (places-push netlist 0 nodes values node (length text + length ((32 ∷ name) ++ 61 ∷ [])) long (rw (is, line.text_is) (omega arith)))));
     }
+
+-- the line of all outputs says X for each
+pub line-whole : (netlist : Netlist) (i : ℕ) (text places : List ℕ) → length netlist.outputs ≤ i → IsLineOf netlist (take i netlist.outputs) text places →
+    (values_at text places ≡ unknowns netlist.outputs) × (text ≡ output_words netlist netlist.outputs (values_at text places)) × (places ≡ letter_places netlist 0 netlist.outputs)
+line-whole netlist i text places all line =
+    let outputs = netlist.outputs in
+    let whole : take i outputs ≡ outputs = take_all i outputs all in
+    let words : text ≡ output_words netlist outputs (unknowns outputs) = line.text_is ∙ ap (λ (nodes : List ℕ). output_words netlist nodes (unknowns nodes)) whole in
+    let at : places ≡ letter_places netlist 0 outputs = line.places_are ∙ ap (letter_places netlist 0) whole in
+    let said_is = said-by-line netlist (unknowns outputs) text places (length-map outputs (λ _. (Unknown, Unknown))) words at in
+    (said_is, words ∙ ap (output_words netlist outputs) (sym said_is), at)

@@ -1,11 +1,21 @@
 -- What the fields of a line of outputs stand for.
-use Rattle.std.specs.Prelude.{◌≡◌, ℕ, ◌+◌, List, [], ◌∷◌, length}
+use Rattle.std.specs.Prelude.{◌≡◌, ℕ, ◌+◌, List, [], ◌∷◌, length, map, slice_index, nat_eq, if◌then◌else◌}
+use Rattle.hz_core.specs.declared.tri.Tri.{Tri}
+use Rattle.hz_core.specs.declared.tri.Tri.TheVariants.{Zero, One, Unknown}
 use Rattle.hz_core.specs.Netlist.{Netlist, IsCircuit}
 use Rattle.hz_report.specs.declared.outputs.OutputLine.TheInside.{Inside}
 use Rattle.hz_report.specs.Outputs.{LineOf, output_stem, output_words}
 
+-- the value that a letter says
+abbrev pub letter_value : ℕ → Tri
+letter_value letter = if nat_eq letter 48 then Zero else (if nat_eq letter 49 then One else Unknown)
+
+-- the two values that the letters at each place say
+abbrev pub values_at : List ℕ → List ℕ → List (Tri × Tri)
+values_at text places = map (λ place. (letter_value (slice_index text place), letter_value (slice_index text (place + 1)))) places
+
 abbrev pub line_of_fields : Inside → LineOf
-line_of_fields fields = record { netlist = fields.circuit.now; values = fields.values.items }
+line_of_fields fields = record { netlist = fields.circuit.now; values = values_at fields.text.items fields.places.items }
 
 -- where the letters of each output stand in the text, if the text of the first one begins at a start
 abbrev pub letter_places : Netlist → ℕ → List ℕ → List ℕ
@@ -13,9 +23,8 @@ letter_places netlist start [] = []
 letter_places netlist start (node ∷ nodes) =
     let place = start + length (output_stem netlist node) in place ∷ letter_places netlist (place + 2) nodes
 
--- two values for each output, the words of all, and where the letters of each stand
+-- the words of all outputs, and where the letters of each stand
 pub record HoldsLine (fields : Inside) : Type 0 where
   pub circuit : IsCircuit fields.circuit.now
-  pub count : length fields.values.items ≡ length fields.circuit.now.outputs
-  pub text : fields.text.items ≡ output_words fields.circuit.now fields.circuit.now.outputs fields.values.items
+  pub text : fields.text.items ≡ output_words fields.circuit.now fields.circuit.now.outputs (values_at fields.text.items fields.places.items)
   pub places : fields.places.items ≡ letter_places fields.circuit.now 0 fields.circuit.now.outputs

@@ -14,11 +14,11 @@ use std::marker::Model;
 
 /// The line of a number, in which each output of a circuit has two values: `7 z=X0 carry=11`.
 ///
-/// What stands behind the number is kept as bytes, and from one line to the next only letters change.
+/// What stands behind the number is kept as bytes, and from one line to the next only letters change. The values are what these
+/// letters say.
 #[derive(Drop)]
 pub struct OutputLine<'c> {
     circuit: &'c Circuit,
-    values: Vec<(Tri, Tri)>,
     text: Vec<u8>,
     // Where the letters of each output stand in the text.
     places: Vec<usize>,
@@ -41,18 +41,13 @@ impl<'c> OutputLine<'c> {
         ensures { IfOk result (λ line. line ≡ record { netlist = circuit.now; values = map (λ _. (Unknown, Unknown)) circuit.now.outputs }) }
     {
         let _nodes = circuit.nodes();
-        let mut values = Vec::new(alloc);
         let mut text = Vec::new(alloc);
         let mut places = Vec::new(alloc);
         for node in circuit.outputs() {
-            let Ok(()) = values.push((Tri::Unknown, Tri::Unknown)) else {
-                return Err(Memory);
-            };
             add_word(circuit.name(*node), &mut text, &mut places)?;
         }
         Ok(OutputLine {
             circuit,
-            values,
             text,
             places,
         })
@@ -67,7 +62,6 @@ impl<'c> OutputLine<'c> {
         let place = self.places[output];
         self.text[place] = letter(first);
         self.text[place + 1] = letter(second);
-        self.values[output] = (first, second);
     }
 
     /// Gives the line to a writer, with a number in front.

@@ -1,8 +1,10 @@
 -- A block's lanes are loaded, and all passes are made.
-use Rattle.std.proofs.Common.{◌≡◌, ◌∙◌, ◌+◌, ◌-◌, ◌^◌, ap, sym, subst, ℕ, List, Option, min}
-use Rattle.hz_core.specs.declared.tri.Tri.{Tri}
+use Rattle.std.proofs.Common.{◌≡◌, ◌∙◌, ◌+◌, ◌-◌, ◌^◌, ap, sym, subst, rules, ℕ, List, Option, length, min}
+use Rattle.std.specs.Vec.{vec_len}
 use Rattle.hz_text.specs.PatternValue.{PatternOf}
+use Rattle.hz_plane.specs.declared.stage.Stage.{Stage}
 use Rattle.hz_plane.specs.declared.stage.Stage.TheVariants.{Loading, Settled as AllSettled}
+use Rattle.hz_plane.specs.declared.values.LaneValues.{LaneValues}
 use Rattle.hz_plane.specs.Loads.{Loaded}
 use Rattle.hz_plane.specs.View.{Seen}
 use Rattle.hz_batch.specs.Blocks.{lanes_with}
@@ -12,16 +14,28 @@ use Rattle.hz_batch.specs.Written.{AreWritten}
 use Rattle.hz_batch.proofs.BlockLaws.{written-whole, fewer}
 use Rattle.hz_batch.proofs.blocks.write_block.Goals as goal
 
-pub write_lanes-requires-clause-firsts : goal.write_lanes-requires-clause-firsts
-write_lanes-requires-clause-firsts g c =
+pub write_lanes-requires-clause-columns : goal.write_lanes-requires-clause-columns
+write_lanes-requires-clause-columns g c =
     let netlist = c.args.work.now.net.now in
     let stage = kept_at c.args.work.now.job in
     let settled : c.settle.new.self.lanes ≡ c.spread_and_keep.new.planes.lanes = ap (λ (seen : Seen). seen.lanes) c.settle.ensures in
     let spread : c.spread_and_keep.new.planes.lanes ≡ c.complete.new.self.lanes = ap (λ (seen : Seen). seen.lanes) c.spread_and_keep.ensures.planes in
     let lanes = settled ∙ spread in
-    let columns = written-whole c.args.room.now.firsts.items c.spread_and_keep.new.columns c.args.room.now.firsts.len (c.spread_and_keep.ensures.count ∙ c.as_mut_slice.ensures.len) in
-    subst (λ (list : List (List Tri)). AreColumns netlist stage c.settle.new.self.lanes netlist.outputs list) (sym columns)
-    (subst (λ (list : List (Option Loaded)). AreColumns netlist stage list netlist.outputs c.spread_and_keep.new.columns) (sym lanes) c.spread_and_keep.ensures.columns)
+    let last : c.settle.new.self.stage ≡ AllSettled = ap (λ (seen : Seen). seen.stage) c.settle.ensures in
+    let firsts = written-whole c.args.room.now.columns.firsts.items c.spread_and_keep.new.columns c.args.room.now.columns.firsts.len (c.spread_and_keep.ensures.count ∙ c.as_mut_slice.ensures.len) in
+    let seconds = written-whole c.args.room.now.columns.seconds.items c.keep_values.new.columns c.args.room.now.columns.seconds.len (c.keep_values.ensures.count ∙ c.as_mut_slice-2.ensures.len) in
+    let firsts_long : vec_len c.args.room.now.columns.firsts ≡ length c.args.room.now.columns.firsts.items = search rules in
+    let seconds_long : vec_len c.args.room.now.columns.seconds ≡ length c.args.room.now.columns.seconds.items = search rules in
+    record {
+      fit = record {
+        firsts = ap (length {A = LaneValues}) firsts ∙ (c.spread_and_keep.ensures.count ∙ (c.as_mut_slice.ensures.len ∙ (firsts_long ∙ c.requires.room.columns.firsts)));
+        seconds = ap (length {A = LaneValues}) seconds ∙ (c.keep_values.ensures.count ∙ (c.as_mut_slice-2.ensures.len ∙ (seconds_long ∙ c.requires.room.columns.seconds)));
+      };
+      firsts = subst (λ (list : List LaneValues). AreColumns netlist stage c.settle.new.self.lanes netlist.outputs list) (sym firsts)
+          (subst (λ (list : List (Option Loaded)). AreColumns netlist stage list netlist.outputs c.spread_and_keep.new.columns) (sym lanes) c.spread_and_keep.ensures.columns);
+      seconds = subst (λ (list : List LaneValues). AreColumns netlist AllSettled c.settle.new.self.lanes netlist.outputs list) (sym seconds)
+          (subst (λ (at : Stage). AreColumns netlist at c.settle.new.self.lanes netlist.outputs c.keep_values.new.columns) last c.keep_values.ensures.columns);
+    }
 
 pub returns-clause-gave : goal.returns-clause-gave
 returns-clause-gave g c =

@@ -54,4 +54,4 @@ loop-lane-preserved g c =
     (omega (arith, length-take-le lane rest (omega (arith, within)))) c.loop-lane.invariant.0 one in
     let whole = subst (λ (patterns : List PatternOf). AreWritten g.K.Sink.output g.K.Sink.faults netlist comes patterns (c.args.first + 1) c.args.writer.now c.write_lane-mark.new.writer c.args.room.now.counts c.add.new.self)
     (sym (take_more rest lane none within)) more in
-    (whole, record { line = c.write_lane-mark.ensures.line; firsts = c.loop-lane.invariant.1.firsts }, c.loop-lane.invariant.2)
+    (whole, record { line = c.write_lane-mark.ensures.line; columns = c.loop-lane.invariant.1.columns }, c.loop-lane.invariant.2)

@@ -9,4 +9,4 @@ abbrev pub invariant-loop-lane : goal.invariant-loop-lane
 invariant-loop-lane g l =
     AreWritten g.K.Sink.output g.K.Sink.faults l.work.net.now (comes_to l.work.job l.work.net.now l.work.patterns.now.held) (take l.lane (drop l.first l.work.patterns.now.patterns)) (l.first + 1) l.fn.writer l.writer l.fn.room.counts l.room.counts
     × IsRoomFor l.work.net.now l.room
-    × (l.room.firsts ≡ l.fn.room.firsts)
+    × (l.room.columns ≡ l.fn.room.columns)

@@ -4,19 +4,19 @@ use Rattle.std.specs.Prelude.{slice_get}
 use Rattle.hz_plane.specs.Loads.{Loaded}
 use Rattle.hz_batch.specs.declared.job.Job.{Job}
 use Rattle.hz_batch.specs.Blocks.{load_of, no_gate}
-use Rattle.hz_batch.specs.Columns.{AreColumns}
 use Rattle.hz_batch.specs.Comes.{kept_at, held_by}
+use Rattle.hz_batch.specs.Kept.{HoldBoth}
 use Rattle.hz_batch.specs.Outcome.{Settled, listing_of}
 use Rattle.hz_batch.proofs.BroughtAbout.{brought-about}
 use Rattle.hz_batch.proofs.lanes.write_lane.Goals as goal
 
-pub write_outcome-requires-clause-firsts : goal.write_outcome-requires-clause-firsts
-write_outcome-requires-clause-firsts g c =
-    subst (λ (job : Job). AreColumns c.args.work.now.net.now (kept_at job) c.args.planes.now.lanes c.args.work.now.net.now.outputs c.args.firsts.now) c.in-Batch.is c.requires.firsts
+pub write_outcome-requires-clause-columns : goal.write_outcome-requires-clause-columns
+write_outcome-requires-clause-columns g c =
+    subst (λ (job : Job). HoldBoth c.args.work.now.net.now (kept_at job) c.args.planes.now.lanes c.args.columns.now) c.in-Batch.is c.requires.columns
 
-pub write_values-requires-clause-firsts : goal.write_values-requires-clause-firsts
-write_values-requires-clause-firsts g c =
-    subst (λ (job : Job). AreColumns c.args.work.now.net.now (kept_at job) c.args.planes.now.lanes c.args.work.now.net.now.outputs c.args.firsts.now) c.in-Reset.is c.requires.firsts
+pub write_values-requires-clause-columns : goal.write_values-requires-clause-columns
+write_values-requires-clause-columns g c =
+    subst (λ (job : Job). HoldBoth c.args.work.now.net.now (kept_at job) c.args.planes.now.lanes c.args.columns.now) c.in-Reset.is c.requires.columns
 
 pub returns-in-Batch-clause-gave : goal.returns-in-Batch-clause-gave
 returns-in-Batch-clause-gave g c =

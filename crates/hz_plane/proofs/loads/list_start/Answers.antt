@@ -1,7 +1,14 @@
-use Rattle.std.proofs.Common.{◌++◌, ◌∙◌, List, Bool, Option, Some, None, length, map, drop, ap}
+use Rattle.std.proofs.Common.{◌++◌, ◌∙◌, List, Bool, Option, Some, None, length, map, drop, get_or, ap, arith}
+use Rattle.std.proofs.lemmas.List.{get_or-replicate}
 use Rattle.hz_plane.specs.Loads.{held_at}
 use Rattle.hz_plane.proofs.LoadLemmas.{drop-replicate}
 use Rattle.hz_plane.proofs.loads.list_start.Goals as goal
+
+pub list_inputs-requires-clause-none : goal.list_inputs-requires-clause-none
+list_inputs-requires-clause-none c node inside =
+    let nothing : Option Bool = None in
+    ap (λ (list : List (Option Bool)). get_or list node nothing) c.unlist.ensures.here
+    ∙ get_or-replicate (length c.args.listings.now) node nothing nothing (omega (arith, inside, c.requires.first))
 
 pub returns-clause-here : goal.returns-clause-here
 returns-clause-here c =

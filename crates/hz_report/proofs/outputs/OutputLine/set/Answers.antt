@@ -1,42 +1,63 @@
 -- Two letters change.
-use Rattle.std.proofs.Common.{◌≡◌, ◌<◌, ◌+◌, ◌∙◌, length, sym, arith, rules, get_or}
+use Rattle.std.proofs.Common.{◌≡◌, ◌∙◌, List, length, set, ap, sym, arith, rules}
 use Rattle.std.specs.Vec.{vec_len}
 use Rattle.std.proofs.lemmas.List.{length-set}
-use Rattle.hz_report.proofs.OutputLemmas.{has-place, has-letters, line-set}
+use Rattle.hz_core.specs.declared.tri.Tri.{Tri}
+use Rattle.hz_report.specs.Outputs.{LineOf, output_words}
+use Rattle.hz_report.specs.LineInside.{values_at}
+use Rattle.hz_report.proofs.OutputLemmas.{has-place, has-letters, line-set, said-by-line, count-values}
 use Rattle.hz_report.proofs.outputs.OutputLine.set.Goals as goal
 
 pub index-place-requires : goal.index-place-requires
 index-place-requires c =
     let inside = rw (← c.self.view_is) at c.requires in
     let long : vec_len c.self.inside.places ≡ length c.self.inside.places.items = search rules in
-    rw long (has-place c.self.inside.circuit.now c.self.inside.values.items c.self.inside.places.items c.args.output c.self.invariant.count inside c.self.invariant.places)
+    rw long (has-place c.self.inside.circuit.now (values_at c.self.inside.text.items c.self.inside.places.items) c.self.inside.places.items c.args.output (count-values c.self.inside.circuit.now c.self.inside.text.items c.self.inside.places.items c.self.invariant.places) inside c.self.invariant.places)
 
 pub index_mut-requires : goal.index_mut-requires
 index_mut-requires c =
     let inside = rw (← c.self.view_is) at c.requires in
     let long : vec_len c.self.inside.text ≡ length c.self.inside.text.items = search rules in
-    let letters = has-letters c.self.inside.circuit.now c.self.inside.values.items c.self.inside.text.items c.self.inside.places.items c.args.output c.index-place.result.now _ c.self.invariant.count inside c.self.invariant.text c.self.invariant.places c.index-place.ensures in
+    let letters = has-letters c.self.inside.circuit.now (values_at c.self.inside.text.items c.self.inside.places.items) c.self.inside.text.items c.self.inside.places.items c.args.output c.index-place.result.now _ (count-values c.self.inside.circuit.now c.self.inside.text.items c.self.inside.places.items c.self.invariant.places) inside c.self.invariant.text c.self.invariant.places c.index-place.ensures in
     omega (arith, letters, long)
 
 pub overflow_add-place : goal.overflow_add-place
 overflow_add-place c =
     let inside = rw (← c.self.view_is) at c.requires in
-    let letters = has-letters c.self.inside.circuit.now c.self.inside.values.items c.self.inside.text.items c.self.inside.places.items c.args.output c.index-place.result.now _ c.self.invariant.count inside c.self.invariant.text c.self.invariant.places c.index-place.ensures in
+    let letters = has-letters c.self.inside.circuit.now (values_at c.self.inside.text.items c.self.inside.places.items) c.self.inside.text.items c.self.inside.places.items c.args.output c.index-place.result.now _ (count-values c.self.inside.circuit.now c.self.inside.text.items c.self.inside.places.items c.self.invariant.places) inside c.self.invariant.text c.self.invariant.places c.index-place.ensures in
     omega (arith, letters, c.self.inside.text.small)
 
 pub index_mut-requires-2 : goal.index_mut-requires-2
 index_mut-requires-2 c =
     let inside = rw (← c.self.view_is) at c.requires in
     let long : vec_len c.self.inside.text ≡ length c.self.inside.text.items = search rules in
-    let letters = has-letters c.self.inside.circuit.now c.self.inside.values.items c.self.inside.text.items c.self.inside.places.items c.args.output c.index-place.result.now _ c.self.invariant.count inside c.self.invariant.text c.self.invariant.places c.index-place.ensures in
+    let letters = has-letters c.self.inside.circuit.now (values_at c.self.inside.text.items c.self.inside.places.items) c.self.inside.text.items c.self.inside.places.items c.args.output c.index-place.result.now _ (count-values c.self.inside.circuit.now c.self.inside.text.items c.self.inside.places.items c.self.invariant.places) inside c.self.invariant.text c.self.invariant.places c.index-place.ensures in
     omega (arith, letters, long)
 
 pub invariant_of-self : goal.invariant_of-self
 invariant_of-self c =
+    let netlist = c.self.inside.circuit.now in
+    let text = c.self.inside.text.items in
+    let places = c.self.inside.places.items in
     let inside = rw (← c.self.view_is) at c.requires in
+    let count = count-values netlist text places c.self.invariant.places in
+    let now = line-set netlist (values_at text places) text places c.args.output c.index-place.result.now _ (c.args.first, c.args.second) c.letter.result c.letter-2.result count inside c.self.invariant.text c.self.invariant.places c.index-place.ensures c.letter.ensures c.letter-2.ensures in
+    let values = set (values_at text places) c.args.output (c.args.first, c.args.second) in
     record {
       circuit = c.self.invariant.circuit;
-      count = length-set c.self.inside.values.items c.args.output (c.args.first, c.args.second) ∙ c.self.invariant.count;
-      text = line-set c.self.inside.circuit.now c.self.inside.values.items c.self.inside.text.items c.self.inside.places.items c.args.output c.index-place.result.now _ (c.args.first, c.args.second) c.letter.result c.letter-2.result c.self.invariant.count inside c.self.invariant.text c.self.invariant.places c.index-place.ensures c.letter.ensures c.letter-2.ensures;
+      text = now ∙ ap (output_words netlist netlist.outputs) (sym (said-by-line netlist values _ places (length-set (values_at text places) c.args.output (c.args.first, c.args.second) ∙ count) now c.self.invariant.places));
       places = c.self.invariant.places;
     }
+
+pub returns : goal.returns
+returns c =
+    let netlist = c.self.inside.circuit.now in
+    let text = c.self.inside.text.items in
+    let places = c.self.inside.places.items in
+    let inside = rw (← c.self.view_is) at c.requires in
+    let count = count-values netlist text places c.self.invariant.places in
+    let now = line-set netlist (values_at text places) text places c.args.output c.index-place.result.now _ (c.args.first, c.args.second) c.letter.result c.letter-2.result count inside c.self.invariant.text c.self.invariant.places c.index-place.ensures c.letter.ensures c.letter-2.ensures in
+    let pair : Tri × Tri = (c.args.first, c.args.second) in
+    let values = set (values_at text places) c.args.output pair in
+    ap (λ (list : List (Tri × Tri)). record { netlist = netlist; values = list }) (said-by-line netlist values _ places (length-set (values_at text places) c.args.output pair ∙ count) now c.self.invariant.places)
+    ∙ ap (λ (line : LineOf). record line { values = set line.values c.args.output pair }) c.self.view_is

@@ -1,5 +1,5 @@
 use Rattle.hz_batch.proofs.ColumnLemmas.{AreColumnsBelow}
-use Rattle.hz_batch.proofs.firsts.keep_values.Given as goal
+use Rattle.hz_batch.proofs.columns.keep_values.Given as goal
 
 -- the columns of the outputs so far
 abbrev pub invariant-loop-place : goal.invariant-loop-place
