@@ -18,6 +18,9 @@ STAND_INS = {
     "gtkwave": '#!/bin/sh\ntest -s "$1"\n',
     # the first task of an array job: sbatch --array=0-99 --wrap COMMAND
     "sbatch": '#!/bin/sh\nSLURM_ARRAY_TASK_ID=0 exec sh -c "$3"\n',
+}
+# what stands in for a tool that is not installed
+SPARE = {
     # one call after the other: parallel COMMAND ::: FILE..
     "parallel": '#!/bin/bash\nfor file in "${@:3}"; do name=${file##*/}; line=${1//"{/}"/$name}; sh -c "${line//"{}"/$file}" || exit; done\n',
 }
@@ -54,7 +57,8 @@ def tools(program, companion, folder):
     os.mkdir(room)
     for name, path in {"hazard": program, "hazard-look": companion}.items():
         os.symlink(path, os.path.join(room, name))
-    for name, text in STAND_INS.items():
+    spare = {name: text for name, text in SPARE.items() if not shutil.which(name)}
+    for name, text in {**STAND_INS, **spare}.items():
         write(room, name, text)
         os.chmod(os.path.join(room, name), 0o755)
     for name, others in NAMES.items():
