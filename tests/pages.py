@@ -28,6 +28,10 @@ MULTIPLEXER = "module top(input s, x, y, output z);\n  assign z = (s & x) | (~s 
 MAPPED = "module top(input s, x, y, output z);\n  MUX2 cell1(.S(s), .A(y), .B(x), .Z(z));\nendmodule\n"
 CELLS = "module MUX2(input S, A, B, output Z);\n  assign Z = (~S & A) | (S & B);\nendmodule\n"
 SCRIPT = "start s=1 x=1 y=1\nchange s=0\n"
+# a flip-flop with set and reset
+SET_RESET = "module top(input ck, s, r, d, output reg q);\n  always @(posedge ck or posedge s or posedge r) if (r) q <= 0; else if (s) q <= 1; else q <= d;\nendmodule\n"
+# what USING says of gates with a cover that Yosys wrote and ABC reads, and writes as .bench
+PASSES = {"strash": "steady", "strash; fraig": "static", "collapse; strash": "static"}
 # the files that the reader of the page has
 FILES = {"controller.v": MULTIPLEXER, "top.v": MULTIPLEXER, "mapped.v": MAPPED, "cells.v": CELLS, "script.txt": SCRIPT}
 # what a block leaves: a file, and how it begins or what it has
@@ -119,6 +123,30 @@ def shell_blocks(program, companion, folder):
             yield f"README.md: {line}", os.access(os.path.join(ROOT, word), os.X_OK), True
 
 
+def synthesis_rows(program, companion, folder):
+    """What USING says of a hazard cover that Yosys and ABC read and wrote, and of a flip-flop with set and reset."""
+    env = tools(program, companion, folder)
+    absent = missing("yosys\nabc\n", env)
+    if absent:
+        print(f"pages: {', '.join(absent)} is not installed, so the rows of {USING} are skipped")
+        return
+    page = read(ROOT, USING)
+    for name, text in (("top.v", MULTIPLEXER), ("set.v", SET_RESET), ("cover.blif", re.search(r"^```cover\.blif\n(.*?)^```$", page, re.S | re.M)[1]), ("n.txt", SCRIPT)):
+        write(folder, name, text)
+    table = page[page.index("| Commands | `z` |"):].split("\n\n")[0].splitlines()[2:]
+    rows = [re.match(r"\| (ABC: )?`([^`]*)`.* \| `(\w+)`", line).groups() for line in table]
+    calls = [(f'abc -c "{words}"' if is_abc else f'yosys -q -p "read_verilog top.v; {words}; write_blif again.blif"', "again.blif", kind) for is_abc, words, kind in rows]
+    gates = 'yosys -q -p "read_verilog top.v; synth -flatten -noabc; opt_clean; write_blif gates.blif"'
+    calls += [(f'{gates}\nabc -c "read_blif gates.blif; {words}; short_names -k; write_bench -l again.bench"', "again.bench", kind) for words, kind in PASSES.items()]
+    yield "rows of commands", len(calls) > len(PASSES), True
+    for text, netlist, kind in calls:
+        status = shell(f"{text}\nhazard analyse {netlist} n.txt > n.report", folder, env)
+        yield f"{USING}: {text}", (status, re.findall(r"^z start .* (\S+)$", read(folder, "n.report"), re.M)), (0, [kind])
+    for words, status in (("", 3), ("; async2sync", 0)):
+        text = f'yosys -q -p "read_verilog set.v; synth -flatten -top top{words}; write_json set.json"\nhazard-look from-yosys set.json'
+        yield f"{USING}: {text}", shell(text, folder, env), status
+
+
 def manual_examples(program, companion, folder):
     """The examples of the manual page; and its line that saves runs, on each change of a script of which some are stopped."""
     env = tools(program, companion, folder)
@@ -141,4 +169,4 @@ def manual_examples(program, companion, folder):
             yield f"{MANUAL}: runs of change {change}, replayed", shell("hazard replay latch.bench latch.runs", folder, env), 0
 
 
-PARTS = (shell_blocks, manual_examples)
+PARTS = (shell_blocks, synthesis_rows, manual_examples)
