@@ -147,6 +147,26 @@ def synthesis_rows(program, companion, folder):
         yield f"{USING}: {text}", shell(text, folder, env), status
 
 
+def refused_lines(program, companion, folder):
+    """The lines that USING shows as refused, each as the only line of a netlist."""
+    env = tools(program, companion, folder)
+    page = read(ROOT, USING)
+    rows = page[page.index("## What is refused in a netlist"):].splitlines()
+    tried = 0
+    for row in rows:
+        cells = [cell.strip() for cell in row.split(" | ")]
+        answer = re.fullmatch(r"`line L: ([^`]*)`", cells[1]) if len(cells) > 2 else None
+        for line in re.findall(r"`([^`]*)`", cells[0]) if answer else ():
+            if ".." in line or not re.match(r"[.A-Za-z].* ", line):
+                continue
+            name = "line.blif" if "BLIF" in cells[0] else "line.bench"
+            write(folder, name, line + "\n")
+            status = shell(f"hazard analyse {name} {name} > line.report", folder, env)
+            yield f"{USING}: {line}", (status, read(folder, "line.report")), (3, f"refused: netlist line 1: {answer[1]}\n")
+            tried += 1
+    yield f"refused lines of {USING}", tried > 8, True
+
+
 def manual_examples(program, companion, folder):
     """The examples of the manual page; and its line that saves runs, on each change of a script of which some are stopped."""
     env = tools(program, companion, folder)
@@ -169,4 +189,4 @@ def manual_examples(program, companion, folder):
             yield f"{MANUAL}: runs of change {change}, replayed", shell("hazard replay latch.bench latch.runs", folder, env), 0
 
 
-PARTS = (shell_blocks, synthesis_rows, manual_examples)
+PARTS = (shell_blocks, synthesis_rows, refused_lines, manual_examples)
