@@ -232,13 +232,7 @@ impl<'a> Pass<'a> {
         marks[place] = false;
         let gate = self.schedule.order.as_slice()[place];
         if self.evaluate(gate, planes) {
-            mark_all(
-                self.schedule.readers.at(gate as usize),
-                place,
-                to,
-                marks,
-                span,
-            )
+            mark_all(self.schedule.readers.at(place), place, to, marks, span)
         } else {
             span
         }
