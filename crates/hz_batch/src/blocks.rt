@@ -15,7 +15,7 @@ ghost use Rattle.hz_batch.specs.Laws.{AreLaws};
 ghost use Rattle.hz_batch.specs.Outcome.{Outcome};
 ghost use Rattle.hz_batch.specs.Written.{AreWritten};
 
-use crate::columns::{Columns, keep_values};
+use crate::columns::{Columns, keep_values, look_up};
 use crate::counts::Counts;
 use crate::job::Job;
 use crate::lanes::{Lane, write_lane};
@@ -121,17 +121,8 @@ fn load(work: &Work<'_>, first: usize, lanes: u32, planes: &mut Planes)
     } }
 {
     let _variables = work.net.len();
-    planes.clear();
-    for lane in 0..lanes {
-        let number = first + lane as usize;
-        planes.load_held(
-            work.net,
-            lane,
-            work.patterns.to(number),
-            work.patterns.from(number),
-            work.held,
-        );
-    }
+    let bits = work.patterns.bits(first, lanes as usize);
+    planes.load_block(work.net, lanes, bits, work.held);
 }
 
 // Makes Algorithm A, and keeps the first values of the outputs: those that it comes to, or where nothing is known of a start
@@ -183,6 +174,7 @@ fn write_lanes<K: Sink>(
         (first + 1) writer.old writer.new room.old.counts room.new.counts }
 {
     for lane in 0..lanes {
+        look_up(work.net, &mut room.columns, lane);
         let at = Lane {
             lane,
             number: first as u32 + lane + 1,

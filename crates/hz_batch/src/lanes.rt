@@ -1,5 +1,5 @@
 //! The line of a lane.
-ghost use Rattle.std.specs.Prelude.{◌≡◌, ◌<◌, List, length, slice_get, Some};
+ghost use Rattle.std.specs.Prelude.{◌≡◌, ◌<◌, ◌*◌, ◌/◌, List, length, slice_get, Some};
 ghost use Rattle.hz_core.specs.declared.tri.Tri.{Tri};
 ghost use Rattle.hz_net.specs.Network.{network_of};
 ghost use Rattle.hz_net.specs.TernaryStarts.{SettlesTo};
@@ -17,6 +17,7 @@ ghost use Rattle.hz_batch.specs.Blocks.{load_of};
 ghost use Rattle.hz_batch.specs.Columns.{HasColumns};
 ghost use Rattle.hz_batch.specs.Comes.{comes_to, held_by, kept_at};
 ghost use Rattle.hz_batch.specs.Counts.{IsMarkOf, settled_mark};
+ghost use Rattle.hz_batch.specs.Fours.{ShowFour};
 ghost use Rattle.hz_batch.specs.Inside.{IsWork};
 ghost use Rattle.hz_batch.specs.Kept.{AreColumnsFor, HoldBoth};
 ghost use Rattle.hz_batch.specs.Laws.{AreLaws};
@@ -51,6 +52,7 @@ pub(crate) fn write_lane<K: Sink>(
     requires lane { at.lane < 512 }
     requires loaded { (loaded : Loaded) × (slice_get planes.now.lanes at.lane ≡ Some (Some loaded)) }
     requires columns { HoldBoth work.now.net.now (kept_at work.now.job) planes.now.lanes columns.now }
+    requires shown { ShowFour (at.lane / 4 * 4) columns.now }
     requires line { IsLineFor work.now.net.now line.old }
     ensures line { IsLineFor work.now.net.now line.new }
     ensures gave { (pattern : PatternOf) → IsPatternOf work.now.net.now.inputs pattern
@@ -83,6 +85,7 @@ fn write_outcome<K: Sink>(
     requires lane { at.lane < 512 }
     requires loaded { (loaded : Loaded) × (slice_get planes.now.lanes at.lane ≡ Some (Some loaded)) }
     requires columns { HoldBoth net.now Spread planes.now.lanes columns.now }
+    requires shown { ShowFour (at.lane / 4 * 4) columns.now }
     requires line { IsLineFor net.now line.old }
     ensures line { IsLineFor net.now line.new }
     ensures gave { (loaded : Loaded) → slice_get planes.now.lanes at.lane ≡ Some (Some loaded)
@@ -121,6 +124,7 @@ fn write_values<K: Sink>(
     requires stage { planes.now.stage ≡ Settled }
     requires lane { at.lane < 512 }
     requires columns { HoldBoth net.now Completed planes.now.lanes columns.now }
+    requires shown { ShowFour (at.lane / 4 * 4) columns.now }
     requires line { IsLineFor net.now line.old }
     ensures line { IsLineFor net.now line.new }
     ensures gave { (loaded : Loaded) (first settled : List Tri) → slice_get planes.now.lanes at.lane ≡ Some (Some loaded)
@@ -163,15 +167,17 @@ fn write_refused<'p, K: Sink>(
 fn set_line(net: &Net, columns: &Columns, lane: u32, line: &mut OutputLine<'_>)
     requires lane { lane < 512 }
     requires columns { AreColumnsFor net.now columns.now }
+    requires shown { ShowFour (lane / 4 * 4) columns.now }
     requires line { IsLineFor net.now line.old }
     ensures line { IsLineFor net.now line.new }
     ensures values { (a b : List Tri) → HasColumns net.now.outputs columns.now.firsts.items lane a
         → HasColumns net.now.outputs columns.now.seconds.items lane b → line.new.values ≡ output_values net.now a b }
 {
-    let firsts = columns.firsts.as_slice();
-    let seconds = columns.seconds.as_slice();
+    let firsts = columns.first_fours.as_slice();
+    let seconds = columns.second_fours.as_slice();
+    let nth = (lane % 4) as usize;
     for place in 0..net.circuit().outputs().len() {
-        line.set(place, firsts[place].get(lane), seconds[place].get(lane));
+        line.set(place, firsts[place][nth], seconds[place][nth]);
     }
 }
 

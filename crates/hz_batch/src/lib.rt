@@ -10,6 +10,7 @@
 //! | `blocks` | a block: its lanes are loaded, all passes are made, and the line of each lane is written |
 //! | `lanes` | the line of a lane |
 //! | `columns` | the first and the second values of the outputs, as they are kept for all lanes |
+//! | `fours` | their values in four lanes, which are looked up together |
 //! | `held` | the gates that are held at the start |
 //! | `counts` | what is counted |
 //! | `fault` | [`BatchFault`]: why the text was not written |
@@ -19,6 +20,7 @@ mod blocks;
 mod columns;
 mod counts;
 mod fault;
+mod fours;
 mod held;
 mod job;
 mod lanes;

@@ -15,7 +15,7 @@ ghost use Rattle.hz_batch.specs.ResetText.{IsResetText};
 ghost use Rattle.hz_batch.specs.Blocks.{without_held};
 
 use crate::blocks::{Room, Work, write_blocks};
-use crate::columns::Columns;
+use crate::columns::columns_for;
 use crate::counts::Counts;
 use crate::fault::BatchFault;
 use crate::held::held_at_start;
@@ -24,7 +24,7 @@ use hz_core::Memory;
 use hz_net::Net;
 use hz_outside::{PutFault, Sink};
 use hz_pass::starts_are_decided;
-use hz_plane::{LaneValues, Planes, listed_inputs_fill};
+use hz_plane::{Planes, listed_inputs_fill};
 use hz_reach::passes_end;
 use hz_report::OutputLine;
 use hz_reset::{held_is_forgotten, values_exist};
@@ -130,15 +130,10 @@ fn room_for<'n>(alloc: Global, net: &'n Net) -> Result<Room<'n>, Memory>
 {
     let circuit = net.circuit();
     let line = OutputLine::new(alloc, circuit)?;
-    let none = LaneValues {
-        zero: [0; 8],
-        one: [0; 8],
-    };
-    let firsts = vec![in alloc; none; circuit.outputs().len()]?;
-    let seconds = vec![in alloc; none; circuit.outputs().len()]?;
+    let columns = columns_for(alloc, circuit)?;
     Ok(Room {
         line,
-        columns: Columns { firsts, seconds },
+        columns,
         counts: Counts::new(),
     })
 }

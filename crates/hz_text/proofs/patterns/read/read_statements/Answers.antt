@@ -7,7 +7,7 @@ use Rattle.hz_text.specs.PatternText.{ArePatternsBy}
 use Rattle.hz_text.proofs.LeastFault.{exact}
 use Rattle.hz_text.proofs.PatternBuildLaws.{clear-from, usable-patterns}
 use Rattle.hz_text.proofs.PatternFaultLaws.{one-mismatch}
-use Rattle.hz_text.proofs.patterns.read.read_patterns.Goals as goal
+use Rattle.hz_text.proofs.patterns.read.read_statements.Goals as goal
 
 pub returns-in_err-entries-clause-exact : goal.returns-in_err-entries-clause-exact
 returns-in_err-entries-clause-exact c =
