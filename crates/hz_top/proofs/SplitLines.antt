@@ -16,8 +16,8 @@ use Rattle.hz_seq.specs.Analyses.{Analysis, Found, Stopped, AreAnalyses, all_sto
 use Rattle.hz_seq.specs.Sequence.{SequenceState, IsFindingOfChange, IsFirstUnknown, IsLeftBy}
 use Rattle.hz_seq.proofs.FirstAnalyses.{AreFirstAnalyses, AreLaterAnalyses, all-analyses}
 use Rattle.hz_seq.proofs.Existence.{settled-or-unknown}
-use Rattle.hz_top.specs.declared.status.Status.{Status}
-use Rattle.hz_top.specs.declared.status.Status.TheVariants as status
+use Rattle.hz_refusal.specs.declared.status.Status.{Status}
+use Rattle.hz_refusal.specs.declared.status.Status.TheVariants as status
 use Rattle.hz_split.specs.Attempts.{outcome_of}
 use Rattle.hz_text.specs.RunPrinted.{states_text, run_text, run_text_printed}
 use Rattle.hz_text.specs.RunValue.{RunOf}

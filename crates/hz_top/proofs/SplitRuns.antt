@@ -11,10 +11,10 @@ use Rattle.hz_desk.specs.Finding.{FindingOf}
 use Rattle.hz_split.specs.Splits.{IsSettledRun, AreSettledRuns}
 use Rattle.hz_split.proofs.OutcomeRuns.{stable-cycle}
 use Rattle.hz_text.specs.RunReadBack.{PrintedRunsAreRead}
-use Rattle.hz_top.specs.Replaying.{IsAcceptedRun, start_of}
+use Rattle.hz_replay.specs.Replaying.{IsAcceptedRun, start_of}
 use Rattle.hz_top.specs.Splits.{closed, found_in, runs_of_split, IsSplitOf}
-use Rattle.hz_top.proofs.ReadBack.{accepted-replays, stable-expansion_of}
-use Rattle.hz_top.proofs.Writable.{run-inside}
+use Rattle.hz_replay.proofs.ReadBack.{accepted-replays, stable-expansion_of}
+use Rattle.hz_replay.proofs.ReadBack.{run-inside}
 
 all-accepted : (net : List Driver) (input start : List Bool) (runs : List (List (List ℕ))) → All (IsSettledRun net input start) runs → All (IsAcceptedRun net input start) (map closed runs)
 all-accepted net input start [] all = All-nil (IsAcceptedRun net input start)

@@ -1,30 +1,18 @@
 -- What a report may write: a finding that fits its network, and a variable that is there.
-use Rattle.std.proofs.Common.{◌≡◌, ◌∙◌, ℕ, ◌<◌, Bool, true, List, [], ◌∷◌, length, All, Option, IfSome, sym, ap, subst, arith, inl, inr, eqb}
-use Rattle.std.proofs.lemmas.Bool.{cases_lt, or_right}
+use Rattle.std.proofs.Common.{◌≡◌, ◌∙◌, ℕ, ◌<◌, Bool, List, length, All, Option, IfSome, sym, ap, subst, arith, inl, inr}
+use Rattle.std.proofs.lemmas.Bool.{cases_lt}
 use Rattle.std.proofs.lemmas.List.{length-map, get_or_past}
-use Rattle.std.proofs.lemmas.List.Elements.{All-nil, All-cons}
 use Rattle.hz_core.specs.declared.tri.Tri.{Tri}
 use Rattle.hz_core.specs.declared.tri.Tri.TheVariants.{Zero, Unknown}
 use Rattle.hz_core.specs.Netlist.{Netlist, IsCircuit}
-use Rattle.hz_net.specs.Network.{Driver, network_of}
+use Rattle.hz_net.specs.Network.{network_of}
 use Rattle.hz_net.specs.Starts.{IsStableStart}
-use Rattle.hz_gmw.specs.Runs.{is_listed, state_after, IsRun, end_of}
-use Rattle.hz_free.proofs.Lists.{listed-head}
+use Rattle.hz_gmw.specs.Runs.{end_of}
 use Rattle.hz_desk.specs.declared.finding.Row.{Row}
 use Rattle.hz_desk.specs.Finding.{FindingOf, values_b}
 use Rattle.hz_seq.specs.Sequence.{SequenceState, IsFindingOfChange, IsFirstUnknown, IsLeftBy}
 use Rattle.hz_seq.proofs.FirstAnalyses.{input-long}
-
--- the steps of a run change variables that are there
-listed-all : (P : ℕ → Type 0) (list : List ℕ) → ((i : ℕ) → is_listed list i ≡ true → P i) → All P list
-listed-all P [] each = All-nil P
-listed-all P (x ∷ list) each = All-cons P x list (each x (listed-head x list)) (listed-all P list (λ i there. each i (or_right (eqb i x) (is_listed list i) there)))
-
-pub run-inside : (net : List Driver) (input state : List Bool) (steps : List (List ℕ)) → IsRun net input state steps → All (All (λ (var : ℕ). var < length net)) steps
-run-inside net input state [] run = All-nil (All (λ (var : ℕ). var < length net))
-run-inside net input state (flips ∷ steps) run =
-    All-cons (All (λ (var : ℕ). var < length net)) flips steps (listed-all (λ (var : ℕ). var < length net) flips run.0.inside)
-    (run-inside net input (state_after flips state) steps run.1)
+use Rattle.hz_replay.proofs.ReadBack.{run-inside}
 
 -- inputs are nodes
 pub below-names : (netlist : Netlist) (change : List (ℕ × Bool)) → IsCircuit netlist → All (λ pair. pair.0 < netlist.inputs) change → All (λ pair. pair.0 < length netlist.names) change

@@ -5,17 +5,17 @@ use Rattle.hz_outside.specs.declared.fault.Place.{Place}
 use Rattle.hz_outside.specs.declared.fault.Place.TheVariants.{First, Second}
 use Rattle.hz_core.specs.Netlist.{Netlist}
 use Rattle.hz_net.specs.Starts.{IsAcceptedStart}
-use Rattle.hz_top.specs.declared.status.Status.{Status}
-use Rattle.hz_top.specs.declared.status.Status.TheVariants as status
-use Rattle.hz_top.specs.Answer.{Prints}
-use Rattle.hz_top.specs.Netlists.{NetlistRefused, IsNetlistText}
+use Rattle.hz_refusal.specs.declared.status.Status.{Status}
+use Rattle.hz_refusal.specs.declared.status.Status.TheVariants as status
+use Rattle.hz_refusal.specs.Answer.{Prints}
+use Rattle.hz_refusal.specs.Netlists.{NetlistRefused, IsNetlistText}
 use Rattle.hz_top.specs.Tasks.{comes_of}
 use Rattle.hz_seq.specs.Analyses.{Found, AreAnalyses}
 use Rattle.hz_desk.specs.Finding.{FindingOf}
 use Rattle.hz_gen.specs.Demo.{demo_netlist, demo_script}
 use Rattle.hz_report.specs.Report.{summary_text}
 use Rattle.hz_words.specs.Job.{JobOf, OnFiles, Demo}
-use Rattle.hz_top.specs.Refusal.{words_line, unread_line, long_line}
+use Rattle.hz_refusal.specs.Refusal.{words_line, unread_line, long_line}
 use Rattle.hz_line.specs.Line.{most_text_bytes}
 
 -- the text is the summary of the one change of a script from a start

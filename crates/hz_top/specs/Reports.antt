@@ -8,9 +8,9 @@ use Rattle.hz_seq.specs.Analyses.{Analysis, Found, Stopped, AreAnalyses}
 use Rattle.hz_options.specs.declared.options.Options.{Options}
 use Rattle.hz_options.specs.declared.show.Show.{Show}
 use Rattle.hz_report.specs.Report.{head_text, change_text, stopped_text, runs_of_finding}
-use Rattle.hz_top.specs.declared.status.Status.{Status}
-use Rattle.hz_top.specs.declared.status.Status.TheVariants as status
-use Rattle.hz_top.specs.RunTexts.{ReplaysAs}
+use Rattle.hz_refusal.specs.declared.status.Status.{Status}
+use Rattle.hz_refusal.specs.declared.status.Status.TheVariants as status
+use Rattle.hz_replay.specs.RunTexts.{ReplaysAs}
 
 -- the lines of what one change comes to
 abbrev pub analysis_text : Netlist → Show → ℕ → List (ℕ × Bool) → Analysis → List ℕ

@@ -15,9 +15,9 @@ use Rattle.hz_text.specs.Limits.{most_steps}
 use Rattle.hz_text.specs.RunPrinted.{run_text_printed}
 use Rattle.hz_text.specs.RunValue.{RunOf, RunTextOf, all_steps}
 use Rattle.hz_write.specs.Writes.{line_of}
-use Rattle.hz_top.specs.declared.status.Status.{Status}
-use Rattle.hz_top.specs.declared.status.Status.TheVariants as status
-use Rattle.hz_top.specs.RunTexts.{ReplaysAs}
+use Rattle.hz_refusal.specs.declared.status.Status.{Status}
+use Rattle.hz_refusal.specs.declared.status.Status.TheVariants as status
+use Rattle.hz_replay.specs.RunTexts.{ReplaysAs}
 
 -- whether a change leaves a variable unsettled
 abbrev pub is_unsettled : FindingOf → Bool

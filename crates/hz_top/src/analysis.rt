@@ -1,14 +1,12 @@
 //! The job `analyse`: the start of a script, and the report of its changes.
 ghost use Rattle.hz_options.specs.Numbers.{IsCap};
 
-use crate::refusal::refuse_start;
 use crate::reporting::report;
-use crate::second::OnScript;
-use crate::status::Status;
 use hz_net::Net;
 use hz_options::Options;
 use hz_outside::Sink;
 use hz_pass::complete;
+use hz_refusal::{OnScript, Status, refuse_start};
 use hz_text::Script;
 use std::alloc::Global;
 
@@ -21,7 +19,7 @@ pub(crate) struct Analyses {
 
 impl OnScript for Analyses {
     ghost use Rattle.hz_top.specs.Reports.{Reports};
-    ghost use Rattle.hz_top.specs.Second.{Started};
+    ghost use Rattle.hz_refusal.specs.Second.{Started};
 
     ghost judges = { λ job. Started (Reports job.options) };
 

@@ -7,16 +7,15 @@ ghost use Rattle.hz_desk.specs.Finding.{finding_of};
 ghost use Rattle.hz_report.specs.Report.{summary_text};
 ghost use Rattle.hz_text.specs.ScriptText.{IsScriptFor};
 ghost use Rattle.hz_write.specs.Writes.{Wrote};
-ghost use Rattle.hz_top.specs.Ends.{Ends};
+ghost use Rattle.hz_refusal.specs.Ends.{Ends};
 ghost use Rattle.hz_top.specs.Outcome.{IsDemoOutcome, IsSummaryOutcome};
 
-use crate::refusal::refuse_start;
-use crate::status::{Status, status_after};
 use hz_desk::{Desk, Finding};
 use hz_gen::{GenFault, demo_starts, make};
 use hz_net::Net;
 use hz_outside::{PutFault, Sink};
 use hz_pass::complete;
+use hz_refusal::{Status, refuse_start, status_after};
 use hz_report::write_summary;
 use hz_seq::Sequence;
 use hz_text::Script;

@@ -8,15 +8,15 @@ ghost use Rattle.hz_write.specs.Writer.{Writes, NoneWaits};
 ghost use Rattle.hz_write.specs.Writes.{Wrote};
 ghost use Rattle.hz_seq.specs.Analyses.{Analysis, AreAnalyses, GoesOn};
 ghost use Rattle.hz_options.specs.Numbers.{IsCap};
-ghost use Rattle.hz_top.specs.Ends.{Ends};
+ghost use Rattle.hz_refusal.specs.Ends.{Ends};
 ghost use Rattle.hz_top.specs.Reports.{analysis_text, analyses_text, IsReport, Reports};
 
-use crate::status::{Status, status_after};
 use hz_desk::{Desk, findings_exist};
 use hz_net::Net;
 use hz_options::Options;
 use hz_outside::{PutFault, Sink};
 use hz_reach::run_counts;
+use hz_refusal::{Status, status_after};
 use hz_report::{write_change, write_head, write_stopped};
 use hz_seq::Sequence;
 use hz_text::{Script, printed_runs_are_read};

@@ -13,18 +13,16 @@ ghost use Rattle.hz_write.specs.Writes.{Wrote};
 ghost use Rattle.hz_desk.specs.Finding.{finding_of};
 ghost use Rattle.hz_desk.specs.RightFinding.{IsRightFinding};
 ghost use Rattle.hz_split.specs.Attempts.{outcome_of};
-ghost use Rattle.hz_top.specs.Ends.{Ends};
+ghost use Rattle.hz_refusal.specs.Ends.{Ends};
 ghost use Rattle.hz_top.specs.Splits.{SplitsChanges, SplitsChange, is_unsettled, outcome_word, change_line, split_text, closed};
 
-use crate::refusal::refuse_start;
-use crate::second::OnScript;
-use crate::status::{Status, status_after};
 use hz_desk::{Desk, Finding};
 use hz_gmw::Run;
 use hz_net::Net;
 use hz_options::Options;
 use hz_outside::{PutFault, Sink};
 use hz_pass::complete;
+use hz_refusal::{OnScript, Status, refuse_start, status_after};
 use hz_seq::Sequence;
 use hz_split::{Outcome, Split};
 use hz_text::{Script, printed_runs_are_read, write_end, write_run, write_states};
@@ -40,7 +38,7 @@ pub(crate) struct Splits {
 }
 
 impl OnScript for Splits {
-    ghost use Rattle.hz_top.specs.Second.{Started};
+    ghost use Rattle.hz_refusal.specs.Second.{Started};
 
     ghost judges = { λ job. Started (SplitsChanges job.options.cap) };
 

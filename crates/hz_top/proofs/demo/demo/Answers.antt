@@ -5,10 +5,10 @@ use Rattle.hz_text.specs.ScriptValue.{ScriptOf}
 use Rattle.hz_text.specs.ScriptText.{IsScriptFor}
 use Rattle.hz_gen.specs.Demo.{demo_netlist, demo_script}
 use Rattle.hz_pass.specs.Completed.{IsStartFault}
-use Rattle.hz_top.specs.Ends.{Ends}
+use Rattle.hz_refusal.specs.Ends.{Ends}
 use Rattle.hz_top.specs.Outcome.{IsDemoOutcome}
-use Rattle.hz_top.specs.Inside.{StartPrints}
-use Rattle.hz_top.proofs.PutEndings.{Ends-more}
+use Rattle.hz_refusal.specs.Refused.{StartPrints}
+use Rattle.hz_refusal.proofs.PutEndings.{Ends-more}
 use Rattle.hz_top.proofs.JobOutcomes.{ListsInputs-front, start-not-refused}
 use Rattle.hz_top.proofs.demo.demo.Goals as goal
 

@@ -7,9 +7,9 @@ use Rattle.hz_desk.specs.Finding.{finding_of}
 use Rattle.hz_seq.specs.Sequence.{SequenceState}
 use Rattle.hz_seq.specs.Analyses.{Found, AreAnalyses}
 use Rattle.hz_report.specs.Report.{summary_text}
-use Rattle.hz_top.specs.declared.status.Status.TheVariants as status
+use Rattle.hz_refusal.specs.declared.status.Status.TheVariants as status
 use Rattle.hz_top.specs.Outcome.{IsSummaryOutcome}
-use Rattle.hz_top.proofs.PutEndings.{Ends-put}
+use Rattle.hz_refusal.proofs.PutEndings.{Ends-put}
 use Rattle.hz_top.proofs.OneChangeScripts.{one-change, only-change}
 use Rattle.hz_top.proofs.demo.summarise.Goals as goal
 

@@ -1,7 +1,7 @@
 use Rattle.std.proofs.Common.{refl}
-use Rattle.hz_top.specs.declared.status.Status.TheVariants as status
+use Rattle.hz_refusal.specs.declared.status.Status.TheVariants as status
 use Rattle.hz_top.specs.Reports.{Reports}
-use Rattle.hz_top.proofs.PutEndings.{Ends-put}
+use Rattle.hz_refusal.proofs.PutEndings.{Ends-put}
 use Rattle.hz_top.proofs.reporting.report.Goals as goal
 
 pub returns : goal.returns

@@ -8,7 +8,7 @@ use Rattle.hz_desk.specs.Desk.{DeskOf}
 use Rattle.hz_seq.specs.Analyses.{AreAnalyses}
 use Rattle.hz_report.specs.Report.{head_text}
 use Rattle.hz_top.specs.Reports.{analyses_text}
-use Rattle.hz_top.proofs.ReadBack.{analyses-replay}
+use Rattle.hz_top.proofs.FindingsReplay.{analyses-replay}
 use Rattle.hz_top.proofs.reporting.write_report.Goals as goal
 
 pub returns : goal.returns

@@ -5,8 +5,8 @@ use Rattle.hz_desk.specs.declared.finding.Row.{Row}
 use Rattle.hz_desk.specs.Finding.{finding_of, values_b}
 use Rattle.hz_split.specs.Splits.{SplitOf, AreSettledRuns}
 use Rattle.hz_top.specs.Splits.{SplitsChange, split_text, found_in}
-use Rattle.hz_top.specs.declared.status.Status.TheVariants as status
-use Rattle.hz_top.proofs.PutEndings.{Ends-put}
+use Rattle.hz_refusal.specs.declared.status.Status.TheVariants as status
+use Rattle.hz_refusal.proofs.PutEndings.{Ends-put}
 use Rattle.hz_top.proofs.SplitLines.{contains-unknown}
 use Rattle.hz_top.proofs.SplitRuns.{is-split, settled-inside}
 use Rattle.hz_top.proofs.splitting.split_change.Goals as goal

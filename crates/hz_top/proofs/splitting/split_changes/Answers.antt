@@ -9,9 +9,9 @@ use Rattle.hz_desk.specs.Finding.{finding_of}
 use Rattle.hz_seq.specs.Sequence.{IsLeftBy}
 use Rattle.hz_seq.specs.Analyses.{Analysis, Found}
 use Rattle.hz_seq.proofs.FirstAnalyses.{AreFirstAnalyses, no-changes}
-use Rattle.hz_top.specs.declared.status.Status.TheVariants as status
+use Rattle.hz_refusal.specs.declared.status.Status.TheVariants as status
 use Rattle.hz_top.specs.Splits.{is_unsettled, SplitsChange, SplitsChanges}
-use Rattle.hz_top.proofs.PutEndings.{Ends-put, Ends-more}
+use Rattle.hz_refusal.proofs.PutEndings.{Ends-put, Ends-more}
 use Rattle.hz_top.proofs.SequenceSteps.{goes-on}
 use Rattle.hz_top.proofs.Writable.{fits}
 use Rattle.hz_top.proofs.SplitLines.{AreQuiet, ends-unsettled, ends-settled, quiet-more, goes-on-settled}

@@ -1,10 +1,11 @@
 use Rattle.std.proofs.Common.{inl, inr, arith, List, Option, Bool, subst}
 use Rattle.hz_pass.specs.Completed.{IsStartFault}
 use Rattle.hz_top.specs.Splits.{SplitsChanges}
-use Rattle.hz_top.specs.Second.{Started}
-use Rattle.hz_top.specs.Inside.{StartPrints}
-use Rattle.hz_top.proofs.PutEndings.{Ends-more}
-use Rattle.hz_top.proofs.JobOutcomes.{ListsInputs-front, start-accepted, start-refused}
+use Rattle.hz_refusal.specs.Second.{Started}
+use Rattle.hz_refusal.specs.Refused.{StartPrints}
+use Rattle.hz_refusal.proofs.PutEndings.{Ends-more}
+use Rattle.hz_top.proofs.JobOutcomes.{ListsInputs-front, start-accepted}
+use Rattle.hz_refusal.proofs.RefusedTexts.{start-refused}
 use Rattle.hz_top.proofs.splitting.SplitsOnScript.with_script.Goals as goal
 
 pub complete-requires-clause-inputs : goal.complete-requires-clause-inputs
