@@ -34,7 +34,7 @@ use Rattle.hz_refusal.specs.Answer.{Answers, WroteWhole}
 use Rattle.hz_top.specs.Headline.{TakesBoth, IsExact, StartsAt, IsExactChange, IsStoppedBy, IsExactReport, Headline}
 use Rattle.hz_refusal.specs.Netlists.{IsNetlistText, TextsAreCircuits}
 use Rattle.hz_top.specs.Outcome.{Observation, IsFilesOutcome, IsJobOutcome}
-use Rattle.hz_top.specs.Reports.{AnalysisReplays, IsReport, Reports}
+use Rattle.hz_changes.specs.Reports.{AnalysisReplays, IsReport, Reports}
 use Rattle.hz_refusal.specs.Second.{OfScript, Started}
 use Rattle.hz_top.specs.Tasks.{comes_of}
 use Rattle.hz_top.proofs.FaultlessEndings.{told-bytes, not-too-long, files-end, ends-or-memory}

@@ -28,7 +28,7 @@ use Rattle.hz_line.specs.Line.{most_text_bytes}
 use Rattle.hz_top.specs.Faultless.{AreGoodFiles}
 use Rattle.hz_refusal.specs.Netlists.{IsNetlistText, KeepsItsCovers}
 use Rattle.hz_top.specs.Outcome.{Observation}
-use Rattle.hz_top.specs.Reports.{AnalysisReplays, analyses_text}
+use Rattle.hz_changes.specs.Reports.{AnalysisReplays, analyses_text}
 
 -- variable i takes both values in states
 abbrev pub TakesBoth : List (List Bool) → ℕ → Type 0

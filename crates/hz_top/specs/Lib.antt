@@ -5,9 +5,6 @@
 -- LeavesFiles told job: what a call leaves of the counts, however it ends
 -- IsFilesOutcome, IsFirstTextOutcome, IsSecondFileOutcome: the outcomes of its two files, one after the other
 -- comes_of options task netlist text status line: the outcomes of the second text, by the task
--- IsReport options netlist start changes text: the report of its changes: every finding in it is right
--- analysis_text netlist show number change analysis: the lines of one change
--- IsDemoOutcome number cap status text: the outcomes of a demo
 -- IsBatchOutcome netlist patterns status text: the text of patterns
 -- IsResetOutcome netlist patterns status text: the text of what they bring about, and that each value is right
 -- good_of task netlist text status: nothing is to be refused of the second text, and the task ends with this status
@@ -19,8 +16,6 @@
 
 pub mod Batches
 pub mod Resets
-pub mod Reports
-pub mod Splits
 pub mod Tasks
 pub mod Outcome
 pub mod LeftFiles

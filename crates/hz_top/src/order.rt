@@ -9,10 +9,9 @@ ghost use Rattle.hz_line.specs.Line.{most_text_bytes};
 ghost use Rattle.hz_top.specs.Outcome.{observation_of, IsFilesOutcome, IsSecondFileOutcome};
 ghost use Rattle.hz_top.specs.Tasks.{comes_of};
 
-use crate::analysis::Analyses;
 use crate::batching::Batches;
 use crate::resetting::Resets;
-use crate::splitting::Splits;
+use hz_changes::{Analyses, Splits};
 use hz_line::MAX_TEXT;
 use hz_net::Net;
 use hz_options::Options;

@@ -10,8 +10,8 @@ ghost use Rattle.hz_top.specs.Headline.{Headline};
 ghost use Rattle.hz_top.specs.LeftFiles.{LeavesFiles};
 ghost use Rattle.hz_top.specs.Outcome.{observation_of, IsJobOutcome, MayLoad};
 
-use crate::demo::demo;
 use crate::order::work_on_files;
+use hz_changes::demo;
 use hz_outside::{Files, Sink};
 use hz_refusal::{Status, put_words, status_after, texts_are_circuits};
 use hz_words::{Job, WordsFault};

@@ -4,7 +4,8 @@ use Rattle.hz_words.specs.Job.{job_model}
 use Rattle.hz_words.specs.declared.job.Job.{Job}
 use Rattle.hz_words.specs.declared.job.Job.TheVariants.{Demo}
 use Rattle.hz_refusal.specs.Ends.{Ends}
-use Rattle.hz_top.specs.Outcome.{IsJobOutcome, IsDemoOutcome, observation_of}
+use Rattle.hz_top.specs.Outcome.{IsJobOutcome, observation_of}
+use Rattle.hz_changes.specs.Demos.{IsDemoOutcome}
 use Rattle.hz_refusal.proofs.PutEndings.{Ends-more}
 use Rattle.hz_top.specs.LeftFiles.{LeavesFiles}
 use Rattle.hz_top.proofs.LeftFiles.{both-stay}
