@@ -9,6 +9,8 @@ import signal
 import subprocess
 import threading
 
+from calls import call, write
+
 MOST_BYTES = 16_777_216
 MEBIBYTE = 1 << 20
 DONE, TOO_LONG, SINK, MEMORY = 0, 7, 8, 9
@@ -66,16 +68,9 @@ int posix_memalign(void **place, size_t align, size_t size) {
 """
 
 
-def write(folder, name, text):
-    with open(os.path.join(folder, name), "wb") as file:
-        file.write(text if isinstance(text, bytes) else text.encode())
-    return name
-
-
 def run(program, words, folder, out=subprocess.PIPE, **more):
     """The status and the bytes on standard output. Signals that the system sends for a refused write are ignored, as by a shell's `trap ''`."""
-    more = {"timeout": 60, "stderr": subprocess.DEVNULL, "restore_signals": False, **more}
-    done = subprocess.run([program] + words, cwd=folder, stdin=subprocess.DEVNULL, stdout=out, **more)
+    done = call(program, words, folder, out, timeout=60, restore_signals=False, **more)
     return done.returncode, done.stdout or b""
 
 
@@ -185,7 +180,7 @@ def strange_files(program, folder):
     pipe = os.path.join(folder, "pipe1")
     feeder = threading.Thread(target=feed, args=(pipe, ["y = NOT(\n"]))
     feeder.start()
-    done = subprocess.run([program, "analyse", pipe, script], cwd=folder, stdin=subprocess.DEVNULL, capture_output=True, timeout=60)
+    done = call(program, ["analyse", pipe, script], folder, timeout=60)
     told = f"{pipe}:1: (no plain file, so its line can't be shown)\n".encode()
     yield "a fault in a pipe", (done.returncode, done.stdout, done.stderr), (3, b"refused: netlist line 1: form\n", told)
     feeder.join(60)

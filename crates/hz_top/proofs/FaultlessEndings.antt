@@ -9,14 +9,14 @@ use Rattle.hz_line.specs.Line.{most_text_bytes}
 use Rattle.hz_options.specs.declared.options.Options.{Options}
 use Rattle.hz_words.specs.declared.job.Task.{Task}
 use Rattle.hz_words.specs.Job.{JobOf, OnFiles, Demo}
-use Rattle.hz_top.specs.declared.status.Status.{Status}
-use Rattle.hz_top.specs.declared.status.Status.TheVariants as status
-use Rattle.hz_top.specs.Answer.{Answers}
+use Rattle.hz_refusal.specs.declared.status.Status.{Status}
+use Rattle.hz_refusal.specs.declared.status.Status.TheVariants as status
+use Rattle.hz_refusal.specs.Answer.{Answers}
 use Rattle.hz_top.specs.Faultless.{AreGoodFiles, IsFaultlessJob}
-use Rattle.hz_top.specs.Netlists.{IsLeastNetlistFault}
+use Rattle.hz_refusal.specs.Netlists.{IsLeastNetlistFault}
 use Rattle.hz_top.specs.Outcome.{Observation, IsSecondFileOutcome, IsFilesOutcome, IsJobOutcome}
 use Rattle.hz_top.specs.Tasks.{comes_of}
-use Rattle.hz_top.proofs.NetlistTexts.{not-both, one-netlist}
+use Rattle.hz_refusal.proofs.NetlistTexts.{not-both, one-netlist}
 use Rattle.hz_top.proofs.TextEnds.{text-ends}
 
 -- the bytes of a file that is told are the told ones

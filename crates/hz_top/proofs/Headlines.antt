@@ -28,14 +28,14 @@ use Rattle.hz_seq.proofs.NextStart.{next-start}
 use Rattle.hz_options.specs.declared.options.Options.{Options}
 use Rattle.hz_words.specs.declared.job.Task.TheVariants.{Analyse}
 use Rattle.hz_words.specs.Job.{JobOf}
-use Rattle.hz_top.specs.declared.status.Status.{Status}
-use Rattle.hz_top.specs.declared.status.Status.TheVariants as status
-use Rattle.hz_top.specs.Answer.{Answers, WroteWhole}
+use Rattle.hz_refusal.specs.declared.status.Status.{Status}
+use Rattle.hz_refusal.specs.declared.status.Status.TheVariants as status
+use Rattle.hz_refusal.specs.Answer.{Answers, WroteWhole}
 use Rattle.hz_top.specs.Headline.{TakesBoth, IsExact, StartsAt, IsExactChange, IsStoppedBy, IsExactReport, Headline}
-use Rattle.hz_top.specs.Netlists.{IsNetlistText, TextsAreCircuits}
+use Rattle.hz_refusal.specs.Netlists.{IsNetlistText, TextsAreCircuits}
 use Rattle.hz_top.specs.Outcome.{Observation, IsFilesOutcome, IsJobOutcome}
-use Rattle.hz_top.specs.Reports.{AnalysisReplays, IsReport, Reports}
-use Rattle.hz_top.specs.Second.{OfScript, Started}
+use Rattle.hz_changes.specs.Reports.{AnalysisReplays, IsReport, Reports}
+use Rattle.hz_refusal.specs.Second.{OfScript, Started}
 use Rattle.hz_top.specs.Tasks.{comes_of}
 use Rattle.hz_top.proofs.FaultlessEndings.{told-bytes, not-too-long, files-end, ends-or-memory}
 

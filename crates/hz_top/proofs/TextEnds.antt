@@ -15,18 +15,18 @@ use Rattle.hz_text.specs.RunText.{IsRunValue}
 use Rattle.hz_text.specs.RunValue.{RunTextOf}
 use Rattle.hz_words.specs.declared.job.Task.{Task}
 use Rattle.hz_words.specs.declared.job.Task.TheVariants.{Analyse, Split, Replay, Convert, Vcd, Batch, Reset}
-use Rattle.hz_top.specs.declared.status.Status.{Status}
-use Rattle.hz_top.specs.declared.status.Status.TheVariants as status
+use Rattle.hz_refusal.specs.declared.status.Status.{Status}
+use Rattle.hz_refusal.specs.declared.status.Status.TheVariants as status
 use Rattle.hz_top.specs.Batches.{IsBatchOutcome}
-use Rattle.hz_top.specs.Reports.{Reports}
+use Rattle.hz_changes.specs.Reports.{Reports}
 use Rattle.hz_top.specs.Resets.{IsResetOutcome}
-use Rattle.hz_top.specs.RunTexts.{IsConvertOutcome, EndsReplay}
-use Rattle.hz_top.specs.Splits.{SplitsChanges}
-use Rattle.hz_top.specs.Second.{IsTextOutcome, Started, IsGoodText}
+use Rattle.hz_replay.specs.RunTexts.{IsConvertOutcome, EndsReplay}
+use Rattle.hz_changes.specs.Splits.{SplitsChanges}
+use Rattle.hz_refusal.specs.Second.{IsTextOutcome, Started, IsGoodText}
 use Rattle.hz_top.specs.Tasks.{comes_of, good_of}
-use Rattle.hz_top.specs.Verdict.{Replayed, IsYes}
-use Rattle.hz_top.specs.Dumps.{IsLastWritten}
-use Rattle.hz_top.proofs.Refusals.{accepted-or-refused}
+use Rattle.hz_replay.specs.Verdict.{Replayed, IsYes}
+use Rattle.hz_replay.specs.Dumps.{IsLastWritten}
+use Rattle.hz_replay.proofs.Refusals.{accepted-or-refused}
 
 -- of any kind of text: if `ends` and the judge of a value agree on the status, so do a good text and its outcome
 good-ends : {V : Type 0} (called : List ℕ) (holds : Netlist → List ℕ → TextFault → Type 0) (stands_for : Netlist → List ℕ → V → Type 0) (judge : Netlist → V → Status → List ℕ → Type 0) (ends : Netlist → V → Status → Type 0)

@@ -3,8 +3,8 @@ use Rattle.std.specs.Prelude.{◌≡◌, ℕ, List}
 use Rattle.hz_core.specs.Netlist.{Netlist}
 use Rattle.hz_text.specs.PatternValue.{PatternsOf}
 use Rattle.hz_batch.specs.BatchText.{IsBatchText}
-use Rattle.hz_top.specs.declared.status.Status.{Status}
-use Rattle.hz_top.specs.declared.status.Status.TheVariants as status
+use Rattle.hz_refusal.specs.declared.status.Status.{Status}
+use Rattle.hz_refusal.specs.declared.status.Status.TheVariants as status
 
 -- the job is done with the text of the patterns
 abbrev pub IsBatchOutcome : Netlist → PatternsOf → Status → List ℕ → Type 0

@@ -22,13 +22,13 @@ use Rattle.hz_options.specs.declared.options.Options.{Options}
 use Rattle.hz_report.specs.Report.{head_text}
 use Rattle.hz_words.specs.declared.job.Task.TheVariants.{Analyse}
 use Rattle.hz_words.specs.Job.{JobOf, OnFiles}
-use Rattle.hz_top.specs.declared.status.Status.{Status}
-use Rattle.hz_top.specs.declared.status.Status.TheVariants.{Done, Memory}
+use Rattle.hz_refusal.specs.declared.status.Status.{Status}
+use Rattle.hz_refusal.specs.declared.status.Status.TheVariants.{Done, Memory}
 use Rattle.hz_line.specs.Line.{most_text_bytes}
 use Rattle.hz_top.specs.Faultless.{AreGoodFiles}
-use Rattle.hz_top.specs.Netlists.{IsNetlistText, KeepsItsCovers}
+use Rattle.hz_refusal.specs.Netlists.{IsNetlistText, KeepsItsCovers}
 use Rattle.hz_top.specs.Outcome.{Observation}
-use Rattle.hz_top.specs.Reports.{AnalysisReplays, analyses_text}
+use Rattle.hz_changes.specs.Reports.{AnalysisReplays, analyses_text}
 
 -- variable i takes both values in states
 abbrev pub TakesBoth : List (List Bool) → ℕ → Type 0

@@ -1,37 +1,18 @@
 -- What a job comes to, in the order of work: the status and the text that is written.
-use Rattle.std.specs.Prelude.{◌≡◌, ℕ, ◌<◌, ◌≤◌, ◌⊎◌, Bool, List, [], ◌∷◌, length, Option, Some, None, IfSome}
+use Rattle.std.specs.Prelude.{◌≡◌, ℕ, ◌<◌, ◌≤◌, ◌⊎◌, List, length, Option, Some, None, IfSome}
 use Rattle.hz_outside.specs.Counts.{Rose}
 use Rattle.hz_outside.specs.declared.fault.Place.{Place}
 use Rattle.hz_outside.specs.declared.fault.Place.TheVariants.{First, Second}
 use Rattle.hz_core.specs.Netlist.{Netlist}
-use Rattle.hz_net.specs.Starts.{IsAcceptedStart}
-use Rattle.hz_top.specs.declared.status.Status.{Status}
-use Rattle.hz_top.specs.declared.status.Status.TheVariants as status
-use Rattle.hz_top.specs.Answer.{Prints}
-use Rattle.hz_top.specs.Netlists.{NetlistRefused, IsNetlistText}
+use Rattle.hz_refusal.specs.declared.status.Status.{Status}
+use Rattle.hz_refusal.specs.declared.status.Status.TheVariants as status
+use Rattle.hz_refusal.specs.Answer.{Prints}
+use Rattle.hz_refusal.specs.Netlists.{NetlistRefused, IsNetlistText}
 use Rattle.hz_top.specs.Tasks.{comes_of}
-use Rattle.hz_seq.specs.Analyses.{Found, AreAnalyses}
-use Rattle.hz_desk.specs.Finding.{FindingOf}
-use Rattle.hz_gen.specs.Demo.{demo_netlist, demo_script}
-use Rattle.hz_report.specs.Report.{summary_text}
 use Rattle.hz_words.specs.Job.{JobOf, OnFiles, Demo}
-use Rattle.hz_top.specs.Refusal.{words_line, unread_line, long_line}
+use Rattle.hz_refusal.specs.Refusal.{words_line, unread_line, long_line}
 use Rattle.hz_line.specs.Line.{most_text_bytes}
-
--- the text is the summary of the one change of a script from a start
-abbrev pub Summarises : Netlist → ℕ → List Bool → List (List (ℕ × Bool)) → List ℕ → Type 0
-Summarises netlist cap start changes text =
-    (finding : FindingOf) × AreAnalyses netlist cap start changes (Found finding ∷ []) × (text ≡ summary_text netlist finding)
-
--- the job is done with this summary
-abbrev pub IsSummaryOutcome : Netlist → ℕ → List Bool → List (List (ℕ × Bool)) → Status → List ℕ → Type 0
-IsSummaryOutcome netlist cap start changes own text = (own ≡ status.Done) × Summarises netlist cap start changes text
-
--- what the circuit and the script of a number come to
-abbrev pub IsDemoOutcome : ℕ → ℕ → Status → List ℕ → Type 0
-IsDemoOutcome number cap own text =
-    (start : List Bool) × IsAcceptedStart (demo_netlist number) (demo_script number).start start
-    × IsSummaryOutcome (demo_netlist number) cap start (demo_script number).changes own text
+use Rattle.hz_changes.specs.Demos.{IsDemoOutcome}
 
 -- what files tell and count: the bytes under each name where they are told, and the counts of loads that failed and of
 -- files that were too long, before the call and after it

@@ -9,8 +9,8 @@ use Rattle.hz_reset.specs.Values.{IsOutcomeAlong}
 use Rattle.hz_text.specs.PatternValue.{PatternOf, PatternsOf}
 use Rattle.hz_batch.specs.Each.{AreEach}
 use Rattle.hz_batch.specs.ResetText.{BothValues, IsResetText}
-use Rattle.hz_top.specs.declared.status.Status.{Status}
-use Rattle.hz_top.specs.declared.status.Status.TheVariants as status
+use Rattle.hz_refusal.specs.declared.status.Status.{Status}
+use Rattle.hz_refusal.specs.declared.status.Status.TheVariants as status
 
 -- Where a value is 0 or 1, it is right. Take any state that the circuit may come up in, that is any whose held gates have their
 -- bits, and for each input after the other any outcome of the state before. Then the last one has this bit. An X promises nothing.

@@ -11,16 +11,16 @@ use Rattle.hz_text.specs.RunFault.{HasRunFault}
 use Rattle.hz_text.specs.RunText.{IsRunValue}
 use Rattle.hz_words.specs.declared.job.Task.{Task}
 use Rattle.hz_words.specs.declared.job.Task.TheVariants.{Analyse, Split, Replay, Convert, Vcd, Batch, Reset}
-use Rattle.hz_top.specs.declared.status.Status.{Status}
-use Rattle.hz_top.specs.declared.status.Status.TheVariants.{Done}
+use Rattle.hz_refusal.specs.declared.status.Status.{Status}
+use Rattle.hz_refusal.specs.declared.status.Status.TheVariants.{Done}
 use Rattle.hz_top.specs.Batches.{IsBatchOutcome}
-use Rattle.hz_top.specs.Reports.{Reports}
+use Rattle.hz_changes.specs.Reports.{Reports}
 use Rattle.hz_top.specs.Resets.{IsResetOutcome}
-use Rattle.hz_top.specs.RunTexts.{IsConvertOutcome, EndsReplay}
-use Rattle.hz_top.specs.Dumps.{IsVcdOutcome}
-use Rattle.hz_top.specs.Second.{OfScript, OfRuns, OfPatterns, Started, IsGoodText}
-use Rattle.hz_top.specs.Splits.{SplitsChanges}
-use Rattle.hz_top.specs.Verdict.{IsReplayOutcome}
+use Rattle.hz_replay.specs.RunTexts.{IsConvertOutcome, EndsReplay}
+use Rattle.hz_replay.specs.Dumps.{IsVcdOutcome}
+use Rattle.hz_refusal.specs.Second.{OfScript, OfRuns, OfPatterns, Started, IsGoodText}
+use Rattle.hz_changes.specs.Splits.{SplitsChanges}
+use Rattle.hz_replay.specs.Verdict.{IsReplayOutcome}
 
 -- what the second text comes to
 abbrev pub comes_of : Options → Task → Netlist → List ℕ → Status → List ℕ → Type 0

@@ -1,11 +1,10 @@
 //! The job `batch`: patterns, 512 at a time.
 
-use crate::second::OnPatterns;
-use crate::status::Status;
 use hz_batch::{BatchFault, batch};
 use hz_net::Net;
 use hz_outside::Sink;
 use hz_plane::Planes;
+use hz_refusal::{OnPatterns, Status};
 use hz_text::Patterns;
 use std::alloc::Global;
 

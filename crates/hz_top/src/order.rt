@@ -2,28 +2,24 @@
 ghost use Rattle.std.specs.Prelude.{◌≤◌, length, Some};
 ghost use Rattle.hz_outside.specs.declared.fault.Place.TheVariants.{First, Second};
 ghost use Rattle.hz_options.specs.Numbers.{IsCap};
-ghost use Rattle.hz_top.specs.Ends.{Ends};
+ghost use Rattle.hz_refusal.specs.Ends.{Ends};
 ghost use Rattle.hz_top.specs.LeftFiles.{LeavesFiles};
 ghost use Rattle.hz_words.specs.Job.{OnFiles};
 ghost use Rattle.hz_line.specs.Line.{most_text_bytes};
 ghost use Rattle.hz_top.specs.Outcome.{observation_of, IsFilesOutcome, IsSecondFileOutcome};
 ghost use Rattle.hz_top.specs.Tasks.{comes_of};
 
-use crate::analysis::Analyses;
 use crate::batching::Batches;
-use crate::converting::Converts;
-use crate::dumping::Dumps;
-use crate::netlist::read_netlist;
-use crate::refusal::{refuse_load, refuse_netlist};
-use crate::replaying::Replays;
 use crate::resetting::Resets;
-use crate::second::{on_patterns, on_runs, on_script};
-use crate::splitting::Splits;
-use crate::status::Status;
+use hz_changes::{Analyses, Splits};
 use hz_line::MAX_TEXT;
 use hz_net::Net;
 use hz_options::Options;
 use hz_outside::{Files, Place, Sink};
+use hz_refusal::{
+    Status, on_patterns, on_runs, on_script, read_netlist, refuse_load, refuse_netlist,
+};
+use hz_replay::{Converts, Dumps, Replays};
 use hz_words::Task;
 use std::alloc::Global;
 

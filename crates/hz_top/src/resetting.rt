@@ -1,11 +1,10 @@
 //! The job `reset`: what patterns bring about where nobody knows the start, 512 at a time.
 
-use crate::second::OnPatterns;
-use crate::status::Status;
 use hz_batch::{BatchFault, reset};
 use hz_net::Net;
 use hz_outside::Sink;
 use hz_plane::Planes;
+use hz_refusal::{OnPatterns, Status};
 use hz_reset::values_cover;
 use hz_text::Patterns;
 use std::alloc::Global;

@@ -3,19 +3,17 @@ ghost use Rattle.std.specs.Prelude.{◌≡◌, ◌⊎◌, [], map, Some};
 ghost use Rattle.std.specs.String.{string_bytes};
 ghost use Rattle.hz_outside.specs.Counts.{Rose};
 ghost use Rattle.hz_words.specs.Job.{JobOf, job_of, job_model, HasNumbersInRange};
-ghost use Rattle.hz_top.specs.Answer.{Answers};
-ghost use Rattle.hz_top.specs.Ends.{written_of, Ends};
+ghost use Rattle.hz_refusal.specs.Answer.{Answers};
+ghost use Rattle.hz_refusal.specs.Ends.{written_of, Ends};
 ghost use Rattle.hz_top.specs.Faultless.{IsFaultlessJob};
 ghost use Rattle.hz_top.specs.Headline.{Headline};
 ghost use Rattle.hz_top.specs.LeftFiles.{LeavesFiles};
 ghost use Rattle.hz_top.specs.Outcome.{observation_of, IsJobOutcome, MayLoad};
 
-use crate::demo::demo;
-use crate::netlist::texts_are_circuits;
 use crate::order::work_on_files;
-use crate::refusal::put_words;
-use crate::status::{Status, status_after};
+use hz_changes::demo;
 use hz_outside::{Files, Sink};
+use hz_refusal::{Status, put_words, status_after, texts_are_circuits};
 use hz_words::{Job, WordsFault};
 use std::alloc::Global;
 

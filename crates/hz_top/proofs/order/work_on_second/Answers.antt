@@ -2,8 +2,8 @@ use Rattle.std.proofs.Common.{inl, inr, ap, ◌∙◌, Err}
 use Rattle.hz_outside.specs.declared.fault.Place.TheVariants.{Second}
 use Rattle.hz_top.specs.Outcome.{IsSecondFileOutcome, observation_of}
 use Rattle.hz_top.specs.Tasks.{comes_of}
-use Rattle.hz_top.specs.Inside.{LoadPrints}
-use Rattle.hz_top.proofs.PutEndings.{Ends-more}
+use Rattle.hz_refusal.specs.Refused.{LoadPrints}
+use Rattle.hz_refusal.proofs.PutEndings.{Ends-more}
 use Rattle.hz_top.proofs.JobOutcomes.{FileRefused-load}
 use Rattle.hz_top.proofs.order.work_on_second.Goals as goal
 

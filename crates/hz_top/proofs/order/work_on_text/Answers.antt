@@ -1,6 +1,6 @@
 use Rattle.std.proofs.Common.{subst, sym}
 use Rattle.hz_words.specs.declared.job.Task.{Task}
-use Rattle.hz_top.specs.Ends.{Ends}
+use Rattle.hz_refusal.specs.Ends.{Ends}
 use Rattle.hz_top.specs.Tasks.{comes_of}
 use Rattle.hz_top.proofs.order.work_on_text.Goals as goal
 

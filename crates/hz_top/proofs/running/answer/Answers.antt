@@ -1,11 +1,11 @@
 use Rattle.std.proofs.Common.{◌≡◌, None, refl, subst, sym, Option, map}
 use Rattle.std.specs.String.{string_bytes}
-use Rattle.hz_top.specs.declared.status.Status.TheVariants as status
-use Rattle.hz_top.specs.Ends.{Ends}
+use Rattle.hz_refusal.specs.declared.status.Status.TheVariants as status
+use Rattle.hz_refusal.specs.Ends.{Ends}
 use Rattle.hz_words.specs.Job.{JobOf, job_of}
 use Rattle.hz_top.specs.Outcome.{IsJobOutcome, observation_of}
-use Rattle.hz_top.specs.Refusal.{words_line}
-use Rattle.hz_top.proofs.PutEndings.{Ends-put}
+use Rattle.hz_refusal.specs.Refusal.{words_line}
+use Rattle.hz_refusal.proofs.PutEndings.{Ends-put}
 use Rattle.hz_top.specs.LeftFiles.{LeavesFiles}
 use Rattle.hz_top.proofs.LeftFiles.{both-stay}
 use Rattle.hz_top.proofs.running.answer.Goals as goal

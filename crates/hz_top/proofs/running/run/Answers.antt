@@ -1,11 +1,11 @@
 -- All that was put is flushed.
 use Rattle.std.proofs.Common.{map}
 use Rattle.std.specs.String.{string_bytes}
-use Rattle.hz_top.specs.Ends.{written_of}
+use Rattle.hz_refusal.specs.Ends.{written_of}
 use Rattle.hz_words.specs.Job.{job_of}
 use Rattle.hz_top.specs.Outcome.{observation_of, IsJobOutcome}
 use Rattle.hz_top.proofs.FaultlessEndings.{asked-end, ends-or-memory}
-use Rattle.hz_top.proofs.Flushed.{Answers-flushed}
+use Rattle.hz_refusal.proofs.Flushed.{Answers-flushed}
 use Rattle.hz_top.proofs.Headlines.{headline}
 use Rattle.hz_top.proofs.running.run.Goals as goal
 

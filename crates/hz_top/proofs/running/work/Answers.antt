@@ -3,9 +3,10 @@ use Rattle.std.proofs.Common.{Some, refl, subst, sym}
 use Rattle.hz_words.specs.Job.{job_model}
 use Rattle.hz_words.specs.declared.job.Job.{Job}
 use Rattle.hz_words.specs.declared.job.Job.TheVariants.{Demo}
-use Rattle.hz_top.specs.Ends.{Ends}
-use Rattle.hz_top.specs.Outcome.{IsJobOutcome, IsDemoOutcome, observation_of}
-use Rattle.hz_top.proofs.PutEndings.{Ends-more}
+use Rattle.hz_refusal.specs.Ends.{Ends}
+use Rattle.hz_top.specs.Outcome.{IsJobOutcome, observation_of}
+use Rattle.hz_changes.specs.Demos.{IsDemoOutcome}
+use Rattle.hz_refusal.proofs.PutEndings.{Ends-more}
 use Rattle.hz_top.specs.LeftFiles.{LeavesFiles}
 use Rattle.hz_top.proofs.LeftFiles.{both-stay}
 use Rattle.hz_top.proofs.running.work.Goals as goal

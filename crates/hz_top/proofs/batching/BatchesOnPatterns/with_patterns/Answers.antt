@@ -1,6 +1,6 @@
 -- The sink failed: a prefix of the text was written.
 use Rattle.std.proofs.Common.{refl, inr}
-use Rattle.hz_top.specs.declared.status.Status.TheVariants as status
+use Rattle.hz_refusal.specs.declared.status.Status.TheVariants as status
 use Rattle.hz_top.proofs.batching.BatchesOnPatterns.with_patterns.Goals as goal
 
 pub returns-in-Err-Sink : goal.returns-in-Err-Sink

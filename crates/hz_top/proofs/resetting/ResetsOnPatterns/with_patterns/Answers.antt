@@ -1,6 +1,6 @@
 -- The text was written, or a prefix of it, and each value in it is right.
 use Rattle.std.proofs.Common.{refl, inr}
-use Rattle.hz_top.specs.declared.status.Status.TheVariants as status
+use Rattle.hz_refusal.specs.declared.status.Status.TheVariants as status
 use Rattle.hz_top.proofs.RightResets.{reset-outcome}
 use Rattle.hz_top.proofs.resetting.ResetsOnPatterns.with_patterns.Goals as goal
 

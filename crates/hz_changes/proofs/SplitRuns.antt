@@ -1,0 +1,47 @@
+-- The runs of a change that end in stable states are accepted by a replay.
+use Rattle.std.proofs.Common.{◌≡◌, ℕ, ◌<◌, Bool, List, [], ◌∷◌, length, map, take, All, subst, arith}
+use Rattle.std.proofs.lemmas.List.{length-take-le}
+use Rattle.std.proofs.lemmas.List.Elements.{All-nil, All-cons, All-head, All-tail}
+use Rattle.hz_core.specs.Netlist.{Netlist, IsCircuit}
+use Rattle.hz_net.specs.Network.{Driver, network_of}
+use Rattle.hz_net.specs.Starts.{IsStableStart}
+use Rattle.hz_net.proofs.Places.{length-network_of}
+use Rattle.hz_desk.specs.declared.finding.Row.{Row}
+use Rattle.hz_desk.specs.Finding.{FindingOf}
+use Rattle.hz_split.specs.Splits.{IsSettledRun, AreSettledRuns}
+use Rattle.hz_split.proofs.OutcomeRuns.{stable-cycle}
+use Rattle.hz_text.specs.RunReadBack.{PrintedRunsAreRead}
+use Rattle.hz_replay.specs.Replaying.{IsAcceptedRun, start_of}
+use Rattle.hz_changes.specs.Splits.{closed, found_in, runs_of_split, IsSplitOf}
+use Rattle.hz_replay.proofs.ReadBack.{accepted-replays, stable-expansion_of}
+use Rattle.hz_replay.proofs.ReadBack.{run-inside}
+
+all-accepted : (net : List Driver) (input start : List Bool) (runs : List (List (List ℕ))) → All (IsSettledRun net input start) runs → All (IsAcceptedRun net input start) (map closed runs)
+all-accepted net input start [] all = All-nil (IsAcceptedRun net input start)
+all-accepted net input start (run ∷ runs) all =
+    let settled = All-head (IsSettledRun net input start) run runs all in
+    All-cons (IsAcceptedRun net input start) (closed run) (map closed runs) (record { lead = settled.is_run; cycle = stable-cycle net input _ settled.stable })
+    (all-accepted net input start runs (All-tail (IsSettledRun net input start) run runs all))
+
+-- their steps change variables that are there
+pub settled-inside : (net : List Driver) (input start : List Bool) (runs : List (List (List ℕ))) → All (IsSettledRun net input start) runs → All (All (All (λ (var : ℕ). var < length net))) runs
+settled-inside net input start [] all = All-nil (All (All (λ (var : ℕ). var < length net)))
+settled-inside net input start (run ∷ runs) all =
+    All-cons (All (All (λ (var : ℕ). var < length net))) run runs (run-inside net input start run (All-head (IsSettledRun net input start) run runs all).is_run)
+    (settled-inside net input start runs (All-tail (IsSettledRun net input start) run runs all))
+
+-- what is found of a change replays
+pub is-split : PrintedRunsAreRead → (netlist : Netlist) (finding : FindingOf) → IsCircuit netlist → IsStableStart netlist (map (λ (row : Row). row.start) finding.rows) → length finding.input ≡ netlist.inputs
+    → AreSettledRuns (network_of netlist) finding.input (map (λ (row : Row). row.start) finding.rows) (found_in netlist finding) → IsSplitOf netlist finding
+is-split read netlist finding circuit begins given runs =
+    let net = network_of netlist in
+    let start = map (λ (row : Row). row.start) finding.rows in
+    let found = found_in netlist finding in
+    let value = runs_of_split netlist finding found in
+    let nodes : length value.nodes ≡ length netlist.names = length-take-le (length netlist.names) start (omega (arith, begins.long, length-network_of netlist circuit)) in
+    let from : start ≡ start_of netlist value = stable-expansion_of netlist (take netlist.inputs start) start circuit begins.long begins.stable in
+    let accepted = subst (λ (state : List Bool). All (IsAcceptedRun net finding.input state) value.runs) from (all-accepted net finding.input start found runs.each) in
+    record {
+      runs = runs;
+      replay = λ steps flips. accepted-replays read netlist value circuit nodes given steps flips accepted;
+    }

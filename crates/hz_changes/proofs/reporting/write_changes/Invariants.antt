@@ -1,0 +1,17 @@
+-- The changes so far are analysed, and their lines are given.
+use Rattle.std.proofs.Common.{◌≡◌, List, length, take}
+use Rattle.hz_write.specs.Writer.{Writes, NoneWaits}
+use Rattle.hz_seq.specs.Analyses.{Analysis}
+use Rattle.hz_seq.proofs.FirstAnalyses.{AreFirstAnalyses}
+use Rattle.hz_changes.specs.Reports.{analyses_text}
+use Rattle.hz_changes.proofs.Writable.{IsStopInside}
+use Rattle.hz_changes.proofs.reporting.write_changes.Given as goal
+
+abbrev pub invariant-loop-number : goal.invariant-loop-number
+invariant-loop-number g l =
+    (analyses : List Analysis)
+    × AreFirstAnalyses l.net l.options.cap l.fn.sequence.start (take l.number l.script.changes) analyses l.sequence
+    × (length analyses ≡ length (take l.number l.script.changes))
+    × IsStopInside l.net l.sequence.stopped
+    × Writes g.K.Sink.output g.K.Sink.faults (analyses_text l.net l.options.show 1 (take l.number l.script.changes) analyses) l.fn.writer l.writer
+    × (NoneWaits l.fn.writer → NoneWaits l.writer)

@@ -1,0 +1,76 @@
+-- A line that is written of a refusal is that of the least fault.
+use Rattle.std.proofs.Common.{◌≡◌, ◌≢◌, ℕ, inl, inr, Bool, List, Option, refl, subst, sym}
+use Rattle.hz_outside.specs.declared.fault.Place.{Place}
+use Rattle.hz_outside.specs.declared.fault.LoadFault.{LoadFault}
+use Rattle.hz_outside.specs.declared.fault.LoadFault.TheVariants as load
+use Rattle.hz_core.specs.Netlist.{Netlist}
+use Rattle.hz_pass.specs.Completed.{IsStartFault}
+use Rattle.hz_pass.specs.declared.completed_start.StartFault.{StartFault}
+use Rattle.hz_pass.specs.declared.completed_start.StartFault.TheVariants as start
+use Rattle.hz_bench.specs.declared.fault.BenchFault.{BenchFault}
+use Rattle.hz_bench.specs.declared.fault.BenchFault.TheVariants as bench
+use Rattle.hz_bench.specs.Fault as bench_fault
+use Rattle.hz_blif.specs.declared.fault.BlifFault.{BlifFault}
+use Rattle.hz_blif.specs.declared.fault.BlifFault.TheVariants as blif
+use Rattle.hz_blif.specs.Fault as blif_fault
+use Rattle.hz_refusal.specs.declared.netlist.NetlistFault.{NetlistFault}
+use Rattle.hz_refusal.specs.declared.netlist.NetlistFault.TheVariants.{Bench, Blif}
+use Rattle.hz_refusal.specs.Netlists.{IsNetlistRefusal, NetlistRefused}
+use Rattle.hz_refusal.specs.Refusal.{netlist_fault_line}
+use Rattle.hz_text.specs.declared.fault.TextFault.{TextFault}
+use Rattle.hz_text.specs.declared.fault.TextFault.TheVariants as reading
+use Rattle.hz_text.specs.Fault.{IsLeastFaultOf, IsLeastFaultOrMemory}
+use Rattle.hz_refusal.specs.declared.status.Status.{Status}
+use Rattle.hz_refusal.specs.declared.status.Status.TheVariants as status
+use Rattle.hz_refusal.specs.Second.{StartRefused}
+use Rattle.hz_refusal.specs.Refusal.{unread_line, long_line}
+use Rattle.hz_refusal.specs.Refused.{LoadPrints, NetlistPrints, StartPrints}
+use Rattle.hz_refusal.specs.Answer.{Prints}
+
+-- a load that failed has the line of a file that was not read
+pub LoadPrints-failed : (place : Place) (fault : LoadFault) → fault ≡ load.Failed → LoadPrints place fault status.File (unread_line place)
+LoadPrints-failed place fault is = subst (λ (fault : LoadFault). LoadPrints place fault status.File (unread_line place)) (sym is) (refl, refl)
+
+-- a file that is too long has the line of one
+pub LoadPrints-long : (place : Place) (fault : LoadFault) → fault ≡ load.TooLong → LoadPrints place fault status.TooLong (long_line place)
+LoadPrints-long place fault is = subst (λ (fault : LoadFault). LoadPrints place fault status.TooLong (long_line place)) (sym is) (refl, refl)
+
+-- what is said of a start that can't be completed is said of one that is refused
+pub start-refused : (netlist : Netlist) (listed : List (Option Bool)) (fault : StartFault) → IsStartFault netlist listed fault → (own : Status) (text : List ℕ) → StartPrints netlist fault own text → (own ≡ status.Start) × StartRefused netlist listed text
+start-refused netlist listed (start.Open gate) least own text says = (says.0, inl (gate, least, says.1))
+start-refused netlist listed (start.Unstable gate) least own text says = (says.0, inr (gate, least, says.1))
+start-refused netlist listed start.Memory least own text says = absurd says
+
+-- a refusal of a netlist other than out of memory is the least fault of its text
+bench-refused : (text : List ℕ) (fault : BenchFault) → bench_fault.IsNetlistRefusal text fault → fault ≢ bench.Memory → bench_fault.IsLeastFault text fault
+bench-refused text (bench.Form line) least other = least
+bench-refused text (bench.Name line) least other = least
+bench-refused text (bench.KindUnknown line) least other = least
+bench-refused text (bench.Twice line first) least other = least
+bench-refused text (bench.Pins line count) least other = least
+bench-refused text (bench.Undefined line) least other = least
+bench-refused text (bench.TooMany variables) least other = least
+bench-refused text bench.Memory least other = absurd (other refl)
+
+blif-refused : (text : List ℕ) (fault : BlifFault) → blif_fault.IsBlifRefusal text fault → fault ≢ blif.Memory → blif_fault.IsLeastFault text fault
+blif-refused text (blif.Form line) least other = least
+blif-refused text (blif.Name line) least other = least
+blif-refused text (blif.Construct line) least other = least
+blif-refused text (blif.Twice line first) least other = least
+blif-refused text (blif.Cover line) least other = least
+blif-refused text (blif.Pins line count) least other = least
+blif-refused text (blif.Constant line) least other = least
+blif-refused text (blif.Undefined line) least other = least
+blif-refused text (blif.TooMany variables) least other = least
+blif-refused text blif.Memory least other = absurd (other refl)
+
+-- a line that is written of a fault of a netlist refuses its text
+pub netlist-refused : (name text : List ℕ) (fault : NetlistFault) → IsNetlistRefusal name text fault → (own : Status) (written : List ℕ) → NetlistPrints fault own written
+    → NetlistRefused name text (netlist_fault_line fault) × Prints status.Netlist (netlist_fault_line fault) own written
+netlist-refused name text (Bench fault) least own written says = ((Bench fault, (least.0, bench-refused text fault least.1 says.0), refl), says.1)
+netlist-refused name text (Blif fault) least own written says = ((Blif fault, (least.0, blif-refused text fault least.1 says.0), refl), says.1)
+
+-- a refusal of a text other than out of memory is the least of the faults that hold
+pub text-refused : (holds : TextFault → Type 0) (fault : TextFault) → IsLeastFaultOrMemory holds fault → fault ≢ reading.Memory → IsLeastFaultOf holds fault
+text-refused holds fault (inl memory) other = absurd (other memory)
+text-refused holds fault (inr least) other = least

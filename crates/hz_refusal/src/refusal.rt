@@ -1,0 +1,321 @@
+//! Refusals: their lines and their statuses.
+ghost use Rattle.std.specs.Prelude.{◌≡◌, ◌<◌, length};
+ghost use Rattle.hz_write.specs.Writes.{Wrote};
+ghost use Rattle.hz_refusal.specs.Ends.{Ends};
+ghost use Rattle.hz_refusal.specs.Refused.{BenchPrints, BlifPrints, LoadPrints, NetlistPrints, StartPrints, TextPrints, named_node, named_gate, NamesNode};
+ghost use Rattle.hz_refusal.specs.Refusal.{words_line, unread_line, long_line, place_word, fault_line, counted_line, variables_line, missing_line, mismatch_line, bench_fault_line, blif_fault_line, text_fault_line, open_line, unstable_line};
+
+use crate::netlist::NetlistFault;
+use crate::status::{Status, status_after};
+use hz_bench::BenchFault;
+use hz_blif::BlifFault;
+use hz_core::Circuit;
+use hz_outside::{LoadFault, Place, PutFault, Sink};
+use hz_pass::StartFault;
+use hz_text::TextFault;
+use hz_write::Piece::{Number, Text};
+use hz_write::put_line;
+
+// Words that name no job.
+#[tactic(auto, unfolding(crate::specs::Refusal::words_line))]
+pub fn put_words<K: Sink>(out: &mut K) -> Result<(), PutFault>
+    ensures { Wrote K.output K.faults words_line out.old out.new result }
+{
+    put_line(
+        out,
+        &[Text(b"refused: words; usage: hazard JOB FIRST [SECOND] [--cap N] [--show nodes|all]")],
+    )
+}
+
+// The word for a file's place.
+fn place_word(place: Place) -> &'static [u8]
+    ensures { result.now ≡ place_word place }
+{
+    match place {
+        Place::First => b"first",
+        Place::Second => b"second",
+    }
+}
+
+// A file that was not read.
+#[tactic(auto, unfolding(crate::specs::Refusal::unread_line))]
+fn put_unread<K: Sink>(out: &mut K, place: Place) -> Result<(), PutFault>
+    ensures { Wrote K.output K.faults (unread_line place) out.old out.new result }
+{
+    put_line(
+        out,
+        &[
+            Text(b"refused: "),
+            Text(place_word(place)),
+            Text(b" file not read"),
+        ],
+    )
+}
+
+// A file with too many bytes.
+#[tactic(auto, unfolding(crate::specs::Refusal::long_line))]
+fn put_long<K: Sink>(out: &mut K, place: Place) -> Result<(), PutFault>
+    ensures { Wrote K.output K.faults (long_line place) out.old out.new result }
+{
+    put_line(
+        out,
+        &[
+            Text(b"refused: "),
+            Text(place_word(place)),
+            Text(b" file too long"),
+        ],
+    )
+}
+
+// A fault at a line of a text, by what the text is called.
+#[tactic(auto, unfolding(crate::specs::Refusal::fault_line))]
+fn put_at<'p, K: Sink>(
+    out: &mut K,
+    called: &'p [u8],
+    line: u32,
+    fault: &'p [u8],
+) -> Result<(), PutFault>
+    ensures { Wrote K.output K.faults (fault_line called.now line fault.now) out.old out.new result }
+{
+    put_line(
+        out,
+        &[
+            Text(b"refused: "),
+            Text(called),
+            Text(b" line "),
+            Number(line),
+            Text(fault),
+        ],
+    )
+}
+
+// A fault at a line of a netlist, with a number.
+#[tactic(auto, unfolding(crate::specs::Refusal::counted_line))]
+fn put_counted<K: Sink>(out: &mut K, line: u32, fault: &[u8], count: u32) -> Result<(), PutFault>
+    ensures { Wrote K.output K.faults (counted_line line fault.now count) out.old out.new result }
+{
+    put_line(
+        out,
+        &[
+            Text(b"refused: netlist line "),
+            Number(line),
+            Text(fault),
+            Number(count),
+        ],
+    )
+}
+
+// More variables than there may be.
+#[tactic(auto, unfolding(crate::specs::Refusal::variables_line))]
+fn put_variables<K: Sink>(out: &mut K, variables: u32) -> Result<(), PutFault>
+    ensures { Wrote K.output K.faults (variables_line variables) out.old out.new result }
+{
+    put_line(
+        out,
+        &[Text(b"refused: netlist: variables "), Number(variables)],
+    )
+}
+
+// A fault of a netlist in the .bench format. If memory ran out, there is no line.
+fn put_bench_fault<K: Sink>(out: &mut K, fault: BenchFault) -> Result<(), PutFault>
+    ensures { Wrote K.output K.faults (bench_fault_line fault) out.old out.new result }
+{
+    match fault {
+        BenchFault::Form { line } => put_at(out, b"netlist", line, b": form"),
+        BenchFault::Name { line } => put_at(out, b"netlist", line, b": name too long"),
+        BenchFault::KindUnknown { line } => put_at(out, b"netlist", line, b": unknown kind"),
+        BenchFault::Twice { line, first } => {
+            put_counted(out, line, b": defined twice, first on line ", first)
+        }
+        BenchFault::Pins { line, count } => put_counted(out, line, b": pins ", count),
+        BenchFault::Undefined { line } => put_at(out, b"netlist", line, b": undefined name"),
+        BenchFault::TooMany { variables } => put_variables(out, variables),
+        BenchFault::Memory => Ok(()),
+    }
+}
+
+// A fault of a netlist in BLIF. If memory ran out, there is no line.
+fn put_blif_fault<K: Sink>(out: &mut K, fault: BlifFault) -> Result<(), PutFault>
+    ensures { Wrote K.output K.faults (blif_fault_line fault) out.old out.new result }
+{
+    match fault {
+        BlifFault::Form { line } => put_at(out, b"netlist", line, b": form"),
+        BlifFault::Name { line } => put_at(out, b"netlist", line, b": name too long"),
+        BlifFault::Construct { line } => put_at(out, b"netlist", line, b": construct"),
+        BlifFault::Twice { line, first } => {
+            put_counted(out, line, b": defined twice, first on line ", first)
+        }
+        BlifFault::Cover { line } => put_at(out, b"netlist", line, b": cover"),
+        BlifFault::Pins { line, count } => put_counted(out, line, b": pins ", count),
+        BlifFault::Constant { line } => put_at(out, b"netlist", line, b": constant"),
+        BlifFault::Undefined { line } => put_at(out, b"netlist", line, b": undefined name"),
+        BlifFault::TooMany { variables } => put_variables(out, variables),
+        BlifFault::Memory => Ok(()),
+    }
+}
+
+// A node for which a text has no value.
+#[tactic(auto, unfolding(crate::specs::Refusal::missing_line))]
+fn put_missing<'p, K: Sink>(
+    out: &mut K,
+    called: &'p [u8],
+    circuit: &'p Circuit,
+    node: u32,
+) -> Result<(), PutFault>
+    requires { node < length circuit.now.names }
+    ensures { Wrote K.output K.faults (missing_line called.now circuit.now node) out.old out.new result }
+{
+    put_line(
+        out,
+        &[
+            Text(b"refused: "),
+            Text(called),
+            Text(b": no value for "),
+            Text(circuit.name(node)),
+        ],
+    )
+}
+
+// A count of the network's size that a text has wrong.
+#[tactic(auto, unfolding(crate::specs::Refusal::mismatch_line))]
+fn put_mismatch<K: Sink>(
+    out: &mut K,
+    called: &[u8],
+    line: u32,
+    told: u32,
+    real: u32,
+) -> Result<(), PutFault>
+    ensures { Wrote K.output K.faults (mismatch_line called.now line told real) out.old out.new result }
+{
+    put_line(
+        out,
+        &[
+            Text(b"refused: "),
+            Text(called),
+            Text(b" line "),
+            Number(line),
+            Text(b": net "),
+            Number(told),
+            Text(b", not "),
+            Number(real),
+        ],
+    )
+}
+
+// A fault of a text that is called so. If memory ran out, there is no line.
+fn put_text_fault<K: Sink>(
+    out: &mut K,
+    called: &[u8],
+    circuit: &Circuit,
+    fault: TextFault,
+) -> Result<(), PutFault>
+    requires { NamesNode circuit.now (named_node fault) }
+    ensures { Wrote K.output K.faults (text_fault_line called.now circuit.now fault) out.old out.new result }
+{
+    match fault {
+        TextFault::Form { line } => put_at(out, called, line, b": form"),
+        TextFault::Unknown { line } => put_at(out, called, line, b": unknown name"),
+        TextFault::Twice { line } => put_at(out, called, line, b": assigned twice"),
+        TextFault::Missing { node } => put_missing(out, called, circuit, node),
+        TextFault::Bit { line } => put_at(out, called, line, b": bit"),
+        TextFault::Order { line } => put_at(out, called, line, b": order"),
+        TextFault::TooMany { line } => put_at(out, called, line, b": too many"),
+        TextFault::Memory => Ok(()),
+        TextFault::Mismatch { line, told, real } => put_mismatch(out, called, line, told, real),
+    }
+}
+
+// A gate that the start leaves open.
+#[tactic(auto, unfolding(crate::specs::Refusal::open_line))]
+fn put_open<K: Sink>(out: &mut K, circuit: &Circuit, gate: u32) -> Result<(), PutFault>
+    requires { gate < length circuit.now.names }
+    ensures { Wrote K.output K.faults (open_line circuit.now gate) out.old out.new result }
+{
+    put_line(
+        out,
+        &[Text(b"refused: start: open "), Text(circuit.name(gate))],
+    )
+}
+
+// A gate that is unstable at the start.
+#[tactic(auto, unfolding(crate::specs::Refusal::unstable_line))]
+fn put_unstable<K: Sink>(out: &mut K, circuit: &Circuit, gate: u32) -> Result<(), PutFault>
+    requires { gate < length circuit.now.names }
+    ensures { Wrote K.output K.faults (unstable_line circuit.now gate) out.old out.new result }
+{
+    put_line(
+        out,
+        &[Text(b"refused: start: unstable "), Text(circuit.name(gate))],
+    )
+}
+
+// Writes why a file was not loaded.
+pub fn refuse_load<K: Sink>(out: &mut K, place: Place, fault: LoadFault) -> Status
+    ensures { Ends K.output K.faults (LoadPrints place fault) out.old out.new result }
+{
+    match fault {
+        LoadFault::Failed => status_after(put_unread(out, place), Status::File),
+        LoadFault::TooLong => status_after(put_long(out, place), Status::TooLong),
+        LoadFault::Memory => Status::Memory,
+    }
+}
+
+// Writes why a text is no netlist.
+pub fn refuse_netlist<K: Sink>(out: &mut K, fault: NetlistFault) -> Status
+    ensures { Ends K.output K.faults (NetlistPrints fault) out.old out.new result }
+{
+    match fault {
+        NetlistFault::Bench(fault) => refuse_bench(out, fault),
+        NetlistFault::Blif(fault) => refuse_blif(out, fault),
+    }
+}
+
+// Writes why a text is no netlist in the .bench format.
+fn refuse_bench<K: Sink>(out: &mut K, fault: BenchFault) -> Status
+    ensures { Ends K.output K.faults (BenchPrints fault) out.old out.new result }
+{
+    match fault {
+        BenchFault::Memory => Status::Memory,
+        _ => status_after(put_bench_fault(out, fault), Status::Netlist),
+    }
+}
+
+// Writes why a text is no netlist in BLIF.
+fn refuse_blif<K: Sink>(out: &mut K, fault: BlifFault) -> Status
+    ensures { Ends K.output K.faults (BlifPrints fault) out.old out.new result }
+{
+    match fault {
+        BlifFault::Memory => Status::Memory,
+        _ => status_after(put_blif_fault(out, fault), Status::Netlist),
+    }
+}
+
+// Writes why a text that is called so can't be read on a circuit.
+pub fn refuse_text<K: Sink>(
+    out: &mut K,
+    called: &[u8],
+    circuit: &Circuit,
+    fault: TextFault,
+) -> Status
+    requires { NamesNode circuit.now (named_node fault) }
+    ensures { Ends K.output K.faults (TextPrints called.now circuit.now fault) out.old out.new result }
+{
+    match fault {
+        TextFault::Memory => Status::Memory,
+        _ => status_after(put_text_fault(out, called, circuit, fault), Status::Text),
+    }
+}
+
+// Writes why listed values give no start.
+pub fn refuse_start<K: Sink>(out: &mut K, circuit: &Circuit, fault: StartFault) -> Status
+    requires { NamesNode circuit.now (named_gate fault) }
+    ensures { Ends K.output K.faults (StartPrints circuit.now fault) out.old out.new result }
+{
+    match fault {
+        StartFault::Open { gate } => status_after(put_open(out, circuit, gate), Status::Start),
+        StartFault::Unstable { gate } => {
+            status_after(put_unstable(out, circuit, gate), Status::Start)
+        }
+        StartFault::Memory => Status::Memory,
+    }
+}

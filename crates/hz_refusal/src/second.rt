@@ -1,0 +1,110 @@
+//! The second text: it is read, and then a job does its part with the value, or its least fault is written.
+ghost use Rattle.std.specs.Prelude.{◌≤◌, ℕ, List, length};
+ghost use Rattle.hz_core.specs.Netlist.{Netlist, IsCircuit};
+ghost use Rattle.hz_line.specs.Line.{most_text_bytes};
+ghost use Rattle.hz_text.specs.PatternText.{ArePatternsFor};
+ghost use Rattle.hz_text.specs.PatternValue.{PatternsOf};
+ghost use Rattle.hz_text.specs.RunText.{IsRunTextFor};
+ghost use Rattle.hz_text.specs.RunValue.{RunTextOf};
+ghost use Rattle.hz_text.specs.ScriptText.{IsScriptFor};
+ghost use Rattle.hz_text.specs.ScriptValue.{ScriptOf};
+ghost use Rattle.hz_refusal.specs.Ends.{Ends};
+ghost use Rattle.hz_refusal.specs.Second.{OfScript, OfRuns, OfPatterns};
+ghost use Rattle.hz_refusal.specs.declared.status.Status.{Status};
+
+use crate::refusal::refuse_text;
+use crate::status::Status;
+use hz_net::Net;
+use hz_outside::Sink;
+use hz_text::{Patterns, RunText, Script, read_patterns, read_run, read_script};
+use std::alloc::Global;
+
+/// What a job does with a script. `judges` says which text comes with which status.
+pub trait OnScript {
+    ghost judges: { Self → Netlist → ScriptOf → Status → List ℕ → Type 0 };
+
+    /// Does the job's part with a script that is read.
+    fn with_script<K: Sink>(&self, alloc: Global, net: &Net, script: &Script, out: &mut K) -> Status
+        requires circuit { IsCircuit net.now }
+        requires script { IsScriptFor net.now script.now }
+        ensures { Ends K.output K.faults (judges self.now net.now script.now) out.old out.new result };
+}
+
+/// What a job does with a run text. `judges` says which text comes with which status.
+pub trait OnRuns {
+    ghost judges: { Self → Netlist → RunTextOf → Status → List ℕ → Type 0 };
+
+    /// Does the job's part with a run text that is read.
+    fn with_runs<K: Sink>(&self, alloc: Global, net: &Net, runs: &RunText, out: &mut K) -> Status
+        requires { IsRunTextFor net.now runs.now }
+        ensures { Ends K.output K.faults (judges self.now net.now runs.now) out.old out.new result };
+}
+
+/// What a job does with patterns. `judges` says which text comes with which status.
+pub trait OnPatterns {
+    ghost judges: { Self → Netlist → PatternsOf → Status → List ℕ → Type 0 };
+
+    /// Does the job's part with patterns that are read.
+    fn with_patterns<K: Sink>(
+        &self,
+        alloc: Global,
+        net: &Net,
+        patterns: &Patterns,
+        out: &mut K,
+    ) -> Status
+        requires { ArePatternsFor net.now patterns.now }
+        ensures { Ends K.output K.faults (judges self.now net.now patterns.now) out.old out.new result };
+}
+
+// Reads a script, and does a job with it.
+pub fn on_script<J: OnScript, K: Sink>(
+    alloc: Global,
+    job: &J,
+    net: &Net,
+    text: &[u8],
+    out: &mut K,
+) -> Status
+    requires { length text.now ≤ most_text_bytes }
+    ensures { Ends K.output K.faults (OfScript (J.judges job.now) net.now text.now) out.old out.new result }
+{
+    let circuit = net.circuit();
+    match read_script(alloc, circuit, text) {
+        Ok(script) => job.with_script(alloc, net, &script, out),
+        Err(fault) => refuse_text(out, b"script", circuit, fault),
+    }
+}
+
+// Reads a run text, and does a job with it.
+pub fn on_runs<J: OnRuns, K: Sink>(
+    alloc: Global,
+    job: &J,
+    net: &Net,
+    text: &[u8],
+    out: &mut K,
+) -> Status
+    requires { length text.now ≤ most_text_bytes }
+    ensures { Ends K.output K.faults (OfRuns (J.judges job.now) net.now text.now) out.old out.new result }
+{
+    match read_run(alloc, net, text) {
+        Ok(runs) => job.with_runs(alloc, net, &runs, out),
+        Err(fault) => refuse_text(out, b"runs", net.circuit(), fault),
+    }
+}
+
+// Reads patterns, and does a job with them.
+pub fn on_patterns<J: OnPatterns, K: Sink>(
+    alloc: Global,
+    job: &J,
+    net: &Net,
+    text: &[u8],
+    out: &mut K,
+) -> Status
+    requires { length text.now ≤ most_text_bytes }
+    ensures { Ends K.output K.faults (OfPatterns (J.judges job.now) net.now text.now) out.old out.new result }
+{
+    let circuit = net.circuit();
+    match read_patterns(alloc, circuit, text) {
+        Ok(patterns) => job.with_patterns(alloc, net, &patterns, out),
+        Err(fault) => refuse_text(out, b"patterns", circuit, fault),
+    }
+}

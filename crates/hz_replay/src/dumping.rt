@@ -1,0 +1,64 @@
+//! The job `vcd`: the last run of a run text as a value change dump, once all its runs are replayed.
+ghost use Rattle.hz_text.specs.RunText.{IsRunTextFor};
+ghost use Rattle.hz_vcd.specs.Word.{words_of};
+ghost use Rattle.hz_replay.specs.Dumps.{last_dump, MeansLast};
+ghost use Rattle.hz_replay.specs.Replaying.{AreAccepted};
+ghost use Rattle.hz_write.specs.Writer.{Writes};
+ghost use Rattle.hz_write.specs.Writes.{Wrote};
+
+use crate::replaying::first_refusal;
+use crate::verdict::put_no;
+use hz_core::Memory;
+use hz_gmw::Run;
+use hz_net::Net;
+use hz_outside::{PutFault, Sink};
+use hz_refusal::{OnRuns, Status, status_after};
+use hz_text::RunText;
+use hz_vcd::write;
+use hz_write::Writer;
+use std::alloc::Global;
+
+/// The job `vcd`.
+#[derive(Drop)]
+pub struct Dumps;
+
+impl OnRuns for Dumps {
+    ghost use Rattle.hz_replay.specs.Dumps.{IsVcdOutcome};
+
+    ghost judges = { λ _. IsVcdOutcome };
+
+    fn with_runs<K: Sink>(&self, alloc: Global, net: &Net, runs: &RunText, out: &mut K) -> Status {
+        match first_refusal(alloc, net, runs) {
+            Ok(None) => status_after(put_last(alloc, out, net, runs), Status::Done),
+            Ok(Some(refused)) => {
+                status_after(put_no(out, net, refused.run, refused.why), Status::No)
+            }
+            Err(Memory) => Status::Memory,
+        }
+    }
+}
+
+// Puts the dump of the last run, or of the start alone if there is no run.
+fn put_last<K: Sink>(alloc: Global, out: &mut K, net: &Net, runs: &RunText) -> Result<(), PutFault>
+    requires text { IsRunTextFor net.now runs.now }
+    requires accepted { AreAccepted net.now runs.now }
+    ensures wrote { Wrote K.output K.faults (last_dump net.now runs.now) out.old out.new result }
+    ensures means { MeansLast net.now runs.now (words_of (last_dump net.now runs.now)) }
+{
+    let mut writer = Writer::new(out);
+    write_last(alloc, &mut writer, net, runs);
+    writer.finish()
+}
+
+// Gives the dump to a writer.
+fn write_last<K: Sink>(alloc: Global, writer: &mut Writer<'_, K>, net: &Net, runs: &RunText)
+    requires text { IsRunTextFor net.now runs.now }
+    requires accepted { AreAccepted net.now runs.now }
+    ensures gave { Writes K.output K.faults (last_dump net.now runs.now) writer.old writer.new }
+    ensures means { MeansLast net.now runs.now (words_of (last_dump net.now runs.now)) }
+{
+    match runs.runs().checked_sub(1) {
+        Some(last) => write(writer, net, runs.nodes(), runs.lead(last), runs.cycle(last)),
+        None => write(writer, net, runs.nodes(), &Run::new(alloc), None),
+    }
+}
