@@ -1,25 +1,16 @@
 -- A settle run and the cycle at its end show that Algorithm B is exact.
-use Rattle.std.proofs.Common.{◌≡◌, ℕ, Bool, true, false, not, List, length, refl, sym, ap, ◌∙◌, subst, Contains, IsTrue}
+use Rattle.std.proofs.Common.{◌≡◌, ℕ, Bool, not, List, length, refl, sym, ap, ◌∙◌, subst, Contains, IsTrue}
 use Rattle.hz_core.specs.declared.tri.Tri.{Tri}
-use Rattle.hz_core.specs.declared.tri.Tri.TheVariants.{Zero, One, Unknown}
-use Rattle.hz_core.specs.Ternary.{admits, IsJoinOf, Refines}
+use Rattle.hz_core.specs.Ternary.{admits, Refines}
 use Rattle.hz_core.proofs.Refinements.{get_or-Refines}
 use Rattle.hz_net.specs.Network.{Driver, bit_at, value_at}
 use Rattle.hz_net.specs.Passes.{algorithm_a, algorithm_b, AreRounds}
 use Rattle.hz_gmw.specs.Runs.{IsRun, end_of}
 use Rattle.hz_gmw.specs.Cycles.{states_of, IsOutcome}
 use Rattle.hz_gmw.proofs.Paths.{IsRun-front, IsCut, cut-member}
+use Rattle.hz_reach.proofs.Exact.{joins-by}
 use Rattle.hz_cycle.specs.Exact.{RunsShowB}
 use Rattle.hz_cycle.proofs.CycleExists.{contains-begin}
-
--- a set of bits that has a bit, and its complement where a value is X, and that the value admits
-joins-by : (set : Bool → Type 0) (value : Tri) (bit : Bool) → set bit → ((other : Bool) → set other → IsTrue (admits value other)) → (value ≡ Unknown → set (not bit)) → IsJoinOf set value
-joins-by set Zero false here admitted complement = (here, λ there. let no_bit = admitted true there in cc)
-joins-by set Zero true here admitted complement = let no_bit = admitted true here in cc
-joins-by set One false here admitted complement = let no_bit = admitted false here in cc
-joins-by set One true here admitted complement = (here, λ there. let no_bit = admitted false there in cc)
-joins-by set Unknown false here admitted complement = (here, complement refl)
-joins-by set Unknown true here admitted complement = (complement refl, here)
 
 -- Algorithm B covers the outcome states
 abbrev pub Covers : Type 0

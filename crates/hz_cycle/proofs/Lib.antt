@@ -1,10 +1,8 @@
 -- What the result of Algorithm B says of a state that refines it
 pub mod SettledVariables
--- The order of variables by a key and then by number is a strict order in which any two can be compared
-pub mod KeyOrder
 -- What holds inside a pass, before and after each gate's turn
 pub mod PassInvariant
--- A gate's turn in a pass
+-- A gate's turn in a pass: each unsettled pin differs from its source, so the turn can be taken, and what it makes of the state
 pub mod Turn
 -- After a gate's turn what holds inside a pass holds again, with this gate among those that have had their turn
 pub mod TurnKeeps
@@ -12,17 +10,13 @@ pub mod TurnKeeps
 pub mod StepLemmas
 -- A pass while it is made
 pub mod PassSteps
--- Who has had a turn matters for unsettled gates alone
-pub mod TurnsTaken
 -- Where a pass may begin, that it ends in a turned state, and that a turned state is determined by its gates
 pub mod TurnedStates
--- A node's fan-out ascends, so the gate and those of its fan-out that pass a test may be marked one after the other
-pub mod FanOut
--- Each wire of a circuit's network goes into a gate
-pub mod WireTargets
 -- How often a pass changes each variable, and that it ends as a pass
 pub mod PassBounds
--- The loop of `make_pass`: what holds after so many variables of the order, that each step has room, and that each turn keeps it
+-- Where some list gives a gate a value there is a canonical pattern for it
+pub mod PatternExists
+-- The turns of a pass: what holds after so many variables of the order, that each turn has room and keeps it, and that there is a pass wherever one may begin
 pub mod PassTurns
 -- What the results of both algorithms and the ranks say of one change
 pub mod Change
@@ -38,13 +32,7 @@ pub mod RoundTurns
 pub mod SettleRunExists
 -- A settle run and the cycle at its end show that Algorithm B is exact
 pub mod BExact
--- The variables that have a key can be listed by key and then by number: one after the other is put into its place
-pub mod OrderExists
--- Where some list gives a gate a value there is a canonical pattern for it
-pub mod PatternExists
 -- The settling rounds of a change can be made, one after the other
 pub mod RoundsExist
--- A pass can be made wherever it may begin: each unsettled gate has its turn, in a run with enough room
-pub mod PassExists
 -- From every stable start, under every input, there are a settle run and a cycle at its end
 pub mod RunsExist

@@ -1,5 +1,5 @@
 -- How often a pass changes each variable, and that it ends as a pass.
-use Rattle.std.proofs.Common.{◌≡◌, ℕ, ◌+◌, ◌≤◌, Bool, true, false, not, cond, List, refl, sym, ap, ◌∙◌, arith, inl, inr}
+use Rattle.std.proofs.Common.{◌≡◌, ℕ, ◌+◌, ◌≤◌, Bool, true, not, cond, List, refl, sym, ap, ◌∙◌, arith, inl, inr}
 use Rattle.hz_core.specs.declared.tri.Tri.{Tri}
 use Rattle.hz_core.specs.declared.kind.Kind.{Kind}
 use Rattle.hz_net.specs.Network.{Driver, External, Function, Source, driver_at, bit_at, value_at}
@@ -7,21 +7,13 @@ use Rattle.hz_net.specs.Passes.{IsUnknown}
 use Rattle.hz_net.specs.Reads.{IsWireInto, IsWired}
 use Rattle.hz_reach.specs.Spread.{changes_in}
 use Rattle.hz_cycle.specs.Pass.{IsFixed, AreEnough, IsPass}
-use Rattle.hz_cycle.proofs.SettledVariables.{either-value, no-input, wire-source}
-use Rattle.hz_cycle.proofs.KeyOrder.{earlier-or-not}
-use Rattle.hz_cycle.proofs.Turn.{same-or-differ}
-use Rattle.hz_cycle.proofs.PassSteps.{turns, IsUnderway}
-use Rattle.hz_cycle.proofs.TurnsTaken.{source-gate}
+use Rattle.hz_cycle.proofs.SettledVariables.{either-value, no-input, wire-source, source-gate}
+use Rattle.hz_reach.proofs.Order.{earlier-or-not}
+use Rattle.hz_reach.proofs.GateTurn.{same-or-differ}
+use Rattle.hz_cycle.proofs.PassSteps.{turns, one-at-most, IsUnderway}
 use Rattle.hz_cycle.proofs.TurnedStates.{inside-turned}
 
-one-at-most : (had : ℕ → Bool) (i : ℕ) → turns had i ≤ 1
-one-at-most had i = at-most (had i)
-  where
-    at-most : (bit : Bool) → cond bit 1 0 ≤ 1
-    at-most false = omega arith
-    at-most true = omega arith
-
-module _ {net : List Driver} {input : List Bool} {ranks : List ℕ} {b : List Tri} {begun state : List Bool} {had : ℕ → Bool} {made : List (List ℕ)} (wired : IsWired net) (fixed : IsFixed net input b) (go : (wire source : ℕ) → driver_at net wire ≡ Source source → (gate : ℕ) × IsWireInto net gate wire) (underway : IsUnderway net input ranks b begun had made state) where
+module _ {net : List Driver} {input : List Bool} {ranks : List ℕ} {b : List Tri} {begun state : List Bool} {had : ℕ → Bool} {made : List (List ℕ)} (wired : IsWired net) (fixed : IsFixed net input b) (underway : IsUnderway net input ranks b begun had made state) where
   -- no variable changes more often than is enough
   pub underway-few : (most : ℕ → ℕ) → AreEnough net ranks b begun most → (i : ℕ) → changes_in made i ≤ most i
   underway-few most enough i =
@@ -56,7 +48,7 @@ module _ {net : List Driver} {input : List Bool} {ranks : List ℕ} {b : List Tr
       by_driver unknown (External place) e = absurd (no-input fixed i place unknown e)
       by_driver unknown (Function kind first pins) e =
           omega (arith, underway.gates i kind first pins e, one-at-most had i, enough.gates i kind first pins e unknown)
-      by_driver unknown (Source source) e = let goes = go i source e in at_wire source goes.0 e goes.1 unknown
+      by_driver unknown (Source source) e = let goes = wired.gate i source e in at_wire source goes.0 e goes.1 unknown
 
   -- where all unsettled gates have had their turn the pass is made
   pub underway-pass : ((gate : ℕ) (kind : Kind) (first pins : ℕ) → driver_at net gate ≡ Function kind first pins → IsUnknown (value_at b gate) → had gate ≡ true) → IsPass net input ranks b begun made state

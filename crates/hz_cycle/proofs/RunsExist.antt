@@ -11,39 +11,31 @@ use Rattle.hz_net.specs.Starts.{IsStableStart}
 use Rattle.hz_net.proofs.Wired.{wired-network_of}
 use Rattle.hz_gmw.specs.Runs.{end_of}
 use Rattle.hz_gmw.specs.Cycles.{IsOutcome}
-use Rattle.hz_reach.specs.Counts.{FlipsAreChanges, StepsAreNoMoreThanFlips, FlipsPerUnknown, EndsByChanges}
-use Rattle.hz_reach.specs.Existence.{ResultOfAExists, ResultOfBExists, RanksExist, SettlingRoundsExist, SparingRunExists}
+use Rattle.hz_reach.proofs.Exact.{sparing_run_exists}
+use Rattle.hz_reach.proofs.Order.{order-found}
+use Rattle.hz_reach.proofs.RestRounds.{result_of_a, result_of_b, ranks_of_result, settling_of_result}
 use Rattle.hz_reach.specs.Spread.{IsSparingRun}
 use Rattle.hz_cycle.specs.Cycles.{IsCycleOf}
 use Rattle.hz_cycle.specs.Exact.{RunsShowB, HasSettleRunAndCycle, SettleRunsExist, BIsExact, OutcomesExist}
 use Rattle.hz_cycle.specs.Pass.{MayBegin, IsPass}
 use Rattle.hz_cycle.specs.Turned.{IsTurned}
-use Rattle.hz_cycle.proofs.Change.{IsChange, change-fixed, unsettled-ranked, ranks-long}
+use Rattle.hz_cycle.proofs.Change.{IsChange, change-fixed, unsettled-ranked}
 use Rattle.hz_cycle.proofs.CycleExists.{cycle-found}
-use Rattle.hz_cycle.proofs.WireTargets.{goes-somewhere}
-use Rattle.hz_cycle.proofs.OrderExists.{order-found}
-use Rattle.hz_cycle.proofs.PassExists.{pass-found}
+use Rattle.hz_cycle.proofs.PassTurns.{pass-found}
 use Rattle.hz_cycle.proofs.RoundsExist.{rounds-found}
-use Rattle.hz_cycle.proofs.SettleRunExists.{IsBeforePass, given-change, rounds-may-begin, pass-may-begin, settle-found, settle-end}
+use Rattle.hz_cycle.proofs.SettleRunExists.{IsBeforePass, rounds-may-begin, pass-may-begin, settle-found, settle-end}
 use Rattle.hz_cycle.proofs.TurnedStates.{turned-may-begin}
 
--- what is known of how often runs change variables
-record AreCounted : Type 0 where
-  changes : FlipsAreChanges
-  fewer : StepsAreNoMoreThanFlips
-  per_unknown : FlipsPerUnknown
-  ends : EndsByChanges
-
-module _ {netlist : Netlist} {input start : List Bool} {a : List Tri} {ranks : List ℕ} {b : List Tri} (counted : AreCounted) (circuit : IsCircuit netlist) (change : IsChange (network_of netlist) input start a ranks b) where
+module _ {netlist : Netlist} {input start : List Bool} {a : List Tri} {ranks : List ℕ} {b : List Tri} (circuit : IsCircuit netlist) (change : IsChange (network_of netlist) input start a ranks b) where
   pass : (begun : List Bool) → MayBegin (network_of netlist) ranks b begun → (made : List (List ℕ)) × ((state : List Bool) × IsPass (network_of netlist) input ranks b begun made state)
-  pass begun begins = pass-found circuit (change-fixed change) (ranks-long change) (unsettled-ranked change) counted.changes counted.fewer begins
+  pass begun begins = pass-found circuit (change-fixed change) (unsettled-ranked change) begins
 
   -- the cycle of a turned state
   cycle : (state : List Bool) → IsTurned (network_of netlist) ranks b state → (steps : List (List ℕ)) × IsCycleOf (network_of netlist) input b state steps
   cycle state turned =
       let once = pass state (turned-may-begin turned) in
       let again = pass once.1.0 (turned-may-begin once.1.1.turned) in
-      (once.0 ++ again.0, cycle-found (wired-network_of netlist circuit) (change-fixed change) (goes-somewhere netlist circuit) turned once.1.1 again.1.1 counted.per_unknown counted.fewer)
+      (once.0 ++ again.0, cycle-found (wired-network_of netlist circuit) (change-fixed change) turned once.1.1 again.1.1)
 
   -- the settle run, and the cycle at its end
   both : {when : List ℕ} {spread : List (List ℕ)} → IsStableStart netlist start → AreSettlingRounds (algorithm_b (network_of netlist) input a) a b when → IsSparingRun (network_of netlist) input start a ranks spread → HasSettleRunAndCycle (network_of netlist) input start a b
@@ -59,27 +51,26 @@ module _ {netlist : Netlist} {input start : List Bool} {a : List Tri} {ranks : L
         spread_end = refl;
         settling = settled.1.1;
       } in
-      let last = pass settled.1.0 (pass-may-begin before counted.ends) in
+      let last = pass settled.1.0 (pass-may-begin before) in
       let round = cycle last.1.0 last.1.1.turned in
       record {
         settle = (spread ++ settled.0) ++ last.0;
         cycle = round.0;
-        is_settle = settle-found before counted.per_unknown counted.ends last.1.1;
+        is_settle = settle-found before last.1.1;
         is_cycle = subst (λ (state : List Bool). IsCycleOf (network_of netlist) input b state round.0) (settle-end before last.1.1) round.1;
       }
 
-pub settle_runs_exist : FlipsAreChanges → StepsAreNoMoreThanFlips → FlipsPerUnknown → EndsByChanges → RanksExist → SettlingRoundsExist → SparingRunExists → SettleRunsExist
-settle_runs_exist changes fewer per_unknown ends ranks_exist rounds_exist sparing_exists netlist input start a b circuit begins a_result b_result =
+pub settle_runs_exist : SettleRunsExist
+settle_runs_exist netlist input start a b circuit begins a_result b_result =
     let net = network_of netlist in
-    let counted : AreCounted = record { changes = changes; fewer = fewer; per_unknown = per_unknown; ends = ends } in
-    let ranks = ranks_exist (algorithm_a net input start) a a_result in
-    let rounds = rounds_exist (algorithm_b net input a) a b b_result in
-    let sparing = sparing_exists netlist input start a ranks.0 circuit begins a_result ranks.1 in
-    both counted circuit (given-change begins a_result ranks.1 b_result) begins rounds.1 sparing.1
+    let ranks = ranks_of_result (algorithm_a net input start) a a_result in
+    let rounds = settling_of_result (algorithm_b net input a) a b b_result in
+    let sparing = sparing_run_exists netlist input start a ranks.0 circuit begins a_result ranks.1 in
+    both circuit (record { long = begins.long; a_result = a_result; ranked = ranks.1; b_result = b_result }) begins rounds.1 sparing.1
 
-pub b_is_exact : RunsShowB → SettleRunsExist → BIsExact
-b_is_exact shown exist netlist input start a b i circuit begins a_result b_result =
-    let runs = exist netlist input start a b circuit begins a_result b_result in
+pub b_is_exact : RunsShowB → BIsExact
+b_is_exact shown netlist input start a b i circuit begins a_result b_result =
+    let runs = settle_runs_exist netlist input start a b circuit begins a_result b_result in
     shown (network_of netlist) input start a b runs.settle runs.cycle i begins.long a_result b_result runs.is_settle runs.is_cycle
 
 -- a set of bits that joins to a value has a bit
@@ -88,10 +79,10 @@ joined-some set Zero join = (_, join.0)
 joined-some set One join = (_, join.0)
 joined-some set Unknown join = (_, join.0)
 
-pub outcomes_exist : ResultOfAExists → ResultOfBExists → BIsExact → OutcomesExist
-outcomes_exist a_exists b_exists exact netlist input start circuit begins =
+pub outcomes_exist : BIsExact → OutcomesExist
+outcomes_exist exact netlist input start circuit begins =
     let net = network_of netlist in
-    let a = a_exists net input start begins.long in
-    let b = b_exists net input start a.0 begins.long a.1 in
+    let a = result_of_a net input start begins.long in
+    let b = result_of_b net input start a.0 begins.long a.1 in
     let some = joined-some (λ bit. (state : List Bool) × IsOutcome net input start state × (bit_at state 0 ≡ bit)) (value_at b.0 0) (exact netlist input start a.0 b.0 0 circuit begins a.1 b.1) in
     (some.1.0, some.1.1)

@@ -1,7 +1,7 @@
 -- After a gate's turn what holds inside a pass holds again, with this gate among those that have had their turn.
 use Rattle.std.proofs.Common.{◌≡◌, ◌≢◌, ℕ, ◌+◌, ◌<◌, ◌⊎◌, Bool, true, false, not, cond, List, map, refl, sym, ap, ◌∙◌, subst, arith, inl, inr}
 use Rattle.std.specs.Prelude.{slice_range}
-use Rattle.std.proofs.lemmas.Bool.{cases_eq, both_ways, eq-eqb, ne_eqb}
+use Rattle.std.proofs.lemmas.Bool.{cases_eq, both_ways}
 use Rattle.hz_core.specs.declared.tri.Tri.{Tri}
 use Rattle.hz_core.specs.declared.kind.Kind.{Kind}
 use Rattle.hz_core.specs.Ternary.{is_unknown, Refines}
@@ -14,34 +14,26 @@ use Rattle.hz_reach.specs.Order.{IsEarlier}
 use Rattle.hz_net.specs.Reads.{IsWireInto, IsWired}
 use Rattle.hz_cycle.specs.Pass.{IsFixed}
 use Rattle.hz_cycle.proofs.SettledVariables.{same-known, no-input, wire-source}
-use Rattle.hz_cycle.proofs.KeyOrder.{not-earlier, not-both}
+use Rattle.hz_reach.proofs.Order.{not-earlier, not-both, also, also-itself, also-other}
+use Rattle.hz_reach.proofs.GateTurn.{other-bit, not-itself, IsFunction, pin-into, pin-inside, no-pin}
 use Rattle.hz_cycle.proofs.PassInvariant.{HasPatternInside, IsInside}
-use Rattle.hz_cycle.proofs.Turn.{other-bit, not-itself, also, IsNext, IsAfterTurn, pin-inside, pin-differs}
-
--- who has had a turn
-pub also-itself : (had : ℕ → Bool) (gate i : ℕ) → i ≡ gate → also had gate i ≡ true
-also-itself had gate i same = rw (eq-eqb i gate same) refl
-
-pub also-other : (had : ℕ → Bool) (gate i : ℕ) → i ≢ gate → also had gate i ≡ had i
-also-other had gate i other = rw (ne_eqb i gate other) refl
+use Rattle.hz_cycle.proofs.Turn.{IsNext, IsAfterTurn, pin-differs}
 
 not-waiting : (had : ℕ → Bool) (gate i : ℕ) → also had gate i ≡ false → i ≢ gate
 not-waiting had gate i waits same = both_ways _ waits (also-itself had gate i same)
 
 module _ {net : List Driver} {input : List Bool} {b : List Tri} {ranks : List ℕ} {begun state : List Bool} {had : ℕ → Bool} {gate : ℕ} {kind : Kind} {first pins : ℕ} (wired : IsWired net) (fixed : IsFixed net input b) (inside : IsInside net ranks b begun had state) (next : IsNext net ranks b had gate kind first pins) {pattern after : List Bool} (canonical : IsPattern kind (slice_range state first (first + pins)) (map is_unknown (slice_range b first (first + pins))) (not (bit_at state gate)) pattern) (turn : IsAfterTurn net gate first pins pattern state after) (settled : Refines after b) where
-  into : (pin : ℕ) → pin < pins → IsWireInto net gate (first + pin)
-  into pin few = record { kind = kind; first = first; pins = pins; driven = next.drives; above = omega arith; below = omega (arith, few) }
+  function : IsFunction net gate kind first pins
+  function = record { drives = next.drives }
 
-  no-pin : (i pin : ℕ) (other : Kind) (start count : ℕ) → driver_at net i ≡ Function other start count → pin < pins → i ≢ first + pin
-  no-pin i pin other start count drives few here =
-      let is = wired.source gate (first + pin) (into pin few) in
-      let wire : driver_at net i ≡ Source is.0 = ap (driver_at net) here ∙ is.1 in
-      cc
+  into : (pin : ℕ) → pin < pins → IsWireInto net gate (first + pin)
+  into pin few = pin-into wired function pin few
 
   -- another gate keeps its bit
   gate-kept : (i : ℕ) (other : Kind) (start count : ℕ) → driver_at net i ≡ Function other start count → i ≢ gate → bit_at after i ≡ bit_at state i
   gate-kept i other start count drives away =
-      turn.others i away (λ wire. cc) (λ pin few. no-pin i pin other start count drives few)
+      let goes : IsFunction net i other start count = record { drives = drives } in
+      turn.others i away (λ wire. cc) (no-pin wired function goes)
 
   -- so does another source of an unsettled wire
   source-kept : (wire source : ℕ) → driver_at net wire ≡ Source source → IsUnknown (value_at b wire) → source ≢ gate → bit_at after source ≡ bit_at state source
@@ -127,7 +119,7 @@ module _ {net : List Driver} {input : List Bool} {b : List Tri} {ranks : List �
     shown = slice_range state first (first + pins);
     pattern = pattern;
     is_shown = record {
-      long = length-part state first pins (λ pin few. omega (arith, pin-inside wired fixed inside next pin few, length-Refines state b inside.settled, fixed.long));
+      long = length-part state first pins (λ pin few. omega (arith, pin-inside wired function pin few, length-Refines state b inside.settled, fixed.long));
       settled = λ pin few known. at-part state first pins pin false few ∙ same-known state after b (first + pin) inside.settled settled known;
       complement = λ pin source few unknown drives either.
           let away : source ≢ gate = elim either [

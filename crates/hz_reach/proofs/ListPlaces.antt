@@ -72,7 +72,7 @@ pub state_after-none : (state : List Bool) → state ≡ state_after [] state
 state_after-none state = ext_get_or false state (state_after [] state) (sym (length-state_after [] state)) (λ i inside. sym (at-state_after [] state i inside))
 
 -- a list without elements
-pub no-element : (list : List ℕ) → length list ≡ 0 → list ≡ []
+pub no-element : {X : Type 0} (list : List X) → length list ≡ 0 → list ≡ []
 no-element [] empty = refl
 no-element (x ∷ list) empty = absurd (omega (arith, empty))
 

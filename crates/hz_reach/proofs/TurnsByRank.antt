@@ -1,9 +1,12 @@
 -- What the ranks of Algorithm A say of a network and a start: which inputs turn, and that what a wire or a gate needs in
 -- order to turn has a lesser rank.
 use Rattle.std.proofs.Common.{◌≡◌, ◌≢◌, ℕ, ◌+◌, ◌<◌, Bool, not, List, length}
+use Rattle.hz_core.specs.declared.tri.Tri.{Tri}
 use Rattle.hz_core.specs.declared.kind.Kind.{Kind}
 use Rattle.hz_core.specs.Gate.{gate_value}
-use Rattle.hz_net.specs.Network.{Driver, External, Function, Source, driver_at, bit_at}
+use Rattle.hz_net.specs.Network.{Driver, External, Function, Source, driver_at, bit_at, value_at}
+use Rattle.hz_net.specs.Reads.{IsWired}
+use Rattle.hz_net.specs.Passes.{IsUnknown}
 use Rattle.hz_reach.specs.Order.{key_at}
 
 -- bits for a gate's pins that give it the complement of its bit at the start, where a pin differs from the start only if
@@ -19,8 +22,14 @@ pub record IsChangedAfter (start : List Bool) (ranks : List ℕ) (wire source : 
   pub less : key_at ranks source < key_at ranks wire
   pub same : bit_at start wire ≡ bit_at start source
 
-pub record AreTurns (net : List Driver) (input start : List Bool) (ranks : List ℕ) : Type 0 where
+-- The result and the ranks of Algorithm A, for a network and a start.
+pub record AreTurns (net : List Driver) (input start : List Bool) (a : List Tri) (ranks : List ℕ) : Type 0 where
+  pub wired : IsWired net
   pub long : length start ≡ length net
+  pub long_a : length a ≡ length net
+  pub long_ranks : length ranks ≡ length net
+  pub unknown : (i : ℕ) → key_at ranks i ≢ 0 → IsUnknown (value_at a i)
+  pub known : (i : ℕ) → IsUnknown (value_at a i) → key_at ranks i ≢ 0
   pub inside : (i : ℕ) → key_at ranks i ≢ 0 → i < length net
   pub inputs : (i place : ℕ) → driver_at net i ≡ External place → key_at ranks i ≢ 0 → bit_at start i ≢ bit_at input place
   pub ranked : (i place : ℕ) → i < length net → driver_at net i ≡ External place → bit_at start i ≢ bit_at input place → key_at ranks i ≢ 0
