@@ -24,7 +24,7 @@ pub mod Change
 pub mod CycleExists
 -- The room of the cycle: two passes, each with at most two flips for each variable
 pub mod CycleRoom
--- A settling round is a step, and settles its variables
+-- A settling round is a step, and settles its variables; the rounds can be made one after the other
 pub mod RoundSteps
 -- The loops over settling rounds: that a mark may be set, that each step has room, and what holds after it
 pub mod RoundTurns
@@ -32,7 +32,5 @@ pub mod RoundTurns
 pub mod SettleRunExists
 -- A settle run and the cycle at its end show that Algorithm B is exact
 pub mod BExact
--- The settling rounds of a change can be made, one after the other
-pub mod RoundsExist
 -- From every stable start, under every input, there are a settle run and a cycle at its end
 pub mod RunsExist

@@ -29,8 +29,8 @@ use Rattle.hz_reach.specs.Turn.{is_gate_in, AreTurnWires, turn_flips, IsTurn}
 use Rattle.hz_reach.proofs.FanOut.{marks-with-fan_out}
 use Rattle.hz_reach.proofs.FlipCounts.{flips_are_changes}
 use Rattle.hz_reach.proofs.GateTurn.{IsFunction, pin-inside}
-use Rattle.hz_reach.proofs.Order.{had_before, also, IsNext, key-inside, place-next, turn-comes, none-comes, none-yet, all-had, after-turns, order-found}
-use Rattle.hz_reach.proofs.ListPlaces.{listed-at}
+use Rattle.hz_reach.proofs.Order.{had_before, also, IsNext, place-next, turn-comes, none-comes, none-yet, all-had, after-turns, order-found}
+use Rattle.hz_reach.proofs.ListPlaces.{key-inside, listed-at}
 use Rattle.hz_reach.proofs.Room.{steps-after, flips-after, room-left, spends-none, spends-more}
 use Rattle.hz_cycle.specs.Pass.{IsFixed, AreFixedAndRanked, MayBegin, HasRoom, IsPass, IsPassMade}
 use Rattle.hz_cycle.specs.Turns.{has_turn_in, unsettled_pins}

@@ -12,7 +12,6 @@ use Rattle.hz_net.proofs.Wired.{wired-network_of}
 use Rattle.hz_gmw.specs.Runs.{end_of}
 use Rattle.hz_gmw.specs.Cycles.{IsOutcome}
 use Rattle.hz_reach.proofs.Exact.{sparing_run_exists}
-use Rattle.hz_reach.proofs.Order.{order-found}
 use Rattle.hz_reach.proofs.RestRounds.{result_of_a, result_of_b, ranks_of_result, settling_of_result}
 use Rattle.hz_reach.specs.Spread.{IsSparingRun}
 use Rattle.hz_cycle.specs.Cycles.{IsCycleOf}
@@ -22,7 +21,7 @@ use Rattle.hz_cycle.specs.Turned.{IsTurned}
 use Rattle.hz_cycle.proofs.Change.{IsChange, change-fixed, unsettled-ranked}
 use Rattle.hz_cycle.proofs.CycleExists.{cycle-found}
 use Rattle.hz_cycle.proofs.PassTurns.{pass-found}
-use Rattle.hz_cycle.proofs.RoundsExist.{rounds-found}
+use Rattle.hz_cycle.proofs.RoundSteps.{rounds-found}
 use Rattle.hz_cycle.proofs.SettleRunExists.{IsBeforePass, rounds-may-begin, pass-may-begin, settle-found, settle-end}
 use Rattle.hz_cycle.proofs.TurnedStates.{turned-may-begin}
 
@@ -40,8 +39,7 @@ module _ {netlist : Netlist} {input start : List Bool} {a : List Tri} {ranks : L
   -- the settle run, and the cycle at its end
   both : {when : List ℕ} {spread : List (List ℕ)} → IsStableStart netlist start → AreSettlingRounds (algorithm_b (network_of netlist) input a) a b when → IsSparingRun (network_of netlist) input start a ranks spread → HasSettleRunAndCycle (network_of netlist) input start a b
   both {when} {spread} begins rounds sparing =
-      let order = order-found when in
-      let settled = rounds-found (rounds-may-begin change rounds sparing refl) order.0 order.1 in
+      let settled = rounds-found (rounds-may-begin change rounds sparing refl) in
       let before : IsBeforePass netlist input start a ranks when b spread (end_of start spread) settled.0 settled.1.0 = record {
         circuit = circuit;
         begins = begins;

@@ -1,4 +1,4 @@
--- Lists of variables that name none twice, and the state after steps of which none changes a variable again.
+-- Lists of variables that name none twice.
 use Rattle.std.proofs.Common.{◌≡◌, ℕ, ◌<◌, ◌≤◌, ◌⊎◌, Bool, true, false, not, cond, ◌||◌, List, [], ◌∷◌, ◌++◌, length, refl, sym, ap, ◌∙◌, subst, arith, inl, inr, eqb}
 use Rattle.std.specs.List.{concat, AllByRecursion, IsDistinct}
 use Rattle.std.proofs.lemmas.Bool.{cases_Bool, or_cases, or_parts, or_from, or_left, or_right, both_ways, eqb-true, eq-eqb}
@@ -59,51 +59,10 @@ distinct-from : (x : ℕ) (xs : List ℕ) → is_listed xs x ≡ false → AllBy
 distinct-from x [] out = tt
 distinct-from x (y ∷ ys) out = let parts = or_parts _ _ out in (parts.0, distinct-from x ys parts.1)
 
-distinct : (xs : List ℕ) → IsRepeatFree xs → IsDistinct eqb xs
+pub distinct : (xs : List ℕ) → IsRepeatFree xs → IsDistinct eqb xs
 unfolding IsDistinct
 distinct [] once = tt
 distinct (x ∷ xs) once = (distinct-from x xs once.0, distinct xs once.1)
 
 pub is_repeat_free-bound : (xs : List ℕ) (n : ℕ) → IsRepeatFree xs → ((i : ℕ) → is_listed xs i ≡ true → i < n) → length xs ≤ n
 is_repeat_free-bound xs n once inside = length-le_from_distinct_below xs n (distinct xs once) inside
-
--- a bit that changes at most once
-changed-twice : (left right both bit : Bool) → both ≡ (left || right) → (left ≡ true → right ≡ false) → cond right (not (cond left (not bit) bit)) (cond left (not bit) bit) ≡ cond both (not bit) bit
-changed-twice true true both bit e apart = absurd (both_ways true (apart refl) refl)
-changed-twice true false both bit e apart = rw e refl
-changed-twice false true both bit e apart = rw e refl
-changed-twice false false both bit e apart = rw e refl
-
--- the bits after steps of which none changes a variable again: those of the variables that some step changed are complemented
-pub at-end_of : (steps : List (List ℕ)) (state : List Bool) (i : ℕ) → IsRepeatFree (concat steps) → i < length state → bit_at (end_of state steps) i ≡ cond (is_listed (concat steps) i) (not (bit_at state i)) (bit_at state i)
-at-end_of [] state i once inside = refl
-at-end_of (flips ∷ steps) state i once inside =
-    let later = at-end_of steps (state_after flips state) i (is_repeat_free-right flips (concat steps) once) (subst (λ (n : ℕ). i < n) (sym (length-state_after flips state)) inside) in
-    later
-    ∙ (ap (λ (b : Bool). cond (is_listed (concat steps) i) (not b) b) (at-state_after flips state i inside)
-    ∙ changed-twice (is_listed flips i) (is_listed (concat steps) i) (is_listed (flips ++ concat steps) i) (bit_at state i) (listed-append flips (concat steps) i) (is_repeat_free-apart flips (concat steps) once i))
-
--- what a run changes are variables
-pub listed-inside : (net : List Driver) (input : List Bool) (steps : List (List ℕ)) (state : List Bool) (i : ℕ) → IsRun net input state steps → is_listed (concat steps) i ≡ true → i < length net
-listed-inside net input [] state i run there = absurd (both_ways false refl there)
-listed-inside net input (flips ∷ steps) state i run there =
-    elim (listed-cases flips (concat steps) i there) [
-      | inl here ↦ run.0.inside i here
-      | inr later ↦ listed-inside net input steps (state_after flips state) i run.1 later
-    ]
-
--- how often a run changes a variable that no step lists, and one that one step lists
-pub changes-unlisted : (steps : List (List ℕ)) (i : ℕ) → is_listed (concat steps) i ≡ false → changes_in steps i ≡ 0
-changes-unlisted [] i out = refl
-changes-unlisted (flips ∷ steps) i out =
-    let parts = unlisted-parts flips (concat steps) i out in
-    sum_by-cons (λ (list : List ℕ). cond (is_listed list i) 1 0) flips steps ∙ rw parts.0 (omega (arith, changes-unlisted steps i parts.1))
-
-pub changes-listed : (steps : List (List ℕ)) (i : ℕ) → IsRepeatFree (concat steps) → is_listed (concat steps) i ≡ true → changes_in steps i ≡ 1
-changes-listed [] i once there = absurd (both_ways false refl there)
-changes-listed (flips ∷ steps) i once there =
-    sum_by-cons (λ (list : List ℕ). cond (is_listed list i) 1 0) flips steps
-    ∙ elim (cases_Bool (is_listed flips i)) [
-      | inl here ↦ rw here (omega (arith, changes-unlisted steps i (is_repeat_free-apart flips (concat steps) once i here)))
-      | inr out ↦ rw out (omega (arith, changes-listed steps i (is_repeat_free-right flips (concat steps) once) (elim (listed-cases flips (concat steps) i there) [ inl here ↦ absurd (both_ways _ out here) | inr later ↦ later ])))
-    ]

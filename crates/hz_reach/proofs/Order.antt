@@ -3,14 +3,14 @@ use Rattle.std.proofs.Common.{◌≡◌, ◌≢◌, ℕ, zero, suc, ◌+◌, ◌
 use Rattle.std.proofs.Math.Path.{fun_ext}
 use Rattle.std.specs.Prelude.{sum_by}
 use Rattle.std.proofs.lemmas.Bool.{cases_eq, cases_lt, cases_order, both_ways, and_parts, and_from, or_right, eqb-true, eq-eqb, ne_eqb, false_from_ne_true}
-use Rattle.std.proofs.lemmas.List.{take_all, length-take, get_or-take, get_or_past}
+use Rattle.std.proofs.lemmas.List.{take_all, length-take, get_or-take}
 use Rattle.std.proofs.lemmas.List.Folds.{list_any_more}
 use Rattle.std.proofs.lemmas.List.Sums.{get_or-le-sum_by}
 use Rattle.hz_gmw.specs.Runs.{is_listed}
 use Rattle.hz_reach.specs.Order.{key_at, IsEarlier, IsInKeyOrder}
 use Rattle.hz_reach.specs.Linked.{AreBefore}
 use Rattle.hz_reach.proofs.Links.{before-more}
-use Rattle.hz_reach.proofs.ListPlaces.{listed-at, listed-place}
+use Rattle.hz_reach.proofs.ListPlaces.{key-inside, listed-at, listed-place}
 
 -- The order by a key and then by number
 
@@ -38,10 +38,6 @@ earlier-or-not keys i j =
     not-less : key_at keys i ≡ key_at keys j → j ≤ i → IsEarlier keys i j → ⊥
     not-less same more (inl less) = omega (arith, same, less)
     not-less same more (inr both) = omega (arith, more, both.1)
-
--- what has a key is a variable
-pub key-inside : (keys : List ℕ) (i : ℕ) → key_at keys i ≢ 0 → i < length keys
-key-inside keys i some = elim (cases_lt i (length keys)) [ inl few ↦ few | inr past ↦ absurd (some (get_or_past keys i 0 past)) ]
 
 -- what stands before a place stands at a lesser one
 pub before-place : (order : List ℕ) (place i : ℕ) → is_listed (take place order) i ≡ true → (k : ℕ) × (k < place) × (k < length order) × (get_or order k 0 ≡ i)

@@ -1,11 +1,10 @@
 -- The spread run while it is made: what holds after each of its steps, and that each of its steps keeps it.
 use Rattle.std.proofs.Common.{◌≡◌, ◌≢◌, ℕ, ◌+◌, ◌<◌, ◌≤◌, ◌⊎◌, Bool, true, false, not, cond, ◌&&◌, List, [], ◌∷◌, ◌++◌, length, get_or, refl, sym, ap, ◌∙◌, subst, arith, inl, inr, append-nil, eqb, ltb, length-append}
-use Rattle.std.specs.Prelude.{slice_range}
+use Rattle.std.specs.Prelude.{slice_range, ◌%◌}
 use Rattle.std.specs.List.{concat}
-use Rattle.std.proofs.lemmas.Bool.{both_ways, and_parts, and_from, or_cases, or_left, or_right, not-true, not_from_false, eqb-false, eqb-true, eq-eqb, ne_eqb, ltb-true, lt-ltb, false_from_ne_true}
+use Rattle.std.proofs.lemmas.Bool.{cases_Bool, both_ways, and_parts, and_from, or_cases, or_left, or_right, not-true, not_from_false, eqb-false, eqb-true, eq-eqb, ne_eqb, ltb-true, lt-ltb, false_from_ne_true}
 use Rattle.std.proofs.lemmas.List.{get_or-map}
 use Rattle.std.proofs.lemmas.List.Folds.{concat-append}
-use Rattle.std.proofs.lemmas.List.Sums.{sum_by-cons}
 use Rattle.hz_core.specs.declared.tri.Tri.{Tri}
 use Rattle.hz_core.specs.declared.kind.Kind.{Kind}
 use Rattle.hz_core.specs.Pattern.{IsCandidate}
@@ -17,8 +16,10 @@ use Rattle.hz_gmw.specs.RunRecord.{flip_count}
 use Rattle.hz_gmw.proofs.CoverB.{length-end_of}
 use Rattle.hz_reach.specs.Order.{key_at}
 use Rattle.hz_reach.specs.Room.{with_step_if_any}
+use Rattle.hz_reach.specs.Spread.{changes_in}
 use Rattle.hz_reach.specs.Turn.{is_gate_in, free_pins}
-use Rattle.hz_reach.proofs.DistinctLists.{listed-cases, listed-left, listed-right, is_repeat_free-append, is_repeat_free-bound, listed-inside, at-end_of}
+use Rattle.hz_reach.proofs.DistinctLists.{listed-cases, listed-left, listed-right, unlisted-parts, is_repeat_free-append, is_repeat_free-right, is_repeat_free-apart}
+use Rattle.hz_reach.proofs.FlipCounts.{changes-more, flips_per_variable, ends_by_changes}
 use Rattle.hz_reach.proofs.FilteredRangeLemmas.{only-one, is-one}
 use Rattle.hz_reach.proofs.TurnsByRank.{IsChangedAfter, AreTurns}
 use Rattle.hz_reach.proofs.Order.{also, IsNext}
@@ -34,10 +35,21 @@ changed-after steps [] = sym (append-nil (concat steps))
 changed-after steps (i ∷ flips) =
     concat-append steps ((i ∷ flips) ∷ []) ∙ ap (λ (rest : List ℕ). concat steps ++ rest) (append-nil (i ∷ flips))
 
-length-changed : (steps : List (List ℕ)) → length (changed steps) ≡ flip_count steps
-length-changed [] = refl
-length-changed (flips ∷ steps) =
-    omega (arith, length-append flips (concat steps), length-changed steps, sum_by-cons (λ (list : List ℕ). length list) flips steps)
+-- how often a run changes a variable that no step lists, and one that one step lists
+pub changes-unlisted : (steps : List (List ℕ)) (i : ℕ) → is_listed (changed steps) i ≡ false → changes_in steps i ≡ 0
+changes-unlisted [] i out = refl
+changes-unlisted (flips ∷ steps) i out =
+    let parts = unlisted-parts flips (changed steps) i out in
+    changes-more flips steps i ∙ rw parts.0 (omega (arith, changes-unlisted steps i parts.1))
+
+pub changes-listed : (steps : List (List ℕ)) (i : ℕ) → IsRepeatFree (changed steps) → is_listed (changed steps) i ≡ true → changes_in steps i ≡ 1
+changes-listed [] i once there = absurd (both_ways false refl there)
+changes-listed (flips ∷ steps) i once there =
+    changes-more flips steps i
+    ∙ elim (cases_Bool (is_listed flips i)) [
+      | inl here ↦ rw here (omega (arith, changes-unlisted steps i (is_repeat_free-apart flips (changed steps) once i here)))
+      | inr out ↦ rw out (omega (arith, changes-listed steps i (is_repeat_free-right flips (changed steps) once) (elim (listed-cases flips (changed steps) i there) [ inl here ↦ absurd (both_ways _ out here) | inr later ↦ later ])))
+    ]
 
 -- What holds while the run is made: it changes no variable twice, and of the gates it has changed those that had their turn.
 pub record HadTurns (net : List Driver) (input start : List Bool) (ranks : List ℕ) (had : ℕ → Bool) (steps : List (List ℕ)) (state : List Bool) : Type 0 where
@@ -52,10 +64,15 @@ pub record HadTurns (net : List Driver) (input start : List Bool) (ranks : List 
       (wire source : ℕ) → driver_at net wire ≡ Source source → is_listed (changed steps) wire ≡ true →
       (gate : ℕ) × IsWireInto net gate wire × (had gate ≡ true) × (key_at ranks wire < key_at ranks gate)
 
+pub changes-few : (steps : List (List ℕ)) (i : ℕ) → IsRepeatFree (changed steps) → changes_in steps i ≤ 1
+changes-few steps i once = elim (cases_Bool (is_listed (changed steps) i)) [
+  | inl there ↦ omega (arith, changes-listed steps i once there)
+  | inr out ↦ omega (arith, changes-unlisted steps i out)
+]
+
 -- so it has at most a flip for each variable
 pub few-flips : (net : List Driver) (input start : List Bool) (steps : List (List ℕ)) → IsRun net input start steps → IsRepeatFree (changed steps) → flip_count steps ≤ length net
-few-flips net input start steps run once =
-    omega (arith, length-changed steps, is_repeat_free-bound (changed steps) (length net) once (λ i there. listed-inside net input steps start i run there))
+few-flips net input start steps run once = omega (arith, flips_per_variable net input start steps 1 run (λ i. changes-few steps i once))
 
 module _ {net : List Driver} {input start : List Bool} {a : List Tri} {ranks : List ℕ} (turns : AreTurns net input start a ranks) where
   -- The first step: the inputs that turn.
@@ -88,18 +105,20 @@ module _ {net : List Driver} {input start : List Bool} {a : List Tri} {ranks : L
     state-long = ap (length {A = Bool}) (sym so_far.ends) ∙ (length-end_of start steps ∙ turns.long)
 
     -- the bit of a variable that has changed, and of one that has not
-    bit-now : (i : ℕ) (there : Bool) → key_at ranks i ≢ 0 → is_listed (changed steps) i ≡ there → bit_at state i ≡ cond there (not (bit_at start i)) (bit_at start i)
-    bit-now i there some is =
-        let inside : i < length net = turns.inside i some in
+    bit-now : (i : ℕ) (there : Bool) → i < length net → is_listed (changed steps) i ≡ there → bit_at state i ≡ cond there (not (bit_at start i)) (bit_at start i)
+    bit-now i there inside is =
         ap (λ (s : List Bool). bit_at s i) (sym so_far.ends)
-        ∙ (at-end_of steps start i so_far.once (omega (arith, inside, turns.long))
-        ∙ ap (λ (b : Bool). cond b (not (bit_at start i)) (bit_at start i)) is)
+        ∙ (ends_by_changes start steps i (omega (arith, inside, turns.long)) ∙ by_changes there is)
+      where
+        by_changes : (bit : Bool) → is_listed (changed steps) i ≡ bit → cond (eqb (changes_in steps i % 2) 1) (not (bit_at start i)) (bit_at start i) ≡ cond bit (not (bit_at start i)) (bit_at start i)
+        by_changes true e = ap (λ (n : ℕ). cond (eqb (n % 2) 1) (not (bit_at start i)) (bit_at start i)) (changes-listed steps i so_far.once e)
+        by_changes false e = ap (λ (n : ℕ). cond (eqb (n % 2) 1) (not (bit_at start i)) (bit_at start i)) (changes-unlisted steps i e)
 
     pub listed-same : (i : ℕ) → key_at ranks i ≢ 0 → bit_at start i ≡ bit_at state i → is_listed (changed steps) i ≡ false
-    listed-same i some same = false_from_ne_true _ (λ there. not-itself (bit_at start i) (sym (bit-now i true some there) ∙ sym same))
+    listed-same i some same = false_from_ne_true _ (λ there. not-itself (bit_at start i) (sym (bit-now i true (turns.inside i some) there) ∙ sym same))
 
     pub unlisted-bit : (i : ℕ) → key_at ranks i ≢ 0 → is_listed (changed steps) i ≡ false → bit_at start i ≡ bit_at state i
-    unlisted-bit i some out = sym (bit-now i false some out)
+    unlisted-bit i some out = sym (bit-now i false (turns.inside i some) out)
 
     -- a node with a rank that has changed, if it is a gate because its turn came
     pub node-changed : (node : ℕ) → IsNode net node → key_at ranks node ≢ 0 → (is_gate_in net node ≡ true → had node ≡ true) → is_listed (changed steps) node ≡ true
@@ -114,8 +133,8 @@ module _ {net : List Driver} {input start : List Bool} {a : List Tri} {ranks : L
     pub wire-differs : (wire source : ℕ) → driver_at net wire ≡ Source source → key_at ranks wire ≢ 0 → is_listed (changed steps) wire ≡ false → (is_gate_in net source ≡ true → had source ≡ true) → bit_at state wire ≢ bit_at state source
     wire-differs wire source drives ranked fresh done same =
         let turn : IsChangedAfter start ranks wire source = turns.wires wire source drives ranked in
-        let then = bit-now source true turn.some (node-changed source (turns.wired.node wire source drives) turn.some done) in
-        not-itself (bit_at start source) (sym then ∙ (sym same ∙ (bit-now wire false ranked fresh ∙ turn.same)))
+        let then = bit-now source true (turns.inside source turn.some) (node-changed source (turns.wired.node wire source drives) turn.some done) in
+        not-itself (bit_at start source) (sym then ∙ (sym same ∙ (bit-now wire false (turns.inside wire ranked) fresh ∙ turn.same)))
 
     -- The turn of a gate with a rank, when those with lesser ranks have had theirs.
     module _ {gate : ℕ} (next : IsNext ranks (is_gate_in net) had gate) {kind : Kind} {first pins : ℕ} (function : IsFunction net gate kind first pins) where
@@ -182,12 +201,7 @@ module _ {net : List Driver} {input start : List Bool} {a : List Tri} {ranks : L
           )
         where
           pin-bit : (pin : ℕ) → pin < pins → bit_at start (first + pin) ≡ bit_at state (first + pin)
-          pin-bit pin few =
-              let inside : first + pin < length net = pin-inside turns.wired function pin few in
-              sym
-              (ap (λ (s : List Bool). bit_at s (first + pin)) (sym so_far.ends)
-              ∙ (at-end_of steps start (first + pin) so_far.once (omega (arith, inside, turns.long))
-              ∙ ap (λ (b : Bool). cond b (not (bit_at start (first + pin))) (bit_at start (first + pin))) (pin-fresh pin few)))
+          pin-bit pin few = sym (bit-now (first + pin) false (pin-inside turns.wired function pin few) (pin-fresh pin few))
 
       -- After it.
       module _ {pattern : List Bool} (candidate : IsCandidate kind (slice_range state first (first + pins)) (free_pins (key_at ranks gate) (slice_range ranks first (first + pins))) (not (bit_at state gate)) pattern) where

@@ -18,7 +18,7 @@ use Rattle.hz_reach.specs.Room.{with_step_if_any, Spends, HasRoomFor, HasRoomFor
 use Rattle.hz_reach.specs.ScratchState.{ScratchState}
 use Rattle.hz_reach.specs.Spread.{IsSpreadRun, IsSparingRun}
 use Rattle.hz_reach.specs.Turn.{is_gate_in, changed_inputs, earlier_pins, unchanged_wires, AreTurnWires, IsTurn}
-use Rattle.hz_reach.proofs.DistinctLists.{listed-cases, listed-left, listed-right, is_repeat_free-append, changes-unlisted, changes-listed}
+use Rattle.hz_reach.proofs.DistinctLists.{listed-cases, listed-left, listed-right, is_repeat_free-append}
 use Rattle.hz_reach.proofs.FilteredRangeLemmas.{filtered_range-is, is-filtered_range, filtered_range-once, differs-true, true-differs}
 use Rattle.hz_reach.proofs.TurnsByRank.{IsChangedAfter, AreTurns}
 use Rattle.hz_reach.proofs.RanksOrderGates.{turns-of}
@@ -26,7 +26,7 @@ use Rattle.hz_reach.proofs.Order.{had_before, also, IsNext, place-next, turn-com
 use Rattle.hz_reach.proofs.ListPlaces.{listed-at}
 use Rattle.hz_reach.proofs.Room.{end_of-after, run-after, flips-after, room-for-step, room-left, spends-none, spends-more}
 use Rattle.hz_reach.proofs.GateTurn.{turn-end}
-use Rattle.hz_reach.proofs.SpreadLoop.{changed, changed-after, HadTurns, few-flips, changed-inputs, state-long, listed-same, unlisted-bit, node-changed, wire-differs, rank-possible, had-turn}
+use Rattle.hz_reach.proofs.SpreadLoop.{changed, changed-after, changes-unlisted, changes-listed, changes-few, HadTurns, few-flips, changed-inputs, state-long, listed-same, unlisted-bit, node-changed, wire-differs, rank-possible, had-turn}
 
 -- a value that is found to be X
 known-test : (value : Tri) → is_unknown value ≡ true → value ≡ Unknown
@@ -91,10 +91,7 @@ module _ {netlist : Netlist} (circuit : IsCircuit netlist) {input start : List B
       nodes = λ i unknown is_node.
           let some = turns.known i unknown in
           changes-listed steps i so_far.once (node-changed turns so_far i is_node some (λ is_gate. each i is_gate some));
-      wires = λ i. elim (cases_Bool (is_listed (changed steps) i)) [
-        | inl there ↦ omega (arith, changes-listed steps i so_far.once there)
-        | inr out ↦ omega (arith, changes-unlisted steps i out)
-      ];
+      wires = λ i. changes-few steps i so_far.once;
       later = λ wire source gate drives into no_earlier. changes-unlisted steps wire (false_from_ne_true _ (λ there.
           let is = so_far.wires wire source drives there in
           let turn : IsChangedAfter start ranks wire source = turns.wires wire source drives (so_far.ranked wire there) in
