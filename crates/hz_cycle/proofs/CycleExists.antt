@@ -1,27 +1,31 @@
--- Two passes from a turned state lead back to it, and are the cycle of the change.
-use Rattle.std.proofs.Common.{◌≡◌, ℕ, zero, suc, ◌*◌, ◌≤◌, Bool, true, false, not, List, [], ◌∷◌, ◌++◌, refl, sym, ap, ◌∙◌, subst, arith, inl, inr, Contains, IsTrue}
-use Rattle.std.specs.List.{AllByRecursion}
+-- Two passes from a turned state lead back to it, and are the cycle of the change; and the room that they take.
+use Rattle.std.proofs.Common.{◌≡◌, ℕ, zero, suc, ◌*◌, ◌≤◌, Bool, true, false, not, List, [], ◌∷◌, ◌++◌, refl, sym, ap, ◌∙◌, subst, arith, inl, inr, Contains, IsTrue, ◌+◌, length}
+use Rattle.std.specs.List.{AllByRecursion, range_with_len}
 use Rattle.hz_core.specs.declared.tri.Tri.{Tri}
 use Rattle.hz_core.specs.Ternary.{admits, unknown_count, Refines}
 use Rattle.hz_core.proofs.Refinements.{length-Refines, get_or-Refines, Refines-get_or}
 use Rattle.hz_net.specs.Network.{Driver, External, Function, Source, driver_at, bit_at, value_at, IsUnstable}
 use Rattle.hz_net.specs.Passes.{IsKnown, IsUnknown}
 use Rattle.hz_gmw.specs.Runs.{state_after, IsRun, end_of}
-use Rattle.hz_gmw.specs.RunRecord.{flip_count}
+use Rattle.hz_gmw.specs.RunRecord.{flip_count, RunRecord}
 use Rattle.hz_gmw.specs.Cycles.{states_of}
 use Rattle.hz_gmw.proofs.CoverB.{length-end_of}
 use Rattle.hz_gmw.proofs.Paths.{end_of-append, IsRun-append, IsCut, cut-member}
-use Rattle.hz_reach.proofs.FlipCounts.{flips_per_unknown, steps_below_flips}
+use Rattle.hz_reach.proofs.FlipCounts.{flips_per_unknown, steps_below_flips, flips_per_variable}
 use Rattle.hz_net.specs.Reads.{IsWired}
 use Rattle.hz_reach.specs.Spread.{changes_in}
 use Rattle.hz_cycle.specs.Cycles.{IsCycleOf}
-use Rattle.hz_cycle.specs.Pass.{IsFixed, AreEnough, IsPass}
+use Rattle.hz_cycle.specs.Pass.{IsFixed, AreEnough, IsPass, HasRoom}
 use Rattle.hz_cycle.specs.Turned.{IsTurned}
 use Rattle.hz_cycle.proofs.SettledVariables.{either-value, known-stable, no-input, wire-source, source-gate}
 use Rattle.hz_cycle.proofs.StepLemmas.{changes-append, unchanged-end, contains-end, contains-front}
 use Rattle.hz_reach.proofs.GateTurn.{same-or-differ, other-bit, not-itself}
 use Rattle.hz_reach.proofs.ListPlaces.{no-element}
 use Rattle.hz_cycle.proofs.TurnedStates.{same-turned}
+use Rattle.std.specs.Prelude.{sum_by}
+use Rattle.std.proofs.lemmas.List.Sums.{sum_by-cons}
+use Rattle.hz_reach.specs.Room.{Spends, HasRoomFor}
+use Rattle.hz_reach.proofs.Room.{room-left}
 
 -- two changes are enough for each variable
 pub two-enough : (net : List Driver) (ranks : List ℕ) (b : List Tri) (state : List Bool) → AreEnough net ranks b state (λ i. 2)
@@ -176,3 +180,25 @@ module _ {net : List Driver} {input : List Bool} {ranks : List ℕ} {b : List Tr
         alone : (member : List Bool) → Contains (state ∷ []) member → state ≡ member
         alone member (zero, inside, e) = e
         alone member (suc k, inside, e) = absurd (omega (arith, inside))
+
+pub twos : (first count : ℕ) → sum_by (λ (i : ℕ). 2) (range_with_len first count) ≡ 2 * count
+twos first zero = refl
+twos first (suc count) = omega (arith, sum_by-cons (λ (i : ℕ). 2) first (range_with_len (first + 1) count), twos (first + 1) count)
+
+-- room for two flips for each variable is room for a pass
+pub room-twice : (net : List Driver) (ranks : List ℕ) (b : List Tri) (state : List Bool) (run : RunRecord) → HasRoomFor (2 * length net) run → HasRoom net ranks b state run
+room-twice net ranks b state run room = record {
+  most = λ i. 2;
+  enough = two-enough net ranks b state;
+  room = record { flips = omega (arith, room.flips, twos 0 (length net)); steps = omega (arith, room.steps, twos 0 (length net)) };
+}
+
+-- the first pass leaves the room for the second
+pub room-again :
+    {net : List Driver} {input : List Bool} {ranks : List ℕ} {b : List Tri} {begun state : List Bool} {made : List (List ℕ)} {before now : RunRecord} →
+    IsPass net input ranks b begun made state → now.steps ≡ before.steps ++ made → Spends before now → HasRoomFor (4 * length net) before →
+    HasRoom net ranks b state now
+room-again {net} {input} {ranks} {b} {begun} {state} {made} {before} {now} pass whole spent room =
+    room-twice net ranks b state now
+    (room-left net input begun made (2 * length net) pass.run whole spent room
+    (omega (arith, flips_per_variable net input begun made 2 pass.run (pass.few (λ i. 2) (two-enough net ranks b begun)))))

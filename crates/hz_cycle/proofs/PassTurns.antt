@@ -1,6 +1,6 @@
 -- The turns of a pass: what holds after so many variables of the order, that each turn has room and keeps it, and that there is
 -- a pass wherever one may begin.
-use Rattle.std.proofs.Common.{◌≡◌, ◌≢◌, ℕ, ◌+◌, ◌-◌, ◌<◌, ◌≤◌, Bool, true, false, not, List, [], ◌∷◌, ◌++◌, length, get_or, refl, sym, ap, ◌∙◌, subst, arith, inl, inr, append-nil, IsTrue}
+use Rattle.std.proofs.Common.{◌≡◌, ◌≢◌, ℕ, ◌+◌, ◌-◌, ◌<◌, ◌≤◌, Bool, true, false, not, List, [], ◌∷◌, length, get_or, refl, sym, ap, ◌∙◌, subst, arith, inl, inr, append-nil, IsTrue}
 use Rattle.std.specs.List.{range_with_len}
 use Rattle.std.proofs.lemmas.Bool.{cases_lt, both_ways, and_parts, and_from}
 use Rattle.std.proofs.lemmas.List.{length-map}
@@ -29,17 +29,16 @@ use Rattle.hz_reach.specs.Turn.{is_gate_in, AreTurnWires, turn_flips, IsTurn}
 use Rattle.hz_reach.proofs.FanOut.{marks-with-fan_out}
 use Rattle.hz_reach.proofs.FlipCounts.{flips_are_changes}
 use Rattle.hz_reach.proofs.GateTurn.{IsFunction, pin-inside}
-use Rattle.hz_reach.proofs.Order.{had_before, also, IsNext, place-next, turn-comes, none-comes, none-yet, all-had, after-turns, order-found}
+use Rattle.hz_reach.proofs.Order.{had_before, also, IsNext, all-had, after-turns, order-found}
+use Rattle.hz_reach.proofs.TurnLoop.{IsAtPlace, at-begin, at-next, at-here, at-turn}
 use Rattle.hz_reach.proofs.ListPlaces.{key-inside, listed-at}
-use Rattle.hz_reach.proofs.Room.{steps-after, flips-after, room-left, spends-none, spends-more}
+use Rattle.hz_reach.proofs.Room.{flips-after, room-left, spends-none}
 use Rattle.hz_cycle.specs.Pass.{IsFixed, AreFixedAndRanked, MayBegin, HasRoom, IsPass, IsPassMade}
 use Rattle.hz_cycle.specs.Turns.{has_turn_in, unsettled_pins}
 use Rattle.hz_cycle.proofs.SettledVariables.{unknown-is, is-unknown, gate-possible}
-use Rattle.hz_cycle.proofs.PassBounds.{underway-few, underway-pass}
-use Rattle.hz_cycle.proofs.PassSteps.{IsUnderway, underway-after}
+use Rattle.hz_cycle.proofs.PassSteps.{underway-few, underway-pass, IsUnderway, underway-after, underway-begin}
 use Rattle.hz_cycle.proofs.PatternExists.{pattern-found}
 use Rattle.hz_cycle.proofs.Turn.{next-gate}
-use Rattle.hz_cycle.proofs.TurnedStates.{underway-begin}
 
 -- an unsettled gate has a turn
 has-turn : (net : List Driver) (b : List Tri) (gate : ℕ) (kind : Kind) (start count : ℕ) → driver_at net gate ≡ Function kind start count → IsUnknown (value_at b gate) → has_turn_in net b gate ≡ true
@@ -145,37 +144,21 @@ pub record IsPassAsked (netlist : Netlist) (ranks : List ℕ) (b : List Tri) (be
   pub begins : MayBegin (network_of netlist) ranks b begun
   pub room : HasRoom (network_of netlist) ranks b begun first
 
--- after so many variables of the order
+-- after so many variables of the order, whatever the input under which the values are fixed
 pub record IsPassing (netlist : Netlist) (ranks : List ℕ) (b : List Tri) (begun : List Bool) (first : RunRecord) (place : ℕ) (scratch : ScratchState) (now : RunRecord) : Type 0 where
   pub asked : IsPassAsked netlist ranks b begun first
-  pub sorted : IsInKeyOrder ranks scratch.sorted
-  pub marked : scratch.marked ≡ []
-  pub made : List (List ℕ)
-  pub steps : now.steps ≡ first.steps ++ made
-  pub spent : Spends first now
-  pub underway :
-      (input : List Bool) → IsFixed (network_of netlist) input b →
-      IsUnderway (network_of netlist) input ranks b begun (had_before (has_turn_in (network_of netlist) b) scratch.sorted place) made scratch.state
+  pub at : IsAtPlace netlist ranks (has_turn_in (network_of netlist) b) (λ had made state. (input : List Bool) → IsFixed (network_of netlist) input b → IsUnderway (network_of netlist) input ranks b begun had made state) first place scratch now
 
 pub passing-begin : {netlist : Netlist} {ranks : List ℕ} {b : List Tri} {begun : List Bool} {first : RunRecord} {scratch : ScratchState} → IsPassAsked netlist ranks b begun first → IsInKeyOrder ranks scratch.sorted → scratch.marked ≡ [] → scratch.state ≡ begun → IsPassing netlist ranks b begun first 0 scratch first
 passing-begin {netlist} {ranks} {b} {begun} {first} {scratch} asked sorted marked state = record {
   asked = asked;
-  sorted = sorted;
-  marked = marked;
-  made = [];
-  steps = sym (append-nil first.steps);
-  spent = spends-none first;
-  underway = λ input fixed.
-      subst (λ (had : ℕ → Bool). IsUnderway (network_of netlist) input ranks b begun had [] scratch.state) (sym (none-yet sorted (has_turn_in (network_of netlist) b)))
-      (subst (IsUnderway (network_of netlist) input ranks b begun (λ i. false) []) (sym state) (underway-begin asked.begins));
+  at = at-begin netlist (has_turn_in (network_of netlist) b) (λ had made now. (input : List Bool) → IsFixed (network_of netlist) input b → IsUnderway (network_of netlist) input ranks b begun had made now) [] sorted marked
+      (sym (append-nil first.steps)) (spends-none first) (λ input fixed. subst (IsUnderway (network_of netlist) input ranks b begun (λ i. false) []) (sym state) (underway-begin asked.begins));
 }
 
 module _ {netlist : Netlist} {ranks : List ℕ} {b : List Tri} {begun : List Bool} {first : RunRecord} {place : ℕ} {scratch : ScratchState} {now : RunRecord} (passing : IsPassing netlist ranks b begun first place scratch now) where
-  abbrev turning : ℕ → Bool
-  turning = has_turn_in (network_of netlist) b
-
-  under : IsUnderway (network_of netlist) passing.asked.given.input ranks b begun (had_before (has_turn_in (network_of netlist) b) scratch.sorted place) passing.made scratch.state
-  under = passing.underway passing.asked.given.input passing.asked.given.fixed
+  under : IsUnderway (network_of netlist) passing.asked.given.input ranks b begun (had_before (has_turn_in (network_of netlist) b) scratch.sorted place) passing.at.made scratch.state
+  under = passing.at.holds passing.asked.given.input passing.asked.given.fixed
 
   -- a state has a bit for each variable
   pub passing-long : length scratch.state ≡ length (network_of netlist)
@@ -186,75 +169,46 @@ module _ {netlist : Netlist} {ranks : List ℕ} {b : List Tri} {begun : List Boo
     var = get_or scratch.sorted place 0
 
     pub passing-inside : get_or scratch.sorted place 0 < length (network_of netlist)
-    passing-inside =
-        let long = passing.asked.given.long in
-        omega (arith, key-inside ranks var ((passing.sorted.keyed var).0 (listed-at scratch.sorted place inside)), long)
+    passing-inside = omega (arith, key-inside ranks var ((passing.at.sorted.keyed var).0 (listed-at scratch.sorted place inside)), passing.asked.given.long)
 
     -- a variable that is no unsettled gate has no turn
     pub passing-skip : has_turn_in (network_of netlist) b (get_or scratch.sorted place 0) ≡ false → IsPassing netlist ranks b begun first (place + 1) scratch now
-    passing-skip none = record {
-      asked = passing.asked;
-      sorted = passing.sorted;
-      marked = passing.marked;
-      made = passing.made;
-      steps = passing.steps;
-      spent = passing.spent;
-      underway = λ input fixed.
-          subst (λ (had : ℕ → Bool). IsUnderway (network_of netlist) input ranks b begun had passing.made scratch.state) (sym (none-comes passing.sorted turning place inside none)) (passing.underway input fixed);
-    }
+    passing-skip none = record { asked = passing.asked; at = at-next passing.at inside none }
 
     -- a gate's turn
     module _ (turns : has_turn_in (network_of netlist) b (get_or scratch.sorted place 0) ≡ true) (is_gate : IsGateNumber netlist (get_or scratch.sorted place 0)) where
-      next : IsNext ranks (has_turn_in (network_of netlist) b) (had_before (has_turn_in (network_of netlist) b) scratch.sorted place) (get_or scratch.sorted place 0)
-      next = place-next passing.sorted turning place inside turns
-
       pub passing-possible : (list : List Bool) × IsCandidate (gate_at netlist (get_or scratch.sorted place 0)).kind (at_wires netlist (get_or scratch.sorted place 0) scratch.state) (unsettled_pins netlist b (get_or scratch.sorted place 0)) (not (bit_at scratch.state (get_or scratch.sorted place 0))) list
-      passing-possible = turn-possible passing.asked.circuit passing.asked.given.fixed passing.asked.given.ranked under next is_gate (not (bit_at scratch.state var))
+      passing-possible = turn-possible passing.asked.circuit passing.asked.given.fixed passing.asked.given.ranked under (at-here passing.at inside turns) is_gate (not (bit_at scratch.state var))
 
       -- its flips fit into the room
       pub passing-room : (wires : List ℕ) → AreTurnWires netlist (get_or scratch.sorted place 0) (unsettled_pins netlist b (get_or scratch.sorted place 0)) scratch.state wires → HasRoomFor (length wires + length (turn_flips netlist (get_or scratch.sorted place 0) true (state_after wires scratch.state))) now
       passing-room wires are =
           let net = network_of netlist in
           let flips = turn_flips netlist var true (state_after wires scratch.state) in
-          let later = with_step_if_any (with_step_if_any passing.made wires) flips in
-          let turned = underway-turned passing.asked.circuit passing.asked.given.fixed passing.asked.given.ranked under next is_gate are in
-          room-left net passing.asked.given.input begun passing.made (length wires + length flips) under.run passing.steps passing.spent passing.asked.room.room
+          let later = with_step_if_any (with_step_if_any passing.at.made wires) flips in
+          let turned = underway-turned passing.asked.circuit passing.asked.given.fixed passing.asked.given.ranked under (at-here passing.at inside turns) is_gate are in
+          room-left net passing.asked.given.input begun passing.at.made (length wires + length flips) under.run passing.at.steps passing.at.spent passing.asked.room.room
           (omega (
             arith,
             flips_are_changes net passing.asked.given.input begun later turned.run,
             sum_by-le-sum_by (changes_in later) passing.asked.room.most (range_with_len 0 (length net))
                 (underway-few (wired-network_of netlist passing.asked.circuit) passing.asked.given.fixed turned passing.asked.room.most passing.asked.room.enough),
-            flips-after (with_step_if_any passing.made wires) flips,
-            flips-after passing.made wires,
+            flips-after (with_step_if_any passing.at.made wires) flips,
+            flips-after passing.at.made wires,
           ))
 
       pub passing-turn : {last : ScratchState} {then : RunRecord} → IsTurn netlist (get_or scratch.sorted place 0) (unsettled_pins netlist b (get_or scratch.sorted place 0)) true scratch.state last.state now.steps then.steps → last.sorted ≡ scratch.sorted → last.marked ≡ [] → Spends now then → IsPassing netlist ranks b begun first (place + 1) last then
-      passing-turn {last} {then} turn order marked spent =
-          let flips = turn_flips netlist var true (state_after turn.wires scratch.state) in
-          let later = with_step_if_any (with_step_if_any passing.made turn.wires) flips in
-          record {
-            asked = passing.asked;
-            sorted = subst (IsInKeyOrder ranks) (sym order) passing.sorted;
-            marked = marked;
-            made = later;
-            steps =
-                turn.made
-                ∙ (ap (λ (list : List (List ℕ)). with_step_if_any (with_step_if_any list turn.wires) flips) passing.steps
-                ∙ (ap (λ (list : List (List ℕ)). with_step_if_any list flips) (steps-after first.steps passing.made turn.wires)
-                ∙ steps-after first.steps (with_step_if_any passing.made turn.wires) flips));
-            spent = spends-more passing.spent spent;
-            underway = λ input fixed.
-                subst (λ (list : List ℕ). IsUnderway (network_of netlist) input ranks b begun (had_before (has_turn_in (network_of netlist) b) list (place + 1)) later last.state) (sym order)
-                (subst (λ (had : ℕ → Bool). IsUnderway (network_of netlist) input ranks b begun had later last.state) (sym (turn-comes passing.sorted turning place inside turns))
-                (subst (IsUnderway (network_of netlist) input ranks b begun (also (had_before (has_turn_in (network_of netlist) b) scratch.sorted place) var) later) (sym turn.ends)
-                (underway-turned passing.asked.circuit fixed passing.asked.given.ranked (passing.underway input fixed) next is_gate turn.are_wires)));
-          }
+      passing-turn turn order marked spent = record {
+        asked = passing.asked;
+        at = at-turn passing.at inside turns turn order marked spent (λ input fixed.
+            underway-turned passing.asked.circuit fixed passing.asked.given.ranked (passing.at.holds input fixed) (at-here passing.at inside turns) is_gate turn.are_wires);
+      }
 
   pub passing-end : length scratch.sorted ≤ place → IsPassMade (network_of netlist) ranks b begun first.steps now.steps scratch.state
   passing-end end = record {
-    made = passing.made;
-    whole = passing.steps;
-    pass = λ input fixed. underway-pass (wired-network_of netlist passing.asked.circuit) fixed (passing.underway input fixed)
+    made = passing.at.made;
+    whole = passing.at.steps;
+    pass = λ input fixed. underway-pass (wired-network_of netlist passing.asked.circuit) fixed (passing.at.holds input fixed)
         (λ gate kind start count drives unknown.
-        all-had passing.sorted turning place gate end (has-turn (network_of netlist) b gate kind start count drives unknown) (passing.asked.given.ranked gate unknown));
+        all-had passing.at.sorted (has_turn_in (network_of netlist) b) place gate end (has-turn (network_of netlist) b gate kind start count drives unknown) (passing.asked.given.ranked gate unknown));
   }

@@ -15,7 +15,7 @@ use Rattle.hz_reach.specs.Room.{with_step_if_any, Spends, HasRoomFor, HasRoomFor
 use Rattle.hz_reach.specs.ScratchState.{ScratchState}
 use Rattle.hz_reach.proofs.ListPlaces.{listed-at, listed-place}
 use Rattle.hz_cycle.specs.Rounds.{differing_variables, IsOneRound, AreRoundsOf, AreRoundsMade}
-use Rattle.hz_reach.proofs.FanOut.{Ascends, ascends-once, ascends-filter, filtered-is, is-filtered}
+use Rattle.hz_reach.proofs.DistinctLists.{Ascends, ascends-once, ascends-filter, filtered-is, is-filtered}
 use Rattle.hz_reach.proofs.FlipCounts.{flips_per_variable}
 use Rattle.hz_reach.proofs.ListPlaces.{key-inside}
 use Rattle.hz_reach.proofs.Room.{steps-after, flips-after, room-for-step, room-left, spends-none, spends-more}

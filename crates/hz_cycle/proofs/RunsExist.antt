@@ -1,29 +1,69 @@
 -- From every stable start, under every input, there are a settle run and a cycle at its end: the spread run, the settling
--- rounds and one pass, and then two passes. So Algorithm B is exact.
-use Rattle.std.proofs.Common.{◌≡◌, ℕ, ◌++◌, Bool, List, refl, subst}
+-- rounds and one pass, and then two passes. They show that Algorithm B is exact.
+use Rattle.std.proofs.Common.{◌≡◌, ℕ, Bool, not, List, length, refl, sym, ap, ◌∙◌, subst, Contains, IsTrue, ◌++◌}
 use Rattle.hz_core.specs.declared.tri.Tri.{Tri}
+use Rattle.hz_core.specs.Ternary.{admits, Refines, IsJoinOf}
+use Rattle.hz_core.proofs.Refinements.{get_or-Refines}
+use Rattle.hz_net.specs.Network.{Driver, bit_at, value_at, network_of}
+use Rattle.hz_net.specs.Passes.{algorithm_a, algorithm_b, AreRounds, AreSettlingRounds}
+use Rattle.hz_gmw.specs.Runs.{IsRun, end_of}
+use Rattle.hz_gmw.specs.Cycles.{states_of, IsOutcome}
+use Rattle.hz_gmw.proofs.Paths.{IsRun-front, IsCut, cut-member}
+use Rattle.hz_reach.proofs.Exact.{joins-by}
+use Rattle.hz_reach.specs.Existence.{ResultOfAExists, ResultOfBExists, RanksExist, SettlingRoundsExist, SparingRunExists}
+use Rattle.hz_cycle.specs.Exact.{RunsShowB, HasSettleRunAndCycle, SettleRunsExist, BIsExact, OutcomesExist}
+use Rattle.hz_cycle.proofs.CycleExists.{contains-begin, cycle-found}
 use Rattle.hz_core.specs.declared.tri.Tri.TheVariants.{Zero, One, Unknown}
 use Rattle.hz_core.specs.Netlist.{Netlist, IsCircuit}
-use Rattle.hz_core.specs.Ternary.{IsJoinOf}
-use Rattle.hz_net.specs.Network.{network_of, bit_at, value_at}
-use Rattle.hz_net.specs.Passes.{algorithm_a, algorithm_b, AreSettlingRounds}
 use Rattle.hz_net.specs.Starts.{IsStableStart}
 use Rattle.hz_net.proofs.Wired.{wired-network_of}
-use Rattle.hz_gmw.specs.Runs.{end_of}
-use Rattle.hz_gmw.specs.Cycles.{IsOutcome}
-use Rattle.hz_reach.proofs.Exact.{sparing_run_exists}
-use Rattle.hz_reach.proofs.RestRounds.{result_of_a, result_of_b, ranks_of_result, settling_of_result}
 use Rattle.hz_reach.specs.Spread.{IsSparingRun}
 use Rattle.hz_cycle.specs.Cycles.{IsCycleOf}
-use Rattle.hz_cycle.specs.Exact.{RunsShowB, HasSettleRunAndCycle, SettleRunsExist, BIsExact, OutcomesExist}
 use Rattle.hz_cycle.specs.Pass.{MayBegin, IsPass}
 use Rattle.hz_cycle.specs.Turned.{IsTurned}
 use Rattle.hz_cycle.proofs.Change.{IsChange, change-fixed, unsettled-ranked}
-use Rattle.hz_cycle.proofs.CycleExists.{cycle-found}
 use Rattle.hz_cycle.proofs.PassTurns.{pass-found}
 use Rattle.hz_cycle.proofs.RoundSteps.{rounds-found}
 use Rattle.hz_cycle.proofs.SettleRunExists.{IsBeforePass, rounds-may-begin, pass-may-begin, settle-found, settle-end}
 use Rattle.hz_cycle.proofs.TurnedStates.{turned-may-begin}
+
+-- Algorithm B covers the outcome states
+abbrev pub Covers : Type 0
+Covers =
+    (net : List Driver) (input start state : List Bool) (rounds round : ℕ) → length start ≡ length net → AreRounds (algorithm_a net input start) rounds →
+    IsOutcome net input start state → Refines state (algorithm_b net input (algorithm_a net input start rounds) round)
+
+pub runs_show_b : Covers → RunsShowB
+runs_show_b covers net input start a b settle cycle i long a_result b_result is_settle is_cycle =
+    let first = end_of start settle in
+    let admitted : (state : List Bool) → IsOutcome net input start state → IsTrue (admits (value_at b i) (bit_at state i)) =
+    λ state outcome.
+    get_or-Refines state b
+    (subst (Refines state) (sym (b_result.2 ∙ ap (λ (values : List Tri). algorithm_b net input values b_result.0) a_result.2))
+    (covers net input start state a_result.0 b_result.0 long a_result.1 outcome)) i in
+    joins-by (λ bit. (state : List Bool) × IsOutcome net input start state × (bit_at state i ≡ bit)) (value_at b i) (bit_at first i)
+    (first, outcome first (contains-begin first cycle), refl)
+    (λ other there. subst (λ (bit : Bool). IsTrue (admits (value_at b i) bit)) there.2 (admitted there.0 there.1))
+    (λ unknown. let shown = is_cycle.both i (not (bit_at first i)) unknown in (shown.0, outcome shown.0 shown.1, shown.2))
+  where
+    -- each state of the cycle is an outcome state
+    outcome : (member : List Bool) → Contains (states_of (end_of start settle) cycle) member → IsOutcome net input start member
+    outcome member there =
+        let cut : IsCut (end_of start settle) cycle member = cut-member (end_of start settle) member cycle there in
+        record {
+          first = end_of start settle;
+          steps = cycle;
+          cycle = is_cycle.nontransient;
+          member = end_of start settle;
+          on_cycle = contains-begin (end_of start settle) cycle;
+          reached = (settle, is_settle.run, refl);
+          onward = (
+            cut.earlier,
+            IsRun-front net input (end_of start settle) cut.earlier cut.later
+                (subst (IsRun net input (end_of start settle)) (sym cut.whole) is_cycle.nontransient.cycle.run),
+            cut.here,
+          );
+        }
 
 module _ {netlist : Netlist} {input start : List Bool} {a : List Tri} {ranks : List ℕ} {b : List Tri} (circuit : IsCircuit netlist) (change : IsChange (network_of netlist) input start a ranks b) where
   pass : (begun : List Bool) → MayBegin (network_of netlist) ranks b begun → (made : List (List ℕ)) × ((state : List Bool) × IsPass (network_of netlist) input ranks b begun made state)
@@ -58,17 +98,17 @@ module _ {netlist : Netlist} {input start : List Bool} {a : List Tri} {ranks : L
         is_cycle = subst (λ (state : List Bool). IsCycleOf (network_of netlist) input b state round.0) (settle-end before last.1.1) round.1;
       }
 
-pub settle_runs_exist : SettleRunsExist
-settle_runs_exist netlist input start a b circuit begins a_result b_result =
+pub settle_runs_exist : RanksExist → SettlingRoundsExist → SparingRunExists → SettleRunsExist
+settle_runs_exist ranks_exist rounds_exist sparing_exists netlist input start a b circuit begins a_result b_result =
     let net = network_of netlist in
-    let ranks = ranks_of_result (algorithm_a net input start) a a_result in
-    let rounds = settling_of_result (algorithm_b net input a) a b b_result in
-    let sparing = sparing_run_exists netlist input start a ranks.0 circuit begins a_result ranks.1 in
+    let ranks = ranks_exist (algorithm_a net input start) a a_result in
+    let rounds = rounds_exist (algorithm_b net input a) a b b_result in
+    let sparing = sparing_exists netlist input start a ranks.0 circuit begins a_result ranks.1 in
     both circuit (record { long = begins.long; a_result = a_result; ranked = ranks.1; b_result = b_result }) begins rounds.1 sparing.1
 
-pub b_is_exact : RunsShowB → BIsExact
-b_is_exact shown netlist input start a b i circuit begins a_result b_result =
-    let runs = settle_runs_exist netlist input start a b circuit begins a_result b_result in
+pub b_is_exact : RunsShowB → SettleRunsExist → BIsExact
+b_is_exact shown exist netlist input start a b i circuit begins a_result b_result =
+    let runs = exist netlist input start a b circuit begins a_result b_result in
     shown (network_of netlist) input start a b runs.settle runs.cycle i begins.long a_result b_result runs.is_settle runs.is_cycle
 
 -- a set of bits that joins to a value has a bit
@@ -77,10 +117,10 @@ joined-some set Zero join = (_, join.0)
 joined-some set One join = (_, join.0)
 joined-some set Unknown join = (_, join.0)
 
-pub outcomes_exist : BIsExact → OutcomesExist
-outcomes_exist exact netlist input start circuit begins =
+pub outcomes_exist : ResultOfAExists → ResultOfBExists → BIsExact → OutcomesExist
+outcomes_exist a_exists b_exists exact netlist input start circuit begins =
     let net = network_of netlist in
-    let a = result_of_a net input start begins.long in
-    let b = result_of_b net input start a.0 begins.long a.1 in
+    let a = a_exists net input start begins.long in
+    let b = b_exists net input start a.0 begins.long a.1 in
     let some = joined-some (λ bit. (state : List Bool) × IsOutcome net input start state × (bit_at state 0 ≡ bit)) (value_at b.0 0) (exact netlist input start a.0 b.0 0 circuit begins a.1 b.1) in
     (some.1.0, some.1.1)

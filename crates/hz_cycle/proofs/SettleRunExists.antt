@@ -19,20 +19,18 @@ use Rattle.hz_gmw.proofs.Paths.{end_of-append, IsRun-append}
 use Rattle.hz_reach.specs.Order.{key_at, IsEarlier}
 use Rattle.hz_reach.specs.Room.{Spends, HasRoomFor}
 use Rattle.hz_reach.proofs.FlipCounts.{flips_are_changes, flips_per_variable, flips_per_unknown, ends_by_changes}
-use Rattle.hz_reach.proofs.GateTurn.{not-itself}
+use Rattle.hz_reach.proofs.GateTurn.{not-itself, driver-inside}
 use Rattle.hz_reach.proofs.Order.{earlier-or-not}
 use Rattle.hz_reach.proofs.Room.{room-left}
 use Rattle.hz_net.specs.Reads.{IsWireInto, IsWired}
 use Rattle.hz_reach.specs.Spread.{changes_in, IsSparingRun}
-use Rattle.hz_reach.proofs.StateParts.{driver-inside}
 use Rattle.hz_net.proofs.Wired.{wired-network_of}
 use Rattle.hz_cycle.specs.Cycles.{IsSettleRun}
 use Rattle.hz_cycle.specs.Pass.{IsFixed, MayBegin, AreEnough, HasRoom, IsPass}
 use Rattle.hz_cycle.specs.Rounds.{AreRoundsOf, IsSettlingRun, AreRoundsMade}
 use Rattle.hz_cycle.proofs.SettledVariables.{known-stable, wire-source, unknown-inside}
 use Rattle.hz_cycle.proofs.Change.{IsChange, a-long, a-above, change-fixed, unsettled-unknown, unknown-within}
-use Rattle.hz_cycle.proofs.CycleExists.{refines-unchanged}
-use Rattle.hz_cycle.proofs.CycleRoom.{twos}
+use Rattle.hz_cycle.proofs.CycleExists.{refines-unchanged, twos}
 use Rattle.hz_cycle.proofs.StepLemmas.{changes-append, unchanged-end}
 
 -- a variable that is X in the result, or not in the first list, has no settling round

@@ -21,7 +21,7 @@ use Rattle.hz_gmw.specs.Runs.{is_listed, state_after}
 use Rattle.hz_gmw.proofs.Flips.{length-state_after, at-state_after}
 use Rattle.hz_net.specs.Reads.{IsWired}
 use Rattle.hz_reach.specs.Turn.{is_gate_in}
-use Rattle.hz_reach.proofs.StateParts.{driver-inside}
+use Rattle.hz_reach.proofs.GateTurn.{driver-inside}
 use Rattle.hz_cycle.specs.Pass.{IsFixed}
 
 -- Values

@@ -1,5 +1,5 @@
--- Where a pass may begin, that it ends in a turned state, and that a turned state is determined by its gates.
-use Rattle.std.proofs.Common.{◌≡◌, ℕ, ◌+◌, ◌-◌, ◌<◌, ◌≤◌, ◌⊎◌, Bool, true, false, not, List, [], map, refl, sym, ap, ◌∙◌, subst, arith, inl, inr}
+-- A pass may begin in a turned state and ends in one, and a turned state is determined by its gates.
+use Rattle.std.proofs.Common.{◌≡◌, ℕ, ◌+◌, ◌-◌, ◌<◌, ◌≤◌, ◌⊎◌, Bool, true, false, not, List, map, refl, sym, ap, ◌∙◌, subst, arith, inl, inr}
 use Rattle.std.specs.Prelude.{slice_range}
 use Rattle.std.proofs.lemmas.List.{ext_get_or}
 use Rattle.hz_core.specs.declared.tri.Tri.{Tri}
@@ -18,29 +18,6 @@ use Rattle.hz_reach.proofs.Order.{earlier-or-not}
 use Rattle.hz_reach.proofs.GateTurn.{other-bit}
 use Rattle.hz_cycle.proofs.SettledVariables.{either-value, same-known, no-input, wire-source, source-gate}
 use Rattle.hz_cycle.proofs.PassInvariant.{IsInside}
-use Rattle.hz_cycle.proofs.PassSteps.{IsUnderway}
-
-pub inside-begin : {net : List Driver} {ranks : List ℕ} {b : List Tri} {state : List Bool} → MayBegin net ranks b state → IsInside net ranks b state (λ i. false) state
-inside-begin may = record {
-  settled = may.settled;
-  gates = λ gate kind first pins drives unknown. refl;
-  fresh = λ wire source gate drives goes unknown unsettled waits late. may.differs wire source gate drives goes unknown unsettled late;
-  differs = λ wire source gate drives goes unknown turned either. cc;
-  patterns = λ gate kind first pins drives unknown turned. cc;
-}
-
-pub underway-begin : {net : List Driver} {input : List Bool} {ranks : List ℕ} {b : List Tri} {state : List Bool} → MayBegin net ranks b state → IsUnderway net input ranks b state (λ i. false) [] state
-underway-begin may = record {
-  inside = inside-begin may;
-  run = tt;
-  ends = refl;
-  known = λ i known. refl;
-  gates = λ gate kind first pins drives. omega arith;
-  wires = λ wire source gate drives goes. omega arith;
-  outward = λ wire source gate drives goes known. omega arith;
-  equal = λ wire source gate drives goes earlier unknown unsettled same. omega arith;
-  shown = λ wire source drives unknown turned. cc;
-}
 
 pub turned-may-begin : {net : List Driver} {ranks : List ℕ} {b : List Tri} {state : List Bool} → IsTurned net ranks b state → MayBegin net ranks b state
 turned-may-begin turned = record {

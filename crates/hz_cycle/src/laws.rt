@@ -2,6 +2,7 @@
 ghost use Rattle.hz_cycle.specs.Exact.{RunsShowB, SettleRunsExist, BIsExact, OutcomesExist};
 
 use hz_gmw::b_covers;
+use hz_reach::{passes_end, spread_runs_exist};
 
 /// If a change has a settle run and a cycle that begins at its end, the value of the result of Algorithm B at a variable
 /// is the join of the values that the variable has in the outcome states.
@@ -12,10 +13,12 @@ pub fn runs_show_b()
 }
 
 /// Every change has a settle run and a cycle at its end: the runs that `settle_run` and `cycle_run` make.
-#[tactic(auto, using(crate::proofs::RunsExist::settle_runs_exist))]
 pub fn settle_runs_exist()
     ensures { SettleRunsExist }
-{}
+{
+    passes_end();
+    spread_runs_exist();
+}
 
 /// Algorithm B is exact: for every circuit, every stable start and every input, the value of its result at a variable is
 /// the join of the values that the variable has in the outcome states. There is always an outcome state; if the result
@@ -24,5 +27,7 @@ pub fn b_is_exact()
     ensures exact { BIsExact }
     ensures some { OutcomesExist }
 {
+    passes_end();
     runs_show_b();
+    settle_runs_exist();
 }

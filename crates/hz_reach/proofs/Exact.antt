@@ -13,8 +13,7 @@ use Rattle.hz_net.proofs.Wired.{wired-network_of}
 use Rattle.hz_gmw.specs.Runs.{end_of, IsReachable, JoinsTo}
 use Rattle.hz_reach.specs.Existence.{SpreadRunExists, SparingRunExists}
 use Rattle.hz_reach.specs.Spread.{IsSpreadRun}
-use Rattle.hz_reach.proofs.TurnsByRank.{AreTurns}
-use Rattle.hz_reach.proofs.RanksOrderGates.{ranked-turns, turns-of}
+use Rattle.hz_reach.proofs.RanksOrderGates.{AreTurns, ranked-turns, turns-of}
 use Rattle.hz_reach.proofs.SpreadSteps.{turns-made, sparing-run, whole-run}
 use Rattle.hz_reach.proofs.FlipCounts.{ends_by_changes}
 use Rattle.hz_reach.proofs.RestRounds.{ranks_of, ranks-exist, ranks_of_result}

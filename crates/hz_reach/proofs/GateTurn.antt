@@ -1,24 +1,38 @@
 -- A gate's turn: the wires that set its pattern, and then the gate with what goes along, are two steps of a run.
-use Rattle.std.proofs.Common.{◌≡◌, ◌≢◌, ℕ, ◌+◌, ◌-◌, ◌<◌, ◌≤◌, ◌⊎◌, Bool, true, false, not, cond, List, [], ◌∷◌, length, get_or, refl, sym, ap, ◌∙◌, subst, arith, inl, inr}
+use Rattle.std.proofs.Common.{◌≡◌, ℕ, ◌+◌, ◌<◌, Bool, false, List, length, sym, ◌∙◌, arith, inl, inr, ◌≢◌, ◌-◌, ◌≤◌, ◌⊎◌, true, not, cond, [], ◌∷◌, get_or, refl, ap, subst}
 use Rattle.std.specs.Prelude.{slice_range}
 use Rattle.std.proofs.lemmas.Bool.{cases_lt, both_ways, false_from_ne_true}
-use Rattle.std.proofs.lemmas.List.{get_or_past}
+use Rattle.std.proofs.lemmas.List.{get_or_past, ext_get_or}
+use Rattle.hz_net.specs.Network.{Driver, External, Source, driver_at, bit_at, Function, driver_value, excitation, network_of, IsUnstable}
+use Rattle.hz_net.proofs.PartLemmas.{length-part, at-part}
 use Rattle.hz_core.specs.declared.kind.Kind.{Kind}
 use Rattle.hz_core.specs.Gate.{gate_value}
 use Rattle.hz_core.specs.Netlist.{Netlist, IsCircuit, IsGateNumber}
 use Rattle.hz_core.specs.Pattern.{differs, IsCandidate}
 use Rattle.hz_core.proofs.Patterns.{free-changed}
-use Rattle.hz_net.specs.Network.{Driver, Function, Source, driver_at, bit_at, driver_value, excitation, network_of, IsUnstable}
 use Rattle.hz_net.proofs.Places.{length-network_of, driver_at-input, driver_at-gate, driver_at-wire}
 use Rattle.hz_net.specs.Reads.{IsWireInto, IsWired}
-use Rattle.hz_net.proofs.PartLemmas.{length-part, at-part}
 use Rattle.hz_gmw.specs.Runs.{is_listed, IsRepeatFree, IsStep, IsRun, state_after, end_of}
 use Rattle.hz_gmw.proofs.Flips.{length-state_after, at-state_after}
 use Rattle.hz_reach.specs.Room.{with_step_if_any}
 use Rattle.hz_reach.specs.Turn.{is_gate_in, changed_wires}
-use Rattle.hz_reach.proofs.StateParts.{driver-inside, same-part}
 use Rattle.hz_reach.proofs.FilteredRangeLemmas.{filtered_range-is, is-filtered_range, filtered_range-once, differs-true, true-differs, only-one, is-one}
 use Rattle.hz_reach.proofs.Room.{end_of-after, run-after}
+
+-- what is driven by a node is a variable
+pub driver-inside : (net : List Driver) (i source : ℕ) → driver_at net i ≡ Source source → i < length net
+driver-inside net i source drives = elim (cases_lt i (length net)) [
+  | inl inside ↦ inside
+  | inr past ↦ (let none : driver_at net i ≡ External 0 = get_or_past net i (External 0) past in cc)
+]
+
+-- a part of a state, bit by bit
+pub same-part : (state bits : List Bool) (first count : ℕ) → length bits ≡ count → ((k : ℕ) → k < count → first + k < length state) → ((k : ℕ) → k < count → bit_at state (first + k) ≡ bit_at bits k) → slice_range state first (first + count) ≡ bits
+same-part state bits first count long inside each =
+    let part : length (slice_range state first (first + count)) ≡ count = length-part state first count inside in
+    ext_get_or false (slice_range state first (first + count)) bits (part ∙ sym long) (λ k few.
+    let less : k < count = omega (arith, few, part) in
+    at-part state first count k false less ∙ each k less)
 
 -- Which variables are gates
 

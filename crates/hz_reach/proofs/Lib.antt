@@ -1,12 +1,8 @@
--- Lists of variables that name none twice, and the state after steps of which none changes a variable again
+-- Lists of variables that name none twice, and those that ascend
 pub mod DistinctLists
--- The variables that pass a test: which they are, and that none comes twice
+-- The variables that pass a test: which they are, that none comes twice, and how they are marked one after the other
 pub mod FilteredRangeLemmas
--- Parts of a state, and variables by what drives them
-pub mod StateParts
--- What the ranks of Algorithm A say of a network and a start: which inputs turn, and that what a wire or a gate needs in order to turn has a lesser rank
-pub mod TurnsByRank
--- Where the start is stable under some input, the ranks of Algorithm A say what turns and when
+-- What the ranks of Algorithm A say of a stable start: which inputs turn, and that what a wire or a gate needs in order to turn has a lesser rank
 pub mod RanksOrderGates
 -- Variables in a list, by their places
 pub mod ListPlaces
@@ -14,8 +10,6 @@ pub mod ListPlaces
 pub mod Links
 -- Sorting variables by a key: pairs of a key and a variable, in order, without the keys
 pub mod SortLemmas
--- Marked variables: one more, which is greater than all that are marked
-pub mod MarkedVariables
 -- Turns in the order of a key: who has had one and whose comes next, and that they keep what each turn keeps
 pub mod Order
 -- How many flips a run has, by how often it changes each variable, and the state in which it ends
@@ -24,6 +18,8 @@ pub mod FlipCounts
 pub mod Room
 -- A gate's turn: the wires that set its pattern, and then the gate with what goes along, are two steps of a run
 pub mod GateTurn
+-- A loop over the places of an order: what holds at a place, and that a gate's turn, or none, leads to the next one
+pub mod TurnLoop
 -- A node's fan-out ascends, so the gate and those of its fan-out that pass a test may be marked one after the other
 pub mod FanOut
 -- The spread run while it is made: what holds after each of its steps, and that each of its steps keeps it

@@ -1,5 +1,5 @@
 -- The spread run while it is made: what holds after each of its steps, and that each of its steps keeps it.
-use Rattle.std.proofs.Common.{◌≡◌, ◌≢◌, ℕ, ◌+◌, ◌<◌, ◌≤◌, ◌⊎◌, Bool, true, false, not, cond, ◌&&◌, List, [], ◌∷◌, ◌++◌, length, get_or, refl, sym, ap, ◌∙◌, subst, arith, inl, inr, append-nil, eqb, ltb, length-append}
+use Rattle.std.proofs.Common.{◌≡◌, ◌≢◌, ℕ, ◌+◌, ◌<◌, ◌≤◌, ◌⊎◌, Bool, true, false, not, cond, ◌&&◌, List, [], ◌∷◌, ◌++◌, length, get_or, refl, sym, ap, ◌∙◌, subst, arith, inl, inr, append-nil, eqb, ltb}
 use Rattle.std.specs.Prelude.{slice_range, ◌%◌}
 use Rattle.std.specs.List.{concat}
 use Rattle.std.proofs.lemmas.Bool.{cases_Bool, both_ways, and_parts, and_from, or_cases, or_left, or_right, not-true, not_from_false, eqb-false, eqb-true, eq-eqb, ne_eqb, ltb-true, lt-ltb, false_from_ne_true}
@@ -11,7 +11,7 @@ use Rattle.hz_core.specs.Pattern.{IsCandidate}
 use Rattle.hz_net.specs.Network.{Driver, External, Function, Source, driver_at, bit_at, driver_value}
 use Rattle.hz_net.specs.Reads.{IsWireInto, IsNode}
 use Rattle.hz_net.proofs.PartLemmas.{length-part, at-part}
-use Rattle.hz_gmw.specs.Runs.{is_listed, IsRepeatFree, IsRun, end_of}
+use Rattle.hz_gmw.specs.Runs.{is_listed, IsRepeatFree, IsRun, state_after, end_of}
 use Rattle.hz_gmw.specs.RunRecord.{flip_count}
 use Rattle.hz_gmw.proofs.CoverB.{length-end_of}
 use Rattle.hz_reach.specs.Order.{key_at}
@@ -21,9 +21,9 @@ use Rattle.hz_reach.specs.Turn.{is_gate_in, free_pins}
 use Rattle.hz_reach.proofs.DistinctLists.{listed-cases, listed-left, listed-right, unlisted-parts, is_repeat_free-append, is_repeat_free-right, is_repeat_free-apart}
 use Rattle.hz_reach.proofs.FlipCounts.{changes-more, flips_per_variable, ends_by_changes}
 use Rattle.hz_reach.proofs.FilteredRangeLemmas.{only-one, is-one}
-use Rattle.hz_reach.proofs.TurnsByRank.{IsChangedAfter, AreTurns}
+use Rattle.hz_reach.proofs.RanksOrderGates.{IsChangedAfter, AreTurns}
 use Rattle.hz_reach.proofs.Order.{also, IsNext}
-use Rattle.hz_reach.proofs.GateTurn.{not-itself, same-or-differ, IsFunction, turn_wires, IsTurnPin, MayTurn, alone, pin-into, pin-from, pin-inside, listed-pin, wires-once, turn-run}
+use Rattle.hz_reach.proofs.GateTurn.{not-itself, same-or-differ, IsFunction, turn_wires, IsTurnPin, MayTurn, alone, pin-into, pin-from, pin-inside, listed-pin, wires-once, turn-run, turn-end}
 use Rattle.hz_reach.proofs.Room.{run-after}
 
 -- the variables that a run changes
@@ -245,7 +245,7 @@ module _ {net : List Driver} {input start : List Bool} {a : List Tri} {ranks : L
             let none : is_gate_in net i ≡ false = rw wire refl in
             both_ways _ none is_gate
 
-        pub had-turn : HadTurns net input start ranks (also had gate) later (end_of start later)
+        pub had-turn : HadTurns net input start ranks (also had gate) later (state_after (gate ∷ []) (state_after (turn_wires state first pins pattern) state))
         had-turn = record {
           run = turn-run turns.wired rank-may-turn candidate (alone gate) input start steps so_far.run so_far.ends;
           once =
@@ -260,7 +260,7 @@ module _ {net : List Driver} {input start : List Bool} {a : List Tri} {ranks : L
                 | inl old ↦ both_ways _ gate-fresh (ap (is_listed (changed steps)) (sym same) ∙ old)
                 | inr now ↦ no-gate gate next.turns (ap (is_listed wires) (sym same) ∙ now)
               ])));
-          ends = refl;
+          ends = turn-end start state steps wires (gate ∷ []) so_far.ends;
           inputs = λ i place e some. before i (so_far.inputs i place e some);
           gates = λ i is_gate some done. elim (or_cases (had i) (eqb i gate) done) [
             | inl old ↦ before i (so_far.gates i is_gate some old)

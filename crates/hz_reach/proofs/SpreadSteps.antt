@@ -7,7 +7,7 @@ use Rattle.hz_core.specs.Ternary.{is_unknown}
 use Rattle.hz_core.specs.Netlist.{Netlist, IsCircuit, IsGateNumber, gate_at}
 use Rattle.hz_core.specs.Pattern.{differs, IsCandidate}
 use Rattle.hz_net.specs.Network.{Driver, External, Function, Source, driver_at, network_of, bit_at, value_at, driver_value}
-use Rattle.hz_net.specs.Variables.{at_wires}
+use Rattle.hz_net.specs.Variables.{first_wire, at_wires}
 use Rattle.hz_net.proofs.Places.{length-network_of, driver_at-input, driver_at-gate, driver_at-wire}
 use Rattle.hz_net.proofs.Wires.{IsWireFrom-driver_at}
 use Rattle.hz_gmw.specs.Runs.{is_listed, IsRepeatFree, IsRun, state_after, end_of}
@@ -20,12 +20,12 @@ use Rattle.hz_reach.specs.Spread.{IsSpreadRun, IsSparingRun}
 use Rattle.hz_reach.specs.Turn.{is_gate_in, changed_inputs, earlier_pins, unchanged_wires, AreTurnWires, IsTurn}
 use Rattle.hz_reach.proofs.DistinctLists.{listed-cases, listed-left, listed-right, is_repeat_free-append}
 use Rattle.hz_reach.proofs.FilteredRangeLemmas.{filtered_range-is, is-filtered_range, filtered_range-once, differs-true, true-differs}
-use Rattle.hz_reach.proofs.TurnsByRank.{IsChangedAfter, AreTurns}
-use Rattle.hz_reach.proofs.RanksOrderGates.{turns-of}
-use Rattle.hz_reach.proofs.Order.{had_before, also, IsNext, place-next, turn-comes, none-comes, none-yet, all-had, after-turns, order-found}
+use Rattle.hz_reach.proofs.RanksOrderGates.{IsChangedAfter, AreTurns, turns-of}
+use Rattle.hz_reach.proofs.Order.{had_before, also, IsNext, all-had, after-turns, order-found}
 use Rattle.hz_reach.proofs.ListPlaces.{listed-at}
-use Rattle.hz_reach.proofs.Room.{end_of-after, run-after, flips-after, room-for-step, room-left, spends-none, spends-more}
-use Rattle.hz_reach.proofs.GateTurn.{turn-end}
+use Rattle.hz_reach.proofs.Room.{end_of-after, run-after, flips-after, room-for-step, room-left}
+use Rattle.hz_reach.proofs.GateTurn.{IsFunction}
+use Rattle.hz_reach.proofs.TurnLoop.{IsAtPlace, at-begin, at-next, at-here, at-turn}
 use Rattle.hz_reach.proofs.SpreadLoop.{changed, changed-after, changes-unlisted, changes-listed, changes-few, HadTurns, few-flips, changed-inputs, state-long, listed-same, unlisted-bit, node-changed, wire-differs, rank-possible, had-turn}
 
 -- a value that is found to be X
@@ -206,119 +206,99 @@ pub record IsUnderway (netlist : Netlist) (input start : List Bool) (a : List Tr
   pub circuit : IsCircuit netlist
   pub turns : AreTurns (network_of netlist) input start a ranks
   pub empty : IsEmptyRun (length (network_of netlist)) first
-  pub sorted : IsInKeyOrder ranks scratch.sorted
-  pub marked : scratch.marked ≡ []
-  pub had_turns : HadTurns (network_of netlist) input start ranks (had_before (is_gate_in (network_of netlist)) scratch.sorted place) now.steps scratch.state
-  pub spent : Spends first now
-
--- room that is left of an empty run
-left-of-empty :
-    (net : List Driver) (input begun : List Bool) {first now : RunRecord} (more : ℕ) → IsEmptyRun (length net) first → IsRun net input begun now.steps →
-    Spends first now → flip_count now.steps + more ≤ length net → HasRoomFor more now
-left-of-empty net input begun {first} {now} more empty run spent few =
-    room-left net input begun now.steps more run (ap (λ (steps : List (List ℕ)). steps ++ now.steps) (sym empty.empty)) spent (record { flips = empty.flips; steps = empty.steps }) few
+  pub at : IsAtPlace netlist ranks (is_gate_in (network_of netlist)) (HadTurns (network_of netlist) input start ranks) first place scratch now
 
 module _ {netlist : Netlist} {input start : List Bool} {a : List Tri} {ranks : List ℕ} (circuit : IsCircuit netlist) (change : AreResultsOfA netlist input start a ranks) {first : RunRecord} (empty : IsEmptyRun (length (network_of netlist)) first) where
-  change-turns : AreTurns (network_of netlist) input start a ranks
-  change-turns = turns-of circuit change.begins change.a_result change.ranked
+  begun : HadTurns (network_of netlist) input start ranks (λ i. false) (with_step_if_any [] (changed_inputs netlist start input)) (end_of start (with_step_if_any [] (changed_inputs netlist start input)))
+  begun = inputs-changed circuit (turns-of circuit change.begins change.a_result change.ranked)
 
   pub inputs-room : HasRoomForStep (changed_inputs netlist start input) first
   inputs-room =
-      let had = inputs-changed circuit change-turns in
       let flips = changed_inputs netlist start input in
-      let none : flip_count first.steps ≡ 0 = ap flip_count empty.empty in
-      room-for-step flips first
-      (left-of-empty (network_of netlist) input start (length flips) empty (subst (IsRun (network_of netlist) input start) (sym empty.empty) tt) (spends-none first)
-      (omega (arith, none, flips-after [] flips, few-flips (network_of netlist) input start (with_step_if_any [] flips) had.run had.once)))
+      let few = few-flips (network_of netlist) input start (with_step_if_any [] flips) begun.run begun.once in
+      room-for-step flips first (record { flips = omega (arith, flips-after [] flips, few, empty.flips); steps = omega (arith, flips-after [] flips, few, empty.steps) })
 
   pub underway-begin : {scratch : ScratchState} {now : RunRecord} → IsInKeyOrder ranks scratch.sorted → scratch.marked ≡ [] → scratch.state ≡ state_after (changed_inputs netlist start input) start → now.steps ≡ with_step_if_any first.steps (changed_inputs netlist start input) → Spends first now → IsUnderway netlist input start a ranks 0 scratch first now
   underway-begin {scratch} {now} sorted marked state steps spent =
       let flips = changed_inputs netlist start input in
-      let begun : now.steps ≡ with_step_if_any [] flips = steps ∙ ap (λ (list : List (List ℕ)). with_step_if_any list flips) empty.empty in
       record {
         circuit = circuit;
-        turns = change-turns;
+        turns = turns-of circuit change.begins change.a_result change.ranked;
         empty = empty;
-        sorted = sorted;
-        marked = marked;
-        had_turns =
-            subst (λ (had : ℕ → Bool). HadTurns (network_of netlist) input start ranks had now.steps scratch.state) (sym (none-yet sorted (is_gate_in (network_of netlist))))
-            (subst (λ (s : List Bool). HadTurns (network_of netlist) input start ranks (λ i. false) now.steps s) (end_of-after start [] flips ∙ sym state)
-            (subst (λ (list : List (List ℕ)). HadTurns (network_of netlist) input start ranks (λ i. false) list (end_of start (with_step_if_any [] flips))) (sym begun) (inputs-changed circuit change-turns)));
-        spent = spent;
+        at = at-begin netlist (is_gate_in (network_of netlist)) (HadTurns (network_of netlist) input start ranks) (with_step_if_any [] flips) sorted marked
+            (steps ∙ (ap (λ (list : List (List ℕ)). with_step_if_any list flips) empty.empty ∙ ap (λ (list : List (List ℕ)). list ++ with_step_if_any [] flips) (sym empty.empty)))
+            spent
+            (subst (HadTurns (network_of netlist) input start ranks (λ i. false) (with_step_if_any [] flips)) (end_of-after start [] flips ∙ sym state) begun);
       }
 
 module _ {netlist : Netlist} {input start : List Bool} {a : List Tri} {ranks : List ℕ} {place : ℕ} {scratch : ScratchState} {first now : RunRecord} (underway : IsUnderway netlist input start a ranks place scratch first now) where
   pub underway-long : length scratch.state ≡ length (network_of netlist)
-  underway-long = state-long underway.turns underway.had_turns
+  underway-long = state-long underway.turns underway.at.holds
+
+  -- the run began empty
+  all-made : underway.at.made ≡ now.steps
+  all-made = sym (underway.at.steps ∙ ap (λ (list : List (List ℕ)). list ++ underway.at.made) underway.empty.empty)
+
+  left : (more : ℕ) → flip_count underway.at.made + more ≤ length (network_of netlist) → HasRoomFor more now
+  left more few =
+      room-left (network_of netlist) input start underway.at.made more underway.at.holds.run underway.at.steps underway.at.spent
+      (record { flips = underway.empty.flips; steps = underway.empty.steps }) few
 
   module _ (inside : place < length scratch.sorted) where
     pub place-inside : get_or scratch.sorted place 0 < length (network_of netlist)
-    place-inside = underway.turns.inside (get_or scratch.sorted place 0) ((underway.sorted.keyed (get_or scratch.sorted place 0)).0 (listed-at scratch.sorted place inside))
+    place-inside = underway.turns.inside (get_or scratch.sorted place 0) ((underway.at.sorted.keyed (get_or scratch.sorted place 0)).0 (listed-at scratch.sorted place inside))
 
     -- a variable that is no gate has no turn
     pub underway-next : is_gate_in (network_of netlist) (get_or scratch.sorted place 0) ≡ false → IsUnderway netlist input start a ranks (place + 1) scratch first now
-    underway-next none = record {
-      circuit = underway.circuit;
-      turns = underway.turns;
-      empty = underway.empty;
-      sorted = underway.sorted;
-      marked = underway.marked;
-      had_turns =
-          subst (λ (had : ℕ → Bool). HadTurns (network_of netlist) input start ranks had now.steps scratch.state)
-          (sym (none-comes underway.sorted (is_gate_in (network_of netlist)) place inside none)) underway.had_turns;
-      spent = underway.spent;
-    }
+    underway-next none = record { circuit = underway.circuit; turns = underway.turns; empty = underway.empty; at = at-next underway.at inside none }
 
     -- a gate's turn
     module _ (turns : is_gate_in (network_of netlist) (get_or scratch.sorted place 0) ≡ true) (is_gate : IsGateNumber netlist (get_or scratch.sorted place 0)) where
       abbrev gate : ℕ
       gate = get_or scratch.sorted place 0
 
-      next : IsNext ranks (is_gate_in (network_of netlist)) (had_before (is_gate_in (network_of netlist)) scratch.sorted place) (get_or scratch.sorted place 0)
-      next = place-next underway.sorted (is_gate_in (network_of netlist)) place inside turns
+      function : IsFunction (network_of netlist) gate (gate_at netlist gate).kind (first_wire netlist gate) (length (gate_at netlist gate).sources)
+      function = record { drives = driver_at-gate netlist gate underway.circuit is_gate }
 
       pub turn-possible : (list : List Bool) × IsCandidate (gate_at netlist (get_or scratch.sorted place 0)).kind (at_wires netlist (get_or scratch.sorted place 0) scratch.state) (earlier_pins netlist ranks (get_or scratch.sorted place 0)) (not (bit_at scratch.state (get_or scratch.sorted place 0))) list
-      turn-possible = rank-possible underway.turns underway.had_turns next (record { drives = driver_at-gate netlist gate underway.circuit is_gate })
+      turn-possible = rank-possible underway.turns underway.at.holds (at-here underway.at inside turns) function
 
-      turned : {wires : List ℕ} → (are : AreTurnWires netlist (get_or scratch.sorted place 0) (earlier_pins netlist ranks (get_or scratch.sorted place 0)) scratch.state wires) → HadTurns (network_of netlist) input start ranks (also (had_before (is_gate_in (network_of netlist)) scratch.sorted place) gate) (with_step_if_any (with_step_if_any now.steps wires) (gate ∷ [])) (end_of start (with_step_if_any (with_step_if_any now.steps wires) (gate ∷ [])))
+      turned : {wires : List ℕ} → (are : AreTurnWires netlist (get_or scratch.sorted place 0) (earlier_pins netlist ranks (get_or scratch.sorted place 0)) scratch.state wires) → HadTurns (network_of netlist) input start ranks (also (had_before (is_gate_in (network_of netlist)) scratch.sorted place) gate) (with_step_if_any (with_step_if_any underway.at.made wires) (gate ∷ [])) (state_after (gate ∷ []) (state_after wires scratch.state))
       turned {wires} are =
-          subst (λ (list : List ℕ). HadTurns (network_of netlist) input start ranks (also (had_before (is_gate_in (network_of netlist)) scratch.sorted place) gate) (with_step_if_any (with_step_if_any now.steps list) (gate ∷ [])) (end_of start (with_step_if_any (with_step_if_any now.steps list) (gate ∷ [])))) (sym are.marks)
-          (had-turn underway.turns underway.had_turns next (record { drives = driver_at-gate netlist gate underway.circuit is_gate }) are.canonical.candidate)
+          subst (λ (list : List ℕ). HadTurns (network_of netlist) input start ranks (also (had_before (is_gate_in (network_of netlist)) scratch.sorted place) gate) (with_step_if_any (with_step_if_any underway.at.made list) (gate ∷ [])) (state_after (gate ∷ []) (state_after list scratch.state))) (sym are.marks)
+          (had-turn underway.turns underway.at.holds (at-here underway.at inside turns) function are.canonical.candidate)
 
       pub turn-room : (wires : List ℕ) → AreTurnWires netlist (get_or scratch.sorted place 0) (earlier_pins netlist ranks (get_or scratch.sorted place 0)) scratch.state wires → HasRoomFor (length wires + 1) now
       turn-room wires are =
           let then = turned are in
-          left-of-empty (network_of netlist) input start (length wires + 1) underway.empty underway.had_turns.run underway.spent
-          (omega (arith, few-flips (network_of netlist) input start (with_step_if_any (with_step_if_any now.steps wires) (gate ∷ [])) then.run then.once, flips-after (with_step_if_any now.steps wires) (gate ∷ []), flips-after now.steps wires))
+          left (length wires + 1)
+          (omega (arith, few-flips (network_of netlist) input start (with_step_if_any (with_step_if_any underway.at.made wires) (gate ∷ [])) then.run then.once, flips-after (with_step_if_any underway.at.made wires) (gate ∷ []), flips-after underway.at.made wires))
 
       pub underway-turn : {last : ScratchState} {then : RunRecord} → IsTurn netlist (get_or scratch.sorted place 0) (earlier_pins netlist ranks (get_or scratch.sorted place 0)) false scratch.state last.state now.steps then.steps → last.sorted ≡ scratch.sorted → last.marked ≡ [] → Spends now then → IsUnderway netlist input start a ranks (place + 1) last first then
-      underway-turn {last} {then} turn order marked spent = record {
+      underway-turn turn order marked spent = record {
         circuit = underway.circuit;
         turns = underway.turns;
         empty = underway.empty;
-        sorted = subst (IsInKeyOrder ranks) (sym order) underway.sorted;
-        marked = marked;
-        had_turns =
-            subst (λ (list : List ℕ). HadTurns (network_of netlist) input start ranks (had_before (is_gate_in (network_of netlist)) list (place + 1)) then.steps last.state) (sym order)
-            (subst (λ (had : ℕ → Bool). HadTurns (network_of netlist) input start ranks had then.steps last.state) (sym (turn-comes underway.sorted (is_gate_in (network_of netlist)) place inside turns))
-            (subst (HadTurns (network_of netlist) input start ranks (also (had_before (is_gate_in (network_of netlist)) scratch.sorted place) gate) then.steps) (turn-end start scratch.state now.steps turn.wires (gate ∷ []) underway.had_turns.ends ∙ sym turn.ends)
-            (subst (λ (list : List (List ℕ)). HadTurns (network_of netlist) input start ranks (also (had_before (is_gate_in (network_of netlist)) scratch.sorted place) gate) list (end_of start (with_step_if_any (with_step_if_any now.steps turn.wires) (gate ∷ [])))) (sym turn.made) (turned turn.are_wires))));
-        spent = spends-more underway.spent spent;
+        at = at-turn underway.at inside turns turn order marked spent (turned turn.are_wires);
       }
 
   -- The end.
   module _ (end : length scratch.sorted ≤ place) where
     each : (i : ℕ) → is_gate_in (network_of netlist) i ≡ true → key_at ranks i ≢ 0 → had_before (is_gate_in (network_of netlist)) scratch.sorted place i ≡ true
-    each i is_gate some = all-had underway.sorted (is_gate_in (network_of netlist)) place i end is_gate some
+    each i is_gate some = all-had underway.at.sorted (is_gate_in (network_of netlist)) place i end is_gate some
 
     pub underway-sparing : IsSparingRun (network_of netlist) input start a ranks now.steps
-    underway-sparing = sparing-run underway.circuit underway.turns underway.had_turns each
+    underway-sparing = subst (IsSparingRun (network_of netlist) input start a ranks) all-made (sparing-run underway.circuit underway.turns underway.at.holds each)
 
     pub underway-whole : IsSpreadRun (network_of netlist) input start a (with_step_if_any now.steps (unchanged_wires netlist a start scratch.state))
-    underway-whole = whole-run underway.circuit underway.turns underway.had_turns each
+    underway-whole =
+        subst (λ (steps : List (List ℕ)). IsSpreadRun (network_of netlist) input start a (with_step_if_any steps (unchanged_wires netlist a start scratch.state))) all-made
+        (whole-run underway.circuit underway.turns underway.at.holds each)
 
     pub underway-room : HasRoomForStep (unchanged_wires netlist a start scratch.state) now
     underway-room =
         room-for-step (unchanged_wires netlist a start scratch.state) now
-        (left-of-empty (network_of netlist) input start (length (unchanged_wires netlist a start scratch.state)) underway.empty underway.had_turns.run underway.spent (whole-flips underway.circuit underway.turns underway.had_turns each))
+        (left (length (unchanged_wires netlist a start scratch.state)) (whole-flips underway.circuit underway.turns underway.at.holds each))
+
+    pub underway-ends : scratch.state ≡ end_of start now.steps
+    underway-ends = sym underway.at.holds.ends ∙ ap (end_of start) all-made

@@ -5,8 +5,7 @@ use Rattle.hz_net.specs.Network.{network_of}
 use Rattle.hz_net.proofs.Wired.{wired-network_of}
 use Rattle.hz_cycle.specs.Cycles.{IsCycleOf}
 use Rattle.hz_cycle.proofs.Change.{of-change, change-fixed, fixed-and-ranked}
-use Rattle.hz_cycle.proofs.CycleExists.{cycle-found, returned}
-use Rattle.hz_cycle.proofs.CycleRoom.{room-twice, room-again}
+use Rattle.hz_cycle.proofs.CycleExists.{cycle-found, returned, room-twice, room-again}
 use Rattle.hz_cycle.proofs.TurnedStates.{turned-may-begin}
 use Rattle.hz_cycle.proofs.cycling.cycle_in_order.Goals as goal
 

@@ -47,7 +47,7 @@ turn_unsettled-requires c =
       b = c.requires.given.fixed.long;
       gate = rw here is_gate;
       possible = rw here (passing-possible passing inside turns is_gate);
-      scratch = record { long = passing-long passing; none_marked = passing.marked };
+      scratch = record { long = passing-long passing; none_marked = passing.at.marked };
       room = subst (λ (g : ℕ). (wires : List ℕ) → AreTurnWires c.args.net.now g (unsettled_pins c.args.net.now c.args.b.now g) c.loop-place.scratch.state wires → HasRoomFor (length wires + length (turn_flips c.args.net.now g true (state_after wires c.loop-place.scratch.state))) c.loop-place.run)
           (sym here) (passing-room passing inside turns is_gate);
     }
@@ -79,4 +79,10 @@ pub returns-clause-pass : goal.returns-clause-pass
 returns-clause-pass c = passing-end c.loop-place.invariant.passing (omega (arith, c.loop-place-test.false, c.loop-place.invariant.end))
 
 pub returns-clause-sorted : goal.returns-clause-sorted
-returns-clause-sorted c = c.loop-place.invariant.passing.sorted
+returns-clause-sorted c = c.loop-place.invariant.passing.at.sorted
+
+pub returns-clause-marked : goal.returns-clause-marked
+returns-clause-marked c = c.loop-place.invariant.passing.at.marked
+
+pub returns-clause-room : goal.returns-clause-room
+returns-clause-room c = c.loop-place.invariant.passing.at.spent

@@ -7,7 +7,7 @@ use Rattle.hz_gmw.specs.RunRecord.{RunRecord}
 use Rattle.hz_reach.specs.Room.{with_step_if_any}
 use Rattle.hz_reach.specs.ScratchState.{ScratchState}
 use Rattle.hz_reach.specs.Turn.{is_gate_in, changed_inputs}
-use Rattle.hz_reach.proofs.SpreadSteps.{IsUnderway, inputs-room, underway-begin, underway-long, place-inside, underway-next, turn-possible, turn-room, underway-turn, underway-sparing, underway-whole, underway-room}
+use Rattle.hz_reach.proofs.SpreadSteps.{IsUnderway, inputs-room, underway-begin, underway-long, place-inside, underway-next, turn-possible, turn-room, underway-turn, underway-sparing, underway-whole, underway-room, underway-ends}
 use Rattle.hz_reach.proofs.spreading.sparing_in_order.Goals as goal
 use Rattle.hz_reach.proofs.spreading.sparing_in_order.Goals.{then-is_gate, else-is_gate}
 
@@ -50,7 +50,7 @@ turn_by_rank-requires c =
       rank = underway.turns.long_ranks;
       gate = rw here is_gate;
       possible = rw here (turn-possible underway inside turns is_gate);
-      scratch = record { long = underway-long underway; none_marked = underway.marked };
+      scratch = record { long = underway-long underway; none_marked = underway.at.marked };
       room = rw here (turn-room underway inside turns is_gate);
     }
 
@@ -85,3 +85,15 @@ returns-clause-whole c = underway-whole c.loop-place.invariant.underway (omega (
 
 pub returns-clause-room_for_unused : goal.returns-clause-room_for_unused
 returns-clause-room_for_unused c = underway-room c.loop-place.invariant.underway (omega (arith, c.loop-place-test.false, c.loop-place.invariant.end))
+
+pub returns-clause-state : goal.returns-clause-state
+returns-clause-state c = underway-ends c.loop-place.invariant.underway (omega (arith, c.loop-place-test.false, c.loop-place.invariant.end))
+
+pub returns-clause-marked : goal.returns-clause-marked
+returns-clause-marked c = c.loop-place.invariant.underway.at.marked
+
+pub returns-clause-sorted : goal.returns-clause-sorted
+returns-clause-sorted c = c.loop-place.invariant.underway.at.sorted
+
+pub returns-clause-room : goal.returns-clause-room
+returns-clause-room c = c.loop-place.invariant.underway.at.spent
