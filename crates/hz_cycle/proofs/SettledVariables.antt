@@ -19,7 +19,9 @@ use Rattle.hz_net.proofs.PartLemmas.{length-part}
 use Rattle.hz_net.proofs.Sequences.{length-algorithm_b}
 use Rattle.hz_gmw.specs.Runs.{is_listed, state_after}
 use Rattle.hz_gmw.proofs.Flips.{length-state_after, at-state_after}
-use Rattle.hz_reach.proofs.StateParts.{driver-inside}
+use Rattle.hz_net.specs.Reads.{IsWired}
+use Rattle.hz_reach.specs.Turn.{is_gate_in}
+use Rattle.hz_reach.proofs.GateTurn.{driver-inside}
 use Rattle.hz_cycle.specs.Pass.{IsFixed}
 
 -- Values
@@ -42,7 +44,7 @@ same-admitted One true false known a b = cc
 same-admitted One true true known a b = refl
 same-admitted Unknown here there known a b = absurd (known refl)
 
-admits-unknown : (value : Tri) (bit : Bool) → IsUnknown value → IsTrue (admits value bit)
+pub admits-unknown : (value : Tri) (bit : Bool) → IsUnknown value → IsTrue (admits value bit)
 admits-unknown value false unknown = rw unknown refl
 admits-unknown value true unknown = rw unknown refl
 
@@ -133,3 +135,24 @@ module _ {net : List Driver} {input : List Bool} {b : List Tri} (fixed : IsFixed
       (sym (get_or-map is_unknown values pin Zero false (omega (arith, few, now_long, values_long))) ∙ settled)
       (get_or-Refines now values (Refines-slice_range state b first (first + pins) refined) pin))
       (admits-unknown (extension kind values) want (sym (ap (driver_value3 input b) drives) ∙ (sym (fixed.same gate (unknown-inside gate unknown)) ∙ unknown)))
+
+-- the source of an unsettled wire is an unsettled gate
+pub record IsUnsettledGate (net : List Driver) (b : List Tri) (gate : ℕ) : Type 0 where
+  pub kind : Kind
+  pub first : ℕ
+  pub pins : ℕ
+  pub drives : driver_at net gate ≡ Function kind first pins
+  pub unsettled : IsUnknown (value_at b gate)
+
+module _ {net : List Driver} {input : List Bool} {b : List Tri} (wired : IsWired net) (fixed : IsFixed net input b) where
+  pub source-gate : (wire source : ℕ) → driver_at net wire ≡ Source source → IsUnknown (value_at b source) → IsUnsettledGate net b source
+  source-gate wire source drives unknown = by_driver (driver_at net source) refl
+    where
+      by_driver : (driver : Driver) → driver_at net source ≡ driver → IsUnsettledGate net b source
+      by_driver (External place) e = absurd (no-input fixed source place unknown e)
+      by_driver (Function kind first pins) e = record { kind = kind; first = first; pins = pins; drives = e; unsettled = unknown }
+      by_driver (Source node) e = absurd (wired.node wire source drives node e)
+
+  -- a test for gates finds it
+  pub source-is_gate : (wire source : ℕ) → driver_at net wire ≡ Source source → IsUnknown (value_at b source) → is_gate_in net source ≡ true
+  source-is_gate wire source drives unknown = let is = source-gate wire source drives unknown in rw is.drives refl

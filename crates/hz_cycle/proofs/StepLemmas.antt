@@ -1,14 +1,14 @@
 -- One more step of a run: how often variables have changed, where the run ends, and the states on the way.
-use Rattle.std.proofs.Common.{◌≡◌, ◌≢◌, ℕ, suc, ◌+◌, Bool, false, cond, List, [], ◌∷◌, ◌++◌, refl, sym, ap, ◌∙◌, subst, arith, inl, inr, append_assoc, Contains}
+use Rattle.std.proofs.Common.{◌≡◌, ℕ, suc, ◌+◌, Bool, false, cond, List, [], ◌∷◌, ◌++◌, refl, sym, ap, ◌∙◌, subst, arith, inl, inr, append_assoc, Contains}
 use Rattle.std.proofs.lemmas.Bool.{cases_Bool}
 use Rattle.std.proofs.lemmas.List.Sums.{sum_by-cons, sum_by-append, sum_by_push}
-use Rattle.hz_net.specs.Network.{Driver, bit_at}
-use Rattle.hz_gmw.specs.Runs.{is_listed, IsStep, IsRun, state_after, end_of}
+use Rattle.hz_net.specs.Network.{bit_at}
+use Rattle.hz_gmw.specs.Runs.{is_listed, state_after, end_of}
 use Rattle.hz_gmw.specs.Cycles.{states_of}
-use Rattle.hz_gmw.proofs.Paths.{IsRun-append, IsCut, cut-member}
+use Rattle.hz_gmw.proofs.Paths.{IsCut, cut-member}
 use Rattle.hz_reach.specs.Room.{with_step_if_any}
 use Rattle.hz_reach.specs.Spread.{changes_in}
-use Rattle.hz_cycle.proofs.Turn.{state_after-unlisted}
+use Rattle.hz_reach.proofs.GateTurn.{state_after-unlisted}
 
 -- whether a step changes a variable, as a number
 abbrev pub listed : List ℕ → ℕ → ℕ
@@ -26,10 +26,6 @@ changes-after steps (j ∷ flips) i = sum_by_push (λ (list : List ℕ). listed 
 
 pub listed-none : (flips : List ℕ) (i : ℕ) → is_listed flips i ≡ false → listed flips i ≡ 0
 listed-none flips i out = rw out refl
-
-pub run-after : (net : List Driver) (input begun : List Bool) (steps : List (List ℕ)) (flips : List ℕ) → IsRun net input begun steps → (flips ≢ [] → IsStep net input (end_of begun steps) flips) → IsRun net input begun (with_step_if_any steps flips)
-run-after net input begun steps [] run step = run
-run-after net input begun steps (j ∷ flips) run step = IsRun-append net input begun steps ((j ∷ flips) ∷ []) run (step (λ e. cc), tt)
 
 -- a variable that no step changes
 pub unchanged-end : (begun : List Bool) (steps : List (List ℕ)) (i : ℕ) → changes_in steps i ≡ 0 → bit_at (end_of begun steps) i ≡ bit_at begun i

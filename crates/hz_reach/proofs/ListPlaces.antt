@@ -1,10 +1,11 @@
 -- Variables in a list, by their places.
 use Rattle.std.proofs.Common.{◌≡◌, ◌≢◌, ℕ, zero, suc, ◌+◌, ◌<◌, Bool, true, false, not, cond, List, [], ◌∷◌, ◌++◌, length, get_or, set, take, drop, refl, sym, ap, ◌∙◌, subst, arith, inl, inr, eqb}
-use Rattle.std.proofs.lemmas.Bool.{cases_Bool, cases_eq, both_ways, or_cases, or_left, or_right, eqb-true, eq-eqb, false_from_ne_true}
-use Rattle.std.proofs.lemmas.List.{take-append-drop, take_more, drop_more, ext_get_or, get_or-set_same, get_or-set_other, length-set}
+use Rattle.std.proofs.lemmas.Bool.{cases_Bool, cases_eq, both_ways, or_cases, or_left, or_right, eqb-true, eq-eqb, false_from_ne_true, cases_lt}
+use Rattle.std.proofs.lemmas.List.{get_or_past, take-append-drop, take_more, drop_more, ext_get_or, get_or-set_same, get_or-set_other, length-set}
 use Rattle.hz_net.specs.Network.{bit_at}
 use Rattle.hz_gmw.specs.Runs.{is_listed, IsRepeatFree, state_after}
 use Rattle.hz_gmw.proofs.Flips.{length-state_after, at-state_after}
+use Rattle.hz_reach.specs.Order.{key_at}
 use Rattle.hz_reach.proofs.DistinctLists.{listed-left, listed-right, unlisted-append, is_repeat_free-apart}
 use Rattle.hz_reach.proofs.FilteredRangeLemmas.{only-one, is-one}
 
@@ -72,10 +73,10 @@ pub state_after-none : (state : List Bool) → state ≡ state_after [] state
 state_after-none state = ext_get_or false state (state_after [] state) (sym (length-state_after [] state)) (λ i inside. sym (at-state_after [] state i inside))
 
 -- a list without elements
-pub no-element : (list : List ℕ) → length list ≡ 0 → list ≡ []
+pub no-element : {X : Type 0} (list : List X) → length list ≡ 0 → list ≡ []
 no-element [] empty = refl
 no-element (x ∷ list) empty = absurd (omega (arith, empty))
 
-pub some-element : (list : List ℕ) → length list ≢ 0 → list ≢ []
-some-element [] some e = some refl
-some-element (x ∷ list) some e = cc
+-- what has a key is a variable
+pub key-inside : (keys : List ℕ) (i : ℕ) → key_at keys i ≢ 0 → i < length keys
+key-inside keys i some = elim (cases_lt i (length keys)) [ inl few ↦ few | inr past ↦ absurd (some (get_or_past keys i 0 past)) ]
