@@ -148,8 +148,9 @@ impl Planes {
         self.loads.load_held(lane, input, first, held);
     }
 
-    /// Forgets what was loaded, and loads the first lanes, as `clear` does and then `load_held` of one lane after the other. The
-    /// bits are those of one lane after the other: of each the bits that its start lists for the inputs, and its new input.
+    /// Forgets what was loaded, and loads the first lanes, as `clear` does and then `load_held` of one lane after the
+    /// other. The bits are those of one lane after the other: of each the bits that its start lists for the inputs, and
+    /// its new input.
     pub fn load_block(&mut self, net: &Net, lanes: u32, bits: &[bool], held: &[(u32, bool)])
         requires net { AreOf net.now self.old }
         requires lanes { lanes ≤ 512 }

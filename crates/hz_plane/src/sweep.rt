@@ -1,14 +1,15 @@
 //! Gates evaluated in place until nothing changes.
 ghost use Rattle.std.specs.Prelude.{◌≡◌, ◌≢◌, ℕ, ◌+◌, ◌/◌, ◌<◌, ◌≤◌, ◌^◌, ◌⊎◌, Contains, All, false, true, length, slice_index};
-ghost use Rattle.hz_core.specs.Netlist.{IsCircuit, IsWhole, IsGateNumber};
+ghost use Rattle.hz_core.specs.Netlist.{IsCircuit, IsWhole, IsGateNumber, gate_at};
 ghost use Rattle.hz_plane.specs.Schedules.{IsSchedule};
-ghost use Rattle.hz_plane.specs.Steps.{step_planes, IsStillPair, AreAllPlanes};
+ghost use Rattle.hz_plane.specs.Steps.{gate_pair, step_planes, IsStillPair, AreAllPlanes};
 ghost use Rattle.hz_plane.specs.Sweeps.{weight, AreDue, AreDueBelow, AreDueBut, AreMarkedWithin, IsMarked, Ran};
 
 use crate::excited::excited;
 use crate::pair::Pair;
 use crate::rule::Rule;
 use crate::schedule::Schedule;
+use hz_core::Kind;
 use hz_net::Net;
 
 // A part of the words of marks, outside of which no word has one.
@@ -87,7 +88,8 @@ fn take(word: usize, marks: &mut [u64]) -> usize
     requires few { length marks.old < 2 ^ 32 }
     requires some { slice_index marks.old word ≢ 0 }
     ensures word { result / 64 ≡ word }
-    ensures kept { (other : ℕ) → other ≢ result → IsMarked marks.old other → IsMarked marks.new other }
+    ensures kept { (other : ℕ) → other ≢ result → IsMarked marks.old other
+        → IsMarked marks.new other }
     ensures none { (other : ℕ) → IsMarked marks.new other → IsMarked marks.old other }
     ensures less { slice_index marks.new word < slice_index marks.old word }
 {
@@ -166,21 +168,20 @@ impl<'a> Pass<'a> {
         ensures within { AreMarkedWithin marks.new 0 0 result.begin result.end }
         ensures bound { span.end ≤ length marks.old → result.end ≤ length marks.old }
     {
-        let gate = self.schedule.order.as_slice()[place];
         let back = self.schedule.back.at(place);
         if back.is_empty() {
-            self.advance(gate, planes);
+            self.advance(place, planes);
             return span;
         }
-        if self.evaluate(gate, planes) {
+        if self.evaluate(place, planes) {
             mark_all(back, place / 64, 0, marks, span)
         } else {
             span
         }
     }
 
-    // Evaluates the marked gates of a part of the order, and marks what reads a gate that changed. It answers in which words
-    // there are marks now.
+    // Evaluates the marked gates of these words, and marks what reads a gate that changed. It answers in which words there
+    // are marks now.
     fn sweep(&self, span: Span, marks: &mut [u64], planes: &mut [Pair]) -> Span
         requires schedule { IsSchedule self.now.net.now self.now.schedule.now }
         requires circuit { IsCircuit self.now.net.now }
@@ -252,8 +253,8 @@ impl<'a> Pass<'a> {
         next
     }
 
-    // Evaluates the gate at a place, if there is one, and marks what reads it, if this changed it. Each other gate is marked, if
-    // it would change.
+    // Evaluates the gate at a place, if there is one, and marks what reads it, if this changed it. Each other gate is
+    // marked, if it would change.
     #[inline(always)]
     fn visit(
         &self,
@@ -284,31 +285,35 @@ impl<'a> Pass<'a> {
             × (weight self.now.rule planes.new ≡ weight self.now.rule planes.old))
             ⊎ (weight self.now.rule planes.new < weight self.now.rule planes.old) }
     {
-        let order = self.schedule.order.as_slice();
-        if place >= order.len() {
+        if place >= self.schedule.order.len() {
             return span;
         }
-        if self.evaluate(order[place], planes) {
+        if self.evaluate(place, planes) {
             mark_all(self.schedule.readers.at(place), place / 64, to, marks, span)
         } else {
             span
         }
     }
 
-    // Evaluates a gate, and says whether this changed it.
+    // Evaluates the gate at a place, and says whether this changed it.
     #[inline(always)]
-    fn evaluate(&self, gate: u32, planes: &mut [Pair]) -> bool
-        requires gate { IsGateNumber self.now.net.now gate }
+    fn evaluate(&self, place: usize, planes: &mut [Pair]) -> bool
+        requires schedule { IsSchedule self.now.net.now self.now.schedule.now }
+        requires circuit { IsCircuit self.now.net.now }
+        requires whole { IsWhole self.now.net.now }
         requires long { length planes.old ≡ length self.now.net.now.names }
-        ensures made { planes.new ≡ step_planes self.now.rule self.now.net.now planes.old gate }
-        ensures same { result ≡ false → IsStillPair self.now.rule self.now.net.now planes.old gate }
+        requires place { place < length self.now.schedule.now.order.items }
+        ensures made { planes.new ≡ step_planes self.now.rule self.now.net.now planes.old
+            (slice_index self.now.schedule.now.order.items place) }
+        ensures same { result ≡ false → IsStillPair self.now.rule self.now.net.now planes.old
+            (slice_index self.now.schedule.now.order.items place) }
         ensures none { result ≡ false → planes.new ≡ planes.old }
         ensures less { result ≡ true
             → weight self.now.rule planes.new < weight self.now.rule planes.old }
     {
-        let circuit = self.net.circuit();
-        let excited = excited(circuit.kind(gate), circuit.sources(gate), planes);
+        let excited = self.excited_at(place, planes);
         excited.are_planes();
+        let gate = self.schedule.order.as_slice()[place];
         let own = planes[gate as usize];
         let next = self.rule.next(own, excited);
         if next.is_same(own) {
@@ -318,15 +323,50 @@ impl<'a> Pass<'a> {
         true
     }
 
-    // Evaluates a gate.
+    // Evaluates the gate at a place.
     #[inline(always)]
-    fn advance(&self, gate: u32, planes: &mut [Pair])
-        requires gate { IsGateNumber self.now.net.now gate }
+    fn advance(&self, place: usize, planes: &mut [Pair])
+        requires schedule { IsSchedule self.now.net.now self.now.schedule.now }
+        requires circuit { IsCircuit self.now.net.now }
+        requires whole { IsWhole self.now.net.now }
         requires long { length planes.old ≡ length self.now.net.now.names }
-        ensures { planes.new ≡ step_planes self.now.rule self.now.net.now planes.old gate }
+        requires place { place < length self.now.schedule.now.order.items }
+        ensures { planes.new ≡ step_planes self.now.rule self.now.net.now planes.old
+            (slice_index self.now.schedule.now.order.items place) }
     {
-        let circuit = self.net.circuit();
-        let excited = excited(circuit.kind(gate), circuit.sources(gate), planes);
+        let excited = self.excited_at(place, planes);
+        let gate = self.schedule.order.as_slice()[place];
         planes[gate as usize] = self.rule.next(planes[gate as usize], excited);
     }
+
+    // The excitation of the gate at a place, by its copied kind and pins.
+    #[inline(always)]
+    fn excited_at(&self, place: usize, planes: &[Pair]) -> Pair
+        requires schedule { IsSchedule self.now.net.now self.now.schedule.now }
+        requires circuit { IsCircuit self.now.net.now }
+        requires whole { IsWhole self.now.net.now }
+        requires long { length planes.now ≡ length self.now.net.now.names }
+        requires place { place < length self.now.schedule.now.order.items }
+        ensures { result ≡ gate_pair self.now.net.now planes.now
+            (slice_index self.now.schedule.now.order.items place) }
+    {
+        let gate = self.schedule.order.as_slice()[place];
+        let kind = self.schedule.kinds.as_slice()[place];
+        excitation(self.net, gate, kind, self.schedule.pins.at(place), planes)
+    }
+}
+
+// The excitation of a gate, by its kind and by the nodes that it reads.
+#[inline(always)]
+fn excitation(net: &Net, gate: u32, kind: Kind, sources: &[u32], planes: &[Pair]) -> Pair
+    requires gate { IsGateNumber net.now gate }
+    requires circuit { IsCircuit net.now }
+    requires whole { IsWhole net.now }
+    requires long { length planes.now ≡ length net.now.names }
+    requires kind { kind ≡ (gate_at net.now gate).kind }
+    requires sources { sources.now ≡ (gate_at net.now gate).sources }
+    ensures { result ≡ gate_pair net.now planes.now gate }
+{
+    let _circuit = net.circuit();
+    excited(kind, sources, planes)
 }
