@@ -41,7 +41,7 @@ pub struct Planes {
     settles: u64,
     gates: Gates,
     schedule: Schedule,
-    marks: Vec<bool>,
+    marks: Vec<u64>,
     loads: Loads,
     values: Vec<Pair>,
     faults: Vec<Option<LaneFault>>,
@@ -77,7 +77,7 @@ impl Planes {
         let schedule = Schedule::of(alloc, net)?;
         let loads = Loads::new(alloc, circuit.inputs(), circuit.nodes())?;
         let values = unknown_values(alloc, circuit.nodes())?;
-        let Ok(marks) = vec![in alloc; false; schedule.order.len()] else {
+        let Ok(marks) = vec![in alloc; 0; schedule.order.len() / 64 + 1] else {
             return Err(Memory);
         };
         let Ok(faults) = vec![in alloc; None; 512] else {
@@ -148,8 +148,9 @@ impl Planes {
         self.loads.load_held(lane, input, first, held);
     }
 
-    /// Forgets what was loaded, and loads the first lanes, as `clear` does and then `load_held` of one lane after the other. The
-    /// bits are those of one lane after the other: of each the bits that its start lists for the inputs, and its new input.
+    /// Forgets what was loaded, and loads the first lanes, as `clear` does and then `load_held` of one lane after the
+    /// other. The bits are those of one lane after the other: of each the bits that its start lists for the inputs, and
+    /// its new input.
     pub fn load_block(&mut self, net: &Net, lanes: u32, bits: &[bool], held: &[(u32, bool)])
         requires net { AreOf net.now self.old }
         requires lanes { lanes ≤ 512 }
