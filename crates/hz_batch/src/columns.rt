@@ -11,7 +11,8 @@ use hz_net::Net;
 use hz_plane::{LaneValues, Planes};
 use std::alloc::Global;
 
-/// The first and the second values of the outputs, in all lanes, and in the four lanes whose lines are made.
+/// The first and the second values of the outputs, in all lanes, and in the four lanes whose lines
+/// are made.
 #[derive(Drop)]
 pub(crate) struct Columns {
     pub(crate) firsts: Vec<LaneValues>,
@@ -44,7 +45,8 @@ pub(crate) fn keep_values(net: &Net, planes: &Planes, columns: &mut [LaneValues]
     requires net { AreOf net.now planes.now }
     requires count { length columns.old ≡ length net.now.outputs }
     ensures count { length columns.new ≡ length columns.old }
-    ensures columns { AreColumns net.now planes.now.stage planes.now.lanes net.now.outputs columns.new }
+    ensures columns { AreColumns net.now planes.now.stage planes.now.lanes net.now.outputs
+        columns.new }
 {
     let _variables = net.len();
     let outputs = net.circuit().outputs();

@@ -6,8 +6,8 @@ use hz_core::{Memory, Tri};
 use hz_plane::LaneValues;
 use std::alloc::Global;
 
-// The values in four lanes, by the bits of both planes there: the four bits of those that can be 0, and behind them the four of
-// those that can be 1, are the number of a row.
+// The values in four lanes, by the bits of both planes there: the four bits of those that can be 0,
+// and behind them the four of those that can be 1, are the number of a row.
 pub(crate) fn table_of(alloc: Global) -> Result<Vec<[Tri; 4]>, Memory>
     ensures { IfOk result (λ table. IsTable table.items) }
 {

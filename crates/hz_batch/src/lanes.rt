@@ -50,16 +50,21 @@ pub(crate) fn write_lane<K: Sink>(
     requires net { AreOf work.now.net.now planes.now }
     requires stage { planes.now.stage ≡ Settled }
     requires lane { at.lane < 512 }
-    requires loaded { (loaded : Loaded) × (slice_get planes.now.lanes at.lane ≡ Some (Some loaded)) }
-    requires columns { HoldBoth work.now.net.now (kept_at work.now.job) planes.now.lanes columns.now }
+    requires loaded { (loaded : Loaded)
+        × (slice_get planes.now.lanes at.lane ≡ Some (Some loaded)) }
+    requires columns { HoldBoth work.now.net.now (kept_at work.now.job) planes.now.lanes
+        columns.now }
     requires shown { ShowFour (at.lane / 4 * 4) columns.now }
     requires line { IsLineFor work.now.net.now line.old }
     ensures line { IsLineFor work.now.net.now line.new }
     ensures gave { (pattern : PatternOf) → IsPatternOf work.now.net.now.inputs pattern
-        → slice_get planes.now.lanes at.lane ≡ Some (load_of (held_by work.now.job work.now.patterns.now.held) pattern)
+        → slice_get planes.now.lanes at.lane
+        ≡ Some (load_of (held_by work.now.job work.now.patterns.now.held) pattern)
         → (outcome : Outcome)
-        × comes_to work.now.job work.now.net.now work.now.patterns.now.held pattern outcome × IsMarkOf outcome result
-        × Writes K.output K.faults (outcome_line work.now.net.now at.number outcome) writer.old writer.new }
+        × comes_to work.now.job work.now.net.now work.now.patterns.now.held pattern outcome
+        × IsMarkOf outcome result
+        × Writes K.output K.faults (outcome_line work.now.net.now at.number outcome)
+        writer.old writer.new }
     ensures none_waits { NoneWaits writer.new }
 {
     let _variables = work.net.len();
@@ -69,7 +74,8 @@ pub(crate) fn write_lane<K: Sink>(
     }
 }
 
-// Gives the line of a lane that lists a start: the gate for which the start is refused, or what both algorithms come to.
+// Gives the line of a lane that lists a start: the gate for which the start is refused, or what
+// both algorithms come to.
 fn write_outcome<K: Sink>(
     writer: &mut Writer<'_, K>,
     net: &Net,
@@ -83,13 +89,15 @@ fn write_outcome<K: Sink>(
     requires net { AreOf net.now planes.now }
     requires stage { planes.now.stage ≡ Settled }
     requires lane { at.lane < 512 }
-    requires loaded { (loaded : Loaded) × (slice_get planes.now.lanes at.lane ≡ Some (Some loaded)) }
+    requires loaded { (loaded : Loaded)
+        × (slice_get planes.now.lanes at.lane ≡ Some (Some loaded)) }
     requires columns { HoldBoth net.now Spread planes.now.lanes columns.now }
     requires shown { ShowFour (at.lane / 4 * 4) columns.now }
     requires line { IsLineFor net.now line.old }
     ensures line { IsLineFor net.now line.new }
     ensures gave { (loaded : Loaded) → slice_get planes.now.lanes at.lane ≡ Some (Some loaded)
-        → (outcome : Outcome) × IsOutcome net.now loaded.listed loaded.input outcome × IsMarkOf outcome result
+        → (outcome : Outcome) × IsOutcome net.now loaded.listed loaded.input outcome
+        × IsMarkOf outcome result
         × Writes K.output K.faults (outcome_line net.now at.number outcome) writer.old writer.new }
     ensures none_waits { NoneWaits writer.new }
 {
@@ -111,7 +119,8 @@ fn write_outcome<K: Sink>(
     }
 }
 
-// Gives the line of a lane that lists the inputs alone: what the first bits bring about, and what that settles to.
+// Gives the line of a lane that lists the inputs alone: what the first bits bring about, and what
+// that settles to.
 fn write_values<K: Sink>(
     writer: &mut Writer<'_, K>,
     net: &Net,
@@ -127,10 +136,13 @@ fn write_values<K: Sink>(
     requires shown { ShowFour (at.lane / 4 * 4) columns.now }
     requires line { IsLineFor net.now line.old }
     ensures line { IsLineFor net.now line.new }
-    ensures gave { (loaded : Loaded) (first settled : List Tri) → slice_get planes.now.lanes at.lane ≡ Some (Some loaded)
-        → IsFilledStart net.now loaded.listed first → SettlesTo (network_of net.now) loaded.input first settled
+    ensures gave { (loaded : Loaded) (first settled : List Tri)
+        → slice_get planes.now.lanes at.lane ≡ Some (Some loaded)
+        → IsFilledStart net.now loaded.listed first
+        → SettlesTo (network_of net.now) loaded.input first settled
         → IsMarkOf (Outcome.Settled first settled) result
-        × Writes K.output K.faults (outcome_line net.now at.number (Outcome.Settled first settled)) writer.old writer.new }
+        × Writes K.output K.faults (outcome_line net.now at.number (Outcome.Settled first settled))
+        writer.old writer.new }
     ensures none_waits { NoneWaits writer.new }
 {
     let _variables = net.len();
@@ -157,7 +169,8 @@ fn write_refused<'p, K: Sink>(
     gate: u32,
 )
     requires { gate < length circuit.now.names }
-    ensures gave { Writes K.output K.faults (refused_line circuit.now number word.now gate) writer.old writer.new }
+    ensures gave { Writes K.output K.faults (refused_line circuit.now number word.now gate)
+        writer.old writer.new }
     ensures none_waits { NoneWaits writer.new }
 {
     writer.line(&[Number(number), Text(word), Text(circuit.name(gate))]);
@@ -171,7 +184,8 @@ fn set_line(net: &Net, columns: &Columns, lane: u32, line: &mut OutputLine<'_>)
     requires line { IsLineFor net.now line.old }
     ensures line { IsLineFor net.now line.new }
     ensures values { (a b : List Tri) → HasColumns net.now.outputs columns.now.firsts.items lane a
-        → HasColumns net.now.outputs columns.now.seconds.items lane b → line.new.values ≡ output_values net.now a b }
+        → HasColumns net.now.outputs columns.now.seconds.items lane b
+        → line.new.values ≡ output_values net.now a b }
 {
     let firsts = columns.first_fours.as_slice();
     let seconds = columns.second_fours.as_slice();

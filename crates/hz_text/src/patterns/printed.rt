@@ -127,6 +127,7 @@ fn mark_ones(ones: &mut Vec<bool>, bytes: &[u8]) -> Result<(), Memory>
 }
 
 // Adds the bits of so many lines, whose letters are listed.
+#[inline(never)]
 fn push_lines(
     bits: &mut Vec<bool>,
     ones: &[bool],
