@@ -16,11 +16,15 @@ use Rattle.hz_bench.specs.declared.fault.BenchFault.TheVariants as fault
 use Rattle.hz_bench.specs.declared.notes.Notes.{Notes}
 use Rattle.hz_bench.specs.declared.notes.Redefinition.{Redefinition}
 use Rattle.hz_bench.specs.declared.parse.Statements.{Statements}
-use Rattle.hz_bench.specs.BuiltNetlist.{BuilderState, with_input_of, with_cut_of, with_gate_of, with_pins_of, with_output_of, inputs_of, unconnected_netlist, initial_builder, connected_netlist, with_data_outputs, built_netlist, AreAdmissibleSteps, MayAddInput, MayAddCut, MayAddGate, MayAddPins, MayAddOutput, MayBuild}
+use Rattle.hz_netlist.specs.Build.{BuilderState, with_input_of, with_cut_of, with_gate_of, with_pins_of, with_output_of, inputs_of, unconnected_netlist, initial_builder, connected_netlist, with_data_outputs, built_netlist, AreAdmissibleSteps, MayAddInput, MayAddCut, MayAddGate, MayAddPins, MayAddOutput, MayBuild}
+use Rattle.hz_netlist.specs.Element.{Element}
+use Rattle.hz_bench.specs.Elements.{HaveRightPins, IsBuildable, built_from, element_list, element_of, elements_of, output_elements}
 use Rattle.hz_bench.specs.Check.{reads_undefined, uses_undefined, first_that, fault_or, too_many_fault, first_fault}
 use Rattle.hz_bench.specs.Definition.{is_that, is_missing, defines, definer, defined_names, IsTableOf}
 use Rattle.hz_bench.specs.Entry.{numbered_of, numbered_list, numbered_outputs, statement_list, output_list}
-use Rattle.hz_bench.specs.Netlist.{input_names, cut_names}
+use Rattle.hz_bench.specs.Netlist.{circuit_of_statements, input_names, cut_names}
+use Rattle.hz_netlist.proofs.BuiltCircuit.{built-circuit_of_elements}
+use Rattle.hz_bench.proofs.ElementLemmas.{circuit-elements}
 use Rattle.hz_bench.specs.FaultNotes.{wrong_pins_of, notes_of}
 use Rattle.hz_bench.specs.ReaderState.{AreGathered}
 use Rattle.hz_bench.specs.Pass.{HasAllNodes, IsParsed}
@@ -29,7 +33,7 @@ use Rattle.hz_bench.specs.Statement.{Statement, Input, Output, FlipFlop, Gate, s
 use Rattle.hz_bench.specs.Text.{bench_statements, statements_of, nodes_among, outputs_among, variable_total_among}
 use Rattle.hz_bench.specs.Twice.{twice_or, earlier_line, twice_after, twice_fault}
 use Rattle.hz_bench.proofs.DefinitionLemmas.{plain, any-same, option_or-none, definer-append, definer-push, undefined-no_node}
-use Rattle.hz_bench.proofs.NetlistLemmas.{statement_list-numbered, output_list-numbered}
+use Rattle.hz_bench.proofs.EntryLemmas.{element_list-statements, output_elements-statements, statement_list-numbered, output_list-numbered}
 use Rattle.hz_core.specs.Limits.{most_variables}
 
 -- the first line that uses a name which no node defines
@@ -50,25 +54,29 @@ sorted_fault nodes outputs notes =
 abbrev kept : (Statement → Bool) → List (Numbered Statement) → List (Numbered Statement)
 kept keeps statements = filter (λ numbered. keeps numbered.statement) statements
 
--- a step that leaves alone what is not kept
-abbrev IsStill : {A : Type 0} → (A → Statement → A) → (Statement → Bool) → Type 0
-IsStill {A} step keeps = (now : A) (statement : Statement) → keeps statement ≡ false → step now statement ≡ now
+-- the elements that numbered statements are
+abbrev elements : List (Numbered Statement) → List Element
+elements statements = elements_of (plain statements)
 
-fold-kept : {A : Type 0} (step : A → Statement → A) (keeps : Statement → Bool) → IsStill step keeps → (now : A) (statements : List (Numbered Statement)) → fold step now (plain (kept keeps statements)) ≡ fold step now (plain statements)
+-- a step that leaves alone what is not kept
+abbrev IsStill : {A : Type 0} → (A → Element → A) → (Statement → Bool) → Type 0
+IsStill {A} step keeps = (now : A) (statement : Statement) → keeps statement ≡ false → step now (element_of statement) ≡ now
+
+fold-kept : {A : Type 0} (step : A → Element → A) (keeps : Statement → Bool) → IsStill step keeps → (now : A) (statements : List (Numbered Statement)) → fold step now (elements (kept keeps statements)) ≡ fold step now (elements statements)
 fold-kept step keeps still now [] = refl
 fold-kept {A} step keeps still now (first ∷ rest) = by_test (keeps first.statement) refl (λ next. fold-kept step keeps still next rest)
   where
-    by_test : (b : Bool) → keeps first.statement ≡ b → ((next : A) → fold step next (plain (kept keeps rest)) ≡ fold step next (plain rest)) → fold step now (plain (cond b (first ∷ kept keeps rest) (kept keeps rest))) ≡ fold step (step now first.statement) (plain rest)
-    by_test true t ih = ih (step now first.statement)
-    by_test false t ih = ih now ∙ sym (ap (λ next. fold step next (plain rest)) (still now first.statement t))
+    by_test : (b : Bool) → keeps first.statement ≡ b → ((next : A) → fold step next (elements (kept keeps rest)) ≡ fold step next (elements rest)) → fold step now (elements (cond b (first ∷ kept keeps rest) (kept keeps rest))) ≡ fold step (step now (element_of first.statement)) (elements rest)
+    by_test true t ih = ih (step now (element_of first.statement))
+    by_test false t ih = ih now ∙ sym (ap (λ next. fold step next (elements rest)) (still now first.statement t))
 
-may-kept : {A : Type 0} (May : A → Statement → Type 0) (step : A → Statement → A) (keeps : Statement → Bool) → IsStill step keeps → (now : A) (statements : List (Numbered Statement)) → AreAdmissibleSteps May step now (plain statements) → AreAdmissibleSteps May step now (plain (kept keeps statements))
+may-kept : {A : Type 0} (May : A → Element → Type 0) (step : A → Element → A) (keeps : Statement → Bool) → IsStill step keeps → (now : A) (statements : List (Numbered Statement)) → AreAdmissibleSteps May step now (elements statements) → AreAdmissibleSteps May step now (elements (kept keeps statements))
 may-kept May step keeps still now [] h = tt
 may-kept {A} May step keeps still now (first ∷ rest) h = by_test (keeps first.statement) refl (λ next. may-kept May step keeps still next rest)
   where
-    by_test : (b : Bool) → keeps first.statement ≡ b → ((next : A) → AreAdmissibleSteps May step next (plain rest) → AreAdmissibleSteps May step next (plain (kept keeps rest))) → AreAdmissibleSteps May step now (plain (cond b (first ∷ kept keeps rest) (kept keeps rest)))
-    by_test true t ih = (h.0, ih (step now first.statement) h.1)
-    by_test false t ih = ih now (subst (λ next. AreAdmissibleSteps May step next (plain rest)) (still now first.statement t) h.1)
+    by_test : (b : Bool) → keeps first.statement ≡ b → ((next : A) → AreAdmissibleSteps May step next (elements rest) → AreAdmissibleSteps May step next (elements (kept keeps rest))) → AreAdmissibleSteps May step now (elements (cond b (first ∷ kept keeps rest) (kept keeps rest)))
+    by_test true t ih = (h.0, ih (step now (element_of first.statement)) h.1)
+    by_test false t ih = ih now (subst (λ next. AreAdmissibleSteps May step next (elements rest)) (still now first.statement t) h.1)
 
 -- inputs, gates and pins come of nodes alone, and outputs of outputs
 inputs_still : IsStill with_input_of defines_node
@@ -101,43 +109,43 @@ outputs_still now (Output name) h = cc
 outputs_still now (FlipFlop name sources) h = refl
 outputs_still now (Gate name kind sources) h = refl
 
-inputs-kept : (statements : List (Numbered Statement)) → fold with_input_of empty_netlist (plain (nodes_among statements)) ≡ fold with_input_of empty_netlist (plain statements)
+inputs-kept : (statements : List (Numbered Statement)) → fold with_input_of empty_netlist (elements (nodes_among statements)) ≡ fold with_input_of empty_netlist (elements statements)
 inputs-kept statements = fold-kept with_input_of defines_node inputs_still empty_netlist statements
 
-inputs_of-kept : (statements : List (Numbered Statement)) → inputs_of (plain (nodes_among statements)) ≡ inputs_of (plain statements)
+inputs_of-kept : (statements : List (Numbered Statement)) → inputs_of (elements (nodes_among statements)) ≡ inputs_of (elements statements)
 inputs_of-kept statements =
-    ap (λ now. fold with_cut_of now (plain (nodes_among statements))) (inputs-kept statements)
-    ∙ fold-kept with_cut_of defines_node cuts_still (fold with_input_of empty_netlist (plain statements)) statements
+    ap (λ now. fold with_cut_of now (elements (nodes_among statements))) (inputs-kept statements)
+    ∙ fold-kept with_cut_of defines_node cuts_still (fold with_input_of empty_netlist (elements statements)) statements
 
-unconnected_netlist-kept : (statements : List (Numbered Statement)) → unconnected_netlist (plain (nodes_among statements)) ≡ unconnected_netlist (plain statements)
+unconnected_netlist-kept : (statements : List (Numbered Statement)) → unconnected_netlist (elements (nodes_among statements)) ≡ unconnected_netlist (elements statements)
 unconnected_netlist-kept statements =
-    ap (λ now. fold with_gate_of now (plain (nodes_among statements))) (inputs_of-kept statements)
-    ∙ fold-kept with_gate_of defines_node gates_still (inputs_of (plain statements)) statements
+    ap (λ now. fold with_gate_of now (elements (nodes_among statements))) (inputs_of-kept statements)
+    ∙ fold-kept with_gate_of defines_node gates_still (inputs_of (elements statements)) statements
 
-connected-kept : (statements : List (Numbered Statement)) → connected_netlist (unconnected_netlist (plain (nodes_among statements))) (plain (nodes_among statements)) ≡ connected_netlist (unconnected_netlist (plain statements)) (plain statements)
+connected-kept : (statements : List (Numbered Statement)) → connected_netlist (unconnected_netlist (elements (nodes_among statements))) (elements (nodes_among statements)) ≡ connected_netlist (unconnected_netlist (elements statements)) (elements statements)
 connected-kept statements =
-    ap (λ now. connected_netlist now (plain (nodes_among statements))) (unconnected_netlist-kept statements)
-    ∙ ap (λ (now : BuilderState). now.netlist) (fold-kept with_pins_of defines_node pins_still (initial_builder (unconnected_netlist (plain statements))) statements)
+    ap (λ now. connected_netlist now (elements (nodes_among statements))) (unconnected_netlist-kept statements)
+    ∙ ap (λ (now : BuilderState). now.netlist) (fold-kept with_pins_of defines_node pins_still (initial_builder (unconnected_netlist (elements statements))) statements)
 
 -- the circuit of the nodes and the outputs is that of all statements
-built-kept : (statements : List (Numbered Statement)) → built_netlist (plain (nodes_among statements)) (plain (outputs_among statements)) ≡ built_netlist (plain statements) (plain statements)
+built-kept : (statements : List (Numbered Statement)) → built_netlist (elements (nodes_among statements)) (elements (outputs_among statements)) ≡ built_netlist (elements statements) (elements statements)
 built-kept statements =
     ap with_data_outputs (
-    ap (λ now. fold with_output_of now (plain (outputs_among statements))) (connected-kept statements)
-    ∙ fold-kept with_output_of is_output outputs_still (connected_netlist (unconnected_netlist (plain statements)) (plain statements)) statements
+    ap (λ now. fold with_output_of now (elements (outputs_among statements))) (connected-kept statements)
+    ∙ fold-kept with_output_of is_output outputs_still (connected_netlist (unconnected_netlist (elements statements)) (elements statements)) statements
     )
 
-may_build-kept : (statements : List (Numbered Statement)) → MayBuild (plain statements) (plain statements) → MayBuild (plain (nodes_among statements)) (plain (outputs_among statements))
+may_build-kept : (statements : List (Numbered Statement)) → MayBuild (elements statements) (elements statements) → MayBuild (elements (nodes_among statements)) (elements (outputs_among statements))
 may_build-kept statements may = record {
   inputs = may-kept MayAddInput with_input_of defines_node inputs_still empty_netlist statements may.inputs;
-  cuts = subst (λ now. AreAdmissibleSteps MayAddCut with_cut_of now (plain (nodes_among statements))) (sym (inputs-kept statements))
-      (may-kept MayAddCut with_cut_of defines_node cuts_still (fold with_input_of empty_netlist (plain statements)) statements may.cuts);
-  gates = subst (λ now. AreAdmissibleSteps MayAddGate with_gate_of now (plain (nodes_among statements))) (sym (inputs_of-kept statements))
-      (may-kept MayAddGate with_gate_of defines_node gates_still (inputs_of (plain statements)) statements may.gates);
-  pins = subst (λ (now : Netlist). AreAdmissibleSteps MayAddPins with_pins_of (initial_builder now) (plain (nodes_among statements))) (sym (unconnected_netlist-kept statements))
-      (may-kept MayAddPins with_pins_of defines_node pins_still (initial_builder (unconnected_netlist (plain statements))) statements may.pins);
-  outputs_may = subst (λ now. AreAdmissibleSteps MayAddOutput with_output_of now (plain (outputs_among statements))) (sym (connected-kept statements))
-      (may-kept MayAddOutput with_output_of is_output outputs_still (connected_netlist (unconnected_netlist (plain statements)) (plain statements)) statements may.outputs_may);
+  cuts = subst (λ now. AreAdmissibleSteps MayAddCut with_cut_of now (elements (nodes_among statements))) (sym (inputs-kept statements))
+      (may-kept MayAddCut with_cut_of defines_node cuts_still (fold with_input_of empty_netlist (elements statements)) statements may.cuts);
+  gates = subst (λ now. AreAdmissibleSteps MayAddGate with_gate_of now (elements (nodes_among statements))) (sym (inputs_of-kept statements))
+      (may-kept MayAddGate with_gate_of defines_node gates_still (inputs_of (elements statements)) statements may.gates);
+  pins = subst (λ (now : Netlist). AreAdmissibleSteps MayAddPins with_pins_of (initial_builder now) (elements (nodes_among statements))) (sym (unconnected_netlist-kept statements))
+      (may-kept MayAddPins with_pins_of defines_node pins_still (initial_builder (unconnected_netlist (elements statements))) statements may.pins);
+  outputs_may = subst (λ now. AreAdmissibleSteps MayAddOutput with_output_of now (elements (outputs_among statements))) (sym (connected-kept statements))
+      (may-kept MayAddOutput with_output_of is_output outputs_still (connected_netlist (unconnected_netlist (elements statements)) (elements statements)) statements may.outputs_may);
 }
 
 -- the nodes and outputs that were read are those of a text
@@ -147,12 +155,21 @@ nodes_read text statements e = sym (ap plain e) ∙ statement_list-numbered stat
 outputs_read : (text : List ℕ) (statements : Statements) → numbered_outputs statements.outputs.items ≡ outputs_among (bench_statements text) → plain (outputs_among (bench_statements text)) ≡ output_list statements.outputs.items
 outputs_read text statements e = sym (ap plain e) ∙ output_list-numbered statements.outputs.items
 
+-- so are their elements
+node_elements : (text : List ℕ) (statements : Statements) → numbered_list statements.nodes.items ≡ nodes_among (bench_statements text) → elements (nodes_among (bench_statements text)) ≡ element_list statements.nodes.items
+node_elements text statements e = ap elements_of (nodes_read text statements e) ∙ sym (element_list-statements statements.nodes.items)
+
+output_elements_read : (text : List ℕ) (statements : Statements) → numbered_outputs statements.outputs.items ≡ outputs_among (bench_statements text) → elements (outputs_among (bench_statements text)) ≡ output_elements statements.outputs.items
+output_elements_read text statements e = ap elements_of (outputs_read text statements e) ∙ sym (output_elements-statements statements.outputs.items)
+
 pub built-sorted : (text : List ℕ) (statements : Statements) → numbered_list statements.nodes.items ≡ nodes_among (bench_statements text) → numbered_outputs statements.outputs.items ≡ outputs_among (bench_statements text)
-    → built_netlist (statement_list statements.nodes.items) (output_list statements.outputs.items) ≡ built_netlist (statements_of text) (statements_of text)
+    → built_from statements ≡ circuit_of_statements (statements_of text)
 built-sorted text statements nodes outputs =
-    sym (ap (λ list. built_netlist list (output_list statements.outputs.items)) (nodes_read text statements nodes))
-    ∙ sym (ap (built_netlist (plain (nodes_among (bench_statements text)))) (outputs_read text statements outputs))
+    sym (ap (λ list. built_netlist list (output_elements statements.outputs.items)) (node_elements text statements nodes))
+    ∙ sym (ap (built_netlist (elements (nodes_among (bench_statements text)))) (output_elements_read text statements outputs))
     ∙ built-kept (bench_statements text)
+    ∙ built-circuit_of_elements (elements_of (statements_of text))
+    ∙ circuit-elements (statements_of text)
 
 -- the inputs and the flip-flops are nodes
 input_names-kept : (statements : List (Numbered Statement)) → input_names (plain (nodes_among statements)) ≡ input_names (plain statements)
@@ -191,11 +208,28 @@ cuts-sorted text statements parsed nodes =
     ∙ ap length (sym (cut_names-kept (bench_statements text)))
     ∙ ap (λ list. length (cut_names list)) (nodes_read text statements nodes)
 
-pub may_build-sorted : (text : List ℕ) (statements : Statements) → numbered_list statements.nodes.items ≡ nodes_among (bench_statements text) → numbered_outputs statements.outputs.items ≡ outputs_among (bench_statements text)
-    → MayBuild (statements_of text) (statements_of text) → MayBuild (statement_list statements.nodes.items) (output_list statements.outputs.items)
+may_build-sorted : (text : List ℕ) (statements : Statements) → numbered_list statements.nodes.items ≡ nodes_among (bench_statements text) → numbered_outputs statements.outputs.items ≡ outputs_among (bench_statements text)
+    → MayBuild (elements_of (statements_of text)) (elements_of (statements_of text)) → MayBuild (element_list statements.nodes.items) (output_elements statements.outputs.items)
 may_build-sorted text statements nodes outputs may =
-    subst (λ list. MayBuild list (output_list statements.outputs.items)) (nodes_read text statements nodes)
-    (subst (MayBuild (plain (nodes_among (bench_statements text)))) (outputs_read text statements outputs) (may_build-kept (bench_statements text) may))
+    subst (λ list. MayBuild list (output_elements statements.outputs.items)) (node_elements text statements nodes)
+    (subst (MayBuild (elements (nodes_among (bench_statements text)))) (output_elements_read text statements outputs) (may_build-kept (bench_statements text) may))
+
+-- the pins of the nodes are right where those of all statements are
+right-kept : (statements : List (Numbered Statement)) → HaveRightPins (plain statements) → HaveRightPins (plain (nodes_among statements))
+right-kept [] h = tt
+right-kept (first ∷ rest) h = by_node (defines_node first.statement) (right-kept rest h.1)
+  where
+    by_node : (b : Bool) → HaveRightPins (plain (nodes_among rest)) → HaveRightPins (plain (cond b (first ∷ nodes_among rest) (nodes_among rest)))
+    by_node true ih = (h.0, ih)
+    by_node false ih = ih
+
+-- the circuit of the nodes and outputs of a text may be built
+pub buildable : (text : List ℕ) (statements : Statements) → numbered_list statements.nodes.items ≡ nodes_among (bench_statements text) → numbered_outputs statements.outputs.items ≡ outputs_among (bench_statements text)
+    → MayBuild (elements_of (statements_of text)) (elements_of (statements_of text)) → HaveRightPins (statements_of text) → IsBuildable statements
+buildable text statements nodes outputs may right = record {
+  may = may_build-sorted text statements nodes outputs may;
+  pins = subst HaveRightPins (nodes_read text statements nodes) (right-kept (bench_statements text) right);
+}
 
 -- the first line that passes a test
 pub first_passing_line-cons : (test : Statement → Bool) (first : Numbered Statement) (rest : List (Numbered Statement)) → first_passing_line test (first ∷ rest) ≡ cond (test first.statement) (Some first.line) (first_passing_line test rest)

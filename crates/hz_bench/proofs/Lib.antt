@@ -1,4 +1,4 @@
--- When a node or a pin may be added
+-- When the node of an entry may be added
 pub mod BuildLemmas
 -- What holds of statements in which the check found no fault
 pub mod CheckedLemmas
@@ -12,14 +12,12 @@ pub mod TableLemmas
 pub mod EntryLemmas
 -- The first answer of the passes over a text is its least fault
 pub mod FaultLaws
--- The circuit of a text without fault is one: it is built step by step, and each step makes a circuit of a circuit
+-- The circuit of a text without fault is one, since its elements make one
 pub mod FaultlessLaws
 -- What is gathered of statements, with one more
 pub mod ReaderLemmas
--- The circuit of checked statements may be built, and each of its gates has a pin
-pub mod AdmissibleLemmas
--- The circuit that is built is the circuit of the statements
-pub mod NetlistLemmas
+-- The circuit of statements is that of their elements, and it is one if the statements have no fault
+pub mod ElementLemmas
 -- What is noted of statements, with one more
 pub mod NoteLemmas
 -- The numbers of the nodes in the order of the text

@@ -9,13 +9,16 @@ use Rattle.hz_bench.specs.declared.forms.Form.{Form}
 use Rattle.hz_bench.specs.declared.forms.Form.TheVariants as form
 use Rattle.hz_bench.specs.Definition.{defined_names}
 use Rattle.hz_bench.specs.Entry.{statement_of_entry, numbered_list, statement_list}
-use Rattle.hz_bench.specs.Netlist.{input_names, cut_names, gate_names, node_names, number_in}
+use Rattle.hz_netlist.specs.Circuit.{number_in}
+use Rattle.hz_bench.specs.Netlist.{input_names, cut_names, gate_names, node_names}
 use Rattle.hz_bench.specs.Form.{form_of}
 use Rattle.hz_bench.specs.Statement.{Statement, Input, Output, FlipFlop, Gate}
 use Rattle.hz_bench.specs.Twice.{twice_fault}
 use Rattle.hz_bench.proofs.EntryLemmas.{entry-formed}
-use Rattle.hz_bench.proofs.CheckedLemmas.{Apart, either, nodes_apart}
-use Rattle.hz_bench.proofs.NetlistLemmas.{statement_list-numbered}
+use Rattle.hz_netlist.specs.Build.{Apart}
+use Rattle.hz_netlist.proofs.Tests.{either}
+use Rattle.hz_bench.proofs.CheckedLemmas.{nodes_apart}
+use Rattle.hz_bench.proofs.EntryLemmas.{statement_list-numbered}
 
 -- the forms of entries
 abbrev pub forms_of : List Entry → List (Option Form)

@@ -18,7 +18,8 @@ use Rattle.hz_bench.specs.FaultIn.{redefinition_fault, source_statements}
 use Rattle.hz_bench.specs.Statement.{Statement, Gate, defined_name, defines_node, is_output, sources_of}
 use Rattle.hz_bench.specs.Text.{nodes_among, outputs_among}
 use Rattle.hz_bench.specs.Twice.{twice_or, earlier_line, twice_fault}
-use Rattle.hz_bench.proofs.CheckedLemmas.{either, neither}
+use Rattle.hz_netlist.proofs.Tests.{either}
+use Rattle.hz_bench.proofs.CheckedLemmas.{neither}
 use Rattle.hz_bench.proofs.DefinitionLemmas.{defined_names-push, definer-push, earlier_line-table, put, twice_fault-push, undefined-table}
 use Rattle.hz_bench.proofs.NoteLemmas.{notes_of-push}
 use Rattle.hz_core.specs.Limits.{most_variables}

@@ -17,13 +17,15 @@ use Rattle.hz_bench.specs.declared.parse.Statements.{Statements}
 use Rattle.hz_bench.specs.Check.{reads_undefined, uses_undefined, first_that}
 use Rattle.hz_bench.specs.Definition.{Table, definer, defined_names, table_names, IsTableOf}
 use Rattle.hz_bench.specs.Entry.{numbered_list, numbered_output, numbered_outputs, statement_list, output_list, waiting_list}
-use Rattle.hz_bench.specs.Netlist.{node_names, output_names, number_in}
+use Rattle.hz_netlist.specs.Circuit.{number_in}
+use Rattle.hz_bench.specs.Netlist.{node_names, output_names}
 use Rattle.hz_bench.specs.FaultIn.{source_statements, unknown_line}
 use Rattle.hz_bench.specs.Statement.{Statement, Input, Output, FlipFlop, Gate, sources_of, used_names}
 use Rattle.hz_bench.specs.Uses.{pins_in, number_for, is_unnumbered, numbers_of, pin_numbers}
-use Rattle.hz_bench.proofs.CheckedLemmas.{either, each_fails}
+use Rattle.hz_netlist.proofs.Tests.{either}
+use Rattle.hz_bench.proofs.CheckedLemmas.{each_fails}
 use Rattle.hz_bench.proofs.DefinitionLemmas.{plain}
-use Rattle.hz_bench.proofs.NetlistLemmas.{statement_list-numbered, output_list-numbered}
+use Rattle.hz_bench.proofs.EntryLemmas.{statement_list-numbered, output_list-numbered}
 use Rattle.hz_bench.proofs.KeptStatements.{first_passing_line-cons, undefined_line}
 
 -- one output more

@@ -26,8 +26,7 @@
 -- fault_in statements: the first fault of what was kept
 -- IsAccepted text statements: a text without a fault
 -- AreUses nodes outputs uses: the numbers of the names that are used
--- built_netlist nodes outputs: the circuit, built step by step
--- MayBuild nodes outputs: each of these steps may be taken
+-- elements_of statements: the elements of a circuit that statements are
 
 pub mod Statement
 pub mod Form
@@ -44,6 +43,6 @@ pub mod FaultIn
 pub mod ReaderState
 pub mod Fault
 pub mod Netlist
-pub mod BuiltNetlist
+pub mod Elements
 pub mod Printed
 pub mod Uses

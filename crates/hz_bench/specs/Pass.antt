@@ -6,9 +6,9 @@ use Rattle.hz_core.specs.Netlist.{IsWhole}
 use Rattle.hz_bench.specs.declared.parse.Statements.{Statements}
 use Rattle.hz_bench.specs.declared.fault.BenchFault.{BenchFault}
 use Rattle.hz_bench.specs.declared.fault.BenchFault.TheVariants.{Form, Name, KindUnknown, Twice, Pins, Undefined, TooMany, Memory}
-use Rattle.hz_bench.specs.BuiltNetlist.{MayBuild}
 use Rattle.hz_bench.specs.Definition.{defined_names, table_names, IsTableOf}
-use Rattle.hz_bench.specs.Entry.{numbered_list, numbered_outputs, statement_list, output_list}
+use Rattle.hz_bench.specs.Elements.{IsBuildable}
+use Rattle.hz_bench.specs.Entry.{numbered_list, numbered_outputs, statement_list}
 use Rattle.hz_bench.specs.Fault.{IsFaultless}
 use Rattle.hz_bench.specs.ReaderState.{AreGathered}
 use Rattle.hz_bench.specs.Netlist.{input_names, cut_names, circuit_of_statements}
@@ -38,7 +38,7 @@ pub record IsAccepted (text : List ℕ) (statements : Statements) : Type 0 where
   pub nodes : numbered_list statements.nodes.items ≡ nodes_among (bench_statements text)
   pub outputs : numbered_outputs statements.outputs.items ≡ outputs_among (bench_statements text)
   pub faultless : IsFaultless text
-  pub may : MayBuild (statement_list statements.nodes.items) (output_list statements.outputs.items)
+  pub may : IsBuildable statements
   pub whole : IsWhole (circuit_of_statements (statements_of text))
 
 -- the nodes are all nodes, with a table of their names, none of which is defined again

@@ -4,8 +4,11 @@ use Rattle.std.specs.List.{slice_index_or}
 use Rattle.std.specs.Option.{unwrap_or}
 use Rattle.std.specs.Str.{bytes_eq}
 use Rattle.hz_bench.specs.Definition.{Table, table_names}
+use Rattle.hz_bench.specs.declared.parse.Statements.{Statements}
 use Rattle.hz_bench.specs.declared.uses.Uses.{Uses}
-use Rattle.hz_bench.specs.Netlist.{node_names, output_names, number_in}
+use Rattle.hz_bench.specs.Entry.{statement_list, output_list}
+use Rattle.hz_netlist.specs.Circuit.{number_in}
+use Rattle.hz_bench.specs.Netlist.{node_names, output_names}
 use Rattle.hz_bench.specs.Statement.{Statement, sources_of}
 
 -- the nodes that the pins of statements read, gate by gate, where the nodes have these names
@@ -17,6 +20,10 @@ pins_in names (statement ∷ rest) = map (number_in names) (sources_of statement
 pub record AreUses (nodes outputs : List Statement) (uses : Uses) : Type 0 where
   pub pins_are : uses.pins.items ≡ pins_in (node_names nodes) nodes
   pub outputs_are : uses.outputs.items ≡ map (number_in (node_names nodes)) (output_names outputs)
+
+-- the uses are those of the statements that were read
+abbrev pub AreUsesOf : Statements → Uses → Type 0
+AreUsesOf statements uses = AreUses (statement_list statements.nodes.items) (output_list statements.outputs.items) uses
 
 -- the number that a table has for a name, where these are the numbers of its names in order
 abbrev pub number_for : Table → List ℕ → List ℕ → Option ℕ

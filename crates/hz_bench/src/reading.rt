@@ -2,14 +2,13 @@
 
 ghost use Rattle.std.specs.Prelude.{◌≡◌, ◌<◌, ◌≤◌, ◌⊎◌, IfOk, IfErr, OnOk, IsErrOf, MatchResult, None, Some, length};
 ghost use Rattle.hz_core.specs.Netlist.{IsWhole};
-ghost use Rattle.hz_bench.specs.Entry.{statement_list, output_list};
 ghost use Rattle.hz_bench.specs.Fault.{IsNetlistRefusal, IsFaultless, IsLeastFault};
 ghost use Rattle.hz_bench.specs.Netlist.{circuit_of_statements};
 ghost use Rattle.hz_bench.specs.Pass.{IsAccepted, HasAllNodes};
 ghost use Rattle.hz_bench.specs.FaultIn.{fault_in, many_fault};
 ghost use Rattle.hz_bench.specs.Text.{statements_of};
 ghost use Rattle.hz_bench.specs.Twice.{IsFoundOrMemory};
-ghost use Rattle.hz_bench.specs.Uses.{AreUses};
+ghost use Rattle.hz_bench.specs.Uses.{AreUsesOf};
 ghost use Rattle.hz_line.specs.Line.{most_text_bytes};
 ghost use Rattle.hz_core.specs.Limits.{most_variables};
 
@@ -56,7 +55,7 @@ struct Accepted<'a> {
 fn read_accepted<'a>(alloc: Global, text: &'a [u8]) -> Result<Accepted<'a>, BenchFault>
     requires { length text.now ≤ most_text_bytes }
     ensures { MatchResult result
-        (λ accepted. IsAccepted text.now accepted.statements × AreUses (statement_list accepted.statements.nodes.items) (output_list accepted.statements.outputs.items) accepted.uses)
+        (λ accepted. IsAccepted text.now accepted.statements × AreUsesOf accepted.statements accepted.uses)
         (λ fault. IsNetlistRefusal text.now fault) }
 {
     let statements = parse(alloc, text)?;
@@ -68,7 +67,7 @@ fn read_accepted<'a>(alloc: Global, text: &'a [u8]) -> Result<Accepted<'a>, Benc
 fn check(alloc: Global, statements: &Statements) -> Result<Uses, BenchFault>
     requires { statements.now.again ≡ None → statements.now.notes.variables ≤ most_variables → HasAllNodes statements.now }
     ensures { MatchResult result
-        (λ uses. (fault_in statements.now ≡ None) × AreUses (statement_list statements.now.nodes.items) (output_list statements.now.outputs.items) uses)
+        (λ uses. (fault_in statements.now ≡ None) × AreUsesOf statements.now uses)
         (λ fault. IsFoundOrMemory (fault_in statements.now) fault) }
 {
     let notes = statements.notes;

@@ -5,12 +5,13 @@ ghost use Rattle.std.specs.List.{list_any};
 ghost use Rattle.hz_line.specs.Statement.{first_passing_line};
 ghost use Rattle.hz_bench.specs.Definition.{defined_names};
 ghost use Rattle.hz_bench.specs.Entry.{statement_of_entry, numbered_list, numbered_outputs, statement_list, output_list};
-ghost use Rattle.hz_bench.specs.Netlist.{input_names, cut_names, node_names, output_names, number_in};
+ghost use Rattle.hz_bench.specs.Netlist.{input_names, cut_names, node_names, output_names};
+ghost use Rattle.hz_netlist.specs.Circuit.{number_in};
 ghost use Rattle.hz_bench.specs.Pass.{HasAllNodes};
 ghost use Rattle.hz_bench.specs.FaultIn.{unknown_line};
 ghost use Rattle.hz_bench.specs.Statement.{sources_of, used_names};
 ghost use Rattle.hz_bench.specs.Twice.{twice_fault, IsFoundOrMemory};
-ghost use Rattle.hz_bench.specs.Uses.{is_unnumbered, number_for, numbers_of, pin_numbers, AreUses};
+ghost use Rattle.hz_bench.specs.Uses.{is_unnumbered, number_for, numbers_of, pin_numbers, AreUsesOf};
 
 use crate::definitions::{Definitions, place_of};
 use crate::entry::{Entry, OutputLine};
@@ -35,7 +36,7 @@ pub struct Uses {
 pub(crate) fn resolve(alloc: Global, statements: &Statements) -> Result<Uses, BenchFault>
     requires { HasAllNodes statements.now }
     ensures { MatchResult result
-        (λ uses. (unknown_line statements.now ≡ None) × AreUses (statement_list statements.now.nodes.items) (output_list statements.now.outputs.items) uses)
+        (λ uses. (unknown_line statements.now ≡ None) × AreUsesOf statements.now uses)
         (λ fault. IsFoundOrMemory (option_map BenchFault.Undefined (unknown_line statements.now)) fault) }
 {
     let nodes = statements.nodes.as_slice();

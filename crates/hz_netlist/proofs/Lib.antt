@@ -14,3 +14,5 @@ pub mod Admissible
 pub mod Circuits
 -- Pins and outputs by the numbers of their nodes
 pub mod Connect
+-- The data nodes of the cuts as outputs
+pub mod DataOutputs

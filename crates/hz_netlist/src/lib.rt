@@ -6,11 +6,11 @@
 //! | Module | What lives in it |
 //! |---|---|
 //! | `names` | [`NameTable`]: names with their numbers, and the lines that define and use them first |
-//! | `build` | [`connect_gate`], [`add_outputs`]: the steps of building that every format takes |
+//! | `build` | [`connect_gate`], [`add_outputs`], [`add_outputs_and_data`]: the steps of building that every format takes |
 #![tactic(auto)]
 
 mod build;
 mod names;
 
-pub use build::{add_outputs, connect_gate};
+pub use build::{add_outputs, add_outputs_and_data, connect_gate};
 pub use names::NameTable;

@@ -1,7 +1,7 @@
 use Rattle.std.proofs.Common.{◌∙◌, ◌++◌, ◌∷◌, [], sym, ap, Some, position}
 use Rattle.std.specs.Str.{bytes_eq}
 use Rattle.hz_netlist.specs.Names.{Names, fresh, seen_names}
-use Rattle.hz_netlist.proofs.NameTableLemmas.{sight-found, sight-new, place-new}
+use Rattle.hz_netlist.proofs.NameTableLemmas.{sight-found, place-new}
 use Rattle.hz_netlist.proofs.names.NameTable.sight.Goals as goal
 
 pub returns-in-Some-clause-seen : goal.returns-in-Some-clause-seen

@@ -1,7 +1,7 @@
 use Rattle.std.proofs.Common.{◌≡◌, drop, fold}
 use Rattle.hz_core.specs.Netlist.{with_output}
-use Rattle.hz_bench.specs.BuiltNetlist.{AreMarked, HasNode, AreAdmissibleSteps}
-use Rattle.hz_bench.proofs.build.add_outputs.Given as goal
+use Rattle.hz_netlist.specs.Build.{AreMarked, HasNode, AreAdmissibleSteps}
+use Rattle.hz_netlist.proofs.build.mark_outputs.Given as goal
 
 abbrev pub invariant-loop-node : goal.invariant-loop-node
 invariant-loop-node l = record {
