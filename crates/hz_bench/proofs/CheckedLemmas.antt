@@ -17,9 +17,9 @@ use Rattle.hz_bench.specs.Check.{uses_undefined, first_that, fault_or, too_many_
 use Rattle.hz_bench.specs.Definition.{defines, definer, defined_names}
 use Rattle.hz_bench.specs.Netlist.{input_names, cut_names, gate_names, all_inputs, node_names}
 use Rattle.hz_bench.specs.Statement.{Statement, Input, Output, FlipFlop, Gate, defined_name, used_names, has_long_name, has_unknown_kind, has_wrong_pins, statement_pin_count}
-use Rattle.hz_bench.specs.Text.{variable_total, variable_total_among}
+use Rattle.hz_bench.specs.Text.{variable_total, variable_total_among, plain}
 use Rattle.hz_bench.specs.Twice.{twice_or, earlier_line, twice_after, twice_fault}
-use Rattle.hz_bench.proofs.DefinitionLemmas.{plain, definer-cons, defined_names-push}
+use Rattle.hz_bench.proofs.DefinitionLemmas.{definer-cons, defined_names-push}
 use Rattle.hz_bench.proofs.NoteLemmas.{variable_total-statements}
 use Rattle.hz_core.specs.Limits.{most_variables}
 

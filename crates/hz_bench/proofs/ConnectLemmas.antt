@@ -15,11 +15,11 @@ use Rattle.hz_bench.specs.declared.entry.Entry.{Entry}
 use Rattle.hz_bench.specs.declared.forms.Form.TheVariants as form
 use Rattle.hz_bench.specs.Elements.{HaveRightPins, element_list, element_of, element_of_entry, elements_of}
 use Rattle.hz_bench.specs.Entry.{statement_of_entry, statement_list}
-use Rattle.hz_bench.specs.Netlist.{node_names, output_names}
+use Rattle.hz_bench.specs.Netlist.{node_names}
 use Rattle.hz_bench.specs.Form.{form_of}
 use Rattle.hz_bench.specs.Statement.{Statement, Input, Output, FlipFlop, Gate, has_wrong_pins, sources_of}
 use Rattle.hz_bench.specs.Uses.{pins_in}
-use Rattle.hz_bench.proofs.ElementLemmas.{nodes-named, outputs-named}
+use Rattle.hz_bench.proofs.ElementLemmas.{nodes-named}
 use Rattle.hz_bench.proofs.EntryLemmas.{entry-formed}
 
 -- a gate whose pins come next, which read the first of the nodes that are left
@@ -182,19 +182,20 @@ circuit-named statements = ap (λ (netlist : Netlist). netlist.names) (unconnect
 connected-named : (statements : List Statement) → (connected_netlist (unconnected_netlist (elements_of statements)) (elements_of statements)).names ≡ node_names statements
 connected-named statements = ap (λ (netlist : Netlist). netlist.names) (connected-is (elements_of statements)) ∙ nodes-named statements
 
+outputs-named : (outputs : List (List ℕ)) → element.output_names (map element.Output outputs) ≡ outputs
+outputs-named [] = refl
+outputs-named (name ∷ rest) = ap (λ names. name ∷ names) (outputs-named rest)
+
 -- the outputs that are used may be added, and they are those of the circuit
-module _ (nodes outputs : List Statement) (numbers : List ℕ) (are : numbers ≡ map (number_in (node_names nodes)) (output_names outputs)) where
+module _ (nodes : List Statement) (outputs : List (List ℕ)) (numbers : List ℕ) (are : numbers ≡ map (number_in (node_names nodes)) outputs) where
   abbrev made : Netlist
   made = connected_netlist (unconnected_netlist (elements_of nodes)) (elements_of nodes)
 
-  numbers_are : map (number_in made.names) (output_names outputs) ≡ numbers
-  numbers_are = ap (λ names. map (number_in names) (output_names outputs)) (connected-named nodes) ∙ sym are
+  numbers_are : map (number_in made.names) (element.output_names (map element.Output outputs)) ≡ numbers
+  numbers_are = ap (map (number_in made.names)) (outputs-named outputs) ∙ ap (λ names. map (number_in names) outputs) (connected-named nodes) ∙ sym are
 
-  elements_are : map (number_in made.names) (element.output_names (elements_of outputs)) ≡ numbers
-  elements_are = ap (map (number_in made.names)) (outputs-named outputs) ∙ numbers_are
+  pub outputs-may : AreAdmissibleSteps MayAddOutput with_output_of made (map element.Output outputs) → AreAdmissibleSteps HasNode with_output made numbers
+  outputs-may may = subst (AreAdmissibleSteps HasNode with_output made) numbers_are (may_name made (map element.Output outputs) may)
 
-  pub outputs-may : AreAdmissibleSteps MayAddOutput with_output_of made (elements_of outputs) → AreAdmissibleSteps HasNode with_output made numbers
-  outputs-may may = subst (AreAdmissibleSteps HasNode with_output made) elements_are (may_name made (elements_of outputs) may)
-
-  pub outputs-made : with_data_outputs (fold with_output made numbers) ≡ built_netlist (elements_of nodes) (elements_of outputs)
-  outputs-made = ap with_data_outputs (ap (fold with_output made) (sym elements_are) ∙ sym (outputs-numbered made (elements_of outputs)))
+  pub outputs-made : with_data_outputs (fold with_output made numbers) ≡ built_netlist (elements_of nodes) (map element.Output outputs)
+  outputs-made = ap with_data_outputs (ap (fold with_output made) (sym numbers_are) ∙ sym (outputs-numbered made (map element.Output outputs)))

@@ -6,8 +6,8 @@ pub mod CheckedLemmas
 pub mod ConnectLemmas
 -- The table of names, statement by statement
 pub mod DefinitionLemmas
--- Lemmas on the table of definitions
-pub mod TableLemmas
+-- The names of a text, statement by statement
+pub mod SeenNames
 -- Entries as statements, and with their lines
 pub mod EntryLemmas
 -- The first answer of the passes over a text is its least fault
@@ -38,5 +38,7 @@ pub mod ReadLaws
 pub mod KeptStatements
 -- The statement that a line means, from the head of its tokens
 pub mod StatementLemmas
--- The nodes that names stand for, by the table of definitions
+-- The nodes that names stand for, by their numbers
 pub mod UseLemmas
+-- The first line that uses a name which no statement defines, by the names of the text
+pub mod UndefinedNames

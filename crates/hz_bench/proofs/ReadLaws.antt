@@ -17,7 +17,7 @@ use Rattle.hz_bench.proofs.FaultLaws.{Outcome, form-least, form-none, first_faul
 use Rattle.hz_bench.proofs.FaultlessLaws.{whole_text, wired_text}
 use Rattle.hz_bench.proofs.NoteLemmas.{variable_total-statements}
 use Rattle.hz_bench.specs.FaultIn.{fault_in}
-use Rattle.hz_bench.proofs.KeptStatements.{fault_in-first, buildable}
+use Rattle.hz_bench.proofs.KeptStatements.{buildable, fault_in-first, outputs_read}
 
 -- why a text was not parsed
 pub parse-answer : (text : List ℕ) (fault : BenchFault) → IsParseFault text fault → IsNetlistRefusal text fault
@@ -51,12 +51,13 @@ accepted text statements parsed e =
     let fine = checked (bench_statements text) none in
     let few = fine.few in
     let gathered = parsed.gathered in
+    let outputs = outputs_read text statements parsed in
     let nodes = gathered.nodes (omega (arith, ap (λ (notes : Notes). notes.variables) gathered.notes, variable_total-statements (bench_statements text), few)) in
     record {
       nodes = nodes;
-      outputs = gathered.outputs;
+      outputs = outputs;
       faultless = check-outcome text statements None parsed e;
-      may = buildable text statements nodes gathered.outputs (may_build (elements_of (statements_of text)) (wired_text text none)) fine.pins;
+      may = buildable text statements nodes outputs (may_build (elements_of (statements_of text)) (wired_text text none)) fine.pins;
       whole = whole_text text none;
     }
 

@@ -1,13 +1,11 @@
 -- The elements of a circuit that statements are.
-use Rattle.std.specs.Prelude.{◌≡◌, false, List, map}
+use Rattle.std.specs.Prelude.{◌≡◌, ℕ, false, List, map}
 use Rattle.std.specs.List.{AllByRecursion}
 use Rattle.hz_core.specs.Netlist.{Netlist}
 use Rattle.hz_netlist.specs.Build.{AreAdmissibleSteps, MayAddPins, MayBuild, built_netlist, initial_builder, with_pins_of}
 use Rattle.hz_netlist.specs.Element as element
 use Rattle.hz_netlist.specs.Element.{Element}
 use Rattle.hz_bench.specs.declared.entry.Entry.{Entry}
-use Rattle.hz_bench.specs.declared.entry.OutputLine.{OutputLine}
-use Rattle.hz_bench.specs.declared.parse.Statements.{Statements}
 use Rattle.hz_bench.specs.Entry.{statement_of_entry, statement_list}
 use Rattle.hz_bench.specs.Netlist.{data_name, kind_of}
 use Rattle.hz_bench.specs.Statement.{Statement, Input, Output, FlipFlop, Gate, has_wrong_pins}
@@ -31,10 +29,6 @@ element_of_entry entry = element_of (statement_of_entry entry)
 abbrev pub element_list : List Entry → List Element
 element_list entries = map element_of_entry entries
 
--- the elements that lines of outputs are
-abbrev pub output_elements : List OutputLine → List Element
-output_elements outputs = map (λ output. element.Output output.name.now) outputs
-
 -- no flip-flop and no gate among statements has a wrong number of pins
 abbrev pub HaveRightPins : List Statement → Type 0
 HaveRightPins statements = AllByRecursion (λ statement. has_wrong_pins statement ≡ false) statements
@@ -43,11 +37,11 @@ HaveRightPins statements = AllByRecursion (λ statement. has_wrong_pins statemen
 abbrev pub MayConnect : Netlist → List Entry → Type 0
 MayConnect netlist entries = AreAdmissibleSteps MayAddPins with_pins_of (initial_builder netlist) (element_list entries)
 
--- the circuit of the statements that were read, built
-abbrev pub built_from : Statements → Netlist
-built_from statements = built_netlist (element_list statements.nodes.items) (output_elements statements.outputs.items)
+-- the circuit of nodes and of outputs with these names, built
+abbrev pub built_from : List Entry → List (List ℕ) → Netlist
+built_from nodes outputs = built_netlist (element_list nodes) (map element.Output outputs)
 
--- the circuit of the statements that were read may be built, step by step
-pub record IsBuildable (statements : Statements) : Type 0 where
-  pub may : MayBuild (element_list statements.nodes.items) (output_elements statements.outputs.items)
-  pub pins : HaveRightPins (statement_list statements.nodes.items)
+-- the circuit of nodes and of outputs with these names may be built, step by step
+pub record IsBuildable (nodes : List Entry) (outputs : List (List ℕ)) : Type 0 where
+  pub may : MayBuild (element_list nodes) (map element.Output outputs)
+  pub pins : HaveRightPins (statement_list nodes)

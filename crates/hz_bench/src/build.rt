@@ -5,7 +5,7 @@ ghost use Rattle.hz_netlist.specs.Build.{AreAdmissibleSteps, MayAddCut, MayAddGa
 ghost use Rattle.hz_bench.specs.Elements.{HaveRightPins, IsBuildable, MayConnect, built_from, element_list, element_of_entry};
 ghost use Rattle.hz_bench.specs.Entry.{statement_list};
 ghost use Rattle.hz_bench.specs.Netlist.{kind_of};
-ghost use Rattle.hz_bench.specs.Uses.{AreUsesOf, pins_in};
+ghost use Rattle.hz_bench.specs.Uses.{AreUsesOf, output_words, pins_in};
 
 use crate::entry::Entry;
 use crate::forms::Form;
@@ -17,13 +17,14 @@ use std::alloc::Global;
 
 /// The circuit of the statements, which use these nodes.
 pub(crate) fn build(alloc: Global, statements: &Statements, uses: &Uses) -> Result<Circuit, Memory>
-    requires may { IsBuildable statements.now }
+    requires may { IsBuildable statements.now.nodes.items (output_words statements.now) }
     requires uses { AreUsesOf statements.now uses.now }
-    ensures { IfOk result (λ circuit. circuit ≡ built_from statements.now) }
+    ensures { IfOk result (λ circuit. circuit
+        ≡ built_from statements.now.nodes.items (output_words statements.now)) }
 {
     let nodes = statements.nodes.as_slice();
-    let lines = &statements.lines;
-    let mut circuit = Circuit::with_names(alloc, lines.hashing(), lines.room())?;
+    let names = &statements.names;
+    let mut circuit = Circuit::with_names(alloc, names.hashing(), names.room())?;
     add_inputs(&mut circuit, nodes)?;
     add_cuts(&mut circuit, nodes)?;
     add_gates(&mut circuit, nodes)?;
@@ -35,7 +36,8 @@ pub(crate) fn build(alloc: Global, statements: &Statements, uses: &Uses) -> Resu
 // Adds the inputs.
 fn add_inputs(circuit: &mut Circuit, entries: &[Entry]) -> Result<(), Memory>
     requires { AreAdmissibleSteps MayAddInput with_input_of circuit.old (element_list entries.now) }
-    ensures { OnOk result (circuit.new ≡ fold with_input_of circuit.old (element_list entries.now)) }
+    ensures { OnOk result (circuit.new
+        ≡ fold with_input_of circuit.old (element_list entries.now)) }
 {
     for entry in entries {
         match add_input(circuit, entry) {
@@ -123,7 +125,8 @@ fn kind_of(kind: Option<Kind>) -> Kind
     kind.unwrap_or(Kind::And)
 }
 
-// Gives the cuts their data nodes, and connects the pins of the gates, to these nodes, statement by statement.
+// Gives the cuts their data nodes, and connects the pins of the gates, to these nodes, statement by
+// statement.
 fn connect_nodes(circuit: &mut Circuit, entries: &[Entry], nodes: &[u32]) -> Result<(), Memory>
     requires may { MayConnect circuit.old entries.now }
     requires right { HaveRightPins (statement_list entries.now) }

@@ -1,8 +1,8 @@
 use Rattle.std.proofs.Common.{◌∙◌, sym, ap}
-use Rattle.hz_bench.specs.Entry.{statement_list, output_list}
-use Rattle.hz_bench.specs.Uses.{pins_in}
+use Rattle.hz_bench.specs.Entry.{statement_list}
+use Rattle.hz_bench.specs.Uses.{output_words, pins_in}
 use Rattle.hz_bench.proofs.ConnectLemmas.{circuit-named, outputs-made, outputs-may}
-use Rattle.hz_bench.proofs.EntryLemmas.{element_list-statements, output_elements-statements}
+use Rattle.hz_bench.proofs.EntryLemmas.{element_list-statements}
 use Rattle.hz_bench.proofs.build.build.Goals as goal
 
 pub connect_nodes-requires-clause-nodes : goal.connect_nodes-requires-clause-nodes
@@ -15,14 +15,14 @@ connect_nodes-requires-clause-nodes c =
 pub add_outputs_and_data-requires : goal.add_outputs_and_data-requires
 add_outputs_and_data-requires c =
     let entries = c.args.statements.now.nodes.items in
-    let lines = c.args.statements.now.outputs.items in
+    let words = output_words c.args.statements.now in
     rw (c.as_slice-2.ensures.value, c.in_ok-connect_nodes.ensures, c.in_ok-add_gates.ensures, c.in_ok-add_cuts.ensures, c.in_ok-add_inputs.ensures, c.in_ok-circuit.ensures, c.as_slice-nodes.ensures.value, element_list-statements entries)
-    (outputs-may (statement_list entries) (output_list lines) c.args.uses.now.outputs.items c.requires.uses.outputs_are
-    (rw (element_list-statements entries, output_elements-statements lines) at c.requires.may.may.outputs_may))
+    (outputs-may (statement_list entries) words c.args.uses.now.outputs.items c.requires.uses.outputs_are
+    (rw (element_list-statements entries) at c.requires.may.may.outputs_may))
 
 pub returns : goal.returns
 returns c =
     let entries = c.args.statements.now.nodes.items in
-    let lines = c.args.statements.now.outputs.items in
-    rw (c.in_ok-add_outputs_and_data.ensures, c.as_slice-2.ensures.value, c.in_ok-connect_nodes.ensures, c.in_ok-add_gates.ensures, c.in_ok-add_cuts.ensures, c.in_ok-add_inputs.ensures, c.in_ok-circuit.ensures, c.as_slice-nodes.ensures.value, element_list-statements entries, output_elements-statements lines)
-    (outputs-made (statement_list entries) (output_list lines) c.args.uses.now.outputs.items c.requires.uses.outputs_are)
+    let words = output_words c.args.statements.now in
+    rw (c.in_ok-add_outputs_and_data.ensures, c.as_slice-2.ensures.value, c.in_ok-connect_nodes.ensures, c.in_ok-add_gates.ensures, c.in_ok-add_cuts.ensures, c.in_ok-add_inputs.ensures, c.in_ok-circuit.ensures, c.as_slice-nodes.ensures.value, element_list-statements entries)
+    (outputs-made (statement_list entries) words c.args.uses.now.outputs.items c.requires.uses.outputs_are)
