@@ -2,13 +2,11 @@
 use Rattle.std.proofs.Common.{◌≡◌, ◌∙◌, ◌+◌, ◌<◌, ℕ, true, List, length, get_or, refl, sym, ap, subst, arith}
 use Rattle.hz_core.specs.Netlist.{IsGateNumber}
 use Rattle.hz_net.specs.Network.{network_of}
-use Rattle.hz_gmw.specs.RunRecord.{RunRecord}
-use Rattle.hz_reach.specs.ScratchState.{ScratchState}
 use Rattle.hz_gmw.specs.Runs.{state_after}
 use Rattle.hz_reach.specs.Room.{HasRoomFor}
 use Rattle.hz_reach.specs.Turn.{AreTurnWires, turn_flips}
 use Rattle.hz_cycle.specs.Turns.{has_turn_in, unsettled_pins}
-use Rattle.hz_cycle.proofs.PassTurns.{IsPassAsked, IsPassing, passing-begin, passing-long, passing-inside, passing-skip, passing-possible, passing-room, passing-turn, passing-end}
+use Rattle.hz_cycle.proofs.PassTurns.{IsPassAsked, passing-begin, passing-long, passing-inside, passing-skip, passing-possible, passing-room, passing-turn, passing-end}
 use Rattle.hz_cycle.proofs.passing.make_pass.Goals as goal
 use Rattle.hz_cycle.proofs.passing.make_pass.Goals.{then-has_turn, else-has_turn}
 

@@ -5,7 +5,6 @@ use Rattle.std.proofs.lemmas.Bool.{cases_lt}
 use Rattle.hz_core.specs.Ternary.{admits}
 use Rattle.hz_net.specs.Network.{bit_at, value_at}
 use Rattle.hz_reach.specs.Order.{key_at}
-use Rattle.hz_reach.specs.ScratchState.{ScratchState}
 use Rattle.hz_cycle.specs.Rounds.{differing_variables}
 use Rattle.hz_cycle.proofs.RoundTurns.{order-inside, slice-more, differing-more, differing-skip, round-ascends}
 use Rattle.hz_cycle.proofs.settling.mark_round.Goals as goal

@@ -3,7 +3,6 @@ use Rattle.hz_core.specs.Netlist.{Netlist}
 use Rattle.hz_core.specs.Pattern.{differs}
 use Rattle.hz_net.specs.Network.{bit_at}
 use Rattle.hz_net.proofs.Places.{length-network_of}
-use Rattle.hz_reach.specs.ScratchState.{ScratchState}
 use Rattle.hz_reach.proofs.FilteredRangeLemmas.{filtered_range-below, filtered_range-more, filtered_range-skip}
 use Rattle.hz_reach.proofs.spreading.mark_inputs.Goals as goal
 use Rattle.hz_reach.proofs.spreading.mark_inputs.Goals.{then-start-var, else-start-var}

@@ -1,13 +1,11 @@
 -- The first step turns the inputs; then each gate of the order has its turn; last come the wires that are left.
-use Rattle.std.proofs.Common.{◌≡◌, ◌∙◌, ◌+◌, ◌<◌, ℕ, true, List, length, get_or, sym, ap, subst, arith}
+use Rattle.std.proofs.Common.{◌≡◌, ◌∙◌, ◌<◌, ℕ, true, List, length, get_or, sym, ap, subst, arith}
 use Rattle.hz_core.specs.Netlist.{IsGateNumber}
 use Rattle.hz_net.specs.Network.{network_of}
 use Rattle.hz_gmw.specs.Runs.{state_after}
-use Rattle.hz_gmw.specs.RunRecord.{RunRecord}
 use Rattle.hz_reach.specs.Room.{with_step_if_any}
-use Rattle.hz_reach.specs.ScratchState.{ScratchState}
 use Rattle.hz_reach.specs.Turn.{is_gate_in, changed_inputs}
-use Rattle.hz_reach.proofs.SpreadSteps.{IsUnderway, inputs-room, underway-begin, underway-long, place-inside, underway-next, turn-possible, turn-room, underway-turn, underway-sparing, underway-whole, underway-room, underway-ends}
+use Rattle.hz_reach.proofs.SpreadSteps.{inputs-room, underway-begin, underway-long, place-inside, underway-next, turn-possible, turn-room, underway-turn, underway-sparing, underway-whole, underway-room, underway-ends}
 use Rattle.hz_reach.proofs.spreading.sparing_in_order.Goals as goal
 use Rattle.hz_reach.proofs.spreading.sparing_in_order.Goals.{then-is_gate, else-is_gate}
 
