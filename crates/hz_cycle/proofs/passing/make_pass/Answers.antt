@@ -69,12 +69,3 @@ loop-place-preserved c =
 
 pub returns-clause-pass : goal.returns-clause-pass
 returns-clause-pass c = passing-end c.loop-place.invariant.passing (omega (arith, c.loop-place-test.false, c.loop-place.invariant.end))
-
-pub returns-clause-sorted : goal.returns-clause-sorted
-returns-clause-sorted c = c.loop-place.invariant.passing.at.sorted
-
-pub returns-clause-marked : goal.returns-clause-marked
-returns-clause-marked c = c.loop-place.invariant.passing.at.marked
-
-pub returns-clause-room : goal.returns-clause-room
-returns-clause-room c = c.loop-place.invariant.passing.at.spent

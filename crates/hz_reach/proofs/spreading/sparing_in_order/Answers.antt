@@ -80,12 +80,3 @@ returns-clause-room_for_unused c = underway-room c.loop-place.invariant.underway
 
 pub returns-clause-state : goal.returns-clause-state
 returns-clause-state c = underway-ends c.loop-place.invariant.underway (omega (arith, c.loop-place-test.false, c.loop-place.invariant.end))
-
-pub returns-clause-marked : goal.returns-clause-marked
-returns-clause-marked c = c.loop-place.invariant.underway.at.marked
-
-pub returns-clause-sorted : goal.returns-clause-sorted
-returns-clause-sorted c = c.loop-place.invariant.underway.at.sorted
-
-pub returns-clause-room : goal.returns-clause-room
-returns-clause-room c = c.loop-place.invariant.underway.at.spent
