@@ -11,14 +11,14 @@ use Rattle.hz_gmw.specs.RunRecord.{flip_count, RunRecord}
 use Rattle.hz_gmw.specs.Cycles.{states_of}
 use Rattle.hz_gmw.proofs.CoverB.{length-end_of}
 use Rattle.hz_gmw.proofs.Paths.{end_of-append, IsRun-append, IsCut, cut-member}
-use Rattle.hz_reach.proofs.FlipCounts.{flips_per_unknown, steps_below_flips, flips_per_variable}
+use Rattle.hz_reach.proofs.FlipCounts.{flips_per_unknown, steps_below_flips, flips_per_variable, not-not}
 use Rattle.hz_net.specs.Reads.{IsWired}
 use Rattle.hz_reach.specs.Spread.{changes_in}
 use Rattle.hz_cycle.specs.Cycles.{IsCycleOf}
 use Rattle.hz_cycle.specs.Pass.{IsFixed, AreEnough, IsPass, HasRoom}
 use Rattle.hz_cycle.specs.Turned.{IsTurned}
-use Rattle.hz_cycle.proofs.SettledVariables.{either-value, known-stable, no-input, wire-source, source-gate}
-use Rattle.hz_cycle.proofs.StepLemmas.{changes-append, unchanged-end, contains-end, contains-front}
+use Rattle.hz_cycle.proofs.SettledVariables.{either-value, known-stable, no-input, wire-source, source-gate, admits-unknown}
+use Rattle.hz_cycle.proofs.StepLemmas.{changes-append, unchanged-end, contains-end, contains-front, contains-begin}
 use Rattle.hz_reach.proofs.GateTurn.{same-or-differ, other-bit, not-itself}
 use Rattle.hz_reach.proofs.ListPlaces.{no-element}
 use Rattle.hz_cycle.proofs.TurnedStates.{same-turned}
@@ -42,10 +42,6 @@ contains-rest state member (flips ∷ steps) more there =
     let rest = contains-rest (state_after flips state) member steps more there in
     (suc rest.0, (let less = rest.1 in omega arith), rest.2)
 
-pub contains-begin : (state : List Bool) (steps : List (List ℕ)) → Contains (states_of state steps) state
-contains-begin state [] = (0, omega arith, refl)
-contains-begin state (flips ∷ steps) = (0, omega arith, refl)
-
 -- what holds of all elements holds of each
 all-contains : (P : List Bool → Type 0) (states : List (List Bool)) (member : List Bool) → AllByRecursion P states → Contains states member → P member
 all-contains P [] member all there = absurd (omega (arith, there.1))
@@ -57,27 +53,19 @@ pub refines-unchanged : (begun : List Bool) (steps : List (List ℕ)) (b : List 
 refines-unchanged begun steps b refined known =
     Refines-get_or (end_of begun steps) b (length-end_of begun steps ∙ length-Refines begun b refined) (λ i inside.
     elim (either-value (value_at b i)) [
-      | inl unknown ↦ admitted i unknown (bit_at (end_of begun steps) i)
+      | inl unknown ↦ admits-unknown (value_at b i) (bit_at (end_of begun steps) i) unknown
       | inr settled ↦
           subst (λ (bit : Bool). IsTrue (admits (value_at b i) bit)) (sym (unchanged-end begun steps i (known i settled))) (get_or-Refines begun b refined i)
     ])
-  where
-    admitted : (i : ℕ) → IsUnknown (value_at b i) → (bit : Bool) → IsTrue (admits (value_at b i) bit)
-    admitted i unknown false = rw unknown refl
-    admitted i unknown true = rw unknown refl
 
 module _ {net : List Driver} {input : List Bool} {ranks : List ℕ} {b : List Tri} (wired : IsWired net) (fixed : IsFixed net input b) where
   module _ {state middle last : List Bool} {first second : List (List ℕ)} (turned : IsTurned net ranks b state) (once : IsPass net input ranks b state first middle) (again : IsPass net input ranks b middle second last) where
-    twice : (bit : Bool) → not (not bit) ≡ bit
-    twice false = refl
-    twice true = refl
-
     -- they lead back
     pub returned : last ≡ state
     returned =
         same-turned wired fixed again.turned turned (λ gate kind start pins drives unknown.
         again.gates gate kind start pins drives unknown
-        ∙ (ap not (once.gates gate kind start pins drives unknown) ∙ twice (bit_at state gate)))
+        ∙ (ap not (once.gates gate kind start pins drives unknown) ∙ not-not (bit_at state gate)))
 
     steps : List (List ℕ)
     steps = first ++ second

@@ -16,13 +16,14 @@ use Rattle.hz_reach.specs.Room.{with_step_if_any}
 use Rattle.hz_net.specs.Reads.{IsWireInto, IsWired}
 use Rattle.hz_reach.specs.Spread.{changes_in}
 use Rattle.hz_reach.proofs.Order.{not-earlier, not-both, also, also-itself, also-other, earlier-or-not}
-use Rattle.hz_reach.proofs.GateTurn.{turn_wires, turn_middle, IsFunction, IsTurnPin, IsWithFanOut, pin-into, pin-from, listed-pin, kept-other, gate-kept, turn-run, turn-end, same-or-differ}
+use Rattle.hz_reach.proofs.GateTurn.{turn_wires, turn_middle, IsFunction, IsTurnPin, IsWithFanOut, pin-into, pin-from, listed-pin, kept-other, gate-kept, turn-run, turn-end, same-or-differ, same-source}
 use Rattle.hz_cycle.specs.Pass.{MayBegin, IsFixed, AreEnough, IsPass}
 use Rattle.hz_cycle.proofs.PassInvariant.{IsInside}
-use Rattle.hz_cycle.proofs.StepLemmas.{listed, changes-after, listed-none, unchanged-end, contains-after, contains-end}
+use Rattle.hz_cycle.proofs.StepLemmas.{changes-after, listed-none, unchanged-end, contains-after, contains-end}
 use Rattle.hz_cycle.proofs.Turn.{IsNext, IsAfterTurn, pass-may-turn, wires-unsettled, flips-unsettled, after-turn, settled-after, inside-after}
 use Rattle.hz_cycle.proofs.SettledVariables.{either-value, no-input, wire-source, source-gate}
 use Rattle.hz_cycle.proofs.TurnedStates.{inside-turned}
+use Rattle.hz_reach.proofs.FlipCounts.{listed}
 
 -- one, if a variable has had its turn
 abbrev pub turns : (ℕ → Bool) → ℕ → ℕ
@@ -98,11 +99,8 @@ module _ {net : List Driver} {input : List Bool} {b : List Tri} {ranks : List �
   wire-comes : (wire source : ℕ) → driver_at net wire ≡ Source source → is_listed flips wire ≡ true → source ≡ gate
   wire-comes wire source drives there = elim (flip.along.others wire there) [
     | inl same ↦ (let again : driver_at net wire ≡ Function kind first pins = ap (driver_at net) same ∙ next.drives in cc)
-    | inr from ↦ same-source source gate (sym drives ∙ from.0)
+    | inr from ↦ same-source (sym drives ∙ from.0)
   ]
-    where
-      same-source : (one two : ℕ) → Source one ≡ Source two → one ≡ two
-      same-source one two e = cc
 
   -- a turn adds at most one change
   one-turn : (flipped_too : List ℕ) (i other : ℕ) → (is_listed flipped_too i ≡ true → other ≡ gate) → listed flipped_too i + turns had other ≤ turns (also had gate) other

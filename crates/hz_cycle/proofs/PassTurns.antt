@@ -28,14 +28,14 @@ use Rattle.hz_reach.specs.Spread.{changes_in}
 use Rattle.hz_reach.specs.Turn.{is_gate_in, AreTurnWires, turn_flips, IsTurn}
 use Rattle.hz_reach.proofs.FanOut.{marks-with-fan_out}
 use Rattle.hz_reach.proofs.FlipCounts.{flips_are_changes}
-use Rattle.hz_reach.proofs.GateTurn.{IsFunction, pin-inside}
+use Rattle.hz_reach.proofs.GateTurn.{IsFunction, pin-inside, unknown-is, is-unknown}
 use Rattle.hz_reach.proofs.Order.{had_before, also, IsNext, all-had, after-turns, order-found}
 use Rattle.hz_reach.proofs.TurnLoop.{IsAtPlace, at-begin, at-next, at-here, at-turn}
 use Rattle.hz_reach.proofs.ListPlaces.{key-inside, listed-at}
 use Rattle.hz_reach.proofs.Room.{flips-after, room-left, spends-none}
 use Rattle.hz_cycle.specs.Pass.{IsFixed, AreFixedAndRanked, MayBegin, HasRoom, IsPass, IsPassMade}
 use Rattle.hz_cycle.specs.Turns.{has_turn_in, unsettled_pins}
-use Rattle.hz_cycle.proofs.SettledVariables.{unknown-is, is-unknown, gate-possible}
+use Rattle.hz_cycle.proofs.SettledVariables.{gate-possible}
 use Rattle.hz_cycle.proofs.PassSteps.{underway-few, underway-pass, IsUnderway, underway-after, underway-begin}
 use Rattle.hz_cycle.proofs.PatternExists.{pattern-found}
 use Rattle.hz_cycle.proofs.Turn.{next-gate}

@@ -23,7 +23,8 @@ use Rattle.hz_reach.proofs.ListPlaces.{key-inside}
 use Rattle.hz_reach.proofs.Room.{end_of-after, run-after}
 use Rattle.hz_cycle.specs.Rounds.{AreRoundsOf, IsSettlingRun}
 use Rattle.hz_cycle.proofs.SettledVariables.{either-value, admits-unknown}
-use Rattle.hz_cycle.proofs.StepLemmas.{listed, changes-after, listed-none, unchanged-end}
+use Rattle.hz_cycle.proofs.StepLemmas.{changes-after, listed-none, unchanged-end}
+use Rattle.hz_reach.proofs.FlipCounts.{listed}
 
 -- Values
 

@@ -12,7 +12,7 @@ use Rattle.hz_gmw.proofs.Paths.{IsRun-front, IsCut, cut-member}
 use Rattle.hz_reach.proofs.Exact.{joins-by}
 use Rattle.hz_reach.specs.Existence.{ResultOfAExists, ResultOfBExists, RanksExist, SettlingRoundsExist, SparingRunExists}
 use Rattle.hz_cycle.specs.Exact.{RunsShowB, HasSettleRunAndCycle, SettleRunsExist, BIsExact, OutcomesExist}
-use Rattle.hz_cycle.proofs.CycleExists.{contains-begin, cycle-found}
+use Rattle.hz_cycle.proofs.CycleExists.{cycle-found}
 use Rattle.hz_core.specs.declared.tri.Tri.TheVariants.{Zero, One, Unknown}
 use Rattle.hz_core.specs.Netlist.{Netlist, IsCircuit}
 use Rattle.hz_net.specs.Starts.{IsStableStart}
@@ -26,6 +26,7 @@ use Rattle.hz_cycle.proofs.PassTurns.{pass-found}
 use Rattle.hz_cycle.proofs.RoundSteps.{rounds-found}
 use Rattle.hz_cycle.proofs.SettleRunExists.{IsBeforePass, rounds-may-begin, pass-may-begin, settle-found, settle-end}
 use Rattle.hz_cycle.proofs.TurnedStates.{turned-may-begin}
+use Rattle.hz_cycle.proofs.StepLemmas.{contains-begin}
 
 -- Algorithm B covers the outcome states
 abbrev pub Covers : Type 0

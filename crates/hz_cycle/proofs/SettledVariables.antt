@@ -1,6 +1,6 @@
 -- What the result of Algorithm B says of a state that refines it: settled variables are stable, and each pin of an
 -- unsettled gate that is not settled may take either bit.
-use Rattle.std.proofs.Common.{◌≡◌, ℕ, zero, suc, ◌+◌, ◌-◌, ◌<◌, ◌⊎◌, Bool, true, false, not, cond, List, length, map, get_or, refl, sym, ap, ◌∙◌, subst, arith, inl, inr, IsTrue}
+use Rattle.std.proofs.Common.{◌≡◌, ℕ, zero, suc, ◌+◌, ◌-◌, ◌<◌, ◌⊎◌, Bool, true, false, not, cond, List, length, map, get_or, refl, sym, ap, ◌∙◌, subst, arith, inl, inr, IsTrue, ◌≢◌}
 use Rattle.std.specs.Prelude.{slice_range}
 use Rattle.std.proofs.lemmas.Bool.{cases_lt}
 use Rattle.std.proofs.lemmas.List.{get_or_past, get_or-map}
@@ -26,14 +26,6 @@ use Rattle.hz_cycle.specs.Pass.{IsFixed}
 
 -- Values
 
-pub unknown-is : (value : Tri) → is_unknown value ≡ true → IsUnknown value
-unknown-is Zero e = cc
-unknown-is One e = cc
-unknown-is Unknown e = refl
-
-pub is-unknown : (value : Tri) → IsUnknown value → is_unknown value ≡ true
-is-unknown value unknown = rw unknown refl
-
 -- two bits that one known value admits
 pub same-admitted : (value : Tri) (here there : Bool) → IsKnown value → IsTrue (admits value here) → IsTrue (admits value there) → here ≡ there
 same-admitted Zero false false known a b = refl
@@ -54,6 +46,10 @@ known-bit Zero true known there = cc
 known-bit One false known there = cc
 known-bit One true known there = refl
 known-bit Unknown bit known there = cc
+
+pub bit-known : (bit : Bool) → tri_of bit ≢ Unknown
+bit-known false e = cc
+bit-known true e = cc
 
 pub either-value : (value : Tri) → IsUnknown value ⊎ IsKnown value
 either-value Zero = inr (λ e. cc)
@@ -107,11 +103,7 @@ module _ {net : List Driver} {input : List Bool} {b : List Tri} (fixed : IsFixed
   -- no input is unsettled
   pub no-input : (i place : ℕ) → IsUnknown (value_at b i) → driver_at net i ≡ External place → ⊥
   no-input i place unknown drives =
-      known_value (bit_at input place) (sym (ap (driver_value3 input b) drives) ∙ (sym (fixed.same i (unknown-inside i unknown)) ∙ unknown))
-    where
-      known_value : (bit : Bool) → tri_of bit ≡ Unknown → ⊥
-      known_value false e = cc
-      known_value true e = cc
+      bit-known (bit_at input place) (sym (ap (driver_value3 input b) drives) ∙ (sym (fixed.same i (unknown-inside i unknown)) ∙ unknown))
 
   -- a wire has its source's value
   pub wire-source : (wire source : ℕ) → driver_at net wire ≡ Source source → value_at b wire ≡ value_at b source

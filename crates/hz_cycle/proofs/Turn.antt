@@ -19,11 +19,12 @@ use Rattle.hz_gmw.proofs.Flips.{length-state_after}
 use Rattle.hz_reach.specs.Order.{key_at, IsEarlier}
 use Rattle.hz_reach.specs.Turn.{is_gate_in}
 use Rattle.hz_reach.proofs.Order.{earlier-or-not, IsNext as IsNextOf, not-earlier, not-both, also, also-itself, also-other}
-use Rattle.hz_reach.proofs.GateTurn.{driver-inside, other-bit, same-or-differ, state_after-listed, state_after-unlisted, turn_wires, turn_middle, IsFunction, IsWithFanOut, MayTurn, pin-into, pin-inside, no-pin, listed-pin, set-pin, kept-other, gate-kept, middle-long, not-itself}
+use Rattle.hz_reach.proofs.GateTurn.{driver-inside, other-bit, same-or-differ, state_after-listed, state_after-unlisted, turn_wires, turn_middle, IsFunction, IsWithFanOut, MayTurn, pin-into, pin-inside, no-pin, listed-pin, set-pin, kept-other, gate-kept, middle-long, not-itself, same-source, unknown-is, is-unknown}
 use Rattle.hz_cycle.specs.Pass.{IsFixed}
 use Rattle.hz_cycle.specs.Turns.{has_turn_in}
-use Rattle.hz_cycle.proofs.SettledVariables.{unknown-is, is-unknown, refines-state_after, unknown-inside, wire-source, source-is_gate, same-known, no-input}
+use Rattle.hz_cycle.proofs.SettledVariables.{refines-state_after, unknown-inside, wire-source, source-is_gate, same-known, no-input}
 use Rattle.hz_cycle.proofs.PassInvariant.{IsInside, HasPatternInside}
+use Rattle.hz_reach.proofs.FlipCounts.{not-not}
 
 -- What a gate's turn makes of a state: the gate has the complement of its bit, the wires of its fan-out have the bit that it
 -- had, its other pins have the pattern's bits, and everything else stays.
@@ -137,7 +138,7 @@ module _ {net : List Driver} {input : List Bool} {b : List Tri} {ranks : List �
               ])) ∙ (same ∙ kept)
               | inr differ ↦
                   state_after-listed flips middle wire (omega (arith, driver-inside net wire gate drives, middle-long wired pass-may-turn canonical.candidate)) (flip.follows wire drives differ)
-                  ∙ (ap not (other-bit _ _ differ) ∙ (twice (bit_at middle gate) ∙ kept))
+                  ∙ (ap not (other-bit _ _ differ) ∙ (not-not (bit_at middle gate) ∙ kept))
             ];
         pattern_set = λ pin few other. state_after-unlisted flips middle (first + pin) (false_from_ne_true _ (λ there. elim (flip.along.others (first + pin) there) [
           | inl here ↦ no-pin wired function function pin few (sym here)
@@ -148,10 +149,6 @@ module _ {net : List Driver} {input : List Bool} {b : List Tri} {ranks : List �
           | inr wire ↦ out wire.0
         ])) ∙ kept-other wired pass-may-turn canonical.candidate i none;
       }
-        where
-          twice : (bit : Bool) → not (not bit) ≡ bit
-          twice false = refl
-          twice true = refl
 
 not-waiting : (had : ℕ → Bool) (gate i : ℕ) → also had gate i ≡ false → i ≢ gate
 not-waiting had gate i waits same = both_ways _ waits (also-itself had gate i same)
@@ -182,11 +179,8 @@ module _ {net : List Driver} {input : List Bool} {b : List Tri} {ranks : List �
   wire-kept : (wire source other : ℕ) → driver_at net wire ≡ Source source → IsWireInto net other wire → source ≢ gate → other ≢ gate → bit_at after wire ≡ bit_at state wire
   wire-kept wire source other drives goes away apart =
       turn.others wire (λ same. let again : driver_at net wire ≡ Function kind first pins = ap (driver_at net) same ∙ next.drives in cc)
-      (λ wire_of. away (same-source source gate (sym drives ∙ wire_of)))
+      (λ wire_of. away (same-source (sym drives ∙ wire_of)))
       (λ pin few here. apart (wired.own other gate wire goes (subst (IsWireInto net gate) (sym here) (into pin few))))
-    where
-      same-source : (one two : ℕ) → Source one ≡ Source two → one ≡ two
-      same-source one two e = cc
 
   -- a wire of the gate's fan-out differs from it
   fan_out-differs : (wire : ℕ) → driver_at net wire ≡ Source gate → bit_at after wire ≢ bit_at after gate
@@ -273,11 +267,8 @@ module _ {net : List Driver} {input : List Bool} {b : List Tri} {ranks : List �
     };
     canonical = subst (λ (want : Bool). IsPattern kind (slice_range state first (first + pins)) (map is_unknown (slice_range b first (first + pins))) want pattern) (sym turn.gate_turns) canonical;
     wires = λ pin source few unknown drives earlier.
-        turn.pattern_set pin few (λ from_gate. not-earlier ranks gate (subst (λ (n : ℕ). IsEarlier ranks n gate) (same-source source gate (sym drives ∙ from_gate)) earlier));
+        turn.pattern_set pin few (λ from_gate. not-earlier ranks gate (subst (λ (n : ℕ). IsEarlier ranks n gate) (same-source (sym drives ∙ from_gate)) earlier));
   }
-    where
-      same-source : (one two : ℕ) → Source one ≡ Source two → one ≡ two
-      same-source one two e = cc
 
   -- the pattern of a gate that has had its turn before
   module _ (other : ℕ) (its_kind : Kind) (start count : ℕ) (drives_it : driver_at net other ≡ Function its_kind start count) (unsettled : IsUnknown (value_at b other)) (apart : other ≢ gate) (had_turn : had other ≡ true) where

@@ -8,10 +8,9 @@ use Rattle.hz_core.specs.Pattern.{differs}
 use Rattle.hz_net.specs.Network.{Wire, wires_of, network_of, bit_at}
 use Rattle.hz_net.specs.Variables.{readers_from, fan_out_of}
 use Rattle.hz_net.proofs.Places.{length-network_of}
-use Rattle.hz_net.proofs.Wires.{IsWireFrom, IsWireFrom-driver_at, driver_at-IsWireFrom, Contains-fan_out_of, IsWireFrom-fan_out_of}
+use Rattle.hz_net.proofs.Wires.{IsWireFrom, IsWireFrom-fan_out_of}
 use Rattle.hz_gmw.specs.Runs.{is_listed}
-use Rattle.hz_gmw.proofs.DriverLemmas.{Contains-listed}
-use Rattle.hz_gmw.proofs.LeastLemmas.{listed-Contains}
+use Rattle.hz_gmw.proofs.DriverLemmas.{fan-driver, driver-fan}
 use Rattle.hz_reach.specs.Turn.{turn_flips}
 use Rattle.hz_reach.proofs.DistinctLists.{Ascends, ascends-lower, ascends-filter, listed-above, ascends-once, at-least, listed-before, filtered-is, is-filtered}
 use Rattle.hz_reach.proofs.FilteredRangeLemmas.{differs-true, true-differs}
@@ -62,11 +61,11 @@ module _ (netlist : Netlist) (node : ℕ) where
             | inl same ↦ inl (eqb-true i node same)
             | inr later ↦ (
                 let is = filtered-is test (fan_out_of netlist node) i later in
-                inr (driver_at-IsWireFrom netlist i node circuit (IsWireFrom-fan_out_of netlist i node (Contains-listed (fan_out_of netlist node) i is.1)), differs-true _ _ is.0)
+                inr (fan-driver netlist node i circuit is.1, differs-true _ _ is.0)
                 )
           ];
         };
         follows = λ i drives differ.
             or_right (eqb i node) (is_listed rest i)
-            (is-filtered test (fan_out_of netlist node) i (listed-Contains (fan_out_of netlist node) i (Contains-fan_out_of netlist i node (IsWireFrom-driver_at netlist i node circuit drives))) (true-differs _ _ differ));
+            (is-filtered test (fan_out_of netlist node) i (driver-fan netlist node i circuit drives) (true-differs _ _ differ));
       }

@@ -148,6 +148,10 @@ flips_of_spread_run net input start a steps long spread =
 
 -- The end of a run
 
+pub not-not : (bit : Bool) → not (not bit) ≡ bit
+not-not false = refl
+not-not true = refl
+
 -- one change more
 turn-odd : (here : Bool) (changes : ℕ) (bit : Bool) →
     cond (eqb (changes % 2) 1) (not (cond here (not bit) bit)) (cond here (not bit) bit) ≡ cond (eqb ((cond here 1 0 + changes) % 2) 1) (not bit) bit
@@ -156,13 +160,9 @@ turn-odd false changes bit =
     ap (λ (n : ℕ). cond (eqb (n % 2) 1) (not bit) bit) (sym same)
 turn-odd true changes bit =
     elim (cases_eq (changes % 2) 1) [
-      | inl odd ↦ rw (eq-eqb (changes % 2) 1 odd, ne_eqb ((1 + changes) % 2) 1 (λ e. omega (arith, e, odd))) (twice bit)
+      | inl odd ↦ rw (eq-eqb (changes % 2) 1 odd, ne_eqb ((1 + changes) % 2) 1 (λ e. omega (arith, e, odd))) (not-not bit)
       | inr even ↦ rw (ne_eqb (changes % 2) 1 even, eq-eqb ((1 + changes) % 2) 1 (omega (arith, even))) refl
     ]
-  where
-    twice : (b : Bool) → not (not b) ≡ b
-    twice false = refl
-    twice true = refl
 
 pub ends_by_changes : EndsByChanges
 ends_by_changes start [] i inside = refl

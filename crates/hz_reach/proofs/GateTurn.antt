@@ -18,6 +18,10 @@ use Rattle.hz_reach.specs.Room.{with_step_if_any}
 use Rattle.hz_reach.specs.Turn.{is_gate_in, changed_wires}
 use Rattle.hz_reach.proofs.FilteredRangeLemmas.{filtered_range-is, is-filtered_range, filtered_range-once, differs-true, true-differs, only-one, is-one}
 use Rattle.hz_reach.proofs.Room.{end_of-after, run-after}
+use Rattle.hz_core.specs.declared.tri.Tri.{Tri}
+use Rattle.hz_core.specs.declared.tri.Tri.TheVariants.{Zero, One, Unknown}
+use Rattle.hz_core.specs.Ternary.{is_unknown}
+use Rattle.hz_net.specs.Passes.{IsUnknown}
 
 -- what is driven by a node is a variable
 pub driver-inside : (net : List Driver) (i source : ℕ) → driver_at net i ≡ Source source → i < length net
@@ -63,6 +67,19 @@ same-or-differ false false = inl refl
 same-or-differ false true = inr (λ e. cc)
 same-or-differ true false = inr (λ e. cc)
 same-or-differ true true = inl refl
+
+-- two sources of one wire
+pub same-source : {one two : ℕ} → Source one ≡ Source two → one ≡ two
+same-source e = cc
+
+-- a value that a test finds to be X
+pub unknown-is : (value : Tri) → is_unknown value ≡ true → IsUnknown value
+unknown-is Zero e = cc
+unknown-is One e = cc
+unknown-is Unknown e = refl
+
+pub is-unknown : (value : Tri) → IsUnknown value → is_unknown value ≡ true
+is-unknown value unknown = rw unknown refl
 
 -- the bit of a listed variable, and of one that is not listed
 pub state_after-listed : (flips : List ℕ) (state : List Bool) (i : ℕ) → i < length state → is_listed flips i ≡ true → bit_at (state_after flips state) i ≡ not (bit_at state i)

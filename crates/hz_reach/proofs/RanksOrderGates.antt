@@ -22,7 +22,8 @@ use Rattle.hz_net.proofs.Wired.{wired-network_of}
 use Rattle.hz_net.proofs.PartLemmas.{length-part, at-part}
 use Rattle.hz_net.proofs.Sequences.{length-algorithm_a}
 use Rattle.hz_net.proofs.Ranks.{unknown-later, unknown-or-start, one-round, at-tri_of, turns-before-rank}
-use Rattle.hz_reach.proofs.GateTurn.{driver-inside}
+use Rattle.hz_reach.proofs.GateTurn.{driver-inside, not-itself}
+use Rattle.hz_reach.proofs.ListPlaces.{key-inside}
 
 -- bits for a gate's pins that give it the complement of its bit at the start, where a pin differs from the start only if
 -- its wire has a rank below the gate's
@@ -53,10 +54,6 @@ pub record AreTurns (net : List Driver) (input start : List Bool) (a : List Tri)
       (i : ℕ) (kind : Kind) (first pins : ℕ) → driver_at net i ≡ Function kind first pins → key_at ranks i ≢ 0 →
       (pattern : List Bool) × IsChangedBy start ranks i kind first pins pattern
 
-not-itself : (bit : Bool) → not bit ≢ bit
-not-itself false e = cc
-not-itself true e = cc
-
 -- a bit that a join admits is in its set
 in-set : (set : Bool → Type 0) (value : Tri) (bit : Bool) → IsJoinOf set value → IsTrue (admits value bit) → set bit
 in-set set Zero false join there = join.0
@@ -85,10 +82,7 @@ module _ (net : List Driver) (input old start : List Bool) (rounds : ℕ) (ranks
 
   -- what has a rank is a variable
   rank-inside : (i : ℕ) → key_at ranks i ≢ 0 → i < length net
-  rank-inside i some = elim (cases_lt i (length net)) [
-    | inl inside ↦ inside
-    | inr past ↦ absurd (some (get_or_past ranks i 0 (omega (arith, ranked.long, long_result))))
-  ]
+  rank-inside i some = omega (arith, key-inside ranks i some, ranked.long, long_result)
 
   rank-value : (i : ℕ) → key_at ranks i ≢ 0 → (value_at (algorithm_a net input start rounds) i ≡ Unknown) × IsFirstRound (algorithm_a net input start) i IsUnknown (key_at ranks i)
   rank-value i some =

@@ -1,17 +1,17 @@
 -- One more step of a run, and the room that a run takes: since no step is empty, room for its flips is room for its steps.
-use Rattle.std.proofs.Common.{◌≡◌, ◌≢◌, ℕ, ◌+◌, ◌≤◌, Bool, List, [], ◌∷◌, ◌++◌, length, refl, ap, ◌∙◌, arith, append_assoc, length-append}
+use Rattle.std.proofs.Common.{◌≡◌, ◌≢◌, ℕ, ◌+◌, ◌≤◌, Bool, List, [], ◌∷◌, ◌++◌, length, refl, ap, ◌∙◌, arith, append_assoc, length-append, sym}
 use Rattle.std.proofs.lemmas.List.Sums.{sum_by-append, sum_by_push}
 use Rattle.hz_net.specs.Network.{Driver}
 use Rattle.hz_gmw.specs.Runs.{state_after, IsStep, IsRun, end_of}
 use Rattle.hz_gmw.specs.RunRecord.{RunRecord, flip_count}
 use Rattle.hz_gmw.proofs.Paths.{end_of-append, IsRun-append}
 use Rattle.hz_reach.specs.Room.{with_step_if_any, Spends, HasRoomForStep, HasRoomFor}
-use Rattle.hz_reach.proofs.ListPlaces.{state_after-none}
+use Rattle.hz_gmw.proofs.Flips.{state_after-none}
 use Rattle.hz_reach.proofs.FlipCounts.{steps_below_flips}
 
 -- one more step
 pub end_of-after : (start : List Bool) (steps : List (List ℕ)) (flips : List ℕ) → end_of start (with_step_if_any steps flips) ≡ state_after flips (end_of start steps)
-end_of-after start steps [] = state_after-none (end_of start steps)
+end_of-after start steps [] = sym (state_after-none 0 (end_of start steps))
 end_of-after start steps (i ∷ flips) = end_of-append start steps ((i ∷ flips) ∷ [])
 
 pub run-after : (net : List Driver) (input begun : List Bool) (steps : List (List ℕ)) (flips : List ℕ) → IsRun net input begun steps → (flips ≢ [] → IsStep net input (end_of begun steps) flips) → IsRun net input begun (with_step_if_any steps flips)

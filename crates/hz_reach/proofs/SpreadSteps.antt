@@ -2,7 +2,7 @@
 use Rattle.std.proofs.Common.{◌≡◌, ◌≢◌, ℕ, ◌+◌, ◌-◌, ◌<◌, ◌≤◌, Bool, true, false, not, ◌&&◌, List, [], ◌∷◌, ◌++◌, length, get_or, refl, sym, ap, ◌∙◌, subst, arith, inl, inr}
 use Rattle.std.proofs.lemmas.Bool.{cases_Bool, cases_lt, both_ways, and_parts, and_from, not-true, not_from_false, false_from_ne_true}
 use Rattle.hz_core.specs.declared.tri.Tri.{Tri}
-use Rattle.hz_core.specs.declared.tri.Tri.TheVariants.{Zero, One, Unknown}
+use Rattle.hz_core.specs.declared.tri.Tri.TheVariants.{Unknown}
 use Rattle.hz_core.specs.Ternary.{is_unknown}
 use Rattle.hz_core.specs.Netlist.{Netlist, IsCircuit, IsGateNumber, gate_at}
 use Rattle.hz_core.specs.Pattern.{differs, IsCandidate}
@@ -24,27 +24,15 @@ use Rattle.hz_reach.proofs.RanksOrderGates.{IsChangedAfter, AreTurns, turns-of}
 use Rattle.hz_reach.proofs.Order.{had_before, also, IsNext, all-had, after-turns, order-found}
 use Rattle.hz_reach.proofs.ListPlaces.{listed-at}
 use Rattle.hz_reach.proofs.Room.{end_of-after, run-after, flips-after, room-for-step, room-left}
-use Rattle.hz_reach.proofs.GateTurn.{IsFunction}
+use Rattle.hz_reach.proofs.GateTurn.{IsFunction, unknown-is, same-or-differ}
 use Rattle.hz_reach.proofs.TurnLoop.{IsAtPlace, at-begin, at-next, at-here, at-turn}
 use Rattle.hz_reach.proofs.SpreadLoop.{changed, changed-after, changes-unlisted, changes-listed, changes-few, HadTurns, few-flips, changed-inputs, state-long, listed-same, unlisted-bit, node-changed, wire-differs, rank-possible, had-turn}
 
--- a value that is found to be X
-known-test : (value : Tri) → is_unknown value ≡ true → value ≡ Unknown
-known-test Zero e = cc
-known-test One e = cc
-known-test Unknown e = refl
-
 same-differs : (here there : Bool) → differs here there ≡ false → here ≡ there
-same-differs false false e = refl
-same-differs false true e = cc
-same-differs true false e = cc
-same-differs true true e = refl
+same-differs here there e = elim (same-or-differ here there) [ inl same ↦ same | inr differ ↦ absurd (both_ways _ e (true-differs here there differ)) ]
 
 differs-same : (here there : Bool) → here ≡ there → differs here there ≡ false
-differs-same false false e = refl
-differs-same false true e = cc
-differs-same true false e = cc
-differs-same true true e = refl
+differs-same here there same = false_from_ne_true _ (λ differ. differs-true here there differ same)
 
 module _ {netlist : Netlist} (circuit : IsCircuit netlist) {input start : List Bool} {a : List Tri} {ranks : List ℕ} (turns : AreTurns (network_of netlist) input start a ranks) where
   abbrev net : List Driver
@@ -114,7 +102,7 @@ module _ {netlist : Netlist} (circuit : IsCircuit netlist) {input start : List B
         let is = filtered_range-is test names (length net - names) i there in
         let here : i ≡ names + is.place = is.is in
         let parts = and_parts _ _ is.passes in
-        let some = turns.known i (known-test (value_at a i) parts.0) in (
+        let some = turns.known i (unknown-is (value_at a i) parts.0) in (
           _,
           driver_at-wire netlist i circuit (omega arith) (omega (arith, here, is.few, length-network_of netlist circuit)),
           some,

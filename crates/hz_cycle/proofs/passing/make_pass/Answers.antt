@@ -2,13 +2,11 @@
 use Rattle.std.proofs.Common.{◌≡◌, ◌∙◌, ◌+◌, ◌<◌, ℕ, true, List, length, get_or, refl, sym, ap, subst, arith}
 use Rattle.hz_core.specs.Netlist.{IsGateNumber}
 use Rattle.hz_net.specs.Network.{network_of}
-use Rattle.hz_gmw.specs.RunRecord.{RunRecord}
-use Rattle.hz_reach.specs.ScratchState.{ScratchState}
 use Rattle.hz_gmw.specs.Runs.{state_after}
 use Rattle.hz_reach.specs.Room.{HasRoomFor}
 use Rattle.hz_reach.specs.Turn.{AreTurnWires, turn_flips}
 use Rattle.hz_cycle.specs.Turns.{has_turn_in, unsettled_pins}
-use Rattle.hz_cycle.proofs.PassTurns.{IsPassAsked, IsPassing, passing-begin, passing-long, passing-inside, passing-skip, passing-possible, passing-room, passing-turn, passing-end}
+use Rattle.hz_cycle.proofs.PassTurns.{IsPassAsked, passing-begin, passing-long, passing-inside, passing-skip, passing-possible, passing-room, passing-turn, passing-end}
 use Rattle.hz_cycle.proofs.passing.make_pass.Goals as goal
 use Rattle.hz_cycle.proofs.passing.make_pass.Goals.{then-has_turn, else-has_turn}
 
@@ -60,29 +58,14 @@ loop-place-preserved c =
     let gate = get_or c.loop-place.scratch.sorted place 0 in
     let here = same-place c.sorted.result.now c.loop-place.scratch.sorted place c.sorted.ensures in
     let is : c.has_turn.result ≡ has_turn_in (network_of c.args.net.now) c.args.b.now gate = c.has_turn.ensures.turn ∙ ap (has_turn_in (network_of c.args.net.now) c.args.b.now) here in
-    let moved : (scratch : ScratchState) (run : RunRecord) → c.if-has_turn.scratch ≡ scratch → c.if-has_turn.run ≡ run → IsPassing c.args.net.now c.args.rank.now c.args.b.now c.args.scratch.now.state c.args.run.now (place + 1) scratch run → IsPassing c.args.net.now c.args.rank.now c.args.b.now c.args.scratch.now.state c.args.run.now (place + 1) c.if-has_turn.scratch c.if-has_turn.run =
-    λ scratch run scratch_is run_is so_far. rw (scratch_is, run_is) so_far in
     elim c.if-has_turn.branch [
-      | then-has_turn w ↦ record {
-        passing = moved w.turn_unsettled.new.scratch w.turn_unsettled.new.run w.scratch-is w.run-is
-            (passing-turn passing inside (sym is ∙ w.if-has_turn.true) (subst (IsGateNumber c.args.net.now) here (c.has_turn.ensures.gate w.if-has_turn.true)) (rw (sym here) w.turn_unsettled.ensures.turn)
-            w.turn_unsettled.ensures.sorted w.turn_unsettled.ensures.marked w.turn_unsettled.ensures.room);
-        end = c.loop-place.invariant.end ∙ ap (length {A = ℕ}) (sym w.turn_unsettled.ensures.sorted ∙ sym (ap (λ (s : ScratchState). s.sorted) w.scratch-is));
-      }
-      | else-has_turn w ↦ record {
-        passing = moved c.loop-place.scratch c.loop-place.run w.scratch-is w.run-is (passing-skip passing inside (sym is ∙ w.if-has_turn.false));
-        end = c.loop-place.invariant.end ∙ ap (length {A = ℕ}) (sym (ap (λ (s : ScratchState). s.sorted) w.scratch-is));
-      }
+      | then-has_turn w ↦ rw (w.scratch-is, w.run-is) (record {
+        passing = passing-turn passing inside (sym is ∙ w.if-has_turn.true) (subst (IsGateNumber c.args.net.now) here (c.has_turn.ensures.gate w.if-has_turn.true)) (rw (sym here) w.turn_unsettled.ensures.turn)
+            w.turn_unsettled.ensures.sorted w.turn_unsettled.ensures.marked w.turn_unsettled.ensures.room;
+        end = c.loop-place.invariant.end ∙ ap (length {A = ℕ}) (sym w.turn_unsettled.ensures.sorted);
+      })
+      | else-has_turn w ↦ rw (w.scratch-is, w.run-is) (record { passing = passing-skip passing inside (sym is ∙ w.if-has_turn.false); end = c.loop-place.invariant.end })
     ]
 
 pub returns-clause-pass : goal.returns-clause-pass
 returns-clause-pass c = passing-end c.loop-place.invariant.passing (omega (arith, c.loop-place-test.false, c.loop-place.invariant.end))
-
-pub returns-clause-sorted : goal.returns-clause-sorted
-returns-clause-sorted c = c.loop-place.invariant.passing.at.sorted
-
-pub returns-clause-marked : goal.returns-clause-marked
-returns-clause-marked c = c.loop-place.invariant.passing.at.marked
-
-pub returns-clause-room : goal.returns-clause-room
-returns-clause-room c = c.loop-place.invariant.passing.at.spent

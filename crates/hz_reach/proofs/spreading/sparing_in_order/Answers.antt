@@ -1,13 +1,11 @@
 -- The first step turns the inputs; then each gate of the order has its turn; last come the wires that are left.
-use Rattle.std.proofs.Common.{◌≡◌, ◌∙◌, ◌+◌, ◌<◌, ℕ, true, List, length, get_or, sym, ap, subst, arith}
+use Rattle.std.proofs.Common.{◌≡◌, ◌∙◌, ◌<◌, ℕ, true, List, length, get_or, sym, ap, subst, arith}
 use Rattle.hz_core.specs.Netlist.{IsGateNumber}
 use Rattle.hz_net.specs.Network.{network_of}
 use Rattle.hz_gmw.specs.Runs.{state_after}
-use Rattle.hz_gmw.specs.RunRecord.{RunRecord}
 use Rattle.hz_reach.specs.Room.{with_step_if_any}
-use Rattle.hz_reach.specs.ScratchState.{ScratchState}
 use Rattle.hz_reach.specs.Turn.{is_gate_in, changed_inputs}
-use Rattle.hz_reach.proofs.SpreadSteps.{IsUnderway, inputs-room, underway-begin, underway-long, place-inside, underway-next, turn-possible, turn-room, underway-turn, underway-sparing, underway-whole, underway-room, underway-ends}
+use Rattle.hz_reach.proofs.SpreadSteps.{inputs-room, underway-begin, underway-long, place-inside, underway-next, turn-possible, turn-room, underway-turn, underway-sparing, underway-whole, underway-room, underway-ends}
 use Rattle.hz_reach.proofs.spreading.sparing_in_order.Goals as goal
 use Rattle.hz_reach.proofs.spreading.sparing_in_order.Goals.{then-is_gate, else-is_gate}
 
@@ -62,19 +60,13 @@ loop-place-preserved c =
     let gate = get_or c.loop-place.scratch.sorted place 0 in
     let here = same-place place c.sorted.ensures in
     let is : c.is_gate.result ≡ is_gate_in (network_of c.args.net.now) gate = c.is_gate.ensures.gate ∙ ap (is_gate_in (network_of c.args.net.now)) here in
-    let moved : (scratch : ScratchState) (run : RunRecord) → c.if-is_gate.scratch ≡ scratch → c.if-is_gate.run ≡ run → IsUnderway c.args.net.now c.args.input.now c.args.start.now c.args.a.now c.args.rank.now (place + 1) scratch c.args.run.now run → IsUnderway c.args.net.now c.args.input.now c.args.start.now c.args.a.now c.args.rank.now (place + 1) c.if-is_gate.scratch c.args.run.now c.if-is_gate.run =
-    λ scratch run scratch_is run_is so_far. rw (scratch_is, run_is) so_far in
     elim c.if-is_gate.branch [
-      | then-is_gate w ↦ record {
-        underway = moved w.turn_by_rank.new.scratch w.turn_by_rank.new.run w.scratch-is w.run-is
-            (underway-turn underway inside (sym is ∙ w.if-is_gate.true) (subst (IsGateNumber c.args.net.now) here (c.is_gate.ensures.number w.if-is_gate.true)) (rw (sym here) w.turn_by_rank.ensures.turn)
-            w.turn_by_rank.ensures.sorted w.turn_by_rank.ensures.marked w.turn_by_rank.ensures.room);
-        end = c.loop-place.invariant.end ∙ ap (length {A = ℕ}) (sym w.turn_by_rank.ensures.sorted ∙ sym (ap (λ (s : ScratchState). s.sorted) w.scratch-is));
-      }
-      | else-is_gate w ↦ record {
-        underway = moved c.loop-place.scratch c.loop-place.run w.scratch-is w.run-is (underway-next underway inside (sym is ∙ w.if-is_gate.false));
-        end = c.loop-place.invariant.end ∙ ap (length {A = ℕ}) (sym (ap (λ (s : ScratchState). s.sorted) w.scratch-is));
-      }
+      | then-is_gate w ↦ rw (w.scratch-is, w.run-is) (record {
+        underway = underway-turn underway inside (sym is ∙ w.if-is_gate.true) (subst (IsGateNumber c.args.net.now) here (c.is_gate.ensures.number w.if-is_gate.true)) (rw (sym here) w.turn_by_rank.ensures.turn)
+            w.turn_by_rank.ensures.sorted w.turn_by_rank.ensures.marked w.turn_by_rank.ensures.room;
+        end = c.loop-place.invariant.end ∙ ap (length {A = ℕ}) (sym w.turn_by_rank.ensures.sorted);
+      })
+      | else-is_gate w ↦ rw (w.scratch-is, w.run-is) (record { underway = underway-next underway inside (sym is ∙ w.if-is_gate.false); end = c.loop-place.invariant.end })
     ]
 
 pub returns-clause-sparing : goal.returns-clause-sparing
@@ -88,12 +80,3 @@ returns-clause-room_for_unused c = underway-room c.loop-place.invariant.underway
 
 pub returns-clause-state : goal.returns-clause-state
 returns-clause-state c = underway-ends c.loop-place.invariant.underway (omega (arith, c.loop-place-test.false, c.loop-place.invariant.end))
-
-pub returns-clause-marked : goal.returns-clause-marked
-returns-clause-marked c = c.loop-place.invariant.underway.at.marked
-
-pub returns-clause-sorted : goal.returns-clause-sorted
-returns-clause-sorted c = c.loop-place.invariant.underway.at.sorted
-
-pub returns-clause-room : goal.returns-clause-room
-returns-clause-room c = c.loop-place.invariant.underway.at.spent

@@ -3,7 +3,6 @@ use Rattle.std.specs.List.{slice_range}
 use Rattle.hz_core.specs.Pattern.{differs}
 use Rattle.hz_net.specs.Network.{bit_at}
 use Rattle.hz_net.proofs.PartLemmas.{length-part, at-part}
-use Rattle.hz_reach.specs.ScratchState.{ScratchState}
 use Rattle.hz_reach.specs.FilteredRange.{filtered_range}
 use Rattle.hz_reach.proofs.FilteredRangeLemmas.{filtered_range-below, filtered_range-more, filtered_range-skip}
 use Rattle.hz_reach.proofs.turn.mark_changed.Goals as goal
@@ -32,21 +31,19 @@ loop-pin-preserved c =
     let first = c.args.first in
     let pin = c.loop-pin.pin in
     let holds = test c.args.scratch.now.state first c.args.pattern.now in
+    let at = test-at c.args.scratch.now.state c.state.result.now first c.args.pattern.now pin in
     elim c.if-state-wire.branch [
-      | then-state-wire w ↦ (
-        ap (λ (s : ScratchState). s.marked) w.scratch-is
-            ∙ (w.mark.ensures.marked
+      | then-state-wire w ↦ rw w.scratch-is (
+        w.mark.ensures.marked
             ∙ (ap (λ (list : List ℕ). list ++ (first + pin) ∷ []) c.loop-pin.invariant.0
-            ∙ filtered_range-more holds first pin (first + pin) refl (test-at c.args.scratch.now.state _ first c.args.pattern.now pin true (c.state.ensures ∙ c.loop-pin.invariant.1) c.loop-pin-test.true w.if-state-wire.true))),
-        ap (λ (s : ScratchState). s.state) w.scratch-is ∙ (w.mark.ensures.state ∙ c.loop-pin.invariant.1),
-        ap (λ (s : ScratchState). s.sorted) w.scratch-is ∙ (w.mark.ensures.sorted ∙ c.loop-pin.invariant.2),
+            ∙ filtered_range-more holds first pin (first + pin) refl (at true (c.state.ensures ∙ c.loop-pin.invariant.1) c.loop-pin-test.true w.if-state-wire.true)),
+        w.mark.ensures.state ∙ c.loop-pin.invariant.1,
+        w.mark.ensures.sorted ∙ c.loop-pin.invariant.2,
       )
-      | else-state-wire w ↦ (
-        ap (λ (s : ScratchState). s.marked) w.scratch-is
-            ∙ (c.loop-pin.invariant.0
-            ∙ filtered_range-skip holds first pin (first + pin) refl (test-at c.args.scratch.now.state _ first c.args.pattern.now pin false (c.state.ensures ∙ c.loop-pin.invariant.1) c.loop-pin-test.true w.if-state-wire.false)),
-        ap (λ (s : ScratchState). s.state) w.scratch-is ∙ c.loop-pin.invariant.1,
-        ap (λ (s : ScratchState). s.sorted) w.scratch-is ∙ c.loop-pin.invariant.2,
+      | else-state-wire w ↦ rw w.scratch-is (
+        c.loop-pin.invariant.0 ∙ filtered_range-skip holds first pin (first + pin) refl (at false (c.state.ensures ∙ c.loop-pin.invariant.1) c.loop-pin-test.true w.if-state-wire.false),
+        c.loop-pin.invariant.1,
+        c.loop-pin.invariant.2,
       )
     ]
 
