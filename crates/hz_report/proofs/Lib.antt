@@ -8,3 +8,7 @@ pub mod CycleLemmas
 pub mod ClassLemmas
 -- The words of outputs, and where their letters stand
 pub mod OutputLemmas
+-- Texts of parts: where each part stands, and what a text is once the middle of one is written over
+pub mod PartLemmas
+-- The lines and words that are kept, node by node, and what is written of them
+pub mod KeptLemmas
