@@ -5,7 +5,8 @@ ghost use Rattle.hz_report.specs.Kept.{IsKept};
 use hz_core::{Circuit, Memory};
 use std::alloc::Global;
 
-/// How many bytes stand between the name of a variable and the end of its line, if its row is a common one.
+/// How many bytes stand between the name of a variable and the end of its line, if its row is a
+/// common one.
 pub(crate) const COMMON: usize = 33;
 
 /// A text of parts, one a node, where each of them begins, and where the last one ends.
@@ -33,8 +34,10 @@ impl Parts {
 
     // Adds a part: what stands before a name, the name, and what stands after it.
     fn add(&mut self, before: &[u8], name: &[u8], after: &[u8]) -> Result<(), Memory>
-        ensures text { OnOk result (self.new.text.items ≡ self.old.text.items ++ (before.now ++ (name.now ++ after.now))) }
-        ensures begins { OnOk result (self.new.begins.items ≡ self.old.begins.items ++ length self.new.text.items ∷ []) }
+        ensures text { OnOk result
+            (self.new.text.items ≡ self.old.text.items ++ (before.now ++ (name.now ++ after.now))) }
+        ensures begins { OnOk result
+            (self.new.begins.items ≡ self.old.begins.items ++ length self.new.text.items ∷ []) }
     {
         let Ok(()) = self.text.extend_from_slice(before) else {
             return Err(Memory);

@@ -16,8 +16,8 @@ use hz_write::Writer;
 use std::alloc::Global;
 use std::marker::Model;
 
-/// What the lines of changes are made with: the network, which variables are shown, and for more than one change the lines that
-/// nearly all changes have in common, as a printer keeps them set.
+/// What the lines of changes are made with: the network, which variables are shown, and for more
+/// than one change the lines that nearly all changes have in common, as a printer keeps them set.
 ///
 /// Contracts see it as the circuit of the network and which variables are shown.
 #[derive(Drop)]
@@ -81,7 +81,8 @@ impl<'n> Plate<'n> {
     // Gives the value of each node at the start.
     pub(crate) fn write_start<K: Sink>(&mut self, writer: &mut Writer<'_, K>, start: &[bool])
         requires { length start.now ≡ length (network_of self.old.netlist) }
-        ensures gave { Writes K.output K.faults (start_line self.old.netlist start.now) writer.old writer.new }
+        ensures gave { Writes K.output K.faults
+            (start_line self.old.netlist start.now) writer.old writer.new }
         ensures none_waits { NoneWaits writer.new }
         ensures same { self.new ≡ self.old }
     {

@@ -37,7 +37,8 @@ pub(crate) fn write_rows<K: Sink>(writer: &mut Writer<'_, K>, net: &Net, rows: &
     }
 }
 
-// Gives the line of each node, most of them as lines that are kept, after the common rows are written over them.
+// Gives the line of each node, most of them as lines that are kept, after the common rows are
+// written over them.
 pub(crate) fn write_kept_rows<K: Sink>(
     writer: &mut Writer<'_, K>,
     net: &Net,
@@ -148,7 +149,8 @@ pub(crate) fn write_row<K: Sink>(writer: &mut Writer<'_, K>, net: &Net, var: u32
     writer.end();
 }
 
-// Gives a variable with a row that is not a common one. It is kept apart, so that `write_row` stays in its loop.
+// Gives a variable with a row that is not a common one. It is kept apart, so that `write_row` stays
+// in its loop.
 #[inline(never)]
 fn write_rare_row<K: Sink>(writer: &mut Writer<'_, K>, net: &Net, var: u32, row: Row)
     requires { var < length (network_of net.now) }
