@@ -11,6 +11,12 @@ _hazard_netlists() {
 
 _hazard() {
   local word=${COMP_WORDS[COMP_CWORD]} before=${COMP_WORDS[COMP_CWORD - 1]}
+  # bash makes three words of `--show=nodes`
+  if [[ $word == = ]]; then
+    word=
+  elif [[ $before == = ]]; then
+    before=${COMP_WORDS[COMP_CWORD - 2]}
+  fi
   case $before in
     --show) COMPREPLY=($(compgen -W 'nodes all' -- "$word")); return ;;
     --cap) COMPREPLY=(); return ;;

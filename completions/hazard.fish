@@ -2,7 +2,7 @@
 complete -c hazard -n '__fish_is_first_token' -f -a analyse -d 'analyse the changes of a script on a netlist'
 complete -c hazard -n '__fish_is_first_token' -f -a split -d 'look for two runs of an unsettled change that end differently'
 complete -c hazard -n '__fish_is_first_token' -f -a replay -d 'replay the runs of a run text on a netlist'
-complete -c hazard -n '__fish_is_first_token' -f -a convert -d 'write a run text as version 2'
+complete -c hazard -n '__fish_is_first_token' -f -a convert -d 'write a run text in format 2'
 complete -c hazard -n '__fish_is_first_token' -f -a vcd -d 'write the last run of a run text for a waveform viewer'
 complete -c hazard -n '__fish_is_first_token' -f -a batch -d 'analyse many patterns of inputs on a netlist'
 complete -c hazard -n '__fish_is_first_token' -f -a reset -d 'say what many patterns bring about from an unknown start'

@@ -359,12 +359,17 @@ COMMANDS = [
 ]
 
 
+# The first 24 bytes of names of 33 bytes that share the plain hash: the third block equals the state of the hasher, so its product is zero.
+COLLIDING = "iIxfjvsYoPef0VLDchaq2xkq"
+
+
 def hostile(most):
     """Texts as long as a file may be, each with what it is refused for, in which one thing is as large or as frequent as it can be."""
     pins = " ".join(f"p{number}" for number in range(256))
     wide = "".join("".join("01-"[(row * 7 + pin * pin + row * pin) % 3] for pin in range(255)) + "1 1\n" for row in range(256))
     return [
         ("names of inputs", ".inputs " + " ".join(f"{number:x}" for number in range(2_100_000)), ": variables 2100000"),
+        ("names chosen to collide", ".inputs " + " ".join(f"{COLLIDING}{number:08}x" for number in range(490_000)), ": variables 490000"),
         ("one cover of rows", ".inputs a\n.names a y\n" + "1 1\n" * 4_190_000, " line 2: pins 4190000"),
         ("constant covers", "".join(f".names x{number:07}\n" for number in range(most // 16)), None),
         ("covers of 256 pins and rows", f".inputs {pins}\n" + "".join(f".names {pins} y{number}\n{wide}" for number in range(240)), ": variables 12465616"),

@@ -23,8 +23,12 @@ def run(words, out):
     circuit = load(words.netlist)
     _warn(circuit)
     writer = _Writer(words, circuit, report.start, out)
+    is_started = False
     for statement in script.read(read_file(words.script)):
         edges = list(script.words_after(statement.comment, "clock"))
+        if edges and not is_started:
+            raise Failure(f"script line {statement.number}: an edge stands after the start", SCRIPT_FAULT)
+        is_started = is_started or statement.keyword == "start"
         if edges:
             writer.edge(statement, edges)
         elif statement.keyword == "change":

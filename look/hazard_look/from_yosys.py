@@ -10,16 +10,23 @@ import sys
 from . import netlist
 from .cells import GATES, expansion_of
 from .errors import DONE, NETLIST_FAULT, Failure, read_file
+from .start import line
 
 _NOT_IN_NAMES = re.compile(r"[^!-~]|[(),=#]")
+# What reading a part of another shape raises.
+_STRANGE = (AttributeError, IndexError, KeyError, TypeError, ValueError)
 # Cells that are no circuit.
 _SILENT = ("$scopeinfo",)
 
 
 def run(words, out):
     """Writes the netlist of a design to `out`, and the first line of a script to standard error."""
-    design = _Design(_module(words))
-    text = design.text()
+    module = _module(words)
+    try:
+        design = _Design(module)
+        text = design.text()
+    except _STRANGE as fault:
+        raise _not_a_design(words) from fault
     out.write(text)
     sys.stderr.write(design.start_line(netlist.read(text)) + "\n")
     return DONE
@@ -30,12 +37,16 @@ def _module(words):
     try:
         modules = json.loads(read_file(words.design))["modules"]
         tops = [name for name, module in modules.items() if int(module.get("attributes", {}).get("top", "0"), 2)]
-    except (ValueError, KeyError, TypeError, AttributeError) as fault:
-        raise Failure(f"{words.design}: not what `write_json` of yosys writes", NETLIST_FAULT) from fault
+    except _STRANGE as fault:
+        raise _not_a_design(words) from fault
     chosen = [words.top] if words.top else tops or list(modules)
     if len(chosen) != 1 or chosen[0] not in modules:
         raise Failure(f"{words.design}: name one of its modules by --top: {', '.join(modules)}", NETLIST_FAULT)
     return modules[chosen[0]]
+
+
+def _not_a_design(words):
+    return Failure(f"{words.design}: not what `write_json` of yosys writes", NETLIST_FAULT)
 
 
 class _Design:
@@ -146,12 +157,10 @@ class _Design:
             raise Failure("\n".join(self.faults), NETLIST_FAULT)
 
     def start_line(self, circuit):
-        """A script's first line: the inputs, the flip-flops and a node of each loop; `?` for what is not known."""
+        """A script's first line: the inputs, the flip-flops and a gate of each loop; `?` for what is not known."""
         known = {self.name_of.get(bit, bit): value for bit, value in self.initial.items()}
         known.update((name, bit) for bit, name in self.constants.items())
-        held = set(self.latches)
-        loops = [node for loop in circuit.loops() for node in [name for name in loop if name in held] or loop[:1]]
-        return "start" + "".join(f" {name}={known.get(name, '?')}" for name in circuit.inputs + loops)
+        return line(circuit, known, self.latches)
 
 
 def _bit_name(name, net, place):

@@ -51,16 +51,27 @@ class Netlist:
         read = {source for gate in self.gates for source in gate.sources} | {cut.data for cut in self.cuts}
         return [name for name in self.inputs if name not in read]
 
-    def loops(self):
-        """The components of feedback: the largest sets of gates in which each reaches each other."""
-        return [component for component in self._components()
+    def start_nodes(self, rank):
+        """The nodes that a start lists: the inputs, and gates of which each loop has one, so that all other gates follow from
+        them. Of the gates of a component the one with the least `rank` is listed, and then what still goes round is looked at
+        again. What goes round after many such looks is listed as a whole."""
+        listed, loops, looks = set(), self.loops(), 0
+        while loops:
+            looks += 1
+            listed.update(name for loop in loops for name in ([min(loop, key=rank)] if looks < _MOST_LOOKS else loop))
+            loops = self.loops(listed)
+        return self.inputs + [gate.name for gate in self.gates if gate.name in listed]
+
+    def loops(self, left_out=frozenset()):
+        """The components of feedback without some gates: the largest sets of gates in which each reaches each other."""
+        return [component for component in self._components(left_out)
                 if len(component) > 1 or component[0] in self.sources(component[0])]
 
-    def _components(self):
-        """The strongly connected components, by Tarjan's algorithm with a stack of its own."""
-        order, low, stack, found = {}, {}, [], []
+    def _components(self, left_out):
+        """The strongly connected components without some gates, by Tarjan's algorithm with a stack of its own."""
+        order, low, stack, found = {}, dict.fromkeys(left_out, _CLOSED), [], []
         for root in self.gate_of:
-            waiting = [] if root in order else [(root, iter(self.sources(root)))]
+            waiting = [] if root in order or root in left_out else [(root, iter(self.sources(root)))]
             if waiting:
                 order[root] = low[root] = len(order)
                 stack.append(root)
@@ -83,6 +94,8 @@ class Netlist:
         return found
 
 
+# How often the loops that are left are looked for, one gate of each being listed.
+_MOST_LOOKS = 30
 # The low number of a node whose component is complete: no node that is still open has it.
 _CLOSED = -1
 

@@ -343,10 +343,14 @@ function choose(some) {
   history.replaceState(null, "", `#${address}`);
 }
 
-/** The choices that the address asks for: change, node, run, step. Without a node it is the first hazard of the change. */
+/**
+ * The choices that the address asks for: change, node, run, step. Without a change it is the first one with a hazard, without a node
+ * the first hazard of the change.
+ */
 function asked() {
   const [number, name, run, step] = location.hash.slice(1).split("/");
-  const at = Math.min(Math.max(0, (number || 1) - 1), DATA.changes.length - 1);
+  const first = Math.max(0, DATA.changes.findIndex(change => (change.hazards ?? []).length));
+  const at = number ? Math.min(Math.max(0, number - 1), DATA.changes.length - 1) : first;
   const node = name ? DATA.names.indexOf(decodeURIComponent(name)) : (DATA.changes[at]?.hazards ?? [])[0];
   return { change: at, node: node > 0 ? node : 0, run: +run || 0, step: +step || 0 };
 }

@@ -5,7 +5,7 @@ import subprocess
 import tempfile
 
 from . import report
-from .errors import NO_PROGRAM, NOT_ACCEPTED, Failure
+from .errors import NO_PROGRAM, NOT_ACCEPTED, SCRIPT_FAULT, Failure
 
 VARIABLE = "HAZARD"
 
@@ -45,6 +45,15 @@ class Program:
             path = _write(folder, script)
             answer = self.analyse(netlist, path)
             return answer.start, list(answer.changes)
+
+    def must_read(self, netlist):
+        """Fails with the program's refusal unless it reads a netlist. A script that is none is only looked at after that."""
+        with tempfile.TemporaryDirectory() as folder:
+            try:
+                self.analyse(netlist, _write(folder, ""))
+            except Failure as failure:
+                if failure.status != SCRIPT_FAULT:
+                    raise
 
     def replay(self, netlist, run_text):
         """Whether the program accepts each run of a run text, and the line that it answers."""

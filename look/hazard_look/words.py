@@ -3,7 +3,7 @@ import argparse
 import os
 import sys
 
-from . import clock, expect, from_yosys, page, program, summary, why
+from . import clock, expect, from_yosys, page, program, start, summary, why
 from .errors import OUTPUT_FAILED, Failure
 
 ABOUT = """The companion of `hazard`: it shows what a circuit does, asks why, and keeps it as a test. Each value and class
@@ -37,6 +37,7 @@ def parser():
     """The parser of the words, with the help of each job."""
     top = argparse.ArgumentParser("hazard-look", description=ABOUT, epilog=STATUSES, allow_abbrev=False)
     jobs = top.add_subparsers(title="jobs", metavar="JOB", required=True)
+    _netlist_job(jobs, "start", start.run, "the first line of a script: what it has to list, with `?` for each bit")
     job = _job(jobs, "summary", summary.run, "a line for each change, and what each hazard means")
     job.add_argument("--only", metavar="NODE,..", help="speak of these nodes alone")
     job.add_argument("--all", action="store_true", help="speak of the nodes that are steady or single as well")
@@ -55,10 +56,16 @@ def parser():
 
 def _job(jobs, name, run, about):
     """A job that asks `hazard` about a netlist and a script."""
+    job = _netlist_job(jobs, name, run, about)
+    job.add_argument("script", metavar="SCRIPT")
+    return job
+
+
+def _netlist_job(jobs, name, run, about):
+    """A job that asks `hazard` about a netlist."""
     job = _plain_job(jobs, name, run, about)
     job.add_argument("--hazard", metavar="PROGRAM", help="the program to ask, else $HAZARD, else the one that is found")
     job.add_argument("netlist", metavar="NETLIST")
-    job.add_argument("script", metavar="SCRIPT")
     return job
 
 

@@ -190,7 +190,10 @@ def _refused(folder, run):
             json.dump(made, file)
         yield f"refused: {wanted[:40]}", run(["from-yosys", path], folder), (3, "", "hazard-look: " + wanted)
     two = {"modules": {"a": {"ports": {}, "cells": {}, "netnames": {}}, "b": {"ports": {}, "cells": {}, "netnames": {}}}}
-    for text, wanted in (("{", "not what `write_json` of yosys writes"), ("[]", "not what `write_json` of yosys writes"),
+    other = "not what `write_json` of yosys writes"
+    no_net = {"modules": {"a": {"ports": {"x": port("input", 2)}, "netnames": {}, "cells": {}}}}
+    lists = {"modules": {"a": {"ports": [], "netnames": {}, "cells": {}}}}
+    for text, wanted in (("{", other), ("[]", other), (json.dumps(no_net), other), (json.dumps(lists), other),
                          (json.dumps(two), "name one of its modules by --top: a, b")):
         path = os.path.join(folder, "f.json")
         with open(path, "w", encoding="utf-8") as file:

@@ -1,65 +1,63 @@
 -- Lanes that are loaded with patterns, one after the other.
-use Rattle.std.proofs.Common.{◌≡◌, ◌∙◌, sym, ap, subst, ℕ, ◌+◌, ◌-◌, ◌<◌, ◌≤◌, Bool, List, [], ◌∷◌, ◌++◌, length, map, take, drop, replicate, set, get_or, Option, Some, None, append_assoc, arith}
+use Rattle.std.proofs.Common.{◌≡◌, ◌∙◌, refl, sym, ap, ℕ, ◌+◌, ◌-◌, ◌*◌, ◌<◌, ◌≤◌, Bool, List, [], ◌∷◌, ◌++◌, length, map, take, drop, replicate, get_or, Option, Some, None, arith}
 use Rattle.std.specs.Prelude.{slice_get}
-use Rattle.std.specs.Option.{option_map}
-use Rattle.std.proofs.lemmas.List.{length-append, length-map, length-drop, length-take-le, map-append, replicate-append-replicate, set_at, take_more, get_or-drop, get_or_append_left, get_or-map, get_or-take}
-use Rattle.std.proofs.lemmas.Option.{get_or_from_slice_get, slice_get-get_or}
+use Rattle.std.specs.List.{flat_map, All}
+use Rattle.std.proofs.Math.Nat.{suc-mul, zero-mul}
+use Rattle.std.proofs.lemmas.List.Elements.{All-head, All-tail, All-take, All-drop}
+use Rattle.std.proofs.lemmas.List.{length-append, length-map, length-drop, length-take-le, get_or_append_left, get_or-map, get_or-take}
+use Rattle.std.proofs.lemmas.Option.{slice_get-get_or}
 use Rattle.hz_core.specs.Netlist.{Netlist, IsCircuit}
 use Rattle.hz_text.specs.PatternText.{ArePatternsFor, IsPatternOf}
-use Rattle.hz_text.specs.PatternValue.{PatternOf, PatternsOf}
+use Rattle.hz_text.specs.PatternValue.{PatternOf, PatternsOf, bits_of_pattern}
 use Rattle.hz_text.specs.Printed.{listed_from}
-use Rattle.hz_text.proofs.PatternPrintLemmas.{pattern_there}
-use Rattle.hz_plane.specs.declared.stage.Stage.TheVariants.{Loading}
-use Rattle.hz_plane.specs.Loads.{Loaded, listed_with}
-use Rattle.hz_plane.specs.View.{Seen}
+use Rattle.hz_text.proofs.PatternBuildLaws.{cut}
+use Rattle.hz_plane.specs.Loads.{Loaded, loads_in, block_loads}
 use Rattle.hz_batch.specs.Blocks.{load_of, lanes_with}
-use Rattle.hz_batch.specs.Outcome.{listing_of}
 use Rattle.hz_batch.proofs.HeldLemmas.{listing-loaded}
 
--- one lane more
-lanes-next : (held : List (Option Bool)) (before : List PatternOf) (pattern : PatternOf) → length before < 512 → set (lanes_with held before) (length before) (load_of held pattern) ≡ lanes_with held (before ++ pattern ∷ [])
-lanes-next held before pattern few =
-    let left = 512 - length (before ++ pattern ∷ []) in
-    let more : replicate (512 - length before) None ≡ None ∷ replicate left None = replicate-more (512 - length before) left (omega (arith, few, length-append before (pattern ∷ []))) in
-    let long : length (map (load_of held) before) ≡ length before = length-map before (load_of held) in
-    ap (λ (rest : List (Option Loaded)). set (map (load_of held) before ++ rest) (length before) (load_of held pattern)) more
-    ∙ (set_at (map (load_of held) before) None (replicate left None) (load_of held pattern) (length before) long
-    ∙ (sym (append_assoc (map (load_of held) before) (load_of held pattern ∷ []) (replicate left None))
-    ∙ ap (λ (list : List (Option Loaded)). list ++ replicate left None) (sym (map-append (load_of held) before (pattern ∷ [])))))
-  where
-    replicate-more : (n left : ℕ) → n ≡ left + 1 → ◌≡◌ {A = List (Option Loaded)} (replicate n None) (None ∷ replicate left None)
-    replicate-more n left is =
-        let none : Option Loaded = None in
-        let same : n ≡ 1 + left = omega (arith, is) in
-        ap (λ (m : ℕ). replicate m none) same ∙ sym (replicate-append-replicate 1 left none)
+-- so many patterns have two bits for each input
+bits-long : (inputs : ℕ) (patterns : List PatternOf) → All (IsPatternOf inputs) patterns → length (flat_map bits_of_pattern patterns) ≡ length patterns * (2 * inputs)
+bits-long inputs [] all = sym (zero-mul (2 * inputs))
+bits-long inputs (pattern ∷ patterns) all =
+    let this = All-head (IsPatternOf inputs) pattern patterns all in
+    let rest = bits-long inputs patterns (All-tail (IsPatternOf inputs) pattern patterns all) in
+    omega (arith, rest, this.from, this.to, length-append pattern.from pattern.to, length-append (bits_of_pattern pattern) (flat_map bits_of_pattern patterns), suc-mul (length patterns) (2 * inputs))
 
--- the pattern of a number
-pub pattern-at : (patterns : List PatternOf) (number : ℕ) (d : PatternOf) (from to : List Bool) → option_map (λ (pattern : PatternOf). pattern.from) (slice_get patterns number) ≡ Some from →
-    option_map (λ (pattern : PatternOf). pattern.to) (slice_get patterns number) ≡ Some to → get_or patterns number d ≡ record { from = from; to = to }
-pattern-at patterns number d from to f t = get_or_from_slice_get patterns number (record { from = from; to = to }) d (pattern_there patterns number from to f t)
+-- the patterns of a block
+block-patterns : (netlist : Netlist) (value : PatternsOf) (first lanes : ℕ) → ArePatternsFor netlist value → first + lanes ≤ length value.patterns → All (IsPatternOf netlist.inputs) (take lanes (drop first value.patterns))
+block-patterns netlist value first lanes for few =
+    All-take (IsPatternOf netlist.inputs) lanes (drop first value.patterns) (All-drop (IsPatternOf netlist.inputs) first value.patterns for.patterns)
 
--- a lane is loaded with the pattern of its number
-pub lane-loaded : (netlist : Netlist) (value : PatternsOf) (first lane : ℕ) (from to : List Bool) (pairs : List (ℕ × Bool)) (was planes now : Seen) → IsCircuit netlist → ArePatternsFor netlist value → lane < 512 → first + lane < length value.patterns →
-    option_map (λ (pattern : PatternOf). pattern.from) (slice_get value.patterns (first + lane)) ≡ Some from → option_map (λ (pattern : PatternOf). pattern.to) (slice_get value.patterns (first + lane)) ≡ Some to →
-    pairs ≡ listed_from 0 value.held → planes ≡ record was { stage = Loading; lanes = lanes_with value.held (take lane (drop first value.patterns)) } →
-    now ≡ record planes { lanes = set planes.lanes lane (Some (record { input = to; listed = listed_with (length netlist.names) from pairs })) } →
-    now ≡ record was { stage = Loading; lanes = lanes_with value.held (take (lane + 1) (drop first value.patterns)) }
-lane-loaded netlist value first lane from to pairs was planes now circuit for few inside f t held before is =
-    let pattern : PatternOf = record { from = from; to = to } in
-    let rest = drop first value.patterns in
-    let there : slice_get value.patterns (first + lane) ≡ Some pattern = pattern_there value.patterns (first + lane) from to f t in
-    let long : length from ≡ netlist.inputs = (subst (λ (p : PatternOf). IsPatternOf netlist.inputs p) (pattern-at value.patterns (first + lane) pattern from to f t) (for.patterns (first + lane) pattern inside)).from in
-    let listed : listed_with (length netlist.names) from pairs ≡ listing_of value.held pattern = rw held (listing-loaded netlist value pattern circuit for long) in
-    let within : lane < length rest = omega (arith, inside, length-drop first value.patterns) in
-    let count : length (take lane rest) ≡ lane = length-take-le lane rest (omega (arith, within)) in
-    let next : get_or rest lane pattern ≡ pattern = get_or-drop first value.patterns lane pattern ∙ get_or_from_slice_get value.patterns (first + lane) pattern pattern there in
-    let more : take (lane + 1) rest ≡ take lane rest ++ pattern ∷ [] = take_more rest lane pattern within ∙ ap (λ (p : PatternOf). take lane rest ++ p ∷ []) next in
-    let lanes : set (lanes_with value.held (take lane rest)) lane (load_of value.held pattern) ≡ lanes_with value.held (take (lane + 1) rest) =
-    ap (λ (n : ℕ). set (lanes_with value.held (take lane rest)) n (load_of value.held pattern)) (sym count)
-    ∙ (lanes-next value.held (take lane rest) pattern (omega (arith, few, count)) ∙ ap (lanes_with value.held) (sym more)) in
-    is ∙ (ap (λ (seen : Seen). record seen { lanes = set seen.lanes lane (Some (record { input = to; listed = listed_with (length netlist.names) from pairs })) }) before
-    ∙ (ap (λ (listing : List (Option Bool)). record was { stage = Loading; lanes = set (lanes_with value.held (take lane rest)) lane (Some (record { input = to; listed = listing })) }) listed
-    ∙ ap (λ (list : List (Option Loaded)). record was { stage = Loading; lanes = list }) lanes))
+block-long : (value : PatternsOf) (first lanes : ℕ) → first + lanes ≤ length value.patterns → length (take lanes (drop first value.patterns)) ≡ lanes
+block-long value first lanes few = length-take-le lanes (drop first value.patterns) (omega (arith, few, length-drop first value.patterns))
+
+pub block-bits : (netlist : Netlist) (value : PatternsOf) (first lanes : ℕ) → ArePatternsFor netlist value → first + lanes ≤ length value.patterns →
+    length (flat_map bits_of_pattern (take lanes (drop first value.patterns))) ≡ lanes * (2 * netlist.inputs)
+block-bits netlist value first lanes for few =
+    bits-long netlist.inputs (take lanes (drop first value.patterns)) (block-patterns netlist value first lanes for few)
+    ∙ ap (λ (n : ℕ). n * (2 * netlist.inputs)) (block-long value first lanes few)
+
+-- lanes that are loaded from the bits of patterns
+loads-are : (netlist : Netlist) (value : PatternsOf) (patterns : List PatternOf) → IsCircuit netlist → ArePatternsFor netlist value → All (IsPatternOf netlist.inputs) patterns →
+    loads_in (length netlist.names) netlist.inputs (listed_from 0 value.held) (length patterns) (flat_map bits_of_pattern patterns) ≡ map (load_of value.held) patterns
+loads-are netlist value [] circuit for all = refl
+loads-are netlist value (pattern ∷ patterns) circuit for all =
+    let inputs = netlist.inputs in
+    let this = All-head (IsPatternOf inputs) pattern patterns all in
+    let parts = cut inputs pattern.from pattern.to (flat_map bits_of_pattern patterns) this.from this.to in
+    let listed = listing-loaded netlist value pattern circuit for this.from in
+    let rest = loads-are netlist value patterns circuit for (All-tail (IsPatternOf inputs) pattern patterns all) in
+    rw (parts.from, parts.to, parts.later, listed, rest) refl
+
+-- the lanes of a block
+pub block-loaded : (netlist : Netlist) (value : PatternsOf) (first lanes : ℕ) → IsCircuit netlist → ArePatternsFor netlist value → first + lanes ≤ length value.patterns →
+    block_loads (length netlist.names) netlist.inputs (listed_from 0 value.held) lanes (flat_map bits_of_pattern (take lanes (drop first value.patterns))) ≡ lanes_with value.held (take lanes (drop first value.patterns))
+block-loaded netlist value first lanes circuit for few =
+    let block = take lanes (drop first value.patterns) in
+    let is = loads-are netlist value block circuit for (block-patterns netlist value first lanes for few) in
+    let long = block-long value first lanes few in
+    ap (λ (n : ℕ). loads_in (length netlist.names) netlist.inputs (listed_from 0 value.held) n (flat_map bits_of_pattern block) ++ replicate (512 - n) None) (sym long)
+    ∙ ap (λ (loads : List (Option Loaded)). loads ++ replicate (512 - length block) None) is
 
 -- what a lane of a block holds
 pub lane-holds : (held : List (Option Bool)) (block : List PatternOf) (lane : ℕ) (d : PatternOf) → lane < length block → slice_get (lanes_with held block) lane ≡ Some (load_of held (get_or block lane d))

@@ -2,6 +2,8 @@
 pub mod HeldLemmas
 -- Values of variables in all lanes, as they are kept one after the other
 pub mod ColumnLemmas
+-- Values in four lanes, looked up by the bits of both planes
+pub mod FourLemmas
 -- The line of a lane, output by output
 pub mod LineLemmas
 -- What a lane comes to

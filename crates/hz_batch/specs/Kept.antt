@@ -6,11 +6,15 @@ use Rattle.hz_plane.specs.declared.stage.Stage.TheVariants.{Settled as AllSettle
 use Rattle.hz_plane.specs.Loads.{Loaded}
 use Rattle.hz_batch.specs.declared.columns.Columns.{Columns}
 use Rattle.hz_batch.specs.Columns.{AreColumns}
+use Rattle.hz_batch.specs.Fours.{IsTable}
 
--- there are two columns for each output
+-- there are two columns for each output, room for their values in four lanes, and the table by which these are looked up
 pub record AreColumnsFor (netlist : Netlist) (columns : Columns) : Type 0 where
   pub firsts : length columns.firsts.items ≡ length netlist.outputs
   pub seconds : length columns.seconds.items ≡ length netlist.outputs
+  pub first_fours : length columns.first_fours.items ≡ length netlist.outputs
+  pub second_fours : length columns.second_fours.items ≡ length netlist.outputs
+  pub table : IsTable columns.table.items
 
 -- the values of the outputs at a stage, and once the planes are settled
 pub record HoldBoth (netlist : Netlist) (stage : Stage) (lanes : List (Option Loaded)) (columns : Columns) : Type 0 where

@@ -25,6 +25,7 @@ pub mod Laws
 pub mod Held
 pub mod Counts
 pub mod Columns
+pub mod Fours
 pub mod Kept
 pub mod Lines
 pub mod Inside

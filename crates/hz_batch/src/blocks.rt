@@ -15,7 +15,7 @@ ghost use Rattle.hz_batch.specs.Laws.{AreLaws};
 ghost use Rattle.hz_batch.specs.Outcome.{Outcome};
 ghost use Rattle.hz_batch.specs.Written.{AreWritten};
 
-use crate::columns::{Columns, keep_values};
+use crate::columns::{Columns, keep_values, look_up};
 use crate::counts::Counts;
 use crate::job::Job;
 use crate::lanes::{Lane, write_lane};
@@ -60,7 +60,8 @@ pub(crate) fn write_blocks<K: Sink>(
     requires room { IsRoomFor work.now.net.now room.old }
     requires counts { room.old.counts ≡ no_counts }
     ensures gave { (outcomes : List Outcome)
-        × AreEach (comes_to work.now.job work.now.net.now work.now.patterns.now.held) work.now.patterns.now.patterns outcomes
+        × AreEach (comes_to work.now.job work.now.net.now work.now.patterns.now.held)
+        work.now.patterns.now.patterns outcomes
         × Writes K.output K.faults (outcome_lines work.now.net.now 1 outcomes) writer.old writer.new
         × (has_failed writer.new ≡ false → AddsCounts outcomes no_counts room.new.counts) }
     ensures planes { has_failed writer.new ≡ false
@@ -92,12 +93,14 @@ fn write_block<K: Sink>(
     requires counts { AreWithin first room.old.counts }
     ensures room { IsRoomFor work.now.net.now room.new }
     ensures gave { AreWritten K.output K.faults work.now.net.now
-        (comes_to work.now.job work.now.net.now work.now.patterns.now.held) (take 512 (drop first work.now.patterns.now.patterns))
+        (comes_to work.now.job work.now.net.now work.now.patterns.now.held)
+        (take 512 (drop first work.now.patterns.now.patterns))
         (first + 1) writer.old writer.new room.old.counts room.new.counts }
     ensures planes { planes.new ≡ record planes.old {
       stage = Settled;
       settles = min (planes.old.settles + 1) (2 ^ 64 - 1);
-      lanes = lanes_with (held_by work.now.job work.now.patterns.now.held) (take 512 (drop first work.now.patterns.now.patterns));
+      lanes = lanes_with (held_by work.now.job work.now.patterns.now.held)
+          (take 512 (drop first work.now.patterns.now.patterns));
     } }
 {
     let lanes = (work.patterns.count() - first).min(BLOCK) as u32;
@@ -117,33 +120,25 @@ fn load(work: &Work<'_>, first: usize, lanes: u32, planes: &mut Planes)
     requires net { AreOf work.now.net.now planes.old }
     ensures { planes.new ≡ record planes.old {
       stage = Loading;
-      lanes = lanes_with (held_by work.now.job work.now.patterns.now.held) (take lanes (drop first work.now.patterns.now.patterns));
+      lanes = lanes_with (held_by work.now.job work.now.patterns.now.held)
+          (take lanes (drop first work.now.patterns.now.patterns));
     } }
 {
     let _variables = work.net.len();
-    planes.clear();
-    for lane in 0..lanes {
-        let number = first + lane as usize;
-        planes.load_held(
-            work.net,
-            lane,
-            work.patterns.to(number),
-            work.patterns.from(number),
-            work.held,
-        );
-    }
+    let bits = work.patterns.bits(first, lanes as usize);
+    planes.load_block(work.net, lanes, bits, work.held);
 }
 
-// Makes Algorithm A, and keeps the first values of the outputs: those that it comes to, or where nothing is known of a start
-// those that the first bits bring about, before it.
+// Makes Algorithm A, and keeps the first values of the outputs: those that it comes to, or if
+// nothing is known of a start those that the first bits bring about, before it.
 fn spread_and_keep(work: &Work<'_>, planes: &mut Planes, columns: &mut [LaneValues])
     requires net { AreOf work.now.net.now planes.old }
     requires stage { planes.old.stage ≡ Completed }
     requires count { length columns.old ≡ length work.now.net.now.outputs }
     ensures planes { planes.new ≡ record planes.old { stage = Spread } }
     ensures count { length columns.new ≡ length columns.old }
-    ensures columns { AreColumns work.now.net.now (kept_at work.now.job) planes.old.lanes work.now.net.now.outputs
-        columns.new }
+    ensures columns { AreColumns work.now.net.now (kept_at work.now.job) planes.old.lanes
+        work.now.net.now.outputs columns.new }
 {
     match work.job {
         Job::Batch => {
@@ -172,17 +167,21 @@ fn write_lanes<K: Sink>(
     requires last { first + lanes ≤ length work.now.patterns.now.patterns }
     requires net { AreOf work.now.net.now planes.now }
     requires stage { planes.now.stage ≡ Settled }
-    requires loaded { planes.now.lanes ≡ lanes_with (held_by work.now.job work.now.patterns.now.held)
+    requires loaded { planes.now.lanes ≡ lanes_with
+        (held_by work.now.job work.now.patterns.now.held)
         (take lanes (drop first work.now.patterns.now.patterns)) }
-    requires columns { HoldBoth work.now.net.now (kept_at work.now.job) planes.now.lanes room.old.columns }
+    requires columns { HoldBoth work.now.net.now (kept_at work.now.job) planes.now.lanes
+        room.old.columns }
     requires room { IsRoomFor work.now.net.now room.old }
     requires counts { AreWithin first room.old.counts }
     ensures room { IsRoomFor work.now.net.now room.new }
     ensures gave { AreWritten K.output K.faults work.now.net.now
-        (comes_to work.now.job work.now.net.now work.now.patterns.now.held) (take lanes (drop first work.now.patterns.now.patterns))
+        (comes_to work.now.job work.now.net.now work.now.patterns.now.held)
+        (take lanes (drop first work.now.patterns.now.patterns))
         (first + 1) writer.old writer.new room.old.counts room.new.counts }
 {
     for lane in 0..lanes {
+        look_up(work.net, &mut room.columns, lane);
         let at = Lane {
             lane,
             number: first as u32 + lane + 1,

@@ -60,7 +60,8 @@ impl Counts {
     // Gives the last line, of so many patterns.
     pub(crate) fn write<K: Sink>(self, writer: &mut Writer<'_, K>, job: Job, patterns: usize)
         ensures gave { Writes K.output K.faults
-            (last_line job patterns self.open_starts self.unstable_starts self.unsettled) writer.old writer.new }
+            (last_line job patterns self.open_starts self.unstable_starts self.unsettled)
+            writer.old writer.new }
         ensures none_waits { NoneWaits writer.new }
     {
         match job {
@@ -73,7 +74,8 @@ impl Counts {
     #[tactic(auto, using(hz_write::proofs::Writers::writes_same), unfolding(crate::specs::BatchText::counts_line, hz_write::specs::Writes::line_of))]
     fn write_counts<K: Sink>(self, writer: &mut Writer<'_, K>, patterns: usize)
         ensures gave { Writes K.output K.faults
-            (counts_line patterns self.open_starts self.unstable_starts self.unsettled) writer.old writer.new }
+            (counts_line patterns self.open_starts self.unstable_starts self.unsettled)
+            writer.old writer.new }
         ensures none_waits { NoneWaits writer.new }
     {
         writer.line(&[
@@ -90,7 +92,8 @@ impl Counts {
     // Gives the line of what stayed X.
     #[tactic(auto, using(hz_write::proofs::Writers::writes_same), unfolding(crate::specs::ResetText::unknown_line, hz_write::specs::Writes::line_of))]
     fn write_unknown<K: Sink>(self, writer: &mut Writer<'_, K>, patterns: usize)
-        ensures gave { Writes K.output K.faults (unknown_line patterns self.unsettled) writer.old writer.new }
+        ensures gave { Writes K.output K.faults (unknown_line patterns self.unsettled)
+            writer.old writer.new }
         ensures none_waits { NoneWaits writer.new }
     {
         writer.line(&[

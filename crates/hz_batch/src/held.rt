@@ -8,8 +8,8 @@ use crate::job::Job;
 use hz_core::Memory;
 use std::alloc::Global;
 
-// The gates that are held at the start of each pattern. From a start of which nothing else is known the first bits make no
-// difference of them: Algorithm A makes every variable X.
+// The gates that are held at the start of each pattern. From a start of which nothing else is known
+// the first bits make no difference of them: Algorithm A makes every variable X.
 pub(crate) fn held_at_start(
     alloc: Global,
     job: Job,
@@ -24,7 +24,8 @@ pub(crate) fn held_at_start(
     }
 }
 
-// The gates that are held, with their bits, in the order of the nodes. There is an entry for each node.
+// The gates that are held, with their bits, in the order of the nodes. There is an entry for each
+// node.
 fn held_gates(alloc: Global, held: &[Option<bool>]) -> Result<Vec<(u32, bool)>, Memory>
     requires { length held.now < 2 ^ 32 }
     ensures { IfOk result (λ gates. gates.items ≡ listed_from 0 held.now) }

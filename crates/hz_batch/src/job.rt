@@ -5,6 +5,6 @@
 pub(crate) enum Job {
     /// Its first bits and the held gates give a start, and its second bits are a change from there.
     Batch,
-    /// Its first bits are applied where nothing is known but the held gates, and then its second bits.
+    /// Its first bits are applied if nothing is known but the held gates, and then its second bits.
     Reset,
 }

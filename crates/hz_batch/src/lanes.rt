@@ -1,5 +1,5 @@
 //! The line of a lane.
-ghost use Rattle.std.specs.Prelude.{◌≡◌, ◌<◌, List, length, slice_get, Some};
+ghost use Rattle.std.specs.Prelude.{◌≡◌, ◌<◌, ◌*◌, ◌/◌, List, length, slice_get, Some};
 ghost use Rattle.hz_core.specs.declared.tri.Tri.{Tri};
 ghost use Rattle.hz_net.specs.Network.{network_of};
 ghost use Rattle.hz_net.specs.TernaryStarts.{SettlesTo};
@@ -17,6 +17,7 @@ ghost use Rattle.hz_batch.specs.Blocks.{load_of};
 ghost use Rattle.hz_batch.specs.Columns.{HasColumns};
 ghost use Rattle.hz_batch.specs.Comes.{comes_to, held_by, kept_at};
 ghost use Rattle.hz_batch.specs.Counts.{IsMarkOf, settled_mark};
+ghost use Rattle.hz_batch.specs.Fours.{ShowFour};
 ghost use Rattle.hz_batch.specs.Inside.{IsWork};
 ghost use Rattle.hz_batch.specs.Kept.{AreColumnsFor, HoldBoth};
 ghost use Rattle.hz_batch.specs.Laws.{AreLaws};
@@ -49,15 +50,21 @@ pub(crate) fn write_lane<K: Sink>(
     requires net { AreOf work.now.net.now planes.now }
     requires stage { planes.now.stage ≡ Settled }
     requires lane { at.lane < 512 }
-    requires loaded { (loaded : Loaded) × (slice_get planes.now.lanes at.lane ≡ Some (Some loaded)) }
-    requires columns { HoldBoth work.now.net.now (kept_at work.now.job) planes.now.lanes columns.now }
+    requires loaded { (loaded : Loaded)
+        × (slice_get planes.now.lanes at.lane ≡ Some (Some loaded)) }
+    requires columns { HoldBoth work.now.net.now (kept_at work.now.job) planes.now.lanes
+        columns.now }
+    requires shown { ShowFour (at.lane / 4 * 4) columns.now }
     requires line { IsLineFor work.now.net.now line.old }
     ensures line { IsLineFor work.now.net.now line.new }
     ensures gave { (pattern : PatternOf) → IsPatternOf work.now.net.now.inputs pattern
-        → slice_get planes.now.lanes at.lane ≡ Some (load_of (held_by work.now.job work.now.patterns.now.held) pattern)
+        → slice_get planes.now.lanes at.lane
+        ≡ Some (load_of (held_by work.now.job work.now.patterns.now.held) pattern)
         → (outcome : Outcome)
-        × comes_to work.now.job work.now.net.now work.now.patterns.now.held pattern outcome × IsMarkOf outcome result
-        × Writes K.output K.faults (outcome_line work.now.net.now at.number outcome) writer.old writer.new }
+        × comes_to work.now.job work.now.net.now work.now.patterns.now.held pattern outcome
+        × IsMarkOf outcome result
+        × Writes K.output K.faults (outcome_line work.now.net.now at.number outcome)
+        writer.old writer.new }
     ensures none_waits { NoneWaits writer.new }
 {
     let _variables = work.net.len();
@@ -67,7 +74,8 @@ pub(crate) fn write_lane<K: Sink>(
     }
 }
 
-// Gives the line of a lane that lists a start: the gate for which the start is refused, or what both algorithms come to.
+// Gives the line of a lane that lists a start: the gate for which the start is refused, or what
+// both algorithms come to.
 fn write_outcome<K: Sink>(
     writer: &mut Writer<'_, K>,
     net: &Net,
@@ -81,12 +89,15 @@ fn write_outcome<K: Sink>(
     requires net { AreOf net.now planes.now }
     requires stage { planes.now.stage ≡ Settled }
     requires lane { at.lane < 512 }
-    requires loaded { (loaded : Loaded) × (slice_get planes.now.lanes at.lane ≡ Some (Some loaded)) }
+    requires loaded { (loaded : Loaded)
+        × (slice_get planes.now.lanes at.lane ≡ Some (Some loaded)) }
     requires columns { HoldBoth net.now Spread planes.now.lanes columns.now }
+    requires shown { ShowFour (at.lane / 4 * 4) columns.now }
     requires line { IsLineFor net.now line.old }
     ensures line { IsLineFor net.now line.new }
     ensures gave { (loaded : Loaded) → slice_get planes.now.lanes at.lane ≡ Some (Some loaded)
-        → (outcome : Outcome) × IsOutcome net.now loaded.listed loaded.input outcome × IsMarkOf outcome result
+        → (outcome : Outcome) × IsOutcome net.now loaded.listed loaded.input outcome
+        × IsMarkOf outcome result
         × Writes K.output K.faults (outcome_line net.now at.number outcome) writer.old writer.new }
     ensures none_waits { NoneWaits writer.new }
 {
@@ -108,7 +119,8 @@ fn write_outcome<K: Sink>(
     }
 }
 
-// Gives the line of a lane that lists the inputs alone: what the first bits bring about, and what that settles to.
+// Gives the line of a lane that lists the inputs alone: what the first bits bring about, and what
+// that settles to.
 fn write_values<K: Sink>(
     writer: &mut Writer<'_, K>,
     net: &Net,
@@ -121,12 +133,16 @@ fn write_values<K: Sink>(
     requires stage { planes.now.stage ≡ Settled }
     requires lane { at.lane < 512 }
     requires columns { HoldBoth net.now Completed planes.now.lanes columns.now }
+    requires shown { ShowFour (at.lane / 4 * 4) columns.now }
     requires line { IsLineFor net.now line.old }
     ensures line { IsLineFor net.now line.new }
-    ensures gave { (loaded : Loaded) (first settled : List Tri) → slice_get planes.now.lanes at.lane ≡ Some (Some loaded)
-        → IsFilledStart net.now loaded.listed first → SettlesTo (network_of net.now) loaded.input first settled
+    ensures gave { (loaded : Loaded) (first settled : List Tri)
+        → slice_get planes.now.lanes at.lane ≡ Some (Some loaded)
+        → IsFilledStart net.now loaded.listed first
+        → SettlesTo (network_of net.now) loaded.input first settled
         → IsMarkOf (Outcome.Settled first settled) result
-        × Writes K.output K.faults (outcome_line net.now at.number (Outcome.Settled first settled)) writer.old writer.new }
+        × Writes K.output K.faults (outcome_line net.now at.number (Outcome.Settled first settled))
+        writer.old writer.new }
     ensures none_waits { NoneWaits writer.new }
 {
     let _variables = net.len();
@@ -153,7 +169,8 @@ fn write_refused<'p, K: Sink>(
     gate: u32,
 )
     requires { gate < length circuit.now.names }
-    ensures gave { Writes K.output K.faults (refused_line circuit.now number word.now gate) writer.old writer.new }
+    ensures gave { Writes K.output K.faults (refused_line circuit.now number word.now gate)
+        writer.old writer.new }
     ensures none_waits { NoneWaits writer.new }
 {
     writer.line(&[Number(number), Text(word), Text(circuit.name(gate))]);
@@ -163,15 +180,18 @@ fn write_refused<'p, K: Sink>(
 fn set_line(net: &Net, columns: &Columns, lane: u32, line: &mut OutputLine<'_>)
     requires lane { lane < 512 }
     requires columns { AreColumnsFor net.now columns.now }
+    requires shown { ShowFour (lane / 4 * 4) columns.now }
     requires line { IsLineFor net.now line.old }
     ensures line { IsLineFor net.now line.new }
     ensures values { (a b : List Tri) → HasColumns net.now.outputs columns.now.firsts.items lane a
-        → HasColumns net.now.outputs columns.now.seconds.items lane b → line.new.values ≡ output_values net.now a b }
+        → HasColumns net.now.outputs columns.now.seconds.items lane b
+        → line.new.values ≡ output_values net.now a b }
 {
-    let firsts = columns.firsts.as_slice();
-    let seconds = columns.seconds.as_slice();
+    let firsts = columns.first_fours.as_slice();
+    let seconds = columns.second_fours.as_slice();
+    let nth = (lane % 4) as usize;
     for place in 0..net.circuit().outputs().len() {
-        line.set(place, firsts[place].get(lane), seconds[place].get(lane));
+        line.set(place, firsts[place][nth], seconds[place][nth]);
     }
 }
 

@@ -1,15 +1,17 @@
 //! Patterns of a circuit, 512 at a time: the line of each, and how many there are of each kind.
 //!
-//! A pattern begins at the start that its first bits and the held gates give ([`batch`]), or at the start of which nothing else
-//! is known ([`reset`]). Planes that list the first bits alone hold what these bring about from there.
+//! A pattern begins at the start that its first bits and the held gates give ([`batch`]), or at the
+//! start of which nothing else is known ([`reset`]). Planes that list the first bits alone hold
+//! what these bring about from there.
 //!
 //! | Module | What lives in it |
 //! |---|---|
 //! | `writing` | [`batch`] and [`reset`]: block after block, and the last line |
 //! | `job` | which of both is made |
-//! | `blocks` | a block: its lanes are loaded, all passes are made, and the line of each lane is written |
+//! | `blocks` | a block: it is loaded, all passes are made, and the line of each lane is written |
 //! | `lanes` | the line of a lane |
 //! | `columns` | the first and the second values of the outputs, as they are kept for all lanes |
+//! | `fours` | their values in four lanes, which are looked up together |
 //! | `held` | the gates that are held at the start |
 //! | `counts` | what is counted |
 //! | `fault` | [`BatchFault`]: why the text was not written |
@@ -19,6 +21,7 @@ mod blocks;
 mod columns;
 mod counts;
 mod fault;
+mod fours;
 mod held;
 mod job;
 mod lanes;

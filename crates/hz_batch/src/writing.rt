@@ -15,7 +15,7 @@ ghost use Rattle.hz_batch.specs.ResetText.{IsResetText};
 ghost use Rattle.hz_batch.specs.Blocks.{without_held};
 
 use crate::blocks::{Room, Work, write_blocks};
-use crate::columns::Columns;
+use crate::columns::columns_for;
 use crate::counts::Counts;
 use crate::fault::BatchFault;
 use crate::held::held_at_start;
@@ -24,7 +24,7 @@ use hz_core::Memory;
 use hz_net::Net;
 use hz_outside::{PutFault, Sink};
 use hz_pass::starts_are_decided;
-use hz_plane::{LaneValues, Planes, listed_inputs_fill};
+use hz_plane::{Planes, listed_inputs_fill};
 use hz_reach::passes_end;
 use hz_report::OutputLine;
 use hz_reset::{held_is_forgotten, values_exist};
@@ -32,7 +32,8 @@ use hz_text::Patterns;
 use hz_write::Writer;
 use std::alloc::Global;
 
-/// Writes the line of each pattern, and then how many there are of each kind. The planes are those of the network.
+/// Writes the line of each pattern, and then how many there are of each kind. The planes are those
+/// of the network.
 pub fn batch<K: Sink>(
     alloc: Global,
     net: &Net,
@@ -45,7 +46,8 @@ pub fn batch<K: Sink>(
     ensures wrote { (text : List ℕ) × IsBatchText net.now patterns.now text
         × WroteBatch K.output K.faults text out.old out.new result }
     ensures planes { OnOk result
-        (planes.new ≡ planes_after patterns.now planes.old (block_count (length patterns.now.patterns))) }
+        (planes.new ≡ planes_after patterns.now planes.old
+        (block_count (length patterns.now.patterns))) }
 {
     match write_text(alloc, net, patterns, Job::Batch, planes, out) {
         Ok(()) => Ok(()),
@@ -54,8 +56,8 @@ pub fn batch<K: Sink>(
     }
 }
 
-/// Writes for each pattern what its bits bring about where nothing is known of a start but the held gates, and then for how
-/// many patterns some variable stays X. The planes are those of the network.
+/// Writes for each pattern what its bits bring about if nothing is known of a start but the held
+/// gates, and then for how many patterns some variable stays X. The planes are those of the network.
 pub fn reset<K: Sink>(
     alloc: Global,
     net: &Net,
@@ -68,7 +70,8 @@ pub fn reset<K: Sink>(
     ensures wrote { (text : List ℕ) × IsResetText net.now patterns.now text
         × WroteBatch K.output K.faults text out.old out.new result }
     ensures planes { OnOk result
-        (planes.new ≡ planes_after (without_held patterns.now) planes.old (block_count (length patterns.now.patterns))) }
+        (planes.new ≡ planes_after (without_held patterns.now) planes.old
+        (block_count (length patterns.now.patterns))) }
 {
     match write_text(alloc, net, patterns, Job::Reset, planes, out) {
         Ok(()) => Ok(()),
@@ -91,7 +94,8 @@ fn write_text<K: Sink>(
     ensures wrote { (text : List ℕ) × IsTextOf job net.now patterns.now text
         × Wrote K.output K.faults text out.old out.new result }
     ensures planes { OnOk result
-        (planes.new ≡ planes_after (loaded_by job patterns.now) planes.old (block_count (length patterns.now.patterns))) }
+        (planes.new ≡ planes_after (loaded_by job patterns.now) planes.old
+        (block_count (length patterns.now.patterns))) }
 {
     laws_hold();
     let _variables = net.len();
@@ -112,7 +116,8 @@ fn write_text<K: Sink>(
     writer.finish()
 }
 
-// Every pattern comes to something, and planes that list the inputs alone hold what these bring about.
+// Every pattern comes to something, and planes that list the inputs alone hold what these bring
+// about.
 fn laws_hold()
     ensures { AreLaws }
 {
@@ -130,15 +135,10 @@ fn room_for<'n>(alloc: Global, net: &'n Net) -> Result<Room<'n>, Memory>
 {
     let circuit = net.circuit();
     let line = OutputLine::new(alloc, circuit)?;
-    let none = LaneValues {
-        zero: [0; 8],
-        one: [0; 8],
-    };
-    let firsts = vec![in alloc; none; circuit.outputs().len()]?;
-    let seconds = vec![in alloc; none; circuit.outputs().len()]?;
+    let columns = columns_for(alloc, circuit)?;
     Ok(Room {
         line,
-        columns: Columns { firsts, seconds },
+        columns,
         counts: Counts::new(),
     })
 }
@@ -155,7 +155,8 @@ fn write_all<K: Sink>(
     requires net { AreOf work.now.net.now planes.old }
     requires room { IsRoomFor work.now.net.now room.old }
     requires counts { room.old.counts ≡ no_counts }
-    ensures gave { (text : List ℕ) × IsTextOf work.now.job work.now.net.now work.now.patterns.now text
+    ensures gave { (text : List ℕ)
+        × IsTextOf work.now.job work.now.net.now work.now.patterns.now text
         × Writes K.output K.faults text writer.old writer.new }
     ensures planes { has_failed writer.new ≡ false
         → planes.new ≡ planes_after (loaded_by work.now.job work.now.patterns.now) planes.old

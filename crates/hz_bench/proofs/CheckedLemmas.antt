@@ -9,26 +9,23 @@ use Rattle.std.proofs.lemmas.List.{append-nil}
 use Rattle.std.proofs.lemmas.List.Folds.{list_any-append}
 use Rattle.std.proofs.lemmas.Slice.Eq.{bytes_eq-Decides}
 use Rattle.hz_line.specs.Statement.{Numbered}
+use Rattle.hz_netlist.specs.Build.{Apart, AreKnown}
+use Rattle.hz_netlist.proofs.Tests.{either, not-false, same_name}
 use Rattle.hz_bench.specs.declared.fault.BenchFault.{BenchFault}
 use Rattle.hz_bench.specs.declared.fault.BenchFault.TheVariants as fault
 use Rattle.hz_bench.specs.Check.{uses_undefined, first_that, fault_or, too_many_fault, first_fault}
 use Rattle.hz_bench.specs.Definition.{defines, definer, defined_names}
 use Rattle.hz_bench.specs.Netlist.{input_names, cut_names, gate_names, all_inputs, node_names}
 use Rattle.hz_bench.specs.Statement.{Statement, Input, Output, FlipFlop, Gate, defined_name, used_names, has_long_name, has_unknown_kind, has_wrong_pins, statement_pin_count}
-use Rattle.hz_bench.specs.Text.{variable_total, variable_total_among}
+use Rattle.hz_bench.specs.Text.{variable_total, variable_total_among, plain}
 use Rattle.hz_bench.specs.Twice.{twice_or, earlier_line, twice_after, twice_fault}
-use Rattle.hz_bench.proofs.DefinitionLemmas.{plain, definer-cons, defined_names-push}
+use Rattle.hz_bench.proofs.DefinitionLemmas.{definer-cons, defined_names-push}
 use Rattle.hz_bench.proofs.NoteLemmas.{variable_total-statements}
 use Rattle.hz_core.specs.Limits.{most_variables}
 
--- the names are new where they come: none is among these or among those before it
-abbrev pub Apart : List (List ℕ) → List (List ℕ) → Type 0
-Apart names [] = Unit {0}
-Apart names (name ∷ rest) = (list_any (bytes_eq name) names ≡ false) × Apart (names ++ name ∷ []) rest
-
 -- the names that statements use are among these
-abbrev pub UsesKnown : List (List ℕ) → Statement → Type 0
-UsesKnown names statement = AllByRecursion (λ name. list_any (bytes_eq name) names ≡ true) (used_names statement)
+abbrev pub UsesNames : List (List ℕ) → Statement → Type 0
+UsesNames names statement = AreKnown names (used_names statement)
 
 -- what the check has shown of statements
 pub record IsChecked (statements : List Statement) : Type 0 where
@@ -38,7 +35,7 @@ pub record IsChecked (statements : List Statement) : Type 0 where
   pub cuts_apart : Apart (input_names statements) (cut_names statements)
   pub gates_apart : Apart (all_inputs statements) (gate_names statements)
   pub pins : AllByRecursion (λ statement. has_wrong_pins statement ≡ false) statements
-  pub defined : AllByRecursion (UsesKnown (node_names statements)) statements
+  pub defined : AllByRecursion (UsesNames (node_names statements)) statements
   pub few : variable_total statements ≤ most_variables
 
 -- no statement passes a test that finds none
@@ -49,10 +46,6 @@ each_fails test (first ∷ rest) e = by_test (test first.statement) refl e (each
     by_test : (b : Bool) → test first.statement ≡ b → cond b (Some first) (first_that test rest) ≡ None → (first_that test rest ≡ None → AllByRecursion (λ statement. test statement ≡ false) (plain rest)) → (test first.statement ≡ false) × AllByRecursion (λ statement. test statement ≡ false) (plain rest)
     by_test true t e ih = cc
     by_test false t e ih = (t, ih e)
-
-pub either : (a b : Bool) → (a || b) ≡ false → (a ≡ false) × (b ≡ false)
-either true b h = cc
-either false b h = (refl, h)
 
 pub neither : (a b : Bool) → a ≡ false → b ≡ false → (a || b) ≡ false
 neither true b ha hb = cc
@@ -65,15 +58,6 @@ first_of_two false b h = cc
 second_of_two : (a b : Bool) → b ≡ true → (a || b) ≡ true
 second_of_two true b h = refl
 second_of_two false b h = h
-
-pub same_name : (a b : List ℕ) → bytes_eq a b ≡ bytes_eq b a
-same_name a b = by_test (bytes_eq a b) (bytes_eq b a) refl refl
-  where
-    by_test : (r s : Bool) → bytes_eq a b ≡ r → bytes_eq b a ≡ s → r ≡ s
-    by_test true true p q = refl
-    by_test false false p q = refl
-    by_test true false p q = sym ((bytes_eq-Decides b a).1 (sym ((bytes_eq-Decides a b).0 p))) ∙ q
-    by_test false true p q = sym p ∙ (bytes_eq-Decides a b).1 (sym ((bytes_eq-Decides b a).0 q))
 
 definer-absent : (statements : List (Numbered Statement)) (name : List ℕ) → definer statements name ≡ None → list_any (bytes_eq name) (defined_names (plain statements)) ≡ false
 definer-absent [] name e = refl
@@ -235,17 +219,13 @@ definer-node (first ∷ rest) name h = by_test (defines name first.statement) re
     by_test true t h ih = defined_node first.statement (plain rest) name t
     by_test false t h ih = present_node first.statement (plain rest) name (ih h)
 
-pub not-false : (b : Bool) → not b ≡ false → b ≡ true
-not-false true h = refl
-not-false false h = cc
-
 uses_known : (statements : List (Numbered Statement)) (names : List (List ℕ)) → list_any (λ name. not (is_some (definer statements name))) names ≡ false → AllByRecursion (λ name. list_any (bytes_eq name) (node_names (plain statements)) ≡ true) names
 uses_known statements [] h = tt
 uses_known statements (name ∷ names) h =
     let parts = either (not (is_some (definer statements name))) _ h in
     (definer-node statements name (not-false _ parts.0), uses_known statements names parts.1)
 
-each_known : (statements : List (Numbered Statement)) (some : List Statement) → AllByRecursion (λ statement. uses_undefined statements statement ≡ false) some → AllByRecursion (UsesKnown (node_names (plain statements))) some
+each_known : (statements : List (Numbered Statement)) (some : List Statement) → AllByRecursion (λ statement. uses_undefined statements statement ≡ false) some → AllByRecursion (UsesNames (node_names (plain statements))) some
 each_known statements [] h = tt
 each_known statements (first ∷ rest) h = (uses_known statements (used_names first) h.0, each_known statements rest h.1)
 

@@ -1,76 +1,74 @@
--- From all statements of a text to its nodes and its outputs, and back.
-use Rattle.std.proofs.Common.{◌≡◌, ◌∙◌, ℕ, ◌+◌, ◌≤◌, ◌++◌, Bool, true, false, not, cond, suc, List, [], ◌∷◌, Option, Some, None, is_some, option_map, length, fold, refl, ap, sym, subst, arith}
+-- From what was read of a text to its statements, and back.
+use Rattle.std.proofs.Common.{◌≡◌, ◌∙◌, ℕ, ◌+◌, ◌≤◌, ◌++◌, Bool, true, false, not, cond, ◌||◌, List, [], ◌∷◌, Option, Some, None, is_some, option_map, length, map, fold, refl, ap, sym, subst, arith}
 use Rattle.std.specs.Option.{option_or}
 use Rattle.std.specs.Prelude.{filter}
-use Rattle.std.specs.List.{list_any}
-use Rattle.std.proofs.Math.Nat.{min-eq_left, min-eq_right}
+use Rattle.std.specs.List.{AllByRecursion, list_any}
+use Rattle.std.specs.Str.{bytes_eq}
 use Rattle.std.proofs.lemmas.List.{length-map}
 use Rattle.std.proofs.lemmas.List.Sums.{sum_by-cons}
-use Rattle.hz_core.specs.Least.{option_min}
+use Rattle.hz_core.specs.Netlist.{Netlist, empty_netlist}
 use Rattle.hz_line.specs.Line.{lines_of}
 use Rattle.hz_line.specs.Statement.{Numbered, first_passing_line}
-use Rattle.hz_line.proofs.StatementLemmas.{Ascends, numbered_from-Ascends}
-use Rattle.hz_core.specs.Netlist.{Netlist, empty_netlist}
+use Rattle.hz_line.proofs.StatementLemmas.{numbered_from-Ascends}
+use Rattle.hz_netlist.specs.Build.{Apart, AreKnown, AreAdmissibleSteps, BuilderState, MayAddCut, MayAddGate, MayAddInput, MayAddOutput, MayAddPins, MayBuild, built_netlist, connected_netlist, initial_builder, inputs_of, unconnected_netlist, with_cut_of, with_data_outputs, with_gate_of, with_input_of, with_output_of, with_pins_of}
+use Rattle.hz_netlist.specs.Element as element
+use Rattle.hz_netlist.specs.Element.{Element}
+use Rattle.hz_netlist.specs.Names.{first_undefined}
+use Rattle.hz_netlist.proofs.BuiltCircuit.{built-circuit_of_elements}
 use Rattle.hz_bench.specs.declared.fault.BenchFault.{BenchFault}
 use Rattle.hz_bench.specs.declared.fault.BenchFault.TheVariants as fault
 use Rattle.hz_bench.specs.declared.notes.Notes.{Notes}
-use Rattle.hz_bench.specs.declared.notes.Redefinition.{Redefinition}
 use Rattle.hz_bench.specs.declared.parse.Statements.{Statements}
-use Rattle.hz_bench.specs.BuiltNetlist.{BuilderState, with_input_of, with_cut_of, with_gate_of, with_pins_of, with_output_of, inputs_of, unconnected_netlist, initial_builder, connected_netlist, with_data_outputs, built_netlist, AreAdmissibleSteps, MayAddInput, MayAddCut, MayAddGate, MayAddPins, MayAddOutput, MayBuild}
-use Rattle.hz_bench.specs.Check.{reads_undefined, uses_undefined, first_that, fault_or, too_many_fault, first_fault}
-use Rattle.hz_bench.specs.Definition.{is_that, is_missing, defines, definer, defined_names, IsTableOf}
-use Rattle.hz_bench.specs.Entry.{numbered_of, numbered_list, numbered_outputs, statement_list, output_list}
-use Rattle.hz_bench.specs.Netlist.{input_names, cut_names}
-use Rattle.hz_bench.specs.FaultNotes.{wrong_pins_of, notes_of}
-use Rattle.hz_bench.specs.ReaderState.{AreGathered}
-use Rattle.hz_bench.specs.Pass.{HasAllNodes, IsParsed}
-use Rattle.hz_bench.specs.FaultIn.{redefinition_fault, source_statements, fault_in, last_fault, pins_fault, unknown_line, uses_missing}
-use Rattle.hz_bench.specs.Statement.{Statement, Input, Output, FlipFlop, Gate, statement_of, defines_node, is_output, defined_name, sources_of, used_names, has_long_name, statement_variable_count, has_unknown_kind, has_wrong_pins, statement_pin_count}
-use Rattle.hz_bench.specs.Text.{bench_statements, statements_of, nodes_among, outputs_among, variable_total_among}
-use Rattle.hz_bench.specs.Twice.{twice_or, earlier_line, twice_after, twice_fault}
-use Rattle.hz_bench.proofs.DefinitionLemmas.{plain, any-same, option_or-none, definer-append, definer-push, undefined-no_node}
-use Rattle.hz_bench.proofs.NetlistLemmas.{statement_list-numbered, output_list-numbered}
-use Rattle.hz_core.specs.Limits.{most_variables}
-
--- the first line that uses a name which no node defines
-abbrev pub undefined_line : List (Numbered Statement) → List (Numbered Statement) → Option ℕ
-undefined_line nodes outputs = option_min (first_passing_line (reads_undefined nodes) nodes) (first_passing_line (uses_undefined nodes) outputs)
-
--- the fault of nodes and outputs, of which this was noted: the least number and, of this number, the first line
-abbrev pub sorted_fault : List (Numbered Statement) → List (Numbered Statement) → Notes → Option BenchFault
-sorted_fault nodes outputs notes =
-    option_or (option_map fault.Name notes.long_name)
-    (option_or (option_map fault.KindUnknown notes.unknown_kind)
-    (option_or (twice_fault nodes)
-    (option_or (option_map pins_fault notes.wrong_pins)
-    (option_or (option_map fault.Undefined (undefined_line nodes outputs))
-    (too_many_fault notes.variables)))))
+use Rattle.hz_bench.specs.Check.{fault_or, first_fault, first_that, too_many_fault, uses_undefined}
+use Rattle.hz_bench.specs.Definition.{defined_names, definer, defines}
+use Rattle.hz_bench.specs.Elements.{HaveRightPins, IsBuildable, built_from, element_list, element_of, elements_of}
+use Rattle.hz_bench.specs.Entry.{numbered_of, numbered_list, statement_list}
+use Rattle.hz_bench.specs.FaultIn.{fault_in, pins_fault, redefinition_fault}
+use Rattle.hz_bench.specs.FaultNotes.{notes_of, wrong_pins_of}
+use Rattle.hz_bench.specs.Names.{places, read_names}
+use Rattle.hz_bench.specs.Netlist.{circuit_of_statements, cut_names, gate_names, input_names, node_names, output_names}
+use Rattle.hz_bench.specs.Pass.{IsParsed}
+use Rattle.hz_bench.specs.Statement.{Statement, Input, Output, FlipFlop, Gate, defines_node, has_long_name, has_unknown_kind, has_wrong_pins, statement_of, statement_pin_count, statement_variable_count}
+use Rattle.hz_bench.specs.Text.{bench_statements, nodes_among, plain, statements_of, variable_total_among}
+use Rattle.hz_bench.specs.Twice.{twice_fault}
+use Rattle.hz_bench.specs.Uses.{IsReady, output_words}
+use Rattle.hz_netlist.proofs.Tests.{either, not-false, same_name}
+use Rattle.hz_bench.proofs.CheckedLemmas.{each_fails, nodes_apart}
+use Rattle.hz_bench.proofs.DefinitionLemmas.{definer-cons}
+use Rattle.hz_bench.proofs.ElementLemmas.{circuit-elements}
+use Rattle.hz_bench.proofs.EntryLemmas.{element_list-statements, statement_list-numbered}
+use Rattle.hz_bench.proofs.UndefinedNames.{undefined-first}
+use Rattle.hz_bench.proofs.UseLemmas.{names-told}
 
 -- the statements that pass a test, with their lines
 abbrev kept : (Statement → Bool) → List (Numbered Statement) → List (Numbered Statement)
 kept keeps statements = filter (λ numbered. keeps numbered.statement) statements
 
--- a step that leaves alone what is not kept
-abbrev IsStill : {A : Type 0} → (A → Statement → A) → (Statement → Bool) → Type 0
-IsStill {A} step keeps = (now : A) (statement : Statement) → keeps statement ≡ false → step now statement ≡ now
+-- the elements that numbered statements are
+abbrev elements : List (Numbered Statement) → List Element
+elements statements = elements_of (plain statements)
 
-fold-kept : {A : Type 0} (step : A → Statement → A) (keeps : Statement → Bool) → IsStill step keeps → (now : A) (statements : List (Numbered Statement)) → fold step now (plain (kept keeps statements)) ≡ fold step now (plain statements)
+-- a step that leaves alone what is not kept
+abbrev IsStill : {A : Type 0} → (A → Element → A) → (Statement → Bool) → Type 0
+IsStill {A} step keeps = (now : A) (statement : Statement) → keeps statement ≡ false → step now (element_of statement) ≡ now
+
+fold-kept : {A : Type 0} (step : A → Element → A) (keeps : Statement → Bool) → IsStill step keeps → (now : A) (statements : List (Numbered Statement)) → fold step now (elements (kept keeps statements)) ≡ fold step now (elements statements)
 fold-kept step keeps still now [] = refl
 fold-kept {A} step keeps still now (first ∷ rest) = by_test (keeps first.statement) refl (λ next. fold-kept step keeps still next rest)
   where
-    by_test : (b : Bool) → keeps first.statement ≡ b → ((next : A) → fold step next (plain (kept keeps rest)) ≡ fold step next (plain rest)) → fold step now (plain (cond b (first ∷ kept keeps rest) (kept keeps rest))) ≡ fold step (step now first.statement) (plain rest)
-    by_test true t ih = ih (step now first.statement)
-    by_test false t ih = ih now ∙ sym (ap (λ next. fold step next (plain rest)) (still now first.statement t))
+    by_test : (b : Bool) → keeps first.statement ≡ b → ((next : A) → fold step next (elements (kept keeps rest)) ≡ fold step next (elements rest)) → fold step now (elements (cond b (first ∷ kept keeps rest) (kept keeps rest))) ≡ fold step (step now (element_of first.statement)) (elements rest)
+    by_test true t ih = ih (step now (element_of first.statement))
+    by_test false t ih = ih now ∙ sym (ap (λ next. fold step next (elements rest)) (still now first.statement t))
 
-may-kept : {A : Type 0} (May : A → Statement → Type 0) (step : A → Statement → A) (keeps : Statement → Bool) → IsStill step keeps → (now : A) (statements : List (Numbered Statement)) → AreAdmissibleSteps May step now (plain statements) → AreAdmissibleSteps May step now (plain (kept keeps statements))
+may-kept : {A : Type 0} (May : A → Element → Type 0) (step : A → Element → A) (keeps : Statement → Bool) → IsStill step keeps → (now : A) (statements : List (Numbered Statement)) → AreAdmissibleSteps May step now (elements statements) → AreAdmissibleSteps May step now (elements (kept keeps statements))
 may-kept May step keeps still now [] h = tt
 may-kept {A} May step keeps still now (first ∷ rest) h = by_test (keeps first.statement) refl (λ next. may-kept May step keeps still next rest)
   where
-    by_test : (b : Bool) → keeps first.statement ≡ b → ((next : A) → AreAdmissibleSteps May step next (plain rest) → AreAdmissibleSteps May step next (plain (kept keeps rest))) → AreAdmissibleSteps May step now (plain (cond b (first ∷ kept keeps rest) (kept keeps rest)))
-    by_test true t ih = (h.0, ih (step now first.statement) h.1)
-    by_test false t ih = ih now (subst (λ next. AreAdmissibleSteps May step next (plain rest)) (still now first.statement t) h.1)
+    by_test : (b : Bool) → keeps first.statement ≡ b → ((next : A) → AreAdmissibleSteps May step next (elements rest) → AreAdmissibleSteps May step next (elements (kept keeps rest))) → AreAdmissibleSteps May step now (elements (cond b (first ∷ kept keeps rest) (kept keeps rest)))
+    by_test true t ih = (h.0, ih (step now (element_of first.statement)) h.1)
+    by_test false t ih = ih now (subst (λ next. AreAdmissibleSteps May step next (elements rest)) (still now first.statement t) h.1)
 
--- inputs, gates and pins come of nodes alone, and outputs of outputs
+-- inputs, gates and pins come of nodes alone
 inputs_still : IsStill with_input_of defines_node
 inputs_still now (Input name) h = cc
 inputs_still now (Output name) h = refl
@@ -95,64 +93,97 @@ pins_still now (Output name) h = refl
 pins_still now (FlipFlop name sources) h = cc
 pins_still now (Gate name kind sources) h = cc
 
-outputs_still : IsStill with_output_of is_output
-outputs_still now (Input name) h = refl
-outputs_still now (Output name) h = cc
-outputs_still now (FlipFlop name sources) h = refl
-outputs_still now (Gate name kind sources) h = refl
-
-inputs-kept : (statements : List (Numbered Statement)) → fold with_input_of empty_netlist (plain (nodes_among statements)) ≡ fold with_input_of empty_netlist (plain statements)
+inputs-kept : (statements : List (Numbered Statement)) → fold with_input_of empty_netlist (elements (nodes_among statements)) ≡ fold with_input_of empty_netlist (elements statements)
 inputs-kept statements = fold-kept with_input_of defines_node inputs_still empty_netlist statements
 
-inputs_of-kept : (statements : List (Numbered Statement)) → inputs_of (plain (nodes_among statements)) ≡ inputs_of (plain statements)
+inputs_of-kept : (statements : List (Numbered Statement)) → inputs_of (elements (nodes_among statements)) ≡ inputs_of (elements statements)
 inputs_of-kept statements =
-    ap (λ now. fold with_cut_of now (plain (nodes_among statements))) (inputs-kept statements)
-    ∙ fold-kept with_cut_of defines_node cuts_still (fold with_input_of empty_netlist (plain statements)) statements
+    ap (λ now. fold with_cut_of now (elements (nodes_among statements))) (inputs-kept statements)
+    ∙ fold-kept with_cut_of defines_node cuts_still (fold with_input_of empty_netlist (elements statements)) statements
 
-unconnected_netlist-kept : (statements : List (Numbered Statement)) → unconnected_netlist (plain (nodes_among statements)) ≡ unconnected_netlist (plain statements)
+unconnected_netlist-kept : (statements : List (Numbered Statement)) → unconnected_netlist (elements (nodes_among statements)) ≡ unconnected_netlist (elements statements)
 unconnected_netlist-kept statements =
-    ap (λ now. fold with_gate_of now (plain (nodes_among statements))) (inputs_of-kept statements)
-    ∙ fold-kept with_gate_of defines_node gates_still (inputs_of (plain statements)) statements
+    ap (λ now. fold with_gate_of now (elements (nodes_among statements))) (inputs_of-kept statements)
+    ∙ fold-kept with_gate_of defines_node gates_still (inputs_of (elements statements)) statements
 
-connected-kept : (statements : List (Numbered Statement)) → connected_netlist (unconnected_netlist (plain (nodes_among statements))) (plain (nodes_among statements)) ≡ connected_netlist (unconnected_netlist (plain statements)) (plain statements)
+connected-kept : (statements : List (Numbered Statement)) → connected_netlist (unconnected_netlist (elements (nodes_among statements))) (elements (nodes_among statements)) ≡ connected_netlist (unconnected_netlist (elements statements)) (elements statements)
 connected-kept statements =
-    ap (λ now. connected_netlist now (plain (nodes_among statements))) (unconnected_netlist-kept statements)
-    ∙ ap (λ (now : BuilderState). now.netlist) (fold-kept with_pins_of defines_node pins_still (initial_builder (unconnected_netlist (plain statements))) statements)
+    ap (λ now. connected_netlist now (elements (nodes_among statements))) (unconnected_netlist-kept statements)
+    ∙ ap (λ (now : BuilderState). now.netlist) (fold-kept with_pins_of defines_node pins_still (initial_builder (unconnected_netlist (elements statements))) statements)
+
+-- outputs by their names
+outputs-kept : (now : Netlist) (statements : List Statement) → fold with_output_of now (map element.Output (output_names statements)) ≡ fold with_output_of now (elements_of statements)
+outputs-kept now [] = refl
+outputs-kept now (Input name ∷ rest) = outputs-kept now rest
+outputs-kept now (Output name ∷ rest) = outputs-kept (with_output_of now (element.Output name)) rest
+outputs-kept now (FlipFlop name sources ∷ rest) = outputs-kept now rest
+outputs-kept now (Gate name kind sources ∷ rest) = outputs-kept now rest
+
+outputs_may-kept : (now : Netlist) (statements : List Statement) → AreAdmissibleSteps MayAddOutput with_output_of now (elements_of statements) → AreAdmissibleSteps MayAddOutput with_output_of now (map element.Output (output_names statements))
+outputs_may-kept now [] may = tt
+outputs_may-kept now (Input name ∷ rest) may = outputs_may-kept now rest may.1
+outputs_may-kept now (Output name ∷ rest) may = (may.0, outputs_may-kept (with_output_of now (element.Output name)) rest may.1)
+outputs_may-kept now (FlipFlop name sources ∷ rest) may = outputs_may-kept now rest may.1
+outputs_may-kept now (Gate name kind sources ∷ rest) may = outputs_may-kept now rest may.1
 
 -- the circuit of the nodes and the outputs is that of all statements
-built-kept : (statements : List (Numbered Statement)) → built_netlist (plain (nodes_among statements)) (plain (outputs_among statements)) ≡ built_netlist (plain statements) (plain statements)
+built-kept : (statements : List (Numbered Statement)) → built_netlist (elements (nodes_among statements)) (map element.Output (output_names (plain statements))) ≡ built_netlist (elements statements) (elements statements)
 built-kept statements =
     ap with_data_outputs (
-    ap (λ now. fold with_output_of now (plain (outputs_among statements))) (connected-kept statements)
-    ∙ fold-kept with_output_of is_output outputs_still (connected_netlist (unconnected_netlist (plain statements)) (plain statements)) statements
+    ap (λ now. fold with_output_of now (map element.Output (output_names (plain statements)))) (connected-kept statements)
+    ∙ outputs-kept (connected_netlist (unconnected_netlist (elements statements)) (elements statements)) (plain statements)
     )
 
-may_build-kept : (statements : List (Numbered Statement)) → MayBuild (plain statements) (plain statements) → MayBuild (plain (nodes_among statements)) (plain (outputs_among statements))
+may_build-kept : (statements : List (Numbered Statement)) → MayBuild (elements statements) (elements statements) → MayBuild (elements (nodes_among statements)) (map element.Output (output_names (plain statements)))
 may_build-kept statements may = record {
   inputs = may-kept MayAddInput with_input_of defines_node inputs_still empty_netlist statements may.inputs;
-  cuts = subst (λ now. AreAdmissibleSteps MayAddCut with_cut_of now (plain (nodes_among statements))) (sym (inputs-kept statements))
-      (may-kept MayAddCut with_cut_of defines_node cuts_still (fold with_input_of empty_netlist (plain statements)) statements may.cuts);
-  gates = subst (λ now. AreAdmissibleSteps MayAddGate with_gate_of now (plain (nodes_among statements))) (sym (inputs_of-kept statements))
-      (may-kept MayAddGate with_gate_of defines_node gates_still (inputs_of (plain statements)) statements may.gates);
-  pins = subst (λ (now : Netlist). AreAdmissibleSteps MayAddPins with_pins_of (initial_builder now) (plain (nodes_among statements))) (sym (unconnected_netlist-kept statements))
-      (may-kept MayAddPins with_pins_of defines_node pins_still (initial_builder (unconnected_netlist (plain statements))) statements may.pins);
-  outputs_may = subst (λ now. AreAdmissibleSteps MayAddOutput with_output_of now (plain (outputs_among statements))) (sym (connected-kept statements))
-      (may-kept MayAddOutput with_output_of is_output outputs_still (connected_netlist (unconnected_netlist (plain statements)) (plain statements)) statements may.outputs_may);
+  cuts = subst (λ now. AreAdmissibleSteps MayAddCut with_cut_of now (elements (nodes_among statements))) (sym (inputs-kept statements))
+      (may-kept MayAddCut with_cut_of defines_node cuts_still (fold with_input_of empty_netlist (elements statements)) statements may.cuts);
+  gates = subst (λ now. AreAdmissibleSteps MayAddGate with_gate_of now (elements (nodes_among statements))) (sym (inputs_of-kept statements))
+      (may-kept MayAddGate with_gate_of defines_node gates_still (inputs_of (elements statements)) statements may.gates);
+  pins = subst (λ (now : Netlist). AreAdmissibleSteps MayAddPins with_pins_of (initial_builder now) (elements (nodes_among statements))) (sym (unconnected_netlist-kept statements))
+      (may-kept MayAddPins with_pins_of defines_node pins_still (initial_builder (unconnected_netlist (elements statements))) statements may.pins);
+  outputs_may = subst (λ now. AreAdmissibleSteps MayAddOutput with_output_of now (map element.Output (output_names (plain statements)))) (sym (connected-kept statements))
+      (outputs_may-kept (connected_netlist (unconnected_netlist (elements statements)) (elements statements)) (plain statements) may.outputs_may);
 }
 
--- the nodes and outputs that were read are those of a text
+-- the nodes that were read are those of a text
 nodes_read : (text : List ℕ) (statements : Statements) → numbered_list statements.nodes.items ≡ nodes_among (bench_statements text) → plain (nodes_among (bench_statements text)) ≡ statement_list statements.nodes.items
 nodes_read text statements e = sym (ap plain e) ∙ statement_list-numbered statements.nodes.items
 
-outputs_read : (text : List ℕ) (statements : Statements) → numbered_outputs statements.outputs.items ≡ outputs_among (bench_statements text) → plain (outputs_among (bench_statements text)) ≡ output_list statements.outputs.items
-outputs_read text statements e = sym (ap plain e) ∙ output_list-numbered statements.outputs.items
+node_elements : (text : List ℕ) (statements : Statements) → numbered_list statements.nodes.items ≡ nodes_among (bench_statements text) → elements (nodes_among (bench_statements text)) ≡ element_list statements.nodes.items
+node_elements text statements e = ap elements_of (nodes_read text statements e) ∙ sym (element_list-statements statements.nodes.items)
 
-pub built-sorted : (text : List ℕ) (statements : Statements) → numbered_list statements.nodes.items ≡ nodes_among (bench_statements text) → numbered_outputs statements.outputs.items ≡ outputs_among (bench_statements text)
-    → built_netlist (statement_list statements.nodes.items) (output_list statements.outputs.items) ≡ built_netlist (statements_of text) (statements_of text)
+-- and so are the names of the outputs
+pub outputs_read : (text : List ℕ) (statements : Statements) → IsParsed text statements → output_words statements ≡ output_names (statements_of text)
+outputs_read text statements parsed = names-told statements.names statements.outputs.items (output_names (statements_of text)) parsed.gathered.outputs
+
+pub built-sorted : (text : List ℕ) (statements : Statements) → numbered_list statements.nodes.items ≡ nodes_among (bench_statements text) → output_words statements ≡ output_names (statements_of text)
+    → built_from statements.nodes.items (output_words statements) ≡ circuit_of_statements (statements_of text)
 built-sorted text statements nodes outputs =
-    sym (ap (λ list. built_netlist list (output_list statements.outputs.items)) (nodes_read text statements nodes))
-    ∙ sym (ap (built_netlist (plain (nodes_among (bench_statements text)))) (outputs_read text statements outputs))
+    sym (ap (λ list. built_netlist list (map element.Output (output_words statements))) (node_elements text statements nodes))
+    ∙ ap (λ names. built_netlist (elements (nodes_among (bench_statements text))) (map element.Output names)) outputs
     ∙ built-kept (bench_statements text)
+    ∙ built-circuit_of_elements (elements_of (statements_of text))
+    ∙ circuit-elements (statements_of text)
+
+-- the pins of the nodes are right where those of all statements are
+right-kept : (statements : List (Numbered Statement)) → HaveRightPins (plain statements) → HaveRightPins (plain (nodes_among statements))
+right-kept [] h = tt
+right-kept (first ∷ rest) h = by_node (defines_node first.statement) (right-kept rest h.1)
+  where
+    by_node : (b : Bool) → HaveRightPins (plain (nodes_among rest)) → HaveRightPins (plain (cond b (first ∷ nodes_among rest) (nodes_among rest)))
+    by_node true ih = (h.0, ih)
+    by_node false ih = ih
+
+-- the circuit of the nodes and outputs of a text may be built
+pub buildable : (text : List ℕ) (statements : Statements) → numbered_list statements.nodes.items ≡ nodes_among (bench_statements text) → output_words statements ≡ output_names (statements_of text)
+    → MayBuild (elements_of (statements_of text)) (elements_of (statements_of text)) → HaveRightPins (statements_of text) → IsBuildable statements.nodes.items (output_words statements)
+buildable text statements nodes outputs may right = record {
+  may = subst (λ list. MayBuild list (map element.Output (output_words statements))) (node_elements text statements nodes)
+      (subst (λ names. MayBuild (elements (nodes_among (bench_statements text))) (map element.Output names)) (sym outputs) (may_build-kept (bench_statements text) may));
+  pins = subst HaveRightPins (nodes_read text statements nodes) (right-kept (bench_statements text) right);
+}
 
 -- the inputs and the flip-flops are nodes
 input_names-kept : (statements : List (Numbered Statement)) → input_names (plain (nodes_among statements)) ≡ input_names (plain statements)
@@ -191,136 +222,33 @@ cuts-sorted text statements parsed nodes =
     ∙ ap length (sym (cut_names-kept (bench_statements text)))
     ∙ ap (λ list. length (cut_names list)) (nodes_read text statements nodes)
 
-pub may_build-sorted : (text : List ℕ) (statements : Statements) → numbered_list statements.nodes.items ≡ nodes_among (bench_statements text) → numbered_outputs statements.outputs.items ≡ outputs_among (bench_statements text)
-    → MayBuild (statements_of text) (statements_of text) → MayBuild (statement_list statements.nodes.items) (output_list statements.outputs.items)
-may_build-sorted text statements nodes outputs may =
-    subst (λ list. MayBuild list (output_list statements.outputs.items)) (nodes_read text statements nodes)
-    (subst (MayBuild (plain (nodes_among (bench_statements text)))) (outputs_read text statements outputs) (may_build-kept (bench_statements text) may))
-
--- the first line that passes a test
-pub first_passing_line-cons : (test : Statement → Bool) (first : Numbered Statement) (rest : List (Numbered Statement)) → first_passing_line test (first ∷ rest) ≡ cond (test first.statement) (Some first.line) (first_passing_line test rest)
-first_passing_line-cons test first rest = by_test (test first.statement) refl
+gate_names-kept : (statements : List (Numbered Statement)) → gate_names (plain (nodes_among statements)) ≡ gate_names (plain statements)
+gate_names-kept [] = refl
+gate_names-kept (first ∷ rest) = by_statement first.statement (gate_names-kept rest)
   where
-    by_test : (b : Bool) → test first.statement ≡ b → first_passing_line test (first ∷ rest) ≡ cond b (Some first.line) (first_passing_line test rest)
-    by_test true t = rw t refl
-    by_test false t = rw t refl
+    by_statement : (statement : Statement) → gate_names (plain (nodes_among rest)) ≡ gate_names (plain rest)
+        → gate_names (plain (cond (defines_node statement) (record { line = first.line; statement = statement } ∷ nodes_among rest) (nodes_among rest))) ≡ gate_names (statement ∷ plain rest)
+    by_statement (Input name) ih = ih
+    by_statement (Output name) ih = ih
+    by_statement (FlipFlop name sources) ih = ih
+    by_statement (Gate name kind sources) ih = ap (λ names. name ∷ names) ih
 
--- where only what is kept passes, it is the same
-first_passing_line-kept : (test keeps : Statement → Bool) → ((statement : Statement) → keeps statement ≡ false → test statement ≡ false) → (statements : List (Numbered Statement)) → first_passing_line test (kept keeps statements) ≡ first_passing_line test statements
-first_passing_line-kept test keeps none [] = refl
-first_passing_line-kept test keeps none (first ∷ rest) = by_test (keeps first.statement) refl (first_passing_line-kept test keeps none rest)
+read_names-kept : (statements : List (Numbered Statement)) → read_names (plain (nodes_among statements)) ≡ read_names (plain statements)
+read_names-kept [] = refl
+read_names-kept (first ∷ rest) = by_statement first.statement (read_names-kept rest)
   where
-    by_test : (b : Bool) → keeps first.statement ≡ b → first_passing_line test (kept keeps rest) ≡ first_passing_line test rest → first_passing_line test (cond b (first ∷ kept keeps rest) (kept keeps rest)) ≡ first_passing_line test (first ∷ rest)
-    by_test true t ih = first_passing_line-cons test first (kept keeps rest) ∙ ap (cond (test first.statement) (Some first.line)) ih ∙ sym (first_passing_line-cons test first rest)
-    by_test false t ih = ih ∙ sym (first_passing_line-cons test first rest ∙ ap (λ b. cond b (Some first.line) (first_passing_line test rest)) (none first.statement t))
+    by_statement : (statement : Statement) → read_names (plain (nodes_among rest)) ≡ read_names (plain rest)
+        → read_names (plain (cond (defines_node statement) (record { line = first.line; statement = statement } ∷ nodes_among rest) (nodes_among rest))) ≡ read_names (statement ∷ plain rest)
+    by_statement (Input name) ih = ih
+    by_statement (Output name) ih = ih
+    by_statement (FlipFlop name sources) ih = ap (λ names. sources ++ names) ih
+    by_statement (Gate name kind sources) ih = ap (λ names. sources ++ names) ih
 
--- two tests that agree on what is kept find the same
-first_passing_line-same : (test other keeps : Statement → Bool) → ((statement : Statement) → keeps statement ≡ true → test statement ≡ other statement) → (statements : List (Numbered Statement)) → first_passing_line test (kept keeps statements) ≡ first_passing_line other (kept keeps statements)
-first_passing_line-same test other keeps same [] = refl
-first_passing_line-same test other keeps same (first ∷ rest) = by_test (keeps first.statement) refl (first_passing_line-same test other keeps same rest)
-  where
-    by_test : (b : Bool) → keeps first.statement ≡ b → first_passing_line test (kept keeps rest) ≡ first_passing_line other (kept keeps rest) → first_passing_line test (cond b (first ∷ kept keeps rest) (kept keeps rest)) ≡ first_passing_line other (cond b (first ∷ kept keeps rest) (kept keeps rest))
-    by_test true t ih =
-        first_passing_line-cons test first (kept keeps rest) ∙ ap (λ b. cond b (Some first.line) (first_passing_line test (kept keeps rest))) (same first.statement t)
-        ∙ ap (cond (other first.statement) (Some first.line)) ih ∙ sym (first_passing_line-cons other first (kept keeps rest))
-    by_test false t ih = ih
-
--- lines ascend among those that are kept
-Ascends-kept : (keeps : Statement → Bool) (low high : ℕ) (statements : List (Numbered Statement)) → low ≤ high → Ascends high statements → Ascends low (kept keeps statements)
-Ascends-kept keeps low high [] l h = tt
-Ascends-kept keeps low high (first ∷ rest) l h = by_test (keeps first.statement) (λ new. λ more. Ascends-kept keeps new (suc first.line) rest more h.1)
-  where
-    by_test : (b : Bool) → ((new : ℕ) → new ≤ suc first.line → Ascends new (kept keeps rest)) → Ascends low (cond b (first ∷ kept keeps rest) (kept keeps rest))
-    by_test true ih = (omega (arith, l, h.0), ih (suc first.line) (omega arith))
-    by_test false ih = ih low (omega (arith, l, h.0))
-
-first_passing_line-low : (test : Statement → Bool) (low line : ℕ) (statements : List (Numbered Statement)) → Ascends low statements → first_passing_line test statements ≡ Some line → low ≤ line
-first_passing_line-low test low line [] h e = cc
-first_passing_line-low test low line (first ∷ rest) h e = by_test (test first.statement) (sym (first_passing_line-cons test first rest) ∙ e) (first_passing_line-low test (suc first.line) line rest h.1)
-  where
-    here : (number : ℕ) → Some number ≡ Some line → number ≡ line
-    here number e = cc
-
-    by_test : (b : Bool) → cond b (Some first.line) (first_passing_line test rest) ≡ Some line → (first_passing_line test rest ≡ Some line → suc first.line ≤ line) → low ≤ line
-    by_test true e ih = omega (arith, h.0, here first.line e)
-    by_test false e ih = omega (arith, h.0, ih e)
-
--- a line before all others is the earlier one
-earlier-left : (line : ℕ) (other : Option ℕ) → ((found : ℕ) → other ≡ Some found → line ≤ found) → option_min (Some line) other ≡ Some line
-earlier-left line None low = refl
-earlier-left line (Some found) low = ap Some (min-eq_left (low found refl))
-
-earlier-right : (line : ℕ) (other : Option ℕ) → ((found : ℕ) → other ≡ Some found → line ≤ found) → option_min other (Some line) ≡ Some line
-earlier-right line None low = refl
-earlier-right line (Some found) low = ap Some (min-eq_right (low found refl))
-
--- the first line that passes is the first among the nodes or the first among the outputs
-earlier-all : (test : Statement → Bool) (low : ℕ) (statements : List (Numbered Statement)) → Ascends low statements → option_min (first_passing_line test (nodes_among statements)) (first_passing_line test (outputs_among statements)) ≡ first_passing_line test statements
-earlier-all test low [] h = refl
-earlier-all test low (first ∷ rest) h = by_node (defines_node first.statement) (earlier-all test (suc first.line) rest h.1) ∙ sym (first_passing_line-cons test first rest)
-  where
-    later : (keeps : Statement → Bool) (found : ℕ) → first_passing_line test (kept keeps rest) ≡ Some found → first.line ≤ found
-    later keeps found e = let above = first_passing_line-low test (suc first.line) found (kept keeps rest) (Ascends-kept keeps (suc first.line) (suc first.line) rest (omega arith) h.1) e in omega (arith, above)
-
-    left : (b : Bool) → option_min (first_passing_line test (nodes_among rest)) (first_passing_line test (outputs_among rest)) ≡ first_passing_line test rest → option_min (cond b (Some first.line) (first_passing_line test (nodes_among rest))) (first_passing_line test (outputs_among rest)) ≡ cond b (Some first.line) (first_passing_line test rest)
-    left true ih = earlier-left first.line (first_passing_line test (outputs_among rest)) (later is_output)
-    left false ih = ih
-
-    right : (b : Bool) → option_min (first_passing_line test (nodes_among rest)) (first_passing_line test (outputs_among rest)) ≡ first_passing_line test rest → option_min (first_passing_line test (nodes_among rest)) (cond b (Some first.line) (first_passing_line test (outputs_among rest))) ≡ cond b (Some first.line) (first_passing_line test rest)
-    right true ih = earlier-right first.line (first_passing_line test (nodes_among rest)) (later defines_node)
-    right false ih = ih
-
-    by_node : (b : Bool) → option_min (first_passing_line test (nodes_among rest)) (first_passing_line test (outputs_among rest)) ≡ first_passing_line test rest
-        → option_min (first_passing_line test (cond b (first ∷ nodes_among rest) (nodes_among rest))) (first_passing_line test (cond (not b) (first ∷ outputs_among rest) (outputs_among rest))) ≡ cond (test first.statement) (Some first.line) (first_passing_line test rest)
-    by_node true ih = ap (λ line. option_min line (first_passing_line test (outputs_among rest))) (first_passing_line-cons test first (nodes_among rest)) ∙ left (test first.statement) ih
-    by_node false ih = ap (option_min (first_passing_line test (nodes_among rest))) (first_passing_line-cons test first (outputs_among rest)) ∙ right (test first.statement) ih
-
--- only nodes define names
-undefined-output : (statement : Statement) → defines_node statement ≡ false → defined_name statement ≡ None
-undefined-output statement h = undefined-no_node statement h
-
-definer-kept : (statements : List (Numbered Statement)) (name : List ℕ) → definer (nodes_among statements) name ≡ definer statements name
-definer-kept statements name = first_passing_line-kept (defines name) defines_node (λ statement h. ap (is_that name) (undefined-output statement h)) statements
-
-earlier_line-same : (other seen : List (Numbered Statement)) (defined : Option (List ℕ)) → ((name : List ℕ) → definer other name ≡ definer seen name) → earlier_line other defined ≡ earlier_line seen defined
-earlier_line-same other seen None same = refl
-earlier_line-same other seen (Some name) same = same name
-
--- so the first that defines a name again is the same
-twice_after-kept : (other seen rest : List (Numbered Statement)) → ((name : List ℕ) → definer other name ≡ definer seen name) → twice_after other (nodes_among rest) ≡ twice_after seen rest
-twice_after-kept other seen [] same = refl
-twice_after-kept other seen (next ∷ rest) same = by_node (defines_node next.statement) refl (λ more. λ also. twice_after-kept more (seen ++ next ∷ []) rest also)
-  where
-    by_node : (b : Bool) → defines_node next.statement ≡ b → ((more : List (Numbered Statement)) → ((name : List ℕ) → definer more name ≡ definer (seen ++ next ∷ []) name) → twice_after more (nodes_among rest) ≡ twice_after (seen ++ next ∷ []) rest)
-        → twice_after other (cond b (next ∷ nodes_among rest) (nodes_among rest)) ≡ twice_or next.line (earlier_line seen (defined_name next.statement)) (twice_after (seen ++ next ∷ []) rest)
-    by_node true t ih =
-        ap (λ line. twice_or next.line line (twice_after (other ++ next ∷ []) (nodes_among rest))) (earlier_line-same other seen (defined_name next.statement) same)
-        ∙ ap (twice_or next.line (earlier_line seen (defined_name next.statement)))
-        (ih (other ++ next ∷ []) (λ name. definer-append other (next ∷ []) name ∙ ap (λ line. option_or line (definer (next ∷ []) name)) (same name) ∙ sym (definer-append seen (next ∷ []) name)))
-    by_node false t ih =
-        let none = undefined-output next.statement t in
-        ih other (λ name. same name ∙ sym (definer-push seen next name ∙ ap (λ defined. option_or (definer seen name) (cond (is_that name defined) (Some next.line) None)) none ∙ option_or-none (definer seen name)))
-        ∙ sym (ap (λ defined. twice_or next.line (earlier_line seen defined) (twice_after (seen ++ next ∷ []) rest)) none)
-
-undefined-kept : (statements : List (Numbered Statement)) (names : List (List ℕ)) → list_any (λ name. not (is_some (definer (nodes_among statements) name))) names ≡ list_any (λ name. not (is_some (definer statements name))) names
-undefined-kept statements names = any-same (λ name. not (is_some (definer (nodes_among statements) name))) (λ name. not (is_some (definer statements name))) (λ name. ap (λ line. not (is_some line)) (definer-kept statements name)) names
-
-node_sources : (statement : Statement) → defines_node statement ≡ true → sources_of statement ≡ used_names statement
-node_sources (Input name) h = refl
-node_sources (Output name) h = cc
-node_sources (FlipFlop name sources) h = refl
-node_sources (Gate name kind sources) h = refl
-
--- the first use of an undefined name, by nodes and outputs
-undefined_line-kept : (statements : List (Numbered Statement)) → Ascends 1 statements → undefined_line (nodes_among statements) (outputs_among statements) ≡ first_passing_line (uses_undefined statements) statements
-undefined_line-kept statements h =
-    let nodes = first_passing_line-same (reads_undefined (nodes_among statements)) (uses_undefined statements) defines_node
-    (λ statement node. undefined-kept statements (sources_of statement) ∙ ap (list_any (λ name. not (is_some (definer statements name)))) (node_sources statement node)) statements in
-    let outputs = first_passing_line-same (uses_undefined (nodes_among statements)) (uses_undefined statements) is_output
-    (λ statement output. undefined-kept statements (used_names statement)) statements in
-    ap (λ line. option_min line (first_passing_line (uses_undefined (nodes_among statements)) (outputs_among statements))) nodes
-    ∙ ap (option_min (first_passing_line (uses_undefined statements) (nodes_among statements))) outputs
-    ∙ earlier-all (uses_undefined statements) 1 statements h
+node_names-kept : (statements : List (Numbered Statement)) → node_names (plain (nodes_among statements)) ≡ node_names (plain statements)
+node_names-kept statements =
+    ap (λ inputs. (inputs ++ cut_names (plain (nodes_among statements))) ++ gate_names (plain (nodes_among statements))) (input_names-kept statements)
+    ∙ ap (λ cuts. (input_names (plain statements) ++ cuts) ++ gate_names (plain (nodes_among statements))) (cut_names-kept statements)
+    ∙ ap (λ gates. (input_names (plain statements) ++ cut_names (plain statements)) ++ gates) (gate_names-kept statements)
 
 -- the names that nodes define are all names that are defined
 defined_names-kept : (statements : List (Numbered Statement)) → defined_names (plain (nodes_among statements)) ≡ defined_names (plain statements)
@@ -346,23 +274,89 @@ nodes_few (first ∷ rest) = by_statement first.statement (nodes_few rest) (sum_
     by_statement (FlipFlop name sources) h e = omega (arith, h, e)
     by_statement (Gate name kind sources) h e = omega (arith, h, e)
 
--- where there are not too many variables, and no name is defined again, the nodes that were read are all, with a table of their names
-pub listed : (text : List ℕ) (statements : Statements) → IsParsed text statements → statements.again ≡ None → statements.notes.variables ≤ most_variables → HasAllNodes statements
-listed text statements parsed once few =
+-- a name that a statement defines is among those that are defined
+definer-defined : (statements : List (Numbered Statement)) (name : List ℕ) → is_some (definer statements name) ≡ true → list_any (bytes_eq name) (defined_names (plain statements)) ≡ true
+definer-defined [] name h = cc
+definer-defined (first ∷ rest) name h = by_statement first.statement (ap is_some (sym (definer-cons first rest name)) ∙ h) (definer-defined rest name)
+  where
+    here : (other : List ℕ) → is_some (cond (bytes_eq other name) (Some first.line) (definer rest name)) ≡ true → (is_some (definer rest name) ≡ true → list_any (bytes_eq name) (defined_names (plain rest)) ≡ true)
+        → (bytes_eq name other || list_any (bytes_eq name) (defined_names (plain rest))) ≡ true
+    here other h ih = by_test (bytes_eq other name) (same_name name other) h
+      where
+        by_test : (b : Bool) → bytes_eq name other ≡ b → is_some (cond b (Some first.line) (definer rest name)) ≡ true → (bytes_eq name other || list_any (bytes_eq name) (defined_names (plain rest))) ≡ true
+        by_test true is h = ap (λ same. same || list_any (bytes_eq name) (defined_names (plain rest))) is
+        by_test false is h = ap (λ same. same || list_any (bytes_eq name) (defined_names (plain rest))) is ∙ ih h
+
+    by_statement : (statement : Statement) → is_some (cond (defines name statement) (Some first.line) (definer rest name)) ≡ true → (is_some (definer rest name) ≡ true → list_any (bytes_eq name) (defined_names (plain rest)) ≡ true)
+        → list_any (bytes_eq name) (defined_names (statement ∷ plain rest)) ≡ true
+    by_statement (Input other) h ih = here other h ih
+    by_statement (Output other) h ih = ih h
+    by_statement (FlipFlop other sources) h ih = here other h ih
+    by_statement (Gate other kind sources) h ih = here other h ih
+
+-- where no name is undefined, the names that are used are defined
+words-known : (statements : List (Numbered Statement)) (words : List (List ℕ)) → list_any (λ name. not (is_some (definer statements name))) words ≡ false → AreKnown (defined_names (plain statements)) words
+words-known statements [] h = tt
+words-known statements (word ∷ words) h =
+    let parts = either (not (is_some (definer statements word))) _ h in
+    (definer-defined statements word (not-false _ parts.0), words-known statements words parts.1)
+
+known-append : (names front back : List (List ℕ)) → AreKnown names front → AreKnown names back → AreKnown names (front ++ back)
+known-append names [] back h more = more
+known-append names (name ∷ front) back h more = (h.0, known-append names front back h.1 more)
+
+sources_known : (all : List (Numbered Statement)) (statements : List Statement) → AllByRecursion (λ statement. uses_undefined all statement ≡ false) statements → AreKnown (defined_names (plain all)) (read_names statements)
+sources_known all [] h = tt
+sources_known all (Input name ∷ rest) h = sources_known all rest h.1
+sources_known all (Output name ∷ rest) h = sources_known all rest h.1
+sources_known all (FlipFlop name sources ∷ rest) h = known-append (defined_names (plain all)) sources (read_names rest) (words-known all sources h.0) (sources_known all rest h.1)
+sources_known all (Gate name kind sources ∷ rest) h = known-append (defined_names (plain all)) sources (read_names rest) (words-known all sources h.0) (sources_known all rest h.1)
+
+outputs_known : (all : List (Numbered Statement)) (statements : List Statement) → AllByRecursion (λ statement. uses_undefined all statement ≡ false) statements → AreKnown (defined_names (plain all)) (output_names statements)
+outputs_known all [] h = tt
+outputs_known all (Input name ∷ rest) h = outputs_known all rest h.1
+outputs_known all (Output name ∷ rest) h = ((words-known all (name ∷ []) h.0).0, outputs_known all rest h.1)
+outputs_known all (FlipFlop name sources ∷ rest) h = outputs_known all rest h.1
+outputs_known all (Gate name kind sources ∷ rest) h = outputs_known all rest h.1
+
+-- the first undefined name of the table is that of the text
+undefined-read : (text : List ℕ) (statements : Statements) → IsParsed text statements → first_undefined statements.names ≡ first_passing_line (uses_undefined (bench_statements text)) (bench_statements text)
+undefined-read text statements parsed =
+    undefined-first (bench_statements text) statements.names (numbered_from-Ascends statement_of 1 (lines_of text)) parsed.gathered.distinct parsed.gathered.names
+
+found-none : (found : Option (Numbered Statement)) → option_map (λ (one : Numbered Statement). one.line) found ≡ None → found ≡ None
+found-none None h = refl
+found-none (Some one) h = cc
+
+again-none : (text : List ℕ) (statements : Statements) → IsParsed text statements → statements.again ≡ None → twice_fault (bench_statements text) ≡ None
+again-none text statements parsed once = sym parsed.gathered.again ∙ ap (option_map redefinition_fault) once
+
+-- what was read of a text can be resolved, unless it has a fault
+pub ready : (text : List ℕ) (statements : Statements) → IsParsed text statements → IsReady statements
+ready text statements parsed = λ once few none.
     let all = bench_statements text in
     let gathered = parsed.gathered in
     let nodes = gathered.nodes few in
+    let read = nodes_read text statements nodes in
     let counted : length (numbered_list statements.nodes.items) ≡ length statements.nodes.items = length-map statements.nodes.items numbered_of in
     let same : length (numbered_list statements.nodes.items) ≡ length (nodes_among all) = ap length nodes in
     let variables = ap (λ (notes : Notes). notes.variables) gathered.notes in
+    let words = sym (defined_names-kept all) ∙ ap defined_names read in
+    let sources = sym (read_names-kept all) ∙ ap read_names read in
+    let outputs = outputs_read text statements parsed in
+    let used = each_fails (uses_undefined all) all (found-none (first_that (uses_undefined all) all) (sym (undefined-read text statements parsed) ∙ none)) in
     record {
       few = omega (arith, counted, same, nodes_few all, variables, few);
-      none_waits = gathered.none_waits few;
       inputs = inputs-sorted text statements parsed nodes;
       cuts = cuts-sorted text statements parsed nodes;
-      once = ap twice_fault nodes ∙ twice_after-kept [] [] all (λ name. refl) ∙ sym gathered.again ∙ ap (option_map redefinition_fault) once;
-      table = λ name. gathered.table once name ∙ sym (definer-kept all name) ∙ sym (ap (λ list. definer list name) nodes);
-      names = gathered.names once ∙ sym (defined_names-kept all) ∙ ap defined_names (nodes_read text statements nodes);
+      once = subst (Apart []) (sym (node_names-kept all) ∙ ap node_names read) (nodes_apart all (again-none text statements parsed once));
+      defined = gathered.defined few ∙ ap (places statements.names) words;
+      sources = gathered.sources few ∙ ap (places statements.names) sources;
+      outputs = gathered.outputs ∙ ap (places statements.names) (sym outputs);
+      sources_known = subst (λ names. AreKnown names (read_names (statement_list statements.nodes.items))) words
+          (subst (AreKnown (defined_names (plain all))) sources (sources_known all (plain all) used));
+      outputs_known = subst (λ names. AreKnown names (output_words statements)) words
+          (subst (AreKnown (defined_names (plain all))) (sym outputs) (outputs_known all (plain all) used));
     }
 
 -- a line that was noted, as the fault of what is found
@@ -374,55 +368,18 @@ pins-fault : (found : Option (Numbered Statement)) (later : Option BenchFault) �
 pins-fault None later = refl
 pins-fault (Some found) later = refl
 
-twice-fault : (statements : List (Numbered Statement)) (later other : Option BenchFault) → later ≡ other → option_or (twice_fault (nodes_among statements)) later ≡ option_or (twice_fault statements) other
-twice-fault statements later other e = ap (λ answer. option_or answer later) (twice_after-kept [] [] statements (λ name. refl)) ∙ ap (option_or (twice_fault statements)) e
-
-sorted_fault-kept : (statements : List (Numbered Statement)) → Ascends 1 statements → sorted_fault (nodes_among statements) (outputs_among statements) (notes_of statements) ≡ first_fault statements
-sorted_fault-kept statements h =
-    let undefined = ap (λ line. option_or (option_map fault.Undefined line) (too_many_fault (variable_total_among statements))) (undefined_line-kept statements h)
-    ∙ line-fault fault.Undefined (first_that (uses_undefined statements) statements) (too_many_fault (variable_total_among statements)) in
-    let pins = ap (option_or (option_map pins_fault (option_map wrong_pins_of (first_that has_wrong_pins statements)))) undefined
-    ∙ pins-fault (first_that has_wrong_pins statements) _ in
-    let twice = twice-fault statements _ _ pins in
-    let kinds = ap (option_or (option_map fault.KindUnknown (first_passing_line has_unknown_kind statements))) twice ∙ line-fault fault.KindUnknown (first_that has_unknown_kind statements) _ in
-    ap (option_or (option_map fault.Name (first_passing_line has_long_name statements))) kinds ∙ line-fault fault.Name (first_that has_long_name statements) _
-
--- a name is missing in the table of all names where no node defines it
-missing-undefined : (all : List (Numbered Statement)) (statements : Statements) → IsTableOf all statements.lines → is_missing statements.lines ≡ (λ name. not (is_some (definer (nodes_among all) name)))
-missing-undefined all statements table = λ j name. (ap (λ line. not (is_some line)) (table name ∙ sym (definer-kept all name))) j
-
--- so the first line that uses a missing name is the first that uses an undefined one
-unknown-undefined : (all : List (Numbered Statement)) (statements : Statements) → AreGathered all statements → statements.again ≡ None → unknown_line statements ≡ undefined_line (nodes_among all) (outputs_among all)
-unknown-undefined all statements gathered once =
-    let same = missing-undefined all statements (gathered.table once) in
-    let sources = ap (λ (test : List ℕ → Bool). first_passing_line (λ statement. list_any test (sources_of statement)) (source_statements statements)) same
-    ∙ gathered.telling once (list_any (λ name. not (is_some (definer (nodes_among all) name)))) (λ names known. undefined-kept all names ∙ known) in
-    let outputs = ap (λ (test : List ℕ → Bool). first_passing_line (λ statement. list_any test (used_names statement)) (numbered_outputs statements.outputs.items)) same
-    ∙ ap (first_passing_line (uses_undefined (nodes_among all))) gathered.outputs in
-    ap (λ line. option_min line (first_passing_line (uses_missing statements.lines) (numbered_outputs statements.outputs.items))) sources
-    ∙ ap (option_min (first_passing_line (reads_undefined (nodes_among all)) (nodes_among all))) outputs
-
--- what is left of a fault behind a name that is defined again
-behind-again : (all : List (Numbered Statement)) (statements : Statements) (front : Option BenchFault) → AreGathered all statements
-    → option_or (option_map redefinition_fault statements.again) (option_or front (last_fault statements))
-    ≡ option_or (twice_fault (nodes_among all)) (option_or front (option_or (option_map fault.Undefined (undefined_line (nodes_among all) (outputs_among all))) (too_many_fault statements.notes.variables)))
-behind-again all statements front gathered =
-    by_again statements.again refl
-    ∙ ap (λ answer. option_or answer rest) (gathered.again ∙ sym (twice_after-kept [] [] all (λ name. refl)))
-  where
-    rest : Option BenchFault
-    rest = option_or front (option_or (option_map fault.Undefined (undefined_line (nodes_among all) (outputs_among all))) (too_many_fault statements.notes.variables))
-
-    by_again : (again : Option Redefinition) → statements.again ≡ again → option_or (option_map redefinition_fault again) (option_or front (last_fault statements)) ≡ option_or (option_map redefinition_fault again) rest
-    by_again (Some again) is = refl
-    by_again None is = ap (λ line. option_or front (option_or (option_map fault.Undefined line) (too_many_fault statements.notes.variables))) (unknown-undefined all statements gathered is)
-
 -- the fault of the statements that were read is that of all statements of the text
 pub fault_in-first : (text : List ℕ) (statements : Statements) → IsParsed text statements → fault_in statements ≡ first_fault (bench_statements text)
 fault_in-first text statements parsed =
     let all = bench_statements text in
-    let notes = statements.notes in
-    ap (option_or (option_map fault.Name notes.long_name)) (ap (option_or (option_map fault.KindUnknown notes.unknown_kind))
-    (behind-again all statements (option_map pins_fault notes.wrong_pins) parsed.gathered))
-    ∙ ap (sorted_fault (nodes_among all) (outputs_among all)) parsed.gathered.notes
-    ∙ sorted_fault-kept all (numbered_from-Ascends statement_of 1 (lines_of text))
+    let names = λ (notes : Notes) (twice undefined : Option BenchFault).
+    option_or (option_map fault.Name notes.long_name) (option_or (option_map fault.KindUnknown notes.unknown_kind) (option_or twice
+    (option_or (option_map pins_fault notes.wrong_pins) (option_or undefined (too_many_fault notes.variables))))) in
+    let undefined = line-fault fault.Undefined (first_that (uses_undefined all) all) (too_many_fault (variable_total_among all)) in
+    let pins = ap (option_or (option_map pins_fault (option_map wrong_pins_of (first_that has_wrong_pins all)))) undefined ∙ pins-fault (first_that has_wrong_pins all) _ in
+    let twice = ap (option_or (twice_fault all)) pins in
+    let kinds = ap (option_or (option_map fault.KindUnknown (first_passing_line has_unknown_kind all))) twice ∙ line-fault fault.KindUnknown (first_that has_unknown_kind all) _ in
+    ap (λ notes. names notes (option_map redefinition_fault statements.again) (option_map fault.Undefined (first_undefined statements.names))) parsed.gathered.notes
+    ∙ ap (λ twice. names (notes_of all) twice (option_map fault.Undefined (first_undefined statements.names))) parsed.gathered.again
+    ∙ ap (λ line. names (notes_of all) (twice_fault all) (option_map fault.Undefined line)) (undefined-read text statements parsed)
+    ∙ ap (option_or (option_map fault.Name (first_passing_line has_long_name all))) kinds ∙ line-fault fault.Name (first_that has_long_name all) _

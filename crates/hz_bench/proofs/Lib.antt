@@ -1,4 +1,4 @@
--- When a node or a pin may be added
+-- When the node of an entry may be added
 pub mod BuildLemmas
 -- What holds of statements in which the check found no fault
 pub mod CheckedLemmas
@@ -6,20 +6,18 @@ pub mod CheckedLemmas
 pub mod ConnectLemmas
 -- The table of names, statement by statement
 pub mod DefinitionLemmas
--- Lemmas on the table of definitions
-pub mod TableLemmas
+-- The names of a text, statement by statement
+pub mod SeenNames
 -- Entries as statements, and with their lines
 pub mod EntryLemmas
 -- The first answer of the passes over a text is its least fault
 pub mod FaultLaws
--- The circuit of a text without fault is one: it is built step by step, and each step makes a circuit of a circuit
+-- The circuit of a text without fault is one, since its elements make one
 pub mod FaultlessLaws
 -- What is gathered of statements, with one more
 pub mod ReaderLemmas
--- The circuit of checked statements may be built, and each of its gates has a pin
-pub mod AdmissibleLemmas
--- The circuit that is built is the circuit of the statements
-pub mod NetlistLemmas
+-- The circuit of statements is that of their elements, and it is one if the statements have no fault
+pub mod ElementLemmas
 -- What is noted of statements, with one more
 pub mod NoteLemmas
 -- The numbers of the nodes in the order of the text
@@ -40,5 +38,7 @@ pub mod ReadLaws
 pub mod KeptStatements
 -- The statement that a line means, from the head of its tokens
 pub mod StatementLemmas
--- The nodes that names stand for, by the table of definitions
+-- The nodes that names stand for, by their numbers
 pub mod UseLemmas
+-- The first line that uses a name which no statement defines, by the names of the text
+pub mod UndefinedNames

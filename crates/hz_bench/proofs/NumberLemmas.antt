@@ -1,33 +1,20 @@
 -- The numbers of the nodes in the order of the text.
-use Rattle.std.proofs.Common.{◌≡◌, ◌∙◌, ◌≤◌, ℕ, suc, ◌+◌, ◌++◌, false, not, cond, List, [], ◌∷◌, Option, None, Some, length, map, refl, ap, sym, subst, arith, append_assoc, length-append}
+use Rattle.std.proofs.Common.{◌≡◌, ◌∙◌, ◌≤◌, ℕ, suc, ◌+◌, ◌++◌, false, not, cond, List, [], ◌∷◌, length, map, refl, ap, sym, subst, arith, append_assoc, length-append}
 use Rattle.std.specs.List.{list_any}
 use Rattle.std.specs.Str.{bytes_eq}
 use Rattle.std.proofs.lemmas.List.{append-nil, length-map}
 use Rattle.std.proofs.lemmas.Slice.Eq.{bytes_eq-Decides}
 use Rattle.hz_bench.specs.declared.entry.Entry.{Entry}
-use Rattle.hz_bench.specs.declared.forms.Form.{Form}
-use Rattle.hz_bench.specs.declared.forms.Form.TheVariants as form
 use Rattle.hz_bench.specs.Definition.{defined_names}
-use Rattle.hz_bench.specs.Entry.{statement_of_entry, numbered_list, statement_list}
-use Rattle.hz_bench.specs.Netlist.{input_names, cut_names, gate_names, node_names, number_in}
+use Rattle.hz_bench.specs.Entry.{statement_of_entry, statement_list}
+use Rattle.hz_netlist.specs.Circuit.{number_in}
+use Rattle.hz_bench.specs.Netlist.{input_names, cut_names, gate_names, node_names}
 use Rattle.hz_bench.specs.Form.{form_of}
 use Rattle.hz_bench.specs.Statement.{Statement, Input, Output, FlipFlop, Gate}
-use Rattle.hz_bench.specs.Twice.{twice_fault}
 use Rattle.hz_bench.proofs.EntryLemmas.{entry-formed}
-use Rattle.hz_bench.proofs.CheckedLemmas.{Apart, either, nodes_apart}
-use Rattle.hz_bench.proofs.NetlistLemmas.{statement_list-numbered}
-
--- the forms of entries
-abbrev pub forms_of : List Entry → List (Option Form)
-forms_of entries = map (λ entry. Some entry.form) entries
-
--- the numbers of inputs, flip-flops and gates, of which the next have these
-abbrev pub numbers_from : ℕ → ℕ → ℕ → List (Option Form) → List ℕ
-numbers_from input cut gate [] = []
-numbers_from input cut gate (None ∷ rest) = numbers_from input cut gate rest
-numbers_from input cut gate (Some form.Input ∷ rest) = input ∷ numbers_from (suc input) cut gate rest
-numbers_from input cut gate (Some form.FlipFlop ∷ rest) = cut ∷ numbers_from input (suc cut) gate rest
-numbers_from input cut gate (Some (form.Gate kind) ∷ rest) = gate ∷ numbers_from input cut (suc gate) rest
+use Rattle.hz_netlist.specs.Build.{Apart}
+use Rattle.hz_netlist.proofs.Tests.{either}
+use Rattle.hz_bench.specs.Uses.{forms_of, numbers_from}
 
 forms-statement_of_entry : (entries : List Entry) → forms_of entries ≡ map form_of (statement_list entries)
 forms-statement_of_entry [] = refl
@@ -97,14 +84,13 @@ numbers_placed names inputs cuts gates (Gate name kind sources ∷ rest) input c
     (is ∙ ap (λ back. front ++ back) (sym (append_assoc gates (name ∷ []) (gate_names rest)))) first second longer)
 
 -- the numbers that are counted are those of the defined names
-pub numbers-known : (entries : List Entry) → twice_fault (numbered_list entries) ≡ None
+pub numbers-known : (entries : List Entry) → Apart [] (node_names (statement_list entries))
     → numbers_from 0 (length (input_names (statement_list entries))) (length (input_names (statement_list entries)) + length (cut_names (statement_list entries))) (forms_of entries)
     ≡ map (number_in (node_names (statement_list entries))) (defined_names (statement_list entries))
-numbers-known entries once =
+numbers-known entries apart =
     let statements = statement_list entries in
     let inputs = input_names statements in
     let cuts = cut_names statements in
-    let apart = subst (λ (all : List Statement). Apart [] (node_names all)) (statement_list-numbered entries) (nodes_apart (numbered_list entries) once) in
     ap (numbers_from 0 (length inputs) (length inputs + length cuts)) (forms-statement_of_entry entries)
     ∙ numbers_placed (node_names statements) [] [] [] statements 0 (length inputs) (length inputs + length cuts) apart refl refl (ap length (append-nil inputs))
     (ap length (append-nil (inputs ++ cuts)) ∙ length-append inputs cuts)

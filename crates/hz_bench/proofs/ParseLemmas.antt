@@ -1,21 +1,23 @@
 -- Reading the statements of a text line by line.
-use Rattle.std.proofs.Common.{◌≡◌, ◌∙◌, ℕ, ◌+◌, ◌≤◌, suc, List, [], ◌∷◌, ◌++◌, Option, Some, None, option_map, length, map, refl, sym, ap, arith, add-one, append_assoc, IfSome, is_some, lit≤, subst, Bool, true, false, cond}
+use Rattle.std.proofs.Common.{◌≡◌, ◌∙◌, ℕ, ◌+◌, ◌≤◌, suc, List, [], ◌∷◌, ◌++◌, Option, Some, None, option_map, length, refl, sym, ap, arith, add-one, append_assoc, IfSome, is_some, lit≤, subst, Bool, true, false, cond}
 use Rattle.std.specs.Borrow.{Bor}
-use Rattle.std.specs.Map.{lookup}
+use Rattle.hz_netlist.specs.Names.{AreNamesOf, Names, seen_names}
+use Rattle.std.specs.List.{IsDistinct}
 use Rattle.std.specs.Str.{bytes_eq}
 use Rattle.std.proofs.lemmas.List.{append-nil}
 use Rattle.hz_line.specs.declared.bytes.Punctuation.TheVariants.{Open, Close, Comma, Equals}
 use Rattle.hz_line.specs.Line.{lines_of, lines_of_rest, rest_length}
-use Rattle.hz_line.specs.Statement.{Nothing, Means, Numbered, with_meaning, meaning_by, meaning_of_tokens, numbered_from, malformed_before, first_malformed, first_passing_line}
+use Rattle.hz_line.specs.Statement.{Nothing, Means, Numbered, with_meaning, meaning_by, meaning_of_tokens, numbered_from, malformed_before, first_malformed}
 use Rattle.hz_line.specs.Token.{TokenOf, WordOf, PunctuationOf, tokens_of}
 use Rattle.hz_line.proofs.TokenLemmas.{tokens_of-length}
 use Rattle.hz_bench.specs.declared.notes.Notes.{Notes}
 use Rattle.hz_bench.specs.declared.parse.Statements.{Statements}
-use Rattle.hz_bench.specs.Entry.{numbered_list, numbered_outputs, waiting_list}
+use Rattle.hz_bench.specs.Entry.{numbered_list}
+use Rattle.hz_bench.specs.Names.{told}
 use Rattle.hz_bench.specs.ReaderState.{AreGathered, IsNothingRead, AddsStatement}
 use Rattle.hz_bench.specs.Pass.{IsParsed}
 use Rattle.hz_bench.specs.FaultIn.{redefinition_fault}
-use Rattle.hz_bench.specs.Statement.{Statement, Input, Output, FlipFlop, Gate, statement_of, name_list_of, Port, InputPort, OutputPort, port_word, port_of, defined_by, is_flip_flop, kind_named, statement_variable_count, words_of, sources_of}
+use Rattle.hz_bench.specs.Statement.{Statement, Input, Output, FlipFlop, Gate, statement_of, name_list_of, Port, InputPort, OutputPort, port_word, port_of, defined_by, is_flip_flop, kind_named, statement_variable_count, words_of}
 use Rattle.hz_bench.specs.Text.{bench_meaning, bench_statements, variable_total_among}
 use Rattle.hz_bench.proofs.ReaderLemmas.{gathered-more}
 use Rattle.hz_bench.proofs.NoteLemmas.{inputs_few, variable_total-statements, variables-push}
@@ -30,17 +32,21 @@ pub record IsParsing (text : List ℕ) (statements : Statements) (line : ℕ) (l
   pub lines : line + rest_length left ≤ length text + 1
   pub variables : variable_total_among done + rest_length left ≤ length text + 1
 
+distinct-none : (names : Names) → names ≡ [] → IsDistinct bytes_eq (seen_names names)
+unfolding IsDistinct
+distinct-none names none = subst (λ names. IsDistinct bytes_eq (seen_names names)) (sym none) tt
+
 -- of no statement
 gathered-nothing : (statements : Statements) → IsNothingRead statements → AreGathered [] statements
 gathered-nothing statements nothing = record {
-  outputs = ap numbered_outputs nothing.outputs;
+  names = subst (AreNamesOf [] []) (sym nothing.names) (record { definer = λ name. refl; user = λ name. refl });
+  distinct = distinct-none statements.names nothing.names;
+  nodes = λ few. ap numbered_list nothing.nodes;
+  defined = λ few. ap told nothing.defined;
+  sources = λ few. ap told nothing.sources;
+  outputs = ap told nothing.outputs;
   notes = nothing.notes;
   again = ap (option_map redefinition_fault) nothing.again;
-  table = λ once. λ name. ap (lookup (bytes_eq name)) nothing.table;
-  names = λ once. ap (map (λ (entry : List ℕ × ℕ). entry.0)) nothing.table;
-  telling = λ once. λ test. λ fails. ap (first_passing_line (λ statement. test (sources_of statement))) (ap (λ nodes. numbered_list nodes ++ waiting_list statements.waiting.items) nothing.nodes ∙ ap waiting_list nothing.waiting);
-  nodes = λ few. ap numbered_list nothing.nodes;
-  none_waits = λ few. nothing.waiting;
 }
 
 pub IsParsing-begin : (text : Bor (List ℕ)) (statements : Statements) → IsNothingRead statements → IsParsing text.now statements 0 (Some text)
@@ -54,27 +60,9 @@ IsParsing-begin text statements nothing = record {
 }
 
 -- what was read stays where the table takes more room
-pub IsParsing-roomier : (text : List ℕ) (statements more : Statements) (line : ℕ) (left : Option (Bor (List ℕ))) → more.nodes ≡ statements.nodes → more.waiting ≡ statements.waiting → more.outputs ≡ statements.outputs → more.notes ≡ statements.notes → more.again ≡ statements.again
-    → more.lines ≡ statements.lines → IsParsing text statements line left → IsParsing text more line left
-IsParsing-roomier text statements more line left nodes waiting outputs notes again entries was =
-    let gathered = was.gathered in
-    record {
-      done = was.done;
-      gathered = record {
-        outputs = rw outputs gathered.outputs;
-        notes = notes ∙ gathered.notes;
-        again = rw again gathered.again;
-        table = λ once. λ name. ap (lookup (bytes_eq name)) entries ∙ gathered.table (sym again ∙ once) name;
-        names = λ once. ap (map (λ (entry : List ℕ × ℕ). entry.0)) entries ∙ gathered.names (sym again ∙ once);
-        telling = λ once. rw (nodes, waiting) (gathered.telling (sym again ∙ once));
-        nodes = λ few. rw nodes (gathered.nodes (rw (sym notes) few));
-        none_waits = λ few. rw waiting (gathered.none_waits (rw (sym notes) few));
-      };
-      whole = was.whole;
-      formed = was.formed;
-      lines = was.lines;
-      variables = was.variables;
-    }
+pub IsParsing-roomier : (text : List ℕ) (statements : Statements) (names : Names) (line : ℕ) (left : Option (Bor (List ℕ))) → names ≡ statements.names → IsParsing text statements line left
+    → IsParsing text (record statements { names = names }) line left
+IsParsing-roomier text statements names line left same was = subst (λ names. IsParsing text (record statements { names = names }) line left) (sym same) was
 
 -- a statement has no more variables than its line has tokens
 port_weight : (name : List ℕ) (made : Option Port) (statement : Statement) → option_map (port_of name) made ≡ Some statement → statement_variable_count statement ≤ 4

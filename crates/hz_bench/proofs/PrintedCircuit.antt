@@ -14,11 +14,12 @@ use Rattle.hz_core.specs.Netlist.{Netlist, Gate as GateOf, IsCircuit, IsDataAmon
 use Rattle.hz_core.proofs.CircuitLemmas.{same_netlist}
 use Rattle.hz_line.specs.Line.{lines_of}
 use Rattle.hz_line.specs.Statement.{Meaning, Nothing, Malformed, Means, Numbered, with_meaning, numbered_from}
-use Rattle.hz_bench.specs.Netlist.{input_names, cut_names, data_names, data_nodes, gate_names, output_names, all_inputs, node_names, number_in, gates_of, add_once, each_once, circuit_of_statements}
+use Rattle.hz_netlist.specs.Circuit.{number_in, add_once, each_once}
+use Rattle.hz_bench.specs.Netlist.{input_names, cut_names, data_names, data_nodes, gate_names, output_names, all_inputs, node_names, gates_of, circuit_of_statements}
 use Rattle.hz_bench.specs.Statement.{InputPort, OutputPort, Statement, statement_of}
 use Rattle.hz_bench.specs.Text.{bench_meaning, statements_of}
 use Rattle.hz_bench.specs.Printed.{netlist_text}
-use Rattle.hz_bench.proofs.NetlistLemmas.{each_once-append}
+use Rattle.hz_netlist.proofs.BuiltCircuit.{each_once-append}
 use Rattle.hz_bench.proofs.PrintedLines.{ports, cut_statements, gate_statements, statements_for, IsReadAs, printed-IsReadAs}
 
 -- the statements among what lines are

@@ -5,6 +5,8 @@ use Rattle.hz_bench.specs.declared.notes.Notes.{Notes}
 use Rattle.hz_bench.specs.declared.parse.Statements.{Statements}
 use Rattle.hz_bench.specs.declared.fault.BenchFault.{BenchFault}
 use Rattle.hz_bench.specs.declared.fault.BenchFault.TheVariants.{Form, Name, KindUnknown, Twice, Pins, Undefined, TooMany, Memory}
+use Rattle.hz_netlist.proofs.Admissible.{may_build}
+use Rattle.hz_bench.specs.Elements.{elements_of}
 use Rattle.hz_bench.specs.Fault.{Defines, HasFault, fault_number, fault_line_number, ComesFirst, IsLeastFault, IsNetlistRefusal}
 use Rattle.hz_bench.specs.Pass.{IsParsed, IsParseFault, IsAccepted}
 use Rattle.hz_bench.specs.Statement.{defined_name, statement_pin_count}
@@ -12,10 +14,10 @@ use Rattle.hz_bench.specs.Text.{bench_meaning_at, statement_meant, bench_stateme
 use Rattle.hz_bench.specs.Twice.{IsFoundOrMemory, earlier_line}
 use Rattle.hz_bench.proofs.CheckedLemmas.{checked}
 use Rattle.hz_bench.proofs.FaultLaws.{Outcome, form-least, form-none, first_fault-outcome, second-first, line_found}
-use Rattle.hz_bench.proofs.AdmissibleLemmas.{may_build, whole}
+use Rattle.hz_bench.proofs.FaultlessLaws.{whole_text, wired_text}
 use Rattle.hz_bench.proofs.NoteLemmas.{variable_total-statements}
 use Rattle.hz_bench.specs.FaultIn.{fault_in}
-use Rattle.hz_bench.proofs.KeptStatements.{fault_in-first, may_build-sorted}
+use Rattle.hz_bench.proofs.KeptStatements.{buildable, fault_in-first, outputs_read}
 
 -- why a text was not parsed
 pub parse-answer : (text : List ℕ) (fault : BenchFault) → IsParseFault text fault → IsNetlistRefusal text fault
@@ -45,16 +47,18 @@ check-answer text statements Memory parsed h = tt
 
 pub accepted : (text : List ℕ) (statements : Statements) → IsParsed text statements → fault_in statements ≡ None → IsAccepted text statements
 accepted text statements parsed e =
-    let fine = checked (bench_statements text) (sym (fault_in-first text statements parsed) ∙ e) in
+    let none = sym (fault_in-first text statements parsed) ∙ e in
+    let fine = checked (bench_statements text) none in
     let few = fine.few in
     let gathered = parsed.gathered in
+    let outputs = outputs_read text statements parsed in
     let nodes = gathered.nodes (omega (arith, ap (λ (notes : Notes). notes.variables) gathered.notes, variable_total-statements (bench_statements text), few)) in
     record {
       nodes = nodes;
-      outputs = gathered.outputs;
+      outputs = outputs;
       faultless = check-outcome text statements None parsed e;
-      may = may_build-sorted text statements nodes gathered.outputs (may_build (statements_of text) fine);
-      whole = whole (statements_of text) fine;
+      may = buildable text statements nodes outputs (may_build (elements_of (statements_of text)) (wired_text text none)) fine.pins;
+      whole = whole_text text none;
     }
 
 -- the one fault with this number on this line: what it carries besides is the text's

@@ -1,176 +1,241 @@
--- The nodes that names stand for, by the table of definitions.
-use Rattle.std.proofs.Common.{◌≡◌, ◌∙◌, ℕ, ◌+◌, ◌<◌, ◌++◌, ◌||◌, Bool, false, not, cond, List, [], ◌∷◌, Option, Some, None, is_some, option_map, length, map, drop, get_or, refl, ap, sym, append_assoc}
-use Rattle.std.specs.Prelude.{position}
-use Rattle.std.specs.List.{list_any, slice_index_or, AllByRecursion}
-use Rattle.std.specs.Option.{unwrap_or}
+-- The nodes that names stand for, by their numbers.
+use Rattle.std.proofs.Common.{◌≡◌, ◌≢◌, ◌∙◌, refl, sym, ap, subst, ℕ, suc, ◌+◌, ◌<◌, ◌≤◌, ◌||◌, inl, inr, Bool, true, false, List, [], ◌∷◌, ◌++◌, Option, Some, length, map, drop, set, get_or, arith, append_assoc, length-drop}
+use Rattle.std.specs.Prelude.{All}
+use Rattle.std.specs.List.{list_any}
 use Rattle.std.specs.Str.{bytes_eq}
-use Rattle.std.proofs.lemmas.List.{append-nil, at_drop_more, get_or-map}
-use Rattle.std.proofs.lemmas.List.Quantifiers.{position-Some}
+use Rattle.std.proofs.lemmas.Bool.{cases_eq}
+use Rattle.std.proofs.lemmas.List.{append-nil, at_drop_more, get_or-set_other, get_or-set_same, length-map, length-set, map-append}
+use Rattle.std.proofs.lemmas.List.Elements.{All-cons, All-nil, All-tail}
+use Rattle.std.proofs.lemmas.List.Folds.{list_any-append}
 use Rattle.std.proofs.lemmas.Slice.Eq.{bytes_eq-Decides}
-use Rattle.indexmap.proofs.MapLemmas.{some_index}
-use Rattle.hz_core.specs.Least.{option_min}
-use Rattle.hz_core.proofs.LeastLemmas.{option_min-none}
-use Rattle.hz_line.specs.Statement.{Numbered, first_passing_line}
+use Rattle.hz_netlist.specs.Build.{AreKnown}
+use Rattle.hz_netlist.specs.Circuit.{number_in}
+use Rattle.hz_netlist.specs.Names.{AreNumbers, Names, name_at, names_at, node_of, place_in}
+use Rattle.hz_netlist.proofs.Places.{named-at, number-few}
+use Rattle.hz_core.specs.declared.kind.Kind.{Kind}
 use Rattle.hz_bench.specs.declared.entry.Entry.{Entry}
-use Rattle.hz_bench.specs.declared.entry.OutputLine.{OutputLine}
+use Rattle.hz_bench.specs.declared.forms.Form.{Form}
+use Rattle.hz_bench.specs.declared.forms.Form.TheVariants as form
 use Rattle.hz_bench.specs.declared.parse.Statements.{Statements}
-use Rattle.hz_bench.specs.Check.{reads_undefined, uses_undefined, first_that}
-use Rattle.hz_bench.specs.Definition.{Table, definer, defined_names, table_names, IsTableOf}
-use Rattle.hz_bench.specs.Entry.{numbered_list, numbered_output, numbered_outputs, statement_list, output_list, waiting_list}
-use Rattle.hz_bench.specs.Netlist.{node_names, output_names, number_in}
-use Rattle.hz_bench.specs.FaultIn.{source_statements, unknown_line}
-use Rattle.hz_bench.specs.Statement.{Statement, Input, Output, FlipFlop, Gate, sources_of, used_names}
-use Rattle.hz_bench.specs.Uses.{pins_in, number_for, is_unnumbered, numbers_of, pin_numbers}
-use Rattle.hz_bench.proofs.CheckedLemmas.{either, each_fails}
-use Rattle.hz_bench.proofs.DefinitionLemmas.{plain}
-use Rattle.hz_bench.proofs.NetlistLemmas.{statement_list-numbered, output_list-numbered}
-use Rattle.hz_bench.proofs.KeptStatements.{first_passing_line-cons, undefined_line}
+use Rattle.hz_bench.specs.declared.uses.Uses.{Uses}
+use Rattle.hz_bench.specs.Definition.{defined_names}
+use Rattle.hz_bench.specs.Entry.{statement_list, statement_of_entry}
+use Rattle.hz_bench.specs.Form.{form_of}
+use Rattle.hz_bench.specs.Names.{places, read_names, told}
+use Rattle.hz_bench.specs.Netlist.{cut_names, input_names, node_names}
+use Rattle.hz_bench.specs.Statement.{Statement, Input, Output, FlipFlop, Gate, sources_of}
+use Rattle.hz_bench.specs.Uses.{AreNodesOf, AreUsesOf, IsResolvable, forms_of, numbers_from, output_words, pins_in, with_nodes}
+use Rattle.hz_bench.proofs.EntryLemmas.{entry-formed}
+use Rattle.hz_bench.proofs.NumberLemmas.{numbers-known}
+use Rattle.hz_bench.proofs.SeenNames.{first-told}
 
--- one output more
-pub outputs_step : (number : List ℕ → Option ℕ) (found new whole : List ℕ) (line : Option ℕ) (outputs : List OutputLine) (index : ℕ) (output other : OutputLine) → index < length outputs → output ≡ get_or outputs index other
-    → is_unnumbered number output.name.now ≡ false → new ≡ found ++ numbers_of number (output.name.now ∷ [])
-    → first_passing_line (λ statement. list_any (is_unnumbered number) (used_names statement)) (numbered_outputs (drop index outputs)) ≡ line
-    → found ++ numbers_of number (output_names (output_list (drop index outputs))) ≡ whole
-    → (first_passing_line (λ statement. list_any (is_unnumbered number) (used_names statement)) (numbered_outputs (drop (index + 1) outputs)) ≡ line)
-    × (new ++ numbers_of number (output_names (output_list (drop (index + 1) outputs))) ≡ whole)
-outputs_step number found new whole line outputs index output other inside is numbered made rest so_far =
-    let test : Statement → Bool = λ statement. list_any (is_unnumbered number) (used_names statement) in
-    let back = drop (index + 1) outputs in
-    let next : first_passing_line test (numbered_outputs (drop index outputs)) ≡ first_passing_line test (numbered_outputs back) =
-    at_drop_more (λ all. first_passing_line test (numbered_outputs all)) outputs index other inside
-    ∙ ap (λ one. first_passing_line test (numbered_output one ∷ numbered_outputs back)) (sym is)
-    ∙ first_passing_line-cons test (numbered_output output) (numbered_outputs back)
-    ∙ ap (λ b. cond (b || false) (Some output.line) (first_passing_line test (numbered_outputs back))) numbered in
-    let more : numbers_of number (output_names (output_list (drop index outputs))) ≡ numbers_of number (output.name.now ∷ []) ++ numbers_of number (output_names (output_list back)) =
-    at_drop_more (λ all. numbers_of number (output_names (output_list all))) outputs index other inside
-    ∙ ap (λ (one : OutputLine). numbers_of number (output_names (Output one.name.now ∷ output_list back))) (sym is) in (
-      sym next ∙ rest,
-      ap (λ all. all ++ numbers_of number (output_names (output_list back))) made
-          ∙ append_assoc found (numbers_of number (output.name.now ∷ [])) (numbers_of number (output_names (output_list back)))
-          ∙ ap (λ all. found ++ all) (sym more) ∙ so_far,
-    )
+-- numbers of names that were seen are numbers of those names
+pub numbers-told : (names : Names) (numbers : List ℕ) (words : List (List ℕ)) → told numbers ≡ places names words → AreNumbers names numbers
+numbers-told names [] words h = All-nil _
+numbers-told names (number ∷ numbers) [] h = cc
+numbers-told names (number ∷ numbers) (word ∷ words) h =
+    let parts = first-told (Some number) (place_in names word) (told numbers) (places names words) h in
+    All-cons (λ number. number < length names) number numbers (number-few names word number (sym parts.0)) (numbers-told names numbers words parts.1)
 
-is_some-option_map : {A B : Type 0} (f : A → B) (some : Option A) → is_some (option_map f some) ≡ is_some some
-is_some-option_map f None = refl
-is_some-option_map f (Some x) = refl
+pub names-told : (names : Names) (numbers : List ℕ) (words : List (List ℕ)) → told numbers ≡ places names words → names_at names numbers ≡ words
+names-told names [] [] h = refl
+names-told names [] (word ∷ words) h = cc
+names-told names (number ∷ numbers) [] h = cc
+names-told names (number ∷ numbers) (word ∷ words) h =
+    let parts = first-told (Some number) (place_in names word) (told numbers) (places names words) h in
+    ap (λ name. name ∷ names_at names numbers) (named-at names word number (sym parts.0)) ∙ ap (λ later. word ∷ later) (names-told names numbers words parts.1)
 
--- a table of these statements, and the numbers of its names
-pub record TellsNumbers (nodes : List (Numbered Statement)) (lines : Table) (numbers : List ℕ) : Type 0 where
-  pub table : IsTableOf nodes lines
-  pub names : table_names lines ≡ defined_names (plain nodes)
-  pub numbers_are : numbers ≡ map (number_in (node_names (plain nodes))) (defined_names (plain nodes))
+-- the table has the nodes of these names
+abbrev pub HasNodes : Names → List (List ℕ) → List (List ℕ) → List ℕ → Type 0
+HasNodes names all front table =
+    (name : List ℕ) (number : ℕ) → list_any (bytes_eq name) front ≡ true → place_in names name ≡ Some number → node_of table number ≡ number_in all name
 
--- a name has no number where no statement defines it
-unnumbered-undefined : (nodes : List (Numbered Statement)) (lines : Table) (numbers : List ℕ) → TellsNumbers nodes lines numbers
-    → (name : List ℕ) → is_unnumbered (number_for lines numbers) name ≡ not (is_some (definer nodes name))
-unnumbered-undefined nodes lines numbers tells name =
-    ap not (is_some-option_map (λ place. slice_index_or numbers place 0) (position (bytes_eq name) (table_names lines))
-    ∙ some_index (bytes_eq name) lines ∙ ap is_some (tells.table name))
-
--- and where it has one, this is its node's
-known-number : (nodes : List (Numbered Statement)) (lines : Table) (numbers : List ℕ) → TellsNumbers nodes lines numbers
-    → (name : List ℕ) → is_unnumbered (number_for lines numbers) name ≡ false → unwrap_or (number_for lines numbers name) 0 ≡ number_in (node_names (plain nodes)) name
-known-number nodes lines numbers tells name h = by_place (position (bytes_eq name) (table_names lines)) refl h
+-- a name that is among names and one more, and is not that one, is among them
+among-front : (name last : List ℕ) (front : List (List ℕ)) → name ≢ last → list_any (bytes_eq name) (front ++ last ∷ []) ≡ true → list_any (bytes_eq name) front ≡ true
+among-front name last front differ among =
+    by_test (list_any (bytes_eq name) front) (bytes_eq name last) refl (sym (list_any-append (bytes_eq name) front (last ∷ [])) ∙ among)
   where
-    by_place : (place : Option ℕ) → position (bytes_eq name) (table_names lines) ≡ place → not (is_some (option_map (λ at. slice_index_or numbers at 0) place)) ≡ false
-        → unwrap_or (option_map (λ at. slice_index_or numbers at 0) place) 0 ≡ number_in (node_names (plain nodes)) name
-    by_place None e h = cc
-    by_place (Some at) e h =
-        let found = position-Some (bytes_eq name) (table_names lines) at [] e in
-        let same : name ≡ get_or (table_names lines) at [] = (bytes_eq-Decides name _).0 found.1 in
-        let numbers_is : numbers ≡ map (number_in (node_names (plain nodes))) (table_names lines) = tells.numbers_are ∙ ap (map (number_in (node_names (plain nodes)))) (sym tells.names) in
-        ap (λ all. slice_index_or all at 0) numbers_is
-        ∙ get_or-map (number_in (node_names (plain nodes))) (table_names lines) at [] 0 found.0
-        ∙ ap (number_in (node_names (plain nodes))) (sym same)
+    by_test : (before here : Bool) → bytes_eq name last ≡ here → (before || (here || false)) ≡ true → before ≡ true
+    by_test true here is h = refl
+    by_test false true is h = absurd (differ ((bytes_eq-Decides name last).0 is))
+    by_test false false is h = let e : false ≡ true = h in cc
 
-numbers_of-known : (number : List ℕ → Option ℕ) (names : List (List ℕ)) → ((name : List ℕ) → is_unnumbered number name ≡ false → unwrap_or (number name) 0 ≡ number_in names name)
-    → (uses : List (List ℕ)) → list_any (is_unnumbered number) uses ≡ false → numbers_of number uses ≡ map (number_in names) uses
-numbers_of-known number names known [] h = refl
-numbers_of-known number names known (name ∷ uses) h =
-    let parts = either (is_unnumbered number name) _ h in
-    ap (λ one. one ∷ numbers_of number uses) (known name parts.0) ∙ ap (λ rest. number_in names name ∷ rest) (numbers_of-known number names known uses parts.1)
+Some-same : (one other : ℕ) → Some one ≡ Some other → one ≡ other
+Some-same one other e = cc
 
-pin_numbers-known : (number : List ℕ → Option ℕ) (names : List (List ℕ)) → ((name : List ℕ) → is_unnumbered number name ≡ false → unwrap_or (number name) 0 ≡ number_in names name)
-    → (statements : List Statement) → AllByRecursion (λ statement. list_any (is_unnumbered number) (sources_of statement) ≡ false) statements → pin_numbers number statements ≡ pins_in names statements
-pin_numbers-known number names known [] h = refl
-pin_numbers-known number names known (statement ∷ rest) h =
-    ap (λ front. front ++ pin_numbers number rest) (numbers_of-known number names known (sources_of statement) h.0)
-    ∙ ap (λ back. map (number_in names) (sources_of statement) ++ back) (pin_numbers-known number names known rest h.1)
+Some-first : (one other : ℕ) (rest more : List ℕ) → one ∷ rest ≡ other ∷ more → (one ≡ other) × (rest ≡ more)
+Some-first one other rest more h = (cc h, cc h)
 
-output_numbers-known : (number : List ℕ → Option ℕ) (names : List (List ℕ)) → ((name : List ℕ) → is_unnumbered number name ≡ false → unwrap_or (number name) 0 ≡ number_in names name)
-    → (statements : List Statement) → AllByRecursion (λ statement. list_any (is_unnumbered number) (used_names statement) ≡ false) statements → numbers_of number (output_names statements) ≡ map (number_in names) (output_names statements)
-output_numbers-known number names known [] h = refl
-output_numbers-known number names known (Input name ∷ rest) h = output_numbers-known number names known rest h.1
-output_numbers-known number names known (Output name ∷ rest) h =
-    ap (λ one. one ∷ numbers_of number (output_names rest)) (known name (either (is_unnumbered number name) false h.0).0)
-    ∙ ap (λ back. number_in names name ∷ back) (output_numbers-known number names known rest h.1)
-output_numbers-known number names known (FlipFlop name sources ∷ rest) h = output_numbers-known number names known rest h.1
-output_numbers-known number names known (Gate name kind sources ∷ rest) h = output_numbers-known number names known rest h.1
+-- a table in which these names have their nodes
+pub nodes-placed : (names : Names) (all front : List (List ℕ)) (table defined numbers : List ℕ) (words : List (List ℕ)) → told defined ≡ places names words → numbers ≡ map (number_in all) words → length table ≡ length names
+    → HasNodes names all front table → HasNodes names all (front ++ words) (with_nodes table defined numbers) × (length (with_nodes table defined numbers) ≡ length names)
+nodes-placed names all front table [] numbers [] h are long has = (subst (λ front. HasNodes names all front table) (sym (append-nil front)) has, long)
+nodes-placed names all front table [] numbers (word ∷ words) h are long has = cc
+nodes-placed names all front table (number ∷ defined) numbers [] h are long has = cc
+nodes-placed names all front table (number ∷ defined) [] (word ∷ words) h are long has = cc
+nodes-placed names all front table (number ∷ defined) (node ∷ numbers) (word ∷ words) h are long has =
+    let parts = first-told (Some number) (place_in names word) (told defined) (places names words) h in
+    let nodes = Some-first node (number_in all word) numbers (map (number_in all) words) are in
+    let few : number < length table = (let below = number-few names word number (sym parts.0) in omega (arith, below, long)) in
+    let more : HasNodes names all (front ++ word ∷ []) (set table number node) = λ name other among at. elim (cases_eq other number) [
+      | inl same ↦
+          let is : name ≡ word = sym (named-at names name other at) ∙ (ap (name_at names) same ∙ named-at names word number (sym parts.0)) in
+          ap (node_of (set table number node)) same ∙ (get_or-set_same table number node 0 few ∙ (nodes.0 ∙ ap (number_in all) (sym is)))
+      | inr differ ↦
+          get_or-set_other table number other node 0 differ
+          ∙ has name other (among-front name word front (λ same. differ (Some-same other number (sym at ∙ (ap (place_in names) same ∙ sym parts.0)))) among) at
+    ] in
+    let rest = nodes-placed names all (front ++ word ∷ []) (set table number node) defined numbers words parts.1 nodes.1 (length-set table number node ∙ long) more in
+    (subst (λ all'. HasNodes names all all' (with_nodes (set table number node) defined numbers)) (append_assoc front (word ∷ []) words) rest.0, rest.1)
 
--- no line passes a test that finds none
-no_line : (test : Statement → Bool) (statements : List (Numbered Statement)) → first_passing_line test statements ≡ None → AllByRecursion (λ statement. test statement ≡ false) (plain statements)
-no_line test statements h = each_fails test statements (nothing (first_that test statements) h)
+-- no name has a node in any table
+pub nodes-none : (names : Names) (all : List (List ℕ)) (table : List ℕ) → HasNodes names all [] table
+nodes-none names all table = λ name number among at. cc
+
+-- the nodes of names that the table has
+pub nodes-told : (names : Names) (all defined : List (List ℕ)) (table numbers : List ℕ) (words : List (List ℕ)) → HasNodes names all defined table → told numbers ≡ places names words → AreKnown defined words
+    → map (node_of table) numbers ≡ map (number_in all) words
+nodes-told names all defined table [] [] has h known = refl
+nodes-told names all defined table [] (word ∷ words) has h known = cc
+nodes-told names all defined table (number ∷ numbers) [] has h known = cc
+nodes-told names all defined table (number ∷ numbers) (word ∷ words) has h known =
+    let parts = first-told (Some number) (place_in names word) (told numbers) (places names words) h in
+    ap (λ node. node ∷ map (node_of table) numbers) (has word number known.0 (sym parts.0))
+    ∙ ap (λ later. number_in all word ∷ later) (nodes-told names all defined table numbers words has parts.1 known.1)
+
+-- the nodes that pins read, one after the other
+pub pins-read : (names : List (List ℕ)) (statements : List Statement) → pins_in names statements ≡ map (number_in names) (read_names statements)
+pins-read names [] = refl
+pins-read names (first ∷ rest) = ap (λ later. map (number_in names) (sources_of first) ++ later) (pins-read names rest) ∙ sym (map-append (number_in names) (sources_of first) (read_names rest))
+
+-- how many names nodes define: one each
+defined-count : (entries : List Entry) → length (defined_names (statement_list entries)) ≡ length entries
+defined-count [] = refl
+defined-count (entry ∷ rest) = by_statement entry.form (statement_of_entry entry) (sym (entry-formed entry)) (defined-count rest)
   where
-    nothing : (found : Option (Numbered Statement)) → option_map (λ (numbered : Numbered Statement). numbered.line) found ≡ None → found ≡ None
-    nothing None h = refl
-    nothing (Some one) h = cc
+    by_statement : (made : Form) (statement : Statement) → form_of statement ≡ Some made → length (defined_names (statement_list rest)) ≡ length rest → length (defined_names (statement ∷ statement_list rest)) ≡ suc (length rest)
+    by_statement made (Input name) h ih = ap suc ih
+    by_statement made (Output name) h ih = cc
+    by_statement made (FlipFlop name sources) h ih = ap suc ih
+    by_statement made (Gate name kind sources) h ih = ap suc ih
 
-module _ (nodes outputs : List (Numbered Statement)) (lines : Table) (numbers : List ℕ) (tells : TellsNumbers nodes lines numbers) where
-  same_test : is_unnumbered (number_for lines numbers) ≡ (λ name. not (is_some (definer nodes name)))
-  same_test = λ j name. unnumbered-undefined nodes lines numbers tells name j
+pub numbers-each : (statements : Statements) → IsResolvable statements → length statements.defined.items ≡ length statements.nodes.items
+numbers-each statements can =
+    let entries = statements.nodes.items in
+    let defs = defined_names (statement_list entries) in
+    omega (arith, ap length can.defined, length-map statements.defined.items (λ (number : ℕ). Some number), length-map defs (place_in statements.names), defined-count entries)
 
-  -- the first lines that use a name without a number are those that use an undefined one
-  pub resolved-line : (source output : Option ℕ)
-      → source ≡ first_passing_line (λ statement. list_any (is_unnumbered (number_for lines numbers)) (sources_of statement)) nodes
-      → output ≡ first_passing_line (λ statement. list_any (is_unnumbered (number_for lines numbers)) (used_names statement)) outputs
-      → option_min source output ≡ undefined_line nodes outputs
-  resolved-line source output first second =
-      ap (λ one. option_min one output) (first ∙ ap (λ (test : List ℕ → Bool). first_passing_line (λ statement. list_any test (sources_of statement)) nodes) same_test)
-      ∙ ap (option_min (first_passing_line (reads_undefined nodes) nodes)) (second ∙ ap (λ (test : List ℕ → Bool). first_passing_line (λ statement. list_any test (used_names statement)) outputs) same_test)
+-- the table of nodes that is made of what was read
+pub nodes-made : (statements : Statements) (none table : List ℕ) (cuts gates : ℕ) → IsResolvable statements → length none ≡ length statements.names → cuts ≡ statements.notes.inputs → gates ≡ cuts + statements.notes.cuts
+    → table ≡ with_nodes none statements.defined.items (numbers_from 0 cuts gates (forms_of statements.nodes.items)) → AreNodesOf statements table
+nodes-made statements none table cuts gates can long cuts_is gates_is made =
+    let entries = statements.nodes.items in
+    let list = statement_list entries in
+    let all = node_names list in
+    let first : cuts ≡ length (input_names list) = cuts_is ∙ can.inputs in
+    let second : gates ≡ length (input_names list) + length (cut_names list) = gates_is ∙ ap (λ n. n + statements.notes.cuts) first ∙ ap (λ n. length (input_names list) + n) can.cuts in
+    let numbers = ap (λ n. numbers_from 0 n gates (forms_of entries)) first ∙ ap (λ n. numbers_from 0 (length (input_names list)) n (forms_of entries)) second ∙ numbers-known entries can.once in
+    let placed = nodes-placed statements.names all [] none statements.defined.items (numbers_from 0 cuts gates (forms_of entries)) (defined_names list) can.defined numbers long (nodes-none statements.names all none) in
+    record {
+      long = ap length made ∙ placed.1;
+      node = λ name number among at. ap (λ table. node_of table number) made ∙ placed.0 name number among at;
+    }
 
-  -- where there is none, the numbers are those of the nodes
-  pub resolved-pins : first_passing_line (λ statement. list_any (is_unnumbered (number_for lines numbers)) (sources_of statement)) nodes ≡ None
-      → pin_numbers (number_for lines numbers) (plain nodes) ≡ pins_in (node_names (plain nodes)) (plain nodes)
-  resolved-pins none = pin_numbers-known (number_for lines numbers) (node_names (plain nodes)) (known-number nodes lines numbers tells) (plain nodes) (no_line _ nodes none)
+-- and the uses that it tells
+pub uses-told : (statements : Statements) (table : List ℕ) (uses : Uses) → IsResolvable statements → AreNodesOf statements table → uses.pins.items ≡ map (node_of table) statements.sources.items
+    → uses.outputs.items ≡ map (node_of table) statements.outputs.items → AreUsesOf statements uses
+uses-told statements table uses can are pins outputs =
+    let list = statement_list statements.nodes.items in
+    let all = node_names list in
+    record {
+      pins_are = pins ∙ nodes-told statements.names all (defined_names list) table statements.sources.items (read_names list) are.node can.sources can.sources_known ∙ sym (pins-read all list);
+      outputs_are = outputs ∙ nodes-told statements.names all (defined_names list) table statements.outputs.items (output_words statements) are.node can.outputs can.outputs_known;
+    }
 
-  pub resolved-outputs : first_passing_line (λ statement. list_any (is_unnumbered (number_for lines numbers)) (used_names statement)) outputs ≡ None
-      → numbers_of (number_for lines numbers) (output_names (plain outputs)) ≡ map (number_in (node_names (plain nodes))) (output_names (plain outputs))
-  resolved-outputs none = output_numbers-known (number_for lines numbers) (node_names (plain nodes)) (known-number nodes lines numbers tells) (plain outputs) (no_line _ outputs none)
+-- numbers of names are places in the table
+pub sources-below : (statements : Statements) (table : List ℕ) → IsResolvable statements → AreNodesOf statements table → All (λ number. number < length table) statements.sources.items
+sources-below statements table can are =
+    subst (λ (count : ℕ). All (λ number. number < count) statements.sources.items) (sym are.long) (numbers-told statements.names statements.sources.items (read_names (statement_list statements.nodes.items)) can.sources)
 
-pub tells-numbers : (entries : List Entry) (lines : Table) (numbers : List ℕ) → IsTableOf (numbered_list entries) lines → table_names lines ≡ defined_names (statement_list entries)
-    → numbers ≡ map (number_in (node_names (statement_list entries))) (defined_names (statement_list entries)) → TellsNumbers (numbered_list entries) lines numbers
-tells-numbers entries lines numbers table names are =
-    let same = sym (statement_list-numbered entries) in
-    record { table = table; names = names ∙ ap defined_names same; numbers_are = are ∙ ap (λ all. map (number_in (node_names all)) (defined_names all)) same }
+pub outputs-below : (statements : Statements) (table : List ℕ) → IsResolvable statements → AreNodesOf statements table → All (λ number. number < length table) statements.outputs.items
+outputs-below statements table can are =
+    subst (λ (count : ℕ). All (λ number. number < count) statements.outputs.items) (sym are.long) (numbers-told statements.names statements.outputs.items (output_words statements) can.outputs)
 
--- what was found where no line uses an undefined name
-pub resolved : (entries : List Entry) (outputs : List OutputLine) (lines : Table) (numbers pins found : List ℕ) (source output : Option ℕ) → TellsNumbers (numbered_list entries) lines numbers
-    → source ≡ first_passing_line (λ statement. list_any (is_unnumbered (number_for lines numbers)) (sources_of statement)) (numbered_list entries)
-    → output ≡ first_passing_line (λ statement. list_any (is_unnumbered (number_for lines numbers)) (used_names statement)) (numbered_outputs outputs)
-    → (source ≡ None → pins ≡ pin_numbers (number_for lines numbers) (statement_list entries))
-    → (output ≡ None → found ≡ numbers_of (number_for lines numbers) (output_names (output_list outputs)))
-    → option_min source output ≡ None
-    → (undefined_line (numbered_list entries) (numbered_outputs outputs) ≡ None)
-    × (pins ≡ pins_in (node_names (statement_list entries)) (statement_list entries))
-    × (found ≡ map (number_in (node_names (statement_list entries))) (output_names (output_list outputs)))
-resolved entries outputs lines numbers pins found source output tells first second pins_are found_are none =
-    let parts = option_min-none source output none in
-    let nodes = numbered_list entries in
-    let list = numbered_outputs outputs in
-    let same = statement_list-numbered entries in
-    let same_outputs = output_list-numbered outputs in (
-      sym (resolved-line nodes list lines numbers tells source output first second) ∙ none,
-      pins_are parts.0 ∙ ap (pin_numbers (number_for lines numbers)) (sym same) ∙ resolved-pins nodes list lines numbers tells (sym first ∙ parts.0)
-          ∙ ap (λ all. pins_in (node_names all) all) same,
-      found_are parts.1 ∙ ap (λ all. numbers_of (number_for lines numbers) (output_names all)) (sym same_outputs) ∙ resolved-outputs nodes list lines numbers tells (sym second ∙ parts.1)
-          ∙ ap (λ all. map (number_in (node_names all)) (output_names (plain list))) same ∙ ap (λ all. map (number_in (node_names (statement_list entries))) (output_names all)) same_outputs,
-    )
+pub defined-below : (statements : Statements) (none : List ℕ) → IsResolvable statements → length none ≡ length statements.names → All (λ number. number < length none) statements.defined.items
+defined-below statements none can long =
+    subst (λ (count : ℕ). All (λ number. number < count) statements.defined.items) (sym long) (numbers-told statements.names statements.defined.items (defined_names (statement_list statements.nodes.items)) can.defined)
 
--- in a table of all nodes, where no gate waits, a name is missing where it is undefined
-pub unknown-listed : (statements : Statements) → IsTableOf (numbered_list statements.nodes.items) statements.lines → statements.waiting.items ≡ []
-    → unknown_line statements ≡ undefined_line (numbered_list statements.nodes.items) (numbered_outputs statements.outputs.items)
-unknown-listed statements table none_waits =
-    ap (λ (missing : List ℕ → Bool). option_min (first_passing_line (λ statement. list_any missing (sources_of statement)) (source_statements statements)) (first_passing_line (λ statement. list_any missing (used_names statement)) (numbered_outputs statements.outputs.items)))
-    (λ j name. (ap (λ line. not (is_some line)) (table name)) j)
-    ∙ ap (λ list. option_min (first_passing_line (reads_undefined (numbered_list statements.nodes.items)) list) (first_passing_line (uses_undefined (numbered_list statements.nodes.items)) (numbered_outputs statements.outputs.items)))
-    (ap (λ waiting. numbered_list statements.nodes.items ++ waiting_list waiting) none_waits ∙ append-nil (numbered_list statements.nodes.items))
+-- one node more is placed
+placed-first : (table left : List ℕ) (node : ℕ) (numbers : List ℕ) → 0 < length left → with_nodes table left (node ∷ numbers) ≡ with_nodes (set table (get_or left 0 0) node) (drop 1 left) numbers
+placed-first table [] node numbers some = absurd (omega (arith, some))
+placed-first table (name ∷ left) node numbers some = refl
+
+pub below-rest : (bound : ℕ) (left : List ℕ) → All (λ number. number < bound) left → All (λ number. number < bound) (drop 1 left)
+below-rest bound [] below = All-nil _
+below-rest bound (name ∷ left) below = All-tail (λ number. number < bound) name left below
+
+module _ (whole table left : List ℕ) (input cut gate : ℕ) (entries : List Entry) (index : ℕ) (entry : Entry) (inside : index < length entries) (is : entry ≡ get_or entries index entry) (some : 0 < length left)
+    (rest : with_nodes table left (numbers_from input cut gate (forms_of (drop index entries))) ≡ whole) where
+  next-is : with_nodes table left (numbers_from input cut gate (Some entry.form ∷ forms_of (drop (index + 1) entries))) ≡ whole
+  next-is = sym (at_drop_more (λ all. with_nodes table left (numbers_from input cut gate (forms_of all))) entries index entry inside
+      ∙ ap (λ (one : Entry). with_nodes table left (numbers_from input cut gate (Some one.form ∷ forms_of (drop (index + 1) entries)))) (sym is)) ∙ rest
+
+  pub input-placed : entry.form ≡ form.Input → with_nodes (set table (get_or left 0 0) input) (drop 1 left) (numbers_from (input + 1) cut gate (forms_of (drop (index + 1) entries))) ≡ whole
+  input-placed h =
+      let one : input + 1 ≡ suc input = omega arith in
+      ap (λ n. with_nodes (set table (get_or left 0 0) input) (drop 1 left) (numbers_from n cut gate (forms_of (drop (index + 1) entries)))) one
+      ∙ sym (placed-first table left input (numbers_from (suc input) cut gate (forms_of (drop (index + 1) entries))) some)
+      ∙ sym (ap (λ form. with_nodes table left (numbers_from input cut gate (Some form ∷ forms_of (drop (index + 1) entries)))) h) ∙ next-is
+
+  pub cut-placed : entry.form ≡ form.FlipFlop → with_nodes (set table (get_or left 0 0) cut) (drop 1 left) (numbers_from input (cut + 1) gate (forms_of (drop (index + 1) entries))) ≡ whole
+  cut-placed h =
+      let one : cut + 1 ≡ suc cut = omega arith in
+      ap (λ n. with_nodes (set table (get_or left 0 0) cut) (drop 1 left) (numbers_from input n gate (forms_of (drop (index + 1) entries)))) one
+      ∙ sym (placed-first table left cut (numbers_from input (suc cut) gate (forms_of (drop (index + 1) entries))) some)
+      ∙ sym (ap (λ form. with_nodes table left (numbers_from input cut gate (Some form ∷ forms_of (drop (index + 1) entries)))) h) ∙ next-is
+
+  pub gate-placed : (kind : Option Kind) → entry.form ≡ form.Gate kind → with_nodes (set table (get_or left 0 0) gate) (drop 1 left) (numbers_from input cut (gate + 1) (forms_of (drop (index + 1) entries))) ≡ whole
+  gate-placed kind h =
+      let one : gate + 1 ≡ suc gate = omega arith in
+      ap (λ n. with_nodes (set table (get_or left 0 0) gate) (drop 1 left) (numbers_from input cut n (forms_of (drop (index + 1) entries)))) one
+      ∙ sym (placed-first table left gate (numbers_from input cut (suc gate) (forms_of (drop (index + 1) entries))) some)
+      ∙ sym (ap (λ form. with_nodes table left (numbers_from input cut gate (Some form ∷ forms_of (drop (index + 1) entries)))) h) ∙ next-is
+
+-- the nodes so far are placed: what is left leads to the whole table
+pub record IsPlacing (whole : List ℕ) (long cuts gates : ℕ) (entries : List Entry) (index : ℕ) (table left : List ℕ) (input cut gate : ℕ) : Type 0 where
+  pub rest : with_nodes table left (numbers_from input cut gate (forms_of (drop index entries))) ≡ whole
+  pub table_long : length table ≡ long
+  pub below : All (λ number. number < long) left
+  pub each : length left + index ≡ length entries
+  pub input_few : input ≤ index
+  pub cut_few : cut ≤ cuts + index
+  pub gate_few : gate ≤ gates + index
+
+module _ (whole : List ℕ) (long cuts gates : ℕ) (entries : List Entry) (index : ℕ) (table left : List ℕ) (input cut gate : ℕ) (entry : Entry) (inside : index < length entries) (is : entry ≡ get_or entries index entry)
+    (was : IsPlacing whole long cuts gates entries index table left input cut gate) where
+  some-left : 0 < length left
+  some-left = omega (arith, inside, was.each)
+
+  placing : (table' : List ℕ) (input' cut' gate' : ℕ) → length table' ≡ length table → with_nodes table' (drop 1 left) (numbers_from input' cut' gate' (forms_of (drop (index + 1) entries))) ≡ whole
+      → input' ≤ input + 1 → cut' ≤ cut + 1 → gate' ≤ gate + 1 → IsPlacing whole long cuts gates entries (index + 1) table' (drop 1 left) input' cut' gate'
+  placing table' input' cut' gate' same rest a b c = record {
+    rest = rest;
+    table_long = same ∙ was.table_long;
+    below = below-rest long left was.below;
+    each = omega (arith, was.each, length-drop 1 left, some-left);
+    input_few = omega (arith, a, was.input_few);
+    cut_few = omega (arith, b, was.cut_few);
+    gate_few = omega (arith, c, was.gate_few);
+  }
+
+  pub placing-input : entry.form ≡ form.Input → IsPlacing whole long cuts gates entries (index + 1) (set table (get_or left 0 0) input) (drop 1 left) (input + 1) cut gate
+  placing-input h = placing (set table (get_or left 0 0) input) (input + 1) cut gate (length-set table (get_or left 0 0) input)
+      (input-placed whole table left input cut gate entries index entry inside is some-left was.rest h) (omega arith) (omega arith) (omega arith)
+
+  pub placing-cut : entry.form ≡ form.FlipFlop → IsPlacing whole long cuts gates entries (index + 1) (set table (get_or left 0 0) cut) (drop 1 left) input (cut + 1) gate
+  placing-cut h = placing (set table (get_or left 0 0) cut) input (cut + 1) gate (length-set table (get_or left 0 0) cut)
+      (cut-placed whole table left input cut gate entries index entry inside is some-left was.rest h) (omega arith) (omega arith) (omega arith)
+
+  pub placing-gate : (kind : Option Kind) → entry.form ≡ form.Gate kind → IsPlacing whole long cuts gates entries (index + 1) (set table (get_or left 0 0) gate) (drop 1 left) input cut (gate + 1)
+  placing-gate kind h = placing (set table (get_or left 0 0) gate) input cut (gate + 1) (length-set table (get_or left 0 0) gate)
+      (gate-placed whole table left input cut gate entries index entry inside is some-left was.rest kind h) (omega arith) (omega arith) (omega arith)

@@ -4,7 +4,7 @@ use Rattle.std.specs.Option.{option_or}
 use Rattle.std.specs.List.{list_any}
 use Rattle.hz_line.specs.Statement.{Numbered}
 use Rattle.hz_bench.specs.Definition.{definer}
-use Rattle.hz_bench.specs.Statement.{Statement, sources_of, used_names, has_long_name, has_unknown_kind, has_wrong_pins, statement_pin_count}
+use Rattle.hz_bench.specs.Statement.{Statement, used_names, has_long_name, has_unknown_kind, has_wrong_pins, statement_pin_count}
 use Rattle.hz_bench.specs.Text.{variable_total_among}
 use Rattle.hz_bench.specs.Twice.{twice_fault}
 use Rattle.hz_bench.specs.declared.fault.BenchFault.{BenchFault}
@@ -14,10 +14,6 @@ use Rattle.hz_core.specs.Limits.{most_variables}
 -- the statement uses a name that none of these defines
 abbrev pub uses_undefined : List (Numbered Statement) → Statement → Bool
 uses_undefined statements statement = list_any (λ name. not (is_some (definer statements name))) (used_names statement)
-
--- the pins of the statement read a name that none of these defines
-abbrev pub reads_undefined : List (Numbered Statement) → Statement → Bool
-reads_undefined statements statement = list_any (λ name. not (is_some (definer statements name))) (sources_of statement)
 
 -- the first statement that passes a test
 abbrev pub first_that : (Statement → Bool) → List (Numbered Statement) → Option (Numbered Statement)

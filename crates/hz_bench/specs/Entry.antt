@@ -1,13 +1,12 @@
 -- The statement of an entry.
-use Rattle.std.specs.Prelude.{List, [], map, None}
+use Rattle.std.specs.Prelude.{List, map}
 use Rattle.hz_line.specs.Statement.{Numbered}
 use Rattle.hz_bench.specs.declared.entry.Entry.{Entry}
 use Rattle.hz_bench.specs.declared.entry.Line.{Line}
 use Rattle.hz_bench.specs.declared.entry.Line.TheVariants as line
 use Rattle.hz_bench.specs.declared.entry.OutputLine.{OutputLine}
-use Rattle.hz_bench.specs.declared.entry.Waiting.{Waiting}
 use Rattle.hz_bench.specs.Form.{statement_with}
-use Rattle.hz_bench.specs.Statement.{Statement, Output, Gate, words_in}
+use Rattle.hz_bench.specs.Statement.{Statement, Output}
 
 -- the statement that an entry is
 abbrev pub statement_of_entry : Entry → Statement
@@ -33,19 +32,3 @@ numbered_output output = record { line = output.line; statement = Output output.
 abbrev pub numbered_line : Line → Numbered Statement
 numbered_line (line.Node entry) = numbered_of entry
 numbered_line (line.Output output) = numbered_output output
-
--- a flip-flop or a gate that waits, as a statement with its line: its sources matter, and not its name or its kind
-abbrev pub numbered_waiting : Waiting → Numbered Statement
-numbered_waiting gate = record { line = gate.line; statement = Gate [] None (words_in gate.sources.now) }
-
--- those that wait, as statements with their lines
-abbrev pub waiting_list : List Waiting → List (Numbered Statement)
-waiting_list waiting = map numbered_waiting waiting
-
--- lines of outputs as statements with their lines
-abbrev pub numbered_outputs : List OutputLine → List (Numbered Statement)
-numbered_outputs outputs = map numbered_output outputs
-
--- the statements of lines of outputs
-abbrev pub output_list : List OutputLine → List Statement
-output_list outputs = map (λ output. Output output.name.now) outputs

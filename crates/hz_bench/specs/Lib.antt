@@ -16,18 +16,17 @@
 -- variable_total statements: how many variables their network has
 -- first_fault statements: the first fault, as a function
 -- definer statements name: the line that defines a name first
--- Table, line_for table name: the names that were defined, with their lines
+-- definitions_of statements, uses_of statements: the names that statements define and use, with their lines
+-- with_statement names one: the table of names with those of a statement
 -- notes_of statements: what is kept of statements for the faults of a single line
 -- twice_fault statements: the first name that is defined again
 -- IsParsed text statements: what one pass over a text keeps
 -- AreGathered done statements: the same for a part of the text
 -- AddsStatement old next new: what the pass does with one statement
--- HaveSameUndefined all some: the first undefined name of all statements is found among these
 -- fault_in statements: the first fault of what was kept
 -- IsAccepted text statements: a text without a fault
 -- AreUses nodes outputs uses: the numbers of the names that are used
--- built_netlist nodes outputs: the circuit, built step by step
--- MayBuild nodes outputs: each of these steps may be taken
+-- elements_of statements: the elements of a circuit that statements are
 
 pub mod Statement
 pub mod Form
@@ -35,7 +34,7 @@ pub mod Text
 pub mod Entry
 pub mod Head
 pub mod Definition
-pub mod Table
+pub mod Names
 pub mod Twice
 pub mod Pass
 pub mod Check
@@ -44,6 +43,6 @@ pub mod FaultIn
 pub mod ReaderState
 pub mod Fault
 pub mod Netlist
-pub mod BuiltNetlist
+pub mod Elements
 pub mod Printed
 pub mod Uses

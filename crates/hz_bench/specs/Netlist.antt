@@ -1,11 +1,11 @@
 -- The circuit of statements.
-use Rattle.std.specs.Prelude.{ℕ, List, [], ◌∷◌, ◌++◌, length, map, fold, nat_eq, Option, Some, if◌then◌else◌}
-use Rattle.std.specs.List.{list_any, position_or_len, slice_index_or}
+use Rattle.std.specs.Prelude.{ℕ, List, [], ◌∷◌, ◌++◌, length, map, Option, Some}
+use Rattle.std.specs.List.{slice_index_or}
 use Rattle.std.specs.Option.{unwrap_or}
-use Rattle.std.specs.Str.{bytes_eq}
 use Rattle.hz_core.specs.declared.kind.Kind.{Kind}
 use Rattle.hz_core.specs.declared.kind.Kind.TheVariants.{And}
 use Rattle.hz_core.specs.Netlist as netlist
+use Rattle.hz_netlist.specs.Circuit.{each_once, number_in}
 use Rattle.hz_bench.specs.Statement.{Statement, Input, Output, FlipFlop, Gate}
 
 -- the names of the inputs, in order
@@ -60,10 +60,6 @@ all_inputs statements = input_names statements ++ cut_names statements
 abbrev pub node_names : List Statement → List (List ℕ)
 node_names statements = all_inputs statements ++ gate_names statements
 
--- the number of the node with a name: its place
-abbrev pub number_in : List (List ℕ) → List ℕ → ℕ
-number_in names name = position_or_len (bytes_eq name) names
-
 -- the kind of a gate; for a word that names none, which no accepted text has, AND stands in
 abbrev pub kind_of : Option Kind → Kind
 kind_of kind = unwrap_or kind And
@@ -75,14 +71,6 @@ gates_of names (Input name ∷ rest) = gates_of names rest
 gates_of names (Output name ∷ rest) = gates_of names rest
 gates_of names (FlipFlop name sources ∷ rest) = gates_of names rest
 gates_of names (Gate name kind sources ∷ rest) = record { kind = kind_of kind; sources = map (number_in names) sources } ∷ gates_of names rest
-
--- a number, once: it stays where it is, or comes last
-abbrev pub add_once : List ℕ → ℕ → List ℕ
-add_once numbers number = if list_any (nat_eq number) numbers then numbers else numbers ++ number ∷ []
-
--- numbers without repetition, each at its first place
-abbrev pub each_once : List ℕ → List ℕ
-each_once numbers = fold add_once [] numbers
 
 -- the data nodes of the flip-flops, in order
 abbrev pub data_nodes : List (List ℕ) → List Statement → List ℕ

@@ -81,10 +81,6 @@ defines_node (Output name) = false
 defines_node (FlipFlop name sources) = true
 defines_node (Gate name kind sources) = true
 
--- the statement is an output
-abbrev pub is_output : Statement → Bool
-is_output statement = not (defines_node statement)
-
 -- the names that a flip-flop or a gate's pins read
 abbrev pub sources_of : Statement → List (List ℕ)
 sources_of (Input name) = []

@@ -2,7 +2,7 @@
 use Rattle.std.specs.Prelude.{ℕ, List, [], map, filter, sum_by}
 use Rattle.hz_line.specs.Statement as grammar
 use Rattle.hz_line.specs.Statement.{Meaning, Nothing, Malformed, Means, Numbered}
-use Rattle.hz_bench.specs.Statement.{Statement, Output, statement_of, statement_variable_count, defines_node, is_output}
+use Rattle.hz_bench.specs.Statement.{Statement, Output, statement_of, statement_variable_count, defines_node}
 
 -- what a line is
 abbrev pub bench_meaning : List ℕ → Meaning Statement
@@ -26,6 +26,10 @@ bench_statements text = grammar.numbered_statements statement_of text
 abbrev pub statements_of : List ℕ → List Statement
 statements_of text = map (λ numbered. numbered.statement) (bench_statements text)
 
+-- the statements without their lines
+abbrev pub plain : List (Numbered Statement) → List Statement
+plain statements = map (λ numbered. numbered.statement) statements
+
 -- inputs, gates and pins of the statements in all
 abbrev pub variable_total : List Statement → ℕ
 variable_total statements = sum_by statement_variable_count statements
@@ -37,7 +41,3 @@ variable_total_among statements = sum_by (λ numbered. statement_variable_count 
 -- the inputs and gates among statements
 abbrev pub nodes_among : List (Numbered Statement) → List (Numbered Statement)
 nodes_among statements = filter (λ numbered. defines_node numbered.statement) statements
-
--- the outputs among statements
-abbrev pub outputs_among : List (Numbered Statement) → List (Numbered Statement)
-outputs_among statements = filter (λ numbered. is_output numbered.statement) statements

@@ -7,8 +7,9 @@ ghost use Rattle.hz_bench.specs.Statement.{sources_of, has_long_name, words_in, 
 
 use crate::forms::Form;
 
-/// An input, a flip-flop or a gate, which borrows from its line. The sources are read again from the line when they are needed,
-/// so that a statement takes the same room however many pins its gate has.
+/// An input, a flip-flop or a gate, which borrows from its line. The sources are read again from
+/// the line when they are needed, so that a statement takes the same room however many pins its
+/// gate has.
 #[derive(Clone, Copy)]
 pub struct Entry<'a> {
     /// The number of the line, counted from 1.
@@ -29,22 +30,6 @@ pub struct Entry<'a> {
     ghost small: { pins < 2 ^ 32 },
     ghost measured: { long ≡ has_long_name (statement_with name.now form sources.now) },
 }
-
-/// A flip-flop or a gate of a text with too many variables, which reads a name that no line up to it defines. It waits for the names of the
-/// lines after it.
-#[derive(Clone, Copy)]
-pub struct Waiting<'a> {
-    /// The number of the line, counted from 1.
-    pub line: u32,
-    /// The line from the first source on.
-    pub sources: &'a [u8],
-    ghost listed: { are_punctuated (tokens_of sources.now) ≡ true },
-}
-
-// A million gates may wait at once, so their size is memory and time.
-const WAITING_SIZE: usize = std::mem::size_of::<Waiting>();
-
-const _: () = prove!(WAITING_SIZE == 24);
 
 /// A line `OUTPUT(name)`, which borrows its name.
 #[derive(Clone, Copy)]

@@ -2,8 +2,9 @@
 
 use thiserror::Error;
 
-/// A fault of a netlist's text. Faults are numbered in this order, 1 to 3 and 5 to 9; if several stand in a text, the answer is one with
-/// the least number and, among those, on the least line. Lines are counted from 1.
+/// A fault of a netlist's text. Faults are numbered in this order, 1 to 3 and 5 to 9; if several
+/// stand in a text, the answer is one with the least number and, among those, on the least line.
+/// Lines are counted from 1.
 #[derive(Clone, Copy, Debug, PartialEq, Eq, Error)]
 pub enum BenchFault {
     /// The line has tokens or a forbidden byte, and is no statement.
@@ -18,7 +19,8 @@ pub enum BenchFault {
     /// A name that an earlier line defines; `first` is the earliest such line.
     #[error("line {line}: defined twice, first on line {first}")]
     Twice { line: u32, first: u32 },
-    /// A gate with a number of pins that its kind does not allow, or a flip-flop that does not read one name.
+    /// A gate with a number of pins that its kind does not allow, or a flip-flop that does not read
+    /// one name.
     #[error("line {line}: pins {count}")]
     Pins { line: u32, count: u32 },
     /// A name that no line defines.

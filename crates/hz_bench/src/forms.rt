@@ -7,7 +7,8 @@ ghost use Rattle.hz_bench.specs.Statement.{kind_named, is_flip_flop, refuses_pin
 use hz_core::{Kind, MAX_PINS};
 use hz_line::is_keyword;
 
-/// Whether a node is an input, a flip-flop or a gate; of a gate its kind, if the word in the kind's place names one.
+/// Whether a node is an input, a flip-flop or a gate; of a gate its kind, if the word in the kind's
+/// place names one.
 #[derive(Clone, Copy, Debug)]
 pub enum Form {
     Input,

@@ -5,8 +5,10 @@ ghost use Rattle.hz_bench.specs.Fault.{IsFaultless};
 ghost use Rattle.hz_bench.specs.Netlist.{circuit_of_statements};
 ghost use Rattle.hz_bench.specs.Text.{statements_of};
 
-/// What a text without fault stands for is a circuit, and it is whole: each of its gates has a pin, and each cut a data node that is an
-/// output.
+/// What a text without fault stands for is a circuit, and it is whole: each of its gates has a pin,
+/// and each cut a data node that is an output.
 pub fn faultless_text_is_circuit()
-    ensures { (text : List ℕ) → IsFaultless text → IsCircuit (circuit_of_statements (statements_of text)) × IsWhole (circuit_of_statements (statements_of text)) }
+    ensures { (text : List ℕ) → IsFaultless text
+        → IsCircuit (circuit_of_statements (statements_of text))
+        × IsWhole (circuit_of_statements (statements_of text)) }
 {}

@@ -8,8 +8,6 @@
 //! | `forms` | what a statement is, without its names |
 //! | `entry` | statements as the passes keep them |
 //! | `notes` | what is kept for the faults of a single line, and the counts |
-//! | `definitions` | the table of names, with the lines that define them |
-//! | `unknown` | the first name that no line defines |
 //! | `uses` | the numbers of the nodes that names stand for |
 //! | `build` | the circuit of the statements, step by step |
 //! | `printing` | [`print`]: the text of a circuit |
@@ -18,7 +16,6 @@
 #![tactic(auto)]
 
 mod build;
-mod definitions;
 mod entry;
 mod fault;
 mod forms;
@@ -28,7 +25,6 @@ mod parse;
 mod printing;
 mod reading;
 mod statement;
-mod unknown;
 mod uses;
 
 pub use fault::BenchFault;

@@ -9,7 +9,8 @@ use crate::entry::{Entry, OutputLine};
 use crate::forms::Form;
 use crate::statement::is_long;
 
-/// A gate with a number of pins that its kind does not allow, or a flip-flop that does not read one name.
+/// A gate with a number of pins that its kind does not allow, or a flip-flop that does not read one
+/// name.
 #[derive(Clone, Copy, Debug)]
 pub struct WrongPins {
     pub line: u32,
@@ -23,8 +24,9 @@ pub struct Redefinition {
     pub first: u32,
 }
 
-/// What is known of the statements of a text once they are read: the first line with each fault of a single statement,
-/// how many inputs and flip-flops there are, and how many inputs, flip-flops, gates and pins of gates in all.
+/// What is known of the statements of a text once they are read: the first line with each fault of
+/// a single statement, how many inputs and flip-flops there are, and how many inputs, flip-flops,
+/// gates and pins of gates in all.
 #[derive(Clone, Copy, Debug)]
 pub struct Notes {
     pub long_name: Option<u32>,
@@ -53,7 +55,8 @@ impl Notes {
     // Notes one input, flip-flop or gate more.
     pub(crate) fn add(&mut self, entry: &Entry)
         requires inputs { self.old.inputs + self.old.cuts ≤ self.old.variables }
-        requires variables { self.old.variables + statement_variable_count (statement_of_entry entry.now) < 2 ^ 32 }
+        requires variables { self.old.variables + statement_variable_count
+            (statement_of_entry entry.now) < 2 ^ 32 }
         ensures { self.new ≡ notes_with self.old (numbered_of entry.now) }
     {
         let form = entry.form;

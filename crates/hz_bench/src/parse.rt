@@ -1,50 +1,53 @@
 //! The statements of a text.
 //!
-//! The idea. One pass over the lines. Of each statement the faults that its own line shows are noted, the first line of each;
-//! its name goes into the table; and it is kept for later: a node for the circuit, an output by its line. Names that are
-//! used are looked up after the pass, when the table has every name. Beyond the most variables there will be no circuit,
-//! so a node is kept only if it reads a name that is not in the table yet, and then only its line and its sources.
+//! The idea. One pass over the lines. Of each statement the faults that its own line shows are
+//! noted, the first line of each. Each name gets its number at first sight, with the first lines
+//! that define and use it, so after the pass the table tells the first name that no line defines. A
+//! node is kept for the circuit, with the numbers of the names that it defines and reads; an output
+//! by the number of its name. Beyond the most variables there will be no circuit, so no node is
+//! kept.
 //!
-//! What must stay true: `AddsStatement` for each statement and `AreGathered` for those so far. What is dropped can't be the first
-//! fault, in the order of `fault_number` and then of lines: once a name is defined again, undefined names don't matter.
+//! What must stay true: `AddsStatement` for each statement, and `AreGathered` for those so far.
 //!
-//! What breaks if you add a fault: one that must be found beyond the most variables needs a note, or more of a `Waiting`;
-//! one whose number lies between two others needs its place in `fault_in`. A new kind of statement needs a list, and a case
-//! of `PlacesStatement`.
+//! What breaks if you add a fault: one of a single statement needs a note; one whose number lies
+//! between two others needs its place in `fault_in`.
 
-ghost use Rattle.std.specs.Prelude.{◌+◌, ◌<◌, ◌≤◌, ◌^◌, length, MatchResult, OnOk};
-ghost use Rattle.hz_bench.specs.Entry.{statement_of_entry, numbered_line, numbered_of, numbered_output};
-ghost use Rattle.hz_bench.specs.Statement.{statement_variable_count};
-ghost use Rattle.hz_bench.specs.ReaderState.{DefinesName, IsNothingRead, AddsStatement};
-ghost use Rattle.hz_bench.specs.Pass.{IsParsed, IsParseFault};
+ghost use Rattle.std.specs.Prelude.{◌≡◌, ◌+◌, ◌<◌, ◌≤◌, ◌^◌, ◌++◌, ◌∷◌, [], length, MatchResult, OnOk, true};
 ghost use Rattle.hz_line.specs.Line.{most_text_bytes};
+ghost use Rattle.hz_line.specs.Token.{tokens_of};
+ghost use Rattle.hz_bench.specs.Entry.{statement_of_entry, numbered_line, numbered_of, numbered_output};
+ghost use Rattle.hz_bench.specs.Names.{places, told, with_uses};
+ghost use Rattle.hz_bench.specs.Pass.{IsParsed, IsParseFault};
+ghost use Rattle.hz_bench.specs.ReaderState.{AddsStatement, IsNothingRead, KeepsNode, redefinition_with};
+ghost use Rattle.hz_bench.specs.Statement.{are_punctuated, statement_variable_count, words_in};
 
-use crate::definitions::{Definitions, define, make_room};
-use crate::entry::{Entry, Line, OutputLine, Waiting};
+use crate::entry::{Entry, Line, OutputLine};
 use crate::fault::BenchFault;
 use crate::notes::{Notes, Redefinition};
-use crate::statement::statement_of;
-use crate::unknown::reads_unknown;
+use crate::statement::{punctuated_word, statement_of};
 use hz_core::{MAX_VARIABLES, Memory};
 use hz_line::{is_blank_line, split_line};
+use hz_netlist::NameTable;
 use std::alloc::Global;
 
 /// What was read of the statements of a text.
 #[derive(Drop)]
 pub struct Statements<'a> {
-    /// The inputs, flip-flops and gates, in the order of the text, up to the most variables that a circuit has.
+    /// The names of the text.
+    pub names: NameTable<'a>,
+    /// The inputs, flip-flops and gates, in the order of the text, up to the most variables that a
+    /// circuit has.
     pub nodes: Vec<Entry<'a>>,
-    /// Beyond the most variables, the flip-flops and gates that read a name which no line up to them defines. The others are left out, since
-    /// all that can be wrong with their names is known.
-    pub waiting: Vec<Waiting<'a>>,
-    /// The lines of the outputs, in the order of the text.
-    pub outputs: Vec<OutputLine<'a>>,
+    /// The numbers of the names that these define, and of those that they read, one after the
+    /// other.
+    pub defined: Vec<u32>,
+    pub sources: Vec<u32>,
+    /// The numbers of the outputs' names, in the order of the text.
+    pub outputs: Vec<u32>,
     /// What was noted of all statements.
     pub notes: Notes,
-    /// The first line that defines a name again. Names are not put into the table from there on.
+    /// The first line that defines a name again.
     pub again: Option<Redefinition>,
-    /// The names that these define, in the order of the text.
-    pub lines: Definitions<'a>,
 }
 
 /// The statements of a text, or the first line that is malformed.
@@ -54,14 +57,14 @@ pub(crate) fn parse<'a>(alloc: Global, text: &'a [u8]) -> Result<Statements<'a>,
         (λ statements. IsParsed text.now statements)
         (λ fault. IsParseFault text.now fault) }
 {
-    let mut statements = Statements::new(alloc);
+    let mut statements = Statements::new(alloc, text);
     let mut line = 0u32;
     let mut left = Some(text);
     while let Some(rest) = left {
         let cut = split_line(rest);
         line += 1;
         left = cut.rest;
-        let Ok(()) = make_room(&mut statements.lines, text, rest.len()) else {
+        let Ok(()) = statements.names.make_room(rest.len()) else {
             return Err(BenchFault::Memory);
         };
         match statement_of(line, cut.line) {
@@ -81,23 +84,25 @@ pub(crate) fn parse<'a>(alloc: Global, text: &'a [u8]) -> Result<Statements<'a>,
 
 impl<'a> Statements<'a> {
     // Those of no text.
-    fn new(alloc: Global) -> Statements<'a>
+    fn new(alloc: Global, text: &'a [u8]) -> Statements<'a>
         ensures { IsNothingRead result }
     {
         Statements {
+            names: NameTable::new(alloc, text),
             nodes: Vec::new(alloc),
-            waiting: Vec::new(alloc),
+            defined: Vec::new(alloc),
+            sources: Vec::new(alloc),
             outputs: Vec::new(alloc),
             notes: Notes::new(),
             again: None,
-            lines: Definitions::new(alloc),
         }
     }
 
     // Adds the next statement of the text.
     fn add(&mut self, line: Line<'a>) -> Result<(), Memory>
         requires inputs { self.old.notes.inputs + self.old.notes.cuts ≤ self.old.notes.variables }
-        requires variables { self.old.notes.variables + statement_variable_count (numbered_line line).statement < 2 ^ 32 }
+        requires variables { self.old.notes.variables + statement_variable_count
+            (numbered_line line).statement < 2 ^ 32 }
         ensures { OnOk result (AddsStatement self.old (numbered_line line.entry) self.new) }
     {
         match line {
@@ -109,25 +114,33 @@ impl<'a> Statements<'a> {
     // Adds an input, a flip-flop or a gate.
     fn add_node(&mut self, entry: Entry<'a>) -> Result<(), Memory>
         requires inputs { self.old.notes.inputs + self.old.notes.cuts ≤ self.old.notes.variables }
-        requires variables { self.old.notes.variables + statement_variable_count (statement_of_entry entry) < 2 ^ 32 }
+        requires variables { self.old.notes.variables + statement_variable_count
+            (statement_of_entry entry) < 2 ^ 32 }
         ensures { OnOk result (AddsStatement self.old (numbered_of entry.entry) self.new) }
     {
         self.notes.add(&entry);
-        self.define(&entry)?;
-        if self.notes.variables <= MAX_VARIABLES {
-            let Ok(()) = self.nodes.push(entry) else {
-                return Err(Memory);
-            };
-        } else if self.again.is_none() && reads_unknown(entry.sources, &self.lines) {
-            let gate = Waiting {
-                line: entry.line,
-                sources: entry.sources,
-            };
-            let Ok(()) = self.waiting.push(gate) else {
-                return Err(Memory);
-            };
-        }
+        let definition = self.names.define_name(entry.name, entry.line)?;
+        note_again(&mut self.again, entry.line, definition.first);
+        self.keep(entry, definition.number)?;
+        use_names(
+            &mut self.names,
+            entry.sources,
+            entry.line,
+            &mut self.sources,
+        )?;
         Ok(())
+    }
+
+    // Keeps a node, which defines the name with this number, unless there are too many variables.
+    fn keep(&mut self, entry: Entry<'a>, number: u32) -> Result<(), Memory>
+        ensures { OnOk result (KeepsNode self.old entry.entry number self.new) }
+    {
+        if self.notes.variables > MAX_VARIABLES {
+            self.sources.clear();
+            return Ok(());
+        }
+        push(&mut self.nodes, entry)?;
+        push(&mut self.defined, number)
     }
 
     // Adds an output.
@@ -135,23 +148,50 @@ impl<'a> Statements<'a> {
         ensures { OnOk result (AddsStatement self.old (numbered_output output.entry) self.new) }
     {
         self.notes.add_output(&output);
-        let Ok(()) = self.outputs.push(output) else {
-            return Err(Memory);
-        };
-        Ok(())
+        let number = self.names.use_name(output.name, output.line)?;
+        push(&mut self.outputs, number)
     }
+}
 
-    // Puts the name that a statement defines into the table, or notes that a line defines it already.
-    fn define(&mut self, entry: &Entry<'a>) -> Result<(), Memory>
-        ensures { OnOk result (DefinesName self.old entry.now self.new) }
-    {
-        if self.again.is_some() {
-            return Ok(());
-        }
-        if let Some(first) = define(&mut self.lines, entry)? {
-            let line = entry.line;
-            self.again = Some(Redefinition { line, first });
-        }
-        Ok(())
+// Notes that a line defines a name which an earlier line defines, if it does, and if none is noted.
+fn note_again(again: &mut Option<Redefinition>, line: u32, first: Option<u32>)
+    ensures { again.new ≡ redefinition_with again.old line first }
+{
+    if again.is_some() {
+        return;
+    }
+    if let Some(first) = first {
+        *again = Some(Redefinition { line, first });
+    }
+}
+
+// Notes that a line uses the names in a part of it, and adds their numbers.
+fn use_names<'a>(
+    names: &mut NameTable<'a>,
+    sources: &'a [u8],
+    line: u32,
+    numbers: &mut Vec<u32>,
+) -> Result<(), Memory>
+    requires { are_punctuated (tokens_of sources.now) ≡ true }
+    ensures names { OnOk result (names.new ≡ with_uses names.old line (words_in sources.now)) }
+    ensures numbers { OnOk result (told numbers.new.items ≡ told numbers.old.items
+        ++ places names.new (words_in sources.now)) }
+{
+    let mut left = sources;
+    while let Some(source) = punctuated_word(left) {
+        let number = names.use_name(source.word, line)?;
+        push(numbers, number)?;
+        left = source.rest;
+    }
+    Ok(())
+}
+
+// Adds an item to a list.
+fn push<T: Drop>(items: &mut Vec<T>, item: T) -> Result<(), Memory>
+    ensures { OnOk result (items.new.items ≡ items.old.items ++ item ∷ []) }
+{
+    match items.push(item) {
+        Ok(()) => Ok(()),
+        Err(_) => Err(Memory),
     }
 }

@@ -10,15 +10,17 @@ ghost use Rattle.hz_bench.specs.Printed.{cut_line, cut_lines, cut_text, gate_hea
 use hz_core::{Circuit, Kind, Memory};
 use std::alloc::Global;
 
-/// Prints a circuit in the .bench format: first the primary inputs, then the outputs, then the cuts as flip-flops, then the gates,
-/// a line each, each in order, kinds in capitals and the buffer as `BUFF`, each line ended by a line feed. If the text has at most
-/// 16,777,216 bytes, [`crate::read`] gives the circuit back.
+/// Prints a circuit in the .bench format: first the primary inputs, then the outputs, then the cuts
+/// as flip-flops, then the gates, a line each, each in order, kinds in capitals and the buffer as
+/// `BUFF`, each line ended by a line feed. If the text has at most 16,777,216 bytes,
+/// [`crate::read`] gives the circuit back.
 #[tactic(auto, unfolding(crate::specs::Printed::netlist_text))]
 pub fn print(alloc: Global, circuit: &Circuit) -> Result<Vec<u8>, Memory>
     requires { IsWhole circuit.now }
     ensures text { IfOk result (λ text. text.items ≡ netlist_text circuit.now) }
     ensures faultless { IfOk result (λ text. IsFaultless text.items) }
-    ensures circuit { IfOk result (λ text. circuit_of_statements (statements_of text.items) ≡ circuit.now) }
+    ensures circuit { IfOk result (λ text. circuit_of_statements (statements_of text.items)
+        ≡ circuit.now) }
 {
     let mut text = Vec::new(alloc);
     print_inputs(&mut text, circuit)?;
@@ -31,7 +33,8 @@ pub fn print(alloc: Global, circuit: &Circuit) -> Result<Vec<u8>, Memory>
 // Prints the primary inputs.
 fn print_inputs(text: &mut Vec<u8>, circuit: &Circuit) -> Result<(), Memory>
     ensures circuit { IsCircuit circuit.now }
-    ensures text { OnOk result (text.new.items ≡ text.old.items ++ port_lines (codes "INPUT") (take (primary_inputs circuit.now) circuit.now.names)) }
+    ensures text { OnOk result (text.new.items ≡ text.old.items
+        ++ port_lines (codes "INPUT") (take (primary_inputs circuit.now) circuit.now.names)) }
 {
     for node in 0..circuit.primary_inputs() {
         match print_port(text, b"INPUT", circuit, node) {
@@ -44,7 +47,8 @@ fn print_inputs(text: &mut Vec<u8>, circuit: &Circuit) -> Result<(), Memory>
 
 // Prints the outputs.
 fn print_outputs(text: &mut Vec<u8>, circuit: &Circuit) -> Result<(), Memory>
-    ensures { OnOk result (text.new.items ≡ text.old.items ++ port_lines (codes "OUTPUT") (map (node_name circuit.now.names) circuit.now.outputs)) }
+    ensures { OnOk result (text.new.items ≡ text.old.items
+        ++ port_lines (codes "OUTPUT") (map (node_name circuit.now.names) circuit.now.outputs)) }
 {
     let outputs = circuit.outputs();
     for node in outputs {
@@ -60,7 +64,8 @@ fn print_outputs(text: &mut Vec<u8>, circuit: &Circuit) -> Result<(), Memory>
 #[tactic(auto, unfolding(crate::specs::Printed::port_line))]
 fn print_port(text: &mut Vec<u8>, word: &[u8], circuit: &Circuit, node: u32) -> Result<(), Memory>
     requires { node < length circuit.now.names }
-    ensures { OnOk result (text.new.items ≡ text.old.items ++ port_line word.now (node_name circuit.now.names node)) }
+    ensures { OnOk result (text.new.items ≡ text.old.items
+        ++ port_line word.now (node_name circuit.now.names node)) }
 {
     put(text, word)?;
     put(text, b"(")?;
@@ -70,7 +75,8 @@ fn print_port(text: &mut Vec<u8>, word: &[u8], circuit: &Circuit, node: u32) -> 
 
 // Prints the cuts.
 fn print_cuts(text: &mut Vec<u8>, circuit: &Circuit) -> Result<(), Memory>
-    ensures { OnOk result (text.new.items ≡ text.old.items ++ cut_lines circuit.now.names (primary_inputs circuit.now) circuit.now.cuts) }
+    ensures { OnOk result (text.new.items ≡ text.old.items
+        ++ cut_lines circuit.now.names (primary_inputs circuit.now) circuit.now.cuts) }
 {
     for cut in circuit.primary_inputs()..circuit.inputs() {
         match print_cut(text, circuit, cut) {
@@ -84,7 +90,8 @@ fn print_cuts(text: &mut Vec<u8>, circuit: &Circuit) -> Result<(), Memory>
 // Prints the line of a cut.
 fn print_cut(text: &mut Vec<u8>, circuit: &Circuit, cut: u32) -> Result<(), Memory>
     requires { cut < circuit.now.inputs }
-    ensures { OnOk result (text.new.items ≡ text.old.items ++ cut_text circuit.now.names (node_name circuit.now.names cut) (data_of circuit.now cut)) }
+    ensures { OnOk result (text.new.items ≡ text.old.items
+        ++ cut_text circuit.now.names (node_name circuit.now.names cut) (data_of circuit.now cut)) }
 {
     match circuit.data_of(cut) {
         Some(node) => print_flip_flop(text, circuit.name(cut), circuit.name(node)),
@@ -105,7 +112,8 @@ fn print_flip_flop(text: &mut Vec<u8>, name: &[u8], source: &[u8]) -> Result<(),
 
 // Prints the gates.
 fn print_gates(text: &mut Vec<u8>, circuit: &Circuit) -> Result<(), Memory>
-    ensures { OnOk result (text.new.items ≡ text.old.items ++ gate_texts circuit.now.names circuit.now.inputs circuit.now.gates) }
+    ensures { OnOk result (text.new.items ≡ text.old.items
+        ++ gate_texts circuit.now.names circuit.now.inputs circuit.now.gates) }
 {
     for gate in circuit.inputs()..circuit.nodes() {
         match print_gate(text, circuit, gate) {
@@ -120,7 +128,9 @@ fn print_gates(text: &mut Vec<u8>, circuit: &Circuit) -> Result<(), Memory>
 #[tactic(auto, unfolding(crate::specs::Printed::gate_line))]
 fn print_gate(text: &mut Vec<u8>, circuit: &Circuit, gate: u32) -> Result<(), Memory>
     requires { IsGateNumber circuit.now gate }
-    ensures { OnOk result (text.new.items ≡ text.old.items ++ gate_line circuit.now.names (node_name circuit.now.names gate) (gate_at circuit.now gate)) }
+    ensures { OnOk result (text.new.items ≡ text.old.items
+        ++ gate_line circuit.now.names (node_name circuit.now.names gate)
+        (gate_at circuit.now gate)) }
 {
     print_gate_head(text, circuit.name(gate), circuit.kind(gate))?;
     print_sources(text, circuit, circuit.sources(gate))?;
@@ -141,7 +151,8 @@ fn print_gate_head(text: &mut Vec<u8>, name: &[u8], kind: Kind) -> Result<(), Me
 // Prints the names of sources, with a comma and a space between them.
 fn print_sources(text: &mut Vec<u8>, circuit: &Circuit, sources: &[u32]) -> Result<(), Memory>
     requires { All (λ source. source < length circuit.now.names) sources.now }
-    ensures { OnOk result (text.new.items ≡ text.old.items ++ source_list circuit.now.names sources.now) }
+    ensures { OnOk result (text.new.items ≡ text.old.items
+        ++ source_list circuit.now.names sources.now) }
 {
     match sources {
         [] => Ok(()),
@@ -155,7 +166,8 @@ fn print_sources(text: &mut Vec<u8>, circuit: &Circuit, sources: &[u32]) -> Resu
 // Prints the names of further sources, with a comma and a space before each.
 fn print_rest(text: &mut Vec<u8>, circuit: &Circuit, rest: &[u32]) -> Result<(), Memory>
     requires { All (λ source. source < length circuit.now.names) rest.now }
-    ensures { OnOk result (text.new.items ≡ text.old.items ++ more_sources circuit.now.names rest.now) }
+    ensures { OnOk result (text.new.items ≡ text.old.items
+        ++ more_sources circuit.now.names rest.now) }
 {
     for source in rest {
         match print_more(text, circuit, *source) {
@@ -169,7 +181,8 @@ fn print_rest(text: &mut Vec<u8>, circuit: &Circuit, rest: &[u32]) -> Result<(),
 // Prints a comma, a space and the name of a source.
 fn print_more(text: &mut Vec<u8>, circuit: &Circuit, source: u32) -> Result<(), Memory>
     requires { source < length circuit.now.names }
-    ensures { OnOk result (text.new.items ≡ text.old.items ++ (codes ", " ++ node_name circuit.now.names source)) }
+    ensures { OnOk result (text.new.items ≡ text.old.items ++ (codes ", "
+        ++ node_name circuit.now.names source)) }
 {
     put(text, b", ")?;
     put(text, circuit.name(source))

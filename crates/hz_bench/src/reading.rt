@@ -1,37 +1,36 @@
 // Reading a netlist.
 
-ghost use Rattle.std.specs.Prelude.{◌≡◌, ◌<◌, ◌≤◌, ◌⊎◌, IfOk, IfErr, OnOk, IsErrOf, MatchResult, None, Some, length};
+ghost use Rattle.std.specs.Prelude.{◌≡◌, ◌≤◌, ◌⊎◌, IfOk, IfErr, OnOk, IsErrOf, MatchResult, None, length};
 ghost use Rattle.hz_core.specs.Netlist.{IsWhole};
-ghost use Rattle.hz_bench.specs.Entry.{statement_list, output_list};
 ghost use Rattle.hz_bench.specs.Fault.{IsNetlistRefusal, IsFaultless, IsLeastFault};
 ghost use Rattle.hz_bench.specs.Netlist.{circuit_of_statements};
-ghost use Rattle.hz_bench.specs.Pass.{IsAccepted, HasAllNodes};
-ghost use Rattle.hz_bench.specs.FaultIn.{fault_in, many_fault};
+ghost use Rattle.hz_bench.specs.Pass.{IsAccepted};
+ghost use Rattle.hz_bench.specs.FaultIn.{fault_in};
 ghost use Rattle.hz_bench.specs.Text.{statements_of};
 ghost use Rattle.hz_bench.specs.Twice.{IsFoundOrMemory};
-ghost use Rattle.hz_bench.specs.Uses.{AreUses};
+ghost use Rattle.hz_bench.specs.Uses.{AreUsesOf, IsReady};
 ghost use Rattle.hz_line.specs.Line.{most_text_bytes};
-ghost use Rattle.hz_core.specs.Limits.{most_variables};
 
 use crate::build::build;
 use crate::fault::BenchFault;
 use crate::notes::{Redefinition, WrongPins};
 use crate::parse::{Statements, parse};
-use crate::unknown::first_unknown;
 use crate::uses::{Uses, resolve};
-use hz_core::{Circuit, MAX_VARIABLES};
+use hz_core::{Circuit, MAX_VARIABLES, Memory};
 use std::alloc::Global;
 
 /// Reads a netlist in the .bench format.
 ///
-/// A text is cut into lines, a comment from `#` on is left out, and each line that has tokens is one statement:
-/// `INPUT(name)`, `OUTPUT(name)`, `name = DFF(name)` or `name = KIND(name, ..)`. `INPUT`, `OUTPUT`, `DFF` and the kinds
-/// are read in any letter case, `BUF` equals `BUFF`, and names may be used before they are defined. The circuit has the inputs,
-/// the gates and the outputs each in the order of the text. A flip-flop is cut: it is an input after all others, and the node that it
-/// reads is an output after all others. It takes time linear in the text.
+/// A text is cut into lines, a comment from `#` on is left out, and each line that has tokens is
+/// one statement: `INPUT(name)`, `OUTPUT(name)`, `name = DFF(name)` or `name = KIND(name, ..)`.
+/// `INPUT`, `OUTPUT`, `DFF` and the kinds are read in any letter case, `BUF` equals `BUFF`, and
+/// names may be used before they are defined. The circuit has the inputs, the gates and the outputs
+/// each in the order of the text. A flip-flop is cut: it is an input after all others, and the node
+/// that it reads is an output after all others. It takes time linear in the text.
 pub fn read(alloc: Global, text: &[u8]) -> Result<Circuit, BenchFault>
     requires { length text.now ≤ most_text_bytes }
-    ensures circuit { IfOk result (λ circuit. circuit ≡ circuit_of_statements (statements_of text.now)) }
+    ensures circuit { IfOk result (λ circuit. circuit
+        ≡ circuit_of_statements (statements_of text.now)) }
     ensures whole { IfOk result (λ circuit. IsWhole circuit) }
     ensures faultless { OnOk result (IsFaultless text.now) }
     ensures fault { IfErr result (IsNetlistRefusal text.now) }
@@ -56,7 +55,8 @@ struct Accepted<'a> {
 fn read_accepted<'a>(alloc: Global, text: &'a [u8]) -> Result<Accepted<'a>, BenchFault>
     requires { length text.now ≤ most_text_bytes }
     ensures { MatchResult result
-        (λ accepted. IsAccepted text.now accepted.statements × AreUses (statement_list accepted.statements.nodes.items) (output_list accepted.statements.outputs.items) accepted.uses)
+        (λ accepted. IsAccepted text.now accepted.statements
+        × AreUsesOf accepted.statements accepted.uses)
         (λ fault. IsNetlistRefusal text.now fault) }
 {
     let statements = parse(alloc, text)?;
@@ -66,9 +66,9 @@ fn read_accepted<'a>(alloc: Global, text: &'a [u8]) -> Result<Accepted<'a>, Benc
 
 // Checks the statements, in the order of the faults, and returns the nodes that they use.
 fn check(alloc: Global, statements: &Statements) -> Result<Uses, BenchFault>
-    requires { statements.now.again ≡ None → statements.now.notes.variables ≤ most_variables → HasAllNodes statements.now }
+    requires { IsReady statements.now }
     ensures { MatchResult result
-        (λ uses. (fault_in statements.now ≡ None) × AreUses (statement_list statements.now.nodes.items) (output_list statements.now.outputs.items) uses)
+        (λ uses. (fault_in statements.now ≡ None) × AreUsesOf statements.now uses)
         (λ fault. IsFoundOrMemory (fault_in statements.now) fault) }
 {
     let notes = statements.notes;
@@ -84,20 +84,15 @@ fn check(alloc: Global, statements: &Statements) -> Result<Uses, BenchFault>
     if let Some(WrongPins { line, count }) = notes.wrong_pins {
         return Err(BenchFault::Pins { line, count });
     }
-    if notes.variables > MAX_VARIABLES {
-        return Err(refuse_many(statements));
+    if let Some(line) = statements.names.first_undefined() {
+        return Err(BenchFault::Undefined { line });
     }
-    resolve(alloc, statements)
-}
-
-// Why statements with too many variables have no circuit: a name that they use may be undefined, which comes first.
-fn refuse_many(statements: &Statements) -> BenchFault
-    ensures { Some result ≡ many_fault statements.now }
-{
-    match first_unknown(statements) {
-        Some(line) => BenchFault::Undefined { line },
-        None => BenchFault::TooMany {
-            variables: statements.notes.variables,
-        },
+    if notes.variables > MAX_VARIABLES {
+        let variables = notes.variables;
+        return Err(BenchFault::TooMany { variables });
+    }
+    match resolve(alloc, statements) {
+        Ok(uses) => Ok(uses),
+        Err(Memory) => Err(BenchFault::Memory),
     }
 }

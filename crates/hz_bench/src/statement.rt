@@ -63,8 +63,8 @@ fn head_of<'a>(line: &'a [u8]) -> Option<Head<'a>>
     })
 }
 
-/// The word and the punctuation that a line begins with. A gate's sources are read by it one after the other: a comma follows each
-/// but the last, which a parenthesis follows.
+/// The word and the punctuation that a line begins with. A gate's sources are read by it one after
+/// the other: a comma follows each but the last, which a parenthesis follows.
 #[inline(always)]
 pub(crate) fn punctuated_word<'a>(line: &'a [u8]) -> Option<PunctuatedWord<'a>>
     ensures { IsPunctuatedFirst line.now result }
@@ -127,9 +127,11 @@ fn gate<'a>(line: u32, text: &'a [u8], head: &Head<'a>) -> Option<Line<'a>>
     }))
 }
 
-// What is noted of the one or more names, separated by commas and closed by a parenthesis, that a line has.
+// What is noted of the one or more names, separated by commas and closed by a parenthesis, that a
+// line has.
 fn names(line: &[u8]) -> Option<NameList>
-    ensures noted { result ≡ option_map (name_list_with no_name_list) (names_by (tokens_of line.now)) }
+    ensures noted { result ≡ option_map (name_list_with no_name_list) (names_by
+        (tokens_of line.now)) }
     ensures few { IfSome result (λ names. names.count ≤ length line.now) }
 {
     let mut names = NameList {

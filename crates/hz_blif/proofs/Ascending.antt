@@ -1,15 +1,16 @@
 -- The lines of a text ascend, and so do its covers with their rows: what is found first is on the least line.
-use Rattle.std.proofs.Common.{◌≡◌, ◌∙◌, refl, sym, ap, subst, ℕ, zero, suc, ◌<◌, ◌≤◌, ◌⊎◌, inl, inr, Bool, true, false, cond, List, [], ◌∷◌, ◌++◌, map, length, Option, Some, None, arith}
+use Rattle.std.proofs.Common.{◌≡◌, ◌∙◌, refl, sym, ap, subst, ℕ, suc, ◌<◌, ◌≤◌, inl, inr, Bool, true, false, cond, List, [], ◌∷◌, map, Option, Some, None, arith}
 use Rattle.std.specs.Prelude.{Contains, option_map}
-use Rattle.std.specs.List.{find, slice_index_or}
+use Rattle.std.specs.List.{find}
 use Rattle.hz_core.specs.Least.{IsLeastOf}
 use Rattle.hz_line.specs.Line as cut
 use Rattle.hz_line.specs.LeastFault.{first_found}
 use Rattle.hz_line.specs.Statement.{Numbered, first_passing_line}
 use Rattle.hz_line.proofs.StatementLemmas.{Ascends}
-use Rattle.hz_blif.specs.Text.{goes_on, joined_from, joined_lines, joined_to, with_line, with_space_last, without_comment, tokens_of}
+use Rattle.hz_blif.specs.Text.{goes_on, joined_from, joined_lines, joined_to, with_space_last, without_comment, tokens_of}
 use Rattle.hz_blif.specs.Line.{Line, Blank, Model, Inputs, Outputs, Names, Row, End, Construct, line_of, lines_in}
 use Rattle.hz_blif.specs.Cover.{Cover, cover_with, covers_of, leading_rows, rows_with, cover_of_line}
+use Rattle.hz_netlist.proofs.Undefined.{one_of, none_of, the_first, a_later}
 
 true-false : true ≡ false → ⊥
 true-false e = cc
@@ -42,20 +43,6 @@ meant-ascend low (first ∷ rest) h = (h.0, meant-ascend (suc first.line) rest h
 
 pub lines_in-ascend : (text : List ℕ) → Ascends 1 (lines_in text)
 lines_in-ascend text = meant-ascend 1 (joined_lines text) (joined_lines-ascend text)
-
--- an element of a list is its first or one of the rest
-pub one_of : {X : Type 0} (first : X) (rest : List X) (x : X) → Contains (first ∷ rest) x → (first ≡ x) ⊎ Contains rest x
-one_of first rest x (zero, l, is) = inl is
-one_of first rest x (suc k, l, is) = inr (k, omega (arith, l), is)
-
-pub the_first : {X : Type 0} (first : X) (rest : List X) → Contains (first ∷ rest) first
-the_first first rest = (0, omega arith, refl)
-
-pub a_later : {X : Type 0} (first : X) (rest : List X) (x : X) → Contains rest x → Contains (first ∷ rest) x
-a_later first rest x (k, l, is) = (suc k, omega (arith, l), is)
-
-pub none_of : {X : Type 0} (x : X) → Contains [] x → ⊥
-none_of x (k, l, is) = omega (arith, l)
 
 pub above : {S : Type 0} (items : List (Numbered S)) (low : ℕ) (one : Numbered S) → Ascends low items → Contains items one → low ≤ one.line
 above [] low one h c = absurd (none_of one c)

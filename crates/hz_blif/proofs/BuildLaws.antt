@@ -1,5 +1,5 @@
 -- The circuit of a draft that can be built is that of its elements.
-use Rattle.std.proofs.Common.{◌≡◌, ◌∙◌, refl, sym, ap, subst, ℕ, zero, suc, ◌+◌, ◌<◌, ◌≤◌, Bool, true, false, Some, List, [], ◌∷◌, ◌++◌, length, map, fold, length-append, arith}
+use Rattle.std.proofs.Common.{◌≡◌, ◌∙◌, refl, sym, ap, subst, ℕ, zero, suc, ◌+◌, ◌<◌, ◌≤◌, true, false, Some, List, [], ◌∷◌, ◌++◌, length, map, fold, length-append, arith}
 use Rattle.std.specs.Prelude.{All}
 use Rattle.std.specs.List.{AllByRecursion, IsDistinct, list_any}
 use Rattle.std.specs.Str.{bytes_eq}
@@ -11,16 +11,15 @@ use Rattle.hz_netlist.proofs.BuiltCircuit.{built-circuit_of_elements, connected-
 use Rattle.hz_netlist.proofs.Circuits.{built_circuit}
 use Rattle.hz_netlist.proofs.Connect.{may_name, outputs-numbered}
 use Rattle.hz_netlist.specs.Build.{AreAdmissibleSteps, HasNode, MayAddGate, MayAddInput, MayAddPins, MayBuild, UsesKnown, connected_netlist, initial_builder, inputs_of, unconnected_netlist, with_cut_of, with_data_outputs, with_gate_of, with_input_of, with_output_of, with_pins_of}
-use Rattle.hz_netlist.specs.Circuit.{all_inputs, circuit_of_elements, data_nodes, node_names, number_in}
-use Rattle.hz_netlist.specs.Element.{Element, Input, Output, cut_names, gate_names, input_names, output_names}
-use Rattle.hz_netlist.specs.Names.{Names, seen_names}
+use Rattle.hz_netlist.specs.Circuit.{all_inputs, circuit_of_elements, node_names, number_in}
+use Rattle.hz_netlist.specs.Element.{Element, Input, Output, gate_names, input_names, output_names}
+use Rattle.hz_netlist.specs.Names.{Names, seen_names, node_of, names_at, name_at}
 use Rattle.hz_blif.specs.declared.draft.Draft.{Draft}
 use Rattle.hz_blif.specs.declared.gates.Gate.{Gate as GateEntry}
 use Rattle.hz_blif.specs.declared.gates.Source.{Source}
-use Rattle.hz_blif.specs.Built.{AreNodesBy, IsBuildable, MayAddGateEntry, MayAddInputNumbered, MayAddPinsBy, elements_of_draft, node_of, source_node, with_gate_entry, with_gate_nodes, with_input_nodes, with_input_numbered, with_pins_by}
+use Rattle.hz_blif.specs.Built.{AreNodesBy, IsBuildable, MayAddGateEntry, MayAddInputNumbered, MayAddPinsBy, elements_of_draft, source_node, with_gate_entry, with_gate_nodes, with_input_nodes, with_input_numbered, with_pins_by}
 use Rattle.hz_blif.specs.Plain.{IsPlain}
-use Rattle.hz_blif.specs.Draft.{names_at}
-use Rattle.hz_blif.specs.Entries.{elements_by, gate_name, name_at, source_name}
+use Rattle.hz_blif.specs.Entries.{elements_by, gate_name, source_name}
 use Rattle.hz_blif.proofs.DraftElements.{HasParts, entries-gates, entries-named, fold-append, gates-entered, gates-idle, inputs-idle, inputs-numbered, outputs-idle, parts, pins-entered, sources-known, steps-cut}
 use Rattle.hz_blif.proofs.Lists.{all-cut}
 use Rattle.hz_blif.proofs.NodeLemmas.{AreNodesOf, nodes-gates, nodes-inputs, nothing-more, outputs-numbers, sources-numbered}

@@ -1,25 +1,26 @@
 -- The faults that were noted, in their order.
-use Rattle.std.proofs.Common.{◌≡◌, ◌∙◌, refl, sym, ap, subst, ℕ, Bool, true, false, not, cond, List, [], ◌∷◌, ◌++◌, map, length, Option, Some, None, option_map}
+use Rattle.std.proofs.Common.{◌≡◌, ◌∙◌, sym, ap, ℕ, not, List, [], ◌∷◌, map, Option, Some, None, option_map}
 use Rattle.std.specs.Prelude.{◌&&◌}
 use Rattle.std.specs.List.{find, list_any}
 use Rattle.hz_core.specs.Least.{option_min}
 use Rattle.hz_line.specs.LeastFault.{first_found}
-use Rattle.hz_line.specs.Statement.{Numbered, first_passing_line}
+use Rattle.hz_line.specs.Statement.{first_passing_line}
 use Rattle.hz_netlist.specs.Element.{variable_total}
 use Rattle.hz_blif.specs.declared.draft.Draft.{Draft}
 use Rattle.hz_blif.specs.declared.fault.BlifFault.{BlifFault}
 use Rattle.hz_blif.specs.declared.fault.BlifFault.TheVariants as fault
 use Rattle.hz_blif.specs.declared.notes.Excess.{Excess}
 use Rattle.hz_blif.specs.declared.notes.Redefinition.{Redefinition}
-use Rattle.hz_blif.specs.Check.{count_of, faults_in, first_fault, first_of, least_of, too_many, twice_after, undefined_use, wrong_form_after, wrong_row}
+use Rattle.hz_blif.specs.Check.{count_of, first_fault, first_of, least_of, too_many, twice_after, undefined_use, wrong_form_after, wrong_row}
 use Rattle.hz_blif.specs.Circuit.{elements_of}
-use Rattle.hz_blif.specs.Cover.{Cover, covers_of, definitions_of, is_constant, is_skipped, is_too_large, names_of, uses_of}
-use Rattle.hz_blif.specs.Draft.{Holds, IsClean, IsDraftOf, Read, closed, covers_with, pins_fault, read_of, twice_fault}
+use Rattle.hz_blif.specs.Cover.{Cover, covers_of, definitions_of, is_constant, is_skipped, is_too_large, uses_of}
+use Rattle.hz_blif.specs.Draft.{IsClean, IsDraftOf, pins_fault, twice_fault}
 use Rattle.hz_blif.specs.Fault.{IsBlifRefusal, has_long_name, is_forbidden}
-use Rattle.hz_blif.specs.Line.{Line, is_construct, lines_in}
+use Rattle.hz_blif.specs.Line.{is_construct, lines_in}
 use Rattle.hz_blif.specs.Text.{joined_lines}
 use Rattle.hz_blif.proofs.FoundFaults.{answer-refusal}
 use Rattle.hz_blif.proofs.ReadLaws.{is-read}
+use Rattle.hz_netlist.specs.Names.{names_of}
 
 skip : (one : Option BlifFault) (rest : List (Option BlifFault)) → one ≡ None → first_found (one ∷ rest) ≡ first_found rest
 skip one rest none = ap (λ one. first_found (one ∷ rest)) none

@@ -1,30 +1,28 @@
 -- What a draft holds where a cover ends.
-use Rattle.std.proofs.Common.{◌≡◌, ◌∙◌, ◌⊎◌, refl, sym, ap, subst, ℕ, zero, suc, ◌+◌, ◌*◌, ◌<◌, ◌≤◌, ◌||◌, ◌^◌, inl, inr, Bool, true, false, not, cond, List, [], ◌∷◌, ◌++◌, map, filter, length, take, Option, Some, None, is_some, option_map, arith, append_assoc}
-use Rattle.std.specs.List.{All, find, flat_map, list_all, sum_by}
+use Rattle.std.proofs.Common.{◌≡◌, ◌∙◌, ◌⊎◌, refl, sym, ap, subst, ℕ, ◌+◌, ◌<◌, ◌≤◌, ◌||◌, ◌^◌, inl, inr, Bool, true, false, not, cond, List, [], ◌∷◌, ◌++◌, map, filter, length, Option, Some, None, is_some, option_map, arith, append_assoc}
+use Rattle.std.specs.List.{find, flat_map, sum_by}
 use Rattle.std.specs.Option.{option_or}
-use Rattle.std.specs.Prelude.{nat_lt, ◌&&◌}
-use Rattle.std.specs.Str.{bytes_eq}
-use Rattle.std.proofs.lemmas.Bool.Decides.{nat_tests}
+use Rattle.std.specs.Prelude.{nat_lt}
 use Rattle.std.proofs.lemmas.List.{append-nil, length-map, map-append}
 use Rattle.std.proofs.lemmas.List.Elements.{All-append, All-push, All-same, filter-append}
 use Rattle.std.proofs.lemmas.List.Folds.{find-append}
 use Rattle.std.proofs.lemmas.List.Sums.{sum_by-append, sum_by-cons}
 use Rattle.hz_core.specs.Limits.{most_gate_pins, most_variables}
 use Rattle.hz_line.specs.Statement.{Numbered}
-use Rattle.hz_netlist.specs.Element.{Element, element_variables, variable_total}
-use Rattle.hz_blif.specs.declared.cover.Cover.{Cover as CoverRead}
+use Rattle.hz_netlist.specs.Element.{element_variables, variable_total}
 use Rattle.hz_blif.specs.declared.draft.Constant.{Constant}
 use Rattle.hz_blif.specs.declared.draft.Draft.{Draft}
 use Rattle.hz_blif.specs.declared.fault.BlifFault.{BlifFault}
 use Rattle.hz_blif.specs.declared.fault.BlifFault.TheVariants as fault
 use Rattle.hz_blif.specs.declared.gates.Gates.{Gates}
 use Rattle.hz_blif.specs.declared.notes.Excess.{Excess}
-use Rattle.hz_blif.specs.Check.{count_of, wrong_row, first_of}
-use Rattle.hz_blif.specs.Cover.{Cover, is_constant, is_too_large, on_line, plane_of}
-use Rattle.hz_blif.specs.Draft.{AreNumbers, Holds, HoldsClosed, HoldsCover, HoldsCovers, HoldsCurrent, MayGoOn, Read, closed, constant_by, cover_room, cover_uses, covers_with, names_at, output_on, pins_fault, uses_with, varying}
-use Rattle.hz_blif.specs.Entries.{AreNamed, HoldsGates, elements_by, name_at}
+use Rattle.hz_blif.specs.Check.{count_of}
+use Rattle.hz_blif.specs.Cover.{Cover, is_constant, is_too_large, plane_of}
+use Rattle.hz_blif.specs.Draft.{Holds, HoldsClosed, HoldsCover, HoldsCovers, HoldsCurrent, MayGoOn, Read, closed, constant_by, cover_room, cover_uses, covers_with, output_on, pins_fault, uses_with, varying}
+use Rattle.hz_blif.specs.Entries.{AreNamed, HoldsGates, elements_by}
 use Rattle.hz_blif.specs.Gates.{cover_gates}
 use Rattle.hz_blif.specs.Reading.{excess_of}
+use Rattle.hz_netlist.specs.Names.{on_line, names_at, name_at}
 
 pub is-none : {A : Type 0} (one : Option A) → false ≡ is_some one → one ≡ None
 is-none None h = refl

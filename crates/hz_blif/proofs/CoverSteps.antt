@@ -1,34 +1,27 @@
 -- What a draft holds, step by step: the cover that is being read.
-use Rattle.std.proofs.Common.{◌≡◌, ◌∙◌, refl, sym, ap, subst, ℕ, zero, suc, ◌+◌, ◌<◌, ◌≤◌, ◌||◌, Bool, true, false, not, cond, List, [], ◌∷◌, ◌++◌, map, filter, length, take, get_or, Option, Some, None, is_some, option_map, arith, append_assoc, add-one}
-use Rattle.std.specs.List.{All, IsDistinct, find, flat_map, list_all, sum_by}
+use Rattle.std.proofs.Common.{◌≡◌, ◌∙◌, refl, sym, ap, subst, ℕ, ◌+◌, ◌<◌, Bool, true, false, not, cond, List, [], ◌∷◌, ◌++◌, map, length, take, get_or, Option, Some, None, is_some, option_map, arith, append_assoc}
+use Rattle.std.specs.List.{IsDistinct, find}
 use Rattle.std.specs.Option.{option_or}
 use Rattle.std.specs.Prelude.{◌&&◌}
 use Rattle.std.specs.Str.{bytes_eq}
-use Rattle.std.proofs.lemmas.List.{append-nil, length-map, map-append, take_more}
-use Rattle.std.proofs.lemmas.List.Elements.{All-nil, All-same, filter-append}
+use Rattle.std.proofs.lemmas.List.{length-map, map-append, take_more}
+use Rattle.std.proofs.lemmas.List.Elements.{All-nil, All-same}
 use Rattle.std.proofs.lemmas.List.Folds.{find-append}
-use Rattle.std.proofs.lemmas.List.Sums.{sum_by-append}
-use Rattle.hz_core.specs.Limits.{most_variables}
 use Rattle.hz_line.specs.LeastFault.{first_found}
 use Rattle.hz_line.specs.Statement.{Numbered, first_passing_line}
-use Rattle.hz_netlist.specs.Element.{Element, element_variables, variable_total}
-use Rattle.hz_netlist.specs.Names.{Names, AreNamesOf, seen_names, with_use}
+use Rattle.hz_netlist.specs.Names.{Names, AreNamesOf, seen_names, on_line, AreNumbers, names_at, name_at}
 use Rattle.hz_blif.specs.declared.cover.Cover.{Cover as CoverRead}
 use Rattle.hz_blif.specs.declared.draft.Draft.{Draft}
-use Rattle.hz_blif.specs.declared.fault.BlifFault.TheVariants as fault
-use Rattle.hz_blif.specs.declared.gates.Gates.{Gates}
 use Rattle.hz_blif.specs.declared.notes.Notes.{Notes}
-use Rattle.hz_blif.specs.Check.{count_of, first_of, wrong_row}
-use Rattle.hz_blif.specs.Cover.{Cover, all_but_last, first_column, is_constant, is_row, is_too_large, is_wrong_row, last_token, on_line}
-use Rattle.hz_blif.specs.Draft.{AreNumbers, Holds, HoldsClosed, HoldsCover, HoldsCovers, HoldsCurrent, Read, closed, constant_by, covers_with, names_at, no_notes, nothing_read, pins_fault, row_added, twice_fault, uses_with, varying, with_begun, with_cover, with_row}
-use Rattle.hz_blif.specs.Entries.{AreNamed, HoldsGates, elements_by, name_at}
-use Rattle.hz_blif.specs.Gates.{cover_gates}
+use Rattle.hz_blif.specs.Check.{first_of, wrong_row}
+use Rattle.hz_blif.specs.Cover.{Cover, all_but_last, first_column, is_row, is_wrong_row, last_token}
+use Rattle.hz_blif.specs.Draft.{Holds, HoldsCover, HoldsCurrent, Read, closed, constant_by, covers_with, no_notes, nothing_read, pins_fault, row_added, twice_fault, uses_with, with_begun, with_cover, with_row}
+use Rattle.hz_blif.specs.Entries.{HoldsGates}
 use Rattle.hz_blif.specs.Reading.{KeepsRows, bytes_of}
 use Rattle.std.specs.Borrow.{Bor}
 use Rattle.hz_blif.proofs.RowLemmas.{last_token_last}
 use Rattle.hz_blif.proofs.EntryLemmas.{elements-none, named-none}
-use Rattle.hz_blif.proofs.DraftSteps.{names-push, numbers-push, holds-used}
-use Rattle.hz_blif.proofs.NumberSteps.{name-kept, names-kept, keeps-same}
+use Rattle.hz_blif.proofs.DraftSteps.{names-push, numbers-push}
 
 -- at first nothing is held
 pub holds-nothing : (draft : Draft) → draft.names ≡ [] → draft.inputs.items ≡ [] → draft.outputs.items ≡ [] → draft.variables ≡ 0 → HoldsGates draft.gates → draft.gates.gates.items ≡ []

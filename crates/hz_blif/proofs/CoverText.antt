@@ -1,5 +1,5 @@
 -- A cover that was read, and the cover of the text.
-use Rattle.std.proofs.Common.{◌≡◌, ◌∙◌, refl, ap, subst, sym, ℕ, suc, ◌+◌, ◌<◌, ◌≤◌, Bool, true, false, not, List, [], ◌∷◌, length, map, take, get_or, arith}
+use Rattle.std.proofs.Common.{◌≡◌, ◌∙◌, refl, ap, subst, sym, ℕ, suc, ◌<◌, ◌≤◌, Bool, true, false, not, List, [], ◌∷◌, length, map, get_or, arith}
 use Rattle.std.specs.Prelude.{◌==◌, ◌&&◌, ◌||◌, Contains}
 use Rattle.std.specs.Borrow.{Bor}
 use Rattle.std.specs.Str.{bytes_eq}
@@ -9,12 +9,11 @@ use Rattle.std.proofs.lemmas.List.{get_or-map, length-map, take_all}
 use Rattle.std.proofs.lemmas.List.Elements.{All-from_get_or, Contains-get_or}
 use Rattle.hz_core.specs.Limits.{most_gate_pins}
 use Rattle.hz_line.specs.Statement.{Numbered}
-use Rattle.hz_netlist.specs.Element.{Element}
 use Rattle.hz_blif.specs.declared.cover.Cover.{Cover as CoverRead}
-use Rattle.hz_blif.specs.Cover.{Cover, first_column, has_literal, is_column, is_constant, is_plane_byte, is_row, plane_of, planes_of}
+use Rattle.hz_blif.specs.Cover.{Cover, has_literal, is_column, is_constant, is_plane_byte, is_row, plane_of, planes_of}
 use Rattle.hz_blif.specs.Entries.{IsWholeCover, column_by, cover_by, planes_by}
 use Rattle.hz_blif.specs.Gates.{cover_gates, gates_of_rows, literals_of}
-use Rattle.hz_blif.specs.Reading.{KeepsRows, bytes_of, planes_in}
+use Rattle.hz_blif.specs.Reading.{KeepsRows}
 use Rattle.hz_blif.specs.Text.{is_some_list}
 
 -- the planes that are kept are all, where they are not too many

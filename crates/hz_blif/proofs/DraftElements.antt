@@ -1,5 +1,5 @@
 -- The elements of a draft: their names, and the steps in which they are built.
-use Rattle.std.proofs.Common.{◌≡◌, ◌∙◌, refl, sym, ap, subst, ℕ, suc, ◌+◌, ◌-◌, ◌<◌, ◌≤◌, Bool, true, false, List, [], ◌∷◌, ◌++◌, length, map, take, drop, fold, get_or, length-drop, arith}
+use Rattle.std.proofs.Common.{◌≡◌, ◌∙◌, refl, sym, ap, subst, ℕ, suc, ◌<◌, true, List, [], ◌∷◌, ◌++◌, length, map, take, drop, fold, get_or, length-drop, arith}
 use Rattle.std.specs.Prelude.{sum_by}
 use Rattle.std.specs.List.{AllByRecursion, list_any}
 use Rattle.std.specs.Str.{bytes_eq}
@@ -7,7 +7,7 @@ use Rattle.std.proofs.lemmas.List.{at_drop_more, drop-map, length-map, take-appe
 use Rattle.std.proofs.lemmas.List.Sums.{sum_by-cons}
 use Rattle.std.proofs.lemmas.Simd.{map-map}
 use Rattle.hz_core.specs.declared.kind.Kind.{Kind}
-use Rattle.hz_core.specs.Netlist.{Netlist, with_output}
+use Rattle.hz_core.specs.Netlist.{Netlist}
 use Rattle.hz_netlist.proofs.Connect.{may_read, names-kept, pins-numbered}
 use Rattle.hz_netlist.specs.Build.{AreAdmissibleSteps, BuilderState, MayAddGate, MayAddInput, MayAddPinFrom, MayAddPins, UsesKnown, with_gate_of, with_input_of, with_pin_from, with_pin_named, with_pins_of}
 use Rattle.hz_netlist.specs.Circuit.{number_in}
@@ -16,7 +16,7 @@ use Rattle.hz_blif.specs.declared.gates.Gate.{Gate as GateEntry}
 use Rattle.hz_blif.specs.declared.gates.Source.{Source}
 use Rattle.hz_blif.specs.Built.{MayAddGateEntry, MayAddInputNumbered, MayAddPinsBy, with_gate_entry, with_input_numbered, with_pins_by}
 use Rattle.hz_blif.specs.Entries.{elements_from, gate_name, source_name}
-use Rattle.hz_blif.proofs.Lists.{all-append, all-cut}
+use Rattle.hz_blif.proofs.Lists.{all-append}
 
 -- an element is a gate
 abbrev pub IsGate : Element → Type 0

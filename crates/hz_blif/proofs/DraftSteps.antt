@@ -1,25 +1,21 @@
 -- What a draft holds, step by step: names, inputs, outputs.
-use Rattle.std.proofs.Common.{◌≡◌, ◌∙◌, refl, sym, ap, subst, ℕ, zero, suc, ◌+◌, ◌<◌, ◌≤◌, Bool, true, false, cond, List, [], ◌∷◌, ◌++◌, map, length, Option, Some, None, option_map, arith, append_assoc}
-use Rattle.std.specs.List.{All, IsDistinct}
+use Rattle.std.proofs.Common.{◌≡◌, ◌∙◌, refl, sym, ap, subst, ℕ, ◌<◌, List, [], ◌∷◌, ◌++◌, length, Option, Some, None, option_map, arith, append_assoc}
+use Rattle.std.specs.List.{IsDistinct}
 use Rattle.std.specs.Option.{option_or}
 use Rattle.std.specs.Str.{bytes_eq}
 use Rattle.std.proofs.lemmas.List.{append-nil, map-append}
-use Rattle.std.proofs.lemmas.List.Elements.{All-nil, All-push, All-same}
+use Rattle.std.proofs.lemmas.List.Elements.{All-push, All-same}
 use Rattle.hz_line.specs.Statement.{Numbered, first_passing_line}
-use Rattle.hz_netlist.specs.Names.{Names, AreNamesOf, seen_at, seen_names, definer_in, with_definition, with_sight, with_use}
-use Rattle.hz_netlist.proofs.NameLaws.{names-define}
+use Rattle.hz_netlist.specs.Names.{Names, AreNamesOf, seen_at, seen_names, with_definition, with_sight, with_use, on_line, AreNumbers, names_at, name_at}
+use Rattle.hz_netlist.proofs.NameLaws.{names-define, names-use}
 use Rattle.hz_blif.specs.declared.cover.Cover.{Cover as CoverRead}
 use Rattle.hz_blif.specs.declared.draft.Draft.{Draft}
-use Rattle.hz_blif.specs.declared.fault.BlifFault.{BlifFault}
-use Rattle.hz_blif.specs.declared.fault.BlifFault.TheVariants as fault
-use Rattle.hz_blif.specs.declared.notes.Notes.{Notes}
 use Rattle.hz_blif.specs.declared.notes.Redefinition.{Redefinition}
 use Rattle.hz_blif.specs.Check.{twice_after, twice_or}
-use Rattle.hz_blif.specs.Cover.{Cover, on_line}
-use Rattle.hz_blif.specs.Draft.{AreNumbers, Holds, HoldsCover, HoldsCovers, HoldsCurrent, Read, names_at, twice_fault, with_inputs, with_outputs}
-use Rattle.hz_blif.specs.Entries.{AreNamed, HoldsGates, elements_by, name_at}
+use Rattle.hz_blif.specs.Cover.{Cover}
+use Rattle.hz_blif.specs.Draft.{Holds, HoldsCovers, HoldsCurrent, Read, twice_fault, with_inputs, with_outputs}
 use Rattle.hz_blif.proofs.EntryLemmas.{elements-same, named-more}
-use Rattle.hz_blif.proofs.NumberSteps.{KeepsNames, constant-numbers-kept, constants-kept, definer-at, definition-names, keeps-same, kept-length, name-kept, names-kept, names-use, numbers-kept, sight-distinct, sight-keeps, sight-named, use-names}
+use Rattle.hz_blif.proofs.NumberSteps.{KeepsNames, constant-numbers-kept, constants-kept, definer-at, definition-names, keeps-same, kept-length, name-kept, names-kept, numbers-kept, sight-distinct, sight-keeps, sight-named, use-names}
 
 -- the cover that is being read, where there are more names
 pub current-kept : (old new : Names) (current : Option Cover) (cover : CoverRead) → KeepsNames old new → HoldsCurrent old current cover → HoldsCurrent new current cover

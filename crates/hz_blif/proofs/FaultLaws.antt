@@ -1,28 +1,18 @@
 -- What is computed of a text number by number is its least fault.
-use Rattle.std.proofs.Common.{◌≡◌, ◌∙◌, refl, sym, ap, subst, ℕ, zero, suc, ◌<◌, ◌≤◌, ◌⊎◌, inl, inr, Bool, true, false, not, cond, List, [], ◌∷◌, ◌++◌, map, length, fold, Option, Some, None, option_map, arith, append_assoc, lit≤}
-use Rattle.std.specs.Prelude.{Contains, ◌&&◌, nat_lt, if◌then◌else◌}
-use Rattle.std.specs.List.{find, list_any, flat_map}
+use Rattle.std.proofs.Common.{◌≡◌, ◌∙◌, refl, sym, ap, subst, ℕ, suc, ◌⊎◌, inl, inr, Bool, true, false, cond, List, [], ◌∷◌, ◌++◌, Option, Some, None, arith, append_assoc}
+use Rattle.std.specs.Prelude.{Contains}
 use Rattle.std.specs.Str.{bytes_eq}
-use Rattle.std.proofs.lemmas.Bool.{cases_lt}
-use Rattle.std.proofs.lemmas.Bool.Decides.{nat_tests}
-use Rattle.hz_core.specs.Least.{IsLeastOf, option_min}
-use Rattle.hz_core.specs.Limits.{most_variables, most_gate_pins}
-use Rattle.hz_core.proofs.LeastLemmas.{IsLeastOf-either, IsLeastOf-same}
-use Rattle.hz_line.specs.LeastFault.{AreFound, Faults, IsAnswer, IsLeastOfAll, IsLeastOfNumber, first_found}
+use Rattle.hz_core.specs.Least.{IsLeastOf}
 use Rattle.hz_line.specs.Statement.{Numbered, first_passing_line}
-use Rattle.hz_line.proofs.LeastLaws.{found-least}
 use Rattle.hz_line.proofs.StatementLemmas.{Ascends}
-use Rattle.hz_netlist.specs.Element.{variable_total}
-use Rattle.hz_netlist.proofs.NameTableLemmas.{min_assoc, min_none}
 use Rattle.hz_blif.specs.declared.fault.BlifFault.{BlifFault}
 use Rattle.hz_blif.specs.declared.fault.BlifFault.TheVariants as fault
-use Rattle.hz_blif.specs.Text.{joined_lines}
-use Rattle.hz_blif.specs.Line.{Line, lines_in, is_construct}
-use Rattle.hz_blif.specs.Cover.{Cover, covers_of, definitions_of, definitions_with, uses_of, is_wrong_row, is_skipped, is_constant, is_among, names_of, is_too_large, on_line}
-use Rattle.hz_blif.specs.Circuit.{elements_of}
-use Rattle.hz_blif.specs.Fault.{Stands, IsSecond, HasFault, HasForbidden, HasWrongForm, HasThat, HasCover, IsTooLarge, UsesUndefined, IsFaultless, IsLeastFault, IsBlifRefusal, blif_faults, fault_number, fault_line, has_wrong_form, has_long_name, is_forbidden}
-use Rattle.hz_blif.specs.Check.{wrong_form_after, twice_or, twice_after, wrong_row, first_of, least_of, count_of, undefined_use, too_many, faults_in}
-use Rattle.hz_blif.proofs.Ascending.{PassesAt, HasRowAt, IsFirstCover, above, covers-ascend, find-cover, find-no_cover, first-least, first-row-least, joined_lines-ascend, lines_in-ascend, one-line, one_of, none_of, the_first, a_later}
+use Rattle.hz_blif.specs.Line.{Line, lines_in}
+use Rattle.hz_blif.specs.Cover.{definitions_of}
+use Rattle.hz_blif.specs.Fault.{Stands, IsFaultless, has_wrong_form}
+use Rattle.hz_blif.specs.Check.{wrong_form_after, twice_or, twice_after}
+use Rattle.hz_blif.proofs.Ascending.{above}
+use Rattle.hz_netlist.proofs.Undefined.{the_first, a_later}
 
 true-false : true ≡ false → ⊥
 true-false e = cc

@@ -1,5 +1,5 @@
 -- What is computed of a text number by number is its least fault, and there is no other.
-use Rattle.std.proofs.Common.{◌≡◌, ◌∙◌, refl, sym, ap, subst, ℕ, zero, suc, ◌+◌, ◌<◌, ◌≤◌, ◌⊎◌, inl, inr, Bool, true, false, not, cond, List, [], ◌∷◌, ◌++◌, map, length, fold, Option, Some, None, option_map, arith, append_assoc, lit≤}
+use Rattle.std.proofs.Common.{◌≡◌, ◌∙◌, refl, sym, ap, subst, ℕ, zero, suc, ◌<◌, ◌≤◌, ◌⊎◌, inl, inr, Bool, true, false, not, cond, List, [], ◌∷◌, ◌++◌, map, length, fold, Option, Some, None, option_map, arith, lit≤}
 use Rattle.std.specs.Prelude.{Contains, ◌&&◌, nat_lt, ◌||◌}
 use Rattle.std.specs.List.{find, list_any}
 use Rattle.std.specs.Str.{bytes_eq}
@@ -8,7 +8,7 @@ use Rattle.std.proofs.lemmas.List.{append-nil}
 use Rattle.hz_core.specs.Least.{IsLeastOf, option_min}
 use Rattle.hz_core.specs.Limits.{most_variables, most_gate_pins}
 use Rattle.hz_core.proofs.LeastLemmas.{IsLeastOf-either, IsLeastOf-same}
-use Rattle.hz_line.specs.LeastFault.{AreFound, IsAnswer, IsLeastOfAll, IsLeastOfNumber, first_found}
+use Rattle.hz_line.specs.LeastFault.{AreFound, IsAnswer, IsLeastOfNumber}
 use Rattle.hz_line.specs.Statement.{Numbered, first_passing_line}
 use Rattle.hz_line.proofs.LeastLaws.{found-least}
 use Rattle.hz_netlist.specs.Element.{variable_total}
@@ -17,13 +17,15 @@ use Rattle.hz_blif.specs.declared.fault.BlifFault.{BlifFault}
 use Rattle.hz_blif.specs.declared.fault.BlifFault.TheVariants as fault
 use Rattle.hz_blif.specs.Text.{joined_lines}
 use Rattle.hz_blif.specs.Line.{Line, Inputs, Outputs, Names, Row, Model, End, Blank, Construct as ConstructLine, lines_in, is_construct}
-use Rattle.hz_blif.specs.Cover.{Cover, covers_of, definitions_of, definitions_with, uses_of, is_wrong_row, is_skipped, is_constant, is_among, names_of, is_too_large, on_line, last_token}
+use Rattle.hz_blif.specs.Cover.{Cover, covers_of, definitions_of, definitions_with, uses_of, is_wrong_row, is_skipped, is_constant, is_too_large}
 use Rattle.hz_blif.specs.Circuit.{elements_of}
-use Rattle.hz_blif.specs.Fault.{Stands, IsSecond, HasFault, HasForbidden, HasWrongForm, HasThat, HasCover, IsTooLarge, UsesUndefined, IsFaultless, IsLeastFault, IsBlifRefusal, blif_faults, fault_number, fault_line, has_wrong_form, has_long_name, is_forbidden}
-use Rattle.hz_blif.specs.Check.{wrong_form_after, twice_after, wrong_row, first_of, least_of, count_of, undefined_use, too_many, faults_in, first_fault}
+use Rattle.hz_blif.specs.Fault.{Stands, IsSecond, HasFault, HasForbidden, HasWrongForm, HasThat, HasCover, IsTooLarge, UsesUndefined, IsFaultless, IsLeastFault, IsBlifRefusal, blif_faults, fault_number, fault_line, has_long_name, is_forbidden}
+use Rattle.hz_blif.specs.Check.{wrong_form_after, twice_after, wrong_row, first_of, least_of, count_of, undefined_use, faults_in, first_fault}
 use Rattle.hz_line.proofs.StatementLemmas.{Ascends}
-use Rattle.hz_blif.proofs.Ascending.{PassesAt, HasRowAt, covers-ascend, find-cover, find-no_cover, first-least, first-row-least, joined_lines-ascend, lines_in-ascend, one-line, one_of, none_of, the_first, a_later}
-use Rattle.hz_blif.proofs.FaultLaws.{IsTwiceAfter, IsTwiceFound, IsWrongAfter, stands-cases, stands-contained, twice-found, wrong-form-least}
+use Rattle.hz_blif.proofs.Ascending.{HasRowAt, covers-ascend, find-cover, find-no_cover, first-least, first-row-least, joined_lines-ascend, lines_in-ascend, one-line}
+use Rattle.hz_blif.proofs.FaultLaws.{IsTwiceAfter, IsTwiceFound, stands-cases, stands-contained, twice-found, wrong-form-least}
+use Rattle.hz_netlist.specs.Names.{is_among, names_of, on_line}
+use Rattle.hz_netlist.proofs.Undefined.{one_of, none_of, the_first, a_later, Climbs, IsUndefinedIn, climbs-to, climbs-weaker, climbs-on_line}
 
 -- what stands in a text where a fault with this number, line and count stands
 abbrev pub ByNumber : List ℕ → ℕ → ℕ → ℕ → Type 0
@@ -80,18 +82,6 @@ found-line text number fault_at P (Some line) rest is at stands by least more = 
 }
 
 -- names defined twice
-abbrev pub Climbs : ℕ → List (Numbered (List ℕ)) → Type 0
-Climbs low [] = Unit {0}
-Climbs low (first ∷ rest) = (low ≤ first.line) × Climbs first.line rest
-
-pub climbs-weaker : (low high : ℕ) (items : List (Numbered (List ℕ))) → low ≤ high → Climbs high items → Climbs low items
-climbs-weaker low high [] l h = tt
-climbs-weaker low high (first ∷ rest) l h = (omega (arith, l, h.0), h.1)
-
-pub climbs-on_line : (line high : ℕ) (names : List (List ℕ)) (items : List (Numbered (List ℕ))) → line ≤ high → Climbs high items → Climbs line (on_line line names ++ items)
-climbs-on_line line high [] items l h = climbs-weaker line high items l h
-climbs-on_line line high (name ∷ names) items l h = (omega arith, climbs-on_line line high names items l h)
-
 definitions-climb : (lines : List (Numbered Line)) (low : ℕ) → Ascends low lines → Climbs low (definitions_of lines)
 definitions-climb [] low h = tt
 definitions-climb (first ∷ rest) low h = by_line first.statement (definitions-climb rest (suc first.line) h.1)
@@ -109,13 +99,6 @@ definitions-climb (first ∷ rest) low h = by_line first.statement (definitions-
     by_line (Row tokens) ih = none ih
     by_line (End tokens) ih = none ih
     by_line ConstructLine ih = none ih
-
-pub climbs-to : (low : ℕ) (items : List (Numbered (List ℕ))) (one : Numbered (List ℕ)) → Climbs low items → Contains items one → low ≤ one.line
-climbs-to low [] one h c = absurd (none_of one c)
-climbs-to low (first ∷ rest) one h c = elim (one_of first rest one c) [
-  | inl here ↦ omega (arith, h.0, ap (λ (one : Numbered (List ℕ)). one.line) here)
-  | inr later ↦ (let up = climbs-to first.line rest one h.1 later in omega (arith, h.0, up))
-]
 
 climbs-behind : (low : ℕ) (front : List (Numbered (List ℕ))) (next : Numbered (List ℕ)) (later : List (Numbered (List ℕ))) → Climbs low (front ++ next ∷ later) → Climbs next.line later
 climbs-behind low [] next later h = h.1
@@ -212,9 +195,6 @@ found-constant text (Some cover) rest e more =
 min-fold : (known : Option ℕ) (lines : List (Option ℕ)) → fold option_min known lines ≡ option_min known (fold option_min None lines)
 min-fold known [] = sym (min_none known)
 min-fold known (first ∷ rest) = min-fold (option_min known first) rest ∙ (min_assoc known first (fold option_min None rest) ∙ ap (option_min known) (sym (min-fold first rest)))
-
-abbrev pub IsUndefinedIn : List (List ℕ) → List (Numbered (List ℕ)) → ℕ → Type 0
-IsUndefinedIn defined uses line = (name : List ℕ) × Contains uses (record { line = line; statement = name }) × (is_among defined name ≡ false)
 
 abbrev IsHere : List (List ℕ) → Numbered (List ℕ) → ℕ → Type 0
 IsHere defined first line = (first.line ≡ line) × (is_among defined first.statement ≡ false)

@@ -1,7 +1,7 @@
 -- A cover that becomes its gates.
-use Rattle.std.proofs.Common.{◌≡◌, ◌∙◌, refl, sym, ap, subst, ℕ, zero, suc, ◌+◌, ◌*◌, ◌<◌, ◌≤◌, ◌||◌, ◌^◌, Bool, true, false, not, cond, List, [], ◌∷◌, ◌++◌, map, length, take, Option, Some, None, option_map, arith, append_assoc}
+use Rattle.std.proofs.Common.{◌≡◌, ◌∙◌, refl, sym, ap, subst, ℕ, suc, ◌+◌, ◌*◌, ◌<◌, ◌≤◌, ◌||◌, ◌^◌, Bool, true, false, not, cond, List, [], ◌∷◌, ◌++◌, map, length, Option, Some, None, option_map, arith}
 use Rattle.std.specs.Prelude.{nat_lt, ◌==◌, ◌&&◌}
-use Rattle.std.specs.List.{All, AllByRecursion, find, flat_map, list_all, sum_by}
+use Rattle.std.specs.List.{AllByRecursion, find, flat_map, list_all, sum_by}
 use Rattle.std.specs.Option.{option_or}
 use Rattle.std.specs.Str.{bytes_eq}
 use Rattle.std.proofs.lemmas.Bool.{eqb-true}
@@ -10,20 +10,19 @@ use Rattle.std.proofs.lemmas.List.{length-map, take_all}
 use Rattle.std.proofs.lemmas.List.Elements.{All-from_recursion, All-same}
 use Rattle.std.proofs.lemmas.List.Sums.{sum_by-append, sum_by-cons}
 use Rattle.hz_core.specs.Limits.{most_gate_pins, most_variables}
-use Rattle.hz_line.specs.LeastFault.{first_found}
 use Rattle.hz_line.specs.Statement.{Numbered, first_passing_line}
 use Rattle.hz_netlist.specs.Element.{Element, Gate, element_variables, variable_total}
-use Rattle.hz_netlist.specs.Names.{Names}
+use Rattle.hz_netlist.specs.Names.{Names, on_line, names_at, name_at}
 use Rattle.hz_netlist.proofs.Tests.{either, not-false}
 use Rattle.hz_blif.specs.declared.cover.Cover.{Cover as CoverRead}
 use Rattle.hz_blif.specs.declared.draft.Draft.{Draft}
 use Rattle.hz_blif.specs.declared.gates.Gates.{Gates}
 use Rattle.hz_blif.specs.Check.{first_of, wrong_row}
-use Rattle.hz_blif.specs.Cover.{Cover, column_of, first_column, has_literal, is_column, is_constant, is_plane_byte, is_row, is_too_large, is_wrong_row, plane_of, planes_of, on_line}
-use Rattle.hz_blif.specs.Draft.{Holds, HoldsClosed, HoldsCover, MayGoOn, Read, covers_with, cover_room, names_at, varying}
-use Rattle.hz_blif.specs.Entries.{AreNamed, HasNamesBelow, HoldsGates, IsWholeCover, cover_by, elements_by, name_at}
+use Rattle.hz_blif.specs.Cover.{Cover, column_of, has_literal, is_constant, is_plane_byte, is_row, is_too_large, is_wrong_row, plane_of, planes_of}
+use Rattle.hz_blif.specs.Draft.{Holds, HoldsClosed, HoldsCover, Read, covers_with, cover_room, varying}
+use Rattle.hz_blif.specs.Entries.{AreNamed, HasNamesBelow, HoldsGates, IsWholeCover, cover_by, elements_by}
 use Rattle.hz_core.specs.declared.kind.Kind.TheVariants.{And, Nand, Or, Nor, Not, Buff}
-use Rattle.hz_blif.specs.Gates.{Literal, inverter_name, literal_name, row_name, cover_gates, gates_of_row, gates_of_rows, has_zero, inverters_from, literal_gate, literal_names, literals_from, literals_of, row_gate_with, row_gates_from, terms_from}
+use Rattle.hz_blif.specs.Gates.{Literal, inverter_name, literal_name, row_name, cover_gates, gates_of_row, gates_of_rows, has_zero, inverters_from, literal_gate, literal_names, literals_from, literals_of, row_gates_from, terms_from}
 use Rattle.hz_blif.specs.Reading.{bytes_of, planes_in}
 use Rattle.hz_blif.specs.Text.{is_some_list}
 use Rattle.hz_blif.proofs.Closing.{held-cover, holds-grown}

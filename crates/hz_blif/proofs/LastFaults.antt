@@ -1,8 +1,8 @@
 -- The last three faults, by what is kept: constant covers that are used, undefined names, and too many variables.
-use Rattle.std.proofs.Common.{◌≡◌, ◌∙◌, refl, sym, ap, subst, ℕ, zero, suc, ◌+◌, ◌<◌, ◌≤◌, ◌⊎◌, inl, inr, ◌||◌, Bool, true, false, not, cond, List, [], ◌∷◌, ◌++◌, map, filter, length, Option, Some, None, is_some, option_map, arith, append_assoc}
+use Rattle.std.proofs.Common.{◌≡◌, ◌∙◌, refl, sym, ap, subst, ℕ, suc, ◌+◌, ◌<◌, ◌≤◌, inl, inr, ◌||◌, Bool, true, false, not, cond, List, [], ◌∷◌, ◌++◌, map, filter, length, Option, Some, None, is_some, option_map, arith, append_assoc}
 use Rattle.std.specs.Prelude.{Contains, ◌&&◌, ◌^◌, nat_eq, nat_lt}
 use Rattle.std.proofs.lemmas.Bool.Decides.{nat_tests}
-use Rattle.std.specs.List.{find, flat_map, list_any, sum_by}
+use Rattle.std.specs.List.{find, flat_map, list_any}
 use Rattle.std.specs.Str.{bytes_eq}
 use Rattle.std.proofs.lemmas.List.{append-nil, length-map}
 use Rattle.std.proofs.lemmas.List.Elements.{All-head, All-tail, Contains-append_cases, Contains-append_left, Contains-append_right}
@@ -12,8 +12,8 @@ use Rattle.hz_core.proofs.LeastLemmas.{IsLeastOf-same}
 use Rattle.hz_line.specs.LeastFault.{first_found}
 use Rattle.hz_line.specs.Statement.{Numbered, first_passing_line}
 use Rattle.hz_line.proofs.StatementLemmas.{Ascends}
-use Rattle.hz_netlist.specs.Element.{Element, Input, Output, element_variables, variable_total}
-use Rattle.hz_netlist.specs.Names.{AreNamesOf, first_undefined, seen_at, seen_names, user_in}
+use Rattle.hz_netlist.specs.Element.{Input, Output, element_variables, variable_total}
+use Rattle.hz_netlist.specs.Names.{AreNamesOf, first_undefined, seen_at, is_among, names_of, on_line, name_at}
 use Rattle.hz_core.specs.Limits.{most_variables}
 use Rattle.hz_line.specs.Line.{most_text_bytes}
 use Rattle.hz_blif.specs.declared.draft.Constant.{Constant}
@@ -22,21 +22,19 @@ use Rattle.hz_blif.specs.Fault.{IsBlifRefusal, IsFaultless}
 use Rattle.hz_blif.proofs.CheckLaws.{found-last, stop}
 use Rattle.hz_blif.proofs.Growing.{varying-room}
 use Rattle.hz_blif.proofs.TextRoom.{text-room}
-use Rattle.hz_blif.specs.declared.fault.BlifFault.{BlifFault}
 use Rattle.hz_blif.specs.declared.fault.BlifFault.TheVariants as fault
 use Rattle.hz_blif.specs.Check.{first_fault, least_of, undefined_use, too_many}
 use Rattle.hz_blif.specs.Circuit.{elements_of}
-use Rattle.hz_blif.specs.Cover.{Cover, all_but_last, cover_of_line, covers_of, definitions_of, inputs_of, is_among, is_constant, is_skipped, is_used, kept_covers, last_token, leading_rows, names_of, on_line, outputs_of, outputs_with, uses_of}
-use Rattle.hz_blif.specs.Draft.{Holds, IsClean, IsDraftOf, closed, constant_by, cover_uses, first_used, is_used_number, names_at, output_on, read_of, uses_in_order, varying}
-use Rattle.hz_blif.specs.Entries.{name_at}
+use Rattle.hz_blif.specs.Cover.{Cover, all_but_last, cover_of_line, covers_of, definitions_of, inputs_of, is_constant, is_skipped, is_used, kept_covers, last_token, leading_rows, outputs_of, outputs_with, uses_of}
+use Rattle.hz_blif.specs.Draft.{IsClean, IsDraftOf, constant_by, cover_uses, first_used, is_used_number, output_on, uses_in_order, varying}
 use Rattle.hz_blif.specs.Gates.{cover_gates}
 use Rattle.hz_blif.specs.Line.{Line, Blank, Model, Inputs, Outputs, Names, Row, End, Construct, lines_in}
-use Rattle.hz_blif.proofs.Ascending.{lines_in-ascend, none_of}
-use Rattle.hz_blif.proofs.FoundFaults.{answer-faultless, answer-refusal, Climbs, IsUndefinedIn, climbs-on_line, climbs-weaker, undefined-least}
+use Rattle.hz_blif.proofs.Ascending.{lines_in-ascend}
+use Rattle.hz_blif.proofs.FoundFaults.{answer-faultless, answer-refusal, undefined-least}
 use Rattle.hz_blif.proofs.NumberSteps.{AreConstantNumbers, user-at}
 use Rattle.hz_blif.proofs.ReadLaws.{is-read}
-use Rattle.hz_blif.proofs.Undefined.{first-undefined-least, least-one}
 use Rattle.hz_blif.proofs.UseLaws.{constants-used, kept-varying, number-among, some-line, used-parts}
+use Rattle.hz_netlist.proofs.Undefined.{Climbs, IsUndefinedIn, climbs-weaker, first-undefined-least, least-one, climbs-on_line}
 
 -- uses ascend by their lines
 uses-climb : (lines : List (Numbered Line)) (low : ℕ) → Ascends low lines → Climbs low (uses_in_order lines)

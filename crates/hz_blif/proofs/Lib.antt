@@ -46,8 +46,6 @@ pub mod FoundFaults
 pub mod CheckLaws
 -- Names that pins and outputs use: which constant covers are used, and which names are undefined
 pub mod UseLaws
--- The first line that uses a name which no line defines, by the table of names
-pub mod Undefined
 -- The last three faults, by what is kept: constant covers that are used, undefined names, and too many variables
 pub mod LastFaults
 -- The names of gates: apart from each other and from the names of a text, and not too long

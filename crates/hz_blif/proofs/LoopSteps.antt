@@ -1,14 +1,11 @@
 -- Reading a text line by line.
-use Rattle.std.proofs.Common.{◌≡◌, ◌∙◌, ◌⊎◌, refl, sym, ap, subst, ℕ, zero, suc, ◌+◌, ◌<◌, ◌≤◌, ◌^◌, inl, inr, Bool, true, false, cond, List, [], ◌∷◌, ◌++◌, map, fold, length, Option, Some, None, option_map, arith, append_assoc}
+use Rattle.std.proofs.Common.{◌≡◌, ◌∙◌, ◌⊎◌, refl, sym, ap, subst, ℕ, suc, ◌+◌, ◌<◌, ◌≤◌, inl, inr, Bool, true, false, cond, List, [], ◌∷◌, ◌++◌, map, fold, length, Option, Some, None, option_map, arith, append_assoc}
 use Rattle.std.specs.Prelude.{Contains}
 use Rattle.std.specs.List.{find, list_any, sum_by}
-use Rattle.std.specs.Option.{option_or}
 use Rattle.std.specs.Borrow.{Bor}
 use Rattle.std.proofs.lemmas.List.{append-nil, map-append}
 use Rattle.std.proofs.lemmas.List.Elements.{Contains-append_cases}
-use Rattle.std.proofs.lemmas.List.Folds.{find-append}
 use Rattle.hz_core.specs.Least.{option_min}
-use Rattle.hz_line.specs.LeastFault.{IsLeastOfAll}
 use Rattle.hz_line.specs.Line.{lines_of, lines_of_rest, most_text_bytes, rest_length}
 use Rattle.hz_line.specs.Statement.{Numbered, first_passing_line}
 use Rattle.hz_line.proofs.StatementLemmas.{Ascends}
@@ -18,16 +15,17 @@ use Rattle.hz_blif.specs.declared.fault.BlifFault.TheVariants as fault
 use Rattle.hz_blif.specs.declared.line.Course.{Course}
 use Rattle.hz_blif.specs.declared.lines.JoinedLine.{JoinedLine}
 use Rattle.hz_blif.specs.Check.{wrong_form_after}
-use Rattle.hz_blif.specs.Cover.{Cover, covers_of}
-use Rattle.hz_blif.specs.Draft.{Holds, IsDraftOf, MayGoOn, Read, closed, cover_room, covers_with, nothing_read, noting, read_of, taking, with_next}
+use Rattle.hz_blif.specs.Cover.{covers_of}
+use Rattle.hz_blif.specs.Draft.{Holds, IsDraftOf, MayGoOn, Read, closed, cover_room, nothing_read, noting, read_of, taking, with_next}
 use Rattle.hz_blif.specs.Fault.{HasFault, HasForbidden, HasWrongForm, IsLeastFault, Stands, fault_line, fault_number, has_wrong_form, is_forbidden}
 use Rattle.hz_blif.specs.Line.{Line, line_of, lines_in}
 use Rattle.hz_blif.specs.Reading.{IsJoinedLine, bytes_of, course_of}
 use Rattle.hz_blif.specs.Text.{joined_from, joined_lines, tokens_of}
-use Rattle.hz_blif.proofs.Ascending.{above, joined_lines-ascend, lines_in-ascend, one_of}
+use Rattle.hz_blif.proofs.Ascending.{above, joined_lines-ascend, lines_in-ascend}
 use Rattle.hz_blif.proofs.FaultLaws.{stands-cases, stands-contained}
 use Rattle.hz_blif.proofs.ReadLaws.{room-so-far}
 use Rattle.hz_blif.proofs.TextRoom.{text-room}
+use Rattle.hz_netlist.proofs.Undefined.{one_of}
 
 true-false : true ≡ false → ⊥
 true-false e = cc

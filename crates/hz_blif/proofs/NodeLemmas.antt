@@ -1,26 +1,25 @@
 -- The nodes of names: the table of nodes tells the number of each name that a node has.
-use Rattle.std.proofs.Common.{◌≡◌, ◌≢◌, ◌∙◌, refl, sym, ap, subst, ℕ, suc, ◌+◌, ◌<◌, ◌⊎◌, inl, inr, Bool, true, false, ◌||◌, List, [], ◌∷◌, ◌++◌, length, map, set, get_or, append_assoc, length-append, decimal, arith}
+use Rattle.std.proofs.Common.{◌≡◌, ◌≢◌, ◌∙◌, refl, sym, ap, subst, ℕ, suc, ◌<◌, inl, inr, Bool, true, false, ◌||◌, List, [], ◌∷◌, ◌++◌, length, map, set, append_assoc, length-append, decimal, arith}
 use Rattle.std.specs.Prelude.{All}
 use Rattle.std.specs.List.{AllByRecursion, IsDistinct, list_any}
 use Rattle.std.specs.Str.{bytes_eq}
 use Rattle.std.proofs.lemmas.Bool.{cases_eq}
-use Rattle.std.proofs.lemmas.List.{get_or-set_other, get_or-set_same, length-map, length-set}
+use Rattle.std.proofs.lemmas.List.{get_or-set_other, get_or-set_same, length-set}
 use Rattle.std.proofs.lemmas.List.Elements.{All-head, All-tail}
 use Rattle.std.proofs.lemmas.List.Folds.{list_any-append}
 use Rattle.std.proofs.lemmas.Slice.Eq.{bytes_eq-Decides}
 use Rattle.hz_netlist.proofs.NameTableLemmas.{same-number}
 use Rattle.hz_netlist.proofs.Numbers.{number-at, number-placed}
 use Rattle.hz_netlist.specs.Circuit.{number_in}
-use Rattle.hz_netlist.specs.Names.{Names, Seen, seen_at, seen_names}
+use Rattle.hz_netlist.specs.Names.{Names, seen_names, node_of, AreNumbers, names_at, name_at}
 use Rattle.hz_blif.specs.declared.gates.Gate.{Gate as GateEntry}
 use Rattle.hz_blif.specs.declared.gates.Role.{Role}
 use Rattle.hz_blif.specs.declared.gates.Role.TheVariants as role
 use Rattle.hz_blif.specs.declared.gates.Source.{Source}
 use Rattle.hz_blif.specs.declared.gates.Source.TheVariants as source
-use Rattle.hz_blif.specs.Built.{node_of, source_node, with_gate_nodes, with_input_nodes, with_role_node}
+use Rattle.hz_blif.specs.Built.{source_node, with_gate_nodes, with_input_nodes, with_role_node}
 use Rattle.hz_blif.specs.Plain.{IsPlain}
-use Rattle.hz_blif.specs.Draft.{AreNumbers, names_at}
-use Rattle.hz_blif.specs.Entries.{ReadsGateBelow, ReadsNameBelow, gate_name, name_at, role_name, source_name}
+use Rattle.hz_blif.specs.Entries.{ReadsGateBelow, ReadsNameBelow, gate_name, role_name, source_name}
 use Rattle.hz_blif.specs.Gates.{inverter_name, row_name}
 use Rattle.hz_blif.proofs.NameLaws.{plain-no_mark}
 

@@ -1,5 +1,5 @@
 -- Names keep their numbers while more of them are seen, defined and used.
-use Rattle.std.proofs.Common.{◌≡◌, ◌∙◌, refl, sym, ap, subst, ℕ, zero, suc, ◌+◌, ◌<◌, ◌≤◌, Bool, true, false, cond, List, [], ◌∷◌, ◌++◌, map, length, get_or, position, is_some, Option, Some, None, arith, length-append}
+use Rattle.std.proofs.Common.{◌≡◌, ◌∙◌, refl, sym, ap, subst, ℕ, zero, suc, ◌<◌, ◌≤◌, Bool, true, false, cond, List, [], ◌∷◌, ◌++◌, map, length, get_or, position, is_some, Option, Some, None, arith, length-append}
 use Rattle.std.specs.List.{All, AllByRecursion, IsDistinct}
 use Rattle.std.specs.Str.{bytes_eq}
 use Rattle.std.specs.Cmp.Lexicographic.{nat_list_eq_equiv}
@@ -10,11 +10,9 @@ use Rattle.std.proofs.lemmas.Map.Keys.{IsDistinct-head, IsDistinct-push, IsDisti
 use Rattle.std.proofs.lemmas.Slice.Eq.{bytes_eq-Decides}
 use Rattle.hz_core.proofs.ListLemmas.{list_any-from_position_none}
 use Rattle.hz_line.specs.Statement.{Numbered}
-use Rattle.hz_netlist.specs.Names.{Names, Seen, AreNamesOf, definer_in, first_line, fresh, seen_at, seen_names, user_in, with_change, with_definition, with_sight, with_use}
-use Rattle.hz_netlist.proofs.NameLaws.{names-define}
+use Rattle.hz_netlist.specs.Names.{Names, Seen, AreNamesOf, definer_in, first_line, fresh, seen_at, seen_names, user_in, with_change, with_definition, with_sight, with_use, AreNumbers, names_at, name_at}
 use Rattle.hz_blif.specs.declared.draft.Constant.{Constant}
-use Rattle.hz_blif.specs.Draft.{AreNumbers, constant_by, names_at}
-use Rattle.hz_blif.specs.Entries.{name_at}
+use Rattle.hz_blif.specs.Draft.{constant_by}
 
 -- names with more behind them
 pub record KeepsNames (old new : Names) : Type 0 where
@@ -136,41 +134,6 @@ definition-names names number line few = change-names (λ seen. record seen { de
 
 pub use-names : (names : Names) (number line : ℕ) → number < length names → seen_names (with_use names (name_at names number) line) ≡ seen_names names
 use-names names number line few = change-names (λ seen. record seen { user = first_line seen.user line }) names number (λ seen. refl) few
-
--- one use more: it is a definition, where both change sides
-abbrev swap : Seen → Seen
-swap seen = record { name = seen.name; definer = seen.user; user = seen.definer }
-
-swap-definer : (names : Names) (name : List ℕ) → definer_in (map swap names) name ≡ user_in names name
-swap-definer [] name = refl
-swap-definer (seen ∷ rest) name = ap (λ found. cond (bytes_eq seen.name name) seen.user found) (swap-definer rest name)
-
-swap-user : (names : Names) (name : List ℕ) → user_in (map swap names) name ≡ definer_in names name
-swap-user [] name = refl
-swap-user (seen ∷ rest) name = ap (λ found. cond (bytes_eq seen.name name) seen.definer found) (swap-user rest name)
-
-swap-use : (names : Names) (name : List ℕ) (line : ℕ) → map swap (with_use names name line) ≡ with_definition (map swap names) name line
-swap-use [] name line = refl
-swap-use (seen ∷ rest) name line = by_here (bytes_eq seen.name name) (swap-use rest name line)
-  where
-    by_here : (here : Bool) → map swap (with_use rest name line) ≡ with_definition (map swap rest) name line
-        → map swap (cond here (record seen { user = first_line seen.user line } ∷ rest) (seen ∷ with_use rest name line))
-        ≡ cond here (record { name = seen.name; definer = first_line seen.user line; user = seen.definer } ∷ map swap rest) (swap seen ∷ with_definition (map swap rest) name line)
-    by_here true ih = refl
-    by_here false ih = ap (λ (all : List Seen). swap seen ∷ all) ih
-
-pub names-use : (definitions uses : List (Numbered (List ℕ))) (names : Names) (name : List ℕ) (line : ℕ) → AreNamesOf definitions uses names
-    → AreNamesOf definitions (uses ++ record { line = line; statement = name } ∷ []) (with_use names name line)
-names-use definitions uses names name line are =
-    let swapped : AreNamesOf uses definitions (map swap names) = record {
-      definer = λ other. swap-definer names other ∙ are.user other;
-      user = λ other. swap-user names other ∙ are.definer other;
-    } in
-    let defined = names-define uses definitions (map swap names) name line swapped in
-    record {
-      definer = λ other. sym (swap-user (with_use names name line) other) ∙ (ap (λ names. user_in names other) (swap-use names name line) ∙ defined.user other);
-      user = λ other. sym (swap-definer (with_use names name line) other) ∙ (ap (λ names. definer_in names other) (swap-use names name line) ∙ defined.definer other);
-    }
 
 -- what is known of a name is known of its number
 apart-at : (name : List ℕ) (names : Names) (number : ℕ) → AllByRecursion (λ other. bytes_eq name other ≡ false) (seen_names names) → number < length names → bytes_eq name (name_at names number) ≡ false

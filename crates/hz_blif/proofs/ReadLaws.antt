@@ -1,14 +1,15 @@
 -- What lines are, read one by one, is what they are as a whole.
-use Rattle.std.proofs.Common.{◌≡◌, ◌∙◌, refl, sym, ap, subst, ℕ, suc, ◌+◌, ◌*◌, ◌<◌, ◌≤◌, Bool, true, false, cond, List, [], ◌∷◌, ◌++◌, map, fold, length, Option, Some, None, option_map, arith, append_assoc}
+use Rattle.std.proofs.Common.{◌≡◌, ◌∙◌, refl, sym, ap, ℕ, ◌+◌, ◌≤◌, Bool, true, false, cond, List, [], ◌∷◌, ◌++◌, fold, length, Option, Some, None, option_map, arith, append_assoc}
 use Rattle.std.specs.List.{find, flat_map, sum_by}
 use Rattle.std.specs.Option.{option_or}
 use Rattle.std.proofs.lemmas.List.{append-nil, map-append}
 use Rattle.std.proofs.lemmas.List.Sums.{sum_by-append, sum_by-cons}
 use Rattle.hz_line.specs.Statement.{Numbered, first_passing_line}
-use Rattle.hz_blif.specs.Cover.{Cover, all_but_last, cover_of_line, cover_with, covers_of, definitions_of, definitions_with, inputs_of, inputs_with, last_token, leading_rows, names_of, on_line, outputs_of, outputs_with, plane_of, rows_with}
+use Rattle.hz_blif.specs.Cover.{Cover, all_but_last, covers_of, definitions_of, inputs_of, last_token, leading_rows, outputs_of, plane_of}
 use Rattle.hz_blif.specs.Draft.{Read, closed, cover_room, cover_uses, covers_with, note_if, noting, nothing_read, read_of, row_added, taking, uses_in_order, uses_with, with_next}
 use Rattle.hz_blif.specs.Fault.{has_long_name}
 use Rattle.hz_blif.specs.Line.{Line, Blank, Model, Inputs, Outputs, Names, Row, End, Construct, is_construct}
+use Rattle.hz_netlist.specs.Names.{names_of, on_line}
 
 -- the last cover with the rows that come, before the covers of these lines
 abbrev pub with_rows : Option Cover → List (Numbered (List (List ℕ))) → List Cover

@@ -1,15 +1,15 @@
 -- What a text says takes bytes: its inputs and its covers have no more room than it has bytes.
-use Rattle.std.proofs.Common.{◌≡◌, ◌∙◌, refl, sym, ap, subst, ℕ, zero, suc, ◌+◌, ◌-◌, ◌*◌, ◌<◌, ◌≤◌, Bool, true, false, not, cond, List, [], ◌∷◌, ◌++◌, map, filter, length, take, arith, length-append, take_while}
+use Rattle.std.proofs.Common.{◌≡◌, refl, ap, ℕ, suc, ◌+◌, ◌-◌, ◌*◌, ◌<◌, ◌≤◌, Bool, true, false, not, cond, List, [], ◌∷◌, ◌++◌, map, filter, length, take, arith, length-append}
 use Rattle.std.specs.Prelude.{◌==◌, slice_index}
-use Rattle.std.specs.List.{AllByRecursion, flat_map, onto_first, prefix_len, slice_split, sum_by}
+use Rattle.std.specs.List.{AllByRecursion, onto_first, prefix_len, slice_split, sum_by}
 use Rattle.std.specs.Str.{bytes_eq}
 use Rattle.std.specs.Prelude.{codes}
 use Rattle.std.specs.Str.Lines.{strip_carriage_return}
 use Rattle.std.proofs.lemmas.List.{length-take}
-use Rattle.std.proofs.lemmas.List.Sums.{sum_by-append, sum_by-cons}
+use Rattle.std.proofs.lemmas.List.Sums.{sum_by-cons}
 use Rattle.hz_line.specs.Line as cut
 use Rattle.hz_line.specs.Statement.{Numbered}
-use Rattle.hz_blif.specs.Cover.{Cover, all_but_last, cover_of_line, cover_with, covers_of, inputs_of, inputs_with, last_token, leading_rows, plane_of, rows_with}
+use Rattle.hz_blif.specs.Cover.{Cover, all_but_last, cover_of_line, covers_of, inputs_of, inputs_with, last_token, leading_rows, plane_of, rows_with}
 use Rattle.hz_blif.specs.Draft.{cover_room}
 use Rattle.hz_blif.specs.Line.{Line, Blank, Model, Inputs, Outputs, Names, Row, End, Construct, begins_with_dot, dotted, line_of, lines_in}
 use Rattle.hz_blif.specs.Text.{goes_on, is_blank, is_some_list, joined_from, joined_lines, joined_to, tokens_of, with_space_last, without_comment}

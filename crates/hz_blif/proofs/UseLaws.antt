@@ -1,7 +1,7 @@
 -- Names that pins and outputs use: which constant covers are used, and which names are undefined.
-use Rattle.std.proofs.Common.{◌≡◌, ◌∙◌, refl, sym, ap, subst, ℕ, zero, suc, ◌+◌, ◌<◌, ◌≤◌, ◌⊎◌, inl, inr, ◌||◌, Bool, true, false, not, cond, List, [], ◌∷◌, ◌++◌, map, filter, length, get_or, Option, Some, None, is_none, is_some, option_map, arith, append_assoc}
-use Rattle.std.specs.Prelude.{Contains, ◌&&◌, nat_eq}
-use Rattle.std.specs.List.{All, IsDistinct, find, flat_map, list_any, slice_index_or}
+use Rattle.std.proofs.Common.{◌≡◌, ◌∙◌, refl, sym, ap, ℕ, ◌<◌, ◌||◌, Bool, true, false, not, cond, List, [], ◌∷◌, ◌++◌, map, filter, length, Some, None, is_some, option_map, arith}
+use Rattle.std.specs.Prelude.{◌&&◌, nat_eq}
+use Rattle.std.specs.List.{IsDistinct, find, flat_map, list_any}
 use Rattle.std.specs.Str.{bytes_eq}
 use Rattle.std.proofs.lemmas.List.Elements.{All-head, All-tail}
 use Rattle.std.proofs.lemmas.List.{append-nil, map-append}
@@ -9,10 +9,9 @@ use Rattle.std.proofs.lemmas.List.Folds.{list_any-append}
 use Rattle.std.proofs.lemmas.Bool.Decides.{nat_tests}
 use Rattle.std.proofs.lemmas.Slice.Eq.{bytes_eq-Decides}
 use Rattle.hz_line.specs.Statement.{Numbered, first_passing_line}
-use Rattle.hz_netlist.specs.Names.{Names, seen_names}
-use Rattle.hz_blif.specs.Cover.{Cover, all_but_last, cover_of_line, covers_of, is_among, is_constant, is_skipped, is_used, kept_covers, last_token, leading_rows, names_of, on_line, outputs_of, outputs_with}
-use Rattle.hz_blif.specs.Draft.{AreNumbers, cover_uses, names_at, output_on, uses_in_order, varying}
-use Rattle.hz_blif.specs.Entries.{name_at}
+use Rattle.hz_netlist.specs.Names.{Names, seen_names, is_among, names_of, on_line, AreNumbers, names_at, name_at}
+use Rattle.hz_blif.specs.Cover.{Cover, all_but_last, cover_of_line, covers_of, is_constant, is_skipped, is_used, last_token, leading_rows, outputs_of, outputs_with}
+use Rattle.hz_blif.specs.Draft.{cover_uses, output_on, uses_in_order, varying}
 use Rattle.hz_blif.specs.Line.{Line, Blank, Model, Inputs, Outputs, Names as NamesLine, Row, End, Construct}
 use Rattle.hz_blif.proofs.NumberSteps.{one-number}
 

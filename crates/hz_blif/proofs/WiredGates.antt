@@ -1,8 +1,8 @@
 -- The gates of a cover: their names are names of nodes, and what their pins read is known.
-use Rattle.std.proofs.Common.{◌≡◌, ◌∙◌, refl, sym, ap, subst, ℕ, suc, ◌+◌, ◌^◌, ◌<◌, ◌≤◌, Bool, true, false, not, cond, ◌||◌, ◌==◌, List, [], ◌∷◌, ◌++◌, length, map, get_or, append_assoc, length-append, codes, arith}
+use Rattle.std.proofs.Common.{◌≡◌, ◌∙◌, refl, sym, subst, ℕ, suc, ◌+◌, ◌^◌, ◌<◌, ◌≤◌, Bool, true, false, not, cond, ◌||◌, ◌==◌, List, [], ◌∷◌, ◌++◌, length, map, get_or, append_assoc, length-append, arith}
 use Rattle.std.specs.Prelude.{◌&&◌, decimal, nat_le, if◌then◌else◌}
 use Rattle.std.specs.Int.{IsInRange}
-use Rattle.std.specs.List.{AllByRecursion, list_all, list_any, slice_index_or}
+use Rattle.std.specs.List.{AllByRecursion, list_all, slice_index_or}
 use Rattle.std.proofs.lemmas.Bool.Decides.{nat_tests}
 use Rattle.std.proofs.lemmas.Fmt.{length-decimal-le, digits_decimal}
 use Rattle.std.proofs.lemmas.List.{length-map}
@@ -15,7 +15,7 @@ use Rattle.hz_netlist.specs.Build.{HasNodeName}
 use Rattle.hz_netlist.specs.Element.{Element, Input, Cut, Gate, Output, gate_names}
 use Rattle.hz_line.specs.Statement.{Numbered}
 use Rattle.hz_blif.specs.Cover.{Cover, column_of, plane_of, planes_of}
-use Rattle.hz_blif.specs.Gates.{Literal, cover_gates, gates_of_row, gates_of_rows, has_zero, inverter_name, inverters_from, literal_gate, literal_name, literal_names, literals_from, literals_of, row_gate_with, row_gates_from, row_name, term, terms_from}
+use Rattle.hz_blif.specs.Gates.{Literal, cover_gates, gates_of_row, gates_of_rows, has_zero, inverter_name, inverters_from, literal_gate, literal_names, literals_from, literals_of, row_gates_from, terms_from}
 use Rattle.hz_blif.proofs.Lists.{all-append, all-cut}
 use Rattle.hz_blif.proofs.NameLaws.{gate_names-append}
 use Rattle.hz_blif.proofs.TwoLevel.{HaveLiterals, IsSomeList}

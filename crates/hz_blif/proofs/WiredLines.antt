@@ -1,15 +1,16 @@
 -- The inputs and the outputs of covers: what holds of the names of lines holds of them, and where no name is defined twice they are apart.
-use Rattle.std.proofs.Common.{◌≡◌, ◌≢◌, ◌∙◌, refl, sym, ap, subst, ℕ, Bool, true, false, cond, List, [], ◌∷◌, ◌++◌, Option, Some, None, map, filter, option_map, append_assoc}
+use Rattle.std.proofs.Common.{◌≡◌, ◌≢◌, ◌∙◌, refl, sym, ap, subst, ℕ, Bool, true, false, cond, List, [], ◌∷◌, ◌++◌, Option, Some, None, option_map, append_assoc}
 use Rattle.std.specs.List.{AllByRecursion, find}
 use Rattle.std.specs.Str.{bytes_eq}
 use Rattle.std.proofs.lemmas.Slice.Eq.{bytes_eq-Decides}
 use Rattle.hz_line.specs.Statement.{Numbered, first_passing_line}
 use Rattle.hz_blif.specs.declared.fault.BlifFault.TheVariants as fault
-use Rattle.hz_blif.specs.Cover.{Cover, all_but_last, cover_of_line, covers_of, definitions_of, definitions_with, inputs_of, inputs_with, last_token, leading_rows, names_of, on_line}
+use Rattle.hz_blif.specs.Cover.{Cover, all_but_last, cover_of_line, covers_of, definitions_of, definitions_with, inputs_of, inputs_with, last_token, leading_rows}
 use Rattle.hz_blif.specs.Fault.{IsFaultless}
 use Rattle.hz_blif.specs.Line.{Line, Blank, Model, Inputs, Outputs, Names, Row, End, Construct, lines_in, names_in}
 use Rattle.hz_blif.proofs.Lists.{all-append, all-as, all-cut}
 use Rattle.hz_blif.proofs.NameLaws.{AreApart, HaveApartOutputs}
+use Rattle.hz_netlist.specs.Names.{names_of, on_line}
 
 all-front : (P : List ℕ → Type 0) (names : List (List ℕ)) → AllByRecursion P names → AllByRecursion P (all_but_last names)
 all-front P [] all = tt

@@ -1,6 +1,6 @@
 -- The names of a text without fault: what their bytes are, and how long they are.
-use Rattle.std.proofs.Common.{◌≡◌, ◌≢◌, ◌∙◌, refl, sym, ap, subst, ℕ, suc, ◌≤◌, ◌<◌, ◌+◌, inl, inr, Bool, true, false, not, cond, ◌&&◌, ◌||◌, ◌==◌, List, [], ◌∷◌, ◌++◌, length, map, filter, take_while, append_assoc, codes, arith}
-use Rattle.std.specs.Prelude.{Contains, nat_le, nat_lt}
+use Rattle.std.proofs.Common.{◌≡◌, ◌≢◌, ◌∙◌, refl, sym, ap, subst, ℕ, suc, ◌≤◌, inl, inr, Bool, true, false, not, cond, ◌&&◌, ◌||◌, ◌==◌, List, [], ◌∷◌, ◌++◌, length, map, filter, take_while, append_assoc, codes, arith}
+use Rattle.std.specs.Prelude.{Contains, nat_le}
 use Rattle.std.specs.List.{AllByRecursion, list_all, list_any, onto_first, slice_split}
 use Rattle.std.specs.Str.{bytes_eq}
 use Rattle.std.proofs.lemmas.Bool.Decides.{nat_tests}
@@ -14,7 +14,7 @@ use Rattle.hz_blif.proofs.Lists.{all-contained}
 use Rattle.hz_blif.specs.Plain.{IsPlain}
 use Rattle.hz_blif.specs.declared.fault.BlifFault.TheVariants as fault
 use Rattle.hz_blif.specs.Fault.{IsFaultless, has_end, has_long_name, has_wrong_form, is_forbidden, is_ill_formed, is_long, is_sign, longest_blif_name}
-use Rattle.hz_blif.specs.Line.{Line, Blank, Model, Inputs, Outputs, Names, Row, End, Construct, begins_with_dot, dotted, is_statement, line_of, lines_in, names_in}
+use Rattle.hz_blif.specs.Line.{Line, Model, Inputs, Outputs, Names, Row, End, Construct, begins_with_dot, dotted, is_statement, line_of, lines_in, names_in}
 use Rattle.hz_blif.specs.Text.{goes_on, is_blank, is_some_list, joined_from, joined_lines, joined_to, tokens_of, with_space_last, without_comment}
 
 both : (a b : Bool) → (a && b) ≡ true → (a ≡ true) × (b ≡ true)

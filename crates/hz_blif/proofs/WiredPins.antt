@@ -1,6 +1,6 @@
 -- The gates of a text without fault have as many pins as their kinds take, and there are not too many.
-use Rattle.std.proofs.Common.{◌≡◌, refl, ap, subst, sym, ℕ, suc, ◌≤◌, ◌<◌, ◌+◌, inl, inr, Bool, true, false, cond, List, [], ◌∷◌, ◌++◌, length, map, filter, not, arith}
-use Rattle.std.specs.Prelude.{Contains, ◌==◌, ◌⊎◌, if◌then◌else◌}
+use Rattle.std.proofs.Common.{◌≡◌, refl, ap, ℕ, suc, ◌≤◌, inl, inr, Bool, true, false, cond, List, [], ◌∷◌, ◌++◌, length, map, not, arith}
+use Rattle.std.specs.Prelude.{◌==◌, if◌then◌else◌}
 use Rattle.std.specs.List.{AllByRecursion, flat_map}
 use Rattle.std.proofs.lemmas.Bool.{cases_lt}
 use Rattle.std.proofs.lemmas.List.{length-map}
@@ -14,7 +14,7 @@ use Rattle.hz_blif.specs.declared.fault.BlifFault.TheVariants as fault
 use Rattle.hz_blif.specs.Circuit.{elements_of}
 use Rattle.hz_blif.specs.Cover.{Cover, covers_of, inputs_of, is_skipped, kept_covers, outputs_of, plane_of, planes_of, column_of}
 use Rattle.hz_blif.specs.Fault.{HasCover, IsFaultless}
-use Rattle.hz_blif.specs.Gates.{Literal, cover_gates, gates_of_row, gates_of_rows, inverter_name, inverters_from, has_zero, literal_gate, literal_name, literal_names, literals_from, literals_of, row_gates_from, row_name, terms_from}
+use Rattle.hz_blif.specs.Gates.{Literal, cover_gates, gates_of_row, gates_of_rows, inverter_name, inverters_from, has_zero, literal_name, literal_names, literals_from, literals_of, row_gates_from, terms_from}
 use Rattle.hz_blif.specs.Line.{lines_in}
 
 -- an element is a gate that has a pin, and no more than its kind takes

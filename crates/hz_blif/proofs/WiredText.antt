@@ -1,12 +1,10 @@
 -- The elements of a text without fault make a circuit.
-use Rattle.std.proofs.Common.{◌≡◌, ◌≢◌, ◌∙◌, refl, sym, ap, subst, ℕ, suc, ◌<◌, ◌≤◌, ◌+◌, ◌^◌, inl, inr, Bool, true, false, cond, not, ◌||◌, List, [], ◌∷◌, ◌++◌, length, map, filter, append_assoc, arith}
+use Rattle.std.proofs.Common.{◌≡◌, ◌≢◌, ◌∙◌, refl, sym, ap, subst, ℕ, inl, Bool, true, false, cond, not, ◌||◌, List, [], ◌∷◌, ◌++◌, map, filter, append_assoc, arith}
 use Rattle.std.specs.Prelude.{◌&&◌, Contains}
 use Rattle.std.specs.List.{AllByRecursion, flat_map, list_any}
 use Rattle.std.specs.Str.{bytes_eq}
 use Rattle.std.proofs.lemmas.List.Folds.{list_any_at, list_any-append}
 use Rattle.std.proofs.lemmas.Slice.Eq.{bytes_eq-Decides}
-use Rattle.hz_core.specs.Limits.{most_gate_pins}
-use Rattle.hz_core.specs.Netlist.{IsName}
 use Rattle.hz_line.specs.Statement.{Numbered}
 use Rattle.hz_netlist.specs.Build.{Apart, AreWired, HasNodeName, UsesKnown}
 use Rattle.hz_netlist.specs.Circuit.{all_inputs, node_names}
@@ -14,9 +12,9 @@ use Rattle.hz_netlist.specs.Element.{Element, Input, Cut, Gate, Output, input_na
 use Rattle.hz_blif.specs.declared.fault.BlifFault.TheVariants as fault
 use Rattle.hz_blif.specs.Plain.{IsPlain}
 use Rattle.hz_blif.specs.Circuit.{elements_of}
-use Rattle.hz_blif.specs.Cover.{Cover, cover_of_line, covers_of, definitions_of, definitions_with, inputs_of, inputs_with, is_among, is_constant, is_skipped, is_used, kept_covers, last_token, leading_rows, names_of, on_line, outputs_of, planes_of, uses_of}
-use Rattle.hz_blif.specs.Fault.{HasCover, IsFaultless}
-use Rattle.hz_blif.specs.Gates.{cover_gates, literals_of}
+use Rattle.hz_blif.specs.Cover.{Cover, cover_of_line, covers_of, definitions_of, definitions_with, inputs_of, inputs_with, is_constant, is_skipped, is_used, kept_covers, leading_rows, outputs_of, uses_of}
+use Rattle.hz_blif.specs.Fault.{IsFaultless}
+use Rattle.hz_blif.specs.Gates.{cover_gates}
 use Rattle.hz_blif.specs.Line.{Line, Blank, Model, Inputs, Outputs, Names, Row, End, Construct, lines_in}
 use Rattle.hz_blif.proofs.KeptCovers.{HasTerms, kept-terms}
 use Rattle.hz_blif.proofs.Lists.{all-append, all-as, all-both, all-contained, all-cut, all-kept, kept-passing, passing-kept}
@@ -25,6 +23,7 @@ use Rattle.hz_blif.proofs.WiredGates.{ReadsThat, cover-node, cover-output, cover
 use Rattle.hz_blif.proofs.WiredLines.{DifferFromOutputs, HaveNames, covers-have, inputs-have, join-apart, lined, text-apart}
 use Rattle.hz_blif.proofs.WiredNames.{IsTextName, text-names}
 use Rattle.hz_blif.proofs.WiredPins.{FitsGates, IsRightGate, fits, gates-right, wired-few, wired-pins}
+use Rattle.hz_netlist.specs.Names.{is_among, names_of, on_line}
 
 outputs-kept : (test : Cover → Bool) (covers : List Cover) → HaveApartOutputs covers → HaveApartOutputs (filter test covers)
 outputs-kept test [] apart = tt

@@ -6,15 +6,14 @@ use Rattle.hz_core.specs.Limits.{most_variables}
 use Rattle.hz_core.specs.Netlist.{Netlist, with_gate, with_input}
 use Rattle.hz_netlist.specs.Build.{AreAdmissibleSteps, AreWired, MayAddInput, MayAddNode, MayAddPinFrom, with_pin_from}
 use Rattle.hz_netlist.specs.Element.{Element, Input, Output}
-use Rattle.hz_netlist.specs.Names.{seen_names}
+use Rattle.hz_netlist.specs.Names.{seen_names, AreNumbers, names_at, name_at}
 use Rattle.hz_blif.specs.declared.draft.Draft.{Draft}
 use Rattle.hz_blif.specs.declared.gates.Gate.{Gate as GateEntry}
 use Rattle.hz_blif.specs.declared.gates.Role.{Role}
 use Rattle.hz_blif.specs.declared.gates.Role.TheVariants as role
 use Rattle.hz_blif.specs.declared.gates.Source.{Source}
 use Rattle.hz_blif.specs.declared.gates.Source.TheVariants as source
-use Rattle.hz_blif.specs.Draft.{AreNumbers, names_at}
-use Rattle.hz_blif.specs.Entries.{AreNamed, HoldsGates, elements_by, gate_name, name_at}
+use Rattle.hz_blif.specs.Entries.{AreNamed, HoldsGates, elements_by, gate_name}
 
 -- the elements of a draft
 abbrev pub elements_of_draft : Draft → List Element
@@ -86,10 +85,6 @@ with_gate_nodes node nodes (gate ∷ rest) = with_gate_nodes (suc node) (with_ro
 abbrev pub source_node : List ℕ → ℕ → Source → ℕ
 source_node nodes inputs (source.Name number) = slice_index_or nodes number 0
 source_node nodes inputs (source.Gate gate) = inputs + gate
-
--- the node with a name by its number
-abbrev pub node_of : List ℕ → ℕ → ℕ
-node_of nodes number = slice_index_or nodes number 0
 
 -- the nodes of the names of a draft; a name that no node has may have any
 abbrev pub AreNodesBy : Draft → List ℕ → Type 0

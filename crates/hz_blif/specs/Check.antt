@@ -12,9 +12,10 @@ use Rattle.hz_blif.specs.declared.fault.BlifFault.TheVariants as fault
 use Rattle.hz_line.specs.LeastFault.{first_found}
 use Rattle.hz_blif.specs.Text.{joined_lines}
 use Rattle.hz_blif.specs.Line.{Line, lines_in, is_construct}
-use Rattle.hz_blif.specs.Cover.{Cover, covers_of, definitions_of, uses_of, is_wrong_row, is_skipped, is_constant, is_among, names_of, is_too_large}
+use Rattle.hz_blif.specs.Cover.{Cover, covers_of, definitions_of, uses_of, is_wrong_row, is_skipped, is_constant, is_too_large}
 use Rattle.hz_blif.specs.Circuit.{elements_of}
 use Rattle.hz_blif.specs.Fault.{is_forbidden, has_wrong_form, has_long_name}
+use Rattle.hz_netlist.specs.Names.{is_among, names_of}
 
 -- the first line, of these behind others, whose form is wrong
 abbrev pub wrong_form_after : List (Numbered Line) → List (Numbered Line) → Option ℕ

@@ -8,7 +8,7 @@ use Rattle.hz_core.specs.Limits.{most_variables}
 use Rattle.hz_line.specs.Line.{most_text_bytes}
 use Rattle.hz_line.specs.Statement.{Numbered, first_passing_line}
 use Rattle.hz_netlist.specs.Element.{variable_total}
-use Rattle.hz_netlist.specs.Names.{Names as NamesOf, AreNamesOf, seen_at, seen_names}
+use Rattle.hz_netlist.specs.Names.{Names as NamesOf, AreNamesOf, seen_at, seen_names, names_of, on_line, name_at, names_at, AreNumbers}
 use Rattle.hz_blif.specs.declared.cover.Cover.{Cover as CoverRead}
 use Rattle.hz_blif.specs.declared.draft.Constant.{Constant as ConstantKept}
 use Rattle.hz_blif.specs.declared.draft.Draft.{Draft}
@@ -18,8 +18,8 @@ use Rattle.hz_blif.specs.declared.notes.Excess.{Excess}
 use Rattle.hz_blif.specs.declared.notes.Notes.{Notes}
 use Rattle.hz_blif.specs.declared.notes.Redefinition.{Redefinition}
 use Rattle.hz_blif.specs.Check.{count_of, first_of, twice_after, wrong_form_after, wrong_row}
-use Rattle.hz_blif.specs.Cover.{Cover, all_but_last, cover_of_line, inputs_of, is_constant, is_too_large, kept_covers, last_token, leading_rows, names_of, on_line, outputs_of, outputs_with, plane_of}
-use Rattle.hz_blif.specs.Entries.{AreNamed, HoldsGates, elements_by, name_at}
+use Rattle.hz_blif.specs.Cover.{Cover, all_but_last, cover_of_line, inputs_of, is_constant, is_too_large, kept_covers, last_token, leading_rows, outputs_of, outputs_with, plane_of}
+use Rattle.hz_blif.specs.Entries.{AreNamed, HoldsGates, elements_by}
 use Rattle.hz_blif.specs.Fault.{has_long_name, is_forbidden}
 use Rattle.hz_blif.specs.Gates.{cover_gates}
 use Rattle.hz_blif.specs.Line.{Line, Blank, Model, Inputs, Outputs, Names, Row, End, Construct, is_construct, lines_in}
@@ -29,14 +29,6 @@ use Rattle.hz_blif.specs.Text.{joined_lines}
 -- the covers that are not constant
 abbrev pub varying : List Cover → List Cover
 varying covers = filter (λ cover. not (is_constant cover)) covers
-
--- the names with these numbers
-abbrev pub names_at : NamesOf → List ℕ → List (List ℕ)
-names_at names numbers = map (name_at names) numbers
-
--- each number is that of a name
-abbrev pub AreNumbers : NamesOf → List ℕ → Type 0
-AreNumbers names numbers = All (λ number. number < length names) numbers
 
 -- the names that the pins of a cover use, unless it is constant
 abbrev pub cover_uses : Cover → List (Numbered (List ℕ))

@@ -4,7 +4,6 @@ use Rattle.std.specs.List.{All, list_all, slice_index_or, sum_by}
 use Rattle.std.specs.Str.{bytes_eq}
 use Rattle.hz_core.specs.Limits.{most_gate_pins}
 use Rattle.hz_netlist.specs.Element.{Element, Gate}
-use Rattle.hz_netlist.specs.Names.{Names, seen_at}
 use Rattle.hz_blif.specs.declared.cover.Cover.{Cover}
 use Rattle.hz_blif.specs.declared.gates.Gate.{Gate as GateEntry}
 use Rattle.hz_blif.specs.declared.gates.Gates.{Gates}
@@ -16,10 +15,6 @@ use Rattle.hz_blif.specs.declared.gates.Source.TheVariants as source
 use Rattle.hz_blif.specs.Cover.{has_literal}
 use Rattle.hz_blif.specs.Gates.{Literal, gates_of_rows, has_zero, inverter_name, inverters_from, literals_of, row_gate_with, row_gates_from, row_name, term, terms_from}
 use Rattle.hz_blif.specs.Reading.{bytes_of}
-
--- the name with this number
-abbrev pub name_at : Names → ℕ → List ℕ
-name_at names number = (seen_at names number).name
 
 -- the name of a gate, by its role and the name of its cover's output
 abbrev pub role_name : Role → List ℕ → List ℕ

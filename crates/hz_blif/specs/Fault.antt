@@ -10,8 +10,9 @@ use Rattle.hz_blif.specs.declared.fault.BlifFault.TheVariants.{Form, Name, Const
 use Rattle.hz_line.specs.LeastFault.{Faults, IsLeastOfAll}
 use Rattle.hz_blif.specs.Text.{joined_lines, is_some_list}
 use Rattle.hz_blif.specs.Line.{Line, Blank, Model, Inputs, Outputs, Names, Row, End, Construct as ConstructLine, names_in, lines_in, takes_rows_after, is_statement, is_construct, is_end, has_two}
-use Rattle.hz_blif.specs.Cover.{Cover as CoverOf, covers_of, definitions_of, uses_of, is_wrong_row, is_skipped, is_constant, is_among, names_of}
+use Rattle.hz_blif.specs.Cover.{Cover as CoverOf, covers_of, definitions_of, uses_of, is_wrong_row, is_skipped, is_constant}
 use Rattle.hz_blif.specs.Circuit.{elements_of}
+use Rattle.hz_netlist.specs.Names.{is_among, names_of}
 
 -- the most bytes of a name: room is left for what the names of gates add to it
 abbrev pub longest_blif_name : ℕ

@@ -1,5 +1,5 @@
 -- What the reader's calls return, by the definitions of lines.
-use Rattle.std.specs.Prelude.{◌≡◌, ℕ, suc, ◌+◌, ◌<◌, Bool, true, false, not, nat_lt, ◌||◌, List, [], ◌∷◌, ◌++◌, map, length, take, Option, Some, None, if◌then◌else◌}
+use Rattle.std.specs.Prelude.{◌≡◌, ℕ, ◌+◌, ◌<◌, Bool, false, not, nat_lt, List, [], ◌∷◌, map, length, take, Option, Some, None, if◌then◌else◌}
 use Rattle.std.specs.List.{list_all, list_any}
 use Rattle.std.specs.Borrow.{Bor}
 use Rattle.hz_line.specs.Line.{lines_of, lines_of_rest}
@@ -13,7 +13,7 @@ use Rattle.hz_blif.specs.declared.lines.Piece.{Piece}
 use Rattle.hz_blif.specs.Text.{without_comment, goes_on, is_blank, tokens_of, joined_from}
 use Rattle.hz_core.specs.Limits.{most_gate_pins}
 use Rattle.hz_blif.specs.Cover.{all_but_last, first_column, has_literal, plane_of}
-use Rattle.hz_blif.specs.Line.{Line, Blank, Model, Inputs, Outputs, Names, Row, End, Construct, is_statement, is_end, takes_rows_after}
+use Rattle.hz_blif.specs.Line.{Line, Blank, Model, Inputs, Outputs, Names, Row, End, Construct}
 use Rattle.hz_blif.specs.Fault.{is_forbidden, has_statement, has_end, takes_rows}
 
 -- a line begins with a blank

@@ -5,17 +5,16 @@ ghost use Rattle.std.specs.List.{AllByRecursion};
 ghost use Rattle.hz_core.specs.Limits.{most_variables};
 ghost use Rattle.hz_netlist.specs.Build.{AreAdmissibleSteps};
 ghost use Rattle.hz_netlist.specs.Circuit.{circuit_of_elements};
-ghost use Rattle.hz_netlist.specs.Names.{seen_names};
-ghost use Rattle.hz_blif.specs.Built.{AreNodesBy, IsBuildable, MayAddGateEntry, MayAddInputNumbered, MayAddPinsBy, elements_of_draft, node_of, source_node, with_gate_entry, with_gate_nodes, with_input_nodes, with_input_numbered, with_pins_by, with_role_node};
-ghost use Rattle.hz_blif.specs.Draft.{AreNumbers};
-ghost use Rattle.hz_blif.specs.Entries.{ReadsGateBelow, ReadsNameBelow, name_at, role_name};
+ghost use Rattle.hz_netlist.specs.Names.{seen_names, node_of, AreNumbers, name_at};
+ghost use Rattle.hz_blif.specs.Built.{AreNodesBy, IsBuildable, MayAddGateEntry, MayAddInputNumbered, MayAddPinsBy, elements_of_draft, source_node, with_gate_entry, with_gate_nodes, with_input_nodes, with_input_numbered, with_pins_by, with_role_node};
+ghost use Rattle.hz_blif.specs.Entries.{ReadsGateBelow, ReadsNameBelow, role_name};
 ghost use Rattle.hz_blif.specs.Plain.{IsPlain};
 
 use crate::draft::Draft;
 use crate::gates::{Gate, Role, Source};
 use crate::names::TextNames;
 use hz_core::{Chains, Circuit, Memory, NameHashing};
-use hz_netlist::{add_outputs, connect_gate};
+use hz_netlist::{add_outputs, connect_gate, resolve};
 use itoa::Buffer;
 use std::alloc::Global;
 
@@ -33,16 +32,18 @@ pub(crate) fn build(alloc: Global, draft: &Draft) -> Result<Circuit, Memory>
     let nodes = number_nodes(alloc, draft)?;
     let pins = resolve_pins(alloc, draft.gates.sources(), nodes.as_slice(), inputs.len())?;
     connect_gates(&mut circuit, gates, pins.as_slice())?;
-    let outputs = resolve_outputs(alloc, draft.outputs.as_slice(), nodes.as_slice())?;
+    let outputs = resolve(alloc, draft.outputs.as_slice(), nodes.as_slice())?;
     add_outputs(alloc, &mut circuit, outputs.as_slice())?;
     Ok(circuit)
 }
 
-// The node of each name: inputs are numbered before gates. A name that nothing kept defines has none, and 0 stands in.
+// The node of each name: inputs are numbered before gates. A name that nothing kept defines has
+// none, and 0 stands in.
 fn number_nodes(alloc: Global, draft: &Draft) -> Result<Vec<u32>, Memory>
     requires inputs { AreNumbers draft.now.names draft.now.inputs.items }
     requires gates { All (λ gate. gate.output < length draft.now.names) draft.now.gates.gates.items }
-    requires few { length draft.now.inputs.items + length draft.now.gates.gates.items ≤ most_variables }
+    requires few { length draft.now.inputs.items + length draft.now.gates.gates.items ≤
+        most_variables }
     ensures nodes { IfOk result (λ nodes. AreNodesBy draft.now nodes.items) }
     ensures plain { OnOk result (AllByRecursion IsPlain (seen_names draft.now.names)) }
 {
@@ -85,7 +86,8 @@ fn number_gates(nodes: &mut Vec<u32>, gates: &[Gate], first: u32)
 // The node of a gate, if it has its cover's own name.
 fn number_gate(nodes: &mut Vec<u32>, gate: &Gate, node: u32)
     requires { gate.now.output < length nodes.old.items }
-    ensures nodes { nodes.new.items ≡ with_role_node gate.now.role node nodes.old.items gate.now.output }
+    ensures nodes { nodes.new.items
+        ≡ with_role_node gate.now.role node nodes.old.items gate.now.output }
     ensures length { length nodes.new.items ≡ length nodes.old.items }
 {
     match gate.role {
@@ -102,7 +104,8 @@ fn resolve_pins(
     inputs: usize,
 ) -> Result<Vec<u32>, Memory>
     requires names { All (ReadsNameBelow (length nodes.now)) sources.now }
-    requires gates { (gates : ℕ) × (inputs + gates ≤ most_variables) × All (ReadsGateBelow gates) sources.now }
+    requires gates { (gates : ℕ) × (inputs + gates ≤ most_variables)
+        × All (ReadsGateBelow gates) sources.now }
     ensures { IfOk result (λ pins. pins.items ≡ map (source_node nodes.now inputs) sources.now) }
 {
     let Ok(mut pins) = Vec::with_capacity(alloc, sources.len()) else {
@@ -120,23 +123,8 @@ fn resolve_pins(
     Ok(pins)
 }
 
-// The nodes of the outputs.
-fn resolve_outputs(alloc: Global, names: &[u32], nodes: &[u32]) -> Result<Vec<u32>, Memory>
-    requires { All (λ number. number < length nodes.now) names.now }
-    ensures { IfOk result (λ outputs. outputs.items ≡ map (node_of nodes.now) names.now) }
-{
-    let Ok(mut outputs) = Vec::with_capacity(alloc, names.len()) else {
-        return Err(Memory);
-    };
-    for name in names {
-        let Ok(()) = outputs.push(nodes[*name as usize]) else {
-            return Err(Memory);
-        };
-    }
-    Ok(outputs)
-}
-
-// How the names of nodes are hashed: as those of the text, but with a key if the names of gates were chosen to collide.
+// How the names of nodes are hashed: as those of the text, but with a key if the names of gates
+// were chosen to collide.
 fn choose_hashing(alloc: Global, names: &TextNames, gates: &[Gate]) -> Result<NameHashing, Memory>
     requires { All (λ gate. gate.output < length names.now) gates.now }
 {
@@ -157,8 +145,10 @@ fn choose_hashing(alloc: Global, names: &TextNames, gates: &[Gate]) -> Result<Na
 // Adds the inputs with these names.
 fn add_inputs(circuit: &mut Circuit, names: &TextNames, inputs: &[u32]) -> Result<(), Memory>
     requires numbers { AreNumbers names.now inputs.now }
-    requires may { AreAdmissibleSteps (MayAddInputNumbered (name_at names.now)) (with_input_numbered (name_at names.now)) circuit.old inputs.now }
-    ensures { OnOk result (circuit.new ≡ fold (with_input_numbered (name_at names.now)) circuit.old inputs.now) }
+    requires may { AreAdmissibleSteps (MayAddInputNumbered (name_at names.now))
+        (with_input_numbered (name_at names.now)) circuit.old inputs.now }
+    ensures { OnOk result (circuit.new
+        ≡ fold (with_input_numbered (name_at names.now)) circuit.old inputs.now) }
 {
     for input in inputs {
         match circuit.add_input(names.name(*input)) {
@@ -177,8 +167,10 @@ fn add_gates(
     gates: &[Gate],
 ) -> Result<(), Memory>
     requires numbers { All (λ gate. gate.output < length names.now) gates.now }
-    requires may { AreAdmissibleSteps (MayAddGateEntry (name_at names.now)) (with_gate_entry (name_at names.now)) circuit.old gates.now }
-    ensures { OnOk result (circuit.new ≡ fold (with_gate_entry (name_at names.now)) circuit.old gates.now) }
+    requires may { AreAdmissibleSteps (MayAddGateEntry (name_at names.now)) (with_gate_entry
+        (name_at names.now)) circuit.old gates.now }
+    ensures { OnOk result (circuit.new
+        ≡ fold (with_gate_entry (name_at names.now)) circuit.old gates.now) }
 {
     let mut buffer = Vec::new(alloc);
     for gate in gates {
@@ -206,7 +198,8 @@ fn add_gate(
     Ok(())
 }
 
-// Writes the name of a gate into the buffer: that of its cover's output, with what its role adds to it.
+// Writes the name of a gate into the buffer: that of its cover's output, with what its role adds to
+// it.
 fn write_name(buffer: &mut Vec<u8>, output: &[u8], role: Role) -> Result<(), Memory>
     ensures { OnOk result (buffer.new.items ≡ role_name role output.now) }
 {
@@ -241,7 +234,8 @@ fn extend(buffer: &mut Vec<u8>, bytes: &[u8]) -> Result<(), Memory>
 // Connects the pins of the gates to these nodes, gate after gate.
 fn connect_gates(circuit: &mut Circuit, gates: &[Gate], pins: &[u32]) -> Result<(), Memory>
     requires { MayAddPinsBy circuit.old circuit.old.inputs gates.now pins.now }
-    ensures { OnOk result (circuit.new ≡ with_pins_by circuit.old circuit.old.inputs gates.now pins.now) }
+    ensures { OnOk result (circuit.new
+        ≡ with_pins_by circuit.old circuit.old.inputs gates.now pins.now) }
 {
     let mut number = circuit.inputs();
     let mut left = pins;

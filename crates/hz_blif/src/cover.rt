@@ -64,13 +64,17 @@ impl<'t> Cover<'t> {
         ensures output { self.new.output ≡ self.old.output }
         ensures line { self.new.line ≡ self.old.line }
         ensures counted { self.new.rows.count ≡ self.old.rows.count + 1 }
-        ensures right { IfOk result (λ right. (rows : List (Numbered (List (List ℕ)))) (line : ℕ) (names : List (List ℕ))
+        ensures right { IfOk result (λ right. (rows : List (Numbered (List (List ℕ)))) (line : ℕ)
+            (names : List (List ℕ))
             → KeepsRows rows self.old.rows → length names ≡ length self.old.pins.items
-            → right ≡ (is_row names (bytes_of tokens.now) && bytes_eq (last_token (bytes_of tokens.now))
+            → right ≡ (is_row names (bytes_of tokens.now) && bytes_eq (last_token
+            (bytes_of tokens.now))
             (first_column (rows ++ record { line = line; statement = bytes_of tokens.now } ∷ [])))) }
-        ensures kept { IfOk result (λ right. right ≡ true → (rows : List (Numbered (List (List ℕ)))) (line : ℕ)
+        ensures kept { IfOk result (λ right. right ≡ true
+            → (rows : List (Numbered (List (List ℕ)))) (line : ℕ)
             → KeepsRows rows self.old.rows
-            → KeepsRows (rows ++ record { line = line; statement = bytes_of tokens.now } ∷ []) self.new.rows) }
+            → KeepsRows (rows ++ record { line = line; statement = bytes_of tokens.now } ∷ [])
+            self.new.rows) }
     {
         let pins = self.pins.len();
         self.rows.add(tokens, pins)
@@ -94,7 +98,8 @@ impl<'t> Cover<'t> {
     pub(crate) fn is_constant(&self) -> bool
         ensures { (rows : List (Numbered (List (List ℕ)))) (names : List (List ℕ))
             → KeepsRows rows self.now.rows → length names ≡ length self.now.pins.items
-            → result ≡ (not (is_some_list names) || not (is_some_list rows) || not (list_all has_literal (planes_in rows))) }
+            → result ≡ (not (is_some_list names) || not (is_some_list rows) || not
+            (list_all has_literal (planes_in rows))) }
     {
         self.pins.is_empty() || self.rows.count == 0 || self.rows.has_bare
     }
@@ -142,13 +147,17 @@ impl<'t> Rows<'t> {
     fn add(&mut self, tokens: &[&'t [u8]], pins: usize) -> Result<bool, Memory>
         requires { self.old.count + 1 < 2 ^ 32 }
         ensures counted { self.new.count ≡ self.old.count + 1 }
-        ensures right { IfOk result (λ right. (rows : List (Numbered (List (List ℕ)))) (line : ℕ) (names : List (List ℕ))
+        ensures right { IfOk result (λ right. (rows : List (Numbered (List (List ℕ)))) (line : ℕ)
+            (names : List (List ℕ))
             → KeepsRows rows self.old → length names ≡ pins
-            → right ≡ (is_row names (bytes_of tokens.now) && bytes_eq (last_token (bytes_of tokens.now))
+            → right ≡ (is_row names (bytes_of tokens.now) && bytes_eq (last_token
+            (bytes_of tokens.now))
             (first_column (rows ++ record { line = line; statement = bytes_of tokens.now } ∷ [])))) }
-        ensures kept { IfOk result (λ right. right ≡ true → (rows : List (Numbered (List (List ℕ)))) (line : ℕ)
+        ensures kept { IfOk result (λ right. right ≡ true
+            → (rows : List (Numbered (List (List ℕ)))) (line : ℕ)
             → KeepsRows rows self.old
-            → KeepsRows (rows ++ record { line = line; statement = bytes_of tokens.now } ∷ []) self.new) }
+            → KeepsRows (rows ++ record { line = line; statement = bytes_of tokens.now } ∷ [])
+            self.new) }
     {
         self.count_row(tokens);
         let Some(plane) = self.plane_of(tokens, pins) else {
@@ -164,7 +173,8 @@ impl<'t> Rows<'t> {
         ensures counted { self.new.count ≡ self.old.count + 1 }
         ensures column { (rows : List (Numbered (List (List ℕ)))) (line : ℕ)
             → self.old.count ≡ length rows → self.old.column.now ≡ first_column rows
-            → self.new.column.now ≡ first_column (rows ++ record { line = line; statement = bytes_of tokens.now } ∷ []) }
+            → self.new.column.now ≡ first_column (rows
+            ++ record { line = line; statement = bytes_of tokens.now } ∷ []) }
         ensures planes { self.new.planes ≡ self.old.planes }
         ensures bare { self.new.has_bare ≡ self.old.has_bare }
     {
@@ -217,10 +227,12 @@ fn last_token<'t>(tokens: &[&'t [u8]]) -> &'t [u8]
     }
 }
 
-// The plane of a row, if the tokens are a row of a cover with so many pins: it is empty where there are none.
+// The plane of a row, if the tokens are a row of a cover with so many pins: it is empty where there
+// are none.
 #[tactic(auto, using(crate::proofs::RowLemmas::row_alone, crate::proofs::RowLemmas::row_not_alone, crate::proofs::RowLemmas::row_of_plane, crate::proofs::RowLemmas::row_without_pins))]
 fn plane_of<'t>(tokens: &[&'t [u8]], pins: usize) -> Option<&'t [u8]>
-    ensures row { (names : List (List ℕ)) → length names ≡ pins → is_row names (bytes_of tokens.now) ≡ is_some result }
+    ensures row { (names : List (List ℕ)) → length names ≡ pins
+        → is_row names (bytes_of tokens.now) ≡ is_some result }
     ensures plane { IfSome result (λ plane. plane.now ≡ plane_of (bytes_of tokens.now)) }
 {
     match tokens {

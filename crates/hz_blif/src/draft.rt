@@ -1,23 +1,25 @@
 //! What is kept of the lines of a text.
 //!
-//! The idea. One pass over the joined lines. Names get numbers at first sight, with the lines that define and use them first. A cover is
-//! kept while its rows are read; at its end it becomes its gates, or it is put with the constant covers. Which of these
-//! are skipped is known only at the end of the text, and so is which name is undefined: the names of their pins count as uses
-//! of other covers' outputs, and not as uses of names that must be defined.
+//! The idea. One pass over the joined lines. Names get numbers at first sight, with the lines that
+//! define and use them first. A cover is kept while its rows are read; at its end it becomes its
+//! gates, or it is put with the constant covers. Which of these are skipped is known only at the
+//! end of the text, and so is which name is undefined: the names of their pins count as uses of
+//! other covers' outputs, and not as uses of names that must be defined.
 //!
-//! What must stay true: `Holds` of what was read so far. Behind a fault that is noted nothing need be kept that only later faults ask for:
-//! behind a row that is not as said no cover, and behind a cover of too many pins or rows no gate. Beyond the most variables no
-//! gate is kept, but each is counted.
+//! What must stay true: `Holds` of what was read so far. Behind a fault that is noted nothing need
+//! be kept that only later faults ask for: behind a row that is not as said no cover, and behind a
+//! cover of too many pins or rows no gate. Beyond the most variables no gate is kept, but each is
+//! counted.
 //!
-//! What breaks if you add a kind of line: it needs a case of `taking`, and a step that shows `Holds` again.
+//! What breaks if you add a kind of line: it needs a case of `taking`, and a step that shows
+//! `Holds` again.
 
 ghost use Rattle.std.specs.Prelude.{◌≡◌, ◌<◌, ◌++◌, ◌∷◌, [], IfOk, OnOk, None, Some, false, true, ℕ, length};
 ghost use Rattle.hz_line.specs.Statement.{Numbered};
-ghost use Rattle.hz_netlist.specs.Names.{seen_names};
+ghost use Rattle.hz_netlist.specs.Names.{seen_names, on_line, AreNumbers, names_at, name_at};
 ghost use Rattle.hz_blif.specs.declared.draft.Draft.{Draft as DraftOf};
-ghost use Rattle.hz_blif.specs.Cover.{Cover as CoverOf, is_constant, is_too_large, on_line};
-ghost use Rattle.hz_blif.specs.Draft.{AreNumbers, Holds, HoldsClosed, MayGoOn, names_at, Read, closed, nothing_read, noting, taking, with_begun, with_cover, with_inputs, with_outputs, with_row};
-ghost use Rattle.hz_blif.specs.Entries.{name_at};
+ghost use Rattle.hz_blif.specs.Cover.{Cover as CoverOf, is_constant, is_too_large};
+ghost use Rattle.hz_blif.specs.Draft.{Holds, HoldsClosed, MayGoOn, Read, closed, nothing_read, noting, taking, with_begun, with_cover, with_inputs, with_outputs, with_row};
 ghost use Rattle.hz_blif.specs.Plain.{ArePlain, HasPlainWords, IsPlain};
 ghost use Rattle.hz_blif.specs.Reading.{bytes_of, excess_of, line_by};
 
@@ -93,7 +95,8 @@ impl<'t> Draft<'t> {
         requires going { MayGoOn self.old }
         requires plain { HasPlainWords line.now }
         ensures { OnOk result ((read : Read) → Holds read self.old
-            → Holds (taking number (line_by line.now) (noting number (line_by line.now) read)) self.new) }
+            → Holds (taking number (line_by line.now) (noting number
+            (line_by line.now) read)) self.new) }
     {
         self.make_room(left)?;
         self.note_line(number, line);
@@ -103,7 +106,8 @@ impl<'t> Draft<'t> {
 
     // Notes a line with a long name, and a construct that is no statement.
     fn note_line(&mut self, number: u32, line: &Line<'_, 't>)
-        ensures { (read : Read) → Holds read self.old → Holds (noting number (line_by line.now) read) self.new }
+        ensures { (read : Read) → Holds read self.old
+            → Holds (noting number (line_by line.now) read) self.new }
     {
         if line.has_long_name() {
             note(&mut self.notes.long_name, number);
@@ -117,7 +121,8 @@ impl<'t> Draft<'t> {
     fn take(&mut self, number: u32, line: &Line<'_, 't>) -> Result<(), Memory>
         requires going { MayGoOn self.old }
         requires plain { HasPlainWords line.now }
-        ensures { OnOk result ((read : Read) → Holds read self.old → Holds (taking number (line_by line.now) read) self.new) }
+        ensures { OnOk result ((read : Read) → Holds read self.old
+            → Holds (taking number (line_by line.now) read) self.new) }
     {
         match line {
             Line::Blank => Ok(()),
@@ -141,7 +146,8 @@ impl<'t> Draft<'t> {
     // Adds inputs.
     fn add_inputs(&mut self, line: u32, names: &[&'t [u8]]) -> Result<(), Memory>
         requires { ArePlain names.now }
-        ensures { OnOk result ((read : Read) → Holds read self.old → Holds (with_inputs line (bytes_of names.now) read) self.new) }
+        ensures { OnOk result ((read : Read) → Holds read self.old
+            → Holds (with_inputs line (bytes_of names.now) read) self.new) }
     {
         for name in names {
             self.add_input(line, *name)?;
@@ -152,7 +158,8 @@ impl<'t> Draft<'t> {
     // Adds an input.
     fn add_input(&mut self, line: u32, name: &'t [u8]) -> Result<(), Memory>
         requires { IsPlain name.now }
-        ensures { OnOk result ((read : Read) → Holds read self.old → Holds (with_inputs line (name.now ∷ []) read) self.new) }
+        ensures { OnOk result ((read : Read) → Holds read self.old
+            → Holds (with_inputs line (name.now ∷ []) read) self.new) }
     {
         let number = self.sight(name)?;
         push(&mut self.inputs, number)?;
@@ -163,7 +170,8 @@ impl<'t> Draft<'t> {
     // Adds outputs.
     fn add_outputs(&mut self, line: u32, names: &[&'t [u8]]) -> Result<(), Memory>
         requires { ArePlain names.now }
-        ensures { OnOk result ((read : Read) → Holds read self.old → Holds (with_outputs line (bytes_of names.now) read) self.new) }
+        ensures { OnOk result ((read : Read) → Holds read self.old
+            → Holds (with_outputs line (bytes_of names.now) read) self.new) }
     {
         for name in names {
             self.add_output(line, *name)?;
@@ -174,7 +182,8 @@ impl<'t> Draft<'t> {
     // Adds an output.
     fn add_output(&mut self, line: u32, name: &'t [u8]) -> Result<(), Memory>
         requires { IsPlain name.now }
-        ensures { OnOk result ((read : Read) → Holds read self.old → Holds (with_outputs line (name.now ∷ []) read) self.new) }
+        ensures { OnOk result ((read : Read) → Holds read self.old
+            → Holds (with_outputs line (name.now ∷ []) read) self.new) }
     {
         let number = self.sight(name)?;
         push(&mut self.outputs, number)?;
@@ -197,7 +206,11 @@ impl<'t> Draft<'t> {
     fn define(&mut self, number: u32, line: u32)
         requires { number < length self.old.names }
         ensures { (read : Read) → Holds read self.old
-            → Holds (record read { definitions = read.definitions ++ record { line = line; statement = name_at self.old.names number } ∷ [] }) self.new }
+            → Holds (record read {
+              definitions = read.definitions
+                  ++ record { line = line; statement = name_at self.old.names number } ∷ [];
+            })
+            self.new }
     {
         if let Some(first) = self.names.define(number, line) {
             note(&mut self.notes.again, Redefinition { line, first });
@@ -207,7 +220,8 @@ impl<'t> Draft<'t> {
     // Begins a cover with these names: its pins, and last its output.
     fn open_cover(&mut self, line: u32, names: &[&'t [u8]]) -> Result<(), Memory>
         requires { ArePlain names.now }
-        ensures { OnOk result ((read : Read) → read.current ≡ None → Holds read self.old → Holds (with_cover line (bytes_of names.now) read) self.new) }
+        ensures { OnOk result ((read : Read) → read.current ≡ None → Holds read self.old
+            → Holds (with_cover line (bytes_of names.now) read) self.new) }
     {
         let Some((output, pins)) = names.split_last() else {
             return Ok(());
@@ -220,7 +234,8 @@ impl<'t> Draft<'t> {
     // Begins a cover with this output, without pins.
     fn begin_cover(&mut self, line: u32, output: &'t [u8]) -> Result<(), Memory>
         requires { IsPlain output.now }
-        ensures { OnOk result ((read : Read) → read.current ≡ None → Holds read self.old → Holds (with_begun line [] output.now read) self.new) }
+        ensures { OnOk result ((read : Read) → read.current ≡ None → Holds read self.old
+            → Holds (with_begun line [] output.now read) self.new) }
     {
         let number = self.sight(output)?;
         self.cover.begin(line);
@@ -233,8 +248,14 @@ impl<'t> Draft<'t> {
     // Adds pins to the cover that began.
     fn add_pins(&mut self, pins: &[&'t [u8]]) -> Result<(), Memory>
         requires { ArePlain pins.now }
-        ensures { OnOk result ((read : Read) (cover : CoverOf) → read.current ≡ Some cover → cover.rows ≡ [] → Holds read self.old
-            → Holds (record read { current = Some (record cover { pins = cover.pins ++ bytes_of pins.now }) }) self.new) }
+        ensures { OnOk result ((read : Read) (cover : CoverOf) → read.current ≡ Some cover
+            → cover.rows ≡ [] → Holds read self.old
+            → Holds (record read {
+              current = Some (record cover {
+                pins = cover.pins
+                    ++ bytes_of pins.now;
+              });
+            }) self.new) }
     {
         for pin in pins {
             self.add_pin(*pin)?;
@@ -245,18 +266,26 @@ impl<'t> Draft<'t> {
     // Adds a pin to the cover that began.
     fn add_pin(&mut self, pin: &'t [u8]) -> Result<(), Memory>
         requires { IsPlain pin.now }
-        ensures { OnOk result ((read : Read) (cover : CoverOf) → read.current ≡ Some cover → cover.rows ≡ [] → Holds read self.old
-            → Holds (record read { current = Some (record cover { pins = cover.pins ++ pin.now ∷ [] }) }) self.new) }
+        ensures { OnOk result ((read : Read) (cover : CoverOf) → read.current ≡ Some cover
+            → cover.rows ≡ [] → Holds read self.old
+            → Holds (record read {
+              current = Some (record cover {
+                pins = cover.pins
+                    ++ pin.now ∷ [];
+              });
+            }) self.new) }
     {
         let number = self.sight(pin)?;
         push(&mut self.cover.pins, number)?;
         Ok(())
     }
 
-    // Adds a row to the cover that is being read, if one is. Behind a row that is not as said none is looked at.
+    // Adds a row to the cover that is being read, if one is. Behind a row that is not as said none
+    // is looked at.
     fn add_row(&mut self, line: u32, tokens: &[&'t [u8]]) -> Result<(), Memory>
         requires { MayGoOn self.old }
-        ensures { OnOk result ((read : Read) → Holds read self.old → Holds (with_row line (bytes_of tokens.now) read) self.new) }
+        ensures { OnOk result ((read : Read) → Holds read self.old
+            → Holds (with_row line (bytes_of tokens.now) read) self.new) }
     {
         if !self.is_open {
             return Ok(());
@@ -287,7 +316,8 @@ impl<'t> Draft<'t> {
     fn keep_cover(&mut self) -> Result<(), Memory>
         requires going { MayGoOn self.old }
         requires reading { self.old.is_open ≡ true }
-        ensures { OnOk result ((read : Read) (cover : CoverOf) → read.current ≡ Some cover → Holds read self.old → HoldsClosed read self.new) }
+        ensures { OnOk result ((read : Read) (cover : CoverOf) → read.current ≡ Some cover
+            → Holds read self.old → HoldsClosed read self.new) }
     {
         if self.notes.wrong_row.is_some() {
             return Ok(());
@@ -305,7 +335,8 @@ impl<'t> Draft<'t> {
         requires reading { self.old.is_open ≡ true }
         requires right { self.old.notes.wrong_row ≡ None }
         requires small { self.old.notes.excess ≡ None }
-        ensures { OnOk result ((read : Read) (cover : CoverOf) → read.current ≡ Some cover → Holds read self.old → HoldsClosed read self.new) }
+        ensures { OnOk result ((read : Read) (cover : CoverOf) → read.current ≡ Some cover
+            → Holds read self.old → HoldsClosed read self.new) }
     {
         let line = self.cover.line;
         if let Some(count) = self.cover.excess() {
@@ -324,7 +355,8 @@ impl<'t> Draft<'t> {
     fn keep_constant(&mut self) -> Result<(), Memory>
         requires right { self.old.notes.wrong_row ≡ None }
         requires small { self.old.notes.excess ≡ None }
-        ensures { OnOk result ((read : Read) (cover : CoverOf) → read.current ≡ Some cover → is_too_large cover ≡ false → is_constant cover ≡ true
+        ensures { OnOk result ((read : Read) (cover : CoverOf) → read.current ≡ Some cover
+            → is_too_large cover ≡ false → is_constant cover ≡ true
             → Holds read self.old → HoldsClosed read self.new) }
     {
         let constant = Constant {
@@ -343,9 +375,12 @@ impl<'t> Draft<'t> {
         requires reading { self.old.is_open ≡ true }
         requires right { self.old.notes.wrong_row ≡ None }
         requires small { self.old.notes.excess ≡ None }
-        requires few { excess_of (length self.old.cover.pins.items) self.old.cover.rows.count ≡ None }
-        requires varies { (read : Read) (cover : CoverOf) → read.current ≡ Some cover → Holds read self.old → is_constant cover ≡ false }
-        ensures { OnOk result ((read : Read) (cover : CoverOf) → read.current ≡ Some cover → Holds read self.old → HoldsClosed read self.new) }
+        requires few { excess_of (length self.old.cover.pins.items) self.old.cover.rows.count
+            ≡ None }
+        requires varies { (read : Read) (cover : CoverOf) → read.current ≡ Some cover
+            → Holds read self.old → is_constant cover ≡ false }
+        ensures { OnOk result ((read : Read) (cover : CoverOf) → read.current ≡ Some cover
+            → Holds read self.old → HoldsClosed read self.new) }
     {
         let line = self.cover.line;
         let pins = self.cover.pins.as_slice();
@@ -366,7 +401,11 @@ fn note_uses(names: &mut TextNames, numbers: &[u32], line: u32)
     requires { AreNumbers names.old numbers.now }
     ensures names { seen_names names.new ≡ seen_names names.old }
     ensures used { (read : Read) (draft : DraftOf) → draft.names ≡ names.old → Holds read draft
-        → Holds (record read { used = read.used ++ on_line line (names_at names.old numbers.now) }) (record draft { names = names.new }) }
+        → Holds (record read {
+          used = read.used
+              ++ on_line line (names_at names.old numbers.now);
+        })
+        (record draft { names = names.new }) }
 {
     for number in numbers {
         names.note_use(*number, line);

@@ -1,7 +1,8 @@
 //! The gates of covers.
 //!
-//! The gates of all covers stand one after the other, each with what its pins read: a name of the text, or an inverter or a row gate of its own
-//! cover. These two have names that no text can have, so they are known by their numbers, and never looked up.
+//! The gates of all covers stand one after the other, each with what its pins read: a name of the
+//! text, or an inverter or a row gate of its own cover. These two have names that no text can have,
+//! so they are known by their numbers, and never looked up.
 
 ghost use Rattle.std.specs.Prelude.{◌≡◌, ◌+◌, ◌<◌, ◌≤◌, ◌++◌, ◌∷◌, [], ℕ, Contains, IfOk, List, OnOk, length, map, if◌then◌else◌};
 ghost use Rattle.hz_core.specs.declared.kind.Kind.TheVariants.{And, Nand, Or, Nor, Not, Buff};
@@ -117,7 +118,8 @@ impl Gates {
         ensures elements { OnOk result ((name : ℕ → List ℕ)
             → elements_by name self.new ≡ elements_by name self.old ++ cover_by name cover.now) }
         ensures counted { OnOk result ((name : ℕ → List ℕ)
-            → variables_of self.new ≡ variables_of self.old + variable_total (cover_by name cover.now)) }
+            → variables_of self.new ≡ variables_of self.old + variable_total
+            (cover_by name cover.now)) }
     {
         self.add_planes(cover)
     }
@@ -126,7 +128,8 @@ impl Gates {
     fn add_planes(&mut self, cover: &Cover) -> Result<(), Memory>
         requires whole { IsWholeCover cover.now }
         requires holds { HoldsGates self.old }
-        ensures { OnOk result (GrowBy cover.now (λ name. cover_by name cover.now) self.old self.new) }
+        ensures { OnOk result (GrowBy cover.now
+            (λ name. cover_by name cover.now) self.old self.new) }
     {
         match cover.planes() {
             [] => Ok(()),
@@ -140,7 +143,8 @@ impl Gates {
         requires whole { IsWholeCover cover.now }
         requires holds { HoldsGates self.old }
         requires plane { bytes_of cover.now.rows.planes.items ≡ plane.now ∷ [] }
-        ensures { OnOk result (GrowBy cover.now (λ name. cover_by name cover.now) self.old self.new) }
+        ensures { OnOk result (GrowBy cover.now
+            (λ name. cover_by name cover.now) self.old self.new) }
     {
         if let Some(literal) = only_literal(plane) {
             return self.add_literal(cover, literal);
@@ -151,12 +155,13 @@ impl Gates {
         self.add_gate(cover, Role::Output, kind, pins)
     }
 
-    // Adds the gate of a cover of one row with one literal: a buffer where the literal equals the output column, else
-    // an inverter.
+    // Adds the gate of a cover of one row with one literal: a buffer where the literal equals the
+    // output column, else an inverter.
     fn add_literal(&mut self, cover: &Cover, literal: Literal) -> Result<(), Memory>
         requires pin { literal.pin < length cover.now.pins.items }
         requires holds { HoldsGates self.old }
-        ensures { OnOk result (GrowBy cover.now (λ name. literal_gate (name cover.now.output) (column_by cover.now)
+        ensures { OnOk result (GrowBy cover.now
+            (λ name. literal_gate (name cover.now.output) (column_by cover.now)
             (literal_at (map name cover.now.pins.items) literal) ∷ []) self.old self.new) }
     {
         let kind = literal_kind(literal.is_plain, cover.column());
@@ -170,7 +175,8 @@ impl Gates {
         requires holds { HoldsGates self.old }
         requires planes { planes.now ≡ cover.now.rows.planes.items }
         requires several { 1 < length planes.now }
-        ensures { OnOk result (GrowBy cover.now (λ name. cover_by name cover.now) self.old self.new) }
+        ensures { OnOk result (GrowBy cover.now
+            (λ name. cover_by name cover.now) self.old self.new) }
     {
         self.add_inverters(cover)?;
         self.add_terms(cover, planes)?;
@@ -185,7 +191,8 @@ impl Gates {
         requires whole { IsWholeCover cover.now }
         requires holds { HoldsGates self.old }
         requires planes { planes.now ≡ cover.now.rows.planes.items }
-        requires inverted { ReadAs cover.now self.old.gates.items self.old.inverted.items (λ name. inverted_by name cover.now) }
+        requires inverted { ReadAs cover.now self.old.gates.items self.old.inverted.items
+            (λ name. inverted_by name cover.now) }
         ensures grown { OnOk result
             (GrowBy cover.now (λ name. row_gates_by name cover.now (bytes_of planes.now)) self.old self.new) }
         ensures terms { OnOk result (ReadAs cover.now self.new.gates.items self.new.terms.items
@@ -207,7 +214,8 @@ impl Gates {
     fn add_term(&mut self, cover: &Cover, row: u32, plane: &[u8]) -> Result<(), Memory>
         requires holds { HoldsGates self.old }
         requires plane { IsPlane cover.now plane.now }
-        requires inverted { ReadAs cover.now self.old.gates.items self.old.inverted.items (λ name. inverted_by name cover.now) }
+        requires inverted { ReadAs cover.now self.old.gates.items self.old.inverted.items
+            (λ name. inverted_by name cover.now) }
         ensures grown { OnOk result
             (GrowBy cover.now (λ name. row_gate_by name cover.now row plane.now) self.old self.new) }
         ensures terms { OnOk result ((names : (ℕ → List ℕ) → List (List ℕ))
@@ -225,7 +233,8 @@ impl Gates {
     fn add_row(&mut self, cover: &Cover, row: u32, plane: &[u8]) -> Result<Source, Memory>
         requires holds { HoldsGates self.old }
         requires plane { IsPlane cover.now plane.now }
-        requires inverted { ReadAs cover.now self.old.gates.items self.old.inverted.items (λ name. inverted_by name cover.now) }
+        requires inverted { ReadAs cover.now self.old.gates.items self.old.inverted.items
+            (λ name. inverted_by name cover.now) }
         ensures grown { OnOk result
             (GrowBy cover.now (λ name. row_gate_by name cover.now row plane.now) self.old self.new) }
         ensures term { IfOk result (λ source.
@@ -250,7 +259,8 @@ impl Gates {
     fn add_inverters(&mut self, cover: &Cover) -> Result<(), Memory>
         requires few { length cover.now.pins.items ≤ most_gate_pins }
         requires holds { HoldsGates self.old }
-        ensures grown { OnOk result (GrowBy cover.now (λ name. inverters_by name cover.now) self.old self.new) }
+        ensures grown { OnOk result (GrowBy cover.now
+            (λ name. inverters_by name cover.now) self.old self.new) }
         ensures inverted { OnOk result
             (ReadAs cover.now self.new.gates.items self.new.inverted.items (λ name. inverted_by name cover.now)) }
     {
@@ -270,7 +280,8 @@ impl Gates {
         requires holds { HoldsGates self.old }
         requires name { Contains cover.now.pins.items name }
         ensures grown { OnOk result (GrowBy cover.now
-            (λ names. inverters_from (names cover.now.output) (planes_by cover.now) pin (names name ∷ [])) self.old self.new) }
+            (λ names. inverters_from (names cover.now.output) (planes_by cover.now) pin
+            (names name ∷ [])) self.old self.new) }
         ensures inverted { OnOk result ((before : (ℕ → List ℕ) → List (List ℕ))
             → ReadAs cover.now self.old.gates.items self.old.inverted.items before
             → ReadAs cover.now self.new.gates.items self.new.inverted.items (λ names. before names
@@ -286,9 +297,11 @@ impl Gates {
         requires holds { HoldsGates self.old }
         requires name { Contains cover.now.pins.items name }
         ensures grown { OnOk result (GrowBy cover.now
-            (λ names. inverters_from (names cover.now.output) (planes_by cover.now) pin (names name ∷ [])) self.old self.new) }
+            (λ names. inverters_from (names cover.now.output) (planes_by cover.now) pin
+            (names name ∷ [])) self.old self.new) }
         ensures source { IfOk result (λ source. ReadAs cover.now self.new.gates.items (source ∷ [])
-            (λ names. inverted_from (names cover.now.output) (planes_by cover.now) pin (names name ∷ []))) }
+            (λ names. inverted_from (names cover.now.output) (planes_by cover.now) pin
+            (names name ∷ []))) }
         ensures gates { OnOk result (IsPrefix self.old.gates.items self.new.gates.items) }
         ensures inverted { self.new.inverted ≡ self.old.inverted }
     {
@@ -374,7 +387,8 @@ pub(crate) struct Literal {
 
 // The kind of the gate of a cover of one row with one literal.
 fn literal_kind(is_plain: bool, column: bool) -> Kind
-    ensures { result ≡ (if is_plain then (if column then Buff else Not) else (if column then Not else Buff)) }
+    ensures { result ≡ (if is_plain then (if column then Buff else Not) else
+        (if column then Not else Buff)) }
 {
     if is_plain == column {
         Kind::Buff
@@ -400,7 +414,8 @@ fn rows_kind(column: bool) -> Kind
 // The literal of a plane that has no other.
 #[tactic(auto, using(crate::proofs::LiteralLemmas::literals_step, crate::proofs::LiteralLemmas::literals_past))]
 fn only_literal(plane: &[u8]) -> Option<Literal>
-    ensures { (pins : List (List ℕ)) → length pins ≡ length plane.now → IsOnlyLiteral pins plane.now result }
+    ensures { (pins : List (List ℕ)) → length pins ≡ length plane.now
+        → IsOnlyLiteral pins plane.now result }
 {
     let mut found = None;
     for (pin, byte) in plane.iter().enumerate() {

@@ -1,7 +1,8 @@
 //! Netlists in Berkeley's logic interchange format (BLIF): reading them into circuits.
 //!
-//! Each `.names` becomes its two-level circuit, row by row, since hazards depend on the rows of the cover: an inverter for each pin that a
-//! row wants at 0, a gate for each row, and a gate that joins them.
+//! Each `.names` becomes its two-level circuit, row by row, since hazards depend on the rows of the
+//! cover: an inverter for each pin that a row wants at 0, a gate for each row, and a gate that
+//! joins them.
 //!
 //! | Module | What lives in it |
 //! |---|---|

@@ -13,7 +13,8 @@ use crate::words::has_sign;
 /// The most bytes of a name: room is left for what the names of gates add to it.
 const MAX_BLIF_NAME: usize = 240;
 
-/// What a line is, by its first token, with the tokens that come after it; a row has all its tokens.
+/// What a line is, by its first token, with the tokens that come after it; a row has all its
+/// tokens.
 #[derive(Clone, Copy)]
 pub(crate) enum Line<'a, 't> {
     /// A line without tokens.
@@ -190,7 +191,8 @@ impl Course {
 
     /// Whether the form of the next line is wrong.
     pub(crate) fn refuses(&self, line: &Line) -> bool
-        ensures refuses { (before : List (Numbered LineOf)) → self.now ≡ course_of before → result ≡ has_wrong_form before (line_by line.now) }
+        ensures refuses { (before : List (Numbered LineOf)) → self.now ≡ course_of before
+            → result ≡ has_wrong_form before (line_by line.now) }
         ensures plain { result ≡ false → HasPlainWords line.now }
     {
         self.is_ill_formed(line) || line.has_sign() || (line.is_statement() && self.has_end)
@@ -198,7 +200,8 @@ impl Course {
 
     // Whether the next line is not as said, by itself and its place.
     fn is_ill_formed(&self, line: &Line) -> bool
-        ensures { (before : List (Numbered LineOf)) → self.now ≡ course_of before → result ≡ is_ill_formed before (line_by line.now) }
+        ensures { (before : List (Numbered LineOf)) → self.now ≡ course_of before
+            → result ≡ is_ill_formed before (line_by line.now) }
     {
         match line {
             Line::Blank | Line::Inputs(_) | Line::Outputs(_) | Line::Construct => false,
@@ -211,7 +214,9 @@ impl Course {
 
     /// The same with one line more.
     pub(crate) fn with(self, line: &Line) -> Course
-        ensures { (before : List (Numbered LineOf)) (number : ℕ) → self ≡ course_of before → result ≡ course_of (before ++ record { line = number; statement = line_by line.now } ∷ []) }
+        ensures { (before : List (Numbered LineOf)) (number : ℕ) → self ≡ course_of before
+            → result ≡ course_of (before ++ record { line = number; statement = line_by line.now }
+            ∷ []) }
     {
         Course {
             has_statement: self.has_statement || line.is_statement(),

@@ -21,15 +21,17 @@ pub(crate) struct JoinedLine<'t> {
     pub(crate) rest: Option<&'t [u8]>,
 }
 
-/// Takes one joined line off a text: as many lines as end in `\`, and one more. Its tokens come in place of those that `tokens`
-/// had. The line is never made: its tokens are those of its lines, one after the other.
+/// Takes one joined line off a text: as many lines as end in `\`, and one more. Its tokens come in
+/// place of those that `tokens` had. The line is never made: its tokens are those of its lines, one
+/// after the other.
 pub(crate) fn read_line<'t>(
     text: &'t [u8],
     tokens: &mut Vec<&'t [u8]>,
 ) -> Result<JoinedLine<'t>, Memory>
     requires { length text.now ≤ most_text_bytes }
     ensures joined { IfOk result (λ joined. IsJoinedLine text.now tokens.new.items joined) }
-    ensures counted { IfOk result (λ joined. joined.lines + rest_length joined.rest ≤ length text.now + 1) }
+    ensures counted { IfOk result (λ joined. joined.lines + rest_length joined.rest ≤ length
+        text.now + 1) }
 {
     tokens.clear();
     let mut lines = 0;
@@ -103,7 +105,8 @@ fn without_comment<'t>(line: &'t [u8]) -> &'t [u8]
 
 // Adds the words of a line to the tokens.
 fn push_words<'t>(line: &'t [u8], tokens: &mut Vec<&'t [u8]>) -> Result<(), Memory>
-    ensures { OnOk result (bytes_of tokens.new.items ≡ bytes_of tokens.old.items ++ tokens_of line.now) }
+    ensures { OnOk result (bytes_of tokens.new.items ≡ bytes_of tokens.old.items
+        ++ tokens_of line.now) }
 {
     let mut left = line;
     while let Some((word, rest)) = first_word(left) {

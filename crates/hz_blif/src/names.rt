@@ -11,7 +11,8 @@ use hz_netlist::NameTable;
 use std::alloc::Global;
 use std::marker::Model;
 
-/// The names of a text, each with its number and the lines that define and use it first. None has a `\`.
+/// The names of a text, each with its number and the lines that define and use it first. None has a
+/// `\`.
 #[derive(Drop)]
 pub(crate) struct TextNames<'t> {
     table: NameTable<'t>,
@@ -77,7 +78,8 @@ impl<'t> TextNames<'t> {
     pub(crate) fn sight(&mut self, name: &'t [u8]) -> Result<u32, Memory>
         requires { IsPlain name.now }
         ensures seen { OnOk result (self.new ≡ with_sight self.old name.now) }
-        ensures number { IfOk result (λ number. position (bytes_eq name.now) (seen_names self.new) ≡ Some number) }
+        ensures number { IfOk result (λ number. position (bytes_eq name.now)
+            (seen_names self.new) ≡ Some number) }
         ensures err { OnErr result (self.new ≡ self.old) }
     {
         self.table.sight(name)

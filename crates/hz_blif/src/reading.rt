@@ -5,8 +5,9 @@ ghost use Rattle.std.specs.List.{All, list_any, slice_index_or};
 ghost use Rattle.hz_core.specs.Netlist.{IsWhole};
 ghost use Rattle.hz_line.specs.Line.{most_text_bytes};
 ghost use Rattle.hz_blif.specs.Circuit.{blif_circuit};
-ghost use Rattle.hz_blif.specs.Draft.{AreNumbers, IsClean, IsDraftOf, IsDraftOfSome, first_used};
+ghost use Rattle.hz_blif.specs.Draft.{IsClean, IsDraftOf, IsDraftOfSome, first_used};
 ghost use Rattle.hz_blif.specs.Fault.{IsBlifRefusal, IsFaultless, IsLeastFault};
+ghost use Rattle.hz_netlist.specs.Names.{AreNumbers};
 
 use crate::build::build;
 use crate::draft::Draft;
@@ -18,10 +19,12 @@ use std::alloc::Global;
 
 /// Reads a netlist in BLIF.
 ///
-/// A text is cut into lines, a comment from `#` on is left out, and a line that ends in `\` goes on in the next one. Its statements are
-/// `.model`, `.inputs`, `.outputs`, `.names` with the rows that follow it, and `.end`. The circuit has the inputs and outputs in the
-/// order of the text, and the gates of each cover, row by row: `y\nP` for the inverter of pin P, `y\rR` for the gate of row R, and y.
-/// A constant cover is skipped where nothing names its output, and refused elsewhere. It takes time linear in the text.
+/// A text is cut into lines, a comment from `#` on is left out, and a line that ends in `\` goes on
+/// in the next one. Its statements are `.model`, `.inputs`, `.outputs`, `.names` with the rows that
+/// follow it, and `.end`. The circuit has the inputs and outputs in the order of the text, and the
+/// gates of each cover, row by row: `y\nP` for the inverter of pin P, `y\rR` for the gate of row R,
+/// and y. A constant cover is skipped where nothing names its output, and refused elsewhere. It
+/// takes time linear in the text.
 pub fn read(alloc: Global, text: &[u8]) -> Result<Circuit, BlifFault>
     requires { length text.now ≤ most_text_bytes }
     ensures circuit { IfOk result (λ circuit. circuit ≡ blif_circuit text.now) }
@@ -42,7 +45,8 @@ pub fn read(alloc: Global, text: &[u8]) -> Result<Circuit, BlifFault>
 // What is kept of a text, or the first line whose form is wrong.
 fn read_draft<'t>(alloc: Global, text: &'t [u8]) -> Result<Draft<'t>, BlifFault>
     requires { length text.now ≤ most_text_bytes }
-    ensures { MatchResult result (λ draft. IsDraftOf text.now draft) (λ fault. IsBlifRefusal text.now fault) }
+    ensures { MatchResult result (λ draft. IsDraftOf text.now draft)
+        (λ fault. IsBlifRefusal text.now fault) }
 {
     let mut draft = Draft::new(alloc, text);
     let mut tokens = Vec::new(alloc);
@@ -87,7 +91,8 @@ fn check(alloc: Global, draft: &Draft) -> Result<(), BlifFault>
 // The least fault of those that were noted.
 fn check_notes(draft: &Draft) -> Result<(), BlifFault>
     ensures clean { OnOk result (IsClean draft.now) }
-    ensures fault { IfErr result (λ fault. (text : List ℕ) → IsDraftOf text draft.now → IsBlifRefusal text fault) }
+    ensures fault { IfErr result (λ fault. (text : List ℕ) → IsDraftOf text draft.now
+        → IsBlifRefusal text fault) }
 {
     let notes = draft.notes;
     if let Some(line) = notes.long_name {
@@ -114,7 +119,8 @@ fn check_notes(draft: &Draft) -> Result<(), BlifFault>
     Ok(())
 }
 
-// The least fault of names that are constant or undefined, and of the count of variables, where nothing is noted.
+// The least fault of names that are constant or undefined, and of the count of variables, where
+// nothing is noted.
 fn check_names(alloc: Global, draft: &Draft) -> Result<(), BlifFault>
     requires draft { IsDraftOfSome draft.now }
     requires clean { IsClean draft.now }
@@ -140,7 +146,8 @@ fn check_names(alloc: Global, draft: &Draft) -> Result<(), BlifFault>
 
 // The line of the first constant cover whose output a pin or an output names.
 fn first_used_constant(alloc: Global, draft: &Draft) -> Result<Option<u32>, Memory>
-    requires outputs { All (λ constant. constant.output < length draft.now.names) draft.now.constants.items }
+    requires outputs { All (λ constant. constant.output < length draft.now.names)
+        draft.now.constants.items }
     requires pins { AreNumbers draft.now.names draft.now.constant_pins.items }
     ensures { IfOk result (λ found. found ≡ first_used draft.now draft.now.constants.items) }
 {
@@ -161,7 +168,8 @@ fn first_used_constant(alloc: Global, draft: &Draft) -> Result<Option<u32>, Memo
 fn marks(alloc: Global, names: usize, marked: &[u32]) -> Result<Vec<bool>, Memory>
     requires { All (λ number. number < names) marked.now }
     ensures long { IfOk result (λ marks. length marks.items ≡ names) }
-    ensures set { IfOk result (λ marks. (number : ℕ) → number < names → slice_index_or marks.items number false ≡ list_any (nat_eq number) marked.now) }
+    ensures set { IfOk result (λ marks. (number : ℕ) → number < names
+        → slice_index_or marks.items number false ≡ list_any (nat_eq number) marked.now) }
 {
     let Ok(mut marks) = vec![in alloc; false; names] else {
         return Err(Memory);

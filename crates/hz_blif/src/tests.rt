@@ -100,78 +100,80 @@ fn reads(rt: HostRuntime) -> Result<(), Fail> {
     Ok(())
 }
 
+// Texts that are refused, with their faults.
+const REFUSED: [(&[u8], BlifFault); 30] = [
+    (
+        b".inputs a\n.outputs z\n\n.latch d q\n.names a z\n1 1\n",
+        BlifFault::Construct { line: 4 },
+    ),
+    (
+        b".names a y\n.latch q r\n1 1\n",
+        BlifFault::Form { line: 3 },
+    ),
+    (b".latch a b\n.model m\n", BlifFault::Construct { line: 1 }),
+    (b".end\n.exdc\n", BlifFault::Construct { line: 2 }),
+    (b".INPUTS a\n", BlifFault::Construct { line: 1 }),
+    (b".inputs a \\ # c\n", BlifFault::Form { line: 1 }),
+    (b"\\\n\\\n1\n", BlifFault::Form { line: 1 }),
+    (b".model a b\n", BlifFault::Form { line: 1 }),
+    (b".inputs\n.model a\n", BlifFault::Form { line: 2 }),
+    (b".names\n", BlifFault::Form { line: 1 }),
+    (b".end x\n", BlifFault::Form { line: 1 }),
+    (b".end\n.end\n", BlifFault::Form { line: 2 }),
+    (b".model a\n.model b\n", BlifFault::Form { line: 2 }),
+    (b"1 1\n", BlifFault::Form { line: 1 }),
+    (b".inputs a(b\n", BlifFault::Form { line: 1 }),
+    (b".latch \xff\n", BlifFault::Form { line: 1 }),
+    (b".inputs a a\n", BlifFault::Twice { line: 1, first: 1 }),
+    (
+        b".inputs a\n.names a\n.inputs a\n",
+        BlifFault::Twice { line: 2, first: 1 },
+    ),
+    (b".inputs a\n.names a y\n1\n", BlifFault::Cover { line: 3 }),
+    (
+        b".inputs a\n.names a y\n1 1\n0 0\n",
+        BlifFault::Cover { line: 4 },
+    ),
+    (
+        b".inputs a\n.names a y\n2 1\n",
+        BlifFault::Cover { line: 3 },
+    ),
+    (
+        b".inputs a\n.names a y\n1 2\n1 1\n",
+        BlifFault::Cover { line: 3 },
+    ),
+    (
+        b".inputs a\n.names a y\n1 1\n1 1 1\n",
+        BlifFault::Cover { line: 4 },
+    ),
+    (
+        b".inputs a\n.names a y\n- 1\n.outputs y\n",
+        BlifFault::Constant { line: 2 },
+    ),
+    (
+        b".names $false\n.names $false y\n",
+        BlifFault::Constant { line: 1 },
+    ),
+    (b".names y y\n", BlifFault::Constant { line: 1 }),
+    (
+        b".names a y\n1 1\n.inputs b\n",
+        BlifFault::Undefined { line: 1 },
+    ),
+    (
+        b".inputs b\n.outputs b a\n.names c d\n1 1\n",
+        BlifFault::Undefined { line: 2 },
+    ),
+    (
+        b".outputs a \\\nb c\n.inputs a\n.inputs b\n",
+        BlifFault::Undefined { line: 1 },
+    ),
+    (b"\\\n\\\n.outputs a\n", BlifFault::Undefined { line: 1 }),
+];
+
 #[test]
 fn refuses(rt: HostRuntime) -> Result<(), Fail> {
     let alloc = rt.alloc();
-    let cases: [(&[u8], BlifFault); 30] = [
-        (
-            b".inputs a\n.outputs z\n\n.latch d q\n.names a z\n1 1\n",
-            BlifFault::Construct { line: 4 },
-        ),
-        (
-            b".names a y\n.latch q r\n1 1\n",
-            BlifFault::Form { line: 3 },
-        ),
-        (b".latch a b\n.model m\n", BlifFault::Construct { line: 1 }),
-        (b".end\n.exdc\n", BlifFault::Construct { line: 2 }),
-        (b".INPUTS a\n", BlifFault::Construct { line: 1 }),
-        (b".inputs a \\ # c\n", BlifFault::Form { line: 1 }),
-        (b"\\\n\\\n1\n", BlifFault::Form { line: 1 }),
-        (b".model a b\n", BlifFault::Form { line: 1 }),
-        (b".inputs\n.model a\n", BlifFault::Form { line: 2 }),
-        (b".names\n", BlifFault::Form { line: 1 }),
-        (b".end x\n", BlifFault::Form { line: 1 }),
-        (b".end\n.end\n", BlifFault::Form { line: 2 }),
-        (b".model a\n.model b\n", BlifFault::Form { line: 2 }),
-        (b"1 1\n", BlifFault::Form { line: 1 }),
-        (b".inputs a(b\n", BlifFault::Form { line: 1 }),
-        (b".latch \xff\n", BlifFault::Form { line: 1 }),
-        (b".inputs a a\n", BlifFault::Twice { line: 1, first: 1 }),
-        (
-            b".inputs a\n.names a\n.inputs a\n",
-            BlifFault::Twice { line: 2, first: 1 },
-        ),
-        (b".inputs a\n.names a y\n1\n", BlifFault::Cover { line: 3 }),
-        (
-            b".inputs a\n.names a y\n1 1\n0 0\n",
-            BlifFault::Cover { line: 4 },
-        ),
-        (
-            b".inputs a\n.names a y\n2 1\n",
-            BlifFault::Cover { line: 3 },
-        ),
-        (
-            b".inputs a\n.names a y\n1 2\n1 1\n",
-            BlifFault::Cover { line: 3 },
-        ),
-        (
-            b".inputs a\n.names a y\n1 1\n1 1 1\n",
-            BlifFault::Cover { line: 4 },
-        ),
-        (
-            b".inputs a\n.names a y\n- 1\n.outputs y\n",
-            BlifFault::Constant { line: 2 },
-        ),
-        (
-            b".names $false\n.names $false y\n",
-            BlifFault::Constant { line: 1 },
-        ),
-        (b".names y y\n", BlifFault::Constant { line: 1 }),
-        (
-            b".names a y\n1 1\n.inputs b\n",
-            BlifFault::Undefined { line: 1 },
-        ),
-        (
-            b".inputs b\n.outputs b a\n.names c d\n1 1\n",
-            BlifFault::Undefined { line: 2 },
-        ),
-        (
-            b".outputs a \\\nb c\n.inputs a\n.inputs b\n",
-            BlifFault::Undefined { line: 1 },
-        ),
-        (b"\\\n\\\n.outputs a\n", BlifFault::Undefined { line: 1 }),
-    ];
-    for (text, fault) in &cases {
+    for (text, fault) in &REFUSED {
         if text.len() > 16_777_216 {
             return Ok(());
         }

@@ -1,10 +1,10 @@
 -- What the results of both algorithms and the ranks say of one change.
-use Rattle.std.proofs.Common.{◌≡◌, ◌≢◌, ℕ, zero, suc, ◌<◌, Bool, true, false, List, length, get_or, refl, sym, ap, ◌∙◌, subst, inl, inr, IsTrue}
+use Rattle.std.proofs.Common.{◌≡◌, ◌≢◌, ℕ, zero, suc, ◌<◌, Bool, false, List, length, get_or, refl, sym, ap, ◌∙◌, subst, inl, inr, IsTrue}
 use Rattle.std.proofs.lemmas.Bool.{cases_lt}
 use Rattle.std.proofs.lemmas.List.{get_or_past}
 use Rattle.hz_core.specs.declared.tri.Tri.{Tri}
 use Rattle.hz_core.specs.declared.tri.Tri.TheVariants.{Zero, One, Unknown}
-use Rattle.hz_core.specs.Ternary.{tri_of, is_below, AllBelow}
+use Rattle.hz_core.specs.Ternary.{is_below, AllBelow}
 use Rattle.hz_core.specs.Netlist.{Netlist}
 use Rattle.hz_core.proofs.Refinements.{get_or-AllBelow, AllBelow-same, AllBelow-through}
 use Rattle.hz_net.specs.Network.{Driver, network_of, value_at}
@@ -14,18 +14,13 @@ use Rattle.hz_net.proofs.Sequences.{length-algorithm_a, AllBelow-closed, closed-
 use Rattle.hz_reach.specs.Order.{key_at}
 use Rattle.hz_cycle.specs.Pass.{IsFixed, AreFixedAndRanked}
 use Rattle.hz_cycle.specs.Cycles.{AreOfChange, AreResultsOfBoth}
-use Rattle.hz_cycle.proofs.SettledVariables.{fixed-result}
+use Rattle.hz_cycle.proofs.SettledVariables.{fixed-result, bit-known}
 
 -- a value above X is X
 above-unknown : (value : Tri) → IsTrue (is_below Unknown value) → value ≡ Unknown
 above-unknown Zero below = cc
 above-unknown One below = cc
 above-unknown Unknown below = refl
-
--- the value of a bit is not X
-bit-known : (bit : Bool) → tri_of bit ≢ Unknown
-bit-known false e = cc
-bit-known true e = cc
 
 -- a start, the results of both algorithms from it, and the ranks
 pub record IsChange (net : List Driver) (input start : List Bool) (a : List Tri) (ranks : List ℕ) (b : List Tri) : Type 0 where

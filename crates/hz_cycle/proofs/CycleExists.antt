@@ -1,27 +1,31 @@
--- Two passes from a turned state lead back to it, and are the cycle of the change.
-use Rattle.std.proofs.Common.{◌≡◌, ◌≢◌, ℕ, zero, suc, ◌*◌, ◌≤◌, Bool, true, false, not, List, [], ◌∷◌, ◌++◌, length, refl, sym, ap, ◌∙◌, subst, arith, inl, inr, Contains, IsTrue}
-use Rattle.std.specs.List.{AllByRecursion}
+-- Two passes from a turned state lead back to it, and are the cycle of the change; and the room that they take.
+use Rattle.std.proofs.Common.{◌≡◌, ℕ, zero, suc, ◌*◌, ◌≤◌, Bool, true, false, not, List, [], ◌∷◌, ◌++◌, refl, sym, ap, ◌∙◌, subst, arith, inl, inr, Contains, IsTrue, ◌+◌, length}
+use Rattle.std.specs.List.{AllByRecursion, range_with_len}
 use Rattle.hz_core.specs.declared.tri.Tri.{Tri}
 use Rattle.hz_core.specs.Ternary.{admits, unknown_count, Refines}
 use Rattle.hz_core.proofs.Refinements.{length-Refines, get_or-Refines, Refines-get_or}
 use Rattle.hz_net.specs.Network.{Driver, External, Function, Source, driver_at, bit_at, value_at, IsUnstable}
 use Rattle.hz_net.specs.Passes.{IsKnown, IsUnknown}
 use Rattle.hz_gmw.specs.Runs.{state_after, IsRun, end_of}
-use Rattle.hz_gmw.specs.RunRecord.{flip_count}
+use Rattle.hz_gmw.specs.RunRecord.{flip_count, RunRecord}
 use Rattle.hz_gmw.specs.Cycles.{states_of}
 use Rattle.hz_gmw.proofs.CoverB.{length-end_of}
 use Rattle.hz_gmw.proofs.Paths.{end_of-append, IsRun-append, IsCut, cut-member}
-use Rattle.hz_reach.specs.Counts.{FlipsPerUnknown, StepsAreNoMoreThanFlips}
-use Rattle.hz_net.specs.Reads.{IsWireInto, IsWired}
+use Rattle.hz_reach.proofs.FlipCounts.{flips_per_unknown, steps_below_flips, flips_per_variable, not-not}
+use Rattle.hz_net.specs.Reads.{IsWired}
 use Rattle.hz_reach.specs.Spread.{changes_in}
 use Rattle.hz_cycle.specs.Cycles.{IsCycleOf}
-use Rattle.hz_cycle.specs.Pass.{IsFixed, AreEnough, IsPass}
+use Rattle.hz_cycle.specs.Pass.{IsFixed, AreEnough, IsPass, HasRoom}
 use Rattle.hz_cycle.specs.Turned.{IsTurned}
-use Rattle.hz_cycle.proofs.SettledVariables.{either-value, known-stable, no-input, wire-source}
-use Rattle.hz_cycle.proofs.TurnsTaken.{source-gate}
-use Rattle.hz_cycle.proofs.StepLemmas.{changes-append, unchanged-end, contains-end, contains-front}
-use Rattle.hz_cycle.proofs.Turn.{same-or-differ, other-bit}
+use Rattle.hz_cycle.proofs.SettledVariables.{either-value, known-stable, no-input, wire-source, source-gate, admits-unknown}
+use Rattle.hz_cycle.proofs.StepLemmas.{changes-append, unchanged-end, contains-end, contains-front, contains-begin}
+use Rattle.hz_reach.proofs.GateTurn.{same-or-differ, other-bit, not-itself}
+use Rattle.hz_reach.proofs.ListPlaces.{no-element}
 use Rattle.hz_cycle.proofs.TurnedStates.{same-turned}
+use Rattle.std.specs.Prelude.{sum_by}
+use Rattle.std.proofs.lemmas.List.Sums.{sum_by-cons}
+use Rattle.hz_reach.specs.Room.{Spends, HasRoomFor}
+use Rattle.hz_reach.proofs.Room.{room-left}
 
 -- two changes are enough for each variable
 pub two-enough : (net : List Driver) (ranks : List ℕ) (b : List Tri) (state : List Bool) → AreEnough net ranks b state (λ i. 2)
@@ -38,10 +42,6 @@ contains-rest state member (flips ∷ steps) more there =
     let rest = contains-rest (state_after flips state) member steps more there in
     (suc rest.0, (let less = rest.1 in omega arith), rest.2)
 
-pub contains-begin : (state : List Bool) (steps : List (List ℕ)) → Contains (states_of state steps) state
-contains-begin state [] = (0, omega arith, refl)
-contains-begin state (flips ∷ steps) = (0, omega arith, refl)
-
 -- what holds of all elements holds of each
 all-contains : (P : List Bool → Type 0) (states : List (List Bool)) (member : List Bool) → AllByRecursion P states → Contains states member → P member
 all-contains P [] member all there = absurd (omega (arith, there.1))
@@ -53,27 +53,19 @@ pub refines-unchanged : (begun : List Bool) (steps : List (List ℕ)) (b : List 
 refines-unchanged begun steps b refined known =
     Refines-get_or (end_of begun steps) b (length-end_of begun steps ∙ length-Refines begun b refined) (λ i inside.
     elim (either-value (value_at b i)) [
-      | inl unknown ↦ admitted i unknown (bit_at (end_of begun steps) i)
+      | inl unknown ↦ admits-unknown (value_at b i) (bit_at (end_of begun steps) i) unknown
       | inr settled ↦
           subst (λ (bit : Bool). IsTrue (admits (value_at b i) bit)) (sym (unchanged-end begun steps i (known i settled))) (get_or-Refines begun b refined i)
     ])
-  where
-    admitted : (i : ℕ) → IsUnknown (value_at b i) → (bit : Bool) → IsTrue (admits (value_at b i) bit)
-    admitted i unknown false = rw unknown refl
-    admitted i unknown true = rw unknown refl
 
-module _ {net : List Driver} {input : List Bool} {ranks : List ℕ} {b : List Tri} (wired : IsWired net) (fixed : IsFixed net input b) (go : (wire source : ℕ) → driver_at net wire ≡ Source source → (gate : ℕ) × IsWireInto net gate wire) where
+module _ {net : List Driver} {input : List Bool} {ranks : List ℕ} {b : List Tri} (wired : IsWired net) (fixed : IsFixed net input b) where
   module _ {state middle last : List Bool} {first second : List (List ℕ)} (turned : IsTurned net ranks b state) (once : IsPass net input ranks b state first middle) (again : IsPass net input ranks b middle second last) where
-    twice : (bit : Bool) → not (not bit) ≡ bit
-    twice false = refl
-    twice true = refl
-
     -- they lead back
     pub returned : last ≡ state
     returned =
-        same-turned wired fixed go again.turned turned (λ gate kind start pins drives unknown.
+        same-turned wired fixed again.turned turned (λ gate kind start pins drives unknown.
         again.gates gate kind start pins drives unknown
-        ∙ (ap not (once.gates gate kind start pins drives unknown) ∙ twice (bit_at state gate)))
+        ∙ (ap not (once.gates gate kind start pins drives unknown) ∙ not-not (bit_at state gate)))
 
     steps : List (List ℕ)
     steps = first ++ second
@@ -130,11 +122,11 @@ module _ {net : List Driver} {input : List Bool} {ranks : List ℕ} {b : List Tr
             (late.0, contains-rest state late.0 first second (subst (λ (s : List Bool). Contains (states_of s second) late.0) (sym once.ends) late.1), late.2 ∙ once.gates source is.kind is.first is.pins is.drives is.unsettled) bit
 
     -- the cycle
-    pub cycle-found : FlipsPerUnknown → StepsAreNoMoreThanFlips → IsCycleOf net input b state (first ++ second)
+    pub cycle-found : IsCycleOf net input b state (first ++ second)
     unfolding HasBit
-    cycle-found per_unknown no_more =
+    cycle-found =
         let flips : flip_count (first ++ second) ≤ 4 * unknown_count b =
-        per_unknown net input state (first ++ second) b 4 whole-run fixed.long whole-known whole-few in
+        flips_per_unknown net input state (first ++ second) b 4 whole-run fixed.long whole-known whole-few in
         let only_state : (member : List Bool) → first ++ second ≡ [] → Contains (states_of state (first ++ second)) member → state ≡ member =
         λ member none there. alone member (subst (λ (list : List (List ℕ)). Contains (states_of state list) member) none there) in
         record {
@@ -170,17 +162,31 @@ module _ {net : List Driver} {input : List Bool} {ranks : List ℕ} {b : List Tr
           stable = λ member there i inside known. known-stable fixed member i (member-refines member there) inside known;
           flips = flips;
           none = λ zero_unknown.
-              no-element (first ++ second) (omega (arith, no_more net input state (first ++ second) whole-run, flips, ap (λ (n : ℕ). 4 * n) zero_unknown));
+              no-element (first ++ second) (omega (arith, steps_below_flips net input state (first ++ second) whole-run, flips, ap (λ (n : ℕ). 4 * n) zero_unknown));
         }
       where
         alone : (member : List Bool) → Contains (state ∷ []) member → state ≡ member
         alone member (zero, inside, e) = e
         alone member (suc k, inside, e) = absurd (omega (arith, inside))
 
-        not-itself : (bit : Bool) → not bit ≢ bit
-        not-itself false e = cc
-        not-itself true e = cc
+pub twos : (first count : ℕ) → sum_by (λ (i : ℕ). 2) (range_with_len first count) ≡ 2 * count
+twos first zero = refl
+twos first (suc count) = omega (arith, sum_by-cons (λ (i : ℕ). 2) first (range_with_len (first + 1) count), twos (first + 1) count)
 
-        no-element : (list : List (List ℕ)) → length list ≤ 0 → list ≡ []
-        no-element [] few = refl
-        no-element (x ∷ list) few = absurd (omega (arith, few))
+-- room for two flips for each variable is room for a pass
+pub room-twice : (net : List Driver) (ranks : List ℕ) (b : List Tri) (state : List Bool) (run : RunRecord) → HasRoomFor (2 * length net) run → HasRoom net ranks b state run
+room-twice net ranks b state run room = record {
+  most = λ i. 2;
+  enough = two-enough net ranks b state;
+  room = record { flips = omega (arith, room.flips, twos 0 (length net)); steps = omega (arith, room.steps, twos 0 (length net)) };
+}
+
+-- the first pass leaves the room for the second
+pub room-again :
+    {net : List Driver} {input : List Bool} {ranks : List ℕ} {b : List Tri} {begun state : List Bool} {made : List (List ℕ)} {before now : RunRecord} →
+    IsPass net input ranks b begun made state → now.steps ≡ before.steps ++ made → Spends before now → HasRoomFor (4 * length net) before →
+    HasRoom net ranks b state now
+room-again {net} {input} {ranks} {b} {begun} {state} {made} {before} {now} pass whole spent room =
+    room-twice net ranks b state now
+    (room-left net input begun made (2 * length net) pass.run whole spent room
+    (omega (arith, flips_per_variable net input begun made 2 pass.run (pass.few (λ i. 2) (two-enough net ranks b begun)))))

@@ -1,50 +1,28 @@
 -- What the result of Algorithm B says of a state that refines it
 pub mod SettledVariables
--- The order of variables by a key and then by number is a strict order in which any two can be compared
-pub mod KeyOrder
 -- What holds inside a pass, before and after each gate's turn
 pub mod PassInvariant
--- A gate's turn in a pass
+-- A gate's turn in a pass: each unsettled pin differs from its source, so the turn can be taken; what it makes of the state; and that what holds inside a pass holds again after it, with this gate among those that have had their turn
 pub mod Turn
--- After a gate's turn what holds inside a pass holds again, with this gate among those that have had their turn
-pub mod TurnKeeps
 -- One more step of a run: how often variables have changed, where the run ends, and the states on the way
 pub mod StepLemmas
--- A pass while it is made
-pub mod PassSteps
--- Who has had a turn matters for unsettled gates alone
-pub mod TurnsTaken
--- Where a pass may begin, that it ends in a turned state, and that a turned state is determined by its gates
+-- A pass may begin in a turned state and ends in one, and a turned state is determined by its gates
 pub mod TurnedStates
--- A node's fan-out ascends, so the gate and those of its fan-out that pass a test may be marked one after the other
-pub mod FanOut
--- Each wire of a circuit's network goes into a gate
-pub mod WireTargets
--- How often a pass changes each variable, and that it ends as a pass
-pub mod PassBounds
--- The loop of `make_pass`: what holds after so many variables of the order, that each step has room, and that each turn keeps it
+-- A pass while it is made: its steps so far are a run, how often each variable has changed in it, and which bits the wires of gates that have had their turn have shown; and that it ends as a pass
+pub mod PassSteps
+-- Where some list gives a gate a value there is a canonical pattern for it
+pub mod PatternExists
+-- The turns of a pass: what holds after so many variables of the order, that each turn has room and keeps it, and that there is a pass wherever one may begin
 pub mod PassTurns
 -- What the results of both algorithms and the ranks say of one change
 pub mod Change
--- Two passes from a turned state lead back to it, and are the cycle of the change
+-- Two passes from a turned state lead back to it, and are the cycle of the change; and the room that they take
 pub mod CycleExists
--- The room of the cycle: two passes, each with at most two flips for each variable
-pub mod CycleRoom
--- A settling round is a step, and settles its variables
+-- A settling round is a step, and settles its variables; the rounds can be made one after the other
 pub mod RoundSteps
 -- The loops over settling rounds: that a mark may be set, that each step has room, and what holds after it
 pub mod RoundTurns
 -- The settle run: after the spread run and the settling rounds a pass may begin, and the three together are the settle run
 pub mod SettleRunExists
--- A settle run and the cycle at its end show that Algorithm B is exact
-pub mod BExact
--- The variables that have a key can be listed by key and then by number: one after the other is put into its place
-pub mod OrderExists
--- Where some list gives a gate a value there is a canonical pattern for it
-pub mod PatternExists
--- The settling rounds of a change can be made, one after the other
-pub mod RoundsExist
--- A pass can be made wherever it may begin: each unsettled gate has its turn, in a run with enough room
-pub mod PassExists
--- From every stable start, under every input, there are a settle run and a cycle at its end
+-- From every stable start, under every input, there are a settle run and a cycle at its end: the spread run, the settling rounds and one pass, and then two passes. They show that Algorithm B is exact
 pub mod RunsExist

@@ -1,31 +1,40 @@
 -- A pass while it is made: its steps so far are a run, how often each variable has changed in it, and which bits the wires
--- of gates that have had their turn have shown.
-use Rattle.std.proofs.Common.{◌≡◌, ◌≢◌, ℕ, ◌+◌, ◌<◌, ◌≤◌, Bool, true, false, not, cond, List, map, sym, ap, ◌∙◌, subst, arith, inl, inr, Contains}
+-- of gates that have had their turn have shown; and that it ends as a pass.
+use Rattle.std.proofs.Common.{◌≡◌, ◌≢◌, ℕ, ◌+◌, ◌≤◌, Bool, true, false, not, cond, List, map, sym, ap, ◌∙◌, subst, arith, inl, inr, Contains, refl, []}
 use Rattle.std.specs.Prelude.{slice_range}
 use Rattle.std.proofs.lemmas.Bool.{cases_eq, false_from_ne_true}
 use Rattle.hz_core.specs.declared.tri.Tri.{Tri}
 use Rattle.hz_core.specs.declared.kind.Kind.{Kind}
 use Rattle.hz_core.specs.Ternary.{is_unknown}
 use Rattle.hz_core.specs.Pattern.{IsPattern}
-use Rattle.hz_net.specs.Network.{Driver, Function, Source, driver_at, bit_at, value_at}
+use Rattle.hz_net.specs.Network.{Driver, Function, Source, driver_at, bit_at, value_at, External}
 use Rattle.hz_net.specs.Passes.{IsKnown, IsUnknown}
-use Rattle.hz_gmw.specs.Runs.{is_listed, IsStep, IsRun, state_after, end_of}
+use Rattle.hz_gmw.specs.Runs.{is_listed, IsRun, state_after, end_of}
 use Rattle.hz_gmw.specs.Cycles.{states_of}
 use Rattle.hz_reach.specs.Order.{IsEarlier}
 use Rattle.hz_reach.specs.Room.{with_step_if_any}
 use Rattle.hz_net.specs.Reads.{IsWireInto, IsWired}
 use Rattle.hz_reach.specs.Spread.{changes_in}
-use Rattle.hz_reach.proofs.SpreadRoom.{end_of-after}
-use Rattle.hz_cycle.specs.Pass.{IsFixed}
-use Rattle.hz_cycle.proofs.KeyOrder.{not-earlier, not-both}
+use Rattle.hz_reach.proofs.Order.{not-earlier, not-both, also, also-itself, also-other, earlier-or-not}
+use Rattle.hz_reach.proofs.GateTurn.{turn_wires, turn_middle, IsFunction, IsTurnPin, IsWithFanOut, pin-into, pin-from, listed-pin, kept-other, gate-kept, turn-run, turn-end, same-or-differ, same-source}
+use Rattle.hz_cycle.specs.Pass.{MayBegin, IsFixed, AreEnough, IsPass}
 use Rattle.hz_cycle.proofs.PassInvariant.{IsInside}
-use Rattle.hz_cycle.proofs.StepLemmas.{listed, changes-after, listed-none, run-after, unchanged-end, contains-after, contains-end}
-use Rattle.hz_cycle.proofs.Turn.{also, IsNext, IsAfterTurn, IsWithFanOut, turn_wires, turn_middle, listed-pin, wires-unsettled, wires-step, kept-other, gate-kept, flips-unsettled, flips-step, after-turn, settled-after}
-use Rattle.hz_cycle.proofs.TurnKeeps.{also-itself, also-other, inside-after}
+use Rattle.hz_cycle.proofs.StepLemmas.{changes-after, listed-none, unchanged-end, contains-after, contains-end}
+use Rattle.hz_cycle.proofs.Turn.{IsNext, IsAfterTurn, pass-may-turn, wires-unsettled, flips-unsettled, after-turn, settled-after, inside-after}
+use Rattle.hz_cycle.proofs.SettledVariables.{either-value, no-input, wire-source, source-gate}
+use Rattle.hz_cycle.proofs.TurnedStates.{inside-turned}
+use Rattle.hz_reach.proofs.FlipCounts.{listed}
 
 -- one, if a variable has had its turn
 abbrev pub turns : (ℕ → Bool) → ℕ → ℕ
 turns had i = cond (had i) 1 0
+
+pub one-at-most : (had : ℕ → Bool) (i : ℕ) → turns had i ≤ 1
+one-at-most had i = at-most (had i)
+  where
+    at-most : (bit : Bool) → cond bit 1 0 ≤ 1
+    at-most false = omega arith
+    at-most true = omega arith
 
 pub record IsUnderway (net : List Driver) (input : List Bool) (ranks : List ℕ) (b : List Tri) (begun : List Bool) (had : ℕ → Bool) (made : List (List ℕ)) (state : List Bool) : Type 0 where
   pub inside : IsInside net ranks b begun had state
@@ -47,12 +56,35 @@ pub record IsUnderway (net : List Driver) (input : List Bool) (ranks : List ℕ)
       (wire source : ℕ) → driver_at net wire ≡ Source source → IsUnknown (value_at b source) → had source ≡ true →
       (member : List Bool) × Contains (states_of begun made) member × (bit_at member wire ≡ bit_at begun source)
 
-module _ {net : List Driver} {input : List Bool} {b : List Tri} {ranks : List ℕ} {begun state : List Bool} {had : ℕ → Bool} {made : List (List ℕ)} {gate : ℕ} {kind : Kind} {first pins : ℕ} {pattern : List Bool} {flips : List ℕ} (wired : IsWired net) (fixed : IsFixed net input b) (underway : IsUnderway net input ranks b begun had made state) (next : IsNext net ranks b had gate kind first pins) (canonical : IsPattern kind (slice_range state first (first + pins)) (map is_unknown (slice_range b first (first + pins))) (not (bit_at state gate)) pattern) (flip : IsWithFanOut net (turn_middle state first pins pattern) gate flips) where
-  wires : List ℕ
-  wires = turn_wires state first pins pattern
+-- where it begins
+pub inside-begin : {net : List Driver} {ranks : List ℕ} {b : List Tri} {state : List Bool} → MayBegin net ranks b state → IsInside net ranks b state (λ i. false) state
+inside-begin may = record {
+  settled = may.settled;
+  gates = λ gate kind first pins drives unknown. refl;
+  fresh = λ wire source gate drives goes unknown unsettled waits late. may.differs wire source gate drives goes unknown unsettled late;
+  differs = λ wire source gate drives goes unknown turned either. cc;
+  patterns = λ gate kind first pins drives unknown turned. cc;
+}
 
-  into : (pin : ℕ) → pin < pins → IsWireInto net gate (first + pin)
-  into pin few = record { kind = kind; first = first; pins = pins; driven = next.drives; above = omega arith; below = omega (arith, few) }
+pub underway-begin : {net : List Driver} {input : List Bool} {ranks : List ℕ} {b : List Tri} {state : List Bool} → MayBegin net ranks b state → IsUnderway net input ranks b state (λ i. false) [] state
+underway-begin may = record {
+  inside = inside-begin may;
+  run = tt;
+  ends = refl;
+  known = λ i known. refl;
+  gates = λ gate kind first pins drives. omega arith;
+  wires = λ wire source gate drives goes. omega arith;
+  outward = λ wire source gate drives goes known. omega arith;
+  equal = λ wire source gate drives goes earlier unknown unsettled same. omega arith;
+  shown = λ wire source drives unknown turned. cc;
+}
+
+module _ {net : List Driver} {input : List Bool} {b : List Tri} {ranks : List ℕ} {begun state : List Bool} {had : ℕ → Bool} {made : List (List ℕ)} {gate : ℕ} {kind : Kind} {first pins : ℕ} {pattern : List Bool} {flips : List ℕ} (wired : IsWired net) (fixed : IsFixed net input b) (underway : IsUnderway net input ranks b begun had made state) (next : IsNext net ranks b had gate kind first pins) (canonical : IsPattern kind (slice_range state first (first + pins)) (map is_unknown (slice_range b first (first + pins))) (not (bit_at state gate)) pattern) (flip : IsWithFanOut net (turn_middle state first pins pattern) gate flips) where
+  function : IsFunction net gate kind first pins
+  function = record { drives = next.drives }
+
+  turn-pin : (i : ℕ) → is_listed (turn_wires state first pins pattern) i ≡ true → IsTurnPin (map is_unknown (slice_range b first (first + pins))) (slice_range state first (first + pins)) pattern first pins i
+  turn-pin i there = listed-pin wired (pass-may-turn wired fixed underway.inside next) canonical.candidate i there
 
   turn : IsAfterTurn net gate first pins pattern state (state_after flips (turn_middle state first pins pattern))
   turn = after-turn wired fixed underway.inside next canonical flip
@@ -60,18 +92,15 @@ module _ {net : List Driver} {input : List Bool} {b : List Tri} {ranks : List �
   -- the wires that set the pattern are wires into the gate
   wire-goes : (wire other : ℕ) → IsWireInto net other wire → is_listed (turn_wires state first pins pattern) wire ≡ true → other ≡ gate
   wire-goes wire other goes there =
-      let is = listed-pin wired fixed underway.inside next canonical wire there in
-      wired.own other gate wire goes (subst (IsWireInto net gate) (sym is.2) (into is.0 is.1))
+      let is = turn-pin wire there in
+      wired.own other gate wire goes (subst (IsWireInto net gate) (sym is.is) (pin-into wired function is.pin is.few))
 
   -- a wire that changes with the gate comes from it
   wire-comes : (wire source : ℕ) → driver_at net wire ≡ Source source → is_listed flips wire ≡ true → source ≡ gate
-  wire-comes wire source drives there = elim (flip.others wire there) [
+  wire-comes wire source drives there = elim (flip.along.others wire there) [
     | inl same ↦ (let again : driver_at net wire ≡ Function kind first pins = ap (driver_at net) same ∙ next.drives in cc)
-    | inr from ↦ same-source source gate (sym drives ∙ from.0)
+    | inr from ↦ same-source (sym drives ∙ from.0)
   ]
-    where
-      same-source : (one two : ℕ) → Source one ≡ Source two → one ≡ two
-      same-source one two e = cc
 
   -- a turn adds at most one change
   one-turn : (flipped_too : List ℕ) (i other : ℕ) → (is_listed flipped_too i ≡ true → other ≡ gate) → listed flipped_too i + turns had other ≤ turns (also had gate) other
@@ -112,29 +141,23 @@ module _ {net : List Driver} {input : List Bool} {b : List Tri} {ranks : List �
       omega (arith, few, zero_turns)
       ) in
       let wire_now : bit_at (turn_middle state first pins pattern) wire ≡ bit_at begun wire =
-      kept-other wired fixed underway.inside next canonical wire (λ pin few here. apart (wired.own other gate wire goes (subst (IsWireInto net gate) (sym here) (into pin few))))
+      kept-other wired (pass-may-turn wired fixed underway.inside next) canonical.candidate wire (λ pin few here. apart (wired.own other gate wire goes (subst (IsWireInto net gate) (sym here) (pin-into wired function pin few))))
       ∙ (ap (λ (s : List Bool). bit_at s wire) (sym underway.ends) ∙ unchanged-end begun made wire none) in
       let gate_now : bit_at (turn_middle state first pins pattern) gate ≡ bit_at begun gate =
-      gate-kept wired fixed underway.inside next canonical
+      gate-kept wired (pass-may-turn wired fixed underway.inside next) canonical.candidate
       ∙ (underway.inside.gates gate kind first pins next.drives next.unsettled ∙ ap (λ (h : Bool). cond h (not (bit_at begun gate)) (bit_at begun gate)) next.waits) in
-      elim (flip.others wire there) [
+      elim (flip.along.others wire there) [
         | inl here ↦ (let again : driver_at net wire ≡ Function kind first pins = ap (driver_at net) here ∙ next.drives in cc)
         | inr differ ↦ differ.1 (wire_now ∙ (same ∙ (ap (bit_at begun) from ∙ sym gate_now)))
       ]
 
-  ends-middle : end_of begun (with_step_if_any made (turn_wires state first pins pattern)) ≡ turn_middle state first pins pattern
-  ends-middle = end_of-after begun made (turn_wires state first pins pattern) ∙ ap (state_after (turn_wires state first pins pattern)) underway.ends
-
   ends-last : end_of begun (with_step_if_any (with_step_if_any made (turn_wires state first pins pattern)) flips) ≡ state_after flips (turn_middle state first pins pattern)
-  ends-last = end_of-after begun (with_step_if_any made (turn_wires state first pins pattern)) flips ∙ ap (state_after flips) ends-middle
+  ends-last = turn-end begun state made (turn_wires state first pins pattern) flips underway.ends
 
   pub underway-after : IsUnderway net input ranks b begun (also had gate) (with_step_if_any (with_step_if_any made (turn_wires state first pins pattern)) flips) (state_after flips (turn_middle state first pins pattern))
   underway-after = record {
     inside = inside-after wired fixed underway.inside next canonical turn (settled-after wired fixed underway.inside next canonical flip);
-    run = run-after net input begun (with_step_if_any made (turn_wires state first pins pattern)) flips
-        (run-after net input begun made (turn_wires state first pins pattern) underway.run (λ some.
-        subst (λ (s : List Bool). IsStep net input s (turn_wires state first pins pattern)) (sym underway.ends) (wires-step wired fixed underway.inside next canonical some)))
-        (λ some. subst (λ (s : List Bool). IsStep net input s flips) (sym ends-middle) (flips-step wired fixed underway.inside next canonical flip));
+    run = turn-run wired (pass-may-turn wired fixed underway.inside next) canonical.candidate flip.along input begun made underway.run underway.ends;
     ends = ends-last;
     known = λ i known.
         omega (
@@ -150,11 +173,11 @@ module _ {net : List Driver} {input : List Bool} {b : List Tri} {ranks : List �
           more-changes other,
           underway.gates other its_kind start count drives,
           wires-out other (λ there.
-              let is = listed-pin wired fixed underway.inside next canonical other there in
-              let from = wired.source gate (first + is.0) (into is.0 is.1) in
-              let wire : driver_at net other ≡ Source from.0 = ap (driver_at net) is.2 ∙ from.1 in
+              let is = turn-pin other there in
+              let from = pin-from wired function is.pin is.few in
+              let wire : driver_at net other ≡ Source from.0 = ap (driver_at net) is.is ∙ from.1 in
               cc),
-          one-turn flips other other (λ there. elim (flip.others other there) [
+          one-turn flips other other (λ there. elim (flip.along.others other there) [
             | inl same ↦ same
             | inr wire ↦ (let from = wire.0 in cc)
           ]),
@@ -201,4 +224,58 @@ module _ {net : List Driver} {input : List Bool} {b : List Tri} {ranks : List �
               )
               )
         ];
+  }
+
+module _ {net : List Driver} {input : List Bool} {ranks : List ℕ} {b : List Tri} {begun state : List Bool} {had : ℕ → Bool} {made : List (List ℕ)} (wired : IsWired net) (fixed : IsFixed net input b) (underway : IsUnderway net input ranks b begun had made state) where
+  -- no variable changes more often than is enough
+  pub underway-few : (most : ℕ → ℕ) → AreEnough net ranks b begun most → (i : ℕ) → changes_in made i ≤ most i
+  underway-few most enough i =
+      elim (either-value (value_at b i)) [
+        | inl unknown ↦ by_driver unknown (driver_at net i) refl
+        | inr known ↦ omega (arith, underway.known i known)
+      ]
+    where
+      at_wire : (source gate : ℕ) → driver_at net i ≡ Source source → IsWireInto net gate i → IsUnknown (value_at b i) → changes_in made i ≤ most i
+      at_wire source gate drives goes unknown =
+          let twice : changes_in made i ≤ turns had source + turns had gate = underway.wires i source gate drives goes in
+          elim (either-value (value_at b gate)) [
+            | inl unsettled ↦ elim (earlier-or-not ranks source gate) [
+              | inl earlier ↦ elim (same-or-differ (bit_at begun i) (bit_at begun source)) [
+                | inl same ↦
+                    omega (
+                      arith,
+                      underway.equal i source gate drives goes earlier (sym (wire-source fixed i source drives) ∙ unknown) unsettled same,
+                      one-at-most had gate,
+                      enough.wires i source gate drives goes unknown,
+                    )
+                | inr differ ↦
+                    omega (arith, twice, one-at-most had source, one-at-most had gate, enough.twice i source gate drives goes unknown unsettled (λ e. differ))
+              ]
+              | inr late ↦
+                  omega (arith, twice, one-at-most had source, one-at-most had gate, enough.twice i source gate drives goes unknown unsettled (λ e. absurd (late e)))
+            ]
+            | inr known ↦ omega (arith, underway.outward i source gate drives goes known, one-at-most had source, enough.wires i source gate drives goes unknown)
+          ]
+
+      by_driver : IsUnknown (value_at b i) → (driver : Driver) → driver_at net i ≡ driver → changes_in made i ≤ most i
+      by_driver unknown (External place) e = absurd (no-input fixed i place unknown e)
+      by_driver unknown (Function kind first pins) e =
+          omega (arith, underway.gates i kind first pins e, one-at-most had i, enough.gates i kind first pins e unknown)
+      by_driver unknown (Source source) e = let goes = wired.gate i source e in at_wire source goes.0 e goes.1 unknown
+
+  -- where all unsettled gates have had their turn the pass is made
+  pub underway-pass : ((gate : ℕ) (kind : Kind) (first pins : ℕ) → driver_at net gate ≡ Function kind first pins → IsUnknown (value_at b gate) → had gate ≡ true) → IsPass net input ranks b begun made state
+  underway-pass all = record {
+    run = underway.run;
+    ends = underway.ends;
+    turned = inside-turned wired fixed underway.inside all;
+    known = underway.known;
+    gates = λ gate kind first pins drives unknown.
+        underway.inside.gates gate kind first pins drives unknown
+        ∙ ap (λ (h : Bool). cond h (not (bit_at begun gate)) (bit_at begun gate)) (all gate kind first pins drives unknown);
+    shown = λ wire source drives unknown.
+        let unsettled : IsUnknown (value_at b source) = sym (wire-source fixed wire source drives) ∙ unknown in
+        let is = source-gate wired fixed wire source drives unsettled in
+        underway.shown wire source drives unsettled (all source is.kind is.first is.pins is.drives unsettled);
+    few = underway-few;
   }

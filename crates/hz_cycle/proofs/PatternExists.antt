@@ -9,7 +9,7 @@ use Rattle.hz_core.specs.Pattern.{IsCandidate, IsPattern}
 use Rattle.hz_core.specs.BitOrSwitch.{HasBitOrSwitch}
 use Rattle.hz_core.proofs.Patterns.{IsPattern-now, IsPattern-lone, IsPattern-changed}
 use Rattle.hz_core.proofs.BitOrSwitchLemmas.{reached-and, reached-nand, reached-or, reached-nor, reached-xor, reached-xnor, reached-not, reached-buff}
-use Rattle.hz_cycle.proofs.Turn.{same-or-differ}
+use Rattle.hz_reach.proofs.GateTurn.{same-or-differ}
 
 reached : (kind : Kind) (value : Bool) → (answer : Option Bool) × HasBitOrSwitch kind value answer
 reached And value = (then_some value true, reached-and value)

@@ -1,8 +1,8 @@
--- A settling round is a step, and settles its variables.
-use Rattle.std.proofs.Common.{◌≡◌, ◌≢◌, ℕ, zero, suc, ◌+◌, ◌-◌, ◌<◌, ◌≤◌, ◌⊎◌, Bool, true, false, not, cond, List, [], ◌∷◌, length, get_or, take, drop, min, refl, sym, ap, ◌∙◌, subst, arith, inl, inr, IsTrue}
-use Rattle.std.specs.List.{slice_range}
-use Rattle.std.proofs.lemmas.Bool.{cases_Bool, cases_eq, cases_lt, cases_order, both_ways, false_from_ne_true}
-use Rattle.std.proofs.lemmas.List.{get_or_past, get_or-take, get_or-drop, length-take, length-drop, take_all}
+-- A settling round is a step, and settles its variables; the rounds can be made one after the other.
+use Rattle.std.proofs.Common.{◌≡◌, ◌≢◌, ℕ, zero, suc, ◌+◌, ◌-◌, ◌<◌, ◌≤◌, ◌⊎◌, ◌&&◌, Bool, true, false, not, List, [], length, refl, sym, ap, ◌∙◌, subst, arith, inl, inr, eqb, IsTrue}
+use Rattle.std.specs.Prelude.{sum_by}
+use Rattle.std.proofs.lemmas.Bool.{cases_Bool, cases_lt, both_ways, and_parts, and_from, eqb-true, eq-eqb, false_from_ne_true}
+use Rattle.std.proofs.lemmas.List.Sums.{get_or-le-sum_by}
 use Rattle.hz_core.specs.declared.tri.Tri.{Tri}
 use Rattle.hz_core.specs.declared.tri.Tri.TheVariants.{Zero, One, Unknown}
 use Rattle.hz_core.specs.Ternary.{admits, is_below, AllBelow, Refines}
@@ -11,20 +11,20 @@ use Rattle.hz_net.specs.Network.{Driver, driver_at, bit_at, value_at, excitation
 use Rattle.hz_net.specs.Passes.{excitations, algorithm_b, IsKnown, IsUnknown, IsFirstRound, IsSettlingRound}
 use Rattle.hz_net.proofs.Excitations.{admits-driver_value, at-excitations}
 use Rattle.hz_net.proofs.Sequences.{length-algorithm_b, AllBelow-algorithm_b}
-use Rattle.hz_gmw.specs.Runs.{is_listed, IsStep, IsRun, state_after, end_of}
+use Rattle.hz_gmw.specs.Runs.{is_listed, IsRepeatFree, IsStep, IsRun, state_after, end_of}
 use Rattle.hz_gmw.proofs.CoverB.{length-end_of}
-use Rattle.hz_reach.specs.Order.{key_at, IsEarlier, IsInKeyOrder}
+use Rattle.hz_reach.specs.FilteredRange.{filtered_range}
+use Rattle.hz_reach.specs.Order.{key_at}
 use Rattle.hz_reach.specs.Room.{with_step_if_any}
 use Rattle.hz_reach.specs.Spread.{changes_in}
-use Rattle.hz_reach.proofs.ListPlaces.{listed-at, listed-place}
-use Rattle.hz_reach.proofs.SpreadRoom.{end_of-after}
-use Rattle.hz_cycle.specs.Rounds.{differing_variables, IsOneRound, AreRoundsOf, IsSettlingRun}
-use Rattle.hz_cycle.proofs.SettledVariables.{either-value}
-use Rattle.hz_cycle.proofs.FanOut.{Ascends, ascends-once, filtered-is, is-filtered, ascends-filter}
-use Rattle.hz_cycle.proofs.PassTurns.{had_before}
-use Rattle.hz_cycle.proofs.StepLemmas.{listed, changes-after, listed-none, run-after, unchanged-end}
-use Rattle.hz_cycle.proofs.Turn.{state_after-listed, state_after-unlisted}
-use Rattle.hz_cycle.proofs.PassSteps.{turns}
+use Rattle.hz_reach.proofs.FilteredRangeLemmas.{filtered_range-is, is-filtered_range, filtered_range-once}
+use Rattle.hz_reach.proofs.GateTurn.{state_after-listed, state_after-unlisted}
+use Rattle.hz_reach.proofs.ListPlaces.{key-inside}
+use Rattle.hz_reach.proofs.Room.{end_of-after, run-after}
+use Rattle.hz_cycle.specs.Rounds.{AreRoundsOf, IsSettlingRun}
+use Rattle.hz_cycle.proofs.SettledVariables.{either-value, admits-unknown}
+use Rattle.hz_cycle.proofs.StepLemmas.{changes-after, listed-none, unchanged-end}
+use Rattle.hz_reach.proofs.FlipCounts.{listed}
 
 -- Values
 
@@ -47,11 +47,11 @@ other-admitted One true out = cc
 other-admitted Unknown false out = cc
 other-admitted Unknown true out = cc
 
-not-admits : (bit : Bool) → not bit ≡ true → bit ≡ false
+pub not-admits : (bit : Bool) → not bit ≡ true → bit ≡ false
 not-admits false e = refl
 not-admits true e = cc
 
-admits-not : (bit : Bool) → bit ≡ false → not bit ≡ true
+pub admits-not : (bit : Bool) → bit ≡ false → not bit ≡ true
 admits-not false e = refl
 admits-not true e = cc
 
@@ -69,16 +69,41 @@ first-settling sequence i Unknown Zero round is unknown known = is
 first-settling sequence i Unknown One round is unknown known = is
 first-settling sequence i Unknown Unknown round is unknown known = absurd (known refl)
 
--- After so many variables of the order: those have their values, and each of them has changed at most once.
-pub record IsSettledTo (net : List Driver) (input : List Bool) (b : List Tri) (begun : List Bool) (order : List ℕ) (place : ℕ) (made : List (List ℕ)) (state : List Bool) : Type 0 where
+-- After the rounds below a number: the variables that settle in them have their values, and no others have changed.
+pub record IsSettledTo (net : List Driver) (input : List Bool) (when : List ℕ) (b : List Tri) (begun : List Bool) (round : ℕ) (made : List (List ℕ)) (state : List Bool) : Type 0 where
   pub run : IsRun net input begun made
   pub ends : end_of begun made ≡ state
-  pub done : (i : ℕ) → had_before place order i ≡ true → IsTrue (admits (value_at b i) (bit_at state i))
-  pub once : (i : ℕ) → changes_in made i ≤ turns (had_before place order) i
+  pub done : (i : ℕ) → key_at when i ≢ 0 → key_at when i < round → IsTrue (admits (value_at b i) (bit_at state i))
+  pub once : (i : ℕ) → changes_in made i ≤ 1
+  pub still : (i : ℕ) → (key_at when i ≡ 0) ⊎ (round ≤ key_at when i) → changes_in made i ≡ 0
 
--- a place of the order where a round begins
-pub record IsRoundStart (when order : List ℕ) (place : ℕ) : Type 0 where
-  pub less : (j : ℕ) → j < place → place < length order → key_at when (get_or order j 0) < key_at when (get_or order place 0)
+-- The variables that change in a round: those of the round that have not their values.
+pub record AreRoundFlips (when : List ℕ) (b : List Tri) (state : List Bool) (round : ℕ) (flips : List ℕ) : Type 0 where
+  pub once : IsRepeatFree flips
+  pub only : (i : ℕ) → is_listed flips i ≡ true → (key_at when i ≡ round) × (admits (value_at b i) (bit_at state i) ≡ false)
+  pub all : (i : ℕ) → key_at when i ≡ round → admits (value_at b i) (bit_at state i) ≡ false → is_listed flips i ≡ true
+
+pub settled-begin : (net : List Driver) (input : List Bool) (when : List ℕ) (b : List Tri) (begun : List Bool) → IsSettledTo net input when b begun 1 [] begun
+settled-begin net input when b begun = record {
+  run = tt;
+  ends = refl;
+  done = λ i some less. absurd (some (omega (arith, less)));
+  once = λ i. omega arith;
+  still = λ i either. refl;
+}
+
+-- rounds in which no variable settles
+pub settled-skip :
+    {net : List Driver} {input : List Bool} {when : List ℕ} {b : List Tri} {begun : List Bool} {round later : ℕ} {made : List (List ℕ)} {state : List Bool} →
+    IsSettledTo net input when b begun round made state → round ≤ later → ((i : ℕ) → key_at when i ≢ 0 → key_at when i < later → key_at when i < round) →
+    IsSettledTo net input when b begun later made state
+settled-skip settled more none = record {
+  run = settled.run;
+  ends = settled.ends;
+  done = λ i some less. settled.done i some (none i some less);
+  once = settled.once;
+  still = λ i either. settled.still i (elim either [ inl zero_key ↦ inl zero_key | inr late ↦ inr (omega (arith, more, late)) ]);
+}
 
 module _ {net : List Driver} {input : List Bool} {a : List Tri} {when : List ℕ} {b : List Tri} {begun : List Bool} (rounds : AreRoundsOf net input a when b begun) where
   abbrev sequence : ℕ → List Tri
@@ -128,336 +153,157 @@ module _ {net : List Driver} {input : List Bool} {a : List Tri} {when : List ℕ
   net-long = ap (length {A = Tri}) rounds.result.2 ∙ length-algorithm_b net input a rounds.long rounds.result.0
 
   when-inside : (i : ℕ) → key_at when i ≢ 0 → i < length a
-  when-inside i some = elim (cases_lt i (length a)) [
-    | inl inside ↦ inside
-    | inr past ↦ absurd (some (get_or_past when i 0 (omega (arith, past, rounds.rounds.long))))
-  ]
+  when-inside i some = omega (arith, key-inside when i some, rounds.rounds.long)
 
   when-first : (i : ℕ) → key_at when i ≢ 0 → IsUnknown (value_at a i) × IsKnown (value_at b i) × IsFirstRound (algorithm_b net input a) i IsKnown (key_at when i)
   when-first i some = settling-first (algorithm_b net input a) i (value_at a i) (value_at b i) (key_at when i) (rounds.rounds.each i (when-inside i some)) some
 
-  module _ {order : List ℕ} {place : ℕ} {made : List (List ℕ)} {state : List Bool} (sorted : IsInKeyOrder when order) (settled : IsSettledTo net input b begun order place made state) where
+  -- what becomes known has a settling round, and that is the first in which it is known
+  settles : (i : ℕ) → i < length a → IsUnknown (value_at a i) → IsKnown (value_at b i) → (key_at when i ≢ 0) × IsFirstRound (algorithm_b net input a) i IsKnown (key_at when i)
+  settles i inside unknown known =
+      let first : IsFirstRound (algorithm_b net input a) i IsKnown (key_at when i) =
+      first-settling (algorithm_b net input a) i (value_at a i) (value_at b i) (key_at when i) (rounds.rounds.each i inside) unknown known in
+      ((λ none. subst (λ (n : ℕ). IsKnown (value_at (algorithm_b net input a n) i)) none first.there unknown), first)
+
+  module _ {round : ℕ} {made : List (List ℕ)} {state : List Bool} (settled : IsSettledTo net input when b begun round made state) where
     state-long : length state ≡ length net
     state-long = ap (length {A = Bool}) (sym settled.ends) ∙ (length-end_of begun made ∙ (length-Refines begun a rounds.refined ∙ rounds.long))
 
-    -- a variable without a settling round has not changed
-    unplaced : (i : ℕ) → key_at when i ≡ 0 → had_before place order i ≡ false
-    unplaced i none = false_from_ne_true _ (λ there.
-        let at = listed-place (take place order) i there in
-        let before : at.0 < place = omega (arith, at.1, length-take place order) in
-        let inside : at.0 < length order = omega (arith, at.1, length-take place order) in
-        let same : get_or order at.0 0 ≡ i = sym (get_or-take place order at.0 0 before) ∙ at.2 in
-        (sorted.keyed i).0 (subst (λ (n : ℕ). is_listed order n ≡ true) same (listed-at order at.0 inside)) none)
-
-    kept : (i : ℕ) → had_before place order i ≡ false → bit_at state i ≡ bit_at begun i
-    kept i out =
-        ap (λ (s : List Bool). bit_at s i) (sym settled.ends)
-        ∙ unchanged-end begun made i (omega (arith, settled.once i, no_turn))
-      where
-        no_turn : turns (had_before place order) i ≤ 0
-        no_turn = rw out (omega arith)
-
-    module _ {next : ℕ} (one : IsOneRound when order place next) (starts : IsRoundStart when order place) where
-      abbrev round : ℕ
-      round = key_at when (get_or order place 0)
-
-      place-inside : place < length order
-      place-inside = omega (arith, one.more, one.inside)
-
-      -- what has a lesser settling round is before the place
-      lesser-before : (i : ℕ) → key_at when i ≢ 0 → key_at when i < key_at when (get_or order place 0) → had_before place order i ≡ true
-      lesser-before i some less =
-          let at = listed-place order i ((sorted.keyed i).1 some) in
-          elim (cases_order at.0 place) [
-            | inl here ↦ (
-                let same : get_or order place 0 ≡ i = ap (λ (n : ℕ). get_or order n 0) (sym here) ∙ at.2 in
-                absurd (omega (arith, less, ap (key_at when) same))
-                )
-            | inr (inl before) ↦
-                subst (λ (n : ℕ). is_listed (take place order) n ≡ true) (get_or-take place order at.0 0 before ∙ at.2)
-                (listed-at (take place order) at.0 (omega (arith, before, at.1, length-take place order)))
-            | inr (inr behind) ↦ absurd (later (subst (IsEarlier when (get_or order place 0)) at.2 (sorted.ordered place at.0 behind at.1)))
-          ]
-        where
-          later : IsEarlier when (get_or order place 0) i → ⊥
-          later (inl greater) = omega (arith, less, greater)
-          later (inr same) = omega (arith, less, same.0)
-
-      -- the state refines the state of Algorithm B before the round
-      refines-before : (before : ℕ) → key_at when (get_or order place 0) ≡ suc before → Refines state (algorithm_b net input a before)
-      refines-before before is =
-          let long : length state ≡ length (algorithm_b net input a before) = state-long ∙ sym (length-algorithm_b net input a rounds.long before) in
-          Refines-get_or state (algorithm_b net input a before) long (λ i inside.
-          elim (either-value (value_at (algorithm_b net input a before) i)) [
-            | inl unknown ↦ admits-any (value_at (algorithm_b net input a before) i) (bit_at state i) unknown
-            | inr known ↦ (
-                let equal : value_at b i ≡ value_at (algorithm_b net input a before) i = below-known _ _ known (result-below before i) in
-                elim (either-value (value_at a i)) [
-                  | inl was_unknown ↦ (
-                      let first : IsFirstRound (algorithm_b net input a) i IsKnown (key_at when i) =
-                      first-settling (algorithm_b net input a) i (value_at a i) (value_at b i) (key_at when i)
-                      (rounds.rounds.each i (omega (arith, inside, state-long, rounds.long))) was_unknown (λ e. known (sym equal ∙ e)) in
-                      let early : key_at when i ≤ before = elim (cases_lt before (key_at when i)) [
-                        | inl late ↦ absurd (first.least before late known)
-                        | inr no_later ↦ no_later
-                      ] in
-                      let some : key_at when i ≢ 0 = λ none. subst (λ (n : ℕ). IsKnown (value_at (algorithm_b net input a n) i)) none first.there was_unknown in
-                      subst (λ (value : Tri). IsTrue (admits value (bit_at state i))) equal
-                      (settled.done i (lesser-before i some (omega (arith, early, is))))
-                      )
-                  | inr was_known ↦ (
-                      let none : key_at when i ≡ 0 = unsettling i was_known in
-                      let first_equal : value_at (algorithm_b net input a before) i ≡ value_at a i = below-known _ _ was_known (below-at 0 before i (omega arith)) in
-                      subst (λ (bit : Bool). IsTrue (admits (value_at (algorithm_b net input a before) i) bit)) (sym (kept i (unplaced i none)))
-                      (subst (λ (value : Tri). IsTrue (admits value (bit_at begun i))) (sym first_equal) (get_or-Refines begun a rounds.refined i))
-                      )
-                ]
-                )
+    -- the state refines values from which the result takes what is known, if what becomes known in them has settled
+    refines-settled : (values : List Tri) → length values ≡ length net → ((i : ℕ) → IsKnown (value_at values i) → value_at b i ≡ value_at values i) → ((i : ℕ) → i < length a → IsUnknown (value_at a i) → IsKnown (value_at values i) → (key_at when i ≢ 0) × (key_at when i < round)) → Refines state values
+    refines-settled values long equal early =
+        Refines-get_or state values (state-long ∙ sym long) (λ i inside.
+        elim (either-value (value_at values i)) [
+          | inl unknown ↦ admits-unknown (value_at values i) (bit_at state i) unknown
+          | inr known ↦ subst (λ (value : Tri). IsTrue (admits value (bit_at state i))) (equal i known) (elim (either-value (value_at a i)) [
+            | inl was_unknown ↦ (let is = early i (omega (arith, inside, state-long, rounds.long)) was_unknown known in settled.done i is.0 is.1)
+            | inr was_known ↦
+                subst (λ (bit : Bool). IsTrue (admits (value_at b i) bit)) (sym (kept i was_known))
+                (subst (λ (value : Tri). IsTrue (admits value (bit_at begun i))) (sym (below-known _ _ was_known (result-below 0 i))) (get_or-Refines begun a rounds.refined i))
           ])
-        where
-          admits-any : (value : Tri) (bit : Bool) → IsUnknown value → IsTrue (admits value bit)
-          admits-any value false unknown = rw unknown refl
-          admits-any value true unknown = rw unknown refl
+        ])
+      where
+        unsettling : (i : ℕ) → IsKnown (value_at a i) → key_at when i ≡ 0
+        unsettling i known = elim (cases_lt 0 (key_at when i)) [
+          | inl some ↦ absurd (known (when-first i (λ none. omega (arith, some, none))).0)
+          | inr none ↦ omega (arith, none)
+        ]
 
-          unsettling : (i : ℕ) → IsKnown (value_at a i) → key_at when i ≡ 0
-          unsettling i known = elim (cases_eq (key_at when i) 0) [
-            | inl none ↦ none
-            | inr some ↦ absurd (known (when-first i some).0)
-          ]
+        kept : (i : ℕ) → IsKnown (value_at a i) → bit_at state i ≡ bit_at begun i
+        kept i known = ap (λ (s : List Bool). bit_at s i) (sym settled.ends) ∙ unchanged-end begun made i (settled.still i (inl (unsettling i known)))
 
-      abbrev group : List ℕ
-      group = slice_range order place next
+    -- The next round.
+    module _ {flips : List ℕ} (some_round : round ≢ 0) (are : AreRoundFlips when b state round flips) where
+      -- the state refines the state of Algorithm B before the round
+      refines-before : Refines state (algorithm_b net input a (round - 1))
+      refines-before =
+          refines-settled (algorithm_b net input a (round - 1)) (length-algorithm_b net input a rounds.long (round - 1))
+          (λ i known. below-known _ _ known (result-below (round - 1) i))
+          (λ i inside unknown known.
+          let first = settles i inside unknown (λ e. known (sym (below-known _ _ known (result-below (round - 1) i)) ∙ e)) in (
+            first.0,
+            elim (cases_lt (round - 1) (key_at when i)) [
+              | inl late ↦ absurd (first.1.least (round - 1) late known)
+              | inr early ↦ omega (arith, early, some_round)
+            ],
+          ))
 
-      group-length : length (slice_range order place next) ≡ next - place
-      group-length = length-take (next - place) (drop place order) ∙ min-less
-        where
-          min-less : min (next - place) (length (drop place order)) ≡ next - place
-          min-less = omega (arith, length-drop place order, one.inside)
+      flips-some : (i : ℕ) → is_listed flips i ≡ true → key_at when i ≢ 0
+      flips-some i there none = some_round (sym (are.only i there).0 ∙ none)
 
-      group-at : (k : ℕ) → k < next - place → get_or (slice_range order place next) k 0 ≡ get_or order (place + k) 0
-      group-at k few = get_or-take (next - place) (drop place order) k 0 few ∙ get_or-drop place order k 0
+      flips-inside : (i : ℕ) → is_listed flips i ≡ true → i < length net
+      flips-inside i there = omega (arith, when-inside i (flips-some i there), rounds.long)
 
-      -- a variable of the group
-      group-is : (i : ℕ) → is_listed (slice_range order place next) i ≡ true → (k : ℕ) × (place ≤ k) × (k < next) × (get_or order k 0 ≡ i)
-      group-is i there =
-          let at = listed-place (slice_range order place next) i there in
-          let few : at.0 < next - place = omega (arith, at.1, group-length) in
-          (place + at.0, omega arith, omega (arith, few), sym (group-at at.0 few) ∙ at.2)
-
-      group-round : (i : ℕ) → is_listed (slice_range order place next) i ≡ true → key_at when i ≡ key_at when (get_or order place 0)
-      group-round i there = let is = group-is i there in ap (key_at when) (sym is.3) ∙ one.same is.0 is.1 is.2
-
-      group-some : (i : ℕ) → is_listed (slice_range order place next) i ≡ true → key_at when i ≢ 0
-      group-some i there =
-          let is = group-is i there in
-          (sorted.keyed i).0 (subst (λ (n : ℕ). is_listed order n ≡ true) is.3 (listed-at order is.0 (omega (arith, is.2, one.inside))))
-
-      group-new : (i : ℕ) → is_listed (slice_range order place next) i ≡ true → had_before place order i ≡ false
-      group-new i there = false_from_ne_true _ (λ before.
-          let at = listed-place (take place order) i before in
-          let early : at.0 < place = omega (arith, at.1, length-take place order) in
-          let same : get_or order at.0 0 ≡ i = sym (get_or-take place order at.0 0 early) ∙ at.2 in
-          let less = starts.less at.0 early place-inside in
-          omega (arith, less, ap (key_at when) same, group-round i there))
-
-      abbrev flips : List ℕ
-      flips = differing_variables b state (slice_range order place next)
-
-      -- a variable of the round that has not its value is unstable
-      flips-unstable : (i : ℕ) → is_listed (differing_variables b state (slice_range order place next)) i ≡ true → IsUnstable net input state i
+      flips-unstable : (i : ℕ) → is_listed flips i ≡ true → IsUnstable net input state i
       flips-unstable i there same =
-          let is = filtered-is (λ var. not (admits (value_at b var) (bit_at state var))) (slice_range order place next) i there in
-          let out : admits (value_at b i) (bit_at state i) ≡ false = not-admits _ is.1 in
-          let first = when-first i (group-some i is.0) in
-          let inside : i < length net = omega (arith, when-inside i (group-some i is.0), rounds.long) in
-          by_round (key_at when i) refl (λ before next_is.
-          let here : key_at when (get_or order place 0) ≡ suc before = sym (group-round i is.0) ∙ next_is in
-          let known : IsKnown (value_at (algorithm_b net input a (suc before)) i) = subst (λ (n : ℕ). IsKnown (value_at (algorithm_b net input a n) i)) next_is first.2.there in
-          let equal : value_at b i ≡ value_at (algorithm_b net input a (suc before)) i = below-known _ _ known (result-below (suc before) i) in
+          let is = are.only i there in
+          let next : key_at when i ≡ suc (round - 1) = omega (arith, is.0, some_round) in
+          let known : IsKnown (value_at (algorithm_b net input a (suc (round - 1))) i) =
+          subst (λ (n : ℕ). IsKnown (value_at (algorithm_b net input a n) i)) next (when-first i (flips-some i there)).2.there in
+          let equal : value_at b i ≡ value_at (algorithm_b net input a (suc (round - 1))) i = below-known _ _ known (result-below (suc (round - 1)) i) in
           let excited : IsTrue (admits (value_at b i) (excitation net input state i)) =
-          subst (λ (value : Tri). IsTrue (admits value (excitation net input state i))) (sym (equal ∙ at-excitations net input (algorithm_b net input a before) i inside))
-          (admits-driver_value input state (algorithm_b net input a before) (refines-before before here) (driver_at net i)) in
-          both_ways _ out (subst (λ (bit : Bool). IsTrue (admits (value_at b i) bit)) (sym same) excited)) first.2.there first.0
-        where
-          by_round : (round : ℕ) → key_at when i ≡ round → ((before : ℕ) → key_at when i ≡ suc before → ⊥) → IsKnown (value_at (algorithm_b net input a (key_at when i)) i) → IsUnknown (value_at a i) → ⊥
-          by_round zero is later known unknown = subst (λ (n : ℕ). IsKnown (value_at (algorithm_b net input a n) i)) is known unknown
-          by_round (suc before) is later known unknown = later before is
+          subst (λ (value : Tri). IsTrue (admits value (excitation net input state i))) (sym (equal ∙ at-excitations net input (algorithm_b net input a (round - 1)) i (flips-inside i there)))
+          (admits-driver_value input state (algorithm_b net input a (round - 1)) refines-before (driver_at net i)) in
+          both_ways _ is.1 (subst (λ (bit : Bool). IsTrue (admits (value_at b i) bit)) (sym same) excited)
 
-      group-ascends : Ascends 0 (slice_range order place next)
-      group-ascends =
-          ascends-of 0 (slice_range order place next) (λ k few. omega arith) (λ j k less few.
-          let short : k < next - place = omega (arith, few, group-length) in
-          let one_at = group-at j (omega (arith, less, short)) in
-          let two_at = group-at k short in
-          let first_key = one.same (place + j) (omega arith) (omega (arith, less, short)) in
-          let second_key = one.same (place + k) (omega arith) (omega (arith, short)) in
-          number (sorted.ordered (place + j) (place + k) (omega (arith, less)) (omega (arith, short, one.inside))) first_key second_key one_at two_at)
-        where
-          ascends-of : (low : ℕ) (list : List ℕ) → ((k : ℕ) → k < length list → low ≤ get_or list k 0) → ((j k : ℕ) → j < k → k < length list → get_or list j 0 < get_or list k 0) → Ascends low list
-          ascends-of low [] above pairs = tt
-          ascends-of low (x ∷ list) above pairs =
-              (above 0 (omega arith), ascends-of (suc x) list (λ k few. pairs 0 (suc k) (omega arith) (omega (arith, few))) (λ j k less few. pairs (suc j) (suc k) (omega (arith, less)) (omega (arith, few))))
-
-          number : {one_var two_var here there : ℕ} → IsEarlier when one_var two_var → key_at when one_var ≡ key_at when (get_or order place 0) → key_at when two_var ≡ key_at when (get_or order place 0) → here ≡ one_var → there ≡ two_var → here < there
-          number (inl less) first_key second_key here there = absurd (omega (arith, less, first_key, second_key))
-          number (inr same) first_key second_key here there = omega (arith, same.1, here, there)
-
-      pub flips-step : differing_variables b state (slice_range order place next) ≢ [] → IsStep net input state (differing_variables b state (slice_range order place next))
-      flips-step some = record {
-        some = some;
-        once = ascends-once 0 (differing_variables b state (slice_range order place next)) (ascends-filter (λ var. not (admits (value_at b var) (bit_at state var))) 0 (slice_range order place next) group-ascends);
-        inside = λ i there.
-            let is = filtered-is (λ var. not (admits (value_at b var) (bit_at state var))) (slice_range order place next) i there in
-            omega (arith, when-inside i (group-some i is.0), rounds.long);
-        unstable = flips-unstable;
-      }
-
-      -- who stands before the next round
-      had-at : (k bound i : ℕ) → k < bound → k < length order → get_or order k 0 ≡ i → had_before bound order i ≡ true
-      had-at k bound i few inside is =
-          subst (λ (n : ℕ). is_listed (take bound order) n ≡ true) (get_or-take bound order k 0 few ∙ is)
-          (listed-at (take bound order) k (omega (arith, few, inside, length-take bound order)))
-
-      had-later : (i : ℕ) → had_before place order i ≡ true → had_before next order i ≡ true
-      had-later i there =
-          let at = listed-place (take place order) i there in
-          let early : at.0 < place = omega (arith, at.1, length-take place order) in
-          had-at at.0 next i (omega (arith, early, one.more)) (omega (arith, at.1, length-take place order)) (sym (get_or-take place order at.0 0 early) ∙ at.2)
-
-      had-group : (i : ℕ) → is_listed (slice_range order place next) i ≡ true → had_before next order i ≡ true
-      had-group i there = let is = group-is i there in had-at is.0 next i is.2 (omega (arith, is.2, one.inside)) is.3
-
-      had-either : (i : ℕ) → had_before next order i ≡ true → (had_before place order i ≡ true) ⊎ (is_listed (slice_range order place next) i ≡ true)
-      had-either i there =
-          let at = listed-place (take next order) i there in
-          let few : at.0 < next = omega (arith, at.1, length-take next order) in
-          let inside : at.0 < length order = omega (arith, at.1, length-take next order) in
-          let is : get_or order at.0 0 ≡ i = sym (get_or-take next order at.0 0 few) ∙ at.2 in
-          elim (cases_lt at.0 place) [
-            | inl early ↦ inl (had-at at.0 place i early inside is)
-            | inr late ↦ inr (
-                let here : at.0 - place < next - place = omega (arith, few, late) in
-                let same : place + (at.0 - place) ≡ at.0 = omega (arith, late) in
-                subst (λ (n : ℕ). is_listed (slice_range order place next) n ≡ true)
-                (group-at (at.0 - place) here ∙ (ap (λ (n : ℕ). get_or order n 0) same ∙ is))
-                (listed-at (slice_range order place next) (at.0 - place) (omega (arith, here, group-length)))
-                )
-          ]
-
-      flips-group : (i : ℕ) → is_listed (differing_variables b state (slice_range order place next)) i ≡ true → is_listed (slice_range order place next) i ≡ true
-      flips-group i there = (filtered-is (λ var. not (admits (value_at b var) (bit_at state var))) (slice_range order place next) i there).0
-
-      done-after : (i : ℕ) → had_before next order i ≡ true → IsTrue (admits (value_at b i) (bit_at (state_after (differing_variables b state (slice_range order place next)) state) i))
-      done-after i there =
-          elim (cases_Bool (is_listed (differing_variables b state (slice_range order place next)) i)) [
-            | inl flips_it ↦ (
-                let is = filtered-is (λ var. not (admits (value_at b var) (bit_at state var))) (slice_range order place next) i flips_it in
-                subst (λ (bit : Bool). IsTrue (admits (value_at b i) bit))
-                (sym (state_after-listed (differing_variables b state (slice_range order place next)) state i (omega (arith, when-inside i (group-some i is.0), rounds.long, state-long)) flips_it))
-                (other-admitted (value_at b i) (bit_at state i) (not-admits _ is.1))
-                )
+      done-after : (i : ℕ) → key_at when i ≢ 0 → key_at when i < suc round → IsTrue (admits (value_at b i) (bit_at (state_after flips state) i))
+      done-after i some less =
+          elim (cases_Bool (is_listed flips i)) [
+            | inl there ↦
+                subst (λ (bit : Bool). IsTrue (admits (value_at b i) bit)) (sym (state_after-listed flips state i (omega (arith, flips-inside i there, state-long)) there))
+                (other-admitted (value_at b i) (bit_at state i) (are.only i there).1)
             | inr stays ↦
-                subst (λ (bit : Bool). IsTrue (admits (value_at b i) bit)) (sym (state_after-unlisted (differing_variables b state (slice_range order place next)) state i stays))
-                (elim (had-either i there) [
-                  | inl before ↦ settled.done i before
-                  | inr here ↦ elim (cases_Bool (admits (value_at b i) (bit_at state i))) [
+                subst (λ (bit : Bool). IsTrue (admits (value_at b i) bit)) (sym (state_after-unlisted flips state i stays))
+                (elim (cases_lt (key_at when i) round) [
+                  | inl early ↦ settled.done i some early
+                  | inr now ↦ elim (cases_Bool (admits (value_at b i) (bit_at state i))) [
                     | inl has ↦ has
-                    | inr lacks ↦ absurd (both_ways _ stays (is-filtered (λ var. not (admits (value_at b var) (bit_at state var))) (slice_range order place next) i here (admits-not _ lacks)))
+                    | inr lacks ↦ absurd (both_ways _ stays (are.all i (omega (arith, now, less)) lacks))
                   ]
                 ])
           ]
 
-      once-after : (i : ℕ) → changes_in (with_step_if_any made (differing_variables b state (slice_range order place next))) i ≤ turns (had_before next order) i
+      once-after : (i : ℕ) → changes_in (with_step_if_any made flips) i ≤ 1
       once-after i =
-          let more = changes-after made (differing_variables b state (slice_range order place next)) i in
-          elim (cases_Bool (is_listed (differing_variables b state (slice_range order place next)) i)) [
-            | inl flips_it ↦ (
-                let zero : turns (had_before place order) i ≤ 0 = rw (group-new i (flips-group i flips_it)) (omega arith) in
-                let one_more : listed (differing_variables b state (slice_range order place next)) i ≤ 1 = rw flips_it (omega arith) in
-                let now_there : 1 ≤ turns (had_before next order) i = rw (had-group i (flips-group i flips_it)) (omega arith) in
-                omega (arith, more, settled.once i, zero, one_more, now_there)
+          elim (cases_Bool (is_listed flips i)) [
+            | inl there ↦ (
+                let one : listed flips i ≡ 1 = rw there refl in
+                omega (arith, changes-after made flips i, one, settled.still i (inr (omega (arith, (are.only i there).0))))
                 )
-            | inr stays ↦ omega (arith, more, listed-none (differing_variables b state (slice_range order place next)) i stays, settled.once i, later i)
+            | inr stays ↦ omega (arith, changes-after made flips i, listed-none flips i stays, settled.once i)
           ]
-        where
-          later : (i : ℕ) → turns (had_before place order) i ≤ turns (had_before next order) i
-          later i = elim (cases_Bool (had_before place order i)) [
-            | inl there ↦ rw (there, had-later i there) (omega arith)
-            | inr out ↦ rw out (omega arith)
-          ]
+
+      still-after : (i : ℕ) → (key_at when i ≡ 0) ⊎ (suc round ≤ key_at when i) → changes_in (with_step_if_any made flips) i ≡ 0
+      still-after i either =
+          let apart : key_at when i ≢ round = λ here. elim either [ inl none ↦ some_round (sym here ∙ none) | inr late ↦ omega (arith, late, here) ] in
+          let before = settled.still i (elim either [ inl none ↦ inl none | inr late ↦ inr (omega (arith, late)) ]) in
+          omega (arith, changes-after made flips i, before, listed-none flips i (false_from_ne_true _ (λ there. apart (are.only i there).0)))
 
       -- after the round
-      pub settled-after : IsSettledTo net input b begun order next (with_step_if_any made (differing_variables b state (slice_range order place next))) (state_after (differing_variables b state (slice_range order place next)) state)
+      pub settled-after : IsSettledTo net input when b begun (suc round) (with_step_if_any made flips) (state_after flips state)
       settled-after = record {
-        run = run-after net input begun made (differing_variables b state (slice_range order place next)) settled.run
-            (λ some. subst (λ (s : List Bool). IsStep net input s (differing_variables b state (slice_range order place next))) (sym settled.ends) (flips-step some));
-        ends = end_of-after begun made (differing_variables b state (slice_range order place next)) ∙ ap (state_after (differing_variables b state (slice_range order place next))) settled.ends;
+        run = run-after net input begun made flips settled.run (λ some. subst (λ (s : List Bool). IsStep net input s flips) (sym settled.ends)
+            (record { some = some; once = are.once; inside = flips-inside; unstable = flips-unstable }));
+        ends = end_of-after begun made flips ∙ ap (state_after flips) settled.ends;
         done = done-after;
         once = once-after;
+        still = still-after;
       }
 
-      pub starts-after : IsRoundStart when order next
-      starts-after = record {
-        less = λ j few inside.
-            let more : key_at when (get_or order place 0) < key_at when (get_or order next 0) =
-            greater (sorted.ordered place next one.more inside) (one.beyond inside) in
-            elim (cases_lt j place) [
-              | inl early ↦ (let before = starts.less j early place-inside in omega (arith, before, more))
-              | inr late ↦ (let same = one.same j late few in omega (arith, same, more))
-            ];
-      }
-        where
-          greater : IsEarlier when (get_or order place 0) (get_or order next 0) → key_at when (get_or order next 0) ≢ key_at when (get_or order place 0) → key_at when (get_or order place 0) < key_at when (get_or order next 0)
-          greater (inl less) other = less
-          greater (inr same) other = absurd (other (sym same.0))
-
-    -- at the end of the order
-    pub settled-end : length order ≤ place → IsSettlingRun net input when b begun made state
-    settled-end end = record {
+    -- after all rounds
+    pub settled-end : ((i : ℕ) → key_at when i ≢ 0 → key_at when i < round) → IsSettlingRun net input when b begun made state
+    settled-end all = record {
       run = settled.run;
       ends = settled.ends;
-      values = Refines-get_or state b (state-long ∙ sym net-long) (λ i inside.
-          elim (either-value (value_at b i)) [
-            | inl unknown ↦ admits-any (value_at b i) (bit_at state i) unknown
-            | inr known ↦ elim (either-value (value_at a i)) [
-              | inl was_unknown ↦ (
-                  let first : IsFirstRound (algorithm_b net input a) i IsKnown (key_at when i) =
-                  first-settling (algorithm_b net input a) i (value_at a i) (value_at b i) (key_at when i)
-                  (rounds.rounds.each i (omega (arith, inside, state-long, rounds.long))) was_unknown known in
-                  let some : key_at when i ≢ 0 = λ none. subst (λ (n : ℕ). IsKnown (value_at (algorithm_b net input a n) i)) none first.there was_unknown in
-                  settled.done i (ap (λ (list : List ℕ). is_listed list i) (take_all place order end) ∙ (sorted.keyed i).1 some)
-                  )
-              | inr was_known ↦ (
-                  let equal : value_at b i ≡ value_at a i = below-known _ _ was_known (result-below 0 i) in
-                  let none : key_at when i ≡ 0 = elim (cases_eq (key_at when i) 0) [
-                    | inl none ↦ none
-                    | inr some ↦ absurd (was_known (when-first i some).0)
-                  ] in
-                  subst (λ (bit : Bool). IsTrue (admits (value_at b i) bit)) (sym (kept i (unplaced i none)))
-                  (subst (λ (value : Tri). IsTrue (admits value (bit_at begun i))) (sym equal) (get_or-Refines begun a rounds.refined i))
-                  )
-            ]
-          ]);
-      once = λ i. omega (arith, settled.once i, at-most (had_before place order i));
-      still = λ i none. (let zero : turns (had_before place order) i ≤ 0 = rw (unplaced i none) (omega arith) in omega (arith, settled.once i, zero));
+      values = refines-settled b net-long (λ i known. refl) (λ i inside unknown known. let some = (settles i inside unknown known).0 in (some, all i some));
+      once = settled.once;
+      still = λ i none. settled.still i (inl none);
     }
-      where
-        at-most : (bit : Bool) → cond bit 1 0 ≤ 1
-        at-most false = omega arith
-        at-most true = omega arith
 
-        admits-any : (value : Tri) (bit : Bool) → IsUnknown value → IsTrue (admits value bit)
-        admits-any value false unknown = rw unknown refl
-        admits-any value true unknown = rw unknown refl
+  -- The rounds can be made, one after the other.
+  round-flips : (state : List Bool) (round : ℕ) → round ≢ 0 → (flips : List ℕ) × AreRoundFlips when b state round flips
+  round-flips state round some =
+      let test : ℕ → Bool = λ i. eqb (key_at when i) round && not (admits (value_at b i) (bit_at state i)) in (
+        filtered_range test 0 (length when),
+        record {
+          once = filtered_range-once test 0 (length when);
+          only = λ i there. let parts = and_parts _ _ (filtered_range-is test 0 (length when) i there).passes in (eqb-true (key_at when i) round parts.0, not-admits _ parts.1);
+          all = λ i here lacks.
+              let inside = key-inside when i (λ none. some (sym here ∙ none)) in
+              let zero_more : 0 + i ≡ i = omega arith in
+              subst (λ (n : ℕ). is_listed (filtered_range test 0 (length when)) n ≡ true) zero_more
+              (is-filtered_range test 0 (length when) i inside (subst (λ (n : ℕ). test n ≡ true) (sym zero_more) (and_from _ _ (eq-eqb (key_at when i) round here) (admits-not _ lacks))));
+        },
+      )
 
--- before the first round
-pub settled-begin : (net : List Driver) (input : List Bool) (b : List Tri) (begun : List Bool) (order : List ℕ) → IsSettledTo net input b begun order 0 [] begun
-settled-begin net input b begun order = record {
-  run = tt;
-  ends = refl;
-  done = λ i there. absurd (both_ways false refl there);
-  once = λ i. omega arith;
-}
+  rounds-to : (count : ℕ) → (made : List (List ℕ)) × ((state : List Bool) × IsSettledTo net input when b begun (suc count) made state)
+  rounds-to zero = ([], (begun, settled-begin net input when b begun))
+  rounds-to (suc count) =
+      let before = rounds-to count in
+      let flips = round-flips before.1.0 (suc count) (λ e. cc) in
+      (with_step_if_any before.0 flips.0, (state_after flips.0 before.1.0, settled-after before.1.1 (λ e. cc) flips.1))
 
-pub starts-begin : (when order : List ℕ) → IsRoundStart when order 0
-starts-begin when order = record { less = λ j few inside. absurd (omega (arith, few)) }
+  pub rounds-found : (steps : List (List ℕ)) × ((end : List Bool) × IsSettlingRun net input when b begun steps end)
+  rounds-found =
+      let made = rounds-to (sum_by (λ (key : ℕ). key) when) in
+      (made.0, (made.1.0, settled-end made.1.1 (λ i some. omega (arith, get_or-le-sum_by (λ (key : ℕ). key) when i 0 (key-inside when i some)))))

@@ -1,35 +1,31 @@
 -- The loops over settling rounds: that a mark may be set, that each step has room, and what holds after it.
-use Rattle.std.proofs.Common.{◌≡◌, ◌≢◌, ℕ, ◌+◌, ◌-◌, ◌<◌, ◌≤◌, Bool, true, false, not, cond, List, [], ◌∷◌, ◌++◌, length, get_or, take, drop, refl, sym, ap, ◌∙◌, subst, arith, inl, inr, append-nil, length-append}
+use Rattle.std.proofs.Common.{◌≡◌, ◌≢◌, ℕ, suc, ◌+◌, ◌-◌, ◌<◌, ◌≤◌, Bool, true, false, not, cond, List, [], ◌∷◌, ◌++◌, length, get_or, take, drop, sym, ap, ◌∙◌, subst, arith, inl, inr, append-nil}
 use Rattle.std.specs.List.{slice_range}
 use Rattle.std.proofs.lemmas.Bool.{cases_lt}
-use Rattle.std.proofs.lemmas.List.{get_or_past, get_or-drop, get_or-take, length-take, length-drop, take_more}
+use Rattle.std.proofs.lemmas.List.{get_or-drop, get_or-take, length-take, length-drop, take_more}
 use Rattle.std.proofs.lemmas.List.Elements.{filter-append}
 use Rattle.hz_core.specs.declared.tri.Tri.{Tri}
 use Rattle.hz_core.specs.Ternary.{admits}
 use Rattle.hz_net.specs.Network.{Driver, bit_at, value_at}
 use Rattle.hz_gmw.specs.Runs.{is_listed, state_after}
-use Rattle.hz_gmw.specs.RunRecord.{RunRecord, flip_count}
+use Rattle.hz_gmw.specs.RunRecord.{RunRecord}
 use Rattle.hz_gmw.proofs.Flips.{length-state_after}
-use Rattle.hz_reach.specs.Counts.{FlipsPerVariable, StepsAreNoMoreThanFlips}
 use Rattle.hz_reach.specs.Order.{key_at, IsEarlier, IsInKeyOrder}
-use Rattle.hz_reach.specs.Room.{with_step_if_any, Spends}
+use Rattle.hz_reach.specs.Room.{with_step_if_any, Spends, HasRoomFor, HasRoomForStep}
 use Rattle.hz_reach.specs.ScratchState.{ScratchState}
 use Rattle.hz_reach.proofs.ListPlaces.{listed-at, listed-place}
 use Rattle.hz_cycle.specs.Rounds.{differing_variables, IsOneRound, AreRoundsOf, AreRoundsMade}
-use Rattle.hz_cycle.proofs.FanOut.{filtered-is}
-use Rattle.hz_cycle.proofs.PassTurns.{had_before, steps-after, flips-after, flips-append, length-after}
-use Rattle.hz_cycle.proofs.RoundSteps.{IsSettledTo, IsRoundStart, settled-begin, starts-begin, settled-after, starts-after, settled-end}
+use Rattle.hz_reach.proofs.DistinctLists.{Ascends, ascends-once, ascends-filter, filtered-is, is-filtered}
+use Rattle.hz_reach.proofs.FlipCounts.{flips_per_variable}
+use Rattle.hz_reach.proofs.ListPlaces.{key-inside}
+use Rattle.hz_reach.proofs.Room.{steps-after, flips-after, room-for-step, room-left, spends-none, spends-more}
+use Rattle.hz_cycle.proofs.RoundSteps.{not-admits, admits-not, IsSettledTo, AreRoundFlips, settled-begin, settled-skip, settled-after, settled-end}
 
 -- One round is marked
 
 -- a variable of the order has a key
 pub order-inside : (keys order : List ℕ) (k : ℕ) → IsInKeyOrder keys order → k < length order → get_or order k 0 < length keys
-order-inside keys order k sorted inside =
-    let some : key_at keys (get_or order k 0) ≢ 0 = (sorted.keyed (get_or order k 0)).0 (listed-at order k inside) in
-    elim (cases_lt (get_or order k 0) (length keys)) [
-      | inl few ↦ few
-      | inr past ↦ absurd (some (get_or_past keys (get_or order k 0) 0 past))
-    ]
+order-inside keys order k sorted inside = key-inside keys (get_or order k 0) ((sorted.keyed (get_or order k 0)).0 (listed-at order k inside))
 
 -- one variable more
 pub slice-more : (order : List ℕ) (from place : ℕ) → from ≤ place → place < length order → slice_range order from (place + 1) ≡ slice_range order from place ++ get_or order place 0 ∷ []
@@ -53,7 +49,7 @@ differing-skip b state list var has =
 -- marks so far are less than the next variable of the round
 pub round-ascends : (keys order : List ℕ) (b : List Tri) (state : List Bool) (from place i : ℕ) → IsInKeyOrder keys order → place < length order → ((k : ℕ) → from ≤ k → k < place + 1 → key_at keys (get_or order k 0) ≡ key_at keys (get_or order from 0)) → is_listed (differing_variables b state (slice_range order from place)) i ≡ true → i < get_or order place 0
 round-ascends keys order b state from place i sorted inside same there =
-    let listed = (filtered-is (λ v. not (admits (value_at b v) (bit_at state v))) (slice_range order from place) i there).0 in
+    let listed = (filtered-is (λ v. not (admits (value_at b v) (bit_at state v))) (slice_range order from place) i there).1 in
     let at = listed-place (slice_range order from place) i listed in
     let few : at.0 < place - from = omega (arith, at.1, length-take (place - from) (drop from order)) in
     let here : get_or order (from + at.0) 0 ≡ i = sym (get_or-take (place - from) (drop from order) at.0 0 few ∙ get_or-drop from order at.0 0) ∙ at.2 in
@@ -68,9 +64,9 @@ round-ascends keys order b state from place i sorted inside same there =
 -- what a call of `settle_rounds` is given
 pub record AreRoundsAsked (when : List ℕ) (b : List Tri) (begun : List Bool) (first : RunRecord) : Type 0 where
   pub rounds : (net : List Driver) × (input : List Bool) × (a : List Tri) × AreRoundsOf net input a when b begun
-  pub flips : length when ≤ first.spare_flips
-  pub steps : length when ≤ first.spare_steps
+  pub room : HasRoomFor (length when) first
 
+-- At a place of the order: the variables before it are those that settle before a round, and they have settled.
 pub record AreRoundsUnderway (when : List ℕ) (b : List Tri) (begun : List Bool) (first : RunRecord) (place : ℕ) (scratch : ScratchState) (now : RunRecord) : Type 0 where
   pub asked : AreRoundsAsked when b begun first
   pub sorted : IsInKeyOrder when scratch.by_round
@@ -79,10 +75,12 @@ pub record AreRoundsUnderway (when : List ℕ) (b : List Tri) (begun : List Bool
   pub made : List (List ℕ)
   pub steps : now.steps ≡ first.steps ++ made
   pub spent : Spends first now
-  pub starts : IsRoundStart when scratch.by_round place
+  pub round : ℕ
+  pub below : (k : ℕ) → k < place → k < length scratch.by_round → key_at when (get_or scratch.by_round k 0) < round
+  pub above : (k : ℕ) → place ≤ k → k < length scratch.by_round → round ≤ key_at when (get_or scratch.by_round k 0)
   pub settled :
       (net : List Driver) (input : List Bool) (a : List Tri) → AreRoundsOf net input a when b begun →
-      IsSettledTo net input b begun scratch.by_round place made scratch.state
+      IsSettledTo net input when b begun round made scratch.state
 
 pub rounds-begin : {when : List ℕ} {b : List Tri} {begun : List Bool} {first : RunRecord} {scratch : ScratchState} → AreRoundsAsked when b begun first → IsInKeyOrder when scratch.by_round → scratch.marked ≡ [] → scratch.state ≡ begun → AreRoundsUnderway when b begun first 0 scratch first
 rounds-begin {when} {b} {begun} {first} {scratch} asked sorted marked state = record {
@@ -92,82 +90,162 @@ rounds-begin {when} {b} {begun} {first} {scratch} asked sorted marked state = re
   long = ap (length {A = Bool}) state;
   made = [];
   steps = sym (append-nil first.steps);
-  spent = record { flips = refl; steps = refl };
-  starts = starts-begin when scratch.by_round;
-  settled = λ net input a rounds. subst (IsSettledTo net input b begun scratch.by_round 0 []) (sym state) (settled-begin net input b begun scratch.by_round);
+  spent = spends-none first;
+  round = 1;
+  below = λ k few inside. absurd (omega (arith, few));
+  above = λ k late inside. (let some = (sorted.keyed (get_or scratch.by_round k 0)).0 (listed-at scratch.by_round k inside) in omega (arith, some));
+  settled = λ net input a rounds. subst (IsSettledTo net input when b begun 1 []) (sym state) (settled-begin net input when b begun);
 }
 
 module _ {when : List ℕ} {b : List Tri} {begun : List Bool} {first : RunRecord} {place : ℕ} {scratch : ScratchState} {now : RunRecord} (underway : AreRoundsUnderway when b begun first place scratch now) where
+  abbrev order : List ℕ
+  order = scratch.by_round
+
+  -- where a variable stands that has a settling round
+  stands : (i : ℕ) → key_at when i ≢ 0 → (k : ℕ) × (k < length order) × (get_or order k 0 ≡ i)
+  stands i some = listed-place order i ((underway.sorted.keyed i).1 some)
+
   module _ {next : ℕ} {flips : List ℕ} (one : IsOneRound when scratch.by_round place next) (marks : flips ≡ differing_variables b scratch.state (slice_range scratch.by_round place next)) where
-    abbrev made_after : List (List ℕ)
-    made_after = with_step_if_any underway.made (differing_variables b scratch.state (slice_range scratch.by_round place next))
+    abbrev here : ℕ
+    here = key_at when (get_or scratch.by_round place 0)
 
-    settled-next : (net : List Driver) (input : List Bool) (a : List Tri) → AreRoundsOf net input a when b begun → IsSettledTo net input b begun scratch.by_round next made_after (state_after (differing_variables b scratch.state (slice_range scratch.by_round place next)) scratch.state)
-    settled-next net input a rounds = settled-after rounds underway.sorted (underway.settled net input a rounds) one underway.starts
+    place-inside : place < length order
+    place-inside = omega (arith, one.more, one.inside)
 
-    few-flips : FlipsPerVariable → flip_count made_after ≤ length when
-    few-flips per_variable =
+    -- what stands at the next round or behind it settles later
+    later : (k : ℕ) → next ≤ k → k < length order → here < key_at when (get_or order k 0)
+    later k behind inside = elim (cases_lt next k) [
+      | inl more ↦ (
+          let then = at-least (underway.sorted.ordered next k more inside) in
+          let first_key = greater (underway.sorted.ordered place next one.more (omega (arith, more, inside))) (one.beyond (omega (arith, more, inside))) in
+          omega (arith, then, first_key)
+          )
+      | inr no_more ↦ (
+          let same : next ≡ k = omega (arith, behind, no_more) in
+          subst (λ (n : ℕ). here < key_at when (get_or order n 0)) same
+          (greater (underway.sorted.ordered place next one.more (omega (arith, same, inside))) (one.beyond (omega (arith, same, inside))))
+          )
+    ]
+      where
+        at-least : {i j : ℕ} → IsEarlier when i j → key_at when i ≤ key_at when j
+        at-least (inl less) = omega (arith, less)
+        at-least (inr same) = omega (arith, same.0)
+
+        greater : {i j : ℕ} → IsEarlier when i j → key_at when j ≢ key_at when i → key_at when i < key_at when j
+        greater (inl less) other = less
+        greater (inr same) other = absurd (other (sym same.0))
+
+    -- the variables of the round
+    abbrev group : List ℕ
+    group = slice_range scratch.by_round place next
+
+    group-length : length group ≡ next - place
+    group-length = length-take (next - place) (drop place order) ∙ omega (arith, length-drop place order, one.inside)
+
+    group-at : (k : ℕ) → k < next - place → get_or group k 0 ≡ get_or order (place + k) 0
+    group-at k few = get_or-take (next - place) (drop place order) k 0 few ∙ get_or-drop place order k 0
+
+    group-round : (i : ℕ) → is_listed group i ≡ true → key_at when i ≡ here
+    group-round i there =
+        let at = listed-place group i there in
+        let few : at.0 < next - place = omega (arith, at.1, group-length) in
+        ap (key_at when) (sym at.2 ∙ group-at at.0 few) ∙ one.same (place + at.0) (omega arith) (omega (arith, few))
+
+    round-group : (i : ℕ) → key_at when i ≡ here → is_listed group i ≡ true
+    round-group i is =
+        let at = stands i (λ none. (underway.sorted.keyed (get_or order place 0)).0 (listed-at order place place-inside) (sym is ∙ none)) in
+        let key : key_at when (get_or order at.0 0) ≡ here = ap (key_at when) at.2 ∙ is in
+        elim (cases_lt at.0 place) [
+          | inl early ↦ absurd (omega (arith, underway.below at.0 early at.1, key, underway.above place (omega arith) place-inside))
+          | inr late ↦ elim (cases_lt at.0 next) [
+            | inl few ↦ (
+                let within : at.0 - place < next - place = omega (arith, few, late) in
+                let same : place + (at.0 - place) ≡ at.0 = omega (arith, late) in
+                subst (λ (n : ℕ). is_listed group n ≡ true) (group-at (at.0 - place) within ∙ (ap (λ (n : ℕ). get_or order n 0) same ∙ at.2))
+                (listed-at group (at.0 - place) (omega (arith, within, group-length)))
+                )
+            | inr behind ↦ absurd (omega (arith, later at.0 behind at.1, key))
+          ]
+        ]
+
+    group-ascends : Ascends 0 group
+    group-ascends =
+        ascends-of 0 group (λ k few. omega arith) (λ j k less few.
+        let short : k < next - place = omega (arith, few, group-length) in
+        number (underway.sorted.ordered (place + j) (place + k) (omega (arith, less)) (omega (arith, short, one.inside)))
+        (one.same (place + j) (omega arith) (omega (arith, less, short))) (one.same (place + k) (omega arith) (omega (arith, short)))
+        (group-at j (omega (arith, less, short))) (group-at k short))
+      where
+        ascends-of : (low : ℕ) (list : List ℕ) → ((k : ℕ) → k < length list → low ≤ get_or list k 0) → ((j k : ℕ) → j < k → k < length list → get_or list j 0 < get_or list k 0) → Ascends low list
+        ascends-of low [] bound pairs = tt
+        ascends-of low (x ∷ list) bound pairs =
+            (bound 0 (omega arith), ascends-of (suc x) list (λ k few. pairs 0 (suc k) (omega arith) (omega (arith, few))) (λ j k less few. pairs (suc j) (suc k) (omega (arith, less)) (omega (arith, few))))
+
+        number : {i j left right : ℕ} → IsEarlier when i j → key_at when i ≡ here → key_at when j ≡ here → left ≡ i → right ≡ j → left < right
+        number (inl less) first_key second_key is_left is_right = absurd (omega (arith, less, first_key, second_key))
+        number (inr same) first_key second_key is_left is_right = omega (arith, same.1, is_left, is_right)
+
+    abbrev lacks : ℕ → Bool
+    lacks var = not (admits (value_at b var) (bit_at scratch.state var))
+
+    flips-are : AreRoundFlips when b scratch.state here flips
+    flips-are = subst (AreRoundFlips when b scratch.state here) (sym marks) (record {
+      once = ascends-once 0 (differing_variables b scratch.state group) (ascends-filter lacks 0 group group-ascends);
+      only = λ i there. let is = filtered-is lacks group i there in (group-round i is.1, not-admits _ is.0);
+      all = λ i is lacking. is-filtered lacks group i (round-group i is) (admits-not _ lacking);
+    })
+
+    settled-next : (net : List Driver) (input : List Bool) (a : List Tri) → AreRoundsOf net input a when b begun → IsSettledTo net input when b begun (suc here) (with_step_if_any underway.made flips) (state_after flips scratch.state)
+    settled-next net input a rounds =
+        settled-after rounds (settled-skip (underway.settled net input a rounds) (underway.above place (omega arith) place-inside) none)
+        ((underway.sorted.keyed (get_or order place 0)).0 (listed-at order place place-inside)) flips-are
+      where
+        none : (i : ℕ) → key_at when i ≢ 0 → key_at when i < here → key_at when i < underway.round
+        none i some less =
+            let at = stands i some in
+            let key : key_at when (get_or order at.0 0) ≡ key_at when i = ap (key_at when) at.2 in
+            elim (cases_lt at.0 place) [
+              | inl early ↦ omega (arith, underway.below at.0 early at.1, key)
+              | inr late ↦ elim (cases_lt at.0 next) [
+                | inl few ↦ absurd (omega (arith, one.same at.0 late few, key, less))
+                | inr behind ↦ absurd (omega (arith, later at.0 behind at.1, key, less))
+              ]
+            ]
+
+    -- a round has room, since no variable changes in two of them
+    pub round-room : HasRoomForStep flips now
+    round-room =
         let net = underway.asked.rounds.0 in
         let input = underway.asked.rounds.1 in
         let rounds = underway.asked.rounds.3 in
-        let settled = settled-next net input underway.asked.rounds.2 rounds in
-        omega (arith, per_variable net input begun made_after 1 settled.run (λ i. omega (arith, settled.once i, at-most (had_before next scratch.by_round i))), rounds.long, rounds.rounds.long)
-      where
-        at-most : (bit : Bool) → cond bit 1 0 ≤ 1
-        at-most false = omega arith
-        at-most true = omega arith
-
-    few-steps : FlipsPerVariable → StepsAreNoMoreThanFlips → length made_after ≤ length when
-    few-steps per_variable no_more =
-        let settled = settled-next underway.asked.rounds.0 underway.asked.rounds.1 underway.asked.rounds.2 underway.asked.rounds.3 in
-        omega (arith, no_more underway.asked.rounds.0 underway.asked.rounds.1 begun made_after settled.run, few-flips per_variable)
-
-    flips-so-far : flip_count now.steps ≡ flip_count first.steps + flip_count underway.made
-    flips-so-far = ap flip_count underway.steps ∙ flips-append first.steps underway.made
-
-    steps-so-far : length now.steps ≡ length first.steps + length underway.made
-    steps-so-far = ap (length {A = List ℕ}) underway.steps ∙ length-append first.steps underway.made
-
-    pub round-flips : FlipsPerVariable → length flips ≤ now.spare_flips
-    round-flips per_variable =
-        omega (arith, few-flips per_variable, flips-after underway.made (differing_variables b scratch.state (slice_range scratch.by_round place next)), ap (length {A = ℕ}) marks, flips-so-far, underway.spent.flips, underway.asked.flips)
-
-    pub round-steps : FlipsPerVariable → StepsAreNoMoreThanFlips → flips ≢ [] → 1 ≤ now.spare_steps
-    round-steps per_variable no_more some =
-        omega (
-          arith,
-          few-steps per_variable no_more,
-          length-after underway.made (differing_variables b scratch.state (slice_range scratch.by_round place next)) (λ none. some (marks ∙ none)),
-          steps-so-far,
-          underway.spent.steps,
-          underway.asked.steps,
-        )
+        let then = settled-next net input underway.asked.rounds.2 rounds in
+        room-for-step flips now
+        (room-left net input begun underway.made (length flips) (underway.settled net input underway.asked.rounds.2 rounds).run underway.steps underway.spent underway.asked.room
+        (omega (arith, flips_per_variable net input begun (with_step_if_any underway.made flips) 1 then.run then.once, flips-after underway.made flips, rounds.long, rounds.rounds.long)))
 
     pub rounds-next : {last : ScratchState} {end : RunRecord} → last.by_round ≡ scratch.by_round → last.marked ≡ [] → last.state ≡ state_after flips scratch.state → end.steps ≡ with_step_if_any now.steps flips → Spends now end → AreRoundsUnderway when b begun first next last end
-    rounds-next {last} {end} sorted marked state steps spent =
-        let here : last.state ≡ state_after (differing_variables b scratch.state (slice_range scratch.by_round place next)) scratch.state =
-        state ∙ ap (λ (list : List ℕ). state_after list scratch.state) marks in
-        let rounds = underway.asked.rounds in
-        record {
-          asked = underway.asked;
-          sorted = subst (IsInKeyOrder when) (sym sorted) underway.sorted;
-          marked = marked;
-          long = ap (length {A = Bool}) here ∙ (length-state_after (differing_variables b scratch.state (slice_range scratch.by_round place next)) scratch.state ∙ underway.long);
-          made = made_after;
-          steps =
-              steps
-              ∙ (ap (λ (list : List (List ℕ)). with_step_if_any list flips) underway.steps
-              ∙ (steps-after underway.made flips first.steps ∙ ap (λ (list : List ℕ). first.steps ++ with_step_if_any underway.made list) marks));
-          spent = record { flips = omega (arith, underway.spent.flips, spent.flips); steps = omega (arith, underway.spent.steps, spent.steps) };
-          starts = subst (λ (list : List ℕ). IsRoundStart when list next) (sym sorted) (starts-after rounds.3 underway.sorted (underway.settled rounds.0 rounds.1 rounds.2 rounds.3) one underway.starts);
-          settled = λ net input a given.
-              subst (λ (list : List ℕ). IsSettledTo net input b begun list next made_after last.state) (sym sorted)
-              (subst (IsSettledTo net input b begun scratch.by_round next made_after) (sym here) (settled-next net input a given));
-        }
+    rounds-next {last} {end} sorted marked state steps spent = record {
+      asked = underway.asked;
+      sorted = subst (IsInKeyOrder when) (sym sorted) underway.sorted;
+      marked = marked;
+      long = ap (length {A = Bool}) state ∙ (length-state_after flips scratch.state ∙ underway.long);
+      made = with_step_if_any underway.made flips;
+      steps = steps ∙ (ap (λ (list : List (List ℕ)). with_step_if_any list flips) underway.steps ∙ steps-after first.steps underway.made flips);
+      spent = spends-more underway.spent spent;
+      round = suc here;
+      below = subst (λ (list : List ℕ). (k : ℕ) → k < next → k < length list → key_at when (get_or list k 0) < suc here) (sym sorted) (λ k few inside. elim (cases_lt k place) [
+        | inl early ↦ omega (arith, underway.below k early inside, underway.above place (omega arith) place-inside)
+        | inr late ↦ omega (arith, one.same k late few)
+      ]);
+      above = subst (λ (list : List ℕ). (k : ℕ) → next ≤ k → k < length list → suc here ≤ key_at when (get_or list k 0)) (sym sorted) later;
+      settled = λ net input a rounds. subst (IsSettledTo net input when b begun (suc here) (with_step_if_any underway.made flips)) (sym state) (settled-next net input a rounds);
+    }
 
   pub rounds-end : length scratch.by_round ≤ place → AreRoundsMade when b begun first.steps now.steps scratch.state
   rounds-end end = record {
     made = underway.made;
     whole = underway.steps;
-    settling = λ net input a rounds. settled-end rounds underway.sorted (underway.settled net input a rounds) end;
+    settling = λ net input a rounds. settled-end rounds (underway.settled net input a rounds) (λ i some.
+        let at = stands i some in
+        omega (arith, underway.below at.0 (omega (arith, at.1, end)) at.1, ap (key_at when) at.2));
   }

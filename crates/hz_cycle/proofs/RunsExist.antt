@@ -1,55 +1,86 @@
 -- From every stable start, under every input, there are a settle run and a cycle at its end: the spread run, the settling
--- rounds and one pass, and then two passes. So Algorithm B is exact.
-use Rattle.std.proofs.Common.{◌≡◌, ℕ, ◌++◌, Bool, List, refl, subst}
+-- rounds and one pass, and then two passes. They show that Algorithm B is exact.
+use Rattle.std.proofs.Common.{◌≡◌, ℕ, Bool, not, List, length, refl, sym, ap, ◌∙◌, subst, Contains, IsTrue, ◌++◌}
 use Rattle.hz_core.specs.declared.tri.Tri.{Tri}
+use Rattle.hz_core.specs.Ternary.{admits, Refines, IsJoinOf}
+use Rattle.hz_core.proofs.Refinements.{get_or-Refines}
+use Rattle.hz_net.specs.Network.{Driver, bit_at, value_at, network_of}
+use Rattle.hz_net.specs.Passes.{algorithm_a, algorithm_b, AreRounds, AreSettlingRounds}
+use Rattle.hz_gmw.specs.Runs.{IsRun, end_of}
+use Rattle.hz_gmw.specs.Cycles.{states_of, IsOutcome}
+use Rattle.hz_gmw.proofs.Paths.{IsRun-front, IsCut, cut-member}
+use Rattle.hz_reach.proofs.Exact.{joins-by}
+use Rattle.hz_reach.specs.Existence.{ResultOfAExists, ResultOfBExists, RanksExist, SettlingRoundsExist, SparingRunExists}
+use Rattle.hz_cycle.specs.Exact.{RunsShowB, HasSettleRunAndCycle, SettleRunsExist, BIsExact, OutcomesExist}
+use Rattle.hz_cycle.proofs.CycleExists.{cycle-found}
 use Rattle.hz_core.specs.declared.tri.Tri.TheVariants.{Zero, One, Unknown}
 use Rattle.hz_core.specs.Netlist.{Netlist, IsCircuit}
-use Rattle.hz_core.specs.Ternary.{IsJoinOf}
-use Rattle.hz_net.specs.Network.{network_of, bit_at, value_at}
-use Rattle.hz_net.specs.Passes.{algorithm_a, algorithm_b, AreSettlingRounds}
 use Rattle.hz_net.specs.Starts.{IsStableStart}
 use Rattle.hz_net.proofs.Wired.{wired-network_of}
-use Rattle.hz_gmw.specs.Runs.{end_of}
-use Rattle.hz_gmw.specs.Cycles.{IsOutcome}
-use Rattle.hz_reach.specs.Counts.{FlipsAreChanges, StepsAreNoMoreThanFlips, FlipsPerUnknown, EndsByChanges}
-use Rattle.hz_reach.specs.Existence.{ResultOfAExists, ResultOfBExists, RanksExist, SettlingRoundsExist, SparingRunExists}
 use Rattle.hz_reach.specs.Spread.{IsSparingRun}
 use Rattle.hz_cycle.specs.Cycles.{IsCycleOf}
-use Rattle.hz_cycle.specs.Exact.{RunsShowB, HasSettleRunAndCycle, SettleRunsExist, BIsExact, OutcomesExist}
 use Rattle.hz_cycle.specs.Pass.{MayBegin, IsPass}
 use Rattle.hz_cycle.specs.Turned.{IsTurned}
-use Rattle.hz_cycle.proofs.Change.{IsChange, change-fixed, unsettled-ranked, ranks-long}
-use Rattle.hz_cycle.proofs.CycleExists.{cycle-found}
-use Rattle.hz_cycle.proofs.WireTargets.{goes-somewhere}
-use Rattle.hz_cycle.proofs.OrderExists.{order-found}
-use Rattle.hz_cycle.proofs.PassExists.{pass-found}
-use Rattle.hz_cycle.proofs.RoundsExist.{rounds-found}
-use Rattle.hz_cycle.proofs.SettleRunExists.{IsBeforePass, given-change, rounds-may-begin, pass-may-begin, settle-found, settle-end}
+use Rattle.hz_cycle.proofs.Change.{IsChange, change-fixed, unsettled-ranked}
+use Rattle.hz_cycle.proofs.PassTurns.{pass-found}
+use Rattle.hz_cycle.proofs.RoundSteps.{rounds-found}
+use Rattle.hz_cycle.proofs.SettleRunExists.{IsBeforePass, rounds-may-begin, pass-may-begin, settle-found, settle-end}
 use Rattle.hz_cycle.proofs.TurnedStates.{turned-may-begin}
+use Rattle.hz_cycle.proofs.StepLemmas.{contains-begin}
 
--- what is known of how often runs change variables
-record AreCounted : Type 0 where
-  changes : FlipsAreChanges
-  fewer : StepsAreNoMoreThanFlips
-  per_unknown : FlipsPerUnknown
-  ends : EndsByChanges
+-- Algorithm B covers the outcome states
+abbrev pub Covers : Type 0
+Covers =
+    (net : List Driver) (input start state : List Bool) (rounds round : ℕ) → length start ≡ length net → AreRounds (algorithm_a net input start) rounds →
+    IsOutcome net input start state → Refines state (algorithm_b net input (algorithm_a net input start rounds) round)
 
-module _ {netlist : Netlist} {input start : List Bool} {a : List Tri} {ranks : List ℕ} {b : List Tri} (counted : AreCounted) (circuit : IsCircuit netlist) (change : IsChange (network_of netlist) input start a ranks b) where
+pub runs_show_b : Covers → RunsShowB
+runs_show_b covers net input start a b settle cycle i long a_result b_result is_settle is_cycle =
+    let first = end_of start settle in
+    let admitted : (state : List Bool) → IsOutcome net input start state → IsTrue (admits (value_at b i) (bit_at state i)) =
+    λ state outcome.
+    get_or-Refines state b
+    (subst (Refines state) (sym (b_result.2 ∙ ap (λ (values : List Tri). algorithm_b net input values b_result.0) a_result.2))
+    (covers net input start state a_result.0 b_result.0 long a_result.1 outcome)) i in
+    joins-by (λ bit. (state : List Bool) × IsOutcome net input start state × (bit_at state i ≡ bit)) (value_at b i) (bit_at first i)
+    (first, outcome first (contains-begin first cycle), refl)
+    (λ other there. subst (λ (bit : Bool). IsTrue (admits (value_at b i) bit)) there.2 (admitted there.0 there.1))
+    (λ unknown. let shown = is_cycle.both i (not (bit_at first i)) unknown in (shown.0, outcome shown.0 shown.1, shown.2))
+  where
+    -- each state of the cycle is an outcome state
+    outcome : (member : List Bool) → Contains (states_of (end_of start settle) cycle) member → IsOutcome net input start member
+    outcome member there =
+        let cut : IsCut (end_of start settle) cycle member = cut-member (end_of start settle) member cycle there in
+        record {
+          first = end_of start settle;
+          steps = cycle;
+          cycle = is_cycle.nontransient;
+          member = end_of start settle;
+          on_cycle = contains-begin (end_of start settle) cycle;
+          reached = (settle, is_settle.run, refl);
+          onward = (
+            cut.earlier,
+            IsRun-front net input (end_of start settle) cut.earlier cut.later
+                (subst (IsRun net input (end_of start settle)) (sym cut.whole) is_cycle.nontransient.cycle.run),
+            cut.here,
+          );
+        }
+
+module _ {netlist : Netlist} {input start : List Bool} {a : List Tri} {ranks : List ℕ} {b : List Tri} (circuit : IsCircuit netlist) (change : IsChange (network_of netlist) input start a ranks b) where
   pass : (begun : List Bool) → MayBegin (network_of netlist) ranks b begun → (made : List (List ℕ)) × ((state : List Bool) × IsPass (network_of netlist) input ranks b begun made state)
-  pass begun begins = pass-found circuit (change-fixed change) (ranks-long change) (unsettled-ranked change) counted.changes counted.fewer begins
+  pass begun begins = pass-found circuit (change-fixed change) (unsettled-ranked change) begins
 
   -- the cycle of a turned state
   cycle : (state : List Bool) → IsTurned (network_of netlist) ranks b state → (steps : List (List ℕ)) × IsCycleOf (network_of netlist) input b state steps
   cycle state turned =
       let once = pass state (turned-may-begin turned) in
       let again = pass once.1.0 (turned-may-begin once.1.1.turned) in
-      (once.0 ++ again.0, cycle-found (wired-network_of netlist circuit) (change-fixed change) (goes-somewhere netlist circuit) turned once.1.1 again.1.1 counted.per_unknown counted.fewer)
+      (once.0 ++ again.0, cycle-found (wired-network_of netlist circuit) (change-fixed change) turned once.1.1 again.1.1)
 
   -- the settle run, and the cycle at its end
   both : {when : List ℕ} {spread : List (List ℕ)} → IsStableStart netlist start → AreSettlingRounds (algorithm_b (network_of netlist) input a) a b when → IsSparingRun (network_of netlist) input start a ranks spread → HasSettleRunAndCycle (network_of netlist) input start a b
   both {when} {spread} begins rounds sparing =
-      let order = order-found when in
-      let settled = rounds-found (rounds-may-begin change rounds sparing refl) order.0 order.1 in
+      let settled = rounds-found (rounds-may-begin change rounds sparing refl) in
       let before : IsBeforePass netlist input start a ranks when b spread (end_of start spread) settled.0 settled.1.0 = record {
         circuit = circuit;
         begins = begins;
@@ -59,23 +90,22 @@ module _ {netlist : Netlist} {input start : List Bool} {a : List Tri} {ranks : L
         spread_end = refl;
         settling = settled.1.1;
       } in
-      let last = pass settled.1.0 (pass-may-begin before counted.ends) in
+      let last = pass settled.1.0 (pass-may-begin before) in
       let round = cycle last.1.0 last.1.1.turned in
       record {
         settle = (spread ++ settled.0) ++ last.0;
         cycle = round.0;
-        is_settle = settle-found before counted.per_unknown counted.ends last.1.1;
+        is_settle = settle-found before last.1.1;
         is_cycle = subst (λ (state : List Bool). IsCycleOf (network_of netlist) input b state round.0) (settle-end before last.1.1) round.1;
       }
 
-pub settle_runs_exist : FlipsAreChanges → StepsAreNoMoreThanFlips → FlipsPerUnknown → EndsByChanges → RanksExist → SettlingRoundsExist → SparingRunExists → SettleRunsExist
-settle_runs_exist changes fewer per_unknown ends ranks_exist rounds_exist sparing_exists netlist input start a b circuit begins a_result b_result =
+pub settle_runs_exist : RanksExist → SettlingRoundsExist → SparingRunExists → SettleRunsExist
+settle_runs_exist ranks_exist rounds_exist sparing_exists netlist input start a b circuit begins a_result b_result =
     let net = network_of netlist in
-    let counted : AreCounted = record { changes = changes; fewer = fewer; per_unknown = per_unknown; ends = ends } in
     let ranks = ranks_exist (algorithm_a net input start) a a_result in
     let rounds = rounds_exist (algorithm_b net input a) a b b_result in
     let sparing = sparing_exists netlist input start a ranks.0 circuit begins a_result ranks.1 in
-    both counted circuit (given-change begins a_result ranks.1 b_result) begins rounds.1 sparing.1
+    both circuit (record { long = begins.long; a_result = a_result; ranked = ranks.1; b_result = b_result }) begins rounds.1 sparing.1
 
 pub b_is_exact : RunsShowB → SettleRunsExist → BIsExact
 b_is_exact shown exist netlist input start a b i circuit begins a_result b_result =

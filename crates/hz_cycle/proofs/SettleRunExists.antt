@@ -1,5 +1,5 @@
 -- The settle run: after the spread run and the settling rounds a pass may begin, and the three together are the settle run.
-use Rattle.std.proofs.Common.{◌≡◌, ◌≢◌, ℕ, ◌+◌, ◌-◌, ◌*◌, ◌<◌, ◌≤◌, ◌⊎◌, Bool, not, cond, List, [], ◌∷◌, ◌++◌, length, take, refl, sym, ap, ◌∙◌, subst, arith, inl, inr}
+use Rattle.std.proofs.Common.{◌≡◌, ◌≢◌, ℕ, ◌+◌, ◌-◌, ◌*◌, ◌<◌, ◌≤◌, ◌⊎◌, Bool, not, cond, List, [], ◌∷◌, ◌++◌, length, take, refl, sym, ap, ◌∙◌, subst, arith, inl, inr, add-zero}
 use Rattle.std.specs.Prelude.{sum_by, ◌%◌, nat_eq}
 use Rattle.std.specs.List.{range_with_len}
 use Rattle.std.proofs.lemmas.Bool.{cases_lt, cases_eq}
@@ -10,29 +10,28 @@ use Rattle.hz_core.specs.declared.tri.Tri.TheVariants.{Zero, One, Unknown}
 use Rattle.hz_core.specs.Ternary.{Refines}
 use Rattle.hz_core.specs.Netlist.{Netlist, IsCircuit}
 use Rattle.hz_net.specs.Network.{Driver, Source, network_of, driver_at, bit_at, value_at, driver_value, excitation}
-use Rattle.hz_net.specs.Passes.{algorithm_a, algorithm_b, IsKnown, IsUnknown, IsResult, AreRanks, IsSettlingRound, AreSettlingRounds}
+use Rattle.hz_net.specs.Passes.{algorithm_b, IsKnown, IsUnknown, IsSettlingRound, AreSettlingRounds}
 use Rattle.hz_net.specs.Starts.{IsStableStart}
 use Rattle.hz_net.proofs.Sequences.{start-refines}
 use Rattle.hz_gmw.specs.Runs.{IsRun, end_of}
 use Rattle.hz_gmw.specs.RunRecord.{RunRecord, flip_count}
 use Rattle.hz_gmw.proofs.Paths.{end_of-append, IsRun-append}
-use Rattle.hz_reach.specs.Counts.{FlipsAreChanges, StepsAreNoMoreThanFlips, FlipsPerVariable, FlipsPerUnknown, EndsByChanges}
 use Rattle.hz_reach.specs.Order.{key_at, IsEarlier}
-use Rattle.hz_reach.specs.Room.{Spends}
+use Rattle.hz_reach.specs.Room.{Spends, HasRoomFor}
+use Rattle.hz_reach.proofs.FlipCounts.{flips_are_changes, flips_per_variable, flips_per_unknown, ends_by_changes}
+use Rattle.hz_reach.proofs.GateTurn.{not-itself, driver-inside}
+use Rattle.hz_reach.proofs.Order.{earlier-or-not}
+use Rattle.hz_reach.proofs.Room.{room-left}
 use Rattle.hz_net.specs.Reads.{IsWireInto, IsWired}
 use Rattle.hz_reach.specs.Spread.{changes_in, IsSparingRun}
-use Rattle.hz_reach.proofs.StateParts.{driver-inside}
 use Rattle.hz_net.proofs.Wired.{wired-network_of}
 use Rattle.hz_cycle.specs.Cycles.{IsSettleRun}
 use Rattle.hz_cycle.specs.Pass.{IsFixed, MayBegin, AreEnough, HasRoom, IsPass}
 use Rattle.hz_cycle.specs.Rounds.{AreRoundsOf, IsSettlingRun, AreRoundsMade}
 use Rattle.hz_cycle.proofs.SettledVariables.{known-stable, wire-source, unknown-inside}
 use Rattle.hz_cycle.proofs.Change.{IsChange, a-long, a-above, change-fixed, unsettled-unknown, unknown-within}
-use Rattle.hz_cycle.proofs.CycleExists.{refines-unchanged}
-use Rattle.hz_cycle.proofs.CycleRoom.{twos}
-use Rattle.hz_cycle.proofs.KeyOrder.{earlier-or-not}
+use Rattle.hz_cycle.proofs.CycleExists.{refines-unchanged, twos}
 use Rattle.hz_cycle.proofs.StepLemmas.{changes-append, unchanged-end}
-use Rattle.hz_cycle.proofs.Turn.{not-itself}
 
 -- a variable that is X in the result, or not in the first list, has no settling round
 no-round : (sequence : ℕ → List Tri) (i : ℕ) (first result : Tri) (round : ℕ) → IsSettlingRound sequence i first result round → IsUnknown result ⊎ IsKnown first → round ≡ 0
@@ -76,17 +75,20 @@ rounds-may-begin {net} {input} {start} {a} {ranks} {when} {b} {spread} {state} c
       (subst (Refines start) (sym change.a_result.2) (start-refines net input start change.long change.a_result.0)) sparing.known);
 }
 
+-- A run as it was before its first step: what it has made by now is spent of it.
+abbrev pub before-all : RunRecord → RunRecord
+before-all run = record { steps = []; spare_flips = run.spare_flips + flip_count run.steps; spare_steps = run.spare_steps + length run.steps }
+
+pub spent-so-far : (run : RunRecord) → Spends (before-all run) run
+spent-so-far run = record { flips = sym (add-zero _); steps = sym (add-zero _) }
+
 -- after the spread run there is room for the rounds
 pub rounds-room :
-    {net : List Driver} {input start : List Bool} {a : List Tri} {ranks : List ℕ} {spread : List (List ℕ)} {before now : RunRecord} →
-    FlipsPerVariable → StepsAreNoMoreThanFlips → IsSparingRun net input start a ranks spread → before.steps ≡ [] → now.steps ≡ spread → Spends before now →
-    2 * length net ≤ before.spare_flips → 2 * length net ≤ before.spare_steps → (length net ≤ now.spare_flips) × (length net ≤ now.spare_steps)
-rounds-room {net} {input} {start} {a} {ranks} {spread} {before} {now} per_variable no_more sparing empty whole spent flips steps =
-    let few : flip_count spread ≤ 1 * length net = per_variable net input start spread 1 sparing.run sparing.wires in
-    let fewer : length spread ≤ flip_count spread = no_more net input start spread sparing.run in (
-      omega (arith, few, spent.flips, ap flip_count whole, ap flip_count empty, flips),
-      omega (arith, few, fewer, spent.steps, ap (length {A = List ℕ}) whole, ap (length {A = List ℕ}) empty, steps),
-    )
+    {net : List Driver} {input start : List Bool} {a : List Tri} {ranks : List ℕ} {now : RunRecord} →
+    IsSparingRun net input start a ranks now.steps → HasRoomFor (2 * length net) (before-all now) → HasRoomFor (length net) now
+rounds-room {net} {input} {start} {a} {ranks} {now} sparing room =
+    room-left net input start now.steps (length net) sparing.run refl (spent-so-far now) room
+    (omega (arith, flips_per_variable net input start now.steps 1 sparing.run sparing.wires))
 
 module _ {netlist : Netlist} {input start : List Bool} {a : List Tri} {ranks when : List ℕ} {b : List Tri} {spread settle : List (List ℕ)} {spread_state state : List Bool} (before : IsBeforePass netlist input start a ranks when b spread spread_state settle state) where
   wired : IsWired (network_of netlist)
@@ -112,10 +114,10 @@ module _ {netlist : Netlist} {input start : List Bool} {a : List Tri} {ranks whe
   inside-start i unknown = omega (arith, unknown-inside fixed i unknown, before.begins.long)
 
   -- what has changed once has the complement of its first bit
-  changed-bit : EndsByChanges → (i : ℕ) → IsUnknown (value_at b i) → changes_in spread i ≡ 1 → bit_at state i ≡ not (bit_at start i)
-  changed-bit by_changes i unknown one =
+  changed-bit : (i : ℕ) → IsUnknown (value_at b i) → changes_in spread i ≡ 1 → bit_at state i ≡ not (bit_at start i)
+  changed-bit i unknown one =
       unsettled-kept i unknown
-      ∙ (by_changes start spread i (inside-start i unknown)
+      ∙ (ends_by_changes start spread i (inside-start i unknown)
       ∙ ap (λ (n : ℕ). cond (nat_eq (n % 2) 1) (not (bit_at start i)) (bit_at start i)) one)
 
   unchanged-bit : (i : ℕ) → IsUnknown (value_at b i) → changes_in spread i ≡ 0 → bit_at state i ≡ bit_at start i
@@ -133,12 +135,12 @@ module _ {netlist : Netlist} {input start : List Bool} {a : List Tri} {ranks whe
   source-changes wire source drives unknown =
       before.sparing.nodes source (unsettled-unknown before.change source (source-unsettled wire source drives unknown)) (wired.node wire source drives)
 
-  pub pass-may-begin : EndsByChanges → MayBegin (network_of netlist) ranks b state
-  pass-may-begin by_changes = record {
+  pub pass-may-begin : MayBegin (network_of netlist) ranks b state
+  pass-may-begin = record {
     settled = before.settling.values;
     differs = λ wire source gate drives goes unknown unsettled late same.
         let here : bit_at state wire ≡ bit_at start wire = unchanged-bit wire unknown (before.sparing.later wire source gate drives goes late) in
-        let there : bit_at state source ≡ not (bit_at start source) = changed-bit by_changes source (source-unsettled wire source drives unknown) (source-changes wire source drives unknown) in
+        let there : bit_at state source ≡ not (bit_at start source) = changed-bit source (source-unsettled wire source drives unknown) (source-changes wire source drives unknown) in
         not-itself (bit_at start source) (sym there ∙ (sym same ∙ (here ∙ wire-start wire source drives)));
   }
 
@@ -159,31 +161,31 @@ module _ {netlist : Netlist} {input start : List Bool} {a : List Tri} {ranks whe
   unsettled-so-far i unknown = omega (arith, changes-append spread settle i, before.settling.still i (unsettled-round i unknown))
 
   -- a wire that differs from its source, or whose source is later, has not changed
-  wire-unchanged : EndsByChanges → (wire source gate : ℕ) → driver_at (network_of netlist) wire ≡ Source source → IsWireInto (network_of netlist) gate wire → IsUnknown (value_at b wire) → (IsEarlier ranks source gate → bit_at state wire ≢ bit_at state source) → changes_in spread wire ≡ 0
-  wire-unchanged by_changes wire source gate drives goes unknown differ =
+  wire-unchanged : (wire source gate : ℕ) → driver_at (network_of netlist) wire ≡ Source source → IsWireInto (network_of netlist) gate wire → IsUnknown (value_at b wire) → (IsEarlier ranks source gate → bit_at state wire ≢ bit_at state source) → changes_in spread wire ≡ 0
+  wire-unchanged wire source gate drives goes unknown differ =
       elim (earlier-or-not ranks source gate) [
         | inl earlier ↦ elim (cases_eq (changes_in spread wire) 0) [
           | inl none ↦ none
           | inr some ↦ (
               let one : changes_in spread wire ≡ 1 = omega (arith, some, before.sparing.wires wire) in
               absurd (differ earlier
-              (changed-bit by_changes wire unknown one
+              (changed-bit wire unknown one
               ∙ (ap not (wire-start wire source drives)
-              ∙ sym (changed-bit by_changes source (source-unsettled wire source drives unknown) (source-changes wire source drives unknown)))))
+              ∙ sym (changed-bit source (source-unsettled wire source drives unknown) (source-changes wire source drives unknown)))))
               )
         ]
         | inr late ↦ before.sparing.later wire source gate drives goes late
       ]
 
-  pub left-enough : EndsByChanges → AreEnough (network_of netlist) ranks b state left
+  pub left-enough : AreEnough (network_of netlist) ranks b state left
   unfolding left
-  left-enough by_changes = record {
+  left-enough = record {
     gates = λ gate kind first pins drives unknown.
         omega (arith, unsettled-so-far gate unknown, before.sparing.wires gate);
     wires = λ wire source gate drives goes unknown.
         omega (arith, unsettled-so-far wire unknown, before.sparing.wires wire);
     twice = λ wire source gate drives goes unknown unsettled differ.
-        omega (arith, unsettled-so-far wire unknown, wire-unchanged by_changes wire source gate drives goes unknown differ);
+        omega (arith, unsettled-so-far wire unknown, wire-unchanged wire source gate drives goes unknown differ);
   }
 
   run-so-far : IsRun (network_of netlist) input start (spread ++ settle)
@@ -194,25 +196,22 @@ module _ {netlist : Netlist} {input start : List Bool} {a : List Tri} {ranks whe
   end-so-far : end_of start (spread ++ settle) ≡ state
   end-so-far = end_of-append start spread settle ∙ (ap (λ (s : List Bool). end_of s settle) (sym before.spread_end) ∙ before.settling.ends)
 
-  pub pass-room : {first now : RunRecord} → FlipsAreChanges → StepsAreNoMoreThanFlips → EndsByChanges → first.steps ≡ [] → now.steps ≡ spread ++ settle → Spends first now → 2 * length (network_of netlist) ≤ first.spare_flips → 2 * length (network_of netlist) ≤ first.spare_steps → HasRoom (network_of netlist) ranks b state now
+  pub pass-room : {first now : RunRecord} → now.steps ≡ first.steps ++ (spread ++ settle) → Spends first now → HasRoomFor (2 * length (network_of netlist)) first → HasRoom (network_of netlist) ranks b state now
   unfolding left so-far
-  pass-room {first} {now} are_changes no_more by_changes empty whole spent flips steps =
+  pass-room {first} {now} whole spent room =
       let net = network_of netlist in
-      let total : flip_count (spread ++ settle) ≡ sum_by (changes_in (spread ++ settle)) (range_with_len 0 (length net)) = are_changes net input start (spread ++ settle) run-so-far in
-      let rest : sum_by left (range_with_len 0 (length net)) + sum_by (changes_in (spread ++ settle)) (range_with_len 0 (length net)) ≡ sum_by (λ (x : ℕ). 2) (range_with_len 0 (length net)) =
-      sum-rest (changes_in (spread ++ settle)) (range_with_len 0 (length net)) so-far-few in
-      let fewer : length (spread ++ settle) ≤ flip_count (spread ++ settle) = no_more net input start (spread ++ settle) run-so-far in
+      let rest = sum-rest (changes_in (spread ++ settle)) (range_with_len 0 (length net)) so-far-few in
       record {
         most = left;
-        enough = left-enough by_changes;
-        flips = omega (arith, total, rest, twos 0 (length net), spent.flips, ap flip_count whole, ap flip_count empty, flips);
-        steps = omega (arith, total, rest, fewer, twos 0 (length net), spent.steps, ap (length {A = List ℕ}) whole, ap (length {A = List ℕ}) empty, steps);
+        enough = left-enough;
+        room = room-left net input start (spread ++ settle) (sum_by left (range_with_len 0 (length net))) run-so-far whole spent room
+            (omega (arith, flips_are_changes net input start (spread ++ settle) run-so-far, rest, twos 0 (length net)));
       }
 
   -- The whole run.
-  pub settle-found : {pass : List (List ℕ)} {last : List Bool} → FlipsPerUnknown → EndsByChanges → IsPass (network_of netlist) input ranks b state pass last → IsSettleRun (network_of netlist) input start a b ((spread ++ settle) ++ pass)
+  pub settle-found : {pass : List (List ℕ)} {last : List Bool} → IsPass (network_of netlist) input ranks b state pass last → IsSettleRun (network_of netlist) input start a b ((spread ++ settle) ++ pass)
   unfolding left so-far
-  settle-found {pass} {last} per_unknown by_changes is_pass =
+  settle-found {pass} {last} is_pass =
       let net = network_of netlist in
       let whole : IsRun net input start ((spread ++ settle) ++ pass) =
       IsRun-append net input start (spread ++ settle) pass run-so-far (subst (λ (s : List Bool). IsRun net input s pass) (sym end-so-far) is_pass.run) in
@@ -222,7 +221,7 @@ module _ {netlist : Netlist} {input start : List Bool} {a : List Tri} {ranks whe
         run = whole;
         values = subst (λ (s : List Bool). Refines s b) (sym ends) is_pass.turned.settled;
         stable = λ i inside known. subst (λ (s : List Bool). bit_at s i ≡ excitation net input s i) (sym ends) (known-stable fixed last i is_pass.turned.settled inside known);
-        flips = per_unknown net input start ((spread ++ settle) ++ pass) a 2 whole (a-long before.change) (λ i known.
+        flips = flips_per_unknown net input start ((spread ++ settle) ++ pass) a 2 whole (a-long before.change) (λ i known.
             omega (
               arith,
               changes-append (spread ++ settle) pass i,
@@ -231,7 +230,7 @@ module _ {netlist : Netlist} {input start : List Bool} {a : List Tri} {ranks whe
               before.settling.still i (known-round i known),
               is_pass.known i (λ unknown. known (unsettled-unknown before.change i unknown)),
             ))
-            (λ i. omega (arith, changes-append (spread ++ settle) pass i, so-far-few i, is_pass.few left (left-enough by_changes) i));
+            (λ i. omega (arith, changes-append (spread ++ settle) pass i, so-far-few i, is_pass.few left left-enough i));
       }
     where
       known-round : (i : ℕ) → IsKnown (value_at a i) → key_at when i ≡ 0
@@ -246,14 +245,7 @@ module _ {netlist : Netlist} {input start : List Bool} {a : List Tri} {ranks whe
   settle-end {pass} {last} is_pass =
       sym (end_of-append start (spread ++ settle) pass ∙ (ap (λ (s : List Bool). end_of s pass) end-so-far ∙ is_pass.ends))
 
--- what a call of `settle_run` is given, as one change
-pub given-change :
-    {netlist : Netlist} {input start : List Bool} {a b : List Tri} {ranks : List ℕ} →
-    IsStableStart netlist start → IsResult (algorithm_a (network_of netlist) input start) a → AreRanks (algorithm_a (network_of netlist) input start) a ranks →
-    IsResult (algorithm_b (network_of netlist) input a) b → IsChange (network_of netlist) input start a ranks b
-given-change begins a_result ranked b_result = record { long = begins.long; a_result = a_result; ranked = ranked; b_result = b_result }
-
--- and what stands when the rounds are made
+-- what stands when the rounds of a call are made
 pub before-pass :
     {netlist : Netlist} {input start : List Bool} {a b : List Tri} {ranks when : List ℕ} {spread after : List (List ℕ)} {spread_state state : List Bool} →
     IsCircuit netlist → IsStableStart netlist start → IsChange (network_of netlist) input start a ranks b →

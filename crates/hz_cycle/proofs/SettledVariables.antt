@@ -1,6 +1,6 @@
 -- What the result of Algorithm B says of a state that refines it: settled variables are stable, and each pin of an
 -- unsettled gate that is not settled may take either bit.
-use Rattle.std.proofs.Common.{◌≡◌, ℕ, zero, suc, ◌+◌, ◌-◌, ◌<◌, ◌⊎◌, Bool, true, false, not, cond, List, length, map, get_or, refl, sym, ap, ◌∙◌, subst, arith, inl, inr, IsTrue}
+use Rattle.std.proofs.Common.{◌≡◌, ℕ, zero, suc, ◌+◌, ◌-◌, ◌<◌, ◌⊎◌, Bool, true, false, not, cond, List, length, map, get_or, refl, sym, ap, ◌∙◌, subst, arith, inl, inr, IsTrue, ◌≢◌}
 use Rattle.std.specs.Prelude.{slice_range}
 use Rattle.std.proofs.lemmas.Bool.{cases_lt}
 use Rattle.std.proofs.lemmas.List.{get_or_past, get_or-map}
@@ -19,18 +19,12 @@ use Rattle.hz_net.proofs.PartLemmas.{length-part}
 use Rattle.hz_net.proofs.Sequences.{length-algorithm_b}
 use Rattle.hz_gmw.specs.Runs.{is_listed, state_after}
 use Rattle.hz_gmw.proofs.Flips.{length-state_after, at-state_after}
-use Rattle.hz_reach.proofs.StateParts.{driver-inside}
+use Rattle.hz_net.specs.Reads.{IsWired}
+use Rattle.hz_reach.specs.Turn.{is_gate_in}
+use Rattle.hz_reach.proofs.GateTurn.{driver-inside}
 use Rattle.hz_cycle.specs.Pass.{IsFixed}
 
 -- Values
-
-pub unknown-is : (value : Tri) → is_unknown value ≡ true → IsUnknown value
-unknown-is Zero e = cc
-unknown-is One e = cc
-unknown-is Unknown e = refl
-
-pub is-unknown : (value : Tri) → IsUnknown value → is_unknown value ≡ true
-is-unknown value unknown = rw unknown refl
 
 -- two bits that one known value admits
 pub same-admitted : (value : Tri) (here there : Bool) → IsKnown value → IsTrue (admits value here) → IsTrue (admits value there) → here ≡ there
@@ -42,7 +36,7 @@ same-admitted One true false known a b = cc
 same-admitted One true true known a b = refl
 same-admitted Unknown here there known a b = absurd (known refl)
 
-admits-unknown : (value : Tri) (bit : Bool) → IsUnknown value → IsTrue (admits value bit)
+pub admits-unknown : (value : Tri) (bit : Bool) → IsUnknown value → IsTrue (admits value bit)
 admits-unknown value false unknown = rw unknown refl
 admits-unknown value true unknown = rw unknown refl
 
@@ -52,6 +46,10 @@ known-bit Zero true known there = cc
 known-bit One false known there = cc
 known-bit One true known there = refl
 known-bit Unknown bit known there = cc
+
+pub bit-known : (bit : Bool) → tri_of bit ≢ Unknown
+bit-known false e = cc
+bit-known true e = cc
 
 pub either-value : (value : Tri) → IsUnknown value ⊎ IsKnown value
 either-value Zero = inr (λ e. cc)
@@ -105,11 +103,7 @@ module _ {net : List Driver} {input : List Bool} {b : List Tri} (fixed : IsFixed
   -- no input is unsettled
   pub no-input : (i place : ℕ) → IsUnknown (value_at b i) → driver_at net i ≡ External place → ⊥
   no-input i place unknown drives =
-      known_value (bit_at input place) (sym (ap (driver_value3 input b) drives) ∙ (sym (fixed.same i (unknown-inside i unknown)) ∙ unknown))
-    where
-      known_value : (bit : Bool) → tri_of bit ≡ Unknown → ⊥
-      known_value false e = cc
-      known_value true e = cc
+      bit-known (bit_at input place) (sym (ap (driver_value3 input b) drives) ∙ (sym (fixed.same i (unknown-inside i unknown)) ∙ unknown))
 
   -- a wire has its source's value
   pub wire-source : (wire source : ℕ) → driver_at net wire ≡ Source source → value_at b wire ≡ value_at b source
@@ -133,3 +127,24 @@ module _ {net : List Driver} {input : List Bool} {b : List Tri} (fixed : IsFixed
       (sym (get_or-map is_unknown values pin Zero false (omega (arith, few, now_long, values_long))) ∙ settled)
       (get_or-Refines now values (Refines-slice_range state b first (first + pins) refined) pin))
       (admits-unknown (extension kind values) want (sym (ap (driver_value3 input b) drives) ∙ (sym (fixed.same gate (unknown-inside gate unknown)) ∙ unknown)))
+
+-- the source of an unsettled wire is an unsettled gate
+pub record IsUnsettledGate (net : List Driver) (b : List Tri) (gate : ℕ) : Type 0 where
+  pub kind : Kind
+  pub first : ℕ
+  pub pins : ℕ
+  pub drives : driver_at net gate ≡ Function kind first pins
+  pub unsettled : IsUnknown (value_at b gate)
+
+module _ {net : List Driver} {input : List Bool} {b : List Tri} (wired : IsWired net) (fixed : IsFixed net input b) where
+  pub source-gate : (wire source : ℕ) → driver_at net wire ≡ Source source → IsUnknown (value_at b source) → IsUnsettledGate net b source
+  source-gate wire source drives unknown = by_driver (driver_at net source) refl
+    where
+      by_driver : (driver : Driver) → driver_at net source ≡ driver → IsUnsettledGate net b source
+      by_driver (External place) e = absurd (no-input fixed source place unknown e)
+      by_driver (Function kind first pins) e = record { kind = kind; first = first; pins = pins; drives = e; unsettled = unknown }
+      by_driver (Source node) e = absurd (wired.node wire source drives node e)
+
+  -- a test for gates finds it
+  pub source-is_gate : (wire source : ℕ) → driver_at net wire ≡ Source source → IsUnknown (value_at b source) → is_gate_in net source ≡ true
+  source-is_gate wire source drives unknown = let is = source-gate wire source drives unknown in rw is.drives refl

@@ -1,21 +1,15 @@
 -- One more step of a run: how often variables have changed, where the run ends, and the states on the way.
-use Rattle.std.proofs.Common.{◌≡◌, ◌≢◌, ℕ, suc, ◌+◌, Bool, false, cond, List, [], ◌∷◌, ◌++◌, refl, sym, ap, ◌∙◌, subst, arith, inl, inr, append_assoc, Contains}
+use Rattle.std.proofs.Common.{◌≡◌, ℕ, suc, ◌+◌, Bool, false, List, [], ◌∷◌, ◌++◌, refl, sym, ap, ◌∙◌, subst, arith, inl, inr, append_assoc, Contains}
 use Rattle.std.proofs.lemmas.Bool.{cases_Bool}
-use Rattle.std.proofs.lemmas.List.Sums.{sum_by-cons, sum_by-append, sum_by_push}
-use Rattle.hz_net.specs.Network.{Driver, bit_at}
-use Rattle.hz_gmw.specs.Runs.{is_listed, IsStep, IsRun, state_after, end_of}
+use Rattle.std.proofs.lemmas.List.Sums.{sum_by-append, sum_by_push}
+use Rattle.hz_net.specs.Network.{bit_at}
+use Rattle.hz_gmw.specs.Runs.{is_listed, state_after, end_of}
 use Rattle.hz_gmw.specs.Cycles.{states_of}
-use Rattle.hz_gmw.proofs.Paths.{IsRun-append, IsCut, cut-member}
+use Rattle.hz_gmw.proofs.Paths.{IsCut, cut-member}
 use Rattle.hz_reach.specs.Room.{with_step_if_any}
 use Rattle.hz_reach.specs.Spread.{changes_in}
-use Rattle.hz_cycle.proofs.Turn.{state_after-unlisted}
-
--- whether a step changes a variable, as a number
-abbrev pub listed : List ℕ → ℕ → ℕ
-listed flips i = cond (is_listed flips i) 1 0
-
-pub changes-cons : (flips : List ℕ) (steps : List (List ℕ)) (i : ℕ) → changes_in (flips ∷ steps) i ≡ listed flips i + changes_in steps i
-changes-cons flips steps i = sum_by-cons (λ (list : List ℕ). listed list i) flips steps
+use Rattle.hz_reach.proofs.GateTurn.{state_after-unlisted}
+use Rattle.hz_reach.proofs.FlipCounts.{listed, changes-more}
 
 pub changes-append : (steps more : List (List ℕ)) (i : ℕ) → changes_in (steps ++ more) i ≡ changes_in steps i + changes_in more i
 changes-append steps more i = sum_by-append (λ (list : List ℕ). listed list i) steps more
@@ -27,36 +21,32 @@ changes-after steps (j ∷ flips) i = sum_by_push (λ (list : List ℕ). listed 
 pub listed-none : (flips : List ℕ) (i : ℕ) → is_listed flips i ≡ false → listed flips i ≡ 0
 listed-none flips i out = rw out refl
 
-pub run-after : (net : List Driver) (input begun : List Bool) (steps : List (List ℕ)) (flips : List ℕ) → IsRun net input begun steps → (flips ≢ [] → IsStep net input (end_of begun steps) flips) → IsRun net input begun (with_step_if_any steps flips)
-run-after net input begun steps [] run step = run
-run-after net input begun steps (j ∷ flips) run step = IsRun-append net input begun steps ((j ∷ flips) ∷ []) run (step (λ e. cc), tt)
-
 -- a variable that no step changes
 pub unchanged-end : (begun : List Bool) (steps : List (List ℕ)) (i : ℕ) → changes_in steps i ≡ 0 → bit_at (end_of begun steps) i ≡ bit_at begun i
 unchanged-end begun [] i none = refl
 unchanged-end begun (flips ∷ steps) i none =
     elim (cases_Bool (is_listed flips i)) [
-      | inl there ↦ (let one : listed flips i ≡ 1 = rw there refl in absurd (omega (arith, none, changes-cons flips steps i, one)))
+      | inl there ↦ (let one : listed flips i ≡ 1 = rw there refl in absurd (omega (arith, none, changes-more flips steps i, one)))
       | inr out ↦
-          unchanged-end (state_after flips begun) steps i (omega (arith, none, changes-cons flips steps i, listed-none flips i out))
+          unchanged-end (state_after flips begun) steps i (omega (arith, none, changes-more flips steps i, listed-none flips i out))
           ∙ state_after-unlisted flips begun i out
     ]
 
 -- The states on the way
 
-contains-first : (state : List Bool) (steps : List (List ℕ)) → Contains (states_of state steps) state
-contains-first state [] = (0, omega arith, refl)
-contains-first state (flips ∷ steps) = (0, omega arith, refl)
+pub contains-begin : (state : List Bool) (steps : List (List ℕ)) → Contains (states_of state steps) state
+contains-begin state [] = (0, omega arith, refl)
+contains-begin state (flips ∷ steps) = (0, omega arith, refl)
 
 contains-cut : (state : List Bool) (earlier later : List (List ℕ)) → Contains (states_of state (earlier ++ later)) (end_of state earlier)
-contains-cut state [] later = contains-first state later
+contains-cut state [] later = contains-begin state later
 contains-cut state (flips ∷ earlier) later =
     let there = contains-cut (state_after flips state) earlier later in
     (suc there.0, (let less = there.1 in omega arith), there.2)
 
 -- the last state is one of them
 pub contains-end : (begun : List Bool) (steps : List (List ℕ)) → Contains (states_of begun steps) (end_of begun steps)
-contains-end begun [] = contains-first begun []
+contains-end begun [] = contains-begin begun []
 contains-end begun (flips ∷ steps) =
     let there = contains-end (state_after flips begun) steps in
     (suc there.0, (let less = there.1 in omega arith), there.2)

@@ -1,5 +1,5 @@
--- Where a pass may begin, that it ends in a turned state, and that a turned state is determined by its gates.
-use Rattle.std.proofs.Common.{◌≡◌, ℕ, ◌+◌, ◌-◌, ◌<◌, ◌≤◌, ◌⊎◌, Bool, true, false, not, List, [], map, refl, sym, ap, ◌∙◌, subst, arith, inl, inr}
+-- A pass may begin in a turned state and ends in one, and a turned state is determined by its gates.
+use Rattle.std.proofs.Common.{◌≡◌, ℕ, ◌+◌, ◌-◌, ◌<◌, ◌≤◌, ◌⊎◌, Bool, true, false, not, List, map, refl, sym, ap, ◌∙◌, subst, arith, inl, inr}
 use Rattle.std.specs.Prelude.{slice_range}
 use Rattle.std.proofs.lemmas.List.{ext_get_or}
 use Rattle.hz_core.specs.declared.tri.Tri.{Tri}
@@ -14,38 +14,10 @@ use Rattle.hz_reach.specs.Order.{IsEarlier}
 use Rattle.hz_net.specs.Reads.{IsWireInto, IsWired}
 use Rattle.hz_cycle.specs.Pass.{IsFixed, MayBegin}
 use Rattle.hz_cycle.specs.Turned.{IsShown, HasPattern, IsTurned}
-use Rattle.hz_cycle.proofs.SettledVariables.{either-value, same-known, no-input, wire-source}
-use Rattle.hz_cycle.proofs.KeyOrder.{earlier-or-not}
+use Rattle.hz_reach.proofs.Order.{earlier-or-not}
+use Rattle.hz_reach.proofs.GateTurn.{other-bit}
+use Rattle.hz_cycle.proofs.SettledVariables.{either-value, same-known, no-input, wire-source, source-gate}
 use Rattle.hz_cycle.proofs.PassInvariant.{IsInside}
-use Rattle.hz_cycle.proofs.Turn.{other-bit}
-use Rattle.hz_cycle.proofs.PassSteps.{IsUnderway}
-use Rattle.hz_cycle.proofs.TurnsTaken.{source-gate}
-
--- nobody has had a turn
-abbrev pub nobody : ℕ → Bool
-nobody i = false
-
-pub inside-begin : {net : List Driver} {ranks : List ℕ} {b : List Tri} {state : List Bool} → MayBegin net ranks b state → IsInside net ranks b state nobody state
-inside-begin may = record {
-  settled = may.settled;
-  gates = λ gate kind first pins drives unknown. refl;
-  fresh = λ wire source gate drives goes unknown unsettled waits late. may.differs wire source gate drives goes unknown unsettled late;
-  differs = λ wire source gate drives goes unknown turned either. cc;
-  patterns = λ gate kind first pins drives unknown turned. cc;
-}
-
-pub underway-begin : {net : List Driver} {input : List Bool} {ranks : List ℕ} {b : List Tri} {state : List Bool} → MayBegin net ranks b state → IsUnderway net input ranks b state nobody [] state
-underway-begin may = record {
-  inside = inside-begin may;
-  run = tt;
-  ends = refl;
-  known = λ i known. refl;
-  gates = λ gate kind first pins drives. omega arith;
-  wires = λ wire source gate drives goes. omega arith;
-  outward = λ wire source gate drives goes known. omega arith;
-  equal = λ wire source gate drives goes earlier unknown unsettled same. omega arith;
-  shown = λ wire source drives unknown turned. cc;
-}
 
 pub turned-may-begin : {net : List Driver} {ranks : List ℕ} {b : List Tri} {state : List Bool} → IsTurned net ranks b state → MayBegin net ranks b state
 turned-may-begin turned = record {
@@ -82,7 +54,7 @@ module _ {net : List Driver} {input : List Bool} {b : List Tri} {ranks : List �
           let is = source-gate wired fixed wire source drives (sym (wire-source fixed wire source drives) ∙ unknown) in
           all source is.kind is.first is.pins is.drives is.unsettled
 
-  module _ {state other : List Bool} (go : (wire source : ℕ) → driver_at net wire ≡ Source source → (gate : ℕ) × IsWireInto net gate wire) (turned : IsTurned net ranks b state) (others : IsTurned net ranks b other) (gates : (gate : ℕ) (kind : Kind) (first pins : ℕ) → driver_at net gate ≡ Function kind first pins → IsUnknown (value_at b gate) → bit_at state gate ≡ bit_at other gate) where
+  module _ {state other : List Bool} (turned : IsTurned net ranks b state) (others : IsTurned net ranks b other) (gates : (gate : ℕ) (kind : Kind) (first pins : ℕ) → driver_at net gate ≡ Function kind first pins → IsUnknown (value_at b gate) → bit_at state gate ≡ bit_at other gate) where
     at-known : (i : ℕ) → IsKnown (value_at b i) → bit_at state i ≡ bit_at other i
     at-known i known = same-known state other b i turned.settled others.settled known
 
@@ -171,4 +143,4 @@ module _ {net : List Driver} {input : List Bool} {b : List Tri} {ranks : List �
         by_driver : (i : ℕ) → IsUnknown (value_at b i) → (driver : Driver) → driver_at net i ≡ driver → bit_at state i ≡ bit_at other i
         by_driver i unknown (External place) e = absurd (no-input fixed i place unknown e)
         by_driver i unknown (Function kind first pins) e = gates i kind first pins e unknown
-        by_driver i unknown (Source source) e = let goes = go i source e in at-wire i source goes.0 e goes.1 unknown
+        by_driver i unknown (Source source) e = let goes = wired.gate i source e in at-wire i source goes.0 e goes.1 unknown

@@ -10,8 +10,8 @@
 -- AreFixedAndRanked net ranks b: what a pass is given of a change
 -- MayBegin net ranks b state: a pass may begin in this state
 -- AreEnough net ranks b state most, HasRoom net ranks b state run: a run has the room for a pass
--- ArePatternWires netlist a state gate wires: the wires that change first in a gate's turn
--- with_fan_out netlist state gate: the gate, and the wires from it that differ
+-- has_turn_in net b i: an unsettled gate
+-- unsettled_pins netlist b gate: the pins that are free in its turn
 -- IsOneRound when order place next: the variables that settle in one round
 -- IsSettlingRun net input when b start steps state: a run that settles them round by round
 -- HasSettleRunAndCycle net input start a b: both runs exist for a change
@@ -21,7 +21,7 @@
 
 pub mod Turned
 pub mod Cycles
-pub mod Marks
+pub mod Turns
 pub mod Pass
 pub mod Rounds
 pub mod Exact

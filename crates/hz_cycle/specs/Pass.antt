@@ -11,6 +11,7 @@ use Rattle.hz_gmw.specs.Runs.{IsRun, end_of}
 use Rattle.hz_gmw.specs.RunRecord.{RunRecord}
 use Rattle.hz_gmw.specs.Cycles.{states_of}
 use Rattle.hz_reach.specs.Order.{key_at, IsEarlier}
+use Rattle.hz_reach.specs.Room.{HasRoomFor}
 use Rattle.hz_net.specs.Reads.{IsWireInto}
 use Rattle.hz_reach.specs.Spread.{changes_in}
 use Rattle.hz_cycle.specs.Turned.{IsTurned}
@@ -53,8 +54,7 @@ pub record AreEnough (net : List Driver) (ranks : List ℕ) (b : List Tri) (stat
 pub record HasRoom (net : List Driver) (ranks : List ℕ) (b : List Tri) (state : List Bool) (run : RunRecord) : Type 0 where
   pub most : ℕ → ℕ
   pub enough : AreEnough net ranks b state most
-  pub flips : sum_by most (range_with_len 0 (length net)) ≤ run.spare_flips
-  pub steps : sum_by most (range_with_len 0 (length net)) ≤ run.spare_steps
+  pub room : HasRoomFor (sum_by most (range_with_len 0 (length net))) run
 
 -- A pass: a run from a state to a turned one, in which each unsettled gate changes once and no settled variable changes;
 -- each unsettled wire has on the way the bit that its source had at the beginning.

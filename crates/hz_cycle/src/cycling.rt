@@ -11,7 +11,7 @@ use crate::passing::make_pass;
 use hz_core::Tri;
 use hz_gmw::Run;
 use hz_net::Net;
-use hz_reach::{Scratch, run_counts};
+use hz_reach::Scratch;
 
 /// The cycle: from a turned state back to it, a nontransient cycle in which each variable that is X in the result of
 /// Algorithm B takes both bits, and no other variable changes. It is two passes over the gates that are X. If there is none
@@ -58,9 +58,8 @@ pub fn cycle_in_order(
     ensures marked { scratch.new.marked ≡ [] }
     ensures room { Spends run.old run.new }
 {
-    // A getter of the network says that its circuit is one; the room is given by how often each variable changes.
+    // A getter of the network says that its circuit is one.
     let _variables = net.len();
-    run_counts();
     make_pass(net, rank, b, scratch, run);
     make_pass(net, rank, b, scratch, run);
 }

@@ -2,7 +2,7 @@
 ghost use Rattle.hz_cycle.specs.Exact.{RunsShowB, SettleRunsExist, BIsExact, OutcomesExist};
 
 use hz_gmw::b_covers;
-use hz_reach::{passes_end, run_counts, run_ends, spread_runs_exist};
+use hz_reach::{passes_end, spread_runs_exist};
 
 /// If a change has a settle run and a cycle that begins at its end, the value of the result of Algorithm B at a variable
 /// is the join of the values that the variable has in the outcome states.
@@ -16,8 +16,6 @@ pub fn runs_show_b()
 pub fn settle_runs_exist()
     ensures { SettleRunsExist }
 {
-    run_counts();
-    run_ends();
     passes_end();
     spread_runs_exist();
 }

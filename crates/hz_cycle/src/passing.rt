@@ -1,25 +1,25 @@
 //! A pass over the unsettled gates.
-ghost use Rattle.std.specs.Prelude.{◌≡◌, ◌+◌, ◌<◌, ◌≤◌, Bool, List, [], length, map, not, IsTrue};
-ghost use Rattle.hz_core.specs.Gate.{takes};
+ghost use Rattle.std.specs.Prelude.{◌≡◌, ℕ, ◌+◌, ◌<◌, ◌≤◌, Bool, true, ◌&&◌, List, [], length, map, not, IsTrue};
 ghost use Rattle.hz_core.specs.Ternary.{is_unknown};
-ghost use Rattle.hz_core.specs.Netlist.{IsCircuit, IsWhole, IsGateNumber, gate_at};
+ghost use Rattle.hz_core.specs.Netlist.{IsCircuit, IsGateNumber, gate_at};
 ghost use Rattle.hz_core.specs.Pattern.{IsCandidate};
-ghost use Rattle.hz_net.specs.Network.{network_of, bit_at};
+ghost use Rattle.hz_net.specs.Network.{network_of, bit_at, value_at};
 ghost use Rattle.hz_net.specs.Variables.{at_wires};
+ghost use Rattle.hz_gmw.specs.Runs.{state_after};
 ghost use Rattle.hz_reach.specs.Order.{IsInKeyOrder};
-ghost use Rattle.hz_reach.specs.Room.{Spends};
+ghost use Rattle.hz_reach.specs.Room.{Spends, HasRoomFor};
 ghost use Rattle.hz_reach.specs.Given.{IsScratchFor};
-ghost use Rattle.hz_cycle.specs.Marks.{MarksPattern, ArePatternWires, with_fan_out};
+ghost use Rattle.hz_reach.specs.Turn.{AreTurnWires, turn_flips, IsTurn};
+ghost use Rattle.hz_cycle.specs.Turns.{has_turn_in, unsettled_pins};
 ghost use Rattle.hz_cycle.specs.Pass.{AreFixedAndRanked, MayBegin, HasRoom, IsPassMade};
-ghost use Rattle.hz_core.specs.Limits.{most_variables};
 
-use hz_core::{Kind, MAX_PINS, Tri};
+use hz_core::{MAX_PINS, Tri};
 use hz_gmw::Run;
 use hz_net::Net;
-use hz_reach::{Scratch, mark_changed, run_counts};
+use hz_reach::{Scratch, is_gate, take_turn};
 
-// Each unsettled gate has its turn, by rank and then by number: the wires change that set its pattern, and then the gate
-// together with the wires of its fan-out that differ from it. The variables are sorted by rank, and stay so.
+// Each unsettled gate has its turn, by rank and then by number, in which its unsettled pins are free and the wires of its fan-out
+// go along. The variables are sorted by rank, and stay so.
 pub(crate) fn make_pass(net: &Net, rank: &[u32], b: &[Tri], scratch: &mut Scratch, run: &mut Run)
     requires given { AreFixedAndRanked (network_of net.now) rank.now b.now }
     requires begins { MayBegin (network_of net.now) rank.now b.now scratch.old.state }
@@ -31,18 +31,24 @@ pub(crate) fn make_pass(net: &Net, rank: &[u32], b: &[Tri], scratch: &mut Scratc
     ensures sorted { IsInKeyOrder rank.now scratch.new.sorted }
     ensures room { Spends run.old run.new }
 {
-    let circuit = net.circuit();
-    // The room is told by how often each variable changes.
-    run_counts();
+    // A getter of the network says that its circuit is one.
+    let _variables = net.len();
     for place in 0..scratch.sorted().len() {
         let var = scratch.sorted()[place];
-        if circuit.inputs() <= var && var < circuit.nodes() && is_unsettled(b[var as usize]) {
-            mark_pattern(net, b, var, scratch);
-            scratch.step(run);
-            mark_with_fan_out(net, var, scratch);
-            scratch.step(run);
+        if has_turn(net, b, var) {
+            turn_unsettled(net, b, var, scratch, run);
         }
     }
+}
+
+// Whether a variable is an unsettled gate.
+fn has_turn(net: &Net, b: &[Tri], var: u32) -> bool
+    requires b { length b.now ≡ length (network_of net.now) }
+    requires var { var < length (network_of net.now) }
+    ensures turn { result ≡ has_turn_in (network_of net.now) b.now var }
+    ensures gate { IsTrue result → IsGateNumber net.now var }
+{
+    is_gate(net, var) && is_unsettled(b[var as usize])
 }
 
 // Whether a value is X.
@@ -55,54 +61,27 @@ fn is_unsettled(value: Tri) -> bool
     }
 }
 
-// Marks the wires that differ from the pattern which turns a gate.
-fn mark_pattern(net: &Net, b: &[Tri], gate: u32, scratch: &mut Scratch)
+// A gate's turn, in which its unsettled pins are free. The wires of its fan-out go along.
+fn turn_unsettled(net: &Net, b: &[Tri], gate: u32, scratch: &mut Scratch, run: &mut Run)
     requires circuit { IsCircuit net.now }
-    requires whole { IsWhole net.now }
     requires b { length b.now ≡ length (network_of net.now) }
     requires gate { IsGateNumber net.now gate }
     requires possible { (list : List Bool) × IsCandidate (gate_at net.now gate).kind
-        (at_wires net.now gate scratch.old.state) (map is_unknown (at_wires net.now gate b.now))
-        (not (bit_at scratch.old.state gate)) list }
+        (at_wires net.now gate scratch.old.state) (unsettled_pins net.now b.now gate) (not (bit_at scratch.old.state gate)) list }
     requires scratch { IsScratchFor net.now scratch.old }
-    ensures marked { ArePatternWires net.now b.now scratch.old.state gate scratch.new.marked }
-    ensures state { scratch.new.state ≡ scratch.old.state }
+    requires room { (wires : List ℕ) → AreTurnWires net.now gate (unsettled_pins net.now b.now gate) scratch.old.state wires →
+        HasRoomFor (length wires + length (turn_flips net.now gate true (state_after wires scratch.old.state))) run.old }
+    ensures turn { IsTurn net.now gate (unsettled_pins net.now b.now gate) true
+        scratch.old.state scratch.new.state run.old.steps run.new.steps }
+    ensures marked { scratch.new.marked ≡ [] }
     ensures sorted { scratch.new.sorted ≡ scratch.old.sorted }
+    ensures room { Spends run.old run.new }
 {
-    let kind = net.circuit().kind(gate);
     let (first, pins) = net.wires_in(gate);
     let wires = first as usize..(first + pins) as usize;
-    let want = !scratch.state()[gate as usize];
-    let mut now = [false; MAX_PINS];
-    now[..pins as usize].copy_from_slice(&scratch.state()[first as usize..(first + pins) as usize]);
-    mark_changes(kind, first, &now[..pins as usize], &b[wires], want, scratch);
-}
-
-// Marks the wires that differ from the pattern which gives a gate a bit, if the unsettled pins are free.
-fn mark_changes(
-    kind: Kind,
-    first: u32,
-    now: &[bool],
-    values: &[Tri],
-    want: bool,
-    scratch: &mut Scratch,
-)
-    requires takes { IsTrue (takes kind (length now.now)) }
-    requires values { length values.now ≡ length now.now }
-    requires possible { (list : List Bool) × IsCandidate kind now.now (map is_unknown values.now) want list }
-    requires inside { first + length now.now ≤ length scratch.old.state }
-    requires small { first + length now.now ≤ most_variables }
-    requires none_marked { scratch.old.marked ≡ [] }
-    ensures marked { MarksPattern kind first now.now (map is_unknown values.now) want scratch.new.marked }
-    ensures state { scratch.new.state ≡ scratch.old.state }
-    ensures sorted { scratch.new.sorted ≡ scratch.old.sorted }
-{
-    let pins = now.len();
     let mut free = [false; MAX_PINS];
-    let mut pattern = [false; MAX_PINS];
-    list_unsettled(values, &mut free[..pins]);
-    kind.choose(now, &free[..pins], want, &mut pattern[..pins]);
-    mark_changed(first, now, &pattern[..pins], scratch);
+    list_unsettled(&b[wires], &mut free[..pins as usize]);
+    take_turn(net, gate, &free[..pins as usize], true, scratch, run);
 }
 
 // Which pins are unsettled, by their wires' values.
@@ -112,23 +91,5 @@ fn list_unsettled(values: &[Tri], free: &mut [bool])
 {
     for (pin, value) in values.iter().enumerate() {
         free[pin] = is_unsettled(*value);
-    }
-}
-
-// Marks a gate, and the wires of its fan-out that differ from it.
-fn mark_with_fan_out(net: &Net, gate: u32, scratch: &mut Scratch)
-    requires circuit { IsCircuit net.now }
-    requires gate { IsGateNumber net.now gate }
-    requires scratch { IsScratchFor net.now scratch.old }
-    ensures marked { scratch.new.marked ≡ with_fan_out net.now scratch.old.state gate }
-    ensures state { scratch.new.state ≡ scratch.old.state }
-    ensures sorted { scratch.new.sorted ≡ scratch.old.sorted }
-{
-    let now = scratch.state()[gate as usize];
-    scratch.mark(gate);
-    for wire in net.fan_out(gate) {
-        if scratch.state()[*wire as usize] != now {
-            scratch.mark(*wire);
-        }
     }
 }

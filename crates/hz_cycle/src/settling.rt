@@ -6,7 +6,7 @@ ghost use Rattle.hz_net.specs.Network.{Driver, network_of};
 ghost use Rattle.hz_gmw.specs.RunRecord.{flip_count};
 ghost use Rattle.hz_gmw.specs.Runs.{end_of};
 ghost use Rattle.hz_reach.specs.Order.{IsInKeyOrder};
-ghost use Rattle.hz_reach.specs.Room.{Spends};
+ghost use Rattle.hz_reach.specs.Room.{Spends, HasRoomFor};
 ghost use Rattle.hz_reach.specs.Spread.{IsSparingRun};
 ghost use Rattle.hz_reach.specs.Given.{IsScratchFor, IsEmptyRun};
 ghost use Rattle.hz_cycle.specs.Cycles.{AreResultsOfBoth, IsSettleRun};
@@ -17,7 +17,7 @@ use crate::passing::make_pass;
 use hz_core::Tri;
 use hz_gmw::Run;
 use hz_net::Net;
-use hz_reach::{Scratch, run_counts, run_ends, sparing_in_order};
+use hz_reach::{Scratch, sparing_in_order};
 
 /// The settle run: a run from a start that is stable under its own inputs, in whose last state each variable that is not X
 /// in the result of Algorithm B has its value there and is stable. That state is turned, so that a cycle may begin in it.
@@ -82,11 +82,8 @@ pub fn settle_from(
     ensures goes_on { (made : List (List ℕ)) × (run.new.steps ≡ run.old.steps ++ made) }
     ensures room { Spends run.old run.new }
 {
-    // A getter of the network says that its circuit is one; the room and the bits are given by how often each variable
-    // changes.
+    // A getter of the network says that its circuit is one.
     let _variables = net.len();
-    run_counts();
-    run_ends();
     settle_rounds(when, b, scratch, run);
     make_pass(net, rank, b, scratch, run);
 }
@@ -97,15 +94,12 @@ fn settle_rounds(when: &[u32], b: &[Tri], scratch: &mut Scratch, run: &mut Run)
     requires b { length b.now ≡ length scratch.old.state }
     requires none_marked { scratch.old.marked ≡ [] }
     requires rounds { (net : List Driver) × (input : List Bool) × (a : List Tri) × AreRoundsOf net input a when.now b.now scratch.old.state }
-    requires room_for_flips { length when.now ≤ run.old.spare_flips }
-    requires room_for_steps { length when.now ≤ run.old.spare_steps }
+    requires room { HasRoomFor (length when.now) run.old }
     ensures rounds { AreRoundsMade when.now b.now scratch.old.state run.old.steps run.new.steps scratch.new.state }
     ensures marked { scratch.new.marked ≡ [] }
     ensures sorted { scratch.new.sorted ≡ scratch.old.sorted }
     ensures room { Spends run.old run.new }
 {
-    // The room is told by how often each variable changes.
-    run_counts();
     scratch.sort_rounds(when);
     let mut place = 0;
     while place < scratch.by_round().len() {

@@ -25,7 +25,7 @@ usage:
   hazard replay NETLIST RUNS
                           checks the runs that a report shows
   hazard convert NETLIST RUNS
-                          writes a run text in version 2
+                          writes a run text in format 2
   hazard vcd NETLIST RUNS
                           writes the last run for a waveform viewer
   hazard batch NETLIST PATTERNS
@@ -64,7 +64,7 @@ pub fn tell(rt: &HostRuntime, words: &[String], first: &[u8], refused: Refusal) 
         Refusal::Text { place } => tell_line(rt, words, first, place),
         Refusal::File => tell_unread(rt, words, first),
         Refusal::TooLong => tell_long(rt, words, first),
-        Refusal::Sink => say(rt, "hazard: standard output can't be written"),
+        Refusal::Sink => tell_unwritten(rt),
         Refusal::Memory => say(rt, "hazard: out of memory"),
     }
 }
@@ -72,6 +72,19 @@ pub fn tell(rt: &HostRuntime, words: &[String], first: &[u8], refused: Refusal) 
 // One line. If standard error can't be written there is nobody to tell.
 fn say(rt: &HostRuntime, line: &str) {
     let _ = eprintln!(rt; "{line}");
+}
+
+// That the output can't be written. A pipe whose reader has gone, as of `head`, has all that it wanted.
+fn tell_unwritten(rt: &HostRuntime) {
+    if !is_piped(rt) {
+        say(rt, "hazard: standard output can't be written");
+    }
+}
+
+// Whether standard output is a pipe.
+fn is_piped(rt: &HostRuntime) -> bool {
+    fs::read_link(rt, "/proc/self/fd/1")
+        .is_ok_and(|target| target.to_str().is_some_and(|name| name.starts_with("pipe:")))
 }
 
 fn tell_usage(rt: &HostRuntime) {
@@ -154,12 +167,15 @@ fn file_name(alloc: Global, words: &[String], place: Place) -> Option<&str> {
     }
 }
 
-// The number of the line that a refusal names.
+// The number of the line that a refusal names. A fault of the whole text has the line 0, which is none.
 fn line_number(first: &[u8]) -> Option<usize> {
     let text = str::from_utf8(first).ok()?;
     let (_, rest) = text.split_once(" line ")?;
     let (number, _) = rest.split_once(':')?;
-    number.parse().ok()
+    match number.parse() {
+        Ok(0) | Err(_) => None,
+        Ok(number) => Some(number),
+    }
 }
 
 // The first bytes of the line with a number, which is counted from 1.

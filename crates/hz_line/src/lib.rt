@@ -4,7 +4,7 @@
 //! line feed, `#` starts a comment, blanks separate tokens, and a token is a word or punctuation
 //! `( ) , =`. [`split_line`] takes one line off a text, [`read_tokens`] gives the tokens of a line, [`next_token`]
 //! one after the other, and [`is_keyword`] compares a word with a keyword in any letter case. A reader that knows
-//! what has to come next asks [`first_word`], [`first_punctuation`] or [`has_no_token`], which is quicker. Lines and tokens borrow
+//! what has to come next asks [`first_word`], [`first_punctuation`] or [`is_blank_line`], which is quicker. Lines and tokens borrow
 //! the text.
 //!
 //! A text each of whose lines is one statement has a [`Grammar`], and [`read_statements`] gives its numbered statements or

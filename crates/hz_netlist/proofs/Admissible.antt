@@ -1,5 +1,5 @@
 -- The circuit of checked elements may be built, and each of its gates has a pin.
-use Rattle.std.proofs.Common.{◌≡◌, ◌∙◌, ℕ, ◌+◌, ◌-◌, ◌<◌, ◌≤◌, ◌++◌, ◌||◌, ◌==◌, Bool, true, false, cond, suc, List, [], ◌∷◌, Option, Some, None, length, map, refl, ap, sym, subst, arith, append_assoc, add-zero, length-append}
+use Rattle.std.proofs.Common.{◌≡◌, ◌∙◌, ℕ, ◌+◌, ◌-◌, ◌<◌, ◌≤◌, ◌++◌, ◌||◌, Bool, true, false, cond, suc, List, [], ◌∷◌, Option, Some, None, length, map, refl, ap, sym, subst, arith, append_assoc, add-zero, length-append}
 use Rattle.std.specs.Prelude.{IsSome, IsTrue, sum_by, All, position, nat_eq, fold}
 use Rattle.std.specs.List.{list_any, AllByRecursion}
 use Rattle.std.specs.Str.{bytes_eq}
@@ -9,13 +9,12 @@ use Rattle.std.proofs.lemmas.List.Elements.{All-nil, All-cons, All-map}
 use Rattle.std.proofs.lemmas.List.Folds.{list_any_at, list_any-append}
 use Rattle.std.proofs.lemmas.List.Quantifiers.{position-Some}
 use Rattle.std.proofs.lemmas.List.Sums.{sum_by-append, sum_by-cons}
-use Rattle.hz_core.proofs.CircuitLemmas.{bounds-from_takes}
 use Rattle.hz_core.specs.declared.kind.Kind.{Kind}
 use Rattle.hz_core.specs.declared.kind.Kind.TheVariants.{And}
 use Rattle.hz_core.specs.Gate.{most_pins}
 use Rattle.hz_core.specs.Netlist as netlist
 use Rattle.hz_core.proofs.ListLemmas.{list_any-from_position_none}
-use Rattle.hz_netlist.specs.Build.{Apart, AreKnown, AreWired, HasNodeName, HasRightPins, UsesKnown, AreAdmissibleSteps, MayAddInput, MayAddCut, MayAddGate, MayAddPinNamed, MayAddPins, MayAddOutput, MayBuild, initial_builder, with_input_of, with_cut_of, with_gate_of, with_pin_named, with_pins_of, with_output_of}
+use Rattle.hz_netlist.specs.Build.{Apart, AreWired, HasNodeName, HasRightPins, UsesKnown, AreAdmissibleSteps, MayAddInput, MayAddCut, MayAddGate, MayAddPinNamed, MayAddPins, MayAddOutput, MayBuild, initial_builder, with_input_of, with_cut_of, with_gate_of, with_pin_named, with_pins_of, with_output_of}
 use Rattle.hz_netlist.specs.Circuit.{data_nodes, all_inputs, node_names, number_in, gates_of, add_once, each_once, circuit_of_elements}
 use Rattle.hz_netlist.specs.Element.{Element, Input, Cut, Gate, Output, input_names, cut_names, gate_names, output_names, element_variables, variable_total}
 use Rattle.hz_netlist.proofs.BuiltCircuit.{bare, bare_cuts, bare_gates, bare_inputs, only_inputs, with_gates, with_parts, cuts_of, connected_circuit, data_set, next_cut, pin_added, pins_added, each_once-append, inputs-is, inputs_of-is, unconnected_netlist-is, connected-is}

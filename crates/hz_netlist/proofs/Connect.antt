@@ -1,5 +1,5 @@
 -- Pins and outputs by the numbers of their nodes.
-use Rattle.std.proofs.Common.{◌≡◌, ◌∙◌, ℕ, List, [], ◌∷◌, map, fold, refl, ap, subst, sym}
+use Rattle.std.proofs.Common.{◌≡◌, ℕ, List, [], ◌∷◌, map, fold, refl}
 use Rattle.hz_core.specs.Netlist.{Netlist, with_output}
 use Rattle.hz_netlist.specs.Build.{AreAdmissibleSteps, HasNode, MayAddOutput, MayAddPinFrom, MayAddPinNamed, with_output_of, with_pin_from, with_pin_named}
 use Rattle.hz_netlist.specs.Circuit.{number_in}

@@ -19,6 +19,14 @@ use Rattle.hz_netlist.specs.declared.names.NameTable.TheInside.{Inside}
 use Rattle.hz_netlist.specs.Names.{Names, Seen, seen_at, seen_names, fresh, with_change, with_sight}
 use Rattle.hz_netlist.specs.Table.{seen_of, entry_names, HoldsNames}
 
+-- the name of an entry
+abbrev pub name_in : Entry → List ℕ
+name_in one = one.name.now
+
+-- an entry of no name
+abbrev pub no_entry : Entry
+no_entry = record { name = record { ref_ptr = (0, 0); now = [] }; definer = None; user = None }
+
 -- the names of a table are those of its entries
 pub names-in : (entries : List Entry) → seen_names (map seen_of entries) ≡ entry_names entries
 names-in [] = refl
@@ -40,6 +48,16 @@ holds-more old new name one was is fresh hashing entries chains =
           ∙ ap (map (hash_of old.hashing)) (sym names) ∙ ap (λ one. map (hash_of one) (entry_names new.entries.items)) (sym hashing);
       distinct = subst (IsDistinct bytes_eq) (sym names) (IsDistinct-push nat_list_eq_equiv (entry_names old.entries.items) name was.distinct (list_any-from_position_none (bytes_eq name) (entry_names old.entries.items) fresh));
     }
+
+-- where entries have a name, the names have it
+pub found-in : (entries : List Entry) (names : Names) (name : List ℕ) (place : Option ℕ) → map seen_of entries ≡ names → position (bytes_eq name) (entry_names entries) ≡ place → position (bytes_eq name) (seen_names names) ≡ place
+found-in entries names name place are found =
+    ap (λ (all : Names). position (bytes_eq name) (seen_names all)) (sym are) ∙ ap (position (bytes_eq name)) (names-in entries) ∙ found
+
+-- with one entry more they have a name more
+pub entries-more : (entries more : List Entry) (one : Entry) (names : Names) → map seen_of entries ≡ names → more ≡ entries ++ one ∷ [] → map seen_of more ≡ names ++ seen_of one ∷ []
+entries-more entries more one names are longer =
+    ap (map seen_of) longer ∙ map-append seen_of entries (one ∷ []) ∙ ap (λ (all : Names). all ++ seen_of one ∷ []) are
 
 -- a name that is there stays, and one that is not comes last
 pub sight-found : (names : Names) (name : List ℕ) (place : ℕ) → position (bytes_eq name) (seen_names names) ≡ Some place → names ≡ with_sight names name

@@ -1,6 +1,6 @@
 -- Names that have a number at first sight, with the lines that define and use them first.
-use Rattle.std.specs.Prelude.{◌≡◌, ℕ, List, [], ◌∷◌, ◌++◌, Option, Some, None, is_none, is_some, map, position, if◌then◌else◌}
-use Rattle.std.specs.List.{slice_index_or}
+use Rattle.std.specs.Prelude.{◌≡◌, ℕ, ◌<◌, All, Bool, List, [], ◌∷◌, ◌++◌, Option, Some, None, is_none, is_some, length, map, position, if◌then◌else◌}
+use Rattle.std.specs.List.{list_any, slice_index_or}
 use Rattle.std.specs.Option.{unwrap_or}
 use Rattle.std.specs.Str.{bytes_eq}
 use Rattle.hz_core.specs.Least.{option_min}
@@ -46,6 +46,18 @@ abbrev pub user_in : Names → List ℕ → Option ℕ
 user_in [] name = None
 user_in (seen ∷ rest) name = if bytes_eq seen.name name then seen.user else user_in rest name
 
+-- names on a line
+abbrev pub on_line : ℕ → List (List ℕ) → List (Numbered (List ℕ))
+on_line line names = map (λ name. record { line = line; statement = name }) names
+
+-- the name is among these
+abbrev pub is_among : List (List ℕ) → List ℕ → Bool
+is_among names name = list_any (bytes_eq name) names
+
+-- the names among these, without their lines
+abbrev pub names_of : List (Numbered (List ℕ)) → List (List ℕ)
+names_of names = map (λ name. name.statement) names
+
 -- the names are those of these definitions and uses, each with the line of the first
 pub record AreNamesOf (definitions uses : List (Numbered (List ℕ))) (names : Names) : Type 0 where
   pub definer : (name : List ℕ) → definer_in names name ≡ first_passing_line (bytes_eq name) definitions
@@ -71,3 +83,23 @@ seen_at names number = slice_index_or names number (fresh [])
 -- the names with one more, unless they have it
 abbrev pub with_sight : Names → List ℕ → Names
 with_sight names name = if is_some (position (bytes_eq name) (seen_names names)) then names else names ++ fresh name ∷ []
+
+-- the number of a name, if it was seen: its place
+abbrev pub place_in : Names → List ℕ → Option ℕ
+place_in names name = position (bytes_eq name) (seen_names names)
+
+-- the name with this number
+abbrev pub name_at : Names → ℕ → List ℕ
+name_at names number = (seen_at names number).name
+
+-- the names with these numbers
+abbrev pub names_at : Names → List ℕ → List (List ℕ)
+names_at names numbers = map (name_at names) numbers
+
+-- each number is that of a name
+abbrev pub AreNumbers : Names → List ℕ → Type 0
+AreNumbers names numbers = All (λ number. number < length names) numbers
+
+-- the node with a name by its number
+abbrev pub node_of : List ℕ → ℕ → ℕ
+node_of nodes number = slice_index_or nodes number 0

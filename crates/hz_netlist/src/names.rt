@@ -1,12 +1,13 @@
 // Names that have a number at first sight.
 
-ghost use Rattle.std.specs.Prelude.{◌≡◌, ◌<◌, ◌++◌, ◌∷◌, [], IfOk, OnErr, OnOk, Some, None, length, map, position};
+ghost use Rattle.std.specs.Prelude.{◌≡◌, ◌<◌, ◌++◌, ◌∷◌, [], IfOk, OnErr, OnOk, Some, length, map, position};
+ghost use Rattle.std.specs.List.{IsDistinct};
 ghost use Rattle.std.specs.Str.{bytes_eq};
 ghost use Rattle.hz_core.specs.NameHash.{hash_of};
-ghost use Rattle.hz_netlist.specs.Names.{seen_names, seen_at, with_definition, with_sight, with_use, first_undefined, undefined_line, fresh};
-ghost use Rattle.hz_netlist.specs.Table.{entry_names, seen_of};
+ghost use Rattle.hz_netlist.specs.Names.{definer_in, first_undefined, place_in, seen_at, seen_names, undefined_line, with_definition, with_sight, with_use};
+ghost use Rattle.hz_netlist.specs.Table.{IsSearched, entry_names, entry_of, seen_of};
 
-use hz_core::{Chains, Memory, NameHashing, Named, find_name, lesser};
+use hz_core::{Chains, Memory, NameHashing, Named, lesser};
 use sha2::{Digest, Sha256};
 use std::alloc::Global;
 use std::marker::Model;
@@ -42,10 +43,20 @@ impl<'a> Named for Entry<'a> {
     }
 }
 
-/// The names of a text, in the order of first sight, each with the lines that define and use it first. The number of a name is its place.
+/// A name that a line defines: its number, and the first line before it that defines it, if one
+/// does.
+#[derive(Clone, Copy)]
+pub struct Definition {
+    pub number: u32,
+    pub first: Option<u32>,
+}
+
+/// The names of a text, in the order of first sight, each with the lines that define and use it
+/// first. The number of a name is its place.
 ///
-/// Names are hashed plainly, until some chain is longer than chance makes one: then they were chosen to collide, and are hashed with
-/// a digest of the whole text as the key, which nobody knows before the text is written.
+/// Names are hashed plainly, until some chain is longer than chance makes one: then they were
+/// chosen to collide, and are hashed with a digest of the whole text as the key, which nobody knows
+/// before the text is written.
 #[derive(Drop)]
 pub struct NameTable<'a> {
     text: &'a [u8],
@@ -93,6 +104,11 @@ impl<'a> NameTable<'a> {
         self.hashing
     }
 
+    /// How many names there may be before the table is made anew.
+    pub fn room(&self) -> usize {
+        self.chains.room()
+    }
+
     /// The hash with a digest of the text as the key: names that collide in it can't be chosen.
     pub fn keyed_hashing(&self) -> NameHashing {
         let digest = Sha256::digest(self.text);
@@ -118,17 +134,22 @@ impl<'a> NameTable<'a> {
     /// The number of a name; a new name comes last.
     pub fn sight(&mut self, name: &'a [u8]) -> Result<u32, Memory>
         ensures seen { OnOk result (self.new ≡ with_sight self.old name.now) }
-        ensures number { IfOk result (λ number. position (bytes_eq name.now) (seen_names self.new) ≡ Some number) }
+        ensures number { IfOk result (λ number. position (bytes_eq name.now)
+            (seen_names self.new) ≡ Some number) }
         ensures err { OnErr result (self.new ≡ self.old) }
     {
-        if let Some(place) = self.place_of(name) {
-            let number = number_of(place)?;
-            return Ok(number);
-        }
-        let number = number_of(self.len())?;
         self.scatter()?;
-        self.add(name)?;
-        Ok(number)
+        match find_entry(self.entries.as_slice(), &self.chains, &self.hashing, name) {
+            Search::Found(place) => {
+                let number = number_of(place)?;
+                Ok(number)
+            }
+            Search::Missing(hash) => {
+                let number = number_of(self.entries.len())?;
+                add_entry(&mut self.entries, &mut self.chains, name, hash)?;
+                Ok(number)
+            }
+        }
     }
 
     /// Notes that a line defines a name; the first line that did before, if one did.
@@ -157,10 +178,33 @@ impl<'a> NameTable<'a> {
         };
     }
 
+    /// Notes that a line defines a name, with the number of the name, and the first line that did
+    /// before, if one did.
+    pub fn define_name(&mut self, name: &'a [u8], line: u32) -> Result<Definition, Memory>
+        ensures names { OnOk result (self.new ≡ with_definition self.old name.now line) }
+        ensures number { IfOk result (λ one. place_in self.new name.now ≡ Some one.number) }
+        ensures first { IfOk result (λ one. one.first ≡ definer_in self.old name.now) }
+    {
+        let number = self.sight(name)?;
+        let first = self.define(number, line);
+        Ok(Definition { number, first })
+    }
+
+    /// Notes that a line uses a name; the number of the name.
+    pub fn use_name(&mut self, name: &'a [u8], line: u32) -> Result<u32, Memory>
+        ensures names { OnOk result (self.new ≡ with_use self.old name.now line) }
+        ensures number { IfOk result (λ number. place_in self.new name.now ≡ Some number) }
+    {
+        let number = self.sight(name)?;
+        self.note_use(number, line);
+        Ok(number)
+    }
+
     /// The first line that uses a name which no line defines.
     #[tactic(auto, using(crate::proofs::NameTableLemmas::min_assoc, crate::proofs::NameTableLemmas::min_none))]
     pub fn first_undefined(&self) -> Option<u32>
-        ensures { result ≡ first_undefined self.now }
+        ensures first { result ≡ first_undefined self.now }
+        ensures distinct { IsDistinct bytes_eq (seen_names self.now) }
     {
         let mut first = None;
         for entry in &self.entries {
@@ -169,8 +213,9 @@ impl<'a> NameTable<'a> {
         first
     }
 
-    /// Takes room for the names of the rest of the text, so many bytes, if the table is full: as many to a byte as were found in what was
-    /// read so far. So a table of a million names is made anew once or twice, and not twenty times.
+    /// Takes room for the names of the rest of the text, so many bytes, if the table is full: as
+    /// many to a byte as were found in what was read so far. So a table of a million names is made
+    /// anew once or twice, and not twenty times.
     pub fn make_room(&mut self, left: usize) -> Result<(), Memory>
         ensures { self.new ≡ self.old }
     {
@@ -183,13 +228,6 @@ impl<'a> NameTable<'a> {
         self.reserve(more.max(FIRST_ROOM))
     }
 
-    // The place of a name in the table.
-    fn place_of(&self, name: &[u8]) -> Option<usize>
-        ensures { result ≡ position (bytes_eq name.now) (seen_names self.now) }
-    {
-        find_name(self.entries.as_slice(), &self.chains, &self.hashing, name)
-    }
-
     // Makes room for that many more names.
     fn reserve(&mut self, more: usize) -> Result<(), Memory>
         ensures { self.new ≡ self.old }
@@ -198,26 +236,6 @@ impl<'a> NameTable<'a> {
             return Err(Memory);
         };
         self.chains.reserve(self.entries.len().saturating_add(more))
-    }
-
-    // Adds a name that the table does not have.
-    fn add(&mut self, name: &'a [u8]) -> Result<(), Memory>
-        requires { position (bytes_eq name.now) (seen_names self.old) ≡ None }
-        ensures ok { OnOk result (self.new ≡ self.old ++ fresh name.now ∷ []) }
-        ensures err { OnErr result (self.new ≡ self.old) }
-    {
-        let Ok(()) = self.entries.reserve(1) else {
-            return Err(Memory);
-        };
-        let Ok(()) = self.chains.push(self.hashing.hash(name)) else {
-            return Err(Memory);
-        };
-        self.entries.push_reserved(Entry {
-            name,
-            definer: None,
-            user: None,
-        });
-        Ok(())
     }
 
     // Hashes the names anew, if they were chosen to collide.
@@ -258,7 +276,8 @@ fn number_of(place: usize) -> Result<u32, Memory>
 
 // Puts the names of entries on chains.
 fn hash_names(entries: &[Entry], hashing: &NameHashing, chains: &mut Chains) -> Result<(), Memory>
-    ensures { OnOk result (chains.new ≡ chains.old ++ map (hash_of hashing.now) (entry_names entries.now)) }
+    ensures { OnOk result (chains.new ≡ chains.old
+        ++ map (hash_of hashing.now) (entry_names entries.now)) }
 {
     for entry in entries {
         match chains.push(hashing.hash(entry.name)) {
@@ -266,5 +285,57 @@ fn hash_names(entries: &[Entry], hashing: &NameHashing, chains: &mut Chains) -> 
             Err(Memory) => return Err(Memory),
         }
     }
+    Ok(())
+}
+
+// What a search for a name comes to: its place, or its hash if no entry has it.
+#[derive(Clone, Copy)]
+pub(crate) enum Search {
+    Found(usize),
+    Missing(u32),
+}
+
+// Searches entries, which are on chains, for a name.
+fn find_entry(entries: &[Entry], chains: &Chains, hashing: &NameHashing, name: &[u8]) -> Search
+    requires { chains.now ≡ map (hash_of hashing.now) (entry_names entries.now) }
+    ensures { IsDistinct bytes_eq (entry_names entries.now)
+        → IsSearched entries.now hashing.now name.now result }
+{
+    let hash = hashing.hash(name);
+    let mut number = chains.last(hash);
+    while number > 0 {
+        let place = number as usize - 1;
+        if name == entries[place].name() {
+            return Search::Found(place);
+        }
+        number = chains.earlier(place);
+    }
+    Search::Missing(hash)
+}
+
+// Adds an entry for a name with this hash, which no line defines or uses so far.
+fn add_entry<'a>(
+    entries: &mut Vec<Entry<'a>>,
+    chains: &mut Chains,
+    name: &'a [u8],
+    hash: u32,
+) -> Result<(), Memory>
+    ensures entries { OnOk result (entries.new.items ≡ entries.old.items
+        ++ entry_of name.entry ∷ []) }
+    ensures chains { OnOk result (chains.new ≡ chains.old ++ hash ∷ []) }
+    ensures err { OnErr result ((entries.new.items ≡ entries.old.items)
+        × (chains.new ≡ chains.old)) }
+{
+    let Ok(()) = entries.reserve(1) else {
+        return Err(Memory);
+    };
+    let Ok(()) = chains.push(hash) else {
+        return Err(Memory);
+    };
+    entries.push_reserved(Entry {
+        name,
+        definer: None,
+        user: None,
+    });
     Ok(())
 }

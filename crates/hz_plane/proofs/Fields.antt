@@ -88,9 +88,9 @@ module _ (netlist other : Netlist) (circuit : IsCircuit netlist) (circuit' : IsC
   same-order order readers is = record {
     gates = λ k d inside. there (get_or order k d) (is.gates k d inside);
     every = λ gate is_gate. is.every gate (back gate is_gate);
-    long = omega (arith, is.long, inputs, circuit.nodes, circuit'.nodes, ap (length {A = Gate}) gates);
+    long = is.long;
     inside = is.inside;
-    reads = λ place source below contains. is.reads place source below (subst (λ (g : Gate). Contains g.sources source) (sym (same-gate_at (slice_index order place))) contains);
+    reads = λ place reader below within contains. is.reads place reader below within (subst (λ (g : Gate). Contains g.sources (slice_index order place)) (sym (same-gate_at (slice_index order reader))) contains);
   }
 
   pub same-back : (order : List ℕ) (lists : List (List ℕ)) → IsBack netlist order lists → IsBack other order lists

@@ -4,8 +4,12 @@ pub mod Words
 pub mod PlaneLists
 -- Sets of lanes: a lane more, a lane less, and no lane
 pub mod LaneSets
+-- Eight lanes at once: a byte of a word, and bits that are put into a byte one after the other
+pub mod ByteLemmas
 -- What one lane lists, and what all others list, as items are written one after the other
 pub mod LoadLemmas
+-- Lanes that are loaded from a list of bits: eight at once, and one lane after the other
+pub mod BlockLoads
 -- Faults as they are noted, lane by lane
 pub mod FaultNotes
 -- Where each node is known in each lane, and each gate is its own excitation, no lane has a fault

@@ -146,7 +146,7 @@ pub no-lane : (lane : ℕ) → has_lane (0 ∷ 0 ∷ 0 ∷ 0 ∷ 0 ∷ 0 ∷ 0 �
 no-lane lane = empty-set (0 ∷ 0 ∷ 0 ∷ 0 ∷ 0 ∷ 0 ∷ 0 ∷ 0 ∷ []) lane (refl, (refl, (refl, (refl, (refl, (refl, (refl, (refl, tt))))))))
 
 -- the view of fields, by their parts
-by-parts : (inputs nodes count size : ℕ) (lanes others : List (Option Loaded)) → inputs ≡ count → nodes ≡ size → lanes ≡ others →
+pub by-parts : (inputs nodes count size : ℕ) (lanes others : List (Option Loaded)) → inputs ≡ count → nodes ≡ size → lanes ≡ others →
     ◌≡◌ {A = LaneLoads} (record { inputs = inputs; nodes = nodes; lanes = lanes }) (record { inputs = count; nodes = size; lanes = others })
 by-parts inputs nodes count size lanes others e f g = cc
 
@@ -165,3 +165,13 @@ pub loaded-is : (loaded : List ℕ) (inputs : List (List ℕ)) (listings : List 
 loaded-is loaded inputs listings lane load e =
     let inside : lane < 512 = omega (arith, slice_get_within (lane_loads loaded inputs listings) lane (Some load) e, count-lanes loaded inputs listings) in
     shown (has_lane loaded lane) (record { input = lane_input inputs lane; listed = lane_listed listings lane }) load (sym (at-lane loaded inputs listings lane inside) ∙ get_or_from_slice_get (lane_loads loaded inputs listings) lane (Some load) None e)
+
+-- a lane that the view shows as not loaded
+unloaded : (bit : Bool) (here : Loaded) → (if bit then Some here else None) ≡ None → bit ≡ false
+unloaded false here e = refl
+unloaded true here e = cc
+
+pub not-loaded : (loaded : List ℕ) (inputs : List (List ℕ)) (listings : List Listing) (lane : ℕ) → slice_get (lane_loads loaded inputs listings) lane ≡ Some None → has_lane loaded lane ≡ false
+not-loaded loaded inputs listings lane e =
+    let inside : lane < 512 = omega (arith, slice_get_within (lane_loads loaded inputs listings) lane None e, count-lanes loaded inputs listings) in
+    unloaded (has_lane loaded lane) (record { input = lane_input inputs lane; listed = lane_listed listings lane }) (sym (at-lane loaded inputs listings lane inside) ∙ get_or_from_slice_get (lane_loads loaded inputs listings) lane None None e)

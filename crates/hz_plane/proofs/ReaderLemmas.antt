@@ -3,9 +3,10 @@ use Rattle.std.proofs.Common.{◌≡◌, ◌∙◌, ℕ, zero, suc, ◌+◌, ◌
 use Rattle.smallvec.specs.SmallVec.{SmallVec}
 use Rattle.std.specs.Prelude.{Contains}
 use Rattle.std.proofs.lemmas.Bool.{cases_eq, cases_lt}
-use Rattle.std.proofs.lemmas.List.{map-set, get_or-map, get_or-set_same, get_or-set_other, length-append, get_or_append_left, get_or-append_right, get_or_past}
+use Rattle.std.proofs.lemmas.List.{length-map, map-set, get_or-map, get_or-set_same, get_or-set_other, length-append, get_or_append_left, get_or-append_right, get_or_past}
 use Rattle.std.proofs.lemmas.List.Elements.{All-nil, All-push, Contains-append_left, Contains-push}
-use Rattle.hz_plane.specs.Sweeps.{readers_at}
+use Rattle.hz_core.specs.Netlist.{Netlist}
+use Rattle.hz_plane.specs.Sweeps.{AreReaders, IsOrder, readers_at}
 
 -- what a push into one list makes of all
 pub filed-push :
@@ -71,3 +72,22 @@ module _ (lists : List (List ℕ)) (list : List ℕ) where
       | inr beyond ↦ subst (All P) (sym (get_or_past (lists ++ list ∷ []) n [] (omega (arith, past, beyond, length-append lists (list ∷ []))))) (All-nil P)
     ]
   ]
+
+-- the lists of all nodes, as they are laid out by the places of gates
+pub by-place : (netlist : Netlist) (order : List ℕ) (readers lists : List (List ℕ)) → AreReaders netlist order readers → lists ≡ map (readers_at readers) order → IsOrder netlist order lists
+by-place netlist order readers lists is are = subst (IsOrder netlist order) (sym are) (record {
+  gates = is.gates;
+  every = is.every;
+  long = length-map order (readers_at readers);
+  inside = λ place. elim (cases_lt place (length order)) [
+    | inl below ↦ subst (All (λ reader. reader < length order)) (sym (at place below)) (is.inside (get_or order place 0))
+    | inr past ↦ (
+        let none : readers_at (map (readers_at readers) order) place ≡ [] = get_or_past (map (readers_at readers) order) place [] (omega (arith, past, length-map order (readers_at readers))) in
+        subst (All (λ reader. reader < length order)) (sym none) (All-nil (λ reader. reader < length order))
+        )
+  ];
+  reads = λ place reader below within contains. subst (λ (list : List ℕ). Contains list reader) (sym (at place below)) (is.reads reader (get_or order place 0) within contains);
+})
+  where
+    at : (place : ℕ) → place < length order → readers_at (map (readers_at readers) order) place ≡ readers_at readers (get_or order place 0)
+    at place below = get_or-map (readers_at readers) order place 0 [] below

@@ -1,5 +1,5 @@
 -- What the fields of planes stand for.
-use Rattle.std.specs.Prelude.{◌≡◌, ◌≢◌, ℕ, ◌+◌, ◌<◌, ◌^◌, Bool, Some, length, slice_get, slice_index}
+use Rattle.std.specs.Prelude.{◌≡◌, ◌≢◌, ℕ, ◌+◌, ◌/◌, ◌<◌, ◌^◌, Bool, Some, length, slice_get, slice_index}
 use Rattle.hz_core.specs.Netlist.{Netlist, IsCircuit, IsWhole}
 use Rattle.hz_plane.specs.declared.stage.Stage.TheVariants.{Loading, Settled}
 use Rattle.hz_plane.specs.declared.planes.Planes.TheInside.{Inside}
@@ -32,7 +32,7 @@ pub record HoldsPlanes (fields : Inside) : Type 0 where
   pub nodes : fields.loads.nodes ≡ fields.loads.inputs + length fields.gates
   pub small : fields.loads.nodes < 2 ^ 32
   pub values_count : length fields.values.items ≡ fields.loads.nodes
-  pub marks : length fields.marks.items ≡ length fields.schedule.order.items
+  pub marks : length fields.marks.items ≡ length fields.schedule.order.items / 64 + 1
   pub faults_count : length fields.faults.items ≡ 512
   pub values_planes : AreAllPlanes fields.values.items
   pub sources : (pin : ℕ) → pin < length (pin_sources fields.gates) → slice_index (pin_sources fields.gates) pin < fields.loads.nodes

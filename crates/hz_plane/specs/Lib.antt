@@ -5,6 +5,7 @@ pub mod Steps
 pub mod Lanes
 pub mod Loads
 pub mod LoadsInside
+pub mod EightBits
 pub mod Faults
 pub mod Sweeps
 pub mod Forward

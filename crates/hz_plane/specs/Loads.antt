@@ -1,5 +1,5 @@
 -- What was loaded into lanes.
-use Rattle.std.specs.Prelude.{ℕ, ◌-◌, Bool, true, false, Option, None, Some, List, ◌++◌, length, map, replicate, slice_set, if◌then◌else◌}
+use Rattle.std.specs.Prelude.{ℕ, zero, suc, ◌-◌, ◌*◌, Bool, true, false, Option, None, Some, List, [], ◌∷◌, ◌++◌, length, map, take, drop, replicate, slice_set, if◌then◌else◌}
 use Rattle.std.specs.List.{range_with_len, fold}
 use Rattle.hz_plane.specs.declared.listing.Listing.{Listing}
 use Rattle.hz_plane.specs.Bits.{has_lane}
@@ -49,3 +49,16 @@ held_at held listed = fold (λ list node. slice_set list node.0 (Some node.1)) l
 -- the listed start of so many nodes that lists the first bits of the inputs, and the held gates
 abbrev pub listed_with : ℕ → List Bool → List (ℕ × Bool) → List (Option Bool)
 listed_with nodes first held = held_at held (map Some first ++ replicate (nodes - length first) None)
+
+-- what a lane is loaded with from a list of bits: the bits that its start lists for the inputs, and then its new input
+abbrev pub loaded_from : (nodes inputs : ℕ) → List (ℕ × Bool) → List Bool → Loaded
+loaded_from nodes inputs held bits = record { input = take inputs (drop inputs bits); listed = listed_with nodes (take inputs bits) held }
+
+-- what so many lanes are loaded with, from a list of the bits of one lane after the other
+abbrev pub loads_in : (nodes inputs : ℕ) → List (ℕ × Bool) → ℕ → List Bool → List (Option Loaded)
+loads_in nodes inputs held zero bits = []
+loads_in nodes inputs held (suc lanes) bits = Some (loaded_from nodes inputs held bits) ∷ loads_in nodes inputs held lanes (drop (2 * inputs) bits)
+
+-- the 512 lanes, of which the first ones are loaded so
+abbrev pub block_loads : (nodes inputs : ℕ) → List (ℕ × Bool) → ℕ → List Bool → List (Option Loaded)
+block_loads nodes inputs held lanes bits = loads_in nodes inputs held lanes bits ++ replicate (512 - lanes) None

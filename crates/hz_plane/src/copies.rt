@@ -53,14 +53,14 @@ fn all_pins(alloc: Global, net: &Net, order: &[u32]) -> Result<Vec<SmallVec<u32,
     Ok(lists)
 }
 
-// A list of the same nodes.
+// A list of the same numbers.
 #[tactic(auto, using(std::proofs::lemmas::List::take_more))]
-fn copy_of(alloc: Global, nodes: &[u32]) -> Result<SmallVec<u32, 4>, Memory>
-    ensures { IfOk result (λ list. list.items ≡ nodes.now) }
+pub(crate) fn copy_of(alloc: Global, numbers: &[u32]) -> Result<SmallVec<u32, 4>, Memory>
+    ensures { IfOk result (λ list. list.items ≡ numbers.now) }
 {
     let mut list = SmallVec::new(alloc);
-    for node in nodes {
-        let Ok(()) = list.push(*node) else {
+    for number in numbers {
+        let Ok(()) = list.push(*number) else {
             return Err(Memory);
         };
     }

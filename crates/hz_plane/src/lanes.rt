@@ -1,6 +1,7 @@
 //! Sets of lanes, a bit for each.
-ghost use Rattle.std.specs.Prelude.{◌≡◌, ◌≢◌, ℕ, ◌<◌, true, false};
+ghost use Rattle.std.specs.Prelude.{◌≡◌, ◌≢◌, ℕ, ◌/◌, ◌%◌, ◌<◌, true, false};
 ghost use Rattle.hz_plane.specs.Bits.{has_lane};
+ghost use Rattle.hz_plane.specs.EightBits.{byte_has};
 
 // Whether a lane is in a set.
 #[inline(always)]
@@ -59,4 +60,18 @@ fn remove_lane(set: &mut [u64; 8], lane: u32)
 {
     let word = (lane / 64) as usize;
     set[word] &= !(1u64 << (lane % 64));
+}
+
+// Gives eight lanes their bits, those of a byte.
+#[inline(always)]
+pub(crate) fn put_eight(set: &mut [u64; 8], eight: u32, byte: u8)
+    requires { eight < 64 }
+    ensures here { (lane : ℕ) → lane / 8 ≡ eight
+        → has_lane set.new lane ≡ byte_has byte (lane % 8) }
+    ensures others { (other : ℕ) → other < 512 → other / 8 ≢ eight
+        → has_lane set.new other ≡ has_lane set.old other }
+{
+    let word = (eight / 8) as usize;
+    let low = 8 * (eight % 8);
+    set[word] = (set[word] & !(255 << low)) | ((byte as u64) << low);
 }

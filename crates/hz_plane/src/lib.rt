@@ -6,7 +6,7 @@
 //! | `values` | [`LaneValues`]: a variable in all lanes at once |
 //! | `stage` | [`Stage`]: what was done with the planes; [`LaneFault`]: why a lane has no stable start |
 //! | `loads`, `listing` | what each lane was loaded with, and what the lanes list for a node |
-//! | `lanes` | sets of lanes |
+//! | `lanes`, `eights` | sets of lanes; eight lanes at once |
 //! | `pair`, `rule`, `excited` | the two planes of a node, what a gate does with its excitation, and the excitation itself |
 //! | `passes` | completed starts, Algorithm A and Algorithm B, in all lanes |
 //! | `forward`, `ones` | gates without feedback, each evaluated once by the lanes in which it is 1 |
@@ -20,6 +20,7 @@ ghost use Rattle.hz_plane.specs.View.{ListedInputsFill};
 
 mod classes;
 mod copies;
+mod eights;
 mod excited;
 mod faults;
 mod forward;

@@ -1,12 +1,13 @@
 //! What the lanes list for a node.
-ghost use Rattle.std.specs.Prelude.{◌≡◌, ◌≢◌, ℕ, ◌<◌, Bool, None, Some, IsTrue};
+ghost use Rattle.std.specs.Prelude.{◌≡◌, ◌≢◌, ℕ, ◌/◌, ◌%◌, ◌<◌, Bool, None, Some, IsTrue};
 ghost use Rattle.hz_core.specs.Ternary.{tri_of};
 ghost use Rattle.hz_plane.specs.Bits.{ArePlanes, HasValue};
+ghost use Rattle.hz_plane.specs.EightBits.{byte_has};
 ghost use Rattle.hz_plane.specs.Forward.{IsKnownPair};
 ghost use Rattle.hz_plane.specs.Lanes.{listed_value};
 ghost use Rattle.hz_plane.specs.Loads.{listed_in};
 
-use crate::lanes::{join_lane, put_lane};
+use crate::lanes::{join_lane, put_eight, put_lane};
 use crate::pair::{Pair, is_plane, is_zero};
 use std::simd::prelude::*;
 
@@ -51,6 +52,33 @@ impl Listing {
     {
         put_lane(&mut self.zeros, lane, value == Some(false));
         put_lane(&mut self.ones, lane, value == Some(true));
+    }
+
+    // Lists a bit for the node in each of eight lanes, those of a byte.
+    #[inline(always)]
+    pub(crate) fn list_eight(&mut self, eight: u32, bits: u8)
+        requires { eight < 64 }
+        ensures here { (lane : ℕ) → lane / 8 ≡ eight
+            → listed_in self.new lane ≡ Some (byte_has bits (lane % 8)) }
+        ensures others { (other : ℕ) → other < 512 → other / 8 ≢ eight
+            → listed_in self.new other ≡ listed_in self.old other }
+    {
+        put_eight(&mut self.zeros, eight, !bits);
+        put_eight(&mut self.ones, eight, bits);
+    }
+
+    // Lists the same bit for the node in eight lanes.
+    pub(crate) fn hold_eight(&mut self, eight: u32, bit: bool)
+        requires { eight < 64 }
+        ensures here { (lane : ℕ) → lane / 8 ≡ eight → listed_in self.new lane ≡ Some bit }
+        ensures others { (other : ℕ) → other < 512 → other / 8 ≢ eight
+            → listed_in self.new other ≡ listed_in self.old other }
+    {
+        if bit {
+            self.list_eight(eight, u8::MAX);
+        } else {
+            self.list_eight(eight, 0);
+        }
     }
 
     // The listed value in each lane, and X in the lanes that list none.

@@ -1,10 +1,11 @@
 //! What each lane was loaded with.
-ghost use Rattle.std.specs.Prelude.{◌≡◌, ◌≢◌, ◌<◌, ◌≤◌, ◌++◌, ℕ, All, Bool, List, None, Some, IfOk, IsTrue, drop, false, true, length, map, replicate, slice_get, slice_set};
+ghost use Rattle.std.specs.Prelude.{◌≡◌, ◌≢◌, ◌+◌, ◌*◌, ◌/◌, ◌<◌, ◌≤◌, ◌++◌, ℕ, All, Bool, List, None, Some, IfOk, IsTrue, drop, false, true, length, map, replicate, slice_get, slice_set};
 ghost use Rattle.std.specs.List.{slice_index_or};
 ghost use Rattle.hz_plane.specs.Bits.{has_lane};
-ghost use Rattle.hz_plane.specs.Loads.{Loaded, lane_input, lane_listed, held_at, listed_with};
+ghost use Rattle.hz_plane.specs.Loads.{Loaded, block_loads, lane_input, lane_listed, held_at, listed_with, loaded_from};
 
-use crate::lanes::{has_lane, put_lane};
+use crate::eights::{set_eight, start_eight};
+use crate::lanes::{has_lane, put_eight, put_lane};
 use crate::listing::Listing;
 use hz_core::Memory;
 use std::alloc::Global;
@@ -138,6 +139,88 @@ impl Loads {
         );
         put_lane(&mut self.loaded, lane, true);
         self.no_gates = are_none_with(self.no_gates, held);
+    }
+
+    // Forgets what was loaded, and loads the first lanes, from a list of the bits of one lane after the other.
+    pub(crate) fn load_block(&mut self, lanes: u32, bits: &[bool], held: &[(u32, bool)])
+        requires lanes { lanes ≤ 512 }
+        requires inputs { self.old.inputs ≤ self.old.nodes }
+        requires bits { length bits.now ≡ lanes * (2 * self.old.inputs) }
+        requires held { All (λ node. node.0 < self.old.nodes) held.now }
+        ensures { self.new ≡ record self.old {
+          lanes = block_loads self.old.nodes self.old.inputs held.now lanes bits.now;
+        } }
+    {
+        self.clear();
+        self.load_eights(lanes / 8, bits, held);
+        self.load_rest(8 * (lanes / 8), lanes, bits, held);
+    }
+
+    // Loads the first lanes, eight at once, if no lane is loaded.
+    fn load_eights(&mut self, eights: u32, bits: &[bool], held: &[(u32, bool)])
+        requires eights { eights ≤ 64 }
+        requires inputs { self.old.inputs ≤ self.old.nodes }
+        requires bits { 8 * eights * (2 * self.old.inputs) ≤ length bits.now }
+        requires held { All (λ node. node.0 < self.old.nodes) held.now }
+        requires none { self.old.lanes ≡ replicate 512 None }
+        ensures { self.new ≡ record self.old {
+          lanes = block_loads self.old.nodes self.old.inputs held.now (8 * eights) bits.now;
+        } }
+    {
+        for eight in 0..eights {
+            self.load_eight(eight, bits, held);
+        }
+    }
+
+    // Loads eight lanes, none of which is loaded.
+    fn load_eight(&mut self, eight: u32, bits: &[bool], held: &[(u32, bool)])
+        requires eight { eight < 64 }
+        requires inputs { self.old.inputs ≤ self.old.nodes }
+        requires bits { 8 * (eight + 1) * (2 * self.old.inputs) ≤ length bits.now }
+        requires held { All (λ node. node.0 < self.old.nodes) held.now }
+        requires none { (lane : ℕ) → lane / 8 ≡ eight → slice_get self.old.lanes lane ≡ Some None }
+        ensures inputs { self.new.inputs ≡ self.old.inputs }
+        ensures nodes { self.new.nodes ≡ self.old.nodes }
+        ensures long { length self.new.lanes ≡ 512 }
+        ensures here { (lane : ℕ) → lane / 8 ≡ eight → slice_get self.new.lanes lane
+            ≡ Some (Some (loaded_from self.old.nodes self.old.inputs held.now
+            (drop (lane * (2 * self.old.inputs)) bits.now))) }
+        ensures others { (other : ℕ) → other < 512 → other / 8 ≢ eight
+            → slice_get self.new.lanes other ≡ slice_get self.old.lanes other }
+    {
+        let inputs = self.inputs.len();
+        let step = 2 * inputs;
+        let at = 8 * eight as usize * step;
+        set_eight(eight, bits, at + inputs, step, self.inputs.as_mut_slice());
+        start_eight(eight, bits, at, inputs, held, self.listings.as_mut_slice());
+        put_eight(&mut self.loaded, eight, u8::MAX);
+        self.no_gates = are_none_with(self.no_gates, held);
+    }
+
+    // Loads the lanes that are left, one by one.
+    fn load_rest(&mut self, first: u32, lanes: u32, bits: &[bool], held: &[(u32, bool)])
+        requires first { first ≤ lanes }
+        requires lanes { lanes ≤ 512 }
+        requires inputs { self.old.inputs ≤ self.old.nodes }
+        requires bits { length bits.now ≡ lanes * (2 * self.old.inputs) }
+        requires held { All (λ node. node.0 < self.old.nodes) held.now }
+        requires so_far { self.old.lanes
+            ≡ block_loads self.old.nodes self.old.inputs held.now first bits.now }
+        ensures { self.new ≡ record self.old {
+          lanes = block_loads self.old.nodes self.old.inputs held.now lanes bits.now;
+        } }
+    {
+        for lane in first..lanes {
+            let inputs = self.inputs.len();
+            let at = lane as usize * (2 * inputs);
+            let middle = at + inputs;
+            self.load_held(
+                lane,
+                &bits[middle..middle + inputs],
+                &bits[at..middle],
+                held,
+            );
+        }
     }
 }
 

@@ -1,5 +1,5 @@
 //! The three passes over planes, lane by lane in their clauses.
-ghost use Rattle.std.specs.Prelude.{◌≡◌, ℕ, ◌<◌, ◌≤◌, Bool, true, Some, List, [], length};
+ghost use Rattle.std.specs.Prelude.{◌≡◌, ℕ, ◌+◌, ◌/◌, ◌<◌, ◌≤◌, Bool, true, Some, List, [], length};
 ghost use Rattle.std.specs.List.{slice_index_or};
 ghost use Rattle.hz_core.specs.declared.tri.Tri.{Tri};
 ghost use Rattle.hz_core.specs.Ternary.{tri_of, AllBelow};
@@ -29,7 +29,7 @@ use std::simd::prelude::*;
 pub(crate) fn fill(
     net: &Net,
     schedule: &Schedule,
-    marks: &mut [bool],
+    marks: &mut [u64],
     listings: &[Listing],
     no_gates: bool,
     values: &mut [Pair],
@@ -39,7 +39,7 @@ pub(crate) fn fill(
     requires whole { IsWhole net.now }
     requires listings { length listings.now ≡ length net.now.names }
     requires values { length values.old ≡ length net.now.names }
-    requires marks { length marks.old ≡ length schedule.now.order.items }
+    requires marks { length marks.old ≡ length schedule.now.order.items / 64 + 1 }
     ensures planes { AreAllPlanes values.new }
     ensures evaluated { result ≡ true → AreEvaluated net.now values.new }
     ensures lanes { (netlist : Netlist) → IsCircuit netlist → IsWhole netlist
@@ -96,7 +96,7 @@ fn list_bits(count: usize, listings: &[Listing], values: &mut [Pair])
 fn fill_by_steps(
     net: &Net,
     schedule: &Schedule,
-    marks: &mut [bool],
+    marks: &mut [u64],
     listings: &[Listing],
     values: &mut [Pair],
 )
@@ -105,7 +105,7 @@ fn fill_by_steps(
     requires whole { IsWhole net.now }
     requires listings { length listings.now ≡ length net.now.names }
     requires values { length values.old ≡ length net.now.names }
-    requires marks { length marks.old ≡ length schedule.now.order.items }
+    requires marks { length marks.old ≡ length schedule.now.order.items / 64 + 1 }
     ensures planes { AreAllPlanes values.new }
     ensures lanes { (netlist : Netlist) → IsCircuit netlist → IsWhole netlist
         → net.now.inputs ≡ netlist.inputs → net.now.gates ≡ netlist.gates
@@ -178,7 +178,7 @@ fn set_inputs(inputs: &[[u64; 8]], values: &mut [Pair])
 pub(crate) fn spread(
     net: &Net,
     schedule: &Schedule,
-    marks: &mut [bool],
+    marks: &mut [u64],
     inputs: &[[u64; 8]],
     values: &mut [Pair],
 )
@@ -188,7 +188,7 @@ pub(crate) fn spread(
     requires inputs { length inputs.now ≡ net.now.inputs }
     requires values { length values.old ≡ length net.now.names }
     requires planes { AreAllPlanes values.old }
-    requires marks { length marks.old ≡ length schedule.now.order.items }
+    requires marks { length marks.old ≡ length schedule.now.order.items / 64 + 1 }
     ensures planes { AreAllPlanes values.new }
     ensures lanes { (netlist : Netlist) → IsCircuit netlist → IsWhole netlist
         → net.now.inputs ≡ netlist.inputs → net.now.gates ≡ netlist.gates
@@ -213,7 +213,7 @@ pub(crate) fn spread(
 pub(crate) fn settle(
     net: &Net,
     schedule: &Schedule,
-    marks: &mut [bool],
+    marks: &mut [u64],
     inputs: &[[u64; 8]],
     values: &mut [Pair],
 ) -> bool
@@ -223,7 +223,7 @@ pub(crate) fn settle(
     requires inputs { length inputs.now ≡ net.now.inputs }
     requires values { length values.old ≡ length net.now.names }
     requires planes { AreAllPlanes values.old }
-    requires marks { length marks.old ≡ length schedule.now.order.items }
+    requires marks { length marks.old ≡ length schedule.now.order.items / 64 + 1 }
     ensures planes { AreAllPlanes values.new }
     ensures evaluated { result ≡ true → AreEvaluated net.now values.new }
     ensures lanes { (netlist : Netlist) → IsCircuit netlist → IsWhole netlist
@@ -273,7 +273,7 @@ fn settle_forward(net: &Net, schedule: &Schedule, inputs: &[[u64; 8]], values: &
 fn settle_by_steps(
     net: &Net,
     schedule: &Schedule,
-    marks: &mut [bool],
+    marks: &mut [u64],
     inputs: &[[u64; 8]],
     values: &mut [Pair],
 )
@@ -283,7 +283,7 @@ fn settle_by_steps(
     requires inputs { length inputs.now ≡ net.now.inputs }
     requires values { length values.old ≡ length net.now.names }
     requires planes { AreAllPlanes values.old }
-    requires marks { length marks.old ≡ length schedule.now.order.items }
+    requires marks { length marks.old ≡ length schedule.now.order.items / 64 + 1 }
     ensures planes { AreAllPlanes values.new }
     ensures lanes { (netlist : Netlist) → IsCircuit netlist → IsWhole netlist
         → net.now.inputs ≡ netlist.inputs → net.now.gates ≡ netlist.gates

@@ -6,12 +6,12 @@
 //!
 //! What must stay true: `HoldsPlanes`. What a lane holds is said of each circuit with these inputs and gates, since the fields
 //! keep no more of it.
-ghost use Rattle.std.specs.Prelude.{◌≡◌, ◌≢◌, ◌+◌, ◌<◌, ◌≤◌, ◌^◌, ◌-◌, ℕ, All, Option, Some, None, IfOk, length, min, replicate, slice_get, slice_set};
+ghost use Rattle.std.specs.Prelude.{◌≡◌, ◌≢◌, ◌+◌, ◌*◌, ◌<◌, ◌≤◌, ◌^◌, ◌-◌, ℕ, All, Option, Some, None, IfOk, length, min, replicate, slice_get, slice_set};
 ghost use Rattle.hz_core.specs.declared.tri.Tri.TheVariants.{Unknown};
 ghost use Rattle.hz_core.specs.Netlist.{Netlist, IsCircuit, IsWhole, IsGateNumber};
 ghost use Rattle.hz_plane.specs.Gates.{pin_sources};
 ghost use Rattle.hz_plane.specs.Lanes.{ListsAllInputs};
-ghost use Rattle.hz_plane.specs.Loads.{Loaded, listed_with};
+ghost use Rattle.hz_plane.specs.Loads.{Loaded, block_loads, listed_with};
 ghost use Rattle.hz_plane.specs.Steps.{AreAllPlanes};
 ghost use Rattle.hz_plane.specs.View.{Seen, AreOf, IsLaneValue, IsFilledValue, IsLaneFault, IsUnsettled, LeavesUnknown, value_by, value_in, variables_of};
 ghost use Rattle.hz_plane.specs.declared.stage.Stage.TheVariants.{Loading, Completed, Spread, Settled};
@@ -41,7 +41,7 @@ pub struct Planes {
     settles: u64,
     gates: Gates,
     schedule: Schedule,
-    marks: Vec<bool>,
+    marks: Vec<u64>,
     loads: Loads,
     values: Vec<Pair>,
     faults: Vec<Option<LaneFault>>,
@@ -77,7 +77,7 @@ impl Planes {
         let schedule = Schedule::of(alloc, net)?;
         let loads = Loads::new(alloc, circuit.inputs(), circuit.nodes())?;
         let values = unknown_values(alloc, circuit.nodes())?;
-        let Ok(marks) = vec![in alloc; false; schedule.order.len()] else {
+        let Ok(marks) = vec![in alloc; 0; schedule.order.len() / 64 + 1] else {
             return Err(Memory);
         };
         let Ok(faults) = vec![in alloc; None; 512] else {
@@ -146,6 +146,24 @@ impl Planes {
     {
         let _circuit = net.circuit();
         self.loads.load_held(lane, input, first, held);
+    }
+
+    /// Forgets what was loaded, and loads the first lanes, as `clear` does and then `load_held` of one lane after the
+    /// other. The bits are those of one lane after the other: of each the bits that its start lists for the inputs, and
+    /// its new input.
+    pub fn load_block(&mut self, net: &Net, lanes: u32, bits: &[bool], held: &[(u32, bool)])
+        requires net { AreOf net.now self.old }
+        requires lanes { lanes ≤ 512 }
+        requires bits { length bits.now ≡ lanes * (2 * net.now.inputs) }
+        requires held { All (λ node. IsGateNumber net.now node.0) held.now }
+        ensures { self.new ≡ record self.old {
+          stage = Loading;
+          lanes = block_loads (length net.now.names) net.now.inputs held.now lanes bits.now;
+        } }
+    {
+        let _circuit = net.circuit();
+        self.stage = Stage::Loading;
+        self.loads.load_block(lanes, bits, held);
     }
 
     /// Fills the starts of all lanes: what their listed values force.

@@ -1,9 +1,10 @@
 //! Which gates read each node, by their places in an order.
 ghost use Rattle.std.specs.Prelude.{◌≡◌, ℕ, ◌<◌, ◌≤◌, ◌^◌, ◌++◌, ◌∷◌, [], All, Contains, IfOk, OnOk, length, map, replicate, slice_set, slice_index};
 ghost use Rattle.hz_core.specs.Netlist.{IsGateNumber, gate_at};
-ghost use Rattle.hz_plane.specs.Sweeps.{IsOrder, IsBack, readers_at};
+ghost use Rattle.hz_plane.specs.Sweeps.{AreReaders, IsOrder, IsBack, readers_at};
 ghost use Rattle.hz_plane.specs.Orders.{HasAllGates};
 
+use crate::copies::copy_of;
 use crate::lists::Lists;
 use hz_core::Memory;
 use hz_net::Net;
@@ -14,10 +15,10 @@ use std::alloc::Global;
 type List = SmallVec<u32, 4>;
 
 // For each node the places of the gates that read it.
-pub(crate) fn list_readers(alloc: Global, net: &Net, order: &[u32]) -> Result<Lists, Memory>
+pub(crate) fn list_by_node(alloc: Global, net: &Net, order: &[u32]) -> Result<Lists, Memory>
     requires order { HasAllGates net.now order.now }
     requires few { length order.now < 2 ^ 32 }
-    ensures { IfOk result (IsOrder net.now order.now) }
+    ensures { IfOk result (AreReaders net.now order.now) }
 {
     let mut lists = empty_lists(alloc, net.circuit().nodes())?;
     file_places(net, order, lists.as_mut_slice())?;
@@ -44,7 +45,7 @@ fn file_places(net: &Net, order: &[u32], lists: &mut [List]) -> Result<(), Memor
     requires order { HasAllGates net.now order.now }
     requires few { length order.now < 2 ^ 32 }
     requires lists { map (λ list. list.items) lists.old ≡ replicate (length net.now.names) [] }
-    ensures { OnOk result (IsOrder net.now order.now (map (λ list. list.items) lists.new)) }
+    ensures { OnOk result (AreReaders net.now order.now (map (λ list. list.items) lists.new)) }
 {
     for place in 0..order.len() {
         file_place(net, order[place], place as u32, lists)?;
@@ -90,23 +91,61 @@ fn file(lists: &mut [List], node: u32, place: u32) -> Result<(), Memory>
     Ok(())
 }
 
+// For each place the places of the gates that read its gate. No place has an input, so inputs take no room here.
+pub(crate) fn list_readers(
+    alloc: Global,
+    net: &Net,
+    order: &[u32],
+    by_node: &Lists,
+) -> Result<Lists, Memory>
+    requires { AreReaders net.now order.now by_node.now }
+    ensures { IfOk result (IsOrder net.now order.now) }
+{
+    let lists = all_readers(alloc, net, order, by_node)?;
+    Lists::of(alloc, lists.as_slice())
+}
+
+// The same, each list by itself.
+fn all_readers(
+    alloc: Global,
+    net: &Net,
+    order: &[u32],
+    by_node: &Lists,
+) -> Result<Vec<List>, Memory>
+    requires order { AreReaders net.now order.now by_node.now }
+    ensures { IfOk result
+        (λ lists. IsOrder net.now order.now (map (λ list. list.items) lists.items)) }
+{
+    let _circuit = net.circuit();
+    let Ok(mut lists) = Vec::with_capacity(alloc, order.len()) else {
+        return Err(Memory);
+    };
+    for place in 0..order.len() {
+        let list = copy_of(alloc, by_node.at(order[place] as usize))?;
+        let Ok(()) = lists.push(list) else {
+            return Err(Memory);
+        };
+    }
+    Ok(lists)
+}
+
 // For each place the places up to it of the gates that read its gate.
 pub(crate) fn list_back(
     alloc: Global,
     net: &Net,
     order: &[u32],
-    readers: &Lists,
+    by_node: &Lists,
 ) -> Result<Lists, Memory>
-    requires { IsOrder net.now order.now readers.now }
+    requires { AreReaders net.now order.now by_node.now }
     ensures { IfOk result (IsBack net.now order.now) }
 {
-    let lists = all_back(alloc, net, order, readers)?;
+    let lists = all_back(alloc, net, order, by_node)?;
     Lists::of(alloc, lists.as_slice())
 }
 
 // The same, each list by itself.
 fn all_back(alloc: Global, net: &Net, order: &[u32], readers: &Lists) -> Result<Vec<List>, Memory>
-    requires order { IsOrder net.now order.now readers.now }
+    requires order { AreReaders net.now order.now readers.now }
     ensures { IfOk result
         (λ lists. IsBack net.now order.now (map (λ list. list.items) lists.items)) }
 {

@@ -1,4 +1,4 @@
-//! All gates in an order, and the places at which each node is read.
+//! All gates in an order, and the places at which each is read.
 ghost use Rattle.std.specs.Prelude.{◌≡◌, ℕ, ◌<◌, ◌≤◌, [], true, IfOk, length};
 ghost use Rattle.hz_plane.specs.Schedules.{IsSchedule};
 ghost use Rattle.hz_plane.specs.Sweeps.{readers_at};
@@ -6,13 +6,13 @@ ghost use Rattle.hz_plane.specs.Sweeps.{readers_at};
 use crate::copies::{list_kinds, list_pins};
 use crate::lists::Lists;
 use crate::order::order_gates;
-use crate::readers::{list_back, list_readers};
+use crate::readers::{list_back, list_by_node, list_readers};
 use hz_core::{Kind, Memory};
 use hz_net::Net;
 use std::alloc::Global;
 
-// The gates in an order; for each node the places of the gates that read it; for each place those of its gate's readers that
-// stand no later; whether there are none of these, as without feedback; and the kind and the pins of the gate at each place.
+// The gates in an order; for each place the places of the gates that read its gate; those of them that stand no later;
+// whether there are none of these, as without feedback; and the kind and the pins of the gate at each place.
 #[derive(Debug, Drop)]
 pub(crate) struct Schedule {
     pub(crate) order: Vec<u32>,
@@ -29,8 +29,9 @@ impl Schedule {
         ensures { IfOk result (IsSchedule net.now) }
     {
         let order = order_gates(alloc, net)?;
-        let readers = list_readers(alloc, net, order.as_slice())?;
-        let back = list_back(alloc, net, order.as_slice(), &readers)?;
+        let by_node = list_by_node(alloc, net, order.as_slice())?;
+        let readers = list_readers(alloc, net, order.as_slice(), &by_node)?;
+        let back = list_back(alloc, net, order.as_slice(), &by_node)?;
         let is_forward = are_empty(&back, order.len());
         let kinds = list_kinds(alloc, net, order.as_slice())?;
         let pins = list_pins(alloc, net, order.as_slice())?;

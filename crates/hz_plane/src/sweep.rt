@@ -1,17 +1,18 @@
 //! Gates evaluated in place until nothing changes.
-ghost use Rattle.std.specs.Prelude.{◌≡◌, ℕ, ◌+◌, ◌<◌, ◌≤◌, ◌^◌, ◌⊎◌, IsTrue, Contains, All, false, true, length, slice_set};
-ghost use Rattle.hz_core.specs.Netlist.{IsCircuit, IsWhole, IsGateNumber};
+ghost use Rattle.std.specs.Prelude.{◌≡◌, ◌≢◌, ℕ, ◌+◌, ◌/◌, ◌<◌, ◌≤◌, ◌^◌, ◌⊎◌, Contains, All, false, true, length, slice_index};
+ghost use Rattle.hz_core.specs.Netlist.{IsCircuit, IsWhole, IsGateNumber, gate_at};
 ghost use Rattle.hz_plane.specs.Schedules.{IsSchedule};
-ghost use Rattle.hz_plane.specs.Steps.{step_planes, IsStillPair, AreAllPlanes};
-ghost use Rattle.hz_plane.specs.Sweeps.{weight, AreDue, AreDueBelow, AreMarkedWithin, Ran, marked};
+ghost use Rattle.hz_plane.specs.Steps.{gate_pair, step_planes, IsStillPair, AreAllPlanes};
+ghost use Rattle.hz_plane.specs.Sweeps.{weight, AreDue, AreDueBelow, AreDueBut, AreMarkedWithin, IsMarked, Ran};
 
 use crate::excited::excited;
 use crate::pair::Pair;
 use crate::rule::Rule;
 use crate::schedule::Schedule;
+use hz_core::Kind;
 use hz_net::Net;
 
-// A part of the order in which gates may be marked.
+// A part of the words of marks, outside of which no word has one.
 #[derive(Clone, Copy, Debug)]
 pub(crate) struct Span {
     pub(crate) begin: usize,
@@ -19,19 +20,19 @@ pub(crate) struct Span {
 }
 
 impl Span {
-    // The part with one place more.
+    // The part with one word more.
     #[inline(always)]
-    fn with(self, place: usize) -> Span
-        requires { place < 2 ^ 32 }
+    fn with(self, word: usize) -> Span
+        requires { word < 2 ^ 32 }
         ensures begin { result.begin ≤ self.begin }
         ensures end { self.end ≤ result.end }
-        ensures from { result.begin ≤ place }
-        ensures to { place < result.end }
-        ensures bound { (most : ℕ) → self.end ≤ most → place < most → result.end ≤ most }
+        ensures from { result.begin ≤ word }
+        ensures to { word < result.end }
+        ensures bound { (most : ℕ) → self.end ≤ most → word < most → result.end ≤ most }
     {
         Span {
-            begin: self.begin.min(place),
-            end: self.end.max(place + 1),
+            begin: self.begin.min(word),
+            end: self.end.max(word + 1),
         }
     }
 }
@@ -44,19 +45,20 @@ pub(crate) struct Pass<'a> {
     pub(crate) schedule: &'a Schedule,
 }
 
-// Marks the gate at a place. A gate that the sweep has passed is left for the next one.
+// Marks the gate at a place, in a sweep that has come to a word. A gate of an earlier word is left for the next sweep.
 #[inline(always)]
-fn mark(reader: usize, place: usize, to: usize, marks: &mut [bool], span: Span) -> Span
-    requires inside { reader < length marks.old }
-    requires few { length marks.old < 2 ^ 32 }
-    ensures marks { marks.new ≡ slice_set marks.old reader true }
+fn mark(reader: u32, word: usize, to: usize, marks: &mut [u64], span: Span) -> Span
+    requires inside { reader / 64 < length marks.old }
+    ensures here { IsMarked marks.new reader }
+    ensures kept { (other : ℕ) → IsMarked marks.old other → IsMarked marks.new other }
     ensures within { (from : ℕ) → AreMarkedWithin marks.old from to span.begin span.end
-        → from ≤ place + 1 → AreMarkedWithin marks.new from to result.begin result.end }
+        → from ≤ word → AreMarkedWithin marks.new from to result.begin result.end }
     ensures bound { span.end ≤ length marks.old → result.end ≤ length marks.old }
 {
-    marks[reader] = true;
-    if reader <= place || reader >= to {
-        span.with(reader)
+    let place = (reader / 64) as usize;
+    marks[place] |= 1 << (reader % 64);
+    if place < word || place >= to {
+        span.with(place)
     } else {
         span
     }
@@ -64,31 +66,48 @@ fn mark(reader: usize, place: usize, to: usize, marks: &mut [bool], span: Span) 
 
 // Marks the gates that stand at these places.
 #[inline(always)]
-fn mark_all(list: &[u32], place: usize, to: usize, marks: &mut [bool], span: Span) -> Span
-    requires inside { All (λ reader. reader < length marks.old) list.now }
-    requires few { length marks.old < 2 ^ 32 }
-    ensures listed { (reader : ℕ) → Contains list.now reader → marked marks.new reader ≡ true }
-    ensures kept { (other : ℕ) → marked marks.old other ≡ true → marked marks.new other ≡ true }
+fn mark_all(list: &[u32], word: usize, to: usize, marks: &mut [u64], span: Span) -> Span
+    requires inside { All (λ reader. reader / 64 < length marks.old) list.now }
+    ensures listed { (reader : ℕ) → Contains list.now reader → IsMarked marks.new reader }
+    ensures kept { (other : ℕ) → IsMarked marks.old other → IsMarked marks.new other }
     ensures within { (from : ℕ) → AreMarkedWithin marks.old from to span.begin span.end
-        → from ≤ place + 1 → AreMarkedWithin marks.new from to result.begin result.end }
+        → from ≤ word → AreMarkedWithin marks.new from to result.begin result.end }
     ensures bound { span.end ≤ length marks.old → result.end ≤ length marks.old }
 {
     let mut span = span;
     for reader in list {
-        span = mark(*reader as usize, place, to, marks, span);
+        span = mark(*reader, word, to, marks, span);
     }
     span
 }
 
+// Takes the first mark of a word that has one.
+#[inline(always)]
+fn take(word: usize, marks: &mut [u64]) -> usize
+    requires inside { word < length marks.old }
+    requires few { length marks.old < 2 ^ 32 }
+    requires some { slice_index marks.old word ≢ 0 }
+    ensures word { result / 64 ≡ word }
+    ensures kept { (other : ℕ) → other ≢ result → IsMarked marks.old other
+        → IsMarked marks.new other }
+    ensures none { (other : ℕ) → IsMarked marks.new other → IsMarked marks.old other }
+    ensures less { slice_index marks.new word < slice_index marks.old word }
+{
+    let bit = marks[word].trailing_zeros();
+    marks[word] &= !(1 << bit);
+    64 * word + bit as usize
+}
+
 impl<'a> Pass<'a> {
     // Evaluates gates in place, each of them at least once, until no gate would change.
-    pub(crate) fn run(&self, marks: &mut [bool], planes: &mut [Pair])
+    pub(crate) fn run(&self, marks: &mut [u64], planes: &mut [Pair])
         requires schedule { IsSchedule self.now.net.now self.now.schedule.now }
         requires circuit { IsCircuit self.now.net.now }
         requires whole { IsWhole self.now.net.now }
         requires long { length planes.old ≡ length self.now.net.now.names }
         requires planes { AreAllPlanes planes.old }
-        requires marks { length marks.old ≡ length self.now.schedule.now.order.items }
+        requires marks { length marks.old
+            ≡ length self.now.schedule.now.order.items / 64 + 1 }
         ensures ran { Ran self.now.rule self.now.net.now planes.old planes.new }
         ensures planes { AreAllPlanes planes.new }
         ensures still { (gate : ℕ) → IsGateNumber self.now.net.now gate
@@ -102,27 +121,27 @@ impl<'a> Pass<'a> {
 
     // Evaluates each gate once. Of the gates that read one that changed, those that stand later come in this sweep still,
     // and only the others are marked.
-    fn sweep_all(&self, marks: &mut [bool], planes: &mut [Pair]) -> Span
+    fn sweep_all(&self, marks: &mut [u64], planes: &mut [Pair]) -> Span
         requires schedule { IsSchedule self.now.net.now self.now.schedule.now }
         requires circuit { IsCircuit self.now.net.now }
         requires whole { IsWhole self.now.net.now }
         requires long { length planes.old ≡ length self.now.net.now.names }
         requires planes { AreAllPlanes planes.old }
-        requires marks { length marks.old ≡ length self.now.schedule.now.order.items }
+        requires marks { length marks.old
+            ≡ length self.now.schedule.now.order.items / 64 + 1 }
         ensures ran { Ran self.now.rule self.now.net.now planes.old planes.new }
         ensures planes { AreAllPlanes planes.new }
         ensures due { AreDueBelow (length self.now.schedule.now.order.items)
             self.now.rule self.now.net.now self.now.schedule.now.order.items marks.new planes.new }
         ensures within { AreMarkedWithin marks.new 0 0 result.begin result.end }
-        ensures bound { result.end ≤ length self.now.schedule.now.order.items }
+        ensures bound { result.end ≤ length marks.old }
     {
-        marks.fill(false);
-        let places = self.schedule.order.len();
+        marks.fill(0);
         let mut next = Span {
-            begin: places,
+            begin: marks.len(),
             end: 0,
         };
-        for place in 0..places {
+        for place in 0..self.schedule.order.len() {
             next = self.visit_first(place, marks, planes, next);
         }
         next
@@ -130,13 +149,14 @@ impl<'a> Pass<'a> {
 
     // Evaluates the gate at a place, and marks what stands no later and reads it, if this changed it.
     #[inline(always)]
-    fn visit_first(&self, place: usize, marks: &mut [bool], planes: &mut [Pair], span: Span) -> Span
+    fn visit_first(&self, place: usize, marks: &mut [u64], planes: &mut [Pair], span: Span) -> Span
         requires schedule { IsSchedule self.now.net.now self.now.schedule.now }
         requires circuit { IsCircuit self.now.net.now }
         requires whole { IsWhole self.now.net.now }
         requires long { length planes.old ≡ length self.now.net.now.names }
         requires planes { AreAllPlanes planes.old }
-        requires marks { length marks.old ≡ length self.now.schedule.now.order.items }
+        requires marks { length marks.old
+            ≡ length self.now.schedule.now.order.items / 64 + 1 }
         requires place { place < length self.now.schedule.now.order.items }
         requires due { AreDueBelow place
             self.now.rule self.now.net.now self.now.schedule.now.order.items marks.old planes.old }
@@ -146,38 +166,37 @@ impl<'a> Pass<'a> {
         ensures due { AreDueBelow (place + 1)
             self.now.rule self.now.net.now self.now.schedule.now.order.items marks.new planes.new }
         ensures within { AreMarkedWithin marks.new 0 0 result.begin result.end }
-        ensures bound { span.end ≤ length self.now.schedule.now.order.items
-            → result.end ≤ length self.now.schedule.now.order.items }
+        ensures bound { span.end ≤ length marks.old → result.end ≤ length marks.old }
     {
-        let gate = self.schedule.order.as_slice()[place];
         let back = self.schedule.back.at(place);
         if back.is_empty() {
-            self.advance(gate, planes);
+            self.advance(place, planes);
             return span;
         }
-        if self.evaluate(gate, planes) {
-            mark_all(back, place, 0, marks, span)
+        if self.evaluate(place, planes) {
+            mark_all(back, place / 64, 0, marks, span)
         } else {
             span
         }
     }
 
-    // Evaluates the marked gates of a part of the order, and marks what reads a gate that changed. It answers in which part
-    // gates are marked now.
-    fn sweep(&self, span: Span, marks: &mut [bool], planes: &mut [Pair]) -> Span
+    // Evaluates the marked gates of these words, and marks what reads a gate that changed. It answers in which words there
+    // are marks now.
+    fn sweep(&self, span: Span, marks: &mut [u64], planes: &mut [Pair]) -> Span
         requires schedule { IsSchedule self.now.net.now self.now.schedule.now }
         requires circuit { IsCircuit self.now.net.now }
         requires whole { IsWhole self.now.net.now }
         requires long { length planes.old ≡ length self.now.net.now.names }
         requires planes { AreAllPlanes planes.old }
-        requires marks { length marks.old ≡ length self.now.schedule.now.order.items }
-        requires within { span.end ≤ length self.now.schedule.now.order.items }
+        requires marks { length marks.old
+            ≡ length self.now.schedule.now.order.items / 64 + 1 }
+        requires within { span.end ≤ length marks.old }
         requires due { AreDue
             self.now.rule self.now.net.now self.now.schedule.now.order.items marks.old planes.old }
         requires marked { AreMarkedWithin marks.old 0 0 span.begin span.end }
         ensures ran { Ran self.now.rule self.now.net.now planes.old planes.new }
         ensures planes { AreAllPlanes planes.new }
-        ensures within { result.end ≤ length self.now.schedule.now.order.items }
+        ensures within { result.end ≤ length marks.old }
         ensures due { AreDue
             self.now.rule self.now.net.now self.now.schedule.now.order.items marks.new planes.new }
         ensures marked { AreMarkedWithin marks.new 0 0 result.begin result.end }
@@ -186,22 +205,22 @@ impl<'a> Pass<'a> {
         ensures most { weight self.now.rule planes.new ≤ weight self.now.rule planes.old }
     {
         let mut next = Span {
-            begin: self.schedule.order.len(),
+            begin: marks.len(),
             end: 0,
         };
-        for place in span.begin..span.end {
-            next = self.visit(place, span.end, marks, planes, next);
+        for word in span.begin..span.end {
+            next = self.sweep_word(word, span.end, marks, planes, next);
         }
         next
     }
 
-    // Evaluates the gate at a place, if it is marked, and marks what reads it, if this changed it.
+    // Evaluates the gates of a word that are marked, until none is, and marks what reads a gate that changed.
     #[inline(always)]
-    fn visit(
+    fn sweep_word(
         &self,
-        place: usize,
+        word: usize,
         to: usize,
-        marks: &mut [bool],
+        marks: &mut [u64],
         planes: &mut [Pair],
         span: Span,
     ) -> Span
@@ -210,53 +229,91 @@ impl<'a> Pass<'a> {
         requires whole { IsWhole self.now.net.now }
         requires long { length planes.old ≡ length self.now.net.now.names }
         requires planes { AreAllPlanes planes.old }
-        requires marks { length marks.old ≡ length self.now.schedule.now.order.items }
-        requires place { place < length self.now.schedule.now.order.items }
+        requires marks { length marks.old
+            ≡ length self.now.schedule.now.order.items / 64 + 1 }
+        requires word { word < length marks.old }
         requires due { AreDue
             self.now.rule self.now.net.now self.now.schedule.now.order.items marks.old planes.old }
-        requires within { AreMarkedWithin marks.old place to span.begin span.end }
+        requires within { AreMarkedWithin marks.old word to span.begin span.end }
         ensures ran { Ran self.now.rule self.now.net.now planes.old planes.new }
         ensures planes { AreAllPlanes planes.new }
         ensures due { AreDue
             self.now.rule self.now.net.now self.now.schedule.now.order.items marks.new planes.new }
-        ensures within { AreMarkedWithin marks.new (place + 1) to result.begin result.end }
-        ensures bound { span.end ≤ length self.now.schedule.now.order.items
-            → result.end ≤ length self.now.schedule.now.order.items }
+        ensures within { AreMarkedWithin marks.new (word + 1) to result.begin result.end }
+        ensures bound { span.end ≤ length marks.old → result.end ≤ length marks.old }
         ensures less { (result ≡ span)
             ⊎ (weight self.now.rule planes.new < weight self.now.rule planes.old) }
         ensures most { weight self.now.rule planes.new ≤ weight self.now.rule planes.old }
     {
-        if !marks[place] {
+        let mut next = span;
+        while marks[word] != 0 {
+            let place = take(word, marks);
+            next = self.visit(place, to, marks, planes, next);
+        }
+        next
+    }
+
+    // Evaluates the gate at a place, if there is one, and marks what reads it, if this changed it. Each other gate is
+    // marked, if it would change.
+    #[inline(always)]
+    fn visit(
+        &self,
+        place: usize,
+        to: usize,
+        marks: &mut [u64],
+        planes: &mut [Pair],
+        span: Span,
+    ) -> Span
+        requires schedule { IsSchedule self.now.net.now self.now.schedule.now }
+        requires circuit { IsCircuit self.now.net.now }
+        requires whole { IsWhole self.now.net.now }
+        requires long { length planes.old ≡ length self.now.net.now.names }
+        requires planes { AreAllPlanes planes.old }
+        requires marks { length marks.old
+            ≡ length self.now.schedule.now.order.items / 64 + 1 }
+        requires place { place / 64 < length marks.old }
+        requires due { AreDueBut place
+            self.now.rule self.now.net.now self.now.schedule.now.order.items marks.old planes.old }
+        requires within { AreMarkedWithin marks.old (place / 64) to span.begin span.end }
+        ensures ran { Ran self.now.rule self.now.net.now planes.old planes.new }
+        ensures planes { AreAllPlanes planes.new }
+        ensures due { AreDue
+            self.now.rule self.now.net.now self.now.schedule.now.order.items marks.new planes.new }
+        ensures within { AreMarkedWithin marks.new (place / 64) to result.begin result.end }
+        ensures bound { span.end ≤ length marks.old → result.end ≤ length marks.old }
+        ensures less { ((result ≡ span) × (marks.new ≡ marks.old)
+            × (weight self.now.rule planes.new ≡ weight self.now.rule planes.old))
+            ⊎ (weight self.now.rule planes.new < weight self.now.rule planes.old) }
+    {
+        if place >= self.schedule.order.len() {
             return span;
         }
-        marks[place] = false;
-        let gate = self.schedule.order.as_slice()[place];
-        if self.evaluate(gate, planes) {
-            mark_all(
-                self.schedule.readers.at(gate as usize),
-                place,
-                to,
-                marks,
-                span,
-            )
+        if self.evaluate(place, planes) {
+            mark_all(self.schedule.readers.at(place), place / 64, to, marks, span)
         } else {
             span
         }
     }
 
-    // Evaluates a gate, and says whether this changed it.
+    // Evaluates the gate at a place, and says whether this changed it.
     #[inline(always)]
-    fn evaluate(&self, gate: u32, planes: &mut [Pair]) -> bool
-        requires gate { IsGateNumber self.now.net.now gate }
+    fn evaluate(&self, place: usize, planes: &mut [Pair]) -> bool
+        requires schedule { IsSchedule self.now.net.now self.now.schedule.now }
+        requires circuit { IsCircuit self.now.net.now }
+        requires whole { IsWhole self.now.net.now }
         requires long { length planes.old ≡ length self.now.net.now.names }
-        ensures made { planes.new ≡ step_planes self.now.rule self.now.net.now planes.old gate }
-        ensures same { result ≡ false → IsStillPair self.now.rule self.now.net.now planes.old gate }
+        requires place { place < length self.now.schedule.now.order.items }
+        ensures made { planes.new ≡ step_planes self.now.rule self.now.net.now planes.old
+            (slice_index self.now.schedule.now.order.items place) }
+        ensures same { result ≡ false → IsStillPair self.now.rule self.now.net.now planes.old
+            (slice_index self.now.schedule.now.order.items place) }
+        ensures none { result ≡ false → planes.new ≡ planes.old }
         ensures less { result ≡ true
             → weight self.now.rule planes.new < weight self.now.rule planes.old }
     {
-        let circuit = self.net.circuit();
-        let excited = excited(circuit.kind(gate), circuit.sources(gate), planes);
+        let excited = self.excited_at(place, planes);
         excited.are_planes();
+        let gate = self.schedule.order.as_slice()[place];
         let own = planes[gate as usize];
         let next = self.rule.next(own, excited);
         if next.is_same(own) {
@@ -266,15 +323,50 @@ impl<'a> Pass<'a> {
         true
     }
 
-    // Evaluates a gate.
+    // Evaluates the gate at a place.
     #[inline(always)]
-    fn advance(&self, gate: u32, planes: &mut [Pair])
-        requires gate { IsGateNumber self.now.net.now gate }
+    fn advance(&self, place: usize, planes: &mut [Pair])
+        requires schedule { IsSchedule self.now.net.now self.now.schedule.now }
+        requires circuit { IsCircuit self.now.net.now }
+        requires whole { IsWhole self.now.net.now }
         requires long { length planes.old ≡ length self.now.net.now.names }
-        ensures { planes.new ≡ step_planes self.now.rule self.now.net.now planes.old gate }
+        requires place { place < length self.now.schedule.now.order.items }
+        ensures { planes.new ≡ step_planes self.now.rule self.now.net.now planes.old
+            (slice_index self.now.schedule.now.order.items place) }
     {
-        let circuit = self.net.circuit();
-        let excited = excited(circuit.kind(gate), circuit.sources(gate), planes);
+        let excited = self.excited_at(place, planes);
+        let gate = self.schedule.order.as_slice()[place];
         planes[gate as usize] = self.rule.next(planes[gate as usize], excited);
     }
+
+    // The excitation of the gate at a place, by its copied kind and pins.
+    #[inline(always)]
+    fn excited_at(&self, place: usize, planes: &[Pair]) -> Pair
+        requires schedule { IsSchedule self.now.net.now self.now.schedule.now }
+        requires circuit { IsCircuit self.now.net.now }
+        requires whole { IsWhole self.now.net.now }
+        requires long { length planes.now ≡ length self.now.net.now.names }
+        requires place { place < length self.now.schedule.now.order.items }
+        ensures { result ≡ gate_pair self.now.net.now planes.now
+            (slice_index self.now.schedule.now.order.items place) }
+    {
+        let gate = self.schedule.order.as_slice()[place];
+        let kind = self.schedule.kinds.as_slice()[place];
+        excitation(self.net, gate, kind, self.schedule.pins.at(place), planes)
+    }
+}
+
+// The excitation of a gate, by its kind and by the nodes that it reads.
+#[inline(always)]
+fn excitation(net: &Net, gate: u32, kind: Kind, sources: &[u32], planes: &[Pair]) -> Pair
+    requires gate { IsGateNumber net.now gate }
+    requires circuit { IsCircuit net.now }
+    requires whole { IsWhole net.now }
+    requires long { length planes.now ≡ length net.now.names }
+    requires kind { kind ≡ (gate_at net.now gate).kind }
+    requires sources { sources.now ≡ (gate_at net.now gate).sources }
+    ensures { result ≡ gate_pair net.now planes.now gate }
+{
+    let _circuit = net.circuit();
+    excited(kind, sources, planes)
 }

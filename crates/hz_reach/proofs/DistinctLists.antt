@@ -1,14 +1,11 @@
--- Lists of variables that name none twice, and the state after steps of which none changes a variable again.
-use Rattle.std.proofs.Common.{◌≡◌, ℕ, ◌<◌, ◌≤◌, ◌⊎◌, Bool, true, false, not, cond, ◌||◌, List, [], ◌∷◌, ◌++◌, length, refl, sym, ap, ◌∙◌, subst, arith, inl, inr, eqb}
-use Rattle.std.specs.List.{concat, AllByRecursion, IsDistinct}
-use Rattle.std.proofs.lemmas.Bool.{cases_Bool, or_cases, or_parts, or_from, or_left, or_right, both_ways, eqb-true, eq-eqb}
+-- Lists of variables that name none twice, and those that ascend.
+use Rattle.std.proofs.Common.{◌≡◌, ℕ, zero, suc, ◌<◌, ◌≤◌, ◌⊎◌, ◌||◌, ◌&&◌, Bool, true, false, List, [], ◌∷◌, ◌++◌, length, get_or, take, refl, sym, ap, ◌∙◌, subst, arith, inl, inr, eqb}
+use Rattle.std.specs.List.{filter, AllByRecursion, IsDistinct}
+use Rattle.std.proofs.lemmas.Bool.{cases_Bool, and_parts, and_from, or_cases, or_parts, or_from, or_left, or_right, both_ways, eqb-true, eq-eqb, false_from_ne_true}
 use Rattle.std.proofs.lemmas.List.Folds.{list_any-append}
-use Rattle.std.proofs.lemmas.List.Sums.{sum_by-cons}
 use Rattle.std.proofs.lemmas.Map.Steps.{length-le_from_distinct_below}
-use Rattle.hz_net.specs.Network.{Driver, bit_at}
-use Rattle.hz_gmw.specs.Runs.{is_listed, IsRepeatFree, state_after, IsRun, end_of}
-use Rattle.hz_reach.specs.Spread.{changes_in}
-use Rattle.hz_gmw.proofs.Flips.{length-state_after, at-state_after}
+use Rattle.std.proofs.lemmas.Map.Views.{any-filter_same}
+use Rattle.hz_gmw.specs.Runs.{is_listed, IsRepeatFree}
 
 -- what is listed in two lists together
 pub listed-append : (xs ys : List ℕ) (i : ℕ) → is_listed (xs ++ ys) i ≡ (is_listed xs i || is_listed ys i)
@@ -59,7 +56,7 @@ distinct-from : (x : ℕ) (xs : List ℕ) → is_listed xs x ≡ false → AllBy
 distinct-from x [] out = tt
 distinct-from x (y ∷ ys) out = let parts = or_parts _ _ out in (parts.0, distinct-from x ys parts.1)
 
-distinct : (xs : List ℕ) → IsRepeatFree xs → IsDistinct eqb xs
+pub distinct : (xs : List ℕ) → IsRepeatFree xs → IsDistinct eqb xs
 unfolding IsDistinct
 distinct [] once = tt
 distinct (x ∷ xs) once = (distinct-from x xs once.0, distinct xs once.1)
@@ -67,43 +64,57 @@ distinct (x ∷ xs) once = (distinct-from x xs once.0, distinct xs once.1)
 pub is_repeat_free-bound : (xs : List ℕ) (n : ℕ) → IsRepeatFree xs → ((i : ℕ) → is_listed xs i ≡ true → i < n) → length xs ≤ n
 is_repeat_free-bound xs n once inside = length-le_from_distinct_below xs n (distinct xs once) inside
 
--- a bit that changes at most once
-changed-twice : (left right both bit : Bool) → both ≡ (left || right) → (left ≡ true → right ≡ false) → cond right (not (cond left (not bit) bit)) (cond left (not bit) bit) ≡ cond both (not bit) bit
-changed-twice true true both bit e apart = absurd (both_ways true (apart refl) refl)
-changed-twice true false both bit e apart = rw e refl
-changed-twice false true both bit e apart = rw e refl
-changed-twice false false both bit e apart = rw e refl
+-- each number of a list is greater than those before it, and none is below a first one
+abbrev pub Ascends : ℕ → List ℕ → Type 0
+Ascends low [] = Unit {0}
+Ascends low (x ∷ list) = (low ≤ x) × Ascends (suc x) list
 
--- the bits after steps of which none changes a variable again: those of the variables that some step changed are complemented
-pub at-end_of : (steps : List (List ℕ)) (state : List Bool) (i : ℕ) → IsRepeatFree (concat steps) → i < length state → bit_at (end_of state steps) i ≡ cond (is_listed (concat steps) i) (not (bit_at state i)) (bit_at state i)
-at-end_of [] state i once inside = refl
-at-end_of (flips ∷ steps) state i once inside =
-    let later = at-end_of steps (state_after flips state) i (is_repeat_free-right flips (concat steps) once) (subst (λ (n : ℕ). i < n) (sym (length-state_after flips state)) inside) in
-    later
-    ∙ (ap (λ (b : Bool). cond (is_listed (concat steps) i) (not b) b) (at-state_after flips state i inside)
-    ∙ changed-twice (is_listed flips i) (is_listed (concat steps) i) (is_listed (flips ++ concat steps) i) (bit_at state i) (listed-append flips (concat steps) i) (is_repeat_free-apart flips (concat steps) once i))
+pub ascends-lower : (low lower : ℕ) (list : List ℕ) → lower ≤ low → Ascends low list → Ascends lower list
+ascends-lower low lower [] less ascends = tt
+ascends-lower low lower (x ∷ list) less ascends = (omega (arith, less, ascends.0), ascends.1)
 
--- what a run changes are variables
-pub listed-inside : (net : List Driver) (input : List Bool) (steps : List (List ℕ)) (state : List Bool) (i : ℕ) → IsRun net input state steps → is_listed (concat steps) i ≡ true → i < length net
-listed-inside net input [] state i run there = absurd (both_ways false refl there)
-listed-inside net input (flips ∷ steps) state i run there =
-    elim (listed-cases flips (concat steps) i there) [
-      | inl here ↦ run.0.inside i here
-      | inr later ↦ listed-inside net input steps (state_after flips state) i run.1 later
+pub ascends-filter : (test : ℕ → Bool) (low : ℕ) (list : List ℕ) → Ascends low list → Ascends low (filter test list)
+ascends-filter test low [] ascends = tt
+ascends-filter test low (x ∷ list) ascends =
+    elim (cases_Bool (test x)) [
+      | inl passes ↦ rw passes (ascends.0, ascends-filter test (suc x) list ascends.1)
+      | inr fails ↦ rw fails (ascends-lower (suc x) low (filter test list) (omega (arith, ascends.0)) (ascends-filter test (suc x) list ascends.1))
     ]
 
--- how often a run changes a variable that no step lists, and one that one step lists
-pub changes-unlisted : (steps : List (List ℕ)) (i : ℕ) → is_listed (concat steps) i ≡ false → changes_in steps i ≡ 0
-changes-unlisted [] i out = refl
-changes-unlisted (flips ∷ steps) i out =
-    let parts = unlisted-parts flips (concat steps) i out in
-    sum_by-cons (λ (list : List ℕ). cond (is_listed list i) 1 0) flips steps ∙ rw parts.0 (omega (arith, changes-unlisted steps i parts.1))
-
-pub changes-listed : (steps : List (List ℕ)) (i : ℕ) → IsRepeatFree (concat steps) → is_listed (concat steps) i ≡ true → changes_in steps i ≡ 1
-changes-listed [] i once there = absurd (both_ways false refl there)
-changes-listed (flips ∷ steps) i once there =
-    sum_by-cons (λ (list : List ℕ). cond (is_listed list i) 1 0) flips steps
-    ∙ elim (cases_Bool (is_listed flips i)) [
-      | inl here ↦ rw here (omega (arith, changes-unlisted steps i (is_repeat_free-apart flips (concat steps) once i here)))
-      | inr out ↦ rw out (omega (arith, changes-listed steps i (is_repeat_free-right flips (concat steps) once) (elim (listed-cases flips (concat steps) i there) [ inl here ↦ absurd (both_ways _ out here) | inr later ↦ later ])))
+pub listed-above : (low : ℕ) (list : List ℕ) (i : ℕ) → Ascends low list → is_listed list i ≡ true → low ≤ i
+listed-above low [] i ascends there = absurd (both_ways false refl there)
+listed-above low (x ∷ list) i ascends there =
+    elim (or_cases (eqb i x) (is_listed list i) there) [
+      | inl same ↦ omega (arith, eqb-true i x same, ascends.0)
+      | inr later ↦ omega (arith, listed-above (suc x) list i ascends.1 later, ascends.0)
     ]
+
+pub ascends-once : (low : ℕ) (list : List ℕ) → Ascends low list → IsRepeatFree list
+ascends-once low [] ascends = tt
+ascends-once low (x ∷ list) ascends =
+    (false_from_ne_true _ (λ there. omega (arith, listed-above (suc x) list x ascends.1 there)), ascends-once (suc x) list ascends.1)
+
+pub at-least : (low : ℕ) (list : List ℕ) (place : ℕ) → Ascends low list → place < length list → low ≤ get_or list place 0
+at-least low [] place ascends inside = absurd (omega (arith, inside))
+at-least low (y ∷ list) zero ascends inside = ascends.0
+at-least low (y ∷ list) (suc place) ascends inside = omega (arith, at-least (suc y) list place ascends.1 (omega (arith, inside)), ascends.0)
+
+-- those before a place are less than the one at it
+pub listed-before : (low : ℕ) (list : List ℕ) (place i : ℕ) → Ascends low list → place < length list → is_listed (take place list) i ≡ true → i < get_or list place 0
+listed-before low [] place i ascends inside there = absurd (omega (arith, inside))
+listed-before low (x ∷ list) zero i ascends inside there = absurd (both_ways false refl there)
+listed-before low (x ∷ list) (suc place) i ascends inside there =
+    elim (or_cases (eqb i x) (is_listed (take place list) i) there) [
+      | inl same ↦ omega (arith, eqb-true i x same, at-least (suc x) list place ascends.1 (omega (arith, inside)))
+      | inr later ↦ listed-before (suc x) list place i ascends.1 (omega (arith, inside)) later
+    ]
+
+-- what passes a filter was listed, and passes the test
+pub listed-filter : (test : ℕ → Bool) (list : List ℕ) (i : ℕ) → is_listed (filter test list) i ≡ (test i && is_listed list i)
+listed-filter test list i = any-filter_same (eqb i) test (test i) (λ k same. ap test (sym (eqb-true i k same))) list
+
+pub filtered-is : (test : ℕ → Bool) (list : List ℕ) (i : ℕ) → is_listed (filter test list) i ≡ true → (test i ≡ true) × (is_listed list i ≡ true)
+filtered-is test list i there = and_parts _ _ (sym (listed-filter test list i) ∙ there)
+
+pub is-filtered : (test : ℕ → Bool) (list : List ℕ) (i : ℕ) → is_listed list i ≡ true → test i ≡ true → is_listed (filter test list) i ≡ true
+is-filtered test list i there passes = listed-filter test list i ∙ and_from _ _ passes there

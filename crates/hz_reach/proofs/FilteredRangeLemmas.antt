@@ -1,12 +1,15 @@
--- The variables that pass a test: which they are, and that none comes twice.
-use Rattle.std.proofs.Common.{◌≡◌, ◌≢◌, ℕ, zero, suc, ◌+◌, ◌<◌, Bool, true, false, cond, List, [], ◌∷◌, ◌++◌, refl, sym, ap, ◌∙◌, subst, arith, inl, inr, eqb}
+-- The variables that pass a test: which they are, that none comes twice, and how they are marked one after the other.
+use Rattle.std.proofs.Common.{◌≡◌, ◌≢◌, ℕ, zero, suc, ◌+◌, ◌<◌, Bool, true, false, cond, List, [], ◌∷◌, ◌++◌, length, refl, sym, ap, ◌∙◌, subst, arith, inl, inr, eqb, length-append, append-nil, add-one}
 use Rattle.std.specs.List.{filter, range_with_len}
 use Rattle.std.proofs.lemmas.List.Elements.{filter-append}
-use Rattle.std.proofs.lemmas.Bool.{cases_eq, both_ways, or_cases, eqb-true, eq-eqb, or_left, false_from_ne_true}
-use Rattle.hz_gmw.specs.Runs.{is_listed, IsRepeatFree}
+use Rattle.std.proofs.lemmas.List.FromFn.{length-range_with_len, get_or-range_with_len}
+use Rattle.std.proofs.lemmas.Bool.{or_cases, eqb-true, eq-eqb, or_left, false_from_ne_true}
 use Rattle.hz_core.specs.Pattern.{differs}
+use Rattle.hz_gmw.specs.Runs.{is_listed, IsRepeatFree}
+use Rattle.hz_gmw.proofs.DriverLemmas.{Contains-listed}
+use Rattle.hz_gmw.proofs.LeastLemmas.{listed-Contains}
 use Rattle.hz_reach.specs.FilteredRange.{filtered_range}
-use Rattle.hz_reach.proofs.DistinctLists.{listed-cases, listed-left, listed-right, is_repeat_free-append}
+use Rattle.hz_reach.proofs.DistinctLists.{listed-cases, is_repeat_free-append, is_repeat_free-bound, Ascends, ascends-lower, ascends-filter, ascends-once, filtered-is, is-filtered}
 
 -- a list of one
 pub only-one : (x i : ℕ) → i ≡ x → is_listed (x ∷ []) i ≡ true
@@ -31,55 +34,27 @@ pub record IsPicked (test : ℕ → Bool) (first count i : ℕ) : Type 0 where
   pub is : i ≡ first + place
   pub passes : test i ≡ true
 
-one-listed : (bit : Bool) (x i : ℕ) → is_listed (cond bit (x ∷ []) []) i ≡ true → (i ≡ x) × (bit ≡ true)
-one-listed true x i there = (is-one x i there, refl)
-one-listed false x i there = absurd (both_ways false refl there)
-
 pub filtered_range-is : (test : ℕ → Bool) (first count i : ℕ) → is_listed (filtered_range test first count) i ≡ true → IsPicked test first count i
-filtered_range-is test first zero i there = absurd (both_ways false refl there)
-filtered_range-is test first (suc count) i there =
-    elim (listed-cases (filtered_range test first count) (cond (test (first + count)) ((first + count) ∷ []) []) i (sym (ap (λ (list : List ℕ). is_listed list i) (filtered_range-last test first count)) ∙ there)) [
-      | inl before ↦ (
-          let is = filtered_range-is test first count i before in
-          let few : is.place < count = is.few in
-          record { place = is.place; few = omega arith; is = is.is; passes = is.passes }
-          )
-      | inr last ↦ (
-          let is = one-listed (test (first + count)) (first + count) i last in
-          record { place = count; few = omega arith; is = is.0; passes = ap test is.0 ∙ is.1 }
-          )
-    ]
+filtered_range-is test first count i there =
+    let is = filtered-is test (range_with_len first count) i there in
+    let at = Contains-listed (range_with_len first count) i is.1 in
+    let few : at.0 < count = omega (arith, at.1, length-range_with_len first count) in
+    record { place = at.0; few = few; is = sym at.2 ∙ get_or-range_with_len first count at.0 i few; passes = is.0 }
 
 pub is-filtered_range : (test : ℕ → Bool) (first count place : ℕ) → place < count → test (first + place) ≡ true → is_listed (filtered_range test first count) (first + place) ≡ true
-is-filtered_range test first zero place few passes = absurd (omega (arith, few))
-is-filtered_range test first (suc count) place few passes =
-    ap (λ (list : List ℕ). is_listed list (first + place)) (filtered_range-last test first count)
-    ∙ elim (cases_eq place count) [
-      | inl same ↦ (
-          let here : is_listed (cond (test (first + place)) ((first + place) ∷ []) []) (first + place) ≡ true =
-          rw passes (only-one (first + place) (first + place) refl) in
-          let there : is_listed (cond (test (first + count)) ((first + count) ∷ []) []) (first + place) ≡ true =
-          subst (λ (n : ℕ). is_listed (cond (test (first + n)) ((first + n) ∷ []) []) (first + place) ≡ true) same here in
-          listed-right (filtered_range test first count) (cond (test (first + count)) ((first + count) ∷ []) []) (first + place) there
-          )
-      | inr other ↦ listed-left (filtered_range test first count) (cond (test (first + count)) ((first + count) ∷ []) []) (first + place) (is-filtered_range test first count place (omega (arith, few)) passes)
-    ]
+is-filtered_range test first count place few passes =
+    is-filtered test (range_with_len first count) (first + place)
+    (listed-Contains (range_with_len first count) (first + place)
+    (place, omega (arith, few, length-range_with_len first count), get_or-range_with_len first count place (first + place) few))
+    passes
 
-one-once : (bit : Bool) (x : ℕ) → IsRepeatFree (cond bit (x ∷ []) [])
-one-once true x = (refl, tt)
-one-once false x = tt
+ascends-range : (first count : ℕ) → Ascends first (range_with_len first count)
+ascends-range first zero = tt
+ascends-range first (suc count) = (omega arith, ascends-lower (first + 1) (suc first) (range_with_len (first + 1) count) (omega arith) (ascends-range (first + 1) count))
 
 pub filtered_range-once : (test : ℕ → Bool) (first count : ℕ) → IsRepeatFree (filtered_range test first count)
-filtered_range-once test first zero = tt
-filtered_range-once test first (suc count) =
-    subst IsRepeatFree (sym (filtered_range-last test first count))
-    (is_repeat_free-append (filtered_range test first count) (cond (test (first + count)) ((first + count) ∷ []) []) (filtered_range-once test first count) (one-once (test (first + count)) (first + count))
-    (λ i there. false_from_ne_true _ (λ last.
-    let is = filtered_range-is test first count i there in
-    let few : is.place < count = is.few in
-    let here : i ≡ first + is.place = is.is in
-    let again : i ≡ first + count = (one-listed (test (first + count)) (first + count) i last).0 in
-    absurd (omega arith))))
+filtered_range-once test first count =
+    ascends-once first (filtered_range test first count) (ascends-filter test first (range_with_len first count) (ascends-range first count))
 
 -- the test of two bits
 pub differs-true : (here there : Bool) → differs here there ≡ true → here ≢ there
@@ -93,3 +68,42 @@ true-differs false false h = absurd (h refl)
 true-differs false true h = refl
 true-differs true false h = refl
 true-differs true true h = absurd (h refl)
+
+-- One more variable is marked, which is greater than all that are.
+
+pub mark-once : (marked : List ℕ) (var : ℕ) → IsRepeatFree marked → ((i : ℕ) → is_listed marked i ≡ true → i < var) → IsRepeatFree (marked ++ var ∷ [])
+mark-once marked var once below =
+    is_repeat_free-append marked (var ∷ []) once (refl, tt)
+    (λ i there. false_from_ne_true _ (λ only. (let less = below i there in let same = is-one var i only in omega (arith, less, same))))
+
+pub mark-inside : (marked : List ℕ) (var count : ℕ) → ((i : ℕ) → is_listed marked i ≡ true → i < count) → var < count → (i : ℕ) → is_listed (marked ++ var ∷ []) i ≡ true → i < count
+mark-inside marked var count inside less i there =
+    elim (listed-cases marked (var ∷ []) i there) [
+      | inl before ↦ inside i before
+      | inr only ↦ (let same = is-one var i only in omega (arith, less, same))
+    ]
+
+-- there is room for it
+pub mark-room : (marked : List ℕ) (var count : ℕ) → IsRepeatFree marked → ((i : ℕ) → is_listed marked i ≡ true → i < count) → var < count → ((i : ℕ) → is_listed marked i ≡ true → i < var) → length marked < count
+mark-room marked var count once inside less below =
+    let bound = is_repeat_free-bound (marked ++ var ∷ []) count (mark-once marked var once below) (mark-inside marked var count inside less) in
+    omega (arith, bound, length-append marked (var ∷ []))
+
+-- what is picked so far is less than the next number
+pub filtered_range-below : (test : ℕ → Bool) (first count var i : ℕ) → var ≡ first + count → is_listed (filtered_range test first count) i ≡ true → i < var
+filtered_range-below test first count var i next there =
+    let is = filtered_range-is test first count i there in
+    omega (arith, next, is.is, is.few)
+
+-- the next number is picked, or not
+pub filtered_range-more : (test : ℕ → Bool) (first count var : ℕ) → var ≡ first + count → test var ≡ true → filtered_range test first count ++ var ∷ [] ≡ filtered_range test first (count + 1)
+filtered_range-more test first count var next passes =
+    let here : test (first + count) ≡ true = subst (λ (n : ℕ). test n ≡ true) next passes in
+    ap (λ (n : ℕ). filtered_range test first count ++ n ∷ []) next
+    ∙ (sym (ap (λ (b : Bool). filtered_range test first count ++ cond b ((first + count) ∷ []) []) here) ∙ (sym (filtered_range-last test first count) ∙ ap (filtered_range test first) (sym (add-one count))))
+
+pub filtered_range-skip : (test : ℕ → Bool) (first count var : ℕ) → var ≡ first + count → test var ≡ false → filtered_range test first count ≡ filtered_range test first (count + 1)
+filtered_range-skip test first count var next fails =
+    let here : test (first + count) ≡ false = subst (λ (n : ℕ). test n ≡ false) next fails in
+    sym (append-nil (filtered_range test first count))
+    ∙ (sym (ap (λ (b : Bool). filtered_range test first count ++ cond b ((first + count) ∷ []) []) here) ∙ (sym (filtered_range-last test first count) ∙ ap (filtered_range test first) (sym (add-one count))))

@@ -1,29 +1,27 @@
 -- How many flips a run has, by how often it changes each variable, and the state in which it ends.
-use Rattle.std.proofs.Common.{◌≡◌, ◌≢◌, ℕ, zero, suc, ◌+◌, ◌*◌, ◌<◌, ◌≤◌, Bool, true, false, not, cond, List, [], ◌∷◌, length, refl, sym, ap, ◌∙◌, subst, arith, inl, inr, eqb}
-use Rattle.std.specs.Prelude.{sum_by, ◌%◌}
+use Rattle.std.proofs.Common.{◌≡◌, ◌≢◌, ℕ, ◌+◌, ◌*◌, ◌<◌, ◌≤◌, Bool, true, false, not, cond, List, [], ◌∷◌, length, map, get_or, refl, sym, ap, ◌∙◌, subst, arith, inl, inr, eqb}
+use Rattle.std.specs.Prelude.{sum, sum_by, ◌%◌}
 use Rattle.std.specs.List.{range_with_len}
-use Rattle.std.proofs.lemmas.Bool.{cases_Bool, cases_eq, or_left, or_right, ne_eqb, eq-eqb, eqb-true}
-use Rattle.std.proofs.lemmas.List.Sums.{sum_by-cons, sum_by-le-sum_by}
-use Rattle.std.proofs.Math.Nat.{mul-add, mul-suc, mul-zero}
+use Rattle.std.proofs.lemmas.Bool.{cases_eq, ne_eqb, eq-eqb}
+use Rattle.std.proofs.lemmas.List.Sums.{sum_by-cons, sum_by-le, sum_by-le-sum_by, sum-map}
+use Rattle.std.proofs.lemmas.List.{ext_get_or, length-map, get_or-map}
+use Rattle.std.proofs.lemmas.List.FromFn.{length-range_with_len, length-map-range_with_len, get_or-map-range_with_len}
+use Rattle.std.proofs.lemmas.Grind.{get_or_default_zero}
+use Rattle.std.proofs.Math.Nat.{mul-add, mul_comm, mul-suc, mul-zero}
 use Rattle.hz_core.specs.declared.tri.Tri.{Tri}
 use Rattle.hz_core.specs.declared.tri.Tri.TheVariants.{Zero, One, Unknown}
 use Rattle.hz_core.specs.Ternary.{is_unknown, unknown_count}
 use Rattle.hz_net.specs.Network.{bit_at, value_at}
 use Rattle.hz_net.specs.Passes.{IsKnown, IsUnknown}
 use Rattle.hz_gmw.specs.Runs.{is_listed, IsRepeatFree, state_after}
+use Rattle.hz_gmw.proofs.Counting.{list-same, list-turned, range-listed}
+use Rattle.hz_gmw.proofs.Counts.{nothing, zeros}
 use Rattle.hz_gmw.proofs.Flips.{length-state_after, at-state_after}
 use Rattle.hz_reach.specs.Spread.{changes_in}
+use Rattle.hz_reach.proofs.ListPlaces.{listed-at}
 use Rattle.hz_reach.specs.Counts.{FlipsAreChanges, StepsAreNoMoreThanFlips, FlipsPerVariable, FlipsPerUnknown, FlipsOfSpreadRun, EndsByChanges}
 
 -- Sums
-
-sum-same : (f g : ℕ → ℕ) (xs : List ℕ) → ((x : ℕ) → f x ≡ g x) → sum_by f xs ≡ sum_by g xs
-sum-same f g [] same = refl
-sum-same f g (x ∷ xs) same = omega (arith, sum_by-cons f x xs, sum_by-cons g x xs, same x, sum-same f g xs same)
-
-sum-none : (f : ℕ → ℕ) (xs : List ℕ) → ((x : ℕ) → f x ≡ 0) → sum_by f xs ≡ 0
-sum-none f [] none = refl
-sum-none f (x ∷ xs) none = omega (arith, sum_by-cons f x xs, none x, sum-none f xs none)
 
 sum-sum : (f g : ℕ → ℕ) (xs : List ℕ) → sum_by (λ x. f x + g x) xs ≡ sum_by f xs + sum_by g xs
 sum-sum f g [] = refl
@@ -31,91 +29,44 @@ sum-sum f g (x ∷ xs) =
     omega (arith, sum_by-cons (λ y. f y + g y) x xs, sum_by-cons f x xs, sum_by-cons g x xs, sum-sum f g xs)
 
 -- a sum over the places of a list
-sum-next : (f : ℕ → ℕ) (first count : ℕ) → sum_by f (range_with_len (suc first) count) ≡ sum_by (λ i. f (suc i)) (range_with_len first count)
-sum-next f first zero = refl
-sum-next f first (suc count) =
-    let more : suc first + 1 ≡ suc (first + 1) = omega arith in
-    omega (
-      arith,
-      sum_by-cons f (suc first) (range_with_len (suc first + 1) count),
-      sum_by-cons (λ i. f (suc i)) first (range_with_len (first + 1) count),
-      sum-next f (first + 1) count,
-      ap (λ (n : ℕ). sum_by f (range_with_len n count)) more,
-    )
-
 sum-places : (f : Tri → ℕ) (values : List Tri) → sum_by (λ i. f (value_at values i)) (range_with_len 0 (length values)) ≡ sum_by f values
-sum-places f [] = refl
-sum-places f (value ∷ values) =
-    omega (
-      arith,
-      sum_by-cons f value values,
-      sum_by-cons (λ i. f (value_at (value ∷ values) i)) 0 (range_with_len 1 (length values)),
-      sum-next (λ i. f (value_at (value ∷ values) i)) 0 (length values),
-      sum-places f values,
-    )
-
--- a variable that is listed once
-one : ℕ → ℕ → ℕ
-one x i = cond (eqb i x) 1 0
-
-one-same : (x i : ℕ) → i ≡ x → one x i ≡ 1
-unfolding one
-one-same x i same = rw (eq-eqb i x same) refl
-
-one-other : (x i : ℕ) → i ≢ x → one x i ≡ 0
-unfolding one
-one-other x i other = rw (ne_eqb i x other) refl
-
-single-none : (x first count : ℕ) → x < first → sum_by (one x) (range_with_len first count) ≡ 0
-single-none x first zero below = refl
-single-none x first (suc count) below =
-    omega (arith, sum_by-cons (one x) first (range_with_len (first + 1) count), one-other x first (λ e. omega (arith, below, e)), single-none x (first + 1) count (omega (arith, below)))
-
-single-one : (x first count : ℕ) → first ≤ x → x < first + count → sum_by (one x) (range_with_len first count) ≡ 1
-single-one x first zero above below = absurd (omega (arith, above, below))
-single-one x first (suc count) above below =
-    elim (cases_eq first x) [
-      | inl same ↦ omega (arith, sum_by-cons (one x) first (range_with_len (first + 1) count), one-same x first same, single-none x (first + 1) count (omega (arith, same)))
-      | inr other ↦ omega (arith, sum_by-cons (one x) first (range_with_len (first + 1) count), one-other x first other, single-one x (first + 1) count (omega (arith, above, other)) (omega (arith, below)))
-    ]
+sum-places f values =
+    let at : ℕ → ℕ = λ i. f (value_at values i) in
+    let same : map at (range_with_len 0 (length values)) ≡ map f values =
+    ext_get_or 0 _ _ (length-map-range_with_len at 0 (length values) ∙ sym (length-map values f)) (λ i inside.
+    let few : i < length values = omega (arith, inside, length-map-range_with_len at 0 (length values)) in
+    get_or-map-range_with_len at 0 (length values) i i 0 few (omega arith) ∙ sym (get_or-map f values i Zero 0 few)) in
+    sym (sum-map at (range_with_len 0 (length values))) ∙ (ap sum same ∙ sum-map f values)
 
 -- whether a step changes a variable, as a number
-listed : List ℕ → ℕ → ℕ
+abbrev pub listed : List ℕ → ℕ → ℕ
 listed flips i = cond (is_listed flips i) 1 0
 
-listed-more : (x : ℕ) (flips : List ℕ) (i : ℕ) → is_listed flips x ≡ false → listed (x ∷ flips) i ≡ one x i + listed flips i
-unfolding listed one
-listed-more x flips i out =
-    elim (cases_Bool (eqb i x)) [
-      | inl same ↦ rw (same, ap (is_listed flips) (eqb-true i x same) ∙ out) refl
-      | inr other ↦ rw other (omega arith)
-    ]
-
+-- a step has as many flips as there are variables that it changes
 length-listed : (flips : List ℕ) (n : ℕ) → IsRepeatFree flips → ((i : ℕ) → is_listed flips i ≡ true → i < n) → length flips ≡ sum_by (listed flips) (range_with_len 0 n)
-unfolding listed
-length-listed [] n once inside = sym (sum-none (listed []) (range_with_len 0 n) (λ i. refl))
-length-listed (x ∷ flips) n once inside =
+length-listed flips n once inside =
     omega (
       arith,
-      sum-same (listed (x ∷ flips)) (λ i. one x i + listed flips i) (range_with_len 0 n) (λ i. listed-more x flips i once.0),
-      sum-sum (one x) (listed flips) (range_with_len 0 n),
-      single-one x 0 n (omega arith) (omega (arith, inside x (or_left (eqb x x) _ (eq-eqb x x refl)))),
-      length-listed flips n once.1 (λ i there. inside i (or_right (eqb i x) _ there)),
+      range-listed (listed flips) nothing n flips once
+          (λ k d few. subst (λ (i : ℕ). i < n) (sym (get_or_default_zero flips k d few)) (inside (get_or flips k 0) (listed-at flips k few)))
+          (λ i below out. ap (λ (b : Bool). cond b 1 0) out),
+      list-turned (listed flips) nothing flips (λ i there. (let one : listed flips i ≡ 1 = ap (λ (b : Bool). cond b 1 0) there in omega (arith, one))),
+      zeros (range_with_len 0 n),
+      zeros flips,
     )
 
 -- a variable changes in a step or not, and then in the later steps
-changes-more : (flips : List ℕ) (steps : List (List ℕ)) (i : ℕ) → changes_in (flips ∷ steps) i ≡ listed flips i + changes_in steps i
-unfolding listed
-changes-more flips steps i = sum_by-cons (λ (list : List ℕ). cond (is_listed list i) 1 0) flips steps
+pub changes-more : (flips : List ℕ) (steps : List (List ℕ)) (i : ℕ) → changes_in (flips ∷ steps) i ≡ listed flips i + changes_in steps i
+changes-more flips steps i = sum_by-cons (λ (list : List ℕ). listed list i) flips steps
 
 pub flips_are_changes : FlipsAreChanges
-flips_are_changes net input start [] run = sym (sum-none (changes_in []) (range_with_len 0 (length net)) (λ i. refl))
+flips_are_changes net input start [] run = sym (zeros (range_with_len 0 (length net)))
 flips_are_changes net input start (flips ∷ steps) run =
     omega (
       arith,
       sum_by-cons (λ (list : List ℕ). length list) flips steps,
       length-listed flips (length net) run.0.once run.0.inside,
-      sum-same (changes_in (flips ∷ steps)) (λ i. listed flips i + changes_in steps i) (range_with_len 0 (length net)) (changes-more flips steps),
+      list-same (changes_in (flips ∷ steps)) (λ i. listed flips i + changes_in steps i) (range_with_len 0 (length net)) (λ i there. changes-more flips steps i),
       sum-sum (listed flips) (changes_in steps) (range_with_len 0 (length net)),
       flips_are_changes net input (state_after flips start) steps run.1,
     )
@@ -130,14 +81,15 @@ steps_below_flips net input start (flips ∷ steps) run =
     not-empty (x ∷ list) some = omega arith
 
 -- at most so many flips for each variable
-sum-most : (f : ℕ → ℕ) (most first count : ℕ) → ((x : ℕ) → f x ≤ most) → sum_by f (range_with_len first count) ≤ most * count
-sum-most f most first zero few = omega (arith, mul-zero most)
-sum-most f most first (suc count) few =
-    omega (arith, sum_by-cons f first (range_with_len (first + 1) count), few first, sum-most f most (first + 1) count few, mul-suc most count)
-
 pub flips_per_variable : FlipsPerVariable
 flips_per_variable net input start steps most run few =
-    omega (arith, flips_are_changes net input start steps run, sum-most (changes_in steps) most 0 (length net) few)
+    omega (
+      arith,
+      flips_are_changes net input start steps run,
+      sum_by-le (changes_in steps) most (range_with_len 0 (length net)) (λ k d inside. few _),
+      ap (λ (n : ℕ). n * most) (length-range_with_len 0 (length net)),
+      mul_comm (length net) most,
+    )
 
 -- what a value allows
 weight : ℕ → Tri → ℕ
@@ -188,13 +140,17 @@ flips_of_spread_run net input start a steps long spread =
     omega (
       arith,
       flips_are_changes net input start steps spread.run,
-      sum-same (changes_in steps) (λ i. weight 1 (value_at a i)) (range_with_len 0 (length net)) (λ i. changes-once (changes_in steps i) (value_at a i) (spread.known i) (spread.unknown i)),
+      list-same (changes_in steps) (λ i. weight 1 (value_at a i)) (range_with_len 0 (length net)) (λ i there. changes-once (changes_in steps i) (value_at a i) (spread.known i) (spread.unknown i)),
       ap (λ (n : ℕ). sum_by (λ i. weight 1 (value_at a i)) (range_with_len 0 n)) long,
       sum-places (weight 1) a,
       weight-sum 1 a,
     )
 
 -- The end of a run
+
+pub not-not : (bit : Bool) → not (not bit) ≡ bit
+not-not false = refl
+not-not true = refl
 
 -- one change more
 turn-odd : (here : Bool) (changes : ℕ) (bit : Bool) →
@@ -204,16 +160,11 @@ turn-odd false changes bit =
     ap (λ (n : ℕ). cond (eqb (n % 2) 1) (not bit) bit) (sym same)
 turn-odd true changes bit =
     elim (cases_eq (changes % 2) 1) [
-      | inl odd ↦ rw (eq-eqb (changes % 2) 1 odd, ne_eqb ((1 + changes) % 2) 1 (λ e. omega (arith, e, odd))) (twice bit)
+      | inl odd ↦ rw (eq-eqb (changes % 2) 1 odd, ne_eqb ((1 + changes) % 2) 1 (λ e. omega (arith, e, odd))) (not-not bit)
       | inr even ↦ rw (ne_eqb (changes % 2) 1 even, eq-eqb ((1 + changes) % 2) 1 (omega (arith, even))) refl
     ]
-  where
-    twice : (b : Bool) → not (not b) ≡ b
-    twice false = refl
-    twice true = refl
 
 pub ends_by_changes : EndsByChanges
-unfolding listed
 ends_by_changes start [] i inside = refl
 ends_by_changes start (flips ∷ steps) i inside =
     let later = ends_by_changes (state_after flips start) steps i (subst (λ (n : ℕ). i < n) (sym (length-state_after flips start)) inside) in

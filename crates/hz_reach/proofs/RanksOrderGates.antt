@@ -1,28 +1,58 @@
--- Where the start is stable under some input, the ranks of Algorithm A say what turns and when.
-use Rattle.std.proofs.Common.{◌≡◌, ◌≢◌, ℕ, suc, ◌+◌, ◌<◌, ◌≤◌, Bool, true, false, not, List, length, refl, sym, ap, ◌∙◌, subst, arith, inl, inr, IsTrue}
+-- What the ranks of Algorithm A say of a stable start: which inputs turn, and that what a wire or a gate needs in order to
+-- turn has a lesser rank.
+use Rattle.std.proofs.Common.{◌≡◌, ◌≢◌, ℕ, ◌+◌, ◌<◌, Bool, not, List, length, suc, ◌≤◌, true, false, take, refl, sym, ap, ◌∙◌, subst, arith, inl, inr, IsTrue}
+use Rattle.hz_core.specs.declared.tri.Tri.{Tri}
+use Rattle.hz_core.specs.declared.kind.Kind.{Kind}
+use Rattle.hz_core.specs.Gate.{gate_value}
+use Rattle.hz_net.specs.Network.{Driver, External, Function, Source, driver_at, bit_at, value_at, driver_value, driver_value3, IsStable, network_of}
+use Rattle.hz_net.specs.Reads.{IsWired, IsWireInto}
+use Rattle.hz_net.specs.Passes.{IsUnknown, algorithm_a, AreRounds, IsFirstRound, IsResult, IsRank, AreRanks}
+use Rattle.hz_reach.specs.Order.{key_at}
 use Rattle.std.specs.Prelude.{slice_range}
 use Rattle.std.proofs.lemmas.Bool.{cases_lt}
 use Rattle.std.proofs.lemmas.List.{get_or_past}
-use Rattle.hz_core.specs.declared.tri.Tri.{Tri}
 use Rattle.hz_core.specs.declared.tri.Tri.TheVariants.{Zero, One, Unknown}
-use Rattle.hz_core.specs.declared.kind.Kind.{Kind}
+use Rattle.hz_core.specs.Netlist.{Netlist, IsCircuit}
 use Rattle.hz_core.specs.Ternary.{tri_of, admits, join_of, IsJoinOf}
 use Rattle.hz_core.specs.Extension.{extension, IsValueOver}
 use Rattle.hz_core.proofs.Refinements.{known-admits, length-Refines, get_or-Refines}
 use Rattle.hz_core.proofs.Extensions.{IsExtension-extension}
-use Rattle.hz_net.specs.Network.{Driver, External, Function, Source, driver_at, bit_at, value_at, driver_value, driver_value3, IsStable}
-use Rattle.hz_net.specs.Reads.{IsWireInto, IsWired}
-use Rattle.hz_net.specs.Passes.{algorithm_a, AreRounds, IsFirstRound, IsUnknown, IsRank, AreRanks}
+use Rattle.hz_net.specs.Starts.{IsStableStart}
+use Rattle.hz_net.proofs.Wired.{wired-network_of}
 use Rattle.hz_net.proofs.PartLemmas.{length-part, at-part}
 use Rattle.hz_net.proofs.Sequences.{length-algorithm_a}
 use Rattle.hz_net.proofs.Ranks.{unknown-later, unknown-or-start, one-round, at-tri_of, turns-before-rank}
-use Rattle.hz_reach.specs.Order.{key_at}
-use Rattle.hz_reach.proofs.StateParts.{driver-inside}
-use Rattle.hz_reach.proofs.TurnsByRank.{IsChangedBy, IsChangedAfter, AreTurns}
+use Rattle.hz_reach.proofs.GateTurn.{driver-inside, not-itself}
+use Rattle.hz_reach.proofs.ListPlaces.{key-inside}
 
-not-itself : (bit : Bool) → not bit ≢ bit
-not-itself false e = cc
-not-itself true e = cc
+-- bits for a gate's pins that give it the complement of its bit at the start, where a pin differs from the start only if
+-- its wire has a rank below the gate's
+pub record IsChangedBy (start : List Bool) (ranks : List ℕ) (gate : ℕ) (kind : Kind) (first pins : ℕ) (pattern : List Bool) : Type 0 where
+  pub long : length pattern ≡ pins
+  pub value : gate_value kind pattern ≡ not (bit_at start gate)
+  pub free : (pin : ℕ) → pin < pins → bit_at pattern pin ≢ bit_at start (first + pin) → (key_at ranks (first + pin) ≢ 0) × (key_at ranks (first + pin) < key_at ranks gate)
+
+-- what the ranks say of a wire: its source has a lesser rank, and the same bit at the start
+pub record IsChangedAfter (start : List Bool) (ranks : List ℕ) (wire source : ℕ) : Type 0 where
+  pub some : key_at ranks source ≢ 0
+  pub less : key_at ranks source < key_at ranks wire
+  pub same : bit_at start wire ≡ bit_at start source
+
+-- The result and the ranks of Algorithm A, for a network and a start.
+pub record AreTurns (net : List Driver) (input start : List Bool) (a : List Tri) (ranks : List ℕ) : Type 0 where
+  pub wired : IsWired net
+  pub long : length start ≡ length net
+  pub long_a : length a ≡ length net
+  pub long_ranks : length ranks ≡ length net
+  pub unknown : (i : ℕ) → key_at ranks i ≢ 0 → IsUnknown (value_at a i)
+  pub known : (i : ℕ) → IsUnknown (value_at a i) → key_at ranks i ≢ 0
+  pub inside : (i : ℕ) → key_at ranks i ≢ 0 → i < length net
+  pub inputs : (i place : ℕ) → driver_at net i ≡ External place → key_at ranks i ≢ 0 → bit_at start i ≢ bit_at input place
+  pub ranked : (i place : ℕ) → i < length net → driver_at net i ≡ External place → bit_at start i ≢ bit_at input place → key_at ranks i ≢ 0
+  pub wires : (i source : ℕ) → driver_at net i ≡ Source source → key_at ranks i ≢ 0 → IsChangedAfter start ranks i source
+  pub gates :
+      (i : ℕ) (kind : Kind) (first pins : ℕ) → driver_at net i ≡ Function kind first pins → key_at ranks i ≢ 0 →
+      (pattern : List Bool) × IsChangedBy start ranks i kind first pins pattern
 
 -- a bit that a join admits is in its set
 in-set : (set : Bool → Type 0) (value : Tri) (bit : Bool) → IsJoinOf set value → IsTrue (admits value bit) → set bit
@@ -52,10 +82,7 @@ module _ (net : List Driver) (input old start : List Bool) (rounds : ℕ) (ranks
 
   -- what has a rank is a variable
   rank-inside : (i : ℕ) → key_at ranks i ≢ 0 → i < length net
-  rank-inside i some = elim (cases_lt i (length net)) [
-    | inl inside ↦ inside
-    | inr past ↦ absurd (some (get_or_past ranks i 0 (omega (arith, ranked.long, long_result))))
-  ]
+  rank-inside i some = omega (arith, key-inside ranks i some, ranked.long, long_result)
 
   rank-value : (i : ℕ) → key_at ranks i ≢ 0 → (value_at (algorithm_a net input start rounds) i ≡ Unknown) × IsFirstRound (algorithm_a net input start) i IsUnknown (key_at ranks i)
   rank-value i some =
@@ -63,7 +90,7 @@ module _ (net : List Driver) (input old start : List Bool) (rounds : ℕ) (ranks
       ranked-value (algorithm_a net input start) i (value_at (algorithm_a net input start rounds) i) (key_at ranks i) (ranked.each i (omega (arith, long_result))) some
 
   -- what has a rank is X in the result
-  pub unknown-ranked : (i : ℕ) → key_at ranks i ≢ 0 → value_at (algorithm_a net input start rounds) i ≡ Unknown
+  unknown-ranked : (i : ℕ) → key_at ranks i ≢ 0 → value_at (algorithm_a net input start rounds) i ≡ Unknown
   unknown-ranked i some = (rank-value i some).0
 
   unknown-inside : (i : ℕ) → value_at (algorithm_a net input start rounds) i ≡ Unknown → i < length net
@@ -77,7 +104,7 @@ module _ (net : List Driver) (input old start : List Bool) (rounds : ℕ) (ranks
       subst (λ (v : Tri). IsRank (algorithm_a net input start) i v (key_at ranks i)) is (ranked.each i (let inside : i < length net = unknown-inside i is in omega (arith, long_result)))
 
   -- what is X in the result has a rank
-  pub ranked-unknown : (i : ℕ) → value_at (algorithm_a net input start rounds) i ≡ Unknown → key_at ranks i ≢ 0
+  ranked-unknown : (i : ℕ) → value_at (algorithm_a net input start rounds) i ≡ Unknown → key_at ranks i ≢ 0
   ranked-unknown i is =
       let before = turns-before-rank net input start i (key_at ranks i) long (unknown-inside i is) (unknown-first i is) in
       let more : key_at ranks i ≡ suc before.0 = before.1 in
@@ -95,7 +122,7 @@ module _ (net : List Driver) (input old start : List Bool) (rounds : ℕ) (ranks
       )
 
   -- a rank is among the rounds
-  pub rank-late : (i : ℕ) → key_at ranks i ≢ 0 → key_at ranks i ≤ rounds
+  rank-late : (i : ℕ) → key_at ranks i ≢ 0 → key_at ranks i ≤ rounds
   rank-late i some = elim (cases_lt rounds (key_at ranks i)) [
     | inl later ↦ absurd ((rank-value i some).1.least rounds later (rank-value i some).0)
     | inr no_later ↦ no_later
@@ -163,12 +190,27 @@ module _ (net : List Driver) (input old start : List Bool) (rounds : ℕ) (ranks
         },
       )
 
-  pub ranked-turns : AreTurns net input start ranks
+  pub ranked-turns : AreTurns net input start (algorithm_a net input start rounds) ranks
   ranked-turns = record {
+    wired = wired;
     long = long;
+    long_a = long_result;
+    long_ranks = ranked.long ∙ long_result;
+    unknown = unknown-ranked;
+    known = ranked-unknown;
     inside = rank-inside;
     inputs = turns-input;
     ranked = ranked-input;
     wires = turns-wire;
     gates = turns-gate;
   }
+
+-- of a circuit, from its stable start
+pub turns-of :
+    {netlist : Netlist} {input start : List Bool} {a : List Tri} {ranks : List ℕ} →
+    IsCircuit netlist → IsStableStart netlist start → IsResult (algorithm_a (network_of netlist) input start) a →
+    AreRanks (algorithm_a (network_of netlist) input start) a ranks → AreTurns (network_of netlist) input start a ranks
+turns-of {netlist} {input} {start} {a} {ranks} circuit begins result ranked =
+    subst (λ (values : List Tri). AreTurns (network_of netlist) input start values ranks) (sym result.2)
+    (ranked-turns (network_of netlist) input (take netlist.inputs start) start result.0 ranks (wired-network_of netlist circuit) begins.long begins.stable result.1
+    (subst (λ (values : List Tri). AreRanks (algorithm_a (network_of netlist) input start) values ranks) result.2 ranked))

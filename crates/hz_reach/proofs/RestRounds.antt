@@ -10,6 +10,7 @@ use Rattle.hz_net.specs.Network.{Driver, value_at}
 use Rattle.hz_net.specs.Passes.{excitations, algorithm_a, algorithm_b, IsKnown, AreRounds, IsResult, IsFirstRound, IsRank, AreRanks, IsSettlingRound}
 use Rattle.hz_net.proofs.Sequences.{unknown_count-le-length, same-or-more, length-algorithm_a, AllBelow-algorithm_a, AllBelow-closed, closed-result, AllBelow-algorithm_b}
 use Rattle.hz_reach.specs.Existence.{ResultOfAExists, ResultOfBExists, RoundsOfAAreFew, RoundsOfBAreFew, RanksExist, SettlingRoundsExist}
+use Rattle.hz_reach.proofs.GateTurn.{unknown-is, is-unknown}
 
 -- Rounds
 
@@ -134,16 +135,6 @@ first_passing-least test (suc limit) (suc n) less =
           )
     ]
 
-is-unknown : (value : Tri) → is_unknown value ≡ true → value ≡ Unknown
-is-unknown Zero e = cc
-is-unknown One e = cc
-is-unknown Unknown e = refl
-
-unknown-is : (value : Tri) → value ≡ Unknown → is_unknown value ≡ true
-unknown-is Zero e = cc
-unknown-is One e = cc
-unknown-is Unknown e = refl
-
 rank_of : (ℕ → List Tri) → ℕ → ℕ → ℕ
 rank_of sequence rounds i =
     cond (is_unknown (value_at (sequence rounds) i)) (first_passing (λ round. is_unknown (value_at (sequence round) i)) rounds) 0
@@ -153,8 +144,8 @@ unfolding rank_of
 rank_of-is sequence rounds i Zero e = rw e refl
 rank_of-is sequence rounds i One e = rw e refl
 rank_of-is sequence rounds i Unknown e = record {
-  there = is-unknown _ (rw e (first_passing-there (λ round. is_unknown (value_at (sequence round) i)) rounds (unknown-is _ e)));
-  least = λ round less is. both_ways _ (first_passing-least (λ round. is_unknown (value_at (sequence round) i)) rounds round (rw e at less)) (unknown-is _ is);
+  there = unknown-is _ (rw e (first_passing-there (λ round. is_unknown (value_at (sequence round) i)) rounds (is-unknown _ e)));
+  least = λ round less is. both_ways _ (first_passing-least (λ round. is_unknown (value_at (sequence round) i)) rounds round (rw e at less)) (is-unknown _ is);
 }
 
 pub ranks_of : (ℕ → List Tri) → ℕ → List ℕ

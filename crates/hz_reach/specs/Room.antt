@@ -16,3 +16,8 @@ pub record Spends (old new : RunRecord) : Type 0 where
 pub record HasRoomForStep (flips : List ℕ) (run : RunRecord) : Type 0 where
   pub flips_fit : length flips ≤ run.spare_flips
   pub step_fits : flips ≢ [] → 1 ≤ run.spare_steps
+
+-- a run has room for so many flips, in however many steps
+pub record HasRoomFor (most : ℕ) (run : RunRecord) : Type 0 where
+  pub flips : most ≤ run.spare_flips
+  pub steps : most ≤ run.spare_steps

@@ -3,6 +3,7 @@
 //! | Module | What lives in it |
 //! |---|---|
 //! | `spreading` | [`spread_run`]: a run that changes each X of Algorithm A once |
+//! | `turn` | [`take_turn`]: a gate's turn, two steps that turn it |
 //! | `scratch` | [`Scratch`]: the room to make a run in |
 //! | `existence` | the laws that both algorithms come to rest, and that there are spread runs |
 //! | `counts` | laws on the length of runs |
@@ -20,11 +21,13 @@ mod counts;
 mod existence;
 mod scratch;
 mod spreading;
+mod turn;
 
 pub use counts::{run_counts, run_ends, spread_flips};
 pub use existence::{passes_end, spread_runs_exist};
 pub use scratch::Scratch;
-pub use spreading::{add_unused, mark_changed, sparing_in_order, spread_in_order, spread_run};
+pub use spreading::{add_unused, sparing_in_order, spread_in_order, spread_run};
+pub use turn::{is_gate, take_turn};
 
 /// Algorithm A is exact: from a start that is stable under its own input, the value of its result at a variable is the
 /// join of the values that the variable has in the reachable states. So if the result is X, one reachable state has 0

@@ -10,23 +10,22 @@
 //!
 //! What breaks if you add a change: a wire before its source, or a gate before its wires, is stable then, and the step is
 //! none. A second change of a variable falsifies `IsSpreadRun`, and the room. A new kind of gate needs its canonical pattern.
-ghost use Rattle.std.specs.Prelude.{◌≡◌, ◌+◌, ◌<◌, ◌≤◌, Bool, true, false, not, ◌&&◌, List, [], length, MatchBool};
+ghost use Rattle.std.specs.Prelude.{◌≡◌, ℕ, ◌+◌, ◌<◌, ◌≤◌, Bool, true, false, not, ◌&&◌, List, [], length, MatchBool};
 ghost use Rattle.hz_core.specs.Ternary.{is_unknown};
-ghost use Rattle.hz_core.specs.Gate.{takes};
-ghost use Rattle.hz_core.specs.Netlist.{IsCircuit, IsWhole, IsGateNumber, gate_at};
+ghost use Rattle.hz_core.specs.Netlist.{IsCircuit, IsGateNumber, gate_at};
 ghost use Rattle.hz_core.specs.Pattern.{differs, IsCandidate};
 ghost use Rattle.hz_net.specs.Network.{network_of, bit_at};
 ghost use Rattle.hz_net.specs.Variables.{at_wires};
 ghost use Rattle.hz_gmw.specs.Runs.{end_of};
-ghost use Rattle.hz_reach.specs.Order.{key_at, IsInKeyOrder};
-ghost use Rattle.hz_reach.specs.Room.{Spends, with_step_if_any, HasRoomForStep};
+ghost use Rattle.hz_reach.specs.Order.{IsInKeyOrder};
+ghost use Rattle.hz_reach.specs.Room.{Spends, with_step_if_any, HasRoomForStep, HasRoomFor};
 ghost use Rattle.hz_reach.specs.Given.{AreResultsOfA, IsScratchFor, IsEmptyRun};
 ghost use Rattle.hz_reach.specs.Spread.{IsSpreadRun, IsSparingRun};
-ghost use Rattle.hz_reach.specs.Turn.{changed_inputs, free_pins, changed_wires, AreChangedWires, unchanged_wires};
-ghost use Rattle.hz_core.specs.Limits.{most_variables};
+ghost use Rattle.hz_reach.specs.Turn.{changed_inputs, free_pins, earlier_pins, AreTurnWires, IsTurn, unchanged_wires};
 
 use crate::Scratch;
-use hz_core::{Kind, MAX_PINS, Tri};
+use crate::turn::{is_gate, take_turn};
+use hz_core::{MAX_PINS, Tri};
 use hz_gmw::Run;
 use hz_net::Net;
 
@@ -121,17 +120,15 @@ pub fn sparing_in_order(
     ensures sorted { IsInKeyOrder rank.now scratch.new.sorted }
     ensures room { Spends run.old run.new }
 {
-    let circuit = net.circuit();
+    // A getter of the network says that its circuit is one.
+    let _variables = net.len();
     scratch.begin(start);
     mark_inputs(net, start, input, scratch);
     scratch.step(run);
     for place in 0..scratch.sorted().len() {
         let var = scratch.sorted()[place];
-        if circuit.inputs() <= var && var < circuit.nodes() {
-            mark_wires(net, start, rank, var, scratch);
-            scratch.step(run);
-            scratch.mark(var);
-            scratch.step(run);
+        if is_gate(net, var) {
+            turn_by_rank(net, rank, var, scratch, run);
         }
     }
 }
@@ -170,38 +167,31 @@ fn mark_inputs(net: &Net, start: &[bool], input: &[bool], scratch: &mut Scratch)
     }
 }
 
-// Marks the wires that change when a gate's turn comes.
-fn mark_wires(net: &Net, start: &[bool], rank: &[u32], gate: u32, scratch: &mut Scratch)
+// A gate's turn, in which those of its wires are free that become X before it. It changes alone.
+fn turn_by_rank(net: &Net, rank: &[u32], gate: u32, scratch: &mut Scratch, run: &mut Run)
     requires circuit { IsCircuit net.now }
-    requires whole { IsWhole net.now }
-    requires start { length start.now ≡ length (network_of net.now) }
     requires rank { length rank.now ≡ length (network_of net.now) }
     requires gate { IsGateNumber net.now gate }
-    requires possible { (list : List Bool) × IsCandidate (gate_at net.now gate).kind (at_wires net.now gate start.now)
-        (free_pins (key_at rank.now gate) (at_wires net.now gate rank.now)) (not (bit_at start.now gate)) list }
+    requires possible { (list : List Bool) × IsCandidate (gate_at net.now gate).kind
+        (at_wires net.now gate scratch.old.state) (earlier_pins net.now rank.now gate) (not (bit_at scratch.old.state gate)) list }
     requires scratch { IsScratchFor net.now scratch.old }
-    ensures marked { AreChangedWires net.now start.now rank.now gate scratch.new.marked }
-    ensures state { scratch.new.state ≡ scratch.old.state }
+    requires room { (wires : List ℕ) → AreTurnWires net.now gate (earlier_pins net.now rank.now gate) scratch.old.state wires →
+        HasRoomFor (length wires + 1) run.old }
+    ensures turn { IsTurn net.now gate (earlier_pins net.now rank.now gate) false
+        scratch.old.state scratch.new.state run.old.steps run.new.steps }
+    ensures marked { scratch.new.marked ≡ [] }
     ensures sorted { scratch.new.sorted ≡ scratch.old.sorted }
+    ensures room { Spends run.old run.new }
 {
-    let kind = net.circuit().kind(gate);
     let (first, pins) = net.wires_in(gate);
     let wires = first as usize..(first + pins) as usize;
-    let now = &start[wires];
     let mut free = [false; MAX_PINS];
-    let mut pattern = [false; MAX_PINS];
     list_free(
         rank[gate as usize],
-        &rank[first as usize..(first + pins) as usize],
+        &rank[wires],
         &mut free[..pins as usize],
     );
-    kind.choose(
-        now,
-        &free[..pins as usize],
-        !start[gate as usize],
-        &mut pattern[..pins as usize],
-    );
-    mark_changed(first, now, &pattern[..pins as usize], scratch);
+    take_turn(net, gate, &free[..pins as usize], false, scratch, run);
 }
 
 // Which pins are free, by the ranks of their wires and the gate's own rank.
@@ -211,23 +201,6 @@ fn list_free(own: u32, ranks: &[u32], free: &mut [bool])
 {
     for (pin, rank) in ranks.iter().enumerate() {
         free[pin] = *rank != 0 && *rank < own;
-    }
-}
-
-/// Marks, of the wires from a first one on, those whose present bit differs from a pattern's bit.
-pub fn mark_changed(first: u32, now: &[bool], pattern: &[bool], scratch: &mut Scratch)
-    requires pattern { length pattern.now ≡ length now.now }
-    requires inside { first + length now.now ≤ length scratch.old.state }
-    requires small { first + length now.now ≤ most_variables }
-    requires none_marked { scratch.old.marked ≡ [] }
-    ensures marked { scratch.new.marked ≡ changed_wires first now.now pattern.now }
-    ensures state { scratch.new.state ≡ scratch.old.state }
-    ensures sorted { scratch.new.sorted ≡ scratch.old.sorted }
-{
-    for pin in 0..now.len() {
-        if now[pin] != pattern[pin] {
-            scratch.mark(first + pin as u32);
-        }
     }
 }
 

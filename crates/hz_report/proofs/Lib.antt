@@ -8,3 +8,5 @@ pub mod CycleLemmas
 pub mod ClassLemmas
 -- The words of outputs, and where their letters stand
 pub mod OutputLemmas
+-- The digits of a number and of the next one
+pub mod DigitLemmas

@@ -20,4 +20,5 @@
 pub mod Words
 pub mod Report
 pub mod Outputs
+pub mod DigitsInside
 pub mod LineInside

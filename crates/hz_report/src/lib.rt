@@ -8,11 +8,13 @@
 //! | `head` | the lines that come once: the size of the network, its feedback cycles, and the start |
 //! | `change` | the lines of a change: what it assigns, the rounds, the race states and the run text; or where it stops |
 //! | `rows` | the lines of variables: their values, their number of changes and their class |
+//! | `digits` | the digits of a number that is counted up |
 //! | `outputs` | [`OutputLine`]: the line of a number, in which each output has two values |
 //! | `summary` | the summary of a change: how many variables have each class, and the size of its runs |
 #![tactic(auto, using(hz_write::proofs::Writers::writes_then, hz_write::proofs::Writers::writes_nothing))]
 
 mod change;
+mod digits;
 mod head;
 mod outputs;
 mod rows;

@@ -5,9 +5,9 @@ ghost use Rattle.hz_write.specs.Writer.{Writes, NoneWaits};
 ghost use Rattle.hz_report.specs.Outputs.{outputs_line};
 ghost use Rattle.hz_report.specs.Words.{tri_letter};
 
+use crate::digits::Digits;
 use hz_core::{Circuit, Memory, Tri};
 use hz_outside::Sink;
-use hz_write::Piece::{Number, Text};
 use hz_write::Writer;
 use std::alloc::Global;
 use std::marker::Model;
@@ -19,6 +19,7 @@ use std::marker::Model;
 #[derive(Drop)]
 pub struct OutputLine<'c> {
     circuit: &'c Circuit,
+    digits: Digits,
     text: Vec<u8>,
     // Where the letters of each output stand in the text.
     places: Vec<usize>,
@@ -48,6 +49,7 @@ impl<'c> OutputLine<'c> {
         }
         Ok(OutputLine {
             circuit,
+            digits: Digits::new(alloc)?,
             text,
             places,
         })
@@ -64,13 +66,17 @@ impl<'c> OutputLine<'c> {
         self.text[place + 1] = letter(second);
     }
 
-    /// Gives the line to a writer, with a number in front.
-    #[tactic(auto, using(hz_write::proofs::Writers::writes_same), unfolding(crate::specs::Outputs::outputs_line))]
-    pub fn write<K: Sink>(&self, writer: &mut Writer<'_, K>, number: u32)
-        ensures gave { Writes K.output K.faults (outputs_line self.now.netlist number self.now.values) writer.old writer.new }
+    /// Gives the line to a writer, with a number in front. The number after the one before takes least time.
+    #[tactic(auto, using(hz_write::proofs::Writers::writes_then), unfolding(crate::specs::Outputs::outputs_line))]
+    pub fn write<K: Sink>(&mut self, writer: &mut Writer<'_, K>, number: u32)
+        ensures same { self.new ≡ self.old }
+        ensures gave { Writes K.output K.faults (outputs_line self.old.netlist number self.old.values) writer.old writer.new }
         ensures none_waits { NoneWaits writer.new }
     {
-        writer.line(&[Number(number), Text(self.text.as_slice())]);
+        self.digits.count_to(number);
+        writer.text(self.digits.text());
+        writer.text(self.text.as_slice());
+        writer.end();
     }
 }
 

@@ -30,7 +30,7 @@ const MAX_FRONTS: usize = 64;
 /// All the room that searches on one network take, and the runs that the last one found.
 ///
 /// A search makes at most 128 attempts, each of at most two turns for each variable. A turn costs the variables that read the one
-/// that flips. Only `new` takes memory.
+/// that flips, and the pins of the gates among them. Only `new` takes memory.
 #[derive(Debug, Drop)]
 pub struct Split<'n> {
     trial: Trial<'n>,

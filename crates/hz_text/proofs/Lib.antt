@@ -38,6 +38,8 @@ pub mod PrintedLines
 pub mod PatternPrintLemmas
 -- Printed patterns have no fault, and stand for the patterns
 pub mod PatternPrintedLaws
+-- Lines of patterns that agree with lines of zeros
+pub mod PatternModelLaws
 -- The commonest line of a text of patterns
 pub mod PatternLines
 -- The first answer of the passes over a run text is its least fault

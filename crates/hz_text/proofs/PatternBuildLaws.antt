@@ -1,12 +1,13 @@
 -- Patterns in a list of their bits, and what holds of a text of patterns in which the passes find no fault.
-use Rattle.std.proofs.Common.{◌≡◌, ◌∙◌, ℕ, ◌+◌, ◌*◌, ◌<◌, ◌≤◌, Bool, true, false, not, ◌||◌, nat_eq, List, [], ◌∷◌, ◌++◌, Option, Some, None, zero, suc, length, length-append, get_or, take, drop, map, codes, refl, ap, sym, subst, inl, inr, arith, zero-add}
+use Rattle.std.proofs.Common.{◌≡◌, ◌∙◌, ℕ, ◌+◌, ◌-◌, ◌*◌, ◌<◌, ◌≤◌, Bool, true, false, not, ◌||◌, nat_eq, List, [], ◌∷◌, ◌++◌, Option, Some, None, zero, suc, length, length-append, get_or, take, drop, map, codes, refl, ap, sym, subst, inl, inr, arith, zero-add}
 use Rattle.std.specs.List.{list_all, flat_map, range_with_len, All}
 use Rattle.std.specs.Prelude.{slice_get, ◌⊎◌}
 use Rattle.std.specs.Option.{option_map}
-use Rattle.std.proofs.Math.Nat.{suc-mul, zero-mul}
+use Rattle.std.proofs.Math.Nat.{add-mul, suc-mul, zero-mul}
+use Rattle.std.proofs.lemmas.Nat.{mul-le}
 use Rattle.std.proofs.lemmas.Bool.{and_parts, cases_lt}
 use Rattle.std.proofs.lemmas.Bool.Decides.{nat_tests}
-use Rattle.std.proofs.lemmas.List.{drop-drop, take-append-le, drop-append-le, take_all, drop_all, length-map, length-take-le, get_or-take, append_assoc}
+use Rattle.std.proofs.lemmas.List.{drop-drop, drop-take, take-take, take-append-drop, length-drop, take-append-le, drop-append-le, take_all, drop_all, length-map, length-take-le, get_or-take, append_assoc}
 use Rattle.std.proofs.lemmas.List.Elements.{All-nil, All-cons, All-head, All-tail, All-map}
 use Rattle.std.proofs.lemmas.List.FromFn.{length-range_with_len, get_or-map-range_with_len}
 use Rattle.std.proofs.lemmas.Option.{slice_get-get_or, none-some}
@@ -23,7 +24,7 @@ use Rattle.hz_text.specs.PatternResolution.{ResolvedPatternStatement, PatternEnt
 use Rattle.hz_text.specs.PatternFault.{assignments_in, holds_unknown, lacks_bit, is_hold}
 use Rattle.hz_text.specs.PatternText.{held_first, behind_hold, pattern_statement, ArePatternsBy, IsPatternOf, ArePatternsFor}
 use Rattle.hz_text.specs.PatternRules.{holds_node_twice, first_late_hold, last_beyond, first_pattern_fault, AssignsBelow}
-use Rattle.hz_text.specs.PatternValue.{PatternOf, PatternsOf}
+use Rattle.hz_text.specs.PatternValue.{PatternOf, PatternsOf, bits_of_pattern}
 use Rattle.hz_text.specs.PatternWord.{bits_word, is_bit_letter, is_bits_word}
 use Rattle.hz_text.specs.PatternInside.{patterns_in, letter_bits, statement_bits}
 use Rattle.hz_text.proofs.BuildLemmas.{or_parts}
@@ -53,6 +54,54 @@ slice_get-patterns number count inputs bits l =
     let d = pattern_at number inputs bits in
     slice_get-get_or (patterns_in count inputs bits) number d (omega (arith, l, length-patterns count inputs bits)) ∙ ap Some (get_or-patterns number count inputs bits d l)
 
+-- the bits of so many patterns
+bits_in-patterns : (count inputs : ℕ) (bits : List Bool) → count * (2 * inputs) ≤ length bits → flat_map bits_of_pattern (patterns_in count inputs bits) ≡ take (count * (2 * inputs)) bits
+bits_in-patterns zero inputs bits l = ap (λ (k : ℕ). take k bits) (sym (zero-mul (2 * inputs)))
+bits_in-patterns (suc count) inputs bits l =
+    let sum : suc count * (2 * inputs) ≡ 2 * inputs + count * (2 * inputs) = omega (arith, suc-mul count (2 * inputs)) in
+    let two : inputs + inputs ≡ 2 * inputs = omega arith in
+    let rest = bits_in-patterns count inputs (drop (2 * inputs) bits) (omega (arith, l, sum, length-drop (2 * inputs) bits)) in
+    ap (λ (later : List Bool). (take inputs bits ++ take inputs (drop inputs bits)) ++ later) rest
+    ∙ ap (λ (front : List Bool). front ++ take (count * (2 * inputs)) (drop (2 * inputs) bits)) (take-then inputs inputs bits ∙ ap (λ (k : ℕ). take k bits) two)
+    ∙ take-then (2 * inputs) (count * (2 * inputs)) bits
+    ∙ ap (λ (k : ℕ). take k bits) (sym sum)
+  where
+    take-then : (a b : ℕ) (xs : List Bool) → take a xs ++ take b (drop a xs) ≡ take (a + b) xs
+    take-then a b xs =
+        ap (λ (front : List Bool). front ++ take b (drop a xs)) (sym (take-take a (a + b) xs (omega arith)))
+        ∙ ap (λ (back : List Bool). take a (take (a + b) xs) ++ back) (sym (drop-take a b xs))
+        ∙ take-append-drop a (take (a + b) xs)
+
+take-patterns : (few count inputs : ℕ) (bits : List Bool) → few ≤ count → take few (patterns_in count inputs bits) ≡ patterns_in few inputs bits
+take-patterns zero count inputs bits l = refl
+take-patterns (suc few) zero inputs bits l = absurd (omega (arith, l))
+take-patterns (suc few) (suc count) inputs bits l =
+    ap (λ (later : List PatternOf). record { from = take inputs bits; to = take inputs (drop inputs bits) } ∷ later) (take-patterns few count inputs (drop (2 * inputs) bits) (omega (arith, l)))
+
+drop-patterns : (first count inputs : ℕ) (bits : List Bool) → drop first (patterns_in (first + count) inputs bits) ≡ patterns_in count inputs (drop (first * (2 * inputs)) bits)
+drop-patterns zero count inputs bits =
+    ap (λ (k : ℕ). patterns_in k inputs bits) (zero-add count) ∙ ap (λ (k : ℕ). patterns_in count inputs (drop k bits)) (sym (zero-mul (2 * inputs)))
+drop-patterns (suc first) count inputs bits =
+    let one : suc first + count ≡ suc (first + count) = omega arith in
+    let places : 2 * inputs + first * (2 * inputs) ≡ suc first * (2 * inputs) = omega (arith, suc-mul first (2 * inputs)) in
+    ap (λ (k : ℕ). drop (suc first) (patterns_in k inputs bits)) one
+    ∙ drop-patterns first count inputs (drop (2 * inputs) bits)
+    ∙ ap (patterns_in count inputs) (drop-drop (first * (2 * inputs)) (2 * inputs) bits ∙ ap (λ (k : ℕ). drop k bits) places)
+
+-- the bits of some of them
+pub bits-between : (first count all inputs : ℕ) (bits : List Bool) → first + count ≤ all → length bits ≡ all * (2 * inputs) →
+    flat_map bits_of_pattern (take count (drop first (patterns_in all inputs bits))) ≡ take (count * (2 * inputs)) (drop (first * (2 * inputs)) bits)
+bits-between first count all inputs bits few long =
+    let rest = all - first in
+    let sum : all ≡ first + rest = omega (arith, few) in
+    let left = drop (first * (2 * inputs)) bits in
+    let parts : all * (2 * inputs) ≡ first * (2 * inputs) + rest * (2 * inputs) = ap (λ (k : ℕ). k * (2 * inputs)) sum ∙ add-mul first rest (2 * inputs) in
+    let enough : count * (2 * inputs) ≤ rest * (2 * inputs) = mul-le count (2 * inputs) rest (2 * inputs) (omega (arith, few)) (omega arith) in
+    ap (λ (k : ℕ). flat_map bits_of_pattern (take count (drop first (patterns_in k inputs bits)))) sum
+    ∙ ap (λ (patterns : List PatternOf). flat_map bits_of_pattern (take count patterns)) (drop-patterns first rest inputs bits)
+    ∙ ap (flat_map bits_of_pattern) (take-patterns count rest inputs left (omega (arith, few)))
+    ∙ bits_in-patterns count inputs left (omega (arith, long, parts, enough, length-drop (first * (2 * inputs)) bits))
+
 letter_back : (letter : ℕ) → is_bit_letter letter ≡ true → letter_of (nat_eq letter 49) ≡ letter
 letter_back letter h = by_test (nat_eq letter 49) refl (nat_eq letter 48) refl h
   where
@@ -61,7 +110,8 @@ letter_back letter h = by_test (nat_eq letter 49) refl (nat_eq letter 48) refl h
     by_test false e true f h = grind (arith, nat_tests, f)
     by_test false e false f h = cc
 
-letters_back : (word : List ℕ) → list_all is_bit_letter word ≡ true → map letter_of (map (λ letter. nat_eq letter 49) word) ≡ word
+-- letters of bits are the letters of these bits
+pub letters_back : (word : List ℕ) → list_all is_bit_letter word ≡ true → map letter_of (map (λ letter. nat_eq letter 49) word) ≡ word
 letters_back [] h = refl
 letters_back (letter ∷ word) h =
     let parts = and_parts (is_bit_letter letter) (list_all is_bit_letter word) h in
@@ -99,12 +149,12 @@ right_words inputs from to h =
     (right_word inputs from (not-false _ parts.0), right_word inputs to (not-false _ parts.1))
 
 -- the first pattern of bits, and what stands behind it
-record AreCut (inputs : ℕ) (a b rest : List Bool) : Type 0 where
-  from : take inputs ((a ++ b) ++ rest) ≡ a
-  to : take inputs (drop inputs ((a ++ b) ++ rest)) ≡ b
-  later : drop (2 * inputs) ((a ++ b) ++ rest) ≡ rest
+pub record AreCut (inputs : ℕ) (a b rest : List Bool) : Type 0 where
+  pub from : take inputs ((a ++ b) ++ rest) ≡ a
+  pub to : take inputs (drop inputs ((a ++ b) ++ rest)) ≡ b
+  pub later : drop (2 * inputs) ((a ++ b) ++ rest) ≡ rest
 
-cut : (inputs : ℕ) (a b rest : List Bool) → length a ≡ inputs → length b ≡ inputs → AreCut inputs a b rest
+pub cut : (inputs : ℕ) (a b rest : List Bool) → length a ≡ inputs → length b ≡ inputs → AreCut inputs a b rest
 cut inputs a b rest la lb =
     let all : (a ++ b) ++ rest ≡ a ++ (b ++ rest) = append_assoc a b rest in
     let behind : drop inputs ((a ++ b) ++ rest) ≡ b ++ rest = ap (drop inputs) all ∙ drop-append-le inputs a (b ++ rest) (omega (arith, la)) ∙ ap (λ front. front ++ (b ++ rest)) (drop_all inputs a (omega (arith, la))) in

@@ -17,7 +17,7 @@ pub enum Task {
     Split,
     /// The runs of a run text are replayed.
     Replay,
-    /// A run text is written in version 2.
+    /// A run text is written in format 2.
     Convert,
     /// The last run of a run text is written as a value change dump.
     Vcd,

@@ -8,6 +8,7 @@ ghost use Rattle.hz_line.specs.Line.{most_text_bytes};
 
 use crate::fault::TextFault;
 use crate::patterns::build::build;
+use crate::patterns::printed::read_printed;
 use crate::patterns::statement::{Entry, Statements};
 use crate::patterns::value::Patterns;
 use crate::text::read_text;
@@ -21,6 +22,22 @@ use std::alloc::Global;
 /// It takes time linear in the text and the circuit, if the names are not chosen to collide. Besides the text it takes a
 /// byte for each bit, and less than a hundred bytes for each line.
 pub fn read_patterns(alloc: Global, circuit: &Circuit, text: &[u8]) -> Result<Patterns, TextFault>
+    requires { length text.now ≤ most_text_bytes }
+    ensures value { IfOk result (IsPatternsValue circuit.now text.now) }
+    ensures usable { IfOk result (ArePatternsFor circuit.now) }
+    ensures faultless { OnOk result (IsPatternFaultless circuit.now text.now) }
+    ensures fault { IfErr result (IsPatternRefusal circuit.now text.now) }
+    ensures exact { (fault : TextFault) → IsLeastPatternFault circuit.now text.now fault
+        → IsErrOf result fault ⊎ IsErrOf result TextFault.Memory }
+{
+    match read_printed(alloc, circuit, text)? {
+        Some(patterns) => Ok(patterns),
+        None => read_statements(alloc, circuit, text),
+    }
+}
+
+// Reads patterns statement by statement.
+fn read_statements(alloc: Global, circuit: &Circuit, text: &[u8]) -> Result<Patterns, TextFault>
     requires { length text.now ≤ most_text_bytes }
     ensures value { IfOk result (IsPatternsValue circuit.now text.now) }
     ensures usable { IfOk result (ArePatternsFor circuit.now) }

@@ -1,8 +1,10 @@
 //! Patterns as a value.
 
-ghost use Rattle.std.specs.Prelude.{◌≡◌, ◌*◌, ◌<◌, length, slice_get, Some};
+ghost use Rattle.std.specs.Prelude.{◌≡◌, ◌+◌, ◌*◌, ◌<◌, ◌≤◌, length, slice_get, take, drop, Some};
 ghost use Rattle.std.specs.Option.{option_map};
+ghost use Rattle.std.specs.List.{flat_map};
 ghost use Rattle.hz_text.specs.PatternInside.{patterns_in};
+ghost use Rattle.hz_text.specs.PatternValue.{bits_of_pattern};
 
 use std::marker::Model;
 
@@ -84,6 +86,27 @@ impl Patterns {
         let (_, to) = pattern_at(self.bits.as_slice(), self.inputs, self.count, number);
         to
     }
+
+    /// The bits of so many patterns, of each those before its change and then those after it. Patterns are numbered from 0.
+    pub fn bits(&self, first: usize, count: usize) -> &[bool]
+        requires { first + count ≤ length self.now.patterns }
+        ensures { result.now ≡ flat_map bits_of_pattern (take count (drop first self.now.patterns)) }
+    {
+        bits_between(self.bits.as_slice(), self.inputs, self.count, first, count)
+    }
+}
+
+// The bits of some of so many patterns of so many inputs, from one on.
+fn bits_between(bits: &[bool], inputs: usize, all: usize, first: usize, count: usize) -> &[bool]
+    requires whole { length bits.now ≡ all * (2 * inputs) }
+    requires count { first + count ≤ all }
+    ensures { result.now ≡ flat_map bits_of_pattern (take count (drop first (patterns_in all inputs bits.now))) }
+{
+    if count == 0 {
+        return &[];
+    }
+    let start = first * (2 * inputs);
+    &bits[start..start + count * (2 * inputs)]
 }
 
 // The bits before the change of a pattern and those after it, of so many patterns of so many inputs.

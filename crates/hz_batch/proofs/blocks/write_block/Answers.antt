@@ -30,6 +30,9 @@ write_lanes-requires-clause-columns g c =
       fit = record {
         firsts = ap (length {A = LaneValues}) firsts ∙ (c.spread_and_keep.ensures.count ∙ (c.as_mut_slice.ensures.len ∙ (firsts_long ∙ c.requires.room.columns.firsts)));
         seconds = ap (length {A = LaneValues}) seconds ∙ (c.keep_values.ensures.count ∙ (c.as_mut_slice-2.ensures.len ∙ (seconds_long ∙ c.requires.room.columns.seconds)));
+        first_fours = c.requires.room.columns.first_fours;
+        second_fours = c.requires.room.columns.second_fours;
+        table = c.requires.room.columns.table;
       };
       firsts = subst (λ (list : List LaneValues). AreColumns netlist stage c.settle.new.self.lanes netlist.outputs list) (sym firsts)
           (subst (λ (list : List (Option Loaded)). AreColumns netlist stage list netlist.outputs c.spread_and_keep.new.columns) (sym lanes) c.spread_and_keep.ensures.columns);

@@ -1,5 +1,5 @@
 -- The line of one lane more.
-use Rattle.std.proofs.Common.{◌<◌, ◌≤◌, ◌+◌, ◌∷◌, [], refl, sym, subst, List, length, take, drop, get_or, arith}
+use Rattle.std.proofs.Common.{◌∙◌, ◌<◌, ◌≤◌, ◌+◌, ◌∷◌, [], refl, sym, subst, List, length, take, drop, get_or, arith}
 use Rattle.std.proofs.lemmas.List.{length-drop, length-take-le, take_more, get_or-drop}
 use Rattle.hz_text.specs.PatternText.{IsPatternOf}
 use Rattle.hz_text.specs.PatternValue.{PatternOf}
@@ -7,12 +7,13 @@ use Rattle.hz_plane.specs.Loads.{Loaded}
 use Rattle.hz_batch.specs.Comes.{comes_to, held_by}
 use Rattle.hz_batch.specs.Outcome.{listing_of}
 use Rattle.hz_batch.specs.Written.{AreWritten}
+use Rattle.hz_batch.proofs.FourLemmas.{still-shown}
 use Rattle.hz_batch.proofs.LaneLoads.{lane-of-rest}
 use Rattle.hz_batch.proofs.Joined.{written-none, written-then, written-one, within-after}
 use Rattle.hz_batch.proofs.blocks.write_lanes.Goals as goal
 
 pub loop-lane-init : goal.loop-lane-init
-loop-lane-init g c = (written-none _ _ _ c.args.writer.now c.args.room.now.counts, c.requires.room, refl)
+loop-lane-init g c = (written-none _ _ _ c.args.writer.now c.args.room.now.counts, c.requires.room, refl, refl, λ later. cc)
 
 pub write_lane-mark-requires-clause-loaded : goal.write_lane-mark-requires-clause-loaded
 write_lane-mark-requires-clause-loaded g c =
@@ -22,6 +23,12 @@ write_lane-mark-requires-clause-loaded g c =
     let enough : c.args.lanes ≤ length rest = omega (arith, c.requires.last, length-drop c.args.first c.args.work.now.patterns.now.patterns) in
     let loaded : Loaded = record { input = (get_or rest c.loop-lane.lane none).to; listed = listing_of held (get_or rest c.loop-lane.lane none) } in
     (loaded, rw c.requires.loaded (lane-of-rest held rest c.args.lanes c.loop-lane.lane none c.loop-lane-test.true enough))
+
+pub write_lane-mark-requires-clause-columns : goal.write_lane-mark-requires-clause-columns
+write_lane-mark-requires-clause-columns g c =
+    let firsts = c.look_up.ensures.firsts ∙ c.loop-lane.invariant.2 in
+    let seconds = c.look_up.ensures.seconds ∙ c.loop-lane.invariant.3 in
+    record { fit = c.look_up.ensures.columns; firsts = rw firsts c.requires.columns.firsts; seconds = rw seconds c.requires.columns.seconds }
 
 pub add-requires : goal.add-requires
 add-requires g c =
@@ -53,5 +60,10 @@ loop-lane-preserved g c =
     let more = written-then netlist comes (take lane rest) (pattern ∷ []) (c.args.first + 1) (c.args.first + lane + 1) c.args.writer.now c.loop-lane.writer c.write_lane-mark.new.writer c.args.room.now.counts c.loop-lane.room.counts c.add.new.self
     (omega (arith, length-take-le lane rest (omega (arith, within)))) c.loop-lane.invariant.0 one in
     let whole = subst (λ (patterns : List PatternOf). AreWritten g.K.Sink.output g.K.Sink.faults netlist comes patterns (c.args.first + 1) c.args.writer.now c.write_lane-mark.new.writer c.args.room.now.counts c.add.new.self)
-    (sym (take_more rest lane none within)) more in
-    (whole, record { line = c.write_lane-mark.ensures.line; columns = c.loop-lane.invariant.1.columns }, c.loop-lane.invariant.2)
+    (sym (take_more rest lane none within)) more in (
+      whole,
+      record { line = c.write_lane-mark.ensures.line; columns = c.look_up.ensures.columns },
+      c.look_up.ensures.firsts ∙ c.loop-lane.invariant.2,
+      c.look_up.ensures.seconds ∙ c.loop-lane.invariant.3,
+      still-shown lane c.look_up.new.columns c.look_up.ensures.shown,
+    )

@@ -1,9 +1,10 @@
 -- One output more.
-use Rattle.std.proofs.Common.{◌≡◌, ◌<◌, ◌+◌, ◌∙◌, refl, ap, sym, subst, ℕ, List, length, set}
+use Rattle.std.proofs.Common.{◌≡◌, ◌<◌, ◌+◌, ◌%◌, ◌∙◌, [], get_or, arith, refl, ap, sym, subst, ℕ, List, length, set}
 use Rattle.hz_core.specs.declared.tri.Tri.{Tri}
+use Rattle.hz_core.specs.declared.tri.Tri.TheVariants.{Zero}
 use Rattle.hz_core.specs.Netlist.{Netlist}
-use Rattle.hz_plane.specs.declared.values.LaneValues.{LaneValues}
 use Rattle.hz_report.specs.Outputs.{LineOf}
+use Rattle.hz_batch.proofs.FourLemmas.{in-four}
 use Rattle.hz_batch.proofs.LineLemmas.{IsSetTo, in_lane, set-none, set-next, set-whole}
 use Rattle.hz_batch.proofs.lanes.set_line.Goals as goal
 
@@ -18,9 +19,11 @@ loop-place-preserved c =
     let seconds = c.args.columns.now.seconds.items in
     let place = c.loop-place.place in
     let line = c.loop-place.line in
-    let first : c.get.result ≡ in_lane firsts c.args.lane place = c.get.ensures ∙ ap (λ (list : List LaneValues). in_lane list c.args.lane place) c.as_slice-firsts.ensures.value in
-    let second : c.get-in-loop-place.result ≡ in_lane seconds c.args.lane place = c.get-in-loop-place.ensures ∙ ap (λ (list : List LaneValues). in_lane list c.args.lane place) c.as_slice-seconds.ensures.value in
-    let both : ◌≡◌ {A = Tri × Tri} (c.get.result, c.get-in-loop-place.result) (in_lane firsts c.args.lane place, in_lane seconds c.args.lane place) = rw (first, second) refl in
+    let nth = c.args.lane % 4 in
+    let value : List (List Tri) → Tri = λ fours. get_or (get_or fours place []) nth Zero in
+    let first : value c.as_slice-firsts.result.now ≡ in_lane firsts c.args.lane place = ap value c.as_slice-firsts.ensures.value ∙ in-four firsts c.args.columns.now.first_fours.items c.args.lane place c.requires.shown.firsts (omega (arith, inside, c.requires.columns.firsts)) in
+    let second : value c.as_slice-seconds.result.now ≡ in_lane seconds c.args.lane place = ap value c.as_slice-seconds.ensures.value ∙ in-four seconds c.args.columns.now.second_fours.items c.args.lane place c.requires.shown.seconds (omega (arith, inside, c.requires.columns.seconds)) in
+    let both : ◌≡◌ {A = Tri × Tri} (value c.as_slice-firsts.result.now, value c.as_slice-seconds.result.now) (in_lane firsts c.args.lane place, in_lane seconds c.args.lane place) = rw (first, second) refl in
     let now : c.set.new.self ≡ record line { values = set line.values place (in_lane firsts c.args.lane place, in_lane seconds c.args.lane place) } =
     c.set.ensures ∙ ap (λ (pair : Tri × Tri). record line { values = set line.values place pair }) both in
     subst (λ (line : LineOf). IsSetTo c.args.net.now firsts seconds c.args.lane (place + 1) line) (sym now) (set-next c.args.net.now firsts seconds c.args.lane place line inside c.loop-place.invariant)

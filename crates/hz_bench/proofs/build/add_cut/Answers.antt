@@ -2,7 +2,7 @@ use Rattle.hz_bench.proofs.BuildLemmas.{entry-cut}
 use Rattle.hz_bench.proofs.build.add_cut.Goals as goal
 
 pub add_cut-requires-clause-name : goal.add_cut-requires-clause-name
-add_cut-requires-clause-name c = (entry-cut c.args.circuit.now c.args.entry.now c.in-FlipFlop.is c.requires).0.name_is
+add_cut-requires-clause-name c = (entry-cut c.args.circuit.now c.args.entry.now c.in-FlipFlop.is c.requires).0.named
 
 pub add_cut-requires-clause-fresh : goal.add_cut-requires-clause-fresh
 add_cut-requires-clause-fresh c = (entry-cut c.args.circuit.now c.args.entry.now c.in-FlipFlop.is c.requires).0.fresh

@@ -2,7 +2,7 @@ use Rattle.hz_bench.proofs.BuildLemmas.{entry-input}
 use Rattle.hz_bench.proofs.build.add_input.Goals as goal
 
 pub add_input-requires-clause-name : goal.add_input-requires-clause-name
-add_input-requires-clause-name c = (entry-input c.args.circuit.now c.args.entry.now c.in-Input.is c.requires).0.name_is
+add_input-requires-clause-name c = (entry-input c.args.circuit.now c.args.entry.now c.in-Input.is c.requires).0.named
 
 pub add_input-requires-clause-fresh : goal.add_input-requires-clause-fresh
 add_input-requires-clause-fresh c = (entry-input c.args.circuit.now c.args.entry.now c.in-Input.is c.requires).0.fresh

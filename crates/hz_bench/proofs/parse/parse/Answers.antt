@@ -1,4 +1,4 @@
-use Rattle.std.proofs.Common.{ℕ, List, refl, subst, Option, Some, arith}
+use Rattle.std.proofs.Common.{ℕ, List, subst, Option, Some, arith}
 use Rattle.std.specs.Borrow.{Bor}
 use Rattle.hz_bench.specs.Entry.{numbered_line}
 use Rattle.hz_bench.proofs.ParseLemmas.{IsParsing, IsParsing-begin, IsParsing-roomier, IsParsing-statement, inputs_noted, variables_fit}
@@ -21,7 +21,7 @@ pub loop-left-preserved-in-Ok-add : goal.loop-left-preserved-in-Ok-add
 loop-left-preserved-in-Ok-add c =
     let was = subst (λ (left : Option (Bor (List ℕ))). IsParsing c.args.text.now c.loop-left.statements c.loop-left.line left) c.in-Some.is c.loop-left.invariant in
     let read = c.in-Some-statement_of.ensures in
-    let roomy = record c.loop-left.statements { lines = c.make_room.new.lines } in
+    let roomy = record c.loop-left.statements { names = c.make_room.new.self } in
     IsParsing-statement c.args.text.now roomy (numbered_line c.in-Some-statement_of.statement) c.add.new.self c.loop-left.line c.split_line-cut.result.line.now c.split_line-cut.result.rest c.in-Some.rest
-    (IsParsing-roomier c.args.text.now c.loop-left.statements roomy c.loop-left.line (Some c.in-Some.rest) refl refl refl refl refl c.in-Ok.ensures was)
+    (IsParsing-roomier c.args.text.now c.loop-left.statements c.make_room.new.self c.loop-left.line (Some c.in-Some.rest) c.make_room.ensures was)
     c.split_line-cut.ensures.lines c.split_line-cut.ensures.within read.0 read.1 c.in-Ok-add.ensures

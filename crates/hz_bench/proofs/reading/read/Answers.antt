@@ -1,7 +1,5 @@
 use Rattle.std.proofs.Common.{◌∙◌, ap, inl, inr, Err}
 use Rattle.std.proofs.lemmas.Result.{err_from_is_err_and}
-use Rattle.hz_bench.specs.Text.{statements_of}
-use Rattle.hz_bench.proofs.NetlistLemmas.{built-circuit_of_statements}
 use Rattle.hz_bench.proofs.ReadLaws.{answer-exact}
 use Rattle.hz_bench.proofs.KeptStatements.{built-sorted}
 use Rattle.hz_bench.proofs.reading.read.Goals as goal
@@ -17,10 +15,10 @@ returns-in_err-accepted-clause-exact c =
 pub returns-clause-circuit : goal.returns-clause-circuit
 returns-clause-circuit c =
     let accepted = c.in_ok-accepted.ensures.0 in
-    c.in-Ok.ensures ∙ built-sorted c.args.text.now c.in_ok-accepted.accepted.statements accepted.nodes accepted.outputs ∙ built-circuit_of_statements (statements_of c.args.text.now)
+    c.in-Ok.ensures ∙ built-sorted c.args.text.now c.in_ok-accepted.accepted.statements accepted.nodes accepted.outputs
 
 pub returns-clause-whole : goal.returns-clause-whole
 returns-clause-whole c =
     let accepted = c.in_ok-accepted.ensures.0 in
-    let is = c.in-Ok.ensures ∙ built-sorted c.args.text.now c.in_ok-accepted.accepted.statements accepted.nodes accepted.outputs ∙ built-circuit_of_statements (statements_of c.args.text.now) in
+    let is = c.in-Ok.ensures ∙ built-sorted c.args.text.now c.in_ok-accepted.accepted.statements accepted.nodes accepted.outputs in
     rw is accepted.whole

@@ -1,6 +1,6 @@
 use Rattle.std.proofs.lemmas.Result.{err_from_is_err_and}
 use Rattle.hz_bench.proofs.ReadLaws.{parse-answer, check-answer, accepted}
-use Rattle.hz_bench.proofs.KeptStatements.{listed}
+use Rattle.hz_bench.proofs.KeptStatements.{ready}
 use Rattle.hz_bench.proofs.reading.read_accepted.Goals as goal
 
 pub returns-in_err-statements : goal.returns-in_err-statements
@@ -17,4 +17,4 @@ pub returns : goal.returns
 returns c = (accepted c.args.text.now c.in_ok-statements.statements c.in_ok-statements.ensures c.in_ok-uses.ensures.0, c.in_ok-uses.ensures.1)
 
 pub check-requires : goal.check-requires
-check-requires c = λ once few. listed c.args.text.now c.in_ok-statements.statements c.in_ok-statements.ensures once few
+check-requires c = ready c.args.text.now c.in_ok-statements.statements c.in_ok-statements.ensures

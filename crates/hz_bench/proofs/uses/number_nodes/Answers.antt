@@ -1,25 +1,27 @@
-use Rattle.std.proofs.Common.{◌∙◌, ◌+◌, ◌++◌, length, sym, ap, arith}
-use Rattle.std.proofs.lemmas.List.{at_drop_all, append-nil}
-use Rattle.hz_bench.specs.Entry.{statement_list}
-use Rattle.hz_bench.specs.Netlist.{input_names}
-use Rattle.hz_bench.proofs.NumberLemmas.{forms_of, inputs_few, numbers_from, numbers-known}
+use Rattle.std.proofs.Common.{◌+◌, refl, ap, length, arith}
+use Rattle.hz_bench.proofs.NumberLemmas.{inputs_few}
+use Rattle.hz_bench.proofs.UseLemmas.{defined-below, nodes-made, numbers-each}
 use Rattle.hz_bench.proofs.uses.number_nodes.Goals as goal
 
-pub loop-entry-init : goal.loop-entry-init
-loop-entry-init c =
-    record {
-      rest = ap (λ numbers. numbers ++ numbers_from 0 c.args.notes.now.inputs (c.args.notes.now.inputs + c.args.notes.now.cuts) (forms_of c.args.nodes.now)) c.in-Ok.ensures.items
-          ∙ ap (λ cut. numbers_from 0 cut (cut + c.args.notes.now.cuts) (forms_of c.args.nodes.now)) c.requires.inputs
-          ∙ ap (λ cuts. numbers_from 0 (length (input_names (statement_list c.args.nodes.now))) (length (input_names (statement_list c.args.nodes.now)) + cuts) (forms_of c.args.nodes.now)) c.requires.cuts;
-      input = omega arith;
-      cut = omega (arith, c.requires.inputs, inputs_few c.args.nodes.now);
-      gate = omega (arith, c.requires.inputs, c.requires.cuts, inputs_few c.args.nodes.now);
-    }
+pub overflow_add-gates : goal.overflow_add-gates
+overflow_add-gates c = omega (arith, c.requires.few, c.requires.inputs, c.requires.cuts, inputs_few c.args.statements.now.nodes.items)
+
+pub place_nodes-requires-clause-defined : goal.place_nodes-requires-clause-defined
+place_nodes-requires-clause-defined c =
+    rw c.as_slice.ensures.value (defined-below c.args.statements.now c.in-Ok.nodes.items c.requires (omega (arith, c.in-Ok.nodes.ok, c.in-Ok.ensures.len, c.len.ensures)))
+
+pub place_nodes-requires-clause-each : goal.place_nodes-requires-clause-each
+place_nodes-requires-clause-each c = rw (c.as_slice.ensures.value, c.as_slice-entries.ensures.value) (numbers-each c.args.statements.now c.requires)
+
+pub place_nodes-requires-clause-cuts : goal.place_nodes-requires-clause-cuts
+place_nodes-requires-clause-cuts c =
+    omega (arith, c.requires.few, c.requires.inputs, c.requires.cuts, inputs_few c.args.statements.now.nodes.items, ap length c.as_slice-entries.ensures.value)
+
+pub place_nodes-requires-clause-gates : goal.place_nodes-requires-clause-gates
+place_nodes-requires-clause-gates c =
+    omega (arith, c.requires.few, c.requires.inputs, c.requires.cuts, inputs_few c.args.statements.now.nodes.items, ap length c.as_slice-entries.ensures.value)
 
 pub returns : goal.returns
 returns c =
-    let none = at_drop_all (λ entries. c.loop-entry.numbers.items ++ numbers_from c.loop-entry.input c.loop-entry.cut c.loop-entry.gate (forms_of entries)) c.args.nodes.now c.loop-entry.entry-index (omega (arith, c.loop-entry-test.false)) in
-    sym (append-nil c.loop-entry.numbers.items) ∙ sym none ∙ c.loop-entry.invariant.rest ∙ numbers-known c.args.nodes.now c.requires.once
-
-pub overflow_add-gate : goal.overflow_add-gate
-overflow_add-gate c = omega (arith, c.requires.few, c.requires.inputs, c.requires.cuts, inputs_few c.args.nodes.now)
+    nodes-made c.args.statements.now c.in-Ok.nodes.items _ c.args.statements.now.notes.inputs (c.args.statements.now.notes.inputs + c.args.statements.now.notes.cuts) c.requires
+    (omega (arith, c.in-Ok.nodes.ok, c.in-Ok.ensures.len, c.len.ensures)) refl refl (rw (c.as_slice.ensures.value, c.as_slice-entries.ensures.value) at c.place_nodes.ensures)

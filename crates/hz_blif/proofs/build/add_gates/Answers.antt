@@ -1,8 +1,8 @@
 use Rattle.hz_core.specs.declared.kind.Kind.TheVariants.{And}
 use Rattle.hz_blif.specs.declared.gates.Role.TheVariants.{Inverter}
 use Rattle.hz_blif.specs.Built.{MayAddGateEntry, with_gate_entry}
-use Rattle.hz_blif.specs.Entries.{name_at}
 use Rattle.hz_blif.proofs.DraftElements.{step-at}
+use Rattle.hz_netlist.specs.Names.{name_at}
 use Rattle.hz_blif.proofs.build.add_gates.Goals as goal
 
 pub add_gate-requires-clause-may : goal.add_gate-requires-clause-may

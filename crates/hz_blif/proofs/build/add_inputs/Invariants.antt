@@ -1,7 +1,7 @@
 use Rattle.std.proofs.Common.{◌≡◌, drop, fold}
 use Rattle.hz_netlist.specs.Build.{AreAdmissibleSteps}
 use Rattle.hz_blif.specs.Built.{MayAddInputNumbered, with_input_numbered}
-use Rattle.hz_blif.specs.Entries.{name_at}
+use Rattle.hz_netlist.specs.Names.{name_at}
 use Rattle.hz_blif.proofs.build.add_inputs.Given as goal
 
 abbrev pub invariant-loop-input : goal.invariant-loop-input

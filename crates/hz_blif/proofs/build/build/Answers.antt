@@ -1,9 +1,9 @@
-use Rattle.std.proofs.Common.{◌≡◌, ◌∙◌, ◌<◌, ℕ, length, map, sym, ap, subst}
+use Rattle.std.proofs.Common.{◌∙◌, ◌<◌, ℕ, length, map, sym, ap, subst}
 use Rattle.std.specs.Prelude.{All}
-use Rattle.hz_blif.specs.Built.{node_of, source_node}
-use Rattle.hz_blif.specs.Entries.{ReadsGateBelow, ReadsNameBelow}
+use Rattle.hz_blif.specs.Built.{source_node}
+use Rattle.hz_blif.specs.Entries.{ReadsNameBelow}
 use Rattle.hz_blif.proofs.BuildLaws.{build-inputs, build-gates, build-pins, build-outputs, build-circuit, few-nodes, table-long}
-use Rattle.hz_blif.proofs.DraftText.{buildable}
+use Rattle.hz_netlist.specs.Names.{node_of}
 use Rattle.hz_blif.proofs.build.build.Goals as goal
 
 pub add_inputs-requires-clause-may : goal.add_inputs-requires-clause-may
@@ -34,8 +34,8 @@ connect_gates-requires c =
     rw (c.in_ok-add_gates.ensures, c.in_ok-add_inputs.ensures, c.in_ok-circuit.ensures, c.as_slice-inputs.ensures.value, c.as_slice-gates.ensures, c.as_slice-2.ensures.value)
     (build-pins c.args.draft.now c.requires c.in_ok-nodes.nodes.items c.in_ok-pins.pins.items c.in_ok-nodes.ensures.nodes c.in_ok-nodes.ensures.plain read)
 
-pub resolve_outputs-requires : goal.resolve_outputs-requires
-resolve_outputs-requires c =
+pub resolve-requires : goal.resolve-requires
+resolve-requires c =
     let long = table-long c.args.draft.now c.requires c.in_ok-nodes.nodes.items c.in_ok-nodes.ensures.nodes c.in_ok-nodes.ensures.plain in
     rw (c.as_slice-3.ensures.value, c.as_slice-4.ensures.value)
     (subst (λ (count : ℕ). All (λ number. number < count) c.args.draft.now.outputs.items) (sym long) c.requires.output_numbers)

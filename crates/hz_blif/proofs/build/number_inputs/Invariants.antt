@@ -1,4 +1,4 @@
-use Rattle.std.proofs.Common.{◌≡◌, ◌+◌, drop, length}
+use Rattle.std.proofs.Common.{◌≡◌, drop, length}
 use Rattle.hz_blif.specs.Built.{with_input_nodes}
 use Rattle.hz_blif.proofs.build.number_inputs.Given as goal
 

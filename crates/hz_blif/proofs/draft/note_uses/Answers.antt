@@ -1,9 +1,7 @@
-use Rattle.std.proofs.Common.{◌≡◌, ◌∙◌, ◌++◌, ◌∷◌, [], ◌+◌, ◌<◌, ap, arith, length, List, ℕ, subst, sym, take, get_or}
+use Rattle.std.proofs.Common.{◌≡◌, ◌∙◌, ◌++◌, ◌∷◌, [], ◌<◌, ap, arith, length, List, ℕ, subst, sym, take, get_or}
 use Rattle.hz_line.specs.Statement.{Numbered}
-use Rattle.hz_netlist.specs.Names.{seen_names}
-use Rattle.hz_blif.specs.Cover.{on_line}
-use Rattle.hz_blif.specs.Draft.{Holds, names_at}
-use Rattle.hz_blif.specs.Entries.{name_at}
+use Rattle.hz_netlist.specs.Names.{seen_names, on_line, names_at, name_at}
+use Rattle.hz_blif.specs.Draft.{Holds}
 use Rattle.hz_blif.proofs.DraftSteps.{holds-used}
 use Rattle.hz_blif.proofs.NumberSteps.{name_at-get, seen-length, use-names}
 use Rattle.hz_blif.proofs.CoverSteps.{uses-step}

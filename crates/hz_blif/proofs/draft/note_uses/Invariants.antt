@@ -1,8 +1,7 @@
 use Rattle.std.proofs.Common.{◌≡◌, ◌++◌, take}
-use Rattle.hz_netlist.specs.Names.{seen_names}
+use Rattle.hz_netlist.specs.Names.{seen_names, on_line, names_at}
 use Rattle.hz_blif.specs.declared.draft.Draft.{Draft as DraftOf}
-use Rattle.hz_blif.specs.Cover.{on_line}
-use Rattle.hz_blif.specs.Draft.{Holds, Read, names_at}
+use Rattle.hz_blif.specs.Draft.{Holds, Read}
 use Rattle.hz_blif.proofs.draft.note_uses.Given as goal
 
 abbrev pub invariant-loop-number : goal.invariant-loop-number

@@ -1,4 +1,4 @@
-use Rattle.std.proofs.Common.{◌≡◌, ◌∙◌, ◌||◌, ◌+◌, ◌≤◌, refl, sym, ap, cond, suc, subst, length, List, ℕ, None, Some, Option, arith}
+use Rattle.std.proofs.Common.{◌∙◌, ◌||◌, ◌+◌, ◌≤◌, refl, sym, ap, cond, suc, subst, length, List, ℕ, Some, Option, arith}
 use Rattle.hz_line.specs.Line.{rest_length}
 use Rattle.std.specs.Borrow.{Bor}
 use Rattle.hz_blif.specs.Cover.{all_but_last}

@@ -1,4 +1,4 @@
-use Rattle.std.proofs.Common.{◌≡◌, ◌∙◌, None, Some, sym, subst}
+use Rattle.std.proofs.Common.{sym, subst}
 use Rattle.memchr.specs.Find.{IsFirstByte, is_byte}
 use Rattle.hz_blif.proofs.LineLemmas.{cut_comment, uncut_comment}
 use Rattle.hz_blif.proofs.lines.without_comment.Goals as goal

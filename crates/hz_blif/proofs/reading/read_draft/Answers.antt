@@ -1,10 +1,10 @@
-use Rattle.std.proofs.Common.{◌≡◌, ◌∙◌, ◌+◌, ◌<◌, ap, arith, false, inl, inr, length, refl, subst, sym, Option, Some, List, ℕ}
+use Rattle.std.proofs.Common.{◌∙◌, ◌+◌, ◌<◌, ap, arith, false, inl, inr, length, subst, sym, Option, List, ℕ}
 use Rattle.std.specs.Borrow.{Bor}
 use Rattle.hz_line.specs.Line.{lines_of_rest}
 use Rattle.hz_blif.specs.Line.{line_of}
 use Rattle.hz_blif.specs.Reading.{bytes_of, line_by}
 use Rattle.hz_blif.specs.Text.{joined_from}
-use Rattle.hz_blif.proofs.LoopSteps.{IsReading, left-shorter, reading-begin, reading-end, reading-fault, reading-left, reading-more, reading-short}
+use Rattle.hz_blif.proofs.LoopSteps.{IsReading, left-shorter, reading-begin, reading-fault, reading-left, reading-more, reading-short}
 use Rattle.hz_blif.proofs.reading.read_draft.Goals as goal
 
 pub loop-rest-init : goal.loop-rest-init

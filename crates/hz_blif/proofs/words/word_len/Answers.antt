@@ -1,4 +1,4 @@
-use Rattle.std.proofs.Common.{◌∙◌, ℕ, ap, not, length, sym, arith}
+use Rattle.std.proofs.Common.{◌∙◌, length, sym, arith}
 use Rattle.std.proofs.lemmas.List.Sums.{position_or_len_is}
 use Rattle.hz_blif.specs.Text.{is_blank}
 use Rattle.hz_blif.proofs.words.word_len.Goals as goal

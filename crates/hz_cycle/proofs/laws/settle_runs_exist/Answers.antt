@@ -3,6 +3,4 @@ use Rattle.hz_cycle.proofs.RunsExist.{settle_runs_exist}
 use Rattle.hz_cycle.proofs.laws.settle_runs_exist.Goals as goal
 
 pub returns : goal.returns
-returns c =
-    settle_runs_exist c.run_counts.ensures.changes c.run_counts.ensures.steps c.run_counts.ensures.unknowns c.run_ends.ensures
-    c.passes_end.ensures.ranks c.passes_end.ensures.rounds c.spread_runs_exist.ensures.sparing
+returns c = settle_runs_exist c.passes_end.ensures.ranks c.passes_end.ensures.rounds c.spread_runs_exist.ensures.sparing

@@ -5,4 +5,7 @@ use Rattle.hz_cycle.proofs.passing.make_pass.Given as goal
 -- the gates so far have had their turn
 abbrev pub invariant-loop-place : goal.invariant-loop-place
 invariant-loop-place l =
-    IsPassing l.net l.rank l.b l.fn.scratch.state l.fn.run l.place l.scratch l.run × (l.place-end ≡ length l.scratch.sorted)
+    record {
+      passing : IsPassing l.net l.rank l.b l.fn.scratch.state l.fn.run l.place l.scratch l.run;
+      end : l.place-end ≡ length l.scratch.sorted;
+    }

@@ -5,7 +5,6 @@ use Rattle.std.proofs.lemmas.Bool.{cases_lt}
 use Rattle.hz_core.specs.Ternary.{admits}
 use Rattle.hz_net.specs.Network.{bit_at, value_at}
 use Rattle.hz_reach.specs.Order.{key_at}
-use Rattle.hz_reach.specs.ScratchState.{ScratchState}
 use Rattle.hz_cycle.specs.Rounds.{differing_variables}
 use Rattle.hz_cycle.proofs.RoundTurns.{order-inside, slice-more, differing-more, differing-skip, round-ascends}
 use Rattle.hz_cycle.proofs.settling.mark_round.Goals as goal
@@ -55,27 +54,26 @@ loop-place-preserved c =
     c.admits.ensures
     ∙ (ap (λ (list : List ℕ). admits (value_at c.args.b.now (get_or list place 0)) (bit_at c.state.result.now (get_or list place 0))) order
     ∙ ap (λ (s : List Bool). admits (value_at c.args.b.now var) (bit_at s var)) (c.state.ensures ∙ c.loop-place.invariant.1)) in
+    let same = same-more c.args.when.now by_round c.args.from place c.loop-place.invariant.4 here in
     elim c.if-not-admits.branch [
-      | then-not-admits w ↦ (
-        ap (λ (s : ScratchState). s.marked) w.scratch-is
-            ∙ (w.mark.ensures.marked
+      | then-not-admits w ↦ rw w.scratch-is (
+        w.mark.ensures.marked
             ∙ (ap (λ (list : List ℕ). list ++ get_or c.by_round-in-loop-place.result.now place 0 ∷ []) c.loop-place.invariant.0
             ∙ (ap (λ (list : List ℕ). differing_variables c.args.b.now c.args.scratch.now.state (slice_range by_round c.args.from place) ++ get_or list place 0 ∷ []) order
             ∙ (sym (differing-more c.args.b.now c.args.scratch.now.state (slice_range by_round c.args.from place) var (sym is ∙ w.if-not-admits.true))
-            ∙ ap (differing_variables c.args.b.now c.args.scratch.now.state) (sym more))))),
-        ap (λ (s : ScratchState). s.state) w.scratch-is ∙ (w.mark.ensures.state ∙ c.loop-place.invariant.1),
-        ap (λ (s : ScratchState). s.by_round) w.scratch-is ∙ (w.mark.ensures.by_round ∙ c.loop-place.invariant.2),
-        ap (λ (s : ScratchState). s.sorted) w.scratch-is ∙ (w.mark.ensures.sorted ∙ c.loop-place.invariant.3),
-        same-more c.args.when.now by_round c.args.from place c.loop-place.invariant.4 here,
+            ∙ ap (differing_variables c.args.b.now c.args.scratch.now.state) (sym more)))),
+        w.mark.ensures.state ∙ c.loop-place.invariant.1,
+        w.mark.ensures.by_round ∙ c.loop-place.invariant.2,
+        w.mark.ensures.sorted ∙ c.loop-place.invariant.3,
+        same,
       )
-      | else-not-admits w ↦ (
-        ap (λ (s : ScratchState). s.marked) w.scratch-is
-            ∙ (c.loop-place.invariant.0
+      | else-not-admits w ↦ rw w.scratch-is (
+        c.loop-place.invariant.0
             ∙ (sym (differing-skip c.args.b.now c.args.scratch.now.state (slice_range by_round c.args.from place) var (sym is ∙ w.if-not-admits.false))
-            ∙ ap (differing_variables c.args.b.now c.args.scratch.now.state) (sym more))),
-        ap (λ (s : ScratchState). s.state) w.scratch-is ∙ c.loop-place.invariant.1,
-        ap (λ (s : ScratchState). s.by_round) w.scratch-is ∙ c.loop-place.invariant.2,
-        ap (λ (s : ScratchState). s.sorted) w.scratch-is ∙ c.loop-place.invariant.3,
-        same-more c.args.when.now by_round c.args.from place c.loop-place.invariant.4 here,
+            ∙ ap (differing_variables c.args.b.now c.args.scratch.now.state) (sym more)),
+        c.loop-place.invariant.1,
+        c.loop-place.invariant.2,
+        c.loop-place.invariant.3,
+        same,
       )
     ]

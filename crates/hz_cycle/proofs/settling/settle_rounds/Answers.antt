@@ -1,16 +1,19 @@
 -- Each round is a step that has room; at the end every variable that settles has its value.
 use Rattle.std.proofs.Common.{◌∙◌, ℕ, length, ap, arith}
 use Rattle.hz_gmw.specs.Runs.{state_after}
-use Rattle.hz_cycle.proofs.RoundTurns.{round-flips, round-steps, rounds-next, rounds-end}
+use Rattle.hz_cycle.proofs.RoundTurns.{rounds-begin, round-room, rounds-next, rounds-end}
 use Rattle.hz_cycle.proofs.settling.settle_rounds.Goals as goal
 
-pub step-requires-clause-room_for_flips : goal.step-requires-clause-room_for_flips
-step-requires-clause-room_for_flips c =
-    round-flips c.loop-place.invariant.underway c.mark_round-place.ensures.round c.mark_round-place.ensures.marked c.run_counts.ensures.variables
+pub loop-place-init : goal.loop-place-init
+loop-place-init c =
+    record {
+      underway = rounds-begin (record { rounds = c.requires.rounds; room = c.requires.room }) c.sort_rounds.ensures.by_round
+          (c.sort_rounds.ensures.marked ∙ c.requires.none_marked) c.sort_rounds.ensures.state;
+      sorted = c.sort_rounds.ensures.sorted;
+    }
 
-pub step-requires-clause-room_for_steps : goal.step-requires-clause-room_for_steps
-step-requires-clause-room_for_steps c =
-    round-steps c.loop-place.invariant.underway c.mark_round-place.ensures.round c.mark_round-place.ensures.marked c.run_counts.ensures.variables c.run_counts.ensures.steps
+pub step-requires : goal.step-requires
+step-requires c = record { room = round-room c.loop-place.invariant.underway c.mark_round-place.ensures.round c.mark_round-place.ensures.marked }
 
 pub loop-place-preserved : goal.loop-place-preserved
 loop-place-preserved c =

@@ -1,5 +1,5 @@
 use Rattle.std.proofs.Common.{◌≡◌, take}
 use Rattle.hz_plane.proofs.copies.copy_of.Given as goal
 
-abbrev pub invariant-loop-node : goal.invariant-loop-node
-invariant-loop-node l = l.list.items ≡ take l.node-index l.nodes
+abbrev pub invariant-loop-number : goal.invariant-loop-number
+invariant-loop-number l = l.list.items ≡ take l.number-index l.numbers

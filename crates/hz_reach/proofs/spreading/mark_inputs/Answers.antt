@@ -3,8 +3,7 @@ use Rattle.hz_core.specs.Netlist.{Netlist}
 use Rattle.hz_core.specs.Pattern.{differs}
 use Rattle.hz_net.specs.Network.{bit_at}
 use Rattle.hz_net.proofs.Places.{length-network_of}
-use Rattle.hz_reach.specs.ScratchState.{ScratchState}
-use Rattle.hz_reach.proofs.MarkedVariables.{filtered_range-below, filtered_range-more, filtered_range-skip}
+use Rattle.hz_reach.proofs.FilteredRangeLemmas.{filtered_range-below, filtered_range-more, filtered_range-skip}
 use Rattle.hz_reach.proofs.spreading.mark_inputs.Goals as goal
 use Rattle.hz_reach.proofs.spreading.mark_inputs.Goals.{then-start-var, else-start-var}
 
@@ -29,17 +28,14 @@ loop-var-preserved c =
     let var = c.loop-var.var in
     let next : var ≡ 0 + var = omega arith in
     elim c.if-start-var.branch [
-      | then-start-var w ↦ (
-        ap (λ (s : ScratchState). s.marked) w.scratch-is
-            ∙ (w.mark.ensures.marked
-            ∙ (ap (λ (list : List ℕ). list ++ var ∷ []) c.loop-var.invariant.0
-            ∙ filtered_range-more test 0 var var next w.if-start-var.true)),
-        ap (λ (s : ScratchState). s.state) w.scratch-is ∙ (w.mark.ensures.state ∙ c.loop-var.invariant.1),
-        ap (λ (s : ScratchState). s.sorted) w.scratch-is ∙ (w.mark.ensures.sorted ∙ c.loop-var.invariant.2),
+      | then-start-var w ↦ rw w.scratch-is (
+        w.mark.ensures.marked ∙ (ap (λ (list : List ℕ). list ++ var ∷ []) c.loop-var.invariant.0 ∙ filtered_range-more test 0 var var next w.if-start-var.true),
+        w.mark.ensures.state ∙ c.loop-var.invariant.1,
+        w.mark.ensures.sorted ∙ c.loop-var.invariant.2,
       )
-      | else-start-var w ↦ (
-        ap (λ (s : ScratchState). s.marked) w.scratch-is ∙ (c.loop-var.invariant.0 ∙ filtered_range-skip test 0 var var next w.if-start-var.false),
-        ap (λ (s : ScratchState). s.state) w.scratch-is ∙ c.loop-var.invariant.1,
-        ap (λ (s : ScratchState). s.sorted) w.scratch-is ∙ c.loop-var.invariant.2,
+      | else-start-var w ↦ rw w.scratch-is (
+        c.loop-var.invariant.0 ∙ filtered_range-skip test 0 var var next w.if-start-var.false,
+        c.loop-var.invariant.1,
+        c.loop-var.invariant.2,
       )
     ]

@@ -3,9 +3,8 @@ use Rattle.hz_core.specs.Netlist.{Netlist}
 use Rattle.hz_core.specs.Pattern.{differs}
 use Rattle.hz_net.specs.Network.{bit_at, value_at}
 use Rattle.hz_reach.specs.FilteredRange.{filtered_range}
-use Rattle.hz_reach.specs.ScratchState.{ScratchState}
 use Rattle.hz_core.specs.Ternary.{is_unknown}
-use Rattle.hz_reach.proofs.MarkedVariables.{filtered_range-below, filtered_range-more, filtered_range-skip}
+use Rattle.hz_reach.proofs.FilteredRangeLemmas.{filtered_range-below, filtered_range-more, filtered_range-skip}
 use Rattle.hz_reach.proofs.spreading.mark_unchanged.Goals as goal
 use Rattle.hz_reach.proofs.spreading.mark_unchanged.Goals.{then-has_yet_to_change, else-has_yet_to_change}
 
@@ -27,20 +26,19 @@ loop-wire-preserved c =
     let is : c.has_yet_to_change.result ≡ test c.loop-wire.wire =
     c.has_yet_to_change.ensures ∙ ap (λ (s : List Bool). is_unknown (value_at c.args.a.now c.loop-wire.wire) && not (differs (bit_at c.args.start.now c.loop-wire.wire) (bit_at s c.loop-wire.wire))) states in
     elim c.if-has_yet_to_change.branch [
-      | then-has_yet_to_change w ↦ (
-        ap (λ (s : ScratchState). s.marked) w.scratch-is
-            ∙ (w.mark.ensures.marked
+      | then-has_yet_to_change w ↦ rw w.scratch-is (
+        w.mark.ensures.marked
             ∙ (ap (λ (list : List ℕ). list ++ c.loop-wire.wire ∷ []) c.loop-wire.invariant.0
-            ∙ (filtered_range-more test names (c.loop-wire.wire - names) c.loop-wire.wire next (sym is ∙ w.if-has_yet_to_change.true) ∙ ap (filtered_range test names) count))),
-        ap (λ (s : ScratchState). s.state) w.scratch-is ∙ (w.mark.ensures.state ∙ c.loop-wire.invariant.1),
-        ap (λ (s : ScratchState). s.sorted) w.scratch-is ∙ (w.mark.ensures.sorted ∙ c.loop-wire.invariant.2),
-        ap (λ (s : ScratchState). s.by_round) w.scratch-is ∙ (w.mark.ensures.by_round ∙ c.loop-wire.invariant.3),
+            ∙ (filtered_range-more test names (c.loop-wire.wire - names) c.loop-wire.wire next (sym is ∙ w.if-has_yet_to_change.true) ∙ ap (filtered_range test names) count)),
+        w.mark.ensures.state ∙ c.loop-wire.invariant.1,
+        w.mark.ensures.sorted ∙ c.loop-wire.invariant.2,
+        w.mark.ensures.by_round ∙ c.loop-wire.invariant.3,
       )
-      | else-has_yet_to_change w ↦ (
-        ap (λ (s : ScratchState). s.marked) w.scratch-is
-            ∙ (c.loop-wire.invariant.0 ∙ (filtered_range-skip test names (c.loop-wire.wire - names) c.loop-wire.wire next (sym is ∙ w.if-has_yet_to_change.false) ∙ ap (filtered_range test names) count)),
-        ap (λ (s : ScratchState). s.state) w.scratch-is ∙ c.loop-wire.invariant.1,
-        ap (λ (s : ScratchState). s.sorted) w.scratch-is ∙ c.loop-wire.invariant.2,
-        ap (λ (s : ScratchState). s.by_round) w.scratch-is ∙ c.loop-wire.invariant.3,
+      | else-has_yet_to_change w ↦ rw w.scratch-is (
+        c.loop-wire.invariant.0
+            ∙ (filtered_range-skip test names (c.loop-wire.wire - names) c.loop-wire.wire next (sym is ∙ w.if-has_yet_to_change.false) ∙ ap (filtered_range test names) count),
+        c.loop-wire.invariant.1,
+        c.loop-wire.invariant.2,
+        c.loop-wire.invariant.3,
       )
     ]

@@ -5,7 +5,7 @@ use Rattle.hz_net.specs.Network.{network_of}
 use Rattle.hz_net.proofs.Sequences.{length-algorithm_a}
 use Rattle.hz_gmw.specs.Runs.{state_after, end_of}
 use Rattle.hz_gmw.proofs.CoverB.{length-end_of}
-use Rattle.hz_reach.proofs.SpreadRoom.{end_of-after}
+use Rattle.hz_reach.proofs.Room.{end_of-after}
 use Rattle.hz_reach.proofs.spreading.spread_in_order.Goals as goal
 
 pub mark_unchanged-requires-clause-a : goal.mark_unchanged-requires-clause-a

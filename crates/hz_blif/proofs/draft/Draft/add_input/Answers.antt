@@ -1,7 +1,7 @@
 use Rattle.std.proofs.Common.{◌∷◌, ◌++◌, [], List, ℕ, refl, subst}
 use Rattle.hz_blif.specs.Draft.{Holds, with_inputs}
-use Rattle.hz_blif.specs.Entries.{name_at}
 use Rattle.hz_blif.proofs.DraftSteps.{holds-input}
+use Rattle.hz_netlist.specs.Names.{name_at}
 use Rattle.hz_blif.proofs.draft.Draft.add_input.Goals as goal
 
 pub returns : goal.returns

@@ -1,7 +1,7 @@
 use Rattle.std.proofs.Common.{◌∷◌, ◌++◌, [], List, ℕ, refl, subst}
 use Rattle.hz_blif.specs.Draft.{Holds, with_outputs}
-use Rattle.hz_blif.specs.Entries.{name_at}
 use Rattle.hz_blif.proofs.DraftSteps.{holds-output, holds-used}
+use Rattle.hz_netlist.specs.Names.{name_at}
 use Rattle.hz_blif.proofs.draft.Draft.add_output.Goals as goal
 
 pub returns : goal.returns

@@ -1,4 +1,4 @@
-use Rattle.std.proofs.Common.{◌≡◌, ◌++◌, ◌≤◌, [], ap, arith, length, refl, subst, List, ℕ, Some, take}
+use Rattle.std.proofs.Common.{◌++◌, ap, arith, refl, subst, List, ℕ, Some, take}
 use Rattle.std.proofs.lemmas.List.{take_all}
 use Rattle.hz_blif.specs.Draft.{Holds}
 use Rattle.hz_blif.specs.Reading.{bytes_of}

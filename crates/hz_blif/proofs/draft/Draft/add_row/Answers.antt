@@ -1,4 +1,4 @@
-use Rattle.std.proofs.Common.{◌∙◌, None, Some, ap, cond, refl, sym}
+use Rattle.std.proofs.Common.{◌∙◌, None, Some, ap, cond, sym}
 use Rattle.hz_blif.proofs.CoverSteps.{holds-row, holds-row_apart, holds-row_behind}
 use Rattle.hz_blif.proofs.Closing.{count-fits, is-none, is-some}
 use Rattle.hz_blif.proofs.draft.Draft.add_row.Goals as goal

@@ -1,8 +1,8 @@
 use Rattle.std.proofs.Common.{List, ℕ, refl, subst}
 use Rattle.hz_blif.specs.Draft.{Holds, with_begun}
-use Rattle.hz_blif.specs.Entries.{name_at}
 use Rattle.std.proofs.Common.{Some, []}
 use Rattle.hz_blif.proofs.CoverSteps.{holds-begun}
+use Rattle.hz_netlist.specs.Names.{name_at}
 use Rattle.hz_blif.proofs.draft.Draft.begin_cover.Goals as goal
 
 pub returns : goal.returns

@@ -1,14 +1,10 @@
-use Rattle.std.proofs.Common.{◌≡◌, ◌∙◌, ◌++◌, ◌+◌, ◌-◌, ◌<◌, ◌≤◌, ◌^◌, ap, arith, length, refl, sym, subst, List, ℕ}
+use Rattle.std.proofs.Common.{◌++◌, ◌+◌, ◌-◌, ap, arith, length, refl, sym, subst, List, ℕ}
 use Rattle.hz_netlist.specs.Element.{variable_total}
-use Rattle.hz_core.specs.Limits.{most_variables}
-use Rattle.hz_netlist.specs.Names.{Names}
-use Rattle.hz_blif.specs.Cover.{Cover, is_constant, is_too_large, on_line}
-use Rattle.hz_blif.specs.Draft.{AreNumbers, Holds, Read, names_at}
-use Rattle.hz_blif.specs.Entries.{cover_by, elements_by, name_at, variables_of}
-use Rattle.hz_blif.specs.Gates.{cover_gates}
+use Rattle.hz_blif.specs.Draft.{Holds}
 use Rattle.hz_blif.proofs.Closing.{counts-told, held-cover, held-current, not-too-large}
 use Rattle.hz_blif.proofs.EntryLemmas.{named-none}
 use Rattle.hz_blif.proofs.Growing.{counts-fit, cover-names, gates-told, holds-gates, whole-cover}
+use Rattle.hz_netlist.specs.Names.{on_line, AreNumbers, names_at, name_at}
 use Rattle.hz_blif.proofs.draft.Draft.keep_gates.Goals as goal
 
 pub note_uses-requires : goal.note_uses-requires

@@ -1,6 +1,4 @@
-use Rattle.std.proofs.Common.{◌∙◌, ap, length, sym}
-use Rattle.std.proofs.lemmas.List.{length-map}
-use Rattle.hz_blif.specs.Entries.{name_at}
+use Rattle.std.proofs.Common.{◌∙◌, sym}
 use Rattle.hz_blif.proofs.Closing.{counts-told, held-cover, holds-excess, not-too-large, pins-fit}
 use Rattle.hz_blif.proofs.draft.Draft.keep_right_cover.Goals as goal
 

@@ -1,4 +1,4 @@
-use Rattle.std.proofs.Common.{◌≡◌, ◌∙◌, ◌++◌, ◌∷◌, [], ap, refl, subst, sym, List, ℕ}
+use Rattle.std.proofs.Common.{◌∙◌, [], ap, refl, subst, sym, List, ℕ}
 use Rattle.std.specs.Borrow.{Bor}
 use Rattle.std.proofs.lemmas.List.{map_push}
 use Rattle.hz_blif.specs.Cover.{Cover}

@@ -1,4 +1,4 @@
-use Rattle.std.proofs.Common.{◌≡◌, None, refl, subst, sym, Err, List, ℕ, Ok}
+use Rattle.std.proofs.Common.{◌≡◌, None, refl, subst, sym, Err, Ok}
 use Rattle.std.specs.Prelude.{OnOk, Result}
 use Rattle.hz_blif.specs.declared.line.Line.{Line as LineRead}
 use Rattle.hz_blif.specs.Draft.{Holds, Read, closed, taking, with_cover, with_inputs, with_outputs}

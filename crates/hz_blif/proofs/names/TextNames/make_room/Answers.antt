@@ -1,4 +1,4 @@
-use Rattle.std.proofs.Common.{◌≡◌, subst, sym}
+use Rattle.std.proofs.Common.{subst, sym}
 use Rattle.std.specs.List.{AllByRecursion}
 use Rattle.hz_netlist.specs.Names.{Names, seen_names}
 use Rattle.hz_blif.specs.Plain.{IsPlain}

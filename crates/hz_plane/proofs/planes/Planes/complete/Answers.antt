@@ -1,4 +1,4 @@
-use Rattle.std.proofs.Common.{◌≡◌, ◌<◌, ◌≤◌, ◌++◌, ◌∙◌, List, Bool, Option, Some, None, length, take, drop, slice_get, sym, ap, subst, arith}
+use Rattle.std.proofs.Common.{◌≡◌, ℕ, ◌<◌, ◌≤◌, ◌++◌, ◌∙◌, List, Bool, Option, Some, None, length, take, drop, slice_get, sym, ap, subst, arith}
 use Rattle.std.proofs.lemmas.Option.{slice_get_within}
 use Rattle.hz_core.specs.Netlist.{Gate}
 use Rattle.hz_plane.specs.declared.pair.Pair.{Pair}
@@ -23,9 +23,9 @@ invariant_of-self c =
     let values_are : take fields.values.len (c.fill-are_evaluated.new.values ++ drop (length c.fill-are_evaluated.new.values) fields.values.items) ≡ c.fill-are_evaluated.new.values = written-back fields.values.len c.fill-are_evaluated.new.values fields.values.items values_count values_few in
     let values_long : length c.fill-are_evaluated.new.values ≡ length fields.values.items = c.fill-are_evaluated.auto.values ∙ ap (length {A = Pair}) c.as_mut_slice-2.ensures.value in
     let marks_count : length c.fill-are_evaluated.new.marks ≡ fields.marks.len = c.fill-are_evaluated.auto.marks ∙ c.as_mut_slice.ensures.len in
-    let marks_few : length fields.marks.items ≤ fields.marks.len = omega (arith, ap (length {A = Bool}) c.as_mut_slice.ensures.value, c.as_mut_slice.ensures.len) in
+    let marks_few : length fields.marks.items ≤ fields.marks.len = omega (arith, ap (length {A = ℕ}) c.as_mut_slice.ensures.value, c.as_mut_slice.ensures.len) in
     let marks_are : take fields.marks.len (c.fill-are_evaluated.new.marks ++ drop (length c.fill-are_evaluated.new.marks) fields.marks.items) ≡ c.fill-are_evaluated.new.marks = written-back fields.marks.len c.fill-are_evaluated.new.marks fields.marks.items marks_count marks_few in
-    let marks_long : length c.fill-are_evaluated.new.marks ≡ length fields.marks.items = c.fill-are_evaluated.auto.marks ∙ ap (length {A = Bool}) c.as_mut_slice.ensures.value in
+    let marks_long : length c.fill-are_evaluated.new.marks ≡ length fields.marks.items = c.fill-are_evaluated.auto.marks ∙ ap (length {A = ℕ}) c.as_mut_slice.ensures.value in
     let faults_count : length c.note_faults.new.faults ≡ fields.faults.len = c.note_faults.auto.faults ∙ c.as_mut_slice-3.ensures.len in
     let faults_few : length fields.faults.items ≤ fields.faults.len = omega (arith, ap (length {A = Option LaneFault}) c.as_mut_slice-3.ensures.value, c.as_mut_slice-3.ensures.len) in
     let faults_are : take fields.faults.len (c.note_faults.new.faults ++ drop (length c.note_faults.new.faults) fields.faults.items) ≡ c.note_faults.new.faults = written-back fields.faults.len c.note_faults.new.faults fields.faults.items faults_count faults_few in
@@ -36,7 +36,7 @@ invariant_of-self c =
       nodes = held.nodes;
       small = held.small;
       values_count = ap (length {A = Pair}) values_are ∙ (values_long ∙ held.values_count);
-      marks = ap (length {A = Bool}) marks_are ∙ (marks_long ∙ held.marks);
+      marks = ap (length {A = ℕ}) marks_are ∙ (marks_long ∙ held.marks);
       faults_count = ap (length {A = Option LaneFault}) faults_are ∙ (faults_long ∙ held.faults_count);
       values_planes = subst AreAllPlanes (sym values_are) c.fill-are_evaluated.ensures.planes;
       sources = held.sources;

@@ -1,4 +1,4 @@
-use Rattle.std.proofs.Common.{◌≡◌, ◌∙◌, List, None, length, replicate, slice_get, get_or, sym, ap, refl, arith, rules}
+use Rattle.std.proofs.Common.{◌≡◌, ◌∙◌, ◌+◌, ◌/◌, ℕ, List, None, length, replicate, slice_get, get_or, sym, ap, refl, arith, rules}
 use Rattle.hz_core.specs.Netlist.{Netlist, Gate}
 use Rattle.hz_plane.specs.declared.stage.Stage.TheVariants.{Loading}
 use Rattle.hz_plane.specs.Loads.{LaneLoads}
@@ -20,7 +20,7 @@ invariant_of-result c =
       nodes = omega (arith, inputs, nodes, circuit.nodes, ap (length {A = Gate}) gates);
       small = omega (arith, nodes, circuit.variables);
       values_count = c.in_ok-values.ensures.count ∙ (c.nodes-2.ensures.nodes ∙ (ap (λ (n : Netlist). length n.names) same ∙ sym nodes));
-      marks = sym c.in-Ok.marks.ok.0 ∙ (c.in-Ok.ensures.len ∙ (c.len.ensures ∙ c.in_ok-schedule.schedule.order.ok.0));
+      marks = sym c.in-Ok.marks.ok.0 ∙ (c.in-Ok.ensures.len ∙ ap (λ (n : ℕ). n / 64 + 1) (c.len.ensures ∙ c.in_ok-schedule.schedule.order.ok.0));
       faults_count = search (rules, c.in-Ok-vec.ensures.len);
       values_planes = c.in_ok-values.ensures.planes;
       sources = λ pin inside. omega (arith, nodes, sources-inside (length netlist.names) netlist.gates circuit.gates pin (omega (arith, inside, ap (λ (list : List Gate). length (pin_sources list)) gates)), ap (λ (list : List Gate). get_or (pin_sources list) pin 0) gates);

@@ -1,4 +1,4 @@
-use Rattle.std.proofs.Common.{◌≡◌, ◌<◌, ◌≤◌, ◌++◌, ◌∙◌, List, Bool, Some, length, take, drop, sym, ap, subst, arith}
+use Rattle.std.proofs.Common.{◌≡◌, ℕ, ◌<◌, ◌≤◌, ◌++◌, ◌∙◌, List, Some, length, take, drop, sym, ap, subst, arith}
 use Rattle.std.proofs.lemmas.Option.{slice_get_within}
 use Rattle.hz_plane.specs.declared.pair.Pair.{Pair}
 use Rattle.hz_plane.specs.declared.stage.Stage.{Stage}
@@ -20,14 +20,14 @@ invariant_of-self c =
     let values_are : take fields.values.len (c.spread.new.values ++ drop (length c.spread.new.values) fields.values.items) ≡ c.spread.new.values = written-back fields.values.len c.spread.new.values fields.values.items values_count values_few in
     let values_long : length c.spread.new.values ≡ length fields.values.items = c.spread.auto.values ∙ ap (length {A = Pair}) c.as_mut_slice-2.ensures.value in
     let marks_count : length c.spread.new.marks ≡ fields.marks.len = c.spread.auto.marks ∙ c.as_mut_slice.ensures.len in
-    let marks_few : length fields.marks.items ≤ fields.marks.len = omega (arith, ap (length {A = Bool}) c.as_mut_slice.ensures.value, c.as_mut_slice.ensures.len) in
+    let marks_few : length fields.marks.items ≤ fields.marks.len = omega (arith, ap (length {A = ℕ}) c.as_mut_slice.ensures.value, c.as_mut_slice.ensures.len) in
     let marks_are : take fields.marks.len (c.spread.new.marks ++ drop (length c.spread.new.marks) fields.marks.items) ≡ c.spread.new.marks = written-back fields.marks.len c.spread.new.marks fields.marks.items marks_count marks_few in
-    let marks_long : length c.spread.new.marks ≡ length fields.marks.items = c.spread.auto.marks ∙ ap (length {A = Bool}) c.as_mut_slice.ensures.value in
+    let marks_long : length c.spread.new.marks ≡ length fields.marks.items = c.spread.auto.marks ∙ ap (length {A = ℕ}) c.as_mut_slice.ensures.value in
     record {
       nodes = held.nodes;
       small = held.small;
       values_count = ap (length {A = Pair}) values_are ∙ (values_long ∙ held.values_count);
-      marks = ap (length {A = Bool}) marks_are ∙ (marks_long ∙ held.marks);
+      marks = ap (length {A = ℕ}) marks_are ∙ (marks_long ∙ held.marks);
       faults_count = held.faults_count;
       values_planes = subst AreAllPlanes (sym values_are) c.spread.ensures.planes;
       sources = held.sources;

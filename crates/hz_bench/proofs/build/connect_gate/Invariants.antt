@@ -1,9 +1,0 @@
-use Rattle.std.proofs.Common.{◌≡◌, drop, fold}
-use Rattle.hz_bench.specs.BuiltNetlist.{with_pin_from, MayAddPinFrom, AreAdmissibleSteps}
-use Rattle.hz_bench.proofs.build.connect_gate.Given as goal
-
-abbrev pub invariant-loop-source : goal.invariant-loop-source
-invariant-loop-source l = record {
-  rest : fold (with_pin_from l.gate) l.circuit (drop l.source-index l.sources) ≡ fold (with_pin_from l.gate) l.fn.circuit l.sources;
-  may : AreAdmissibleSteps (MayAddPinFrom l.gate) (with_pin_from l.gate) l.circuit (drop l.source-index l.sources);
-}

@@ -1,0 +1,14 @@
+use Rattle.std.proofs.Common.{arith, ap, ◌∙◌, Bool}
+use Rattle.hz_plane.specs.Bits.{has_lane}
+use Rattle.hz_plane.specs.Loads.{listed_by}
+use Rattle.hz_plane.proofs.ByteLemmas.{listed-eight}
+use Rattle.hz_plane.proofs.listing.Listing.list_eight.Goals as goal
+
+pub returns-clause-here : goal.returns-clause-here
+returns-clause-here c lane same =
+    listed-eight (record { zeros = c.put_eight.new.set; ones = c.put_eight-2.new.set }) lane _ c.args.bits c.ranges.bits.fits (omega arith) (c.put_eight.ensures.here lane same) (c.put_eight-2.ensures.here lane same)
+
+pub returns-clause-others : goal.returns-clause-others
+returns-clause-others c other inside apart =
+    ap (λ (b : Bool). listed_by b (has_lane c.put_eight-2.new.set other)) (c.put_eight.ensures.others other inside apart)
+    ∙ ap (listed_by (has_lane c.args.self.now.zeros other)) (c.put_eight-2.ensures.others other inside apart)

@@ -1,0 +1,38 @@
+use Rattle.std.proofs.Common.{◌≡◌, ◌<◌, ℕ, Bool, List, length, get_or, ap, ◌∙◌, arith}
+use Rattle.hz_core.specs.Pattern.{differs}
+use Rattle.hz_net.specs.Network.{bit_at}
+use Rattle.hz_net.specs.Variables.{fan_out_of}
+use Rattle.hz_net.proofs.Places.{length-network_of}
+use Rattle.hz_reach.proofs.FanOut.{marks-ascend, fan_out-inside}
+use Rattle.hz_reach.proofs.turn.mark_with_fan_out.Goals as goal
+
+pub bounds-state-node : goal.bounds-state-node
+bounds-state-node c =
+    omega (arith, c.requires.gate.1, c.requires.scratch.long, length-network_of c.args.net.now c.requires.circuit, ap (length {A = Bool}) c.state.ensures)
+
+pub mark-requires-clause-inside : goal.mark-requires-clause-inside
+mark-requires-clause-inside c =
+    omega (arith, c.requires.gate.1, c.requires.scratch.long, length-network_of c.args.net.now c.requires.circuit)
+
+pub bounds-state-wire : goal.bounds-state-wire
+bounds-state-wire c =
+    let inside : c.loop-wire.wire-index < length (fan_out_of c.args.net.now c.args.node) = rw c.fan_out-wire-items.ensures at c.loop-wire-test.true in
+    let below = fan_out-inside c.args.net.now c.args.node c.loop-wire.wire-index c.requires.circuit inside in
+    let here : get_or c.fan_out-wire-items.result.now c.loop-wire.wire-index 0 ≡ get_or (fan_out_of c.args.net.now c.args.node) c.loop-wire.wire-index 0 =
+    ap (λ (list : List ℕ). get_or list c.loop-wire.wire-index 0) c.fan_out-wire-items.ensures in
+    omega (arith, below, here, c.requires.scratch.long, ap (length {A = Bool}) (c.state-in-loop-wire.ensures ∙ c.loop-wire.invariant.1))
+
+pub mark-requires-then-state-wire-clause-inside : goal.mark-requires-then-state-wire-clause-inside
+mark-requires-then-state-wire-clause-inside c =
+    let inside : c.loop-wire.wire-index < length (fan_out_of c.args.net.now c.args.node) = rw c.fan_out-wire-items.ensures at c.loop-wire-test.true in
+    let below = fan_out-inside c.args.net.now c.args.node c.loop-wire.wire-index c.requires.circuit inside in
+    let here : get_or c.fan_out-wire-items.result.now c.loop-wire.wire-index 0 ≡ get_or (fan_out_of c.args.net.now c.args.node) c.loop-wire.wire-index 0 =
+    ap (λ (list : List ℕ). get_or list c.loop-wire.wire-index 0) c.fan_out-wire-items.ensures in
+    omega (arith, below, here, c.requires.scratch.long, ap (length {A = Bool}) c.loop-wire.invariant.1)
+
+pub mark-requires-then-state-wire-clause-ascending : goal.mark-requires-then-state-wire-clause-ascending
+mark-requires-then-state-wire-clause-ascending c =
+    let test : ℕ → Bool = λ wire. differs (bit_at c.args.scratch.now.state wire) (bit_at c.args.scratch.now.state c.args.node) in
+    let inside : c.loop-wire.wire-index < length (fan_out_of c.args.net.now c.args.node) = rw c.fan_out-wire-items.ensures at c.loop-wire-test.true in
+    rw (c.loop-wire.invariant.0, c.fan_out-wire-items.ensures)
+    (λ i there. marks-ascend c.args.net.now c.args.node test c.loop-wire.wire-index i c.requires.gate.1 inside there)

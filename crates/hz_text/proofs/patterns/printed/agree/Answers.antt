@@ -1,0 +1,11 @@
+-- One byte more.
+use Rattle.std.proofs.Common.{◌∙◌, sym, arith}
+use Rattle.std.proofs.lemmas.Bool.{and_parts}
+use Rattle.hz_text.proofs.PatternModelLaws.{agrees-more}
+use Rattle.hz_text.proofs.patterns.printed.agree.Goals as goal
+
+pub loop-i-preserved : goal.loop-i-preserved
+loop-i-preserved c = λ all.
+    let parts = and_parts _ _ all in
+    agrees-more c.loop-i.i c.args.bytes.now c.args.model.now _ _ (omega (arith, c.loop-i-test.true)) (omega (arith, c.loop-i-test.true, c.requires))
+    (c.loop-i.invariant parts.0) (sym c.agrees-all.ensures ∙ parts.1)

@@ -1,0 +1,23 @@
+"""The job `start`: the first line of a script for a netlist, with `?` for each bit that only its designer knows."""
+import re
+
+from .circuit import load
+from .errors import DONE
+
+# Names that synthesis gives to inner nodes; a designer knows the others.
+_INNER = re.compile(r"[_$]|.*\\|(new_)?n\d+_?$")
+
+
+def run(words, out):
+    """Writes the line for a netlist that `hazard` accepts."""
+    words.program.must_read(words.netlist)
+    out.write(line(load(words.netlist), {}, ()) + "\n")
+    return DONE
+
+
+def line(circuit, known, preferred):
+    """The line: each input and flip-flop, and a gate of each loop. Of a loop a gate that is preferred is listed if there is one,
+    else one with a name of the designer's, else the one that most gates read."""
+    readers = circuit.readers()
+    nodes = circuit.start_nodes(lambda name: (name not in preferred, bool(_INNER.match(name)), -len(readers[name])))
+    return "start" + "".join(f" {name}={known.get(name, '?')}" for name in nodes)
