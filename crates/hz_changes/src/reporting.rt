@@ -17,7 +17,7 @@ use hz_options::Options;
 use hz_outside::{PutFault, Sink};
 use hz_reach::run_counts;
 use hz_refusal::{Status, status_after};
-use hz_report::{write_change, write_head, write_stopped};
+use hz_report::{Plate, write_change, write_head, write_stopped};
 use hz_seq::Sequence;
 use hz_text::{Script, printed_runs_are_read};
 use hz_write::Writer;
@@ -44,58 +44,63 @@ pub(crate) fn report<K: Sink>(
     let Ok(mut sequence) = Sequence::new(alloc, desk, start) else {
         return Status::Memory;
     };
-    let written = write_report(net, script, start, options, &mut sequence, out);
+    let Ok(mut plate) = Plate::new(alloc, net, options.show, script.changes()) else {
+        return Status::Memory;
+    };
+    let written = write_report(script, start, options, &mut sequence, &mut plate, out);
     status_after(written, Status::Done)
 }
 
 // Writes the lines of a script, whose changes a sequence is about to make.
 fn write_report<K: Sink>(
-    net: &Net,
     script: &Script,
     start: &[bool],
     options: Options,
     sequence: &mut Sequence<'_>,
+    plate: &mut Plate<'_>,
     out: &mut K,
 ) -> Result<(), PutFault>
-    requires circuit { IsCircuit net.now }
-    requires script { IsScriptFor net.now script.now }
-    requires start { IsStableStart net.now start.now }
+    requires circuit { IsCircuit plate.old.netlist }
+    requires script { IsScriptFor plate.old.netlist script.now }
+    requires start { IsStableStart plate.old.netlist start.now }
     requires cap { IsCap options.cap }
-    requires net { sequence.old.desk.netlist ≡ net.now }
+    requires show { plate.old.show ≡ options.show }
+    requires net { sequence.old.desk.netlist ≡ plate.old.netlist }
     requires begins { sequence.old.start ≡ start.now }
     requires goes { sequence.old.stopped ≡ None }
-    ensures { (text : List ℕ) × IsReport options net.now start.now script.now.changes text
+    ensures { (text : List ℕ) × IsReport options plate.old.netlist start.now script.now.changes text
         × Wrote K.output K.faults text out.old out.new result }
 {
     // The laws say that the printed runs have few steps, and that what is printed is read as these runs.
     run_counts();
     printed_runs_are_read();
     let mut writer = Writer::new(out);
-    write_head(&mut writer, net, sequence.desk().free(), start);
-    write_changes(&mut writer, net, script, options, sequence);
+    write_head(&mut writer, plate.net(), sequence.desk().free(), start);
+    write_changes(&mut writer, plate, script, options.cap, sequence);
     writer.finish()
 }
 
 // Writes what the changes of a script come to, one after the other. Once the output failed no change is analysed.
 fn write_changes<K: Sink>(
     writer: &mut Writer<'_, K>,
-    net: &Net,
+    plate: &mut Plate<'_>,
     script: &Script,
-    options: Options,
+    cap: u64,
     sequence: &mut Sequence<'_>,
 )
-    requires circuit { IsCircuit net.now }
-    requires script { IsScriptFor net.now script.now }
-    requires cap { IsCap options.cap }
-    requires net { sequence.old.desk.netlist ≡ net.now }
-    requires start { IsStableStart net.now sequence.old.start }
+    requires circuit { IsCircuit plate.old.netlist }
+    requires script { IsScriptFor plate.old.netlist script.now }
+    requires cap { IsCap cap }
+    requires net { sequence.old.desk.netlist ≡ plate.old.netlist }
+    requires start { IsStableStart plate.old.netlist sequence.old.start }
     requires goes { sequence.old.stopped ≡ None }
-    ensures gave { (analyses : List Analysis) × AreAnalyses net.now options.cap sequence.old.start script.now.changes analyses
-        × Writes K.output K.faults (analyses_text net.now options.show 1 script.now.changes analyses) writer.old writer.new }
+    ensures gave { (analyses : List Analysis) × AreAnalyses plate.old.netlist cap sequence.old.start script.now.changes analyses
+        × Writes K.output K.faults
+        (analyses_text plate.old.netlist plate.old.show 1 script.now.changes analyses) writer.old writer.new }
     ensures none_waits { NoneWaits writer.old → NoneWaits writer.new }
 {
     // A getter of the network says that its circuit is whole, and the law, that the changes which are left out have findings.
-    let _variables = net.len();
+    let _variables = plate.net().len();
     findings_exist();
     for number in 0..script.changes() {
         if writer.has_failed() {
@@ -103,10 +108,10 @@ fn write_changes<K: Sink>(
         }
         write_next(
             writer,
-            net,
+            plate,
             number as u32 + 1,
             script.change(number),
-            options,
+            cap,
             sequence,
         );
     }
@@ -115,24 +120,26 @@ fn write_changes<K: Sink>(
 // Makes the next change, and writes its outcome. No line of it waits for what comes next.
 fn write_next<K: Sink>(
     writer: &mut Writer<'_, K>,
-    net: &Net,
+    plate: &mut Plate<'_>,
     number: u32,
     change: &[(u32, bool)],
-    options: Options,
+    cap: u64,
     sequence: &mut Sequence<'_>,
 )
-    requires circuit { IsCircuit net.now }
-    requires change { All (λ pair. pair.0 < net.now.inputs) change.now }
-    requires cap { IsCap options.cap }
-    requires net { sequence.old.desk.netlist ≡ net.now }
-    requires stable { sequence.old.stopped ≡ None → IsStableStart net.now sequence.old.start }
-    requires inside { IfSome sequence.old.stopped (λ var. var < length (network_of net.now)) }
-    ensures gave { (analysis : Analysis) × GoesOn options.cap change.now analysis sequence.old sequence.new
-        × Writes K.output K.faults (analysis_text net.now options.show number change.now analysis) writer.old writer.new }
+    requires circuit { IsCircuit plate.old.netlist }
+    requires change { All (λ pair. pair.0 < plate.old.netlist.inputs) change.now }
+    requires cap { IsCap cap }
+    requires net { sequence.old.desk.netlist ≡ plate.old.netlist }
+    requires stable { sequence.old.stopped ≡ None → IsStableStart plate.old.netlist sequence.old.start }
+    requires inside { IfSome sequence.old.stopped (λ var. var < length (network_of plate.old.netlist)) }
+    ensures gave { (analysis : Analysis) × GoesOn cap change.now analysis sequence.old sequence.new
+        × Writes K.output K.faults
+        (analysis_text plate.old.netlist plate.old.show number change.now analysis) writer.old writer.new }
     ensures none_waits { NoneWaits writer.new }
+    ensures plate { plate.new ≡ plate.old }
 {
-    match sequence.next(change, options.cap) {
-        Ok(finding) => write_change(writer, net, number, change, finding, options.show),
-        Err(stopped) => write_stopped(writer, net, number, change, stopped.var),
+    match sequence.next(change, cap) {
+        Ok(finding) => write_change(writer, plate, number, change, finding),
+        Err(stopped) => write_stopped(writer, plate.net(), number, change, stopped.var),
     }
 }

@@ -93,6 +93,20 @@ impl CurrentState {
         ensures input { self.new.input.items ≡ self.old.input.items }
         ensures state { self.new.state.items ≡ state.now }
     {
+        if are_same(self.state.as_slice(), state) {
+            return;
+        }
+        self.turn_each(net, state);
+    }
+
+    // The same, variable by variable.
+    fn turn_each(&mut self, net: &Net, state: &[bool])
+        requires exact { IsExact net.now self.old }
+        requires state { length state.now ≡ length (network_of net.now) }
+        ensures exact { IsExact net.now self.new }
+        ensures input { self.new.input.items ≡ self.old.input.items }
+        ensures state { self.new.state.items ≡ state.now }
+    {
         for var in 0..net.len() {
             self.turn(net, var, state[var as usize]);
         }
@@ -340,6 +354,19 @@ impl CurrentState {
         }
         count
     }
+}
+
+// Whether two states are the same. It has no branch between two bits, since a state is mostly turned into itself: each change of
+// a script begins where the one before ended.
+fn are_same(one: &[bool], other: &[bool]) -> bool
+    requires { length one.now ≡ length other.now }
+    ensures { result ≡ true → one.now ≡ other.now }
+{
+    let mut same = true;
+    for (var, bit) in one.iter().enumerate() {
+        same &= *bit == other[var];
+    }
+    same
 }
 
 // What a variable is.

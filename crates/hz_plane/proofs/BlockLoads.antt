@@ -1,14 +1,14 @@
 -- Lanes that are loaded from a list of bits: eight at once, and one lane after the other.
-use Rattle.std.proofs.Common.{◌≡◌, ◌≢◌, ℕ, zero, suc, ◌+◌, ◌*◌, ◌-◌, ◌<◌, ◌≤◌, ◌/◌, ◌%◌, Bool, true, false, Option, Some, None, List, [], ◌++◌, length, map, take, drop, set, get_or, replicate, slice_get, refl, sym, ap, ◌∙◌, arith, inl, inr}
+use Rattle.std.proofs.Common.{◌≡◌, ◌≢◌, ℕ, zero, suc, ◌+◌, ◌*◌, ◌-◌, ◌<◌, ◌≤◌, ◌/◌, ◌%◌, Bool, true, false, Option, Some, None, List, [], ◌∷◌, ◌++◌, length, map, take, drop, set, get_or, replicate, slice_get, refl, sym, ap, ◌∙◌, arith, inl, inr}
 use Rattle.std.specs.Prelude.{if◌then◌else◌}
 use Rattle.std.proofs.Math.Nat.{add-mul}
 use Rattle.std.proofs.lemmas.Bool.{cases_eq, cases_lt}
-use Rattle.std.proofs.lemmas.List.{length-map, length-append, length-set, length-replicate, length-drop, length-take-le, get_or-map, get_or-drop, get_or-take, get_or-replicate, get_or_append_left, get_or-append_right, get_or-set_same, get_or-set_other, ext_get_or, drop-drop}
+use Rattle.std.proofs.lemmas.List.{length-map, length-append, length-set, length-replicate, length-drop, length-take-le, get_or-map, get_or-drop, get_or-take, get_or-replicate, get_or_append_left, get_or-append_right, get_or-set_same, get_or-set_other, ext_get_or, drop-drop, map-append}
 use Rattle.std.proofs.lemmas.Nat.{mul-le}
 use Rattle.std.proofs.lemmas.Option.{slice_get-get_or, slice_get_within, get_or_from_slice_get}
 use Rattle.hz_plane.specs.declared.listing.Listing.{Listing}
 use Rattle.hz_plane.specs.Bits.{has_lane}
-use Rattle.hz_plane.specs.Loads.{Loaded, LaneLoads, lane_input, lane_listed, lane_loads, listed_in, loaded_from, loads_in, block_loads}
+use Rattle.hz_plane.specs.Loads.{Loaded, LaneLoads, lane_input, lane_listed, lane_loads, listed_in, held_at, held_load, loaded_from, loads_in, block_loads}
 use Rattle.hz_plane.proofs.LoadLemmas.{at-lane, count-lanes, by-parts}
 
 -- where the bits of a lane begin
@@ -179,6 +179,56 @@ module _ (nodes inputs : ℕ) (held : List (ℕ × Bool)) where
           | inr later ↦ block-out k lane bits later few ∙ sym (block-out k (lane + 1) bits (omega (arith, later, differ)) few)
         ]
       ])
+
+-- the loaded lanes list the held gates too
+module _ (held : List (ℕ × Bool)) where
+  held-loaded : (bit : Bool) (input : List Bool) (listed listed' : List (Option Bool)) → (bit ≡ true → listed' ≡ held_at held listed) →
+      ◌≡◌ {A = Option Loaded} (if bit then Some (record { input = input; listed = listed' }) else None) (held_load held (if bit then Some (record { input = input; listed = listed }) else None))
+  held-loaded true input listed listed' is = ap (λ (list : List (Option Bool)). Some (record { input = input; listed = list })) (is refl)
+  held-loaded false input listed listed' is = refl
+
+  either : {X : Type 0} (bit : Bool) → (bit ≡ true → X) → (bit ≡ false → X) → X
+  either true is not = is refl
+  either false is not = not refl
+
+  module _
+      (loaded : List ℕ) (inputs : List (List ℕ)) (listings listings' : List Listing)
+      (here : (lane : ℕ) → lane < 512 → has_lane loaded lane ≡ true → lane_listed listings' lane ≡ held_at held (lane_listed listings lane))
+      (others : (other : ℕ) → other < 512 → has_lane loaded other ≡ false → lane_listed listings' other ≡ lane_listed listings other) where
+    pub loads-held : lane_loads loaded inputs listings' ≡ map (held_load held) (lane_loads loaded inputs listings)
+    loads-held =
+        let before = lane_loads loaded inputs listings in
+        let after = lane_loads loaded inputs listings' in
+        ext_get_or None after (map (held_load held) before) (count-lanes loaded inputs listings' ∙ sym (length-map before (held_load held) ∙ count-lanes loaded inputs listings)) (λ lane few.
+        let inside : lane < 512 = omega (arith, few, count-lanes loaded inputs listings') in
+        at-lane loaded inputs listings' lane inside
+        ∙ (held-loaded (has_lane loaded lane) (lane_input inputs lane) (lane_listed listings lane) (lane_listed listings' lane) (here lane inside)
+        ∙ sym (get_or-map (held_load held) before lane None None (omega (arith, inside, count-lanes loaded inputs listings)) ∙ ap (held_load held) (at-lane loaded inputs listings lane inside))))
+
+    pub fresh-held : (count : ℕ) → ((other : ℕ) → other < 512 → has_lane loaded other ≡ false → lane_listed listings other ≡ replicate count None) → (other : ℕ) → other < 512 → has_lane loaded other ≡ false → lane_listed listings' other ≡ replicate count None
+    fresh-held count was other below out = others other below out ∙ was other below out
+
+    pub unlisted-held : (node : ℕ) → held ≡ [] → ((other : ℕ) → other < 512 → get_or (lane_listed listings other) node None ≡ None) → (other : ℕ) → other < 512 → get_or (lane_listed listings' other) node None ≡ None
+    unlisted-held node empty was other below =
+        either (has_lane loaded other)
+        (λ is. ap (λ (list : List (Option Bool)). get_or list node None) (here other below is ∙ ap (λ (none : List (ℕ × Bool)). held_at none (lane_listed listings other)) empty) ∙ was other below)
+        (λ out. ap (λ (list : List (Option Bool)). get_or list node None) (others other below out) ∙ was other below)
+
+  -- a block of lanes that lists the held gates too
+  held-loads : (nodes inputs lanes : ℕ) (bits : List Bool) → map (held_load held) (loads_in nodes inputs [] lanes bits) ≡ loads_in nodes inputs held lanes bits
+  held-loads nodes inputs zero bits = refl
+  held-loads nodes inputs (suc lanes) bits = ap (λ (list : List (Option Loaded)). Some (loaded_from nodes inputs held bits) ∷ list) (held-loads nodes inputs lanes (drop (2 * inputs) bits))
+
+  held-empty : (count : ℕ) → map (held_load held) (replicate count None) ≡ replicate count None
+  held-empty zero = refl
+  held-empty (suc count) = ap (λ (list : List (Option Loaded)). None ∷ list) (held-empty count)
+
+  pub block-held : (nodes inputs lanes : ℕ) (bits : List Bool) → map (held_load held) (block_loads nodes inputs [] lanes bits) ≡ block_loads nodes inputs held lanes bits
+  block-held nodes inputs lanes bits =
+      let nothing : Option Loaded = None in
+      map-append (held_load held) (loads_in nodes inputs [] lanes bits) (replicate (512 - lanes) nothing)
+      ∙ (ap (λ (list : List (Option Loaded)). list ++ map (held_load held) (replicate (512 - lanes) nothing)) (held-loads nodes inputs lanes bits)
+      ∙ ap (λ (list : List (Option Loaded)). loads_in nodes inputs held lanes bits ++ list) (held-empty (512 - lanes)))
 
 -- the new input of one of eight lanes
 pub eight-input : (sets : List (List ℕ)) (eight lane n : ℕ) (bits : List Bool) → length sets ≡ n → lane / 8 ≡ eight → 8 * (eight + 1) * (2 * n) ≤ length bits →

@@ -1,5 +1,5 @@
--- Sets of lanes: a lane more, a lane less, and no lane.
-use Rattle.std.proofs.Common.{◌≡◌, ◌≢◌, ℕ, zero, suc, set, w64, ◌*◌, ◌^◌, ◌-◌, ◌<◌, ◌/◌, ◌%◌, max, Bool, true, false, Some, None, List, [], ◌∷◌, length, get_or, refl, sym, ap, ◌∙◌, arith, inl, inr, nat_eq}
+-- Sets of lanes: a lane more, a lane less, many at once, and no lane.
+use Rattle.std.proofs.Common.{◌≡◌, ◌≢◌, ℕ, zero, suc, set, w64, ◌*◌, ◌^◌, ◌-◌, ◌<◌, ◌/◌, ◌%◌, min, max, Bool, true, false, Some, None, List, [], ◌∷◌, length, get_or, refl, sym, ap, ◌∙◌, arith, inl, inr, nat_eq}
 use Rattle.std.specs.Int.{bit_at, bit_not}
 use Rattle.std.specs.Int.Bits.{bit_and, bit_or, or_zero_r}
 use Rattle.std.proofs.lemmas.Bool.{cases_eq}
@@ -8,10 +8,10 @@ use Rattle.std.proofs.lemmas.Nat.Bits.{bit_at-lt, bit_at-zero, bit_at_set_same, 
 use Rattle.hz_core.specs.Ternary.{admits}
 use Rattle.hz_plane.specs.declared.listing.Listing.{Listing}
 use Rattle.hz_plane.specs.Bits.{IsPlane, HasValue, lane_bit, bit_number, has_lane}
-use Rattle.hz_plane.specs.Pairs.{AreZero, or_words, not_words}
+use Rattle.hz_plane.specs.Pairs.{AreZero, and_words, or_words, not_words}
 use Rattle.hz_plane.specs.Lanes.{listed_value}
 use Rattle.hz_plane.specs.Loads.{listed_by, listed_in}
-use Rattle.hz_plane.proofs.Bits.{plane-not, lane-or, lane-not}
+use Rattle.hz_plane.proofs.Bits.{plane-not, lane-and, lane-or, lane-not}
 use Rattle.hz_plane.proofs.Words.{zero-lists}
 
 pub lane_bit-lt : (words : List ℕ) (lane : ℕ) → lane_bit words lane < 2
@@ -73,6 +73,68 @@ module _ (words : List ℕ) (lane : ℕ) (inside : lane < 512) (long : length wo
   pub removed-others : (other : ℕ) → other ≢ lane → has_lane (set words (lane / 64) (bit_and (get_or words (lane / 64) 0) (bit_not w64 mask))) other ≡ has_lane words other
   removed-others other differ =
       ap (λ (n : ℕ). nat_eq n 1) (there _ other differ (λ i few apart. bit_at_clear_other w64 (get_or words (lane / 64) 0) (lane % 64) (omega arith) i few apart))
+
+-- a bit of a set into which others are taken, and of one out of which they are taken
+taken-in : (bit put : ℕ) → bit < 2 → put < 2 → nat_eq put 1 ≡ true → nat_eq (max bit put) 1 ≡ true
+taken-in zero zero a b e = cc
+taken-in zero (suc zero) a b e = refl
+taken-in (suc zero) zero a b e = cc
+taken-in (suc zero) (suc zero) a b e = refl
+taken-in (suc (suc n)) put a b e = absurd (omega (arith, a))
+taken-in zero (suc (suc n)) a b e = absurd (omega (arith, b))
+taken-in (suc zero) (suc (suc n)) a b e = absurd (omega (arith, b))
+
+left-in : (bit put : ℕ) → bit < 2 → put < 2 → nat_eq put 1 ≡ false → nat_eq (max bit put) 1 ≡ nat_eq bit 1
+left-in zero zero a b e = refl
+left-in zero (suc zero) a b e = cc
+left-in (suc zero) zero a b e = refl
+left-in (suc zero) (suc zero) a b e = refl
+left-in (suc (suc n)) put a b e = absurd (omega (arith, a))
+left-in zero (suc (suc n)) a b e = absurd (omega (arith, b))
+left-in (suc zero) (suc (suc n)) a b e = absurd (omega (arith, b))
+
+taken-out : (bit put : ℕ) → bit < 2 → put < 2 → nat_eq put 1 ≡ true → nat_eq (min bit (1 - put)) 1 ≡ false
+taken-out zero zero a b e = refl
+taken-out zero (suc zero) a b e = refl
+taken-out (suc zero) zero a b e = cc
+taken-out (suc zero) (suc zero) a b e = refl
+taken-out (suc (suc n)) put a b e = absurd (omega (arith, a))
+taken-out zero (suc (suc n)) a b e = absurd (omega (arith, b))
+taken-out (suc zero) (suc (suc n)) a b e = absurd (omega (arith, b))
+
+left-out : (bit put : ℕ) → bit < 2 → put < 2 → nat_eq put 1 ≡ false → nat_eq (min bit (1 - put)) 1 ≡ nat_eq bit 1
+left-out zero zero a b e = refl
+left-out zero (suc zero) a b e = refl
+left-out (suc zero) zero a b e = refl
+left-out (suc zero) (suc zero) a b e = cc
+left-out (suc (suc n)) put a b e = absurd (omega (arith, a))
+left-out zero (suc (suc n)) a b e = absurd (omega (arith, b))
+left-out (suc zero) (suc (suc n)) a b e = absurd (omega (arith, b))
+
+-- many lanes are taken into a set, or out of it
+module _ (words lanes : List ℕ) (lane : ℕ) (inside : lane < 512) (one : IsPlane words) (two : IsPlane lanes) where
+  pub put-here : has_lane lanes lane ≡ true → has_lane (or_words words lanes) lane ≡ true
+  put-here is =
+      ap (λ (n : ℕ). nat_eq n 1) (lane-or lane inside words lanes one two)
+      ∙ taken-in (lane_bit words lane) (lane_bit lanes lane) (lane_bit-lt words lane) (lane_bit-lt lanes lane) is
+
+  pub put-others : has_lane lanes lane ≡ false → has_lane (or_words words lanes) lane ≡ has_lane words lane
+  put-others out =
+      ap (λ (n : ℕ). nat_eq n 1) (lane-or lane inside words lanes one two)
+      ∙ left-in (lane_bit words lane) (lane_bit lanes lane) (lane_bit-lt words lane) (lane_bit-lt lanes lane) out
+
+  without : lane_bit (and_words words (not_words lanes)) lane ≡ min (lane_bit words lane) (1 - lane_bit lanes lane)
+  without = lane-and lane inside words (not_words lanes) one (plane-not lanes two) ∙ ap (min (lane_bit words lane)) (lane-not lane inside lanes two)
+
+  pub out-here : has_lane lanes lane ≡ true → has_lane (and_words words (not_words lanes)) lane ≡ false
+  out-here is =
+      ap (λ (n : ℕ). nat_eq n 1) without
+      ∙ taken-out (lane_bit words lane) (lane_bit lanes lane) (lane_bit-lt words lane) (lane_bit-lt lanes lane) is
+
+  pub out-others : has_lane lanes lane ≡ false → has_lane (and_words words (not_words lanes)) lane ≡ has_lane words lane
+  out-others out =
+      ap (λ (n : ℕ). nat_eq n 1) without
+      ∙ left-out (lane_bit words lane) (lane_bit lanes lane) (lane_bit-lt words lane) (lane_bit-lt lanes lane) out
 
 -- words that are 0 have no lane
 zero-at : (words : List ℕ) (k : ℕ) → AreZero words → get_or words k 0 ≡ 0

@@ -50,6 +50,11 @@ held_at held listed = fold (λ list node. slice_set list node.0 (Some node.1)) l
 abbrev pub listed_with : ℕ → List Bool → List (ℕ × Bool) → List (Option Bool)
 listed_with nodes first held = held_at held (map Some first ++ replicate (nodes - length first) None)
 
+-- what a lane was loaded with, if its start lists the held gates too
+abbrev pub held_load : List (ℕ × Bool) → Option Loaded → Option Loaded
+held_load held None = None
+held_load held (Some loaded) = Some (record loaded { listed = held_at held loaded.listed })
+
 -- what a lane is loaded with from a list of bits: the bits that its start lists for the inputs, and then its new input
 abbrev pub loaded_from : (nodes inputs : ℕ) → List (ℕ × Bool) → List Bool → Loaded
 loaded_from nodes inputs held bits = record { input = take inputs (drop inputs bits); listed = listed_with nodes (take inputs bits) held }

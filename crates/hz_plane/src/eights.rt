@@ -1,9 +1,9 @@
 //! Eight lanes at once: their bits for an input are one byte.
-ghost use Rattle.std.specs.Prelude.{◌≡◌, ◌≢◌, ◌+◌, ◌*◌, ◌/◌, ◌%◌, ◌<◌, ◌≤◌, ◌⊎◌, ℕ, All, Some, None, false, [], length, take, drop, replicate, slice_index};
+ghost use Rattle.std.specs.Prelude.{◌≡◌, ◌≢◌, ◌+◌, ◌*◌, ◌/◌, ◌%◌, ◌<◌, ◌≤◌, ◌⊎◌, ℕ, Some, None, false, [], length, take, drop, replicate, slice_index};
 ghost use Rattle.std.specs.List.{slice_index_or};
 ghost use Rattle.hz_plane.specs.Bits.{has_lane};
 ghost use Rattle.hz_plane.specs.EightBits.{byte_has, AreGathered};
-ghost use Rattle.hz_plane.specs.Loads.{held_at, lane_listed, listed_in, listed_with};
+ghost use Rattle.hz_plane.specs.Loads.{lane_listed, listed_in, listed_with};
 
 use crate::lanes::put_eight;
 use crate::listing::Listing;
@@ -74,29 +74,26 @@ fn set_part(eight: u32, bytes: &[u8; 64], from: usize, count: usize, sets: &mut 
     }
 }
 
-// Gives eight lanes that list nothing the start that lists their bits for the inputs, and the held gates.
+// Gives eight lanes that list nothing the start that lists their bits for the inputs.
 pub(crate) fn start_eight(
     eight: u32,
     bits: &[bool],
     at: usize,
     inputs: usize,
-    held: &[(u32, bool)],
     listings: &mut [Listing],
 )
     requires eight { eight < 64 }
     requires inputs { inputs ≤ length listings.old }
     requires inside { inputs + at + 7 * (2 * inputs) ≤ length bits.now }
-    requires held { All (λ node. node.0 < length listings.old) held.now }
     requires none { (lane : ℕ) → lane / 8 ≡ eight
         → lane_listed listings.old lane ≡ replicate (length listings.old) None }
     ensures here { (lane : ℕ) → lane / 8 ≡ eight → lane_listed listings.new lane
         ≡ listed_with (length listings.old)
-        (take inputs (drop (at + (lane % 8) * (2 * inputs)) bits.now)) held.now }
+        (take inputs (drop (at + (lane % 8) * (2 * inputs)) bits.now)) [] }
     ensures others { (other : ℕ) → other < 512 → other / 8 ≢ eight
         → lane_listed listings.new other ≡ lane_listed listings.old other }
 {
     list_eight(eight, bits, at, 2 * inputs, inputs, listings);
-    hold_eight(eight, held, listings);
 }
 
 // Lets eight lanes list their bits for the inputs, the first nodes of this count.
@@ -142,19 +139,5 @@ fn list_part(eight: u32, bytes: &[u8; 64], from: usize, count: usize, listings: 
 {
     for i in 0..count {
         listings[from + i].list_eight(eight, bytes[i]);
-    }
-}
-
-// Lets eight lanes list the held gates.
-fn hold_eight(eight: u32, held: &[(u32, bool)], listings: &mut [Listing])
-    requires eight { eight < 64 }
-    requires held { All (λ node. node.0 < length listings.old) held.now }
-    ensures here { (lane : ℕ) → lane / 8 ≡ eight → lane_listed listings.new lane
-        ≡ held_at held.now (lane_listed listings.old lane) }
-    ensures others { (other : ℕ) → other < 512 → other / 8 ≢ eight
-        → lane_listed listings.new other ≡ lane_listed listings.old other }
-{
-    for (node, bit) in held {
-        listings[*node as usize].hold_eight(eight, *bit);
     }
 }

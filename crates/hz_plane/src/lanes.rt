@@ -3,6 +3,9 @@ ghost use Rattle.std.specs.Prelude.{◌≡◌, ◌≢◌, ℕ, ◌/◌, ◌%◌,
 ghost use Rattle.hz_plane.specs.Bits.{has_lane};
 ghost use Rattle.hz_plane.specs.EightBits.{byte_has};
 
+use crate::pair::is_plane;
+use std::simd::prelude::*;
+
 // Whether a lane is in a set.
 #[inline(always)]
 pub(crate) fn has_lane(set: &[u64; 8], lane: u32) -> bool
@@ -24,6 +27,25 @@ pub(crate) fn put_lane(set: &mut [u64; 8], lane: u32, is_in: bool)
         add_lane(set, lane);
     } else {
         remove_lane(set, lane);
+    }
+}
+
+// Takes lanes into a set, or out of it.
+#[inline(always)]
+pub(crate) fn put_lanes(set: &mut [u64; 8], lanes: &[u64; 8], are_in: bool)
+    ensures here { (lane : ℕ) → lane < 512 → has_lane lanes.now lane ≡ true
+        → has_lane set.new lane ≡ are_in }
+    ensures others { (other : ℕ) → other < 512 → has_lane lanes.now other ≡ false
+        → has_lane set.new other ≡ has_lane set.old other }
+{
+    let words = u64x8::from_array(*set);
+    let put = u64x8::from_array(*lanes);
+    is_plane(words);
+    is_plane(put);
+    if are_in {
+        *set = (words | put).to_array();
+    } else {
+        *set = (words & !put).to_array();
     }
 }
 

@@ -1,13 +1,13 @@
 //! What the lanes list for a node.
-ghost use Rattle.std.specs.Prelude.{◌≡◌, ◌≢◌, ℕ, ◌/◌, ◌%◌, ◌<◌, Bool, None, Some, IsTrue};
+ghost use Rattle.std.specs.Prelude.{◌≡◌, ◌≢◌, ℕ, ◌/◌, ◌%◌, ◌<◌, Bool, None, Some, IsTrue, false, true};
 ghost use Rattle.hz_core.specs.Ternary.{tri_of};
-ghost use Rattle.hz_plane.specs.Bits.{ArePlanes, HasValue};
+ghost use Rattle.hz_plane.specs.Bits.{ArePlanes, HasValue, has_lane};
 ghost use Rattle.hz_plane.specs.EightBits.{byte_has};
 ghost use Rattle.hz_plane.specs.Forward.{IsKnownPair};
 ghost use Rattle.hz_plane.specs.Lanes.{listed_value};
 ghost use Rattle.hz_plane.specs.Loads.{listed_in};
 
-use crate::lanes::{join_lane, put_eight, put_lane};
+use crate::lanes::{join_lane, put_eight, put_lane, put_lanes};
 use crate::pair::{Pair, is_plane, is_zero};
 use std::simd::prelude::*;
 
@@ -67,18 +67,16 @@ impl Listing {
         put_eight(&mut self.ones, eight, bits);
     }
 
-    // Lists the same bit for the node in eight lanes.
-    pub(crate) fn hold_eight(&mut self, eight: u32, bit: bool)
-        requires { eight < 64 }
-        ensures here { (lane : ℕ) → lane / 8 ≡ eight → listed_in self.new lane ≡ Some bit }
-        ensures others { (other : ℕ) → other < 512 → other / 8 ≢ eight
+    // Lists the same bit for the node in each lane of a set.
+    #[inline(always)]
+    pub(crate) fn hold(&mut self, lanes: &[u64; 8], bit: bool)
+        ensures here { (lane : ℕ) → lane < 512 → has_lane lanes.now lane ≡ true
+            → listed_in self.new lane ≡ Some bit }
+        ensures others { (other : ℕ) → other < 512 → has_lane lanes.now other ≡ false
             → listed_in self.new other ≡ listed_in self.old other }
     {
-        if bit {
-            self.list_eight(eight, u8::MAX);
-        } else {
-            self.list_eight(eight, 0);
-        }
+        put_lanes(&mut self.zeros, lanes, !bit);
+        put_lanes(&mut self.ones, lanes, bit);
     }
 
     // The listed value in each lane, and X in the lanes that list none.

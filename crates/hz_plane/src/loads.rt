@@ -1,8 +1,8 @@
 //! What each lane was loaded with.
-ghost use Rattle.std.specs.Prelude.{◌≡◌, ◌≢◌, ◌+◌, ◌*◌, ◌/◌, ◌<◌, ◌≤◌, ◌++◌, ℕ, All, Bool, List, None, Some, IfOk, IsTrue, drop, false, true, length, map, replicate, slice_get, slice_set};
+ghost use Rattle.std.specs.Prelude.{◌≡◌, ◌≢◌, ◌+◌, ◌*◌, ◌/◌, ◌<◌, ◌≤◌, ◌++◌, ℕ, All, Bool, List, None, Some, [], IfOk, IsTrue, drop, false, true, length, map, replicate, slice_get, slice_set};
 ghost use Rattle.std.specs.List.{slice_index_or};
 ghost use Rattle.hz_plane.specs.Bits.{has_lane};
-ghost use Rattle.hz_plane.specs.Loads.{Loaded, block_loads, lane_input, lane_listed, held_at, listed_with, loaded_from};
+ghost use Rattle.hz_plane.specs.Loads.{Loaded, block_loads, held_load, lane_input, lane_listed, held_at, listed_with, loaded_from};
 
 use crate::eights::{set_eight, start_eight};
 use crate::lanes::{has_lane, put_eight, put_lane};
@@ -152,38 +152,48 @@ impl Loads {
         } }
     {
         self.clear();
-        self.load_eights(lanes / 8, bits, held);
-        self.load_rest(8 * (lanes / 8), lanes, bits, held);
+        self.load_eights(lanes / 8, bits);
+        self.load_rest(8 * (lanes / 8), lanes, bits);
+        self.hold(held);
     }
 
-    // Loads the first lanes, eight at once, if no lane is loaded.
-    fn load_eights(&mut self, eights: u32, bits: &[bool], held: &[(u32, bool)])
+    // Lets each loaded lane list the held gates too.
+    fn hold(&mut self, held: &[(u32, bool)])
+        requires { All (λ node. node.0 < self.old.nodes) held.now }
+        ensures { self.new ≡ record self.old {
+          lanes = map (held_load held.now) self.old.lanes;
+        } }
+    {
+        hold_lanes(&self.loaded, held, self.listings.as_mut_slice());
+        self.no_gates = are_none_with(self.no_gates, held);
+    }
+
+    // Loads the first lanes, eight at once, if no lane is loaded. No gate is held.
+    fn load_eights(&mut self, eights: u32, bits: &[bool])
         requires eights { eights ≤ 64 }
         requires inputs { self.old.inputs ≤ self.old.nodes }
         requires bits { 8 * eights * (2 * self.old.inputs) ≤ length bits.now }
-        requires held { All (λ node. node.0 < self.old.nodes) held.now }
         requires none { self.old.lanes ≡ replicate 512 None }
         ensures { self.new ≡ record self.old {
-          lanes = block_loads self.old.nodes self.old.inputs held.now (8 * eights) bits.now;
+          lanes = block_loads self.old.nodes self.old.inputs [] (8 * eights) bits.now;
         } }
     {
         for eight in 0..eights {
-            self.load_eight(eight, bits, held);
+            self.load_eight(eight, bits);
         }
     }
 
-    // Loads eight lanes, none of which is loaded.
-    fn load_eight(&mut self, eight: u32, bits: &[bool], held: &[(u32, bool)])
+    // Loads eight lanes, none of which is loaded. No gate is held.
+    fn load_eight(&mut self, eight: u32, bits: &[bool])
         requires eight { eight < 64 }
         requires inputs { self.old.inputs ≤ self.old.nodes }
         requires bits { 8 * (eight + 1) * (2 * self.old.inputs) ≤ length bits.now }
-        requires held { All (λ node. node.0 < self.old.nodes) held.now }
         requires none { (lane : ℕ) → lane / 8 ≡ eight → slice_get self.old.lanes lane ≡ Some None }
         ensures inputs { self.new.inputs ≡ self.old.inputs }
         ensures nodes { self.new.nodes ≡ self.old.nodes }
         ensures long { length self.new.lanes ≡ 512 }
         ensures here { (lane : ℕ) → lane / 8 ≡ eight → slice_get self.new.lanes lane
-            ≡ Some (Some (loaded_from self.old.nodes self.old.inputs held.now
+            ≡ Some (Some (loaded_from self.old.nodes self.old.inputs []
             (drop (lane * (2 * self.old.inputs)) bits.now))) }
         ensures others { (other : ℕ) → other < 512 → other / 8 ≢ eight
             → slice_get self.new.lanes other ≡ slice_get self.old.lanes other }
@@ -192,34 +202,27 @@ impl Loads {
         let step = 2 * inputs;
         let at = 8 * eight as usize * step;
         set_eight(eight, bits, at + inputs, step, self.inputs.as_mut_slice());
-        start_eight(eight, bits, at, inputs, held, self.listings.as_mut_slice());
+        start_eight(eight, bits, at, inputs, self.listings.as_mut_slice());
         put_eight(&mut self.loaded, eight, u8::MAX);
-        self.no_gates = are_none_with(self.no_gates, held);
     }
 
-    // Loads the lanes that are left, one by one.
-    fn load_rest(&mut self, first: u32, lanes: u32, bits: &[bool], held: &[(u32, bool)])
+    // Loads the lanes that are left, one by one. No gate is held.
+    fn load_rest(&mut self, first: u32, lanes: u32, bits: &[bool])
         requires first { first ≤ lanes }
         requires lanes { lanes ≤ 512 }
         requires inputs { self.old.inputs ≤ self.old.nodes }
         requires bits { length bits.now ≡ lanes * (2 * self.old.inputs) }
-        requires held { All (λ node. node.0 < self.old.nodes) held.now }
         requires so_far { self.old.lanes
-            ≡ block_loads self.old.nodes self.old.inputs held.now first bits.now }
+            ≡ block_loads self.old.nodes self.old.inputs [] first bits.now }
         ensures { self.new ≡ record self.old {
-          lanes = block_loads self.old.nodes self.old.inputs held.now lanes bits.now;
+          lanes = block_loads self.old.nodes self.old.inputs [] lanes bits.now;
         } }
     {
         for lane in first..lanes {
             let inputs = self.inputs.len();
             let at = lane as usize * (2 * inputs);
             let middle = at + inputs;
-            self.load_held(
-                lane,
-                &bits[middle..middle + inputs],
-                &bits[at..middle],
-                held,
-            );
+            self.load_held(lane, &bits[middle..middle + inputs], &bits[at..middle], &[]);
         }
     }
 }
@@ -360,5 +363,18 @@ fn list_held(lane: u32, held: &[(u32, bool)], listings: &mut [Listing])
 {
     for (node, bit) in held {
         listings[*node as usize].put(lane, Some(*bit));
+    }
+}
+
+// Lets each lane of a set list the held gates.
+fn hold_lanes(lanes: &[u64; 8], held: &[(u32, bool)], listings: &mut [Listing])
+    requires held { All (λ node. node.0 < length listings.old) held.now }
+    ensures here { (lane : ℕ) → lane < 512 → has_lane lanes.now lane ≡ true
+        → lane_listed listings.new lane ≡ held_at held.now (lane_listed listings.old lane) }
+    ensures others { (other : ℕ) → other < 512 → has_lane lanes.now other ≡ false
+        → lane_listed listings.new other ≡ lane_listed listings.old other }
+{
+    for (node, bit) in held {
+        listings[*node as usize].hold(lanes, *bit);
     }
 }

@@ -10,3 +10,7 @@ pub mod ClassLemmas
 pub mod OutputLemmas
 -- The digits of a number and of the next one
 pub mod DigitLemmas
+-- Texts of parts: where each part stands, and what a text is once the middle of one is written over
+pub mod PartLemmas
+-- The lines and words that are kept, node by node, and what is written of them
+pub mod KeptLemmas

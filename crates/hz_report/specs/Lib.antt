@@ -16,9 +16,15 @@
 -- summary_text netlist finding: the summary of a change
 -- outputs_line netlist number values, output_values netlist first second: the line of a number, in which each output has two values
 -- LineOf: what contracts see of such a line before its number is known
+-- PlateOf: what contracts see of the lines that are kept from change to change
+-- parts_text stem tail node middles, part_place stem size node: a text of parts, one a node, and where the part of a node begins
+-- AreParts stem tail width count text begins, IsKept netlist kept: such a text whose middles have a fixed length
+-- AreLines lines: whole lines
 
 pub mod Words
 pub mod Report
 pub mod Outputs
 pub mod DigitsInside
 pub mod LineInside
+pub mod Kept
+pub mod Plate

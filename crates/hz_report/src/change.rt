@@ -7,11 +7,9 @@ ghost use Rattle.hz_text.specs.RunPrinted.{spaced_word, run_text_printed};
 ghost use Rattle.hz_desk.specs.Finding.{finding_of};
 ghost use Rattle.hz_report.specs.Report.{change_line, rounds_line, races_line, runs_of_finding, change_text, stopped_text};
 
-use crate::head::write_start;
-use crate::rows::write_rows;
+use crate::plate::Plate;
 use hz_desk::Finding;
 use hz_net::Net;
-use hz_options::Show;
 use hz_outside::Sink;
 use hz_text::{write_assignments, write_bits, write_end, write_run, write_variable, write_version};
 use hz_write::Piece::{Number, Text};
@@ -20,31 +18,32 @@ use hz_write::Writer;
 /// Gives what a change assigns, the rounds of Algorithms A and B, the line of each variable that is shown, the numbers of race
 /// states, and the three runs as a run text.
 ///
-/// Changes are counted from 1. The finding is that of the change.
+/// Changes are counted from 1. The finding is that of the change. The plate shows what it showed.
 #[tactic(auto, using(hz_write::proofs::Writers::writes_then), unfolding(crate::specs::Report::change_text))]
 pub fn write_change<K: Sink>(
     writer: &mut Writer<'_, K>,
-    net: &Net,
+    plate: &mut Plate<'_>,
     number: u32,
     change: &[(u32, bool)],
     finding: &Finding,
-    show: Show,
 )
-    requires change { All (λ pair. pair.0 < length net.now.names) change.now }
-    requires rows { length finding.now.rows ≡ length (network_of net.now) }
-    requires input { length finding.now.input ≡ net.now.inputs }
-    requires spread { All (All (λ var. var < length (network_of net.now))) finding.now.spread.steps }
-    requires settle { All (All (λ var. var < length (network_of net.now))) finding.now.settle.steps }
-    requires cycle { All (All (λ var. var < length (network_of net.now))) finding.now.cycle.steps }
+    requires change { All (λ pair. pair.0 < length plate.old.netlist.names) change.now }
+    requires rows { length finding.now.rows ≡ length (network_of plate.old.netlist) }
+    requires input { length finding.now.input ≡ plate.old.netlist.inputs }
+    requires spread { All (All (λ var. var < length (network_of plate.old.netlist))) finding.now.spread.steps }
+    requires settle { All (All (λ var. var < length (network_of plate.old.netlist))) finding.now.settle.steps }
+    requires cycle { All (All (λ var. var < length (network_of plate.old.netlist))) finding.now.cycle.steps }
     ensures gave { Writes K.output K.faults
-        (change_text net.now show number change.now (finding_of finding.now)) writer.old writer.new }
+        (change_text plate.old.netlist plate.old.show number change.now (finding_of finding.now)) writer.old writer.new }
     ensures none_waits { NoneWaits writer.new }
+    ensures plate { plate.new ≡ plate.old }
 {
+    let net = plate.net();
     write_assigned(writer, net, number, change);
     write_rounds(writer, finding);
-    write_rows(writer, net, &finding.rows, show);
+    plate.write_rows(writer, &finding.rows);
     write_races(writer, finding);
-    write_runs(writer, net, finding);
+    write_runs(writer, plate, finding);
 }
 
 /// Gives what a change assigns that is not made, and the variable that stops it.
@@ -126,18 +125,20 @@ fn write_races<K: Sink>(writer: &mut Writer<'_, K>, finding: &Finding)
 }
 
 // Gives the run text: the start and the new input, the spread run, and the settle run with its cycle.
-fn write_runs<K: Sink>(writer: &mut Writer<'_, K>, net: &Net, finding: &Finding)
-    requires rows { length finding.now.rows ≡ length (network_of net.now) }
-    requires input { length finding.now.input ≡ net.now.inputs }
-    requires spread { All (All (λ var. var < length (network_of net.now))) finding.now.spread.steps }
-    requires settle { All (All (λ var. var < length (network_of net.now))) finding.now.settle.steps }
-    requires cycle { All (All (λ var. var < length (network_of net.now))) finding.now.cycle.steps }
+fn write_runs<K: Sink>(writer: &mut Writer<'_, K>, plate: &mut Plate<'_>, finding: &Finding)
+    requires rows { length finding.now.rows ≡ length (network_of plate.old.netlist) }
+    requires input { length finding.now.input ≡ plate.old.netlist.inputs }
+    requires spread { All (All (λ var. var < length (network_of plate.old.netlist))) finding.now.spread.steps }
+    requires settle { All (All (λ var. var < length (network_of plate.old.netlist))) finding.now.settle.steps }
+    requires cycle { All (All (λ var. var < length (network_of plate.old.netlist))) finding.now.cycle.steps }
     ensures gave { Writes K.output K.faults
-        (run_text_printed net.now (runs_of_finding net.now (finding_of finding.now))) writer.old writer.new }
+        (run_text_printed plate.old.netlist (runs_of_finding plate.old.netlist (finding_of finding.now))) writer.old writer.new }
     ensures none_waits { NoneWaits writer.new }
+    ensures plate { plate.new ≡ plate.old }
 {
+    let net = plate.net();
     write_version(writer, net.circuit());
-    write_start(writer, net, finding.rows.starts());
+    plate.write_start(writer, finding.rows.starts());
     write_bits(writer, net.circuit(), b"input", finding.input.as_slice());
     write_run(writer, net, &finding.spread, None);
     write_run(writer, net, &finding.settle, Some(&finding.cycle));

@@ -1,10 +1,11 @@
 //! The lines that come once.
-ghost use Rattle.std.specs.Prelude.{◌≡◌, ◌<◌, length, All};
+ghost use Rattle.std.specs.Prelude.{◌≡◌, ◌<◌, length, take, All};
 ghost use Rattle.std.specs.List.{flat_map};
 ghost use Rattle.hz_net.specs.Network.{network_of};
 ghost use Rattle.hz_free.specs.FreePart.{IsFreePart};
 ghost use Rattle.hz_write.specs.Writer.{Writes, NoneWaits};
 ghost use Rattle.hz_text.specs.RunPrinted.{spaced_word};
+ghost use Rattle.hz_report.specs.Kept.{AreBitParts, AreBits};
 ghost use Rattle.hz_report.specs.Report.{netlist_line, feedback_line, start_line, head_text};
 
 use hz_free::Free;
@@ -93,4 +94,36 @@ pub(crate) fn write_start<K: Sink>(writer: &mut Writer<'_, K>, net: &Net, start:
     let circuit = net.circuit();
     let nodes = circuit.nodes() as usize;
     write_bits(writer, circuit, b"start", &start[..nodes]);
+}
+
+// Gives the value of each node at the start, by words that are kept.
+pub(crate) fn write_kept_start<K: Sink>(
+    writer: &mut Writer<'_, K>,
+    net: &Net,
+    start: &[bool],
+    text: &mut [u8],
+    begins: &[usize],
+)
+    requires start { length start.now ≡ length (network_of net.now) }
+    requires kept { AreBitParts net.now (length net.now.names) text.old begins.now }
+    ensures gave { Writes K.output K.faults (start_line net.now start.now) writer.old writer.new }
+    ensures none_waits { NoneWaits writer.new }
+    ensures kept { AreBitParts net.now (length net.now.names) text.new begins.now }
+{
+    let nodes = net.circuit().nodes() as usize;
+    set_bits(net, &start[..nodes], text, begins);
+    writer.text(b"start");
+    writer.text(text);
+    writer.end();
+}
+
+// Writes other bits over those of the words of all nodes.
+fn set_bits(net: &Net, bits: &[bool], text: &mut [u8], begins: &[usize])
+    requires bits { length bits.now ≡ length net.now.names }
+    requires kept { AreBitParts net.now (length net.now.names) text.old begins.now }
+    ensures { AreBits net.now bits.now text.new begins.now }
+{
+    for (node, bit) in bits.iter().enumerate() {
+        text[begins[node + 1] - 1] = if *bit { b'1' } else { b'0' };
+    }
 }

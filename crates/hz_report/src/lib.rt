@@ -1,12 +1,14 @@
 //! The text that `analyse` writes: the lines of a circuit with its start, and those of each change; and the summary of one
 //! change, which `demo` writes.
 //!
-//! The lines are given to a [`Writer`](hz_write::Writer). Of the calls here only [`OutputLine::new`] takes memory.
+//! The lines are given to a [`Writer`](hz_write::Writer). Of the calls here only [`OutputLine::new`] and [`Plate::new`] take memory.
 //!
 //! | Module | What lives in it |
 //! |---|---|
 //! | `head` | the lines that come once: the size of the network, its feedback cycles, and the start |
 //! | `change` | the lines of a change: what it assigns, the rounds, the race states and the run text; or where it stops |
+//! | `plate` | [`Plate`]: what the lines of changes are made with, and which of them are kept from one change to the next |
+//! | `kept` | the lines and words of nodes that are kept, as bytes |
 //! | `rows` | the lines of variables: their values, their number of changes and their class |
 //! | `digits` | the digits of a number that is counted up |
 //! | `outputs` | [`OutputLine`]: the line of a number, in which each output has two values |
@@ -16,11 +18,14 @@
 mod change;
 mod digits;
 mod head;
+mod kept;
 mod outputs;
+mod plate;
 mod rows;
 mod summary;
 
 pub use change::{write_change, write_stopped};
 pub use head::write_head;
 pub use outputs::OutputLine;
+pub use plate::Plate;
 pub use summary::write_summary;

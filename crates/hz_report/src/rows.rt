@@ -1,12 +1,15 @@
 //! The lines of variables.
-ghost use Rattle.std.specs.Prelude.{◌≡◌, ◌<◌, ◌∷◌, ◌++◌, length, codes, decimal, IfSome};
+ghost use Rattle.std.specs.Prelude.{◌≡◌, ◌<◌, ◌≤◌, ◌-◌, ◌+◌, ◌∷◌, ◌++◌, length, take, drop, slice_index, slice_range, codes, decimal, IfSome};
 ghost use Rattle.hz_core.specs.Netlist.{IsCircuit};
 ghost use Rattle.hz_net.specs.Network.{network_of};
 ghost use Rattle.hz_text.specs.Printed.{letter_of};
 ghost use Rattle.hz_write.specs.Writer.{Writes, NoneWaits};
+ghost use Rattle.hz_desk.specs.declared.class.Class.TheVariants.{Single, Steady};
+ghost use Rattle.hz_report.specs.Kept.{AreRowParts, AreLines};
 ghost use Rattle.hz_report.specs.Report.{changes_word, class_word, row_line, row_lines, row_text, shown_count, shown_rows};
 ghost use Rattle.hz_report.specs.Words.{tri_letter};
 
+use crate::kept::COMMON;
 use hz_core::Tri;
 use hz_core::Tri::{One, Unknown, Zero};
 use hz_desk::Class::{Single, Steady};
@@ -34,6 +37,95 @@ pub(crate) fn write_rows<K: Sink>(writer: &mut Writer<'_, K>, net: &Net, rows: &
     }
 }
 
+// Gives the line of each node, most of them as lines that are kept, after the common rows are written over them.
+pub(crate) fn write_kept_rows<K: Sink>(
+    writer: &mut Writer<'_, K>,
+    net: &Net,
+    rows: &Rows,
+    text: &mut [u8],
+    begins: &[usize],
+)
+    requires rows { length rows.now ≡ length (network_of net.now) }
+    requires kept { AreRowParts net.now (length net.now.names) text.old begins.now }
+    requires none_waits { NoneWaits writer.old }
+    ensures gave { Writes K.output K.faults
+        (row_lines net.now 0 (take (length net.now.names) rows.now)) writer.old writer.new }
+    ensures none_waits { NoneWaits writer.new }
+    ensures kept { AreRowParts net.now (length net.now.names) text.new begins.now }
+{
+    let count = net.circuit().nodes() as usize;
+    // The first node whose line was not given so far.
+    let mut from = 0;
+    for var in 0..count {
+        let row = rows.row(var);
+        match common_text(row) {
+            Some(common) => set_row(net, text, begins, var, common),
+            None => {
+                write_lines(writer, kept_lines(net, text, begins, from, var));
+                write_rare_row(writer, net, var as u32, row);
+                from = var + 1;
+            }
+        }
+    }
+    write_lines(writer, kept_lines(net, text, begins, from, count));
+}
+
+// Writes a common row over that of a node.
+#[inline(always)]
+fn set_row(net: &Net, text: &mut [u8], begins: &[usize], var: usize, common: &[u8; COMMON])
+    requires kept { AreRowParts net.now (length net.now.names) text.old begins.now }
+    requires var { var < length net.now.names }
+    ensures written { text.new ≡
+        take (slice_index begins.now (var + 1) - 1 - COMMON) text.old
+        ++ (common.now ++ drop (slice_index begins.now (var + 1) - 1) text.old) }
+    ensures long { length common.now ≡ COMMON }
+{
+    set_before(text, begins[var + 1], common);
+}
+
+// Writes a common row before the last byte of the line that ends at a place.
+#[inline(always)]
+fn set_before(text: &mut [u8], end: usize, common: &[u8; COMMON])
+    requires room { COMMON < end }
+    requires within { end ≤ length text.old }
+    ensures { text.new ≡ take (end - 1 - COMMON) text.old ++ (common.now ++ drop (end - 1) text.old) }
+{
+    text[end - 1 - COMMON..end - 1].copy_from_slice(common);
+}
+
+// The lines of the nodes from one up to another.
+fn kept_lines<'t>(net: &Net, text: &'t [u8], begins: &[usize], from: usize, to: usize) -> &'t [u8]
+    requires kept { AreRowParts net.now (length net.now.names) text.now begins.now }
+    requires ordered { from ≤ to }
+    requires within { to ≤ length net.now.names }
+    ensures { result.now ≡ slice_range text.now (slice_index begins.now from) (slice_index begins.now to) }
+{
+    bytes_between(text, begins[from], begins[to])
+}
+
+// The bytes from one place up to another.
+fn bytes_between(text: &[u8], begin: usize, end: usize) -> &[u8]
+    requires ordered { begin ≤ end }
+    requires within { end ≤ length text.now }
+    ensures { result.now ≡ slice_range text.now begin end }
+{
+    &text[begin..end]
+}
+
+// Gives whole lines.
+fn write_lines<K: Sink>(writer: &mut Writer<'_, K>, lines: &[u8])
+    requires lines { AreLines lines.now }
+    requires none_waits { NoneWaits writer.old }
+    ensures gave { Writes K.output K.faults lines.now writer.old writer.new }
+    ensures none_waits { NoneWaits writer.new }
+{
+    if lines.is_empty() {
+        return;
+    }
+    writer.text(&lines[..lines.len() - 1]);
+    writer.end();
+}
+
 // How many variables are shown. The nodes come first.
 fn shown_count(net: &Net, show: Show) -> u32
     ensures shown { result ≡ shown_count net.now show }
@@ -56,31 +148,71 @@ pub(crate) fn write_row<K: Sink>(writer: &mut Writer<'_, K>, net: &Net, var: u32
     writer.end();
 }
 
+// Gives a variable with a row that is not a common one. It is kept apart, so that `write_row` stays in its loop.
+#[inline(never)]
+fn write_rare_row<K: Sink>(writer: &mut Writer<'_, K>, net: &Net, var: u32, row: Row)
+    requires { var < length (network_of net.now) }
+    ensures gave { Writes K.output K.faults (row_line net.now var row) writer.old writer.new }
+    ensures none_waits { NoneWaits writer.new }
+{
+    write_variable(writer, net, var);
+    write_pieces(writer, row);
+    writer.end();
+}
+
 // Gives what stands after the variable of a row. It is one piece for nearly every row, since each piece of a line takes its time,
 // and a report has millions of these lines.
 fn write_row_text<K: Sink>(writer: &mut Writer<'_, K>, row: Row)
     ensures { Writes K.output K.faults (row_text row) writer.old writer.new }
 {
     match common_text(row) {
-        Some(text) => writer.text(text),
+        Some(text) => writer.text(text.as_slice()),
         None => write_pieces(writer, row),
     }
 }
 
 // What stands after the variable of a row as most are: it never changes, or it changes just once.
-fn common_text(row: Row) -> Option<&'static [u8]>
+#[inline(always)]
+fn common_text(row: Row) -> Option<&'static [u8; COMMON]>
     ensures { IfSome result (λ text. text.now ≡ row_text row) }
 {
-    match (row.start, row.a, row.b, row.changes, row.class) {
-        (false, Zero, Zero, Some(Exact(0)), Steady) => Some(b" start 0 A 0 B 0 changes 0 steady"),
-        (true, One, One, Some(Exact(0)), Steady) => Some(b" start 1 A 1 B 1 changes 0 steady"),
-        (false, Unknown, One, Some(Exact(1)), Single) => Some(b" start 0 A X B 1 changes 1 single"),
-        (true, Unknown, Zero, Some(Exact(1)), Single) => Some(b" start 1 A X B 0 changes 1 single"),
+    match row.class {
+        Steady => steady_text(row),
+        Single => single_text(row),
+        _ => None,
+    }
+}
+
+// What stands after the variable of a row that never changes. It has a word without a change, or none.
+#[inline(always)]
+fn steady_text(row: Row) -> Option<&'static [u8; COMMON]>
+    requires { row.class ≡ Steady }
+    ensures { IfSome result (λ text. text.now ≡ row_text row) }
+{
+    match (row.start, row.a, row.b, row.changes) {
+        (false, Zero, Zero, Some(Exact(0))) => Some(b" start 0 A 0 B 0 changes 0 steady"),
+        (true, One, One, Some(Exact(0))) => Some(b" start 1 A 1 B 1 changes 0 steady"),
+        (false, Zero, Zero, None) => Some(b" start 0 A 0 B 0 changes - steady"),
+        (true, One, One, None) => Some(b" start 1 A 1 B 1 changes - steady"),
+        _ => None,
+    }
+}
+
+// What stands after the variable of a row that changes just once.
+#[inline(always)]
+fn single_text(row: Row) -> Option<&'static [u8; COMMON]>
+    requires { row.class ≡ Single }
+    ensures { IfSome result (λ text. text.now ≡ row_text row) }
+{
+    match (row.start, row.a, row.b, row.changes) {
+        (false, Unknown, One, Some(Exact(1))) => Some(b" start 0 A X B 1 changes 1 single"),
+        (true, Unknown, Zero, Some(Exact(1))) => Some(b" start 1 A X B 0 changes 1 single"),
         _ => None,
     }
 }
 
 // Gives what stands after the variable of a row, piece by piece.
+#[inline(always)]
 fn write_pieces<K: Sink>(writer: &mut Writer<'_, K>, row: Row)
     ensures { Writes K.output K.faults (row_text row) writer.old writer.new }
 {

@@ -1,4 +1,5 @@
-use Rattle.std.proofs.Common.{refl}
+use Rattle.std.proofs.Common.{◌≡◌, refl, ap}
+use Rattle.hz_report.specs.Plate.{PlateOf}
 use Rattle.hz_refusal.specs.declared.status.Status.TheVariants as status
 use Rattle.hz_changes.specs.Reports.{Reports}
 use Rattle.hz_refusal.proofs.PutEndings.{Ends-put}
@@ -6,6 +7,7 @@ use Rattle.hz_changes.proofs.reporting.report.Goals as goal
 
 pub returns : goal.returns
 returns g c =
-    let made = c.write_report-written.ensures in
+    let same : c.in-Ok-new-2.plate.netlist ≡ c.args.net.now = ap (λ (plate : PlateOf). plate.netlist) c.in-Ok-new-2.ensures in
+    let made = rw same at c.write_report-written.ensures in
     Ends-put g.K.Sink.output g.K.Sink.faults (Reports c.args.options c.args.net.now c.args.start.now c.args.script.now.changes)
     c.args.out.now c.write_report-written.new.out status.Done made.0 c.write_report-written.result c.status_after.result tt (refl, made.1) made.2 c.status_after.ensures

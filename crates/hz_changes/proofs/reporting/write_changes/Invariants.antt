@@ -10,8 +10,9 @@ use Rattle.hz_changes.proofs.reporting.write_changes.Given as goal
 abbrev pub invariant-loop-number : goal.invariant-loop-number
 invariant-loop-number g l =
     (analyses : List Analysis)
-    × AreFirstAnalyses l.net l.options.cap l.fn.sequence.start (take l.number l.script.changes) analyses l.sequence
+    × AreFirstAnalyses l.fn.plate.netlist l.cap l.fn.sequence.start (take l.number l.script.changes) analyses l.sequence
     × (length analyses ≡ length (take l.number l.script.changes))
-    × IsStopInside l.net l.sequence.stopped
-    × Writes g.K.Sink.output g.K.Sink.faults (analyses_text l.net l.options.show 1 (take l.number l.script.changes) analyses) l.fn.writer l.writer
+    × IsStopInside l.fn.plate.netlist l.sequence.stopped
+    × Writes g.K.Sink.output g.K.Sink.faults (analyses_text l.fn.plate.netlist l.fn.plate.show 1 (take l.number l.script.changes) analyses) l.fn.writer l.writer
     × (NoneWaits l.fn.writer → NoneWaits l.writer)
+    × (l.plate ≡ l.fn.plate)

@@ -13,14 +13,14 @@ use Rattle.hz_changes.proofs.reporting.write_report.Goals as goal
 
 pub returns : goal.returns
 returns g c =
-    let netlist = c.args.net.now in
+    let netlist = c.args.plate.now.netlist in
     let changes = c.args.script.now.changes in
     let made = c.write_changes.ensures.gave in
     let cycles = c.free.result.now.cycles in
     let same : c.desk.result.now.netlist ≡ netlist = ap (λ (desk : DeskOf). desk.netlist) c.desk.ensures ∙ c.requires.net in
     let are : AreAnalyses netlist c.args.options.cap c.args.start.now changes made.0 =
     subst (λ (start : List Bool). AreAnalyses netlist c.args.options.cap start changes made.0) c.requires.begins made.1 in
-    let lines = writes_then c.write_head.ensures.gave made.2 refl in
+    let lines = rw c.requires.show at (writes_then (rw c.net.ensures at c.write_head.ensures.gave) made.2 refl) in
     let wrote = wrote_whole _ _ _ _ _ _ _ _ c.new-writer.ensures.begins lines c.finish.ensures in (
       head_text netlist cycles c.args.start.now ++ analyses_text netlist c.args.options.show 1 changes made.0,
       record {

@@ -1,5 +1,5 @@
-use Rattle.std.proofs.Common.{◌≡◌, ◌≢◌, ◌<◌, ◌≤◌, ◌+◌, ◌*◌, ◌/◌, ◌%◌, ◌++◌, ◌∙◌, ℕ, Bool, Option, List, Some, None, false, true, length, get_or, take, drop, replicate, slice_get, sym, ap, subst, arith, rules}
-use Rattle.std.proofs.lemmas.List.{nil_from_length, length-take}
+use Rattle.std.proofs.Common.{◌≡◌, ◌≢◌, ◌<◌, ◌≤◌, ◌+◌, ◌*◌, ◌/◌, ◌%◌, ◌++◌, ◌∙◌, ℕ, Bool, Option, List, Some, None, [], false, true, refl, length, get_or, take, drop, replicate, slice_get, sym, ap, subst, arith, rules}
+use Rattle.std.proofs.lemmas.List.{length-take}
 use Rattle.hz_plane.specs.declared.listing.Listing.{Listing}
 use Rattle.hz_plane.specs.Bits.{has_lane}
 use Rattle.hz_plane.specs.Loads.{LaneLoads, lane_input, lane_listed, lane_loads, listed_with, loaded_from}
@@ -39,7 +39,6 @@ invariant_of-self c =
           (fresh-eight fields.loaded c.put_eight.new.set fields.inputs.items inputs fields.listings.items listings c.args.eight c.requires.eight loaded c.put_eight.ensures.others other_inputs others_listed
           (length fields.listings.items) c.self.invariant.fresh));
       no_gates = λ none other gate below past within.
-          let before = c.are_none_with-self-inside.ensures none in
           let beyond : length fields.inputs.items ≤ gate = omega (arith, past, ap (length {A = List ℕ}) inputs_are, input_long) in
           let inside : gate < length fields.listings.items = omega (arith, within, ap (length {A = Listing}) are, long) in
           ap (λ (all : List Listing). get_or (lane_listed all other) gate None) are
@@ -47,8 +46,8 @@ invariant_of-self c =
           gate (λ lane same.
           let first = take c.len-inputs.result (drop (8 * c.args.eight * (2 * c.len-inputs.result) + (lane % 8) * (2 * c.len-inputs.result)) c.args.bits.now) in
           ap (λ (list : List (Option Bool)). get_or list gate None) (c.start_eight.ensures.here lane same)
-          ∙ held-none (length c.as_mut_slice-2.result.now) first c.args.held.now gate (nil_from_length c.args.held.now before.1) (omega (arith, beyond, length-take c.len-inputs.result (drop (8 * c.args.eight * (2 * c.len-inputs.result) + (lane % 8) * (2 * c.len-inputs.result)) c.args.bits.now), c.len-inputs.ensures)) (omega (arith, inside, ap (length {A = Listing}) c.as_mut_slice-2.ensures.value)))
-          (λ one few. c.self.invariant.no_gates before.0 one gate few beyond inside) other below;
+          ∙ held-none (length c.as_mut_slice-2.result.now) first [] gate refl (omega (arith, beyond, length-take c.len-inputs.result (drop (8 * c.args.eight * (2 * c.len-inputs.result) + (lane % 8) * (2 * c.len-inputs.result)) c.args.bits.now), c.len-inputs.ensures)) (omega (arith, inside, ap (length {A = Listing}) c.as_mut_slice-2.ensures.value)))
+          (λ one few. c.self.invariant.no_gates none one gate few beyond inside) other below;
     }
 
 pub returns-clause-here : goal.returns-clause-here
@@ -74,14 +73,14 @@ returns-clause-here c lane same =
     let long : length inputs ≡ n = c.set_eight.auto.sets ∙ (ap (length {A = List ℕ}) c.as_mut_slice.ensures.value ∙ sym size) in
     let room : 8 * (c.args.eight + 1) * (2 * n) ≤ length bits = subst (λ (k : ℕ). 8 * (c.args.eight + 1) * (2 * k) ≤ length bits) (ap (λ (s : LaneLoads). s.inputs) (sym c.self.view_is) ∙ sym size) c.requires.bits in
     let input : lane_input inputs lane ≡ take n (drop n (drop (lane * (2 * n)) bits)) = eight-input inputs c.args.eight lane n bits long same room (λ i inside. c.set_eight.ensures.here i lane (omega (arith, inside, long, c.set_eight.auto.sets)) same) in
-    let listed : lane_listed listings lane ≡ listed_with (length fields.listings.items) (take n (drop (lane * (2 * n)) bits)) c.args.held.now =
-    c.start_eight.ensures.here lane same ∙ (ap (λ (k : ℕ). listed_with (length c.as_mut_slice-2.result.now) (take n (drop k bits)) c.args.held.now) begins
-    ∙ ap (λ (k : ℕ). listed_with k (take n (drop (lane * (2 * n)) bits)) c.args.held.now) (ap (length {A = Listing}) c.as_mut_slice-2.ensures.value)) in
+    let listed : lane_listed listings lane ≡ listed_with (length fields.listings.items) (take n (drop (lane * (2 * n)) bits)) [] =
+    c.start_eight.ensures.here lane same ∙ (ap (λ (k : ℕ). listed_with (length c.as_mut_slice-2.result.now) (take n (drop k bits)) []) begins
+    ∙ ap (λ (k : ℕ). listed_with k (take n (drop (lane * (2 * n)) bits)) []) (ap (length {A = Listing}) c.as_mut_slice-2.ensures.value)) in
     ap (λ (sets : List (List ℕ)). slice_get (lane_loads c.put_eight.new.set sets (take fields.listings.len (listings ++ drop (length listings) fields.listings.items))) lane) inputs_are
     ∙ (ap (λ (all : List Listing). slice_get (lane_loads c.put_eight.new.set inputs all) lane) are
     ∙ (eight-loaded fields.loaded c.put_eight.new.set fields.inputs.items inputs fields.listings.items listings c.args.eight c.requires.eight loaded c.put_eight.ensures.others other_inputs others_listed lane _ _ same input listed
-    ∙ (ap (λ (k : ℕ). Some (Some (loaded_from (length fields.listings.items) k c.args.held.now (drop (lane * (2 * k)) bits)))) size
-    ∙ ap (λ (s : LaneLoads). Some (Some (loaded_from s.nodes s.inputs c.args.held.now (drop (lane * (2 * s.inputs)) bits)))) c.self.view_is)))
+    ∙ (ap (λ (k : ℕ). Some (Some (loaded_from (length fields.listings.items) k [] (drop (lane * (2 * k)) bits)))) size
+    ∙ ap (λ (s : LaneLoads). Some (Some (loaded_from s.nodes s.inputs [] (drop (lane * (2 * s.inputs)) bits)))) c.self.view_is)))
 
 pub returns-clause-others : goal.returns-clause-others
 returns-clause-others c other below differ =

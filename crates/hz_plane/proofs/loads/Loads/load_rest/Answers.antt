@@ -1,4 +1,4 @@
-use Rattle.std.proofs.Common.{◌≡◌, ◌+◌, ◌-◌, ◌*◌, ◌∙◌, ℕ, Bool, Some, List, Option, length, set, take, drop, ap, sym, arith, rules}
+use Rattle.std.proofs.Common.{◌≡◌, ◌+◌, ◌-◌, ◌*◌, ◌∙◌, ℕ, Bool, Some, [], List, Option, length, set, take, drop, ap, sym, arith, rules}
 use Rattle.std.proofs.lemmas.List.{drop-drop}
 use Rattle.hz_plane.specs.Loads.{Loaded, LaneLoads, block_loads, listed_with, loaded_from}
 use Rattle.hz_plane.proofs.BlockLoads.{block-next}
@@ -10,18 +10,17 @@ loop-lane-preserved c =
     let before = c.loop-lane.self in
     let lane = c.loop-lane.lane in
     let bits = c.args.bits.now in
-    let held = c.args.held.now in
     let n = c.len-inputs.result in
     let at = lane * (2 * n) in
     let items : n ≡ length c.self.inside.inputs.items = search (rules, c.len-inputs.ensures) in
     let size : n ≡ was.inputs = items ∙ (ap (λ (s : LaneLoads). s.inputs) c.self.view_is ∙ ap (λ (s : LaneLoads). s.inputs) c.loop-lane.invariant) in
     let first : at + n - at ≡ n = omega arith in
     let second : at + n + n - (at + n) ≡ n = omega arith in
-    let load : Loaded → LaneLoads = λ (l : Loaded). record was { lanes = set (block_loads was.nodes was.inputs held lane bits) lane (Some l) } in
+    let load : Loaded → LaneLoads = λ (l : Loaded). record was { lanes = set (block_loads was.nodes was.inputs [] lane bits) lane (Some l) } in
     c.load_held.ensures
-    ∙ (ap (λ (s : LaneLoads). record s { lanes = set s.lanes lane (Some (record { input = take (at + n + n - (at + n)) (drop (at + n) bits); listed = listed_with s.nodes (take (at + n - at) (drop at bits)) held })) }) c.loop-lane.invariant
-    ∙ (ap (λ (k : ℕ). load (record { input = take k (drop (at + n) bits); listed = listed_with was.nodes (take (at + n - at) (drop at bits)) held })) second
-    ∙ (ap (λ (k : ℕ). load (record { input = take n (drop (at + n) bits); listed = listed_with was.nodes (take k (drop at bits)) held })) first
-    ∙ (ap (λ (list : List Bool). load (record { input = take n list; listed = listed_with was.nodes (take n (drop at bits)) held })) (sym (drop-drop n at bits))
-    ∙ (ap (λ (k : ℕ). load (loaded_from was.nodes k held (drop (lane * (2 * k)) bits))) size
-    ∙ ap (λ (lanes : List (Option Loaded)). record was { lanes = lanes }) (block-next was.nodes was.inputs held lane bits (omega (arith, c.loop-lane-test.true, c.requires.lanes))))))))
+    ∙ (ap (λ (s : LaneLoads). record s { lanes = set s.lanes lane (Some (record { input = take (at + n + n - (at + n)) (drop (at + n) bits); listed = listed_with s.nodes (take (at + n - at) (drop at bits)) [] })) }) c.loop-lane.invariant
+    ∙ (ap (λ (k : ℕ). load (record { input = take k (drop (at + n) bits); listed = listed_with was.nodes (take (at + n - at) (drop at bits)) [] })) second
+    ∙ (ap (λ (k : ℕ). load (record { input = take n (drop (at + n) bits); listed = listed_with was.nodes (take k (drop at bits)) [] })) first
+    ∙ (ap (λ (list : List Bool). load (record { input = take n list; listed = listed_with was.nodes (take n (drop at bits)) [] })) (sym (drop-drop n at bits))
+    ∙ (ap (λ (k : ℕ). load (loaded_from was.nodes k [] (drop (lane * (2 * k)) bits))) size
+    ∙ ap (λ (lanes : List (Option Loaded)). record was { lanes = lanes }) (block-next was.nodes was.inputs [] lane bits (omega (arith, c.loop-lane-test.true, c.requires.lanes))))))))

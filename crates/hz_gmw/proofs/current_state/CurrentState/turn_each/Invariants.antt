@@ -1,7 +1,7 @@
 use Rattle.std.proofs.Common.{◌≡◌, ◌<◌, ℕ}
 use Rattle.hz_net.specs.Network.{bit_at}
 use Rattle.hz_gmw.specs.CurrentState.{IsExact}
-use Rattle.hz_gmw.proofs.current_state.CurrentState.turn_to.Given as goal
+use Rattle.hz_gmw.proofs.current_state.CurrentState.turn_each.Given as goal
 
 -- the variables so far have their given values
 abbrev pub invariant-loop-var : goal.invariant-loop-var

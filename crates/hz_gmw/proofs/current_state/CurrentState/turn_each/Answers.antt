@@ -1,6 +1,6 @@
 use Rattle.std.proofs.Common.{◌∙◌, sym, arith}
 use Rattle.hz_gmw.proofs.CurrentStateLemmas.{all-below}
-use Rattle.hz_gmw.proofs.current_state.CurrentState.turn_to.Goals as goal
+use Rattle.hz_gmw.proofs.current_state.CurrentState.turn_each.Goals as goal
 
 pub returns-clause-state : goal.returns-clause-state
 returns-clause-state c =
