@@ -1,0 +1,19 @@
+//! The tests of the analysis of a change. What they test stands in tables of texts: what is read and found is
+//! compared as one text. What a whole job prints stands in `tests/run`.
+//!
+//! | Module | What is tested in it |
+//! |---|---|
+//! | `gates` | the tables of the gates, and the canonical pattern |
+//! | `passes` | Algorithms A and B, and the runs that show what they find |
+//! | `replays` | what a replayer knows of each state of a run |
+//! | `words` | feedback cycles, and the words of the other variables |
+#![tactic(auto)]
+
+#[cfg(test)]
+mod gates;
+#[cfg(test)]
+mod passes;
+#[cfg(test)]
+mod replays;
+#[cfg(test)]
+mod words;

@@ -1,5 +1,0 @@
-use Rattle.hz_tests.proofs.passes.found_from.Given as goal
-
--- the ledger that the blank stands for
-abbrev pub ghosts-make_passes : goal.ghosts-make_passes
-ghosts-make_passes a = record { name = a.ledger.name; parts = a.ledger.parts }

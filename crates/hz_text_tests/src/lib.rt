@@ -1,0 +1,22 @@
+//! The tests of what reads and writes texts, of files and of outputs. What they test stands in tables of texts: what is read and found is
+//! compared as one text. What a whole job prints stands in `tests/run`.
+//!
+//! | Module | What is tested in it |
+//! |---|---|
+//! | `netlists` | circuits that are read and printed, and generated ones |
+//! | `texts` | scripts, patterns and run texts that are read and printed |
+//! | `lines` | how many puts a line takes |
+//! | `outputs` | standard output, gathered output, and files and sinks in memory |
+//! | `dumps` | the first wrong words of value change dumps |
+#![tactic(auto)]
+
+#[cfg(test)]
+mod dumps;
+#[cfg(test)]
+mod lines;
+#[cfg(test)]
+mod netlists;
+#[cfg(test)]
+mod outputs;
+#[cfg(test)]
+mod texts;
