@@ -83,8 +83,9 @@ fn tell_unwritten(rt: &HostRuntime) {
 
 // Whether standard output is a pipe.
 fn is_piped(rt: &HostRuntime) -> bool {
-    fs::read_link(rt, "/proc/self/fd/1")
-        .is_ok_and(|target| target.to_str().is_some_and(|name| name.starts_with("pipe:")))
+    fs::read_link(rt, "/proc/self/fd/1").is_ok_and(|target| target
+        .to_str()
+        .is_some_and(|name| name.starts_with("pipe:")))
 }
 
 fn tell_usage(rt: &HostRuntime) {
