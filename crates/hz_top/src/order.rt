@@ -1,5 +1,5 @@
 //! The order of work on two files: the first file, its netlist, the second file, and then what the task does with its text.
-ghost use Rattle.std.specs.Prelude.{◌≤◌, length, Some};
+ghost use Rattle.std.specs.Prelude.{◌≤◌, Some, vec_len};
 ghost use Rattle.hz_outside.specs.declared.fault.Place.TheVariants.{First, Second};
 ghost use Rattle.hz_options.specs.Numbers.{IsCap};
 ghost use Rattle.hz_refusal.specs.Ends.{Ends};
@@ -75,7 +75,7 @@ fn work_on_second<F: Files, K: Sink>(
         (IsSecondFileOutcome (observation_of F.held F.faults F.longs files.old files.new) (comes_of options task net.now) second.now) out.old out.new result }
 {
     match files.load(alloc, Place::Second, second, MAX_TEXT) {
-        Ok(text) => work_on_text(alloc, net, task, options, text.as_slice(), out),
+        Ok(text) => work_on_text(alloc, net, task, options, text, out),
         Err(fault) => refuse_load(out, Place::Second, fault),
     }
 }
@@ -86,19 +86,19 @@ fn work_on_text<K: Sink>(
     net: &Net,
     task: Task,
     options: Options,
-    text: &[u8],
+    text: Vec<u8>,
     out: &mut K,
 ) -> Status
     requires cap { IsCap options.cap }
-    requires text { length text.now ≤ most_text_bytes }
-    ensures { Ends K.output K.faults (comes_of options task net.now text.now) out.old out.new result }
+    requires text { vec_len text ≤ most_text_bytes }
+    ensures { Ends K.output K.faults (comes_of options task net.now text.items) out.old out.new result }
 {
     match task {
-        Task::Analyse => on_script(alloc, &Analyses { options }, net, text, out),
-        Task::Split => on_script(alloc, &Splits { options }, net, text, out),
-        Task::Replay => on_runs(alloc, &Replays, net, text, out),
-        Task::Convert => on_runs(alloc, &Converts, net, text, out),
-        Task::Vcd => on_runs(alloc, &Dumps, net, text, out),
+        Task::Analyse => on_script(alloc, &Analyses { options }, net, text.as_slice(), out),
+        Task::Split => on_script(alloc, &Splits { options }, net, text.as_slice(), out),
+        Task::Replay => on_runs(alloc, &Replays, net, text.as_slice(), out),
+        Task::Convert => on_runs(alloc, &Converts, net, text.as_slice(), out),
+        Task::Vcd => on_runs(alloc, &Dumps, net, text.as_slice(), out),
         Task::Batch => on_patterns(alloc, &Batches, net, text, out),
         Task::Reset => on_patterns(alloc, &Resets, net, text, out),
     }

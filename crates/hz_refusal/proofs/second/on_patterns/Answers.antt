@@ -11,15 +11,15 @@ use Rattle.hz_refusal.proofs.second.on_patterns.Goals as goal
 pub returns-in-Ok : goal.returns-in-Ok
 returns-in-Ok g c =
     let judges = g.J.OnPatterns.judges c.args.job.now in
-    Ends-more g.K.Sink.output g.K.Sink.faults (judges c.args.net.now c.in-Ok.patterns) (OfPatterns judges c.args.net.now c.args.text.now) c.args.out.now c.with_patterns.new.out c.with_patterns.result
+    Ends-more g.K.Sink.output g.K.Sink.faults (judges c.args.net.now c.in-Ok.patterns) (OfPatterns judges c.args.net.now c.args.text.items) c.args.out.now c.with_patterns.new.out c.with_patterns.result
     (λ own text says. inr (c.in-Ok.patterns, rw c.circuit-circuit.ensures.same at c.in-Ok.ensures.faultless, rw c.circuit-circuit.ensures.same at c.in-Ok.ensures.value, says)) c.with_patterns.ensures
 
 pub refuse_text-requires : goal.refuse_text-requires
 refuse_text-requires g c =
-    patterns-node c.circuit-circuit.result.now c.args.text.now c.in-Err.fault c.in-Err.ensures.fault
+    patterns-node c.circuit-circuit.result.now c.args.text.items c.in-Err.fault c.in-Err.ensures.fault
 
 pub returns-in-Err : goal.returns-in-Err
 returns-in-Err g c =
     let judges = g.J.OnPatterns.judges c.args.job.now in
-    Ends-more g.K.Sink.output g.K.Sink.faults (TextPrints (codes "patterns") c.args.net.now c.in-Err.fault) (OfPatterns judges c.args.net.now c.args.text.now) c.args.out.now c.refuse_text.new.out c.refuse_text.result
-    (λ own text says. inl (c.in-Err.fault, text-refused (HasPatternFault c.args.net.now c.args.text.now) c.in-Err.fault (rw c.circuit-circuit.ensures.same at c.in-Err.ensures.fault) says.0, says.1)) (rw c.circuit-circuit.ensures.same at c.refuse_text.ensures)
+    Ends-more g.K.Sink.output g.K.Sink.faults (TextPrints (codes "patterns") c.args.net.now c.in-Err.fault) (OfPatterns judges c.args.net.now c.args.text.items) c.args.out.now c.refuse_text.new.out c.refuse_text.result
+    (λ own text says. inl (c.in-Err.fault, text-refused (HasPatternFault c.args.net.now c.args.text.items) c.in-Err.fault (rw c.circuit-circuit.ensures.same at c.in-Err.ensures.fault) says.0, says.1)) (rw c.circuit-circuit.ensures.same at c.refuse_text.ensures)

@@ -1,4 +1,4 @@
-use Rattle.std.proofs.Common.{inl, inr, ap, ◌∙◌, Err}
+use Rattle.std.proofs.Common.{inl, inr, ap, ◌∙◌, Err, arith}
 use Rattle.hz_outside.specs.declared.fault.Place.TheVariants.{Second}
 use Rattle.hz_top.specs.Outcome.{IsSecondFileOutcome, observation_of}
 use Rattle.hz_top.specs.Tasks.{comes_of}
@@ -11,11 +11,11 @@ pub returns-in-Ok : goal.returns-in-Ok
 returns-in-Ok g c =
     let told = observation_of g.F.Files.held g.F.Files.faults g.F.Files.longs c.args.files.now c.load.new.self in
     let comes = comes_of c.args.options c.args.task c.args.net.now in
-    Ends-more g.K.Sink.output g.K.Sink.faults (comes c.as_slice.result.now) (IsSecondFileOutcome told comes c.args.second.now)
+    Ends-more g.K.Sink.output g.K.Sink.faults (comes c.in-Ok.text.items) (IsSecondFileOutcome told comes c.args.second.now)
     c.args.out.now c.work_on_text.new.out c.work_on_text.result
     (λ own text says. inr (
-      c.as_slice.result.now,
-      (rw c.as_slice.ensures.value c.in-Ok.ensures.bytes, rw c.as_slice.ensures.len c.in-Ok.ensures.short),
+      c.in-Ok.text.items,
+      (c.in-Ok.ensures.bytes, omega (arith, c.in-Ok.text.ok, c.in-Ok.ensures.short)),
       says,
     )) c.work_on_text.ensures
 
