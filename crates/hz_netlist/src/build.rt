@@ -1,6 +1,6 @@
 // The steps of building a circuit that every format takes.
 
-ghost use Rattle.std.specs.Prelude.{◌≡◌, ◌<◌, All, IfOk, OnOk, fold, length, map, true};
+ghost use Rattle.std.specs.Prelude.{◌≡◌, ◌<◌, ℕ, All, IfOk, OnErr, OnOk, fold, length, map, take, true};
 ghost use Rattle.std.specs.List.{slice_set};
 ghost use Rattle.hz_core.specs.Netlist.{data_of, with_output};
 ghost use Rattle.hz_netlist.specs.Build.{with_data_output, with_data_outputs, with_pin_from, AreAdmissibleSteps, AreMarked, HasNode, MayAddPinFrom};
@@ -13,7 +13,9 @@ use std::alloc::Global;
 pub fn connect_gate(circuit: &mut Circuit, gate: u32, sources: &[u32]) -> Result<(), Memory>
     requires { AreAdmissibleSteps (MayAddPinFrom gate)
         (with_pin_from gate) circuit.old sources.now }
-    ensures { OnOk result (circuit.new ≡ fold (with_pin_from gate) circuit.old sources.now) }
+    ensures ok { OnOk result (circuit.new ≡ fold (with_pin_from gate) circuit.old sources.now) }
+    ensures err { OnErr result ((done : ℕ) × (circuit.new
+        ≡ fold (with_pin_from gate) circuit.old (take done sources.now))) }
 {
     for source in sources {
         match circuit.connect(gate, *source) {

@@ -184,6 +184,7 @@ impl<'a> NameTable<'a> {
         ensures names { OnOk result (self.new ≡ with_definition self.old name.now line) }
         ensures number { IfOk result (λ one. place_in self.new name.now ≡ Some one.number) }
         ensures first { IfOk result (λ one. one.first ≡ definer_in self.old name.now) }
+        ensures err { OnErr result (self.new ≡ self.old) }
     {
         let number = self.sight(name)?;
         let first = self.define(number, line);
@@ -194,6 +195,7 @@ impl<'a> NameTable<'a> {
     pub fn use_name(&mut self, name: &'a [u8], line: u32) -> Result<u32, Memory>
         ensures names { OnOk result (self.new ≡ with_use self.old name.now line) }
         ensures number { IfOk result (λ number. place_in self.new name.now ≡ Some number) }
+        ensures err { OnErr result (self.new ≡ self.old) }
     {
         let number = self.sight(name)?;
         self.note_use(number, line);
