@@ -8,6 +8,8 @@ import re
 import shutil
 import subprocess
 
+from calls import write
+
 HERE = os.path.dirname(os.path.abspath(__file__))
 ROOT = os.path.dirname(HERE)
 USING = "docs/USING.md"
@@ -40,11 +42,6 @@ LEFT = {"controller.blif": ".names", "controller.bench": "INPUT(s)", "top.bench"
 # changes of which some settle, one is static, and the last but one is stopped
 CHANGES = "start r=1 s=0\nchange r=0\nchange s=1\nchange s=0\nchange s=1 r=1\nchange s=0 r=0\nchange r=1\n"
 LATCH = "INPUT(r)\nINPUT(s)\nend = NOR(r, runs)\nruns = NOR(s, end)\n"
-
-
-def write(folder, name, text):
-    with open(os.path.join(folder, name), "w", encoding="utf-8") as file:
-        file.write(text)
 
 
 def read(folder, name):
