@@ -9,7 +9,7 @@ ghost use Rattle.hz_pass.specs.Changes.{differing_count};
 
 use crate::front::Front;
 use crate::round::Rule;
-use crate::rounds::make_rounds;
+use crate::rounds::Pass;
 use hz_core::Tri;
 use hz_net::Net;
 use hz_outside::Steps;
@@ -48,17 +48,13 @@ pub fn spread<L: Ledger>(
 {
     let variables = net.len();
     write_bits(start, out);
-    make_rounds(
-        Rule::Join,
+    let pass = Pass {
+        rule: Rule::Join,
         net,
-        variables,
         input,
-        out,
-        rank,
-        work,
-        front,
-        steps,
-    )
+        first: variables,
+    };
+    pass.make_rounds(out, rank, work, front, steps)
 }
 
 /// Algorithm A from a start that is stable under its own inputs. The first round changes inputs alone, so it evaluates no
@@ -90,17 +86,13 @@ pub fn spread_stable<L: Ledger>(
     let _variables = net.len();
     let inputs = net.circuit().inputs();
     write_bits(start, out);
-    make_rounds(
-        Rule::Join,
+    let pass = Pass {
+        rule: Rule::Join,
         net,
-        inputs,
         input,
-        out,
-        rank,
-        work,
-        front,
-        steps,
-    )
+        first: inputs,
+    };
+    pass.make_rounds(out, rank, work, front, steps)
 }
 
 /// Algorithm A from any ternary state, as from an unknown start: `state` has it, and gets the result, as in `settle`. No
@@ -130,17 +122,13 @@ pub fn spread_from<L: Ledger>(
     ensures most_steps { steps.new ≤ steps.old + (length (network_of net.now) + 2 * length (wires_of net.now)) }
 {
     let count = net.len();
-    make_rounds(
-        Rule::Join,
+    let pass = Pass {
+        rule: Rule::Join,
         net,
-        count,
         input,
-        state,
-        rank,
-        work,
-        front,
-        steps,
-    )
+        first: count,
+    };
+    pass.make_rounds(state, rank, work, front, steps)
 }
 
 // Writes the values of known bits.

@@ -7,7 +7,7 @@ ghost use Rattle.hz_pass.specs.Changes.{differing_count};
 
 use crate::front::Front;
 use crate::round::Rule;
-use crate::rounds::make_rounds;
+use crate::rounds::Pass;
 use hz_core::Tri;
 use hz_net::Net;
 use hz_outside::Steps;
@@ -46,15 +46,11 @@ pub fn settle<L: Ledger>(
     ensures most_steps { steps.new ≤ steps.old + (length (network_of net.now) + 2 * length (wires_of net.now)) }
 {
     let variables = net.len();
-    make_rounds(
-        Rule::Replace,
+    let pass = Pass {
+        rule: Rule::Replace,
         net,
-        variables,
         input,
-        state,
-        when,
-        work,
-        front,
-        steps,
-    )
+        first: variables,
+    };
+    pass.make_rounds(state, when, work, front, steps)
 }

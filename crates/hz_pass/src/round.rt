@@ -1,8 +1,9 @@
 //! One round of a pass, which evaluates some of the variables.
-ghost use Rattle.std.specs.Prelude.{◌≡◌, ◌+◌, ◌<◌, ◌≤◌, ℕ, [], length, not, fold, slice_set, sum_by, vec_capacity, All};
+ghost use Rattle.std.specs.Prelude.{◌≡◌, ◌+◌, ◌<◌, ◌≤◌, [], length, not, fold, slice_set, sum_by, vec_capacity, All};
 ghost use Rattle.hz_core.specs.Netlist.{IsCircuit};
 ghost use Rattle.hz_net.specs.Network.{network_of};
-ghost use Rattle.hz_pass.specs.Frontier.{next_value, is_open, Falls, IsMade, IsQuiet, IsRoundSoFar, IsRound, reader_count, with_values_of};
+ghost use Rattle.hz_pass.specs.Frontier.{next_value, is_open, reader_count, with_values_of};
+ghost use Rattle.hz_pass.specs.InRound.{CanBeMade, IsMadeIn, IsQuietIn, KeepsMade, LeavesFrom, Makes, MakesSoFar};
 
 use hz_core::Tri;
 use hz_net::Net;
@@ -58,15 +59,13 @@ impl Round<'_> {
         changed: &mut Vec<u32>,
         steps: &mut Steps<L>,
     )
-        requires input { length self.now.input.now ≡ self.now.net.now.inputs }
-        requires state { length self.now.state.now ≡ length (network_of self.now.net.now) }
+        requires round { CanBeMade self.now }
         requires count { count ≤ length (network_of self.now.net.now) }
-        requires rest { (i : ℕ) → count ≤ i → i < length (network_of self.now.net.now) → IsMade self.now.rule (network_of self.now.net.now) self.now.input.now self.now.state.now self.now.state.now i }
-        requires falls { Falls self.now.rule (network_of self.now.net.now) self.now.input.now self.now.state.now }
+        requires rest { LeavesFrom count self.now }
         requires next { next.old ≡ self.now.state.now }
         requires none { changed.old.items ≡ [] }
         requires room { length (network_of self.now.net.now) ≤ vec_capacity changed.old }
-        ensures round { IsRound self.now.rule (network_of self.now.net.now) self.now.input.now self.now.state.now next.new changed.new.items }
+        ensures round { Makes self.now next.new changed.new.items }
         ensures room { vec_capacity changed.new ≡ vec_capacity changed.old }
         ensures steps { steps.new ≡ steps.old + count }
         ensures counted { steps.old + length changed.new.items ≤ steps.new }
@@ -85,15 +84,13 @@ impl Round<'_> {
         steps: &mut Steps<L>,
     )
         requires circuit { IsCircuit self.now.net.now }
-        requires input { length self.now.input.now ≡ self.now.net.now.inputs }
-        requires state { length self.now.state.now ≡ length (network_of self.now.net.now) }
-        requires falls { Falls self.now.rule (network_of self.now.net.now) self.now.input.now self.now.state.now }
-        requires quiet { IsQuiet self.now.rule (network_of self.now.net.now) self.now.input.now self.now.state.now due.now }
+        requires round { CanBeMade self.now }
+        requires quiet { IsQuietIn self.now due.now }
         requires due { All (λ var. var < length (network_of self.now.net.now)) due.now }
         requires next { next.old ≡ self.now.state.now }
         requires none { changed.old.items ≡ [] }
         requires room { length (network_of self.now.net.now) ≤ vec_capacity changed.old }
-        ensures round { IsRound self.now.rule (network_of self.now.net.now) self.now.input.now self.now.state.now next.new changed.new.items }
+        ensures round { Makes self.now next.new changed.new.items }
         ensures room { vec_capacity changed.new ≡ vec_capacity changed.old }
         ensures steps { steps.new ≡ steps.old + sum_by (reader_count self.now.net.now) due.now }
         ensures counted { steps.old + length changed.new.items ≤ steps.new }
@@ -111,16 +108,13 @@ impl Round<'_> {
         changed: &mut Vec<u32>,
         steps: &mut Steps<L>,
     )
-        requires input { length self.now.input.now ≡ self.now.net.now.inputs }
-        requires state { length self.now.state.now ≡ length (network_of self.now.net.now) }
-        requires falls { Falls self.now.rule (network_of self.now.net.now) self.now.input.now self.now.state.now }
+        requires round { CanBeMade self.now }
         requires inside { All (λ var. var < length (network_of self.now.net.now)) list.now }
-        requires so_far { IsRoundSoFar self.now.rule (network_of self.now.net.now) self.now.input.now self.now.state.now next.old changed.old.items }
+        requires so_far { MakesSoFar self.now next.old changed.old.items }
         requires room { length (network_of self.now.net.now) ≤ vec_capacity changed.old }
-        ensures so_far { IsRoundSoFar self.now.rule (network_of self.now.net.now) self.now.input.now self.now.state.now next.new changed.new.items }
-        ensures made { All (IsMade self.now.rule (network_of self.now.net.now) self.now.input.now self.now.state.now next.new) list.now }
-        ensures kept { (var : ℕ) → IsMade self.now.rule (network_of self.now.net.now) self.now.input.now self.now.state.now next.old var
-            → IsMade self.now.rule (network_of self.now.net.now) self.now.input.now self.now.state.now next.new var }
+        ensures so_far { MakesSoFar self.now next.new changed.new.items }
+        ensures made { All (IsMadeIn self.now next.new) list.now }
+        ensures kept { KeepsMade self.now next.old next.new }
         ensures room { vec_capacity changed.new ≡ vec_capacity changed.old }
         ensures steps { steps.new ≡ steps.old + length list.now }
         ensures counted { steps.old + length changed.new.items ≤ steps.new + length changed.old.items }
@@ -139,16 +133,13 @@ impl Round<'_> {
         changed: &mut Vec<u32>,
         steps: &mut Steps<L>,
     )
-        requires input { length self.now.input.now ≡ self.now.net.now.inputs }
-        requires state { length self.now.state.now ≡ length (network_of self.now.net.now) }
-        requires falls { Falls self.now.rule (network_of self.now.net.now) self.now.input.now self.now.state.now }
+        requires round { CanBeMade self.now }
         requires var { var < length (network_of self.now.net.now) }
-        requires so_far { IsRoundSoFar self.now.rule (network_of self.now.net.now) self.now.input.now self.now.state.now next.old changed.old.items }
+        requires so_far { MakesSoFar self.now next.old changed.old.items }
         requires room { length (network_of self.now.net.now) ≤ vec_capacity changed.old }
-        ensures so_far { IsRoundSoFar self.now.rule (network_of self.now.net.now) self.now.input.now self.now.state.now next.new changed.new.items }
-        ensures made { IsMade self.now.rule (network_of self.now.net.now) self.now.input.now self.now.state.now next.new var }
-        ensures kept { (other : ℕ) → IsMade self.now.rule (network_of self.now.net.now) self.now.input.now self.now.state.now next.old other
-            → IsMade self.now.rule (network_of self.now.net.now) self.now.input.now self.now.state.now next.new other }
+        ensures so_far { MakesSoFar self.now next.new changed.new.items }
+        ensures made { IsMadeIn self.now next.new var }
+        ensures kept { KeepsMade self.now next.old next.new }
         ensures room { vec_capacity changed.new ≡ vec_capacity changed.old }
         ensures steps { steps.new ≡ steps.old + 1 }
         ensures counted { steps.old + length changed.new.items ≤ steps.new + length changed.old.items }
