@@ -12,6 +12,7 @@
 -- algorithm_a net input start round, algorithm_b net input first round: the ternary states of both algorithms
 -- AreRounds sequence rounds: the sequence comes to rest in this round
 -- IsResult sequence result: its state then
+-- IsFirstRoundIf test sequence i has round: the first round in which variable i has a property, if the test holds, else 0
 -- IsRank sequence i value rank: the first round in which an X of Algorithm A is X
 -- IsSettlingRound sequence i first value round: the first round in which an X settles in Algorithm B
 -- Reads driver i: a driver reads variable i
