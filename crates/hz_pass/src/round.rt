@@ -1,7 +1,7 @@
 //! One round of a pass, which evaluates some of the variables.
 ghost use Rattle.std.specs.Prelude.{◌≡◌, ◌+◌, ◌<◌, ◌≤◌, ℕ, [], length, not, fold, slice_set, sum_by, vec_capacity, All};
 ghost use Rattle.hz_core.specs.Netlist.{IsCircuit};
-ghost use Rattle.hz_net.specs.Network.{network_of};
+ghost use Rattle.hz_net.specs.Network.{network_of, IsState, IsInput, IsVariable};
 ghost use Rattle.hz_pass.specs.Frontier.{next_value, is_open, Falls, IsMade, IsQuiet, IsRoundSoFar, IsRound, reader_count, with_values_of};
 
 use hz_core::Tri;
@@ -58,10 +58,10 @@ impl Round<'_> {
         changed: &mut Vec<u32>,
         steps: &mut Steps<L>,
     )
-        requires input { length self.now.input.now ≡ self.now.net.now.inputs }
-        requires state { length self.now.state.now ≡ length (network_of self.now.net.now) }
+        requires input { IsInput self.now.net.now self.now.input.now }
+        requires state { IsState self.now.net.now self.now.state.now }
         requires count { count ≤ length (network_of self.now.net.now) }
-        requires rest { (i : ℕ) → count ≤ i → i < length (network_of self.now.net.now) → IsMade self.now.rule (network_of self.now.net.now) self.now.input.now self.now.state.now self.now.state.now i }
+        requires rest { (i : ℕ) → count ≤ i → IsVariable self.now.net.now i → IsMade self.now.rule (network_of self.now.net.now) self.now.input.now self.now.state.now self.now.state.now i }
         requires falls { Falls self.now.rule (network_of self.now.net.now) self.now.input.now self.now.state.now }
         requires next { next.old ≡ self.now.state.now }
         requires none { changed.old.items ≡ [] }
@@ -85,11 +85,11 @@ impl Round<'_> {
         steps: &mut Steps<L>,
     )
         requires circuit { IsCircuit self.now.net.now }
-        requires input { length self.now.input.now ≡ self.now.net.now.inputs }
-        requires state { length self.now.state.now ≡ length (network_of self.now.net.now) }
+        requires input { IsInput self.now.net.now self.now.input.now }
+        requires state { IsState self.now.net.now self.now.state.now }
         requires falls { Falls self.now.rule (network_of self.now.net.now) self.now.input.now self.now.state.now }
         requires quiet { IsQuiet self.now.rule (network_of self.now.net.now) self.now.input.now self.now.state.now due.now }
-        requires due { All (λ var. var < length (network_of self.now.net.now)) due.now }
+        requires due { All (IsVariable self.now.net.now) due.now }
         requires next { next.old ≡ self.now.state.now }
         requires none { changed.old.items ≡ [] }
         requires room { length (network_of self.now.net.now) ≤ vec_capacity changed.old }
@@ -111,10 +111,10 @@ impl Round<'_> {
         changed: &mut Vec<u32>,
         steps: &mut Steps<L>,
     )
-        requires input { length self.now.input.now ≡ self.now.net.now.inputs }
-        requires state { length self.now.state.now ≡ length (network_of self.now.net.now) }
+        requires input { IsInput self.now.net.now self.now.input.now }
+        requires state { IsState self.now.net.now self.now.state.now }
         requires falls { Falls self.now.rule (network_of self.now.net.now) self.now.input.now self.now.state.now }
-        requires inside { All (λ var. var < length (network_of self.now.net.now)) list.now }
+        requires inside { All (IsVariable self.now.net.now) list.now }
         requires so_far { IsRoundSoFar self.now.rule (network_of self.now.net.now) self.now.input.now self.now.state.now next.old changed.old.items }
         requires room { length (network_of self.now.net.now) ≤ vec_capacity changed.old }
         ensures so_far { IsRoundSoFar self.now.rule (network_of self.now.net.now) self.now.input.now self.now.state.now next.new changed.new.items }
@@ -139,10 +139,10 @@ impl Round<'_> {
         changed: &mut Vec<u32>,
         steps: &mut Steps<L>,
     )
-        requires input { length self.now.input.now ≡ self.now.net.now.inputs }
-        requires state { length self.now.state.now ≡ length (network_of self.now.net.now) }
+        requires input { IsInput self.now.net.now self.now.input.now }
+        requires state { IsState self.now.net.now self.now.state.now }
         requires falls { Falls self.now.rule (network_of self.now.net.now) self.now.input.now self.now.state.now }
-        requires var { var < length (network_of self.now.net.now) }
+        requires var { IsVariable self.now.net.now var }
         requires so_far { IsRoundSoFar self.now.rule (network_of self.now.net.now) self.now.input.now self.now.state.now next.old changed.old.items }
         requires room { length (network_of self.now.net.now) ≤ vec_capacity changed.old }
         ensures so_far { IsRoundSoFar self.now.rule (network_of self.now.net.now) self.now.input.now self.now.state.now next.new changed.new.items }

@@ -1,6 +1,6 @@
 //! The rounds of a pass.
-ghost use Rattle.std.specs.Prelude.{◌≡◌, ℕ, ◌+◌, ◌*◌, ◌<◌, ◌≤◌, length};
-ghost use Rattle.hz_net.specs.Network.{network_of, wires_of};
+ghost use Rattle.std.specs.Prelude.{◌≡◌, ℕ, ◌+◌, ◌*◌, ◌≤◌, length};
+ghost use Rattle.hz_net.specs.Network.{network_of, wires_of, IsState, AreByVariable, IsInput, IsVariable};
 ghost use Rattle.hz_net.specs.Passes.{AreRounds};
 ghost use Rattle.hz_pass.specs.Changes.{differing_count};
 ghost use Rattle.hz_pass.specs.Frontier.{Falls, IsMade, round_states, AreFirstRounds};
@@ -27,14 +27,14 @@ pub(crate) fn make_rounds<L: Ledger>(
     front: &mut Front,
     steps: &mut Steps<L>,
 ) -> u32
-    requires input { length input.now ≡ net.now.inputs }
-    requires state { length state.old ≡ length (network_of net.now) }
-    requires noted { length noted.old ≡ length (network_of net.now) }
-    requires work { length work.old ≡ length (network_of net.now) }
+    requires input { IsInput net.now input.now }
+    requires state { IsState net.now state.old }
+    requires noted { AreByVariable net.now noted.old }
+    requires work { IsState net.now work.old }
     requires front { front.old ≡ length (network_of net.now) }
     requires falls { Falls rule (network_of net.now) input.now state.old }
     requires first { first ≤ length (network_of net.now) }
-    requires rest { (i : ℕ) → first ≤ i → i < length (network_of net.now) → IsMade rule (network_of net.now) input.now state.old state.old i }
+    requires rest { (i : ℕ) → first ≤ i → IsVariable net.now i → IsMade rule (network_of net.now) input.now state.old state.old i }
     ensures rounds { AreRounds (round_states rule (network_of net.now) input.now state.old) result }
     ensures state { state.new ≡ round_states rule (network_of net.now) input.now state.old result }
     ensures noted { AreFirstRounds (round_states rule (network_of net.now) input.now state.old) state.new noted.new }
