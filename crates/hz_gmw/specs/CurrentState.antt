@@ -4,7 +4,7 @@ use Rattle.std.specs.List.{range_with_len}
 use Rattle.hz_core.specs.declared.kind.Kind.{Kind}
 use Rattle.hz_core.specs.Gate.{takes}
 use Rattle.hz_core.specs.Netlist.{Netlist, IsCircuit, IsWhole, IsGateNumber, gate_at}
-use Rattle.hz_net.specs.Network.{External, Function, Source, network_of, driver_at, bit_at}
+use Rattle.hz_net.specs.Network.{External, Function, Source, network_of, driver_at, bit_at, IsState, IsInput}
 use Rattle.hz_net.specs.Variables.{first_wire, fan_out_of}
 use Rattle.hz_net.specs.Reads.{IsWireInto, readers_of}
 use Rattle.hz_net.specs.declared.variable.VarKind.{VarKind}
@@ -30,8 +30,8 @@ IsKindAt netlist var (WireVariable gate pin source) =
 pub record Fits (netlist : Netlist) (current : CurrentState) : Type 0 where
   pub circuit : IsCircuit netlist
   pub whole : IsWhole netlist
-  pub input : length current.input.items ≡ netlist.inputs
-  pub state : length current.state.items ≡ length (network_of netlist)
+  pub input : IsInput netlist current.input.items
+  pub state : IsState netlist current.state.items
   pub ones : length current.ones.items ≡ length netlist.names
   pub wires : length current.unstable_wires.items ≡ length netlist.names
 

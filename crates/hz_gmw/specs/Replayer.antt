@@ -1,8 +1,8 @@
 -- What a replayer keeps, and the runs that it stands for.
-use Rattle.std.specs.Prelude.{◌≡◌, ◌≢◌, ◌↔◌, ℕ, ◌<◌, Bool, true, false, not, ◌&&◌, List, [], length, map, IsTrue}
+use Rattle.std.specs.Prelude.{◌≡◌, ◌≢◌, ◌↔◌, ℕ, Bool, true, false, not, ◌&&◌, List, [], length, map, IsTrue}
 use Rattle.std.specs.List.{range_with_len}
 use Rattle.hz_core.specs.Netlist.{Netlist}
-use Rattle.hz_net.specs.Network.{network_of, bit_at}
+use Rattle.hz_net.specs.Network.{network_of, bit_at, IsVariable}
 use Rattle.hz_gmw.specs.Runs.{is_listed, state_after, IsRun, end_of}
 use Rattle.hz_gmw.specs.Cycles.{WaitsAt}
 use Rattle.hz_gmw.specs.Instability.{is_unstable, unstable_variables}
@@ -28,7 +28,7 @@ pub record StandsFor (now : Replayer) (steps : List (List ℕ)) : Type 0 where
   pub run : IsRun (network_of now.circuit) now.input now.marked steps
   pub ends : end_of now.marked steps ≡ now.state
   pub stepped : IsTrue now.stepped ↔ (steps ≢ [])
-  pub watched : (i : ℕ) → i < length (network_of now.circuit) → IsTrue (bit_at now.watched i) ↔ Waits now steps i
+  pub watched : (i : ℕ) → IsVariable now.circuit i → IsTrue (bit_at now.watched i) ↔ Waits now steps i
 
 -- a replayer that began in one state, and whose current state is marked, with no step since
 abbrev pub replayer_at : Netlist → List Bool → List Bool → List Bool → Replayer

@@ -2,7 +2,7 @@
 use Rattle.std.specs.Prelude.{◌≡◌, ℕ, ◌⊎◌, Bool, true, false, not, ◌&&◌, ◌||◌, List, length, map}
 use Rattle.std.specs.List.{range_with_len}
 use Rattle.hz_core.specs.Netlist.{Netlist}
-use Rattle.hz_net.specs.Network.{Driver, External, Function, Source, network_of, driver_at, bit_at}
+use Rattle.hz_net.specs.Network.{Driver, External, Function, Source, driver_at, bit_at, AreByVariable}
 use Rattle.hz_net.specs.Reads.{IsWireInto}
 use Rattle.hz_gmw.specs.Runs.{is_listed}
 use Rattle.hz_gmw.specs.Instability.{is_unstable}
@@ -10,7 +10,7 @@ use Rattle.hz_gmw.specs.declared.watch.Watch.{Watch}
 
 -- one mark for each variable, and one for each node
 pub record WatchFits (netlist : Netlist) (watch : Watch) : Type 0 where
-  pub changed : length watch.changed ≡ length (network_of netlist)
+  pub changed : AreByVariable netlist watch.changed
   pub been_stable : length watch.been_stable ≡ length netlist.names
 
 -- Whether variable i can't have waited since the mark, by the variables that changed since and the gates that were stable: a

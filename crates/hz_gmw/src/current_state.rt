@@ -13,7 +13,7 @@
 //! add a kind of variable with readers of its own: `change_node`, `unstable_from` and `unstable_into` do not count them.
 ghost use Rattle.std.specs.Prelude.{◌≡◌, ◌<◌, ◌≤◌, ◌-◌, ◌+◌, ◌∷◌, true, false, not, length, count_by, sum_by, All, IfOk, slice_set, replicate, if◌then◌else◌};
 ghost use Rattle.hz_core.specs.Netlist.{IsCircuit};
-ghost use Rattle.hz_net.specs.Network.{network_of, driver_at, excitation, Source, bit_at};
+ghost use Rattle.hz_net.specs.Network.{network_of, driver_at, excitation, Source, bit_at, IsState, IsInput, IsVariable};
 ghost use Rattle.hz_net.specs.Reads.{IsWireInto};
 ghost use Rattle.hz_net.specs.Variables.{fan_out_of};
 ghost use Rattle.hz_gmw.specs.Runs.{IsRepeatFree, state_after};
@@ -74,7 +74,7 @@ impl CurrentState {
     // Changes the listed variables, each once.
     pub(crate) fn advance(&mut self, net: &Net, flips: &[u32])
         requires exact { IsExact net.now self.old }
-        requires inside { All (λ var. var < length (network_of net.now)) flips.now }
+        requires inside { All (IsVariable net.now) flips.now }
         requires once { IsRepeatFree flips.now }
         ensures exact { IsExact net.now self.new }
         ensures input { self.new.input.items ≡ self.old.input.items }
@@ -88,7 +88,7 @@ impl CurrentState {
     // Turns the state into a given one. Only variables that differ are changed.
     pub(crate) fn turn_to(&mut self, net: &Net, state: &[bool])
         requires exact { IsExact net.now self.old }
-        requires state { length state.now ≡ length (network_of net.now) }
+        requires state { IsState net.now state.now }
         ensures exact { IsExact net.now self.new }
         ensures input { self.new.input.items ≡ self.old.input.items }
         ensures state { self.new.state.items ≡ state.now }
@@ -102,7 +102,7 @@ impl CurrentState {
     // The same, variable by variable.
     fn turn_each(&mut self, net: &Net, state: &[bool])
         requires exact { IsExact net.now self.old }
-        requires state { length state.now ≡ length (network_of net.now) }
+        requires state { IsState net.now state.now }
         ensures exact { IsExact net.now self.new }
         ensures input { self.new.input.items ≡ self.old.input.items }
         ensures state { self.new.state.items ≡ state.now }
@@ -115,8 +115,8 @@ impl CurrentState {
     // Gives the listed variables the values that they have in a given state.
     pub(crate) fn turn_back(&mut self, net: &Net, list: &[u32], state: &[bool])
         requires exact { IsExact net.now self.old }
-        requires inside { All (λ var. var < length (network_of net.now)) list.now }
-        requires state { length state.now ≡ length (network_of net.now) }
+        requires inside { All (IsVariable net.now) list.now }
+        requires state { IsState net.now state.now }
         ensures exact { IsExact net.now self.new }
         ensures input { self.new.input.items ≡ self.old.input.items }
         ensures state { self.new.state.items ≡ with_bits_of state.now self.old.state.items list.now }
@@ -129,7 +129,7 @@ impl CurrentState {
     // Turns the external input into a given one.
     pub(crate) fn turn_input(&mut self, net: &Net, input: &[bool])
         requires exact { IsExact net.now self.old }
-        requires input { length input.now ≡ net.now.inputs }
+        requires input { IsInput net.now input.now }
         ensures exact { IsExact net.now self.new }
         ensures input { self.new.input.items ≡ input.now }
         ensures state { self.new.state.items ≡ self.old.state.items }
@@ -142,7 +142,7 @@ impl CurrentState {
     // Whether a variable is unstable.
     pub(crate) fn is_unstable(&self, net: &Net, var: u32) -> bool
         requires counted { IsCounted net.now self.now }
-        requires var { var < length (network_of net.now) }
+        requires var { IsVariable net.now var }
         ensures { result ≡ is_unstable (network_of net.now) self.now.input.items self.now.state.items var }
     {
         self.state[var as usize] != self.excited(net, var)
@@ -151,7 +151,7 @@ impl CurrentState {
     // The least listed variable that is stable.
     pub(crate) fn least_stable(&self, net: &Net, list: &[u32]) -> Option<u32>
         requires counted { IsCounted net.now self.now }
-        requires inside { All (λ var. var < length (network_of net.now)) list.now }
+        requires inside { All (IsVariable net.now) list.now }
         ensures { result ≡ least_from None (λ var. not (is_unstable (network_of net.now) self.now.input.items self.now.state.items var)) list.now }
     {
         let mut found = None;
@@ -167,7 +167,7 @@ impl CurrentState {
     // count with their nodes.
     pub(crate) fn without_nodes(&self, net: &Net, number: u32, list: &[u32]) -> u32
         requires counted { IsCounted net.now self.now }
-        requires inside { All (λ var. var < length (network_of net.now)) list.now }
+        requires inside { All (IsVariable net.now) list.now }
         ensures { result ≡ number - sum_by (unstable_from net.now self.now.input.items self.now.state.items) list.now }
     {
         let mut left = number;
@@ -183,7 +183,7 @@ impl CurrentState {
     // Gives a variable a value. If it has it nothing is done.
     fn turn(&mut self, net: &Net, var: u32, value: bool)
         requires exact { IsExact net.now self.old }
-        requires var { var < length (network_of net.now) }
+        requires var { IsVariable net.now var }
         ensures exact { IsExact net.now self.new }
         ensures input { self.new.input.items ≡ self.old.input.items }
         ensures state { self.new.state.items ≡ slice_set self.old.state.items var value }
@@ -209,7 +209,7 @@ impl CurrentState {
     // Changes a variable. Only the variable and those that read it may become stable or unstable.
     fn flip(&mut self, net: &Net, var: u32)
         requires exact { IsExact net.now self.old }
-        requires var { var < length (network_of net.now) }
+        requires var { IsVariable net.now var }
         ensures exact { IsExact net.now self.new }
         ensures input { self.new.input.items ≡ self.old.input.items }
         ensures state { self.new.state.items ≡ slice_set self.old.state.items var (not (bit_at self.old.state.items var)) }
@@ -244,7 +244,7 @@ impl CurrentState {
         requires from { driver_at (network_of net.now) wire ≡ Source source }
         requires gate { gate < length net.now.names }
         requires source { source < length net.now.names }
-        requires wire { wire < length (network_of net.now) }
+        requires wire { IsVariable net.now wire }
         ensures exact { IsExact net.now self.new }
         ensures input { self.new.input.items ≡ self.old.input.items }
         ensures state { self.new.state.items ≡ slice_set self.old.state.items wire (not (bit_at self.old.state.items wire)) }
@@ -276,7 +276,7 @@ impl CurrentState {
         requires from { driver_at (network_of net.now) wire ≡ Source source }
         requires gate { gate < length net.now.names }
         requires source { source < length net.now.names }
-        requires wire { wire < length (network_of net.now) }
+        requires wire { IsVariable net.now wire }
         ensures counted { IsCounted net.now self.new }
         ensures input { self.new.input.items ≡ self.old.input.items }
         ensures state { self.new.state.items ≡ slice_set self.old.state.items wire (not (bit_at self.old.state.items wire)) }
@@ -295,7 +295,7 @@ impl CurrentState {
     // The excitation of a variable: of a gate by its count of ones.
     fn excited(&self, net: &Net, var: u32) -> bool
         requires counted { IsCounted net.now self.now }
-        requires var { var < length (network_of net.now) }
+        requires var { IsVariable net.now var }
         ensures { result ≡ excitation (network_of net.now) self.now.input.items self.now.state.items var }
     {
         self.excited_as(net, var, kind_at(net, var))
@@ -323,7 +323,7 @@ impl CurrentState {
         requires into { IsWireInto (network_of net.now) gate wire }
         requires from { driver_at (network_of net.now) wire ≡ Source source }
         requires source { source < length net.now.names }
-        requires wire { wire < length (network_of net.now) }
+        requires wire { IsVariable net.now wire }
         requires kind { IsKindAt net.now gate kind }
         requires gate { gate < length net.now.names }
         ensures { result ≡ count_by (is_unstable (network_of net.now) self.now.input.items self.now.state.items) (with_readers net.now wire) }
@@ -371,7 +371,7 @@ fn are_same(one: &[bool], other: &[bool]) -> bool
 
 // What a variable is.
 pub(crate) fn kind_at(net: &Net, var: u32) -> VarKind
-    requires { var < length (network_of net.now) }
+    requires { IsVariable net.now var }
     ensures kind { IsKindAt net.now var result }
     ensures circuit { IsCircuit net.now }
     ensures bound { length (network_of net.now) ≤ most_variables }

@@ -1,6 +1,6 @@
 //! The replayer of runs.
 ghost use Rattle.std.specs.Prelude.{◌≡◌, ◌<◌, ◌↔◌, ◌≢◌, ℕ, List, [], ◌∷◌, ◌++◌, false, length, replicate, All, MatchOption, IfOk, IfErr, OnOk, IsTrue, is_ok, if◌then◌else◌};
-ghost use Rattle.hz_net.specs.Network.{network_of, bit_at, IsUnstable};
+ghost use Rattle.hz_net.specs.Network.{network_of, bit_at, IsUnstable, IsState, IsInput, IsVariable};
 ghost use Rattle.hz_gmw.specs.Runs.{IsStep};
 ghost use Rattle.hz_gmw.specs.Cycles.{IsNontransient};
 ghost use Rattle.hz_gmw.specs.Instability.{unstable_count};
@@ -86,8 +86,8 @@ impl<'n> Replay<'n> {
     /// Sets the external input and the state, one bit for each input and each variable, and marks the state, with no step
     /// since.
     pub fn begin(&mut self, input: &[bool], state: &[bool])
-        requires input { length input.now ≡ self.old.circuit.inputs }
-        requires state { length state.now ≡ length (network_of self.old.circuit) }
+        requires input { IsInput self.old.circuit input.now }
+        requires state { IsState self.old.circuit state.now }
         ensures at { self.new ≡ initial_replayer self.old.circuit input.now state.now }
         ensures stands { StandsFor self.new [] }
     {
@@ -129,7 +129,7 @@ impl<'n> Replay<'n> {
     /// Makes a step of the multiple-winner relation: changes the listed variables at once. It is refused exactly if they
     /// are no step from the current state, by the first fault that stands; the replayer is then as before.
     pub fn step(&mut self, flips: &[u32]) -> Result<(), StepFault>
-        requires { All (λ var. var < length (network_of self.old.circuit)) flips.now }
+        requires { All (IsVariable self.old.circuit) flips.now }
         ensures exact { IsTrue (is_ok result) ↔ IsStep (network_of self.old.circuit) self.old.input self.old.state flips.now }
         ensures fault { IfErr result (IsStepFault (network_of self.old.circuit) self.old.input self.old.state flips.now) }
         ensures after { self.new ≡ (if is_ok result then replayer_after self.old flips.now else self.old) }
@@ -161,7 +161,7 @@ impl<'n> Replay<'n> {
 
     /// The current value of a variable.
     pub fn value(&self, var: u32) -> bool
-        requires { var < length (network_of self.now.circuit) }
+        requires { IsVariable self.now.circuit var }
         ensures { result ≡ bit_at self.now.state var }
     {
         self.current.state[var as usize]
@@ -169,7 +169,7 @@ impl<'n> Replay<'n> {
 
     /// Whether a variable is unstable in the current state.
     pub fn unstable(&self, var: u32) -> bool
-        requires { var < length (network_of self.now.circuit) }
+        requires { IsVariable self.now.circuit var }
         ensures { IsTrue result ↔ IsUnstable (network_of self.now.circuit) self.now.input self.now.state var }
     {
         self.current.is_unstable(self.net, var)
@@ -184,7 +184,7 @@ impl<'n> Replay<'n> {
 
     // Why the listed variables are no step, if they are none.
     fn step_fault(&mut self, flips: &[u32]) -> Option<StepFault>
-        requires { All (λ var. var < length (network_of self.old.circuit)) flips.now }
+        requires { All (IsVariable self.old.circuit) flips.now }
         ensures answer { MatchOption result (IsStep (network_of self.old.circuit) self.old.input self.old.state flips.now) (IsStepFault (network_of self.old.circuit) self.old.input self.old.state flips.now) }
         ensures same { self.new ≡ self.old }
     {
@@ -232,7 +232,7 @@ impl<'n> Replay<'n> {
 
     // The least unstable variable. The variables are searched only if some are unstable.
     fn least_unstable(&self) -> Option<u32>
-        ensures { IsLeastOf (λ i. (i < length (network_of self.now.circuit)) × IsUnstable (network_of self.now.circuit) self.now.input self.now.state i) result }
+        ensures { IsLeastOf (λ i. (IsVariable self.now.circuit i) × IsUnstable (network_of self.now.circuit) self.now.input self.now.state i) result }
     {
         if self.current.unstable == 0 {
             return None;
@@ -247,7 +247,7 @@ impl<'n> Replay<'n> {
 
     // The least watched variable.
     fn least_watched(&self) -> Option<u32>
-        ensures { IsLeastOf (λ i. (i < length (network_of self.now.circuit)) × IsTrue (bit_at self.now.watched i)) result }
+        ensures { IsLeastOf (λ i. (IsVariable self.now.circuit i) × IsTrue (bit_at self.now.watched i)) result }
     {
         self.watch.least(self.net, &self.current)
     }

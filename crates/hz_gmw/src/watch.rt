@@ -1,7 +1,7 @@
 //! The variables that are watched: those that may have waited ever since the mark.
 ghost use Rattle.std.specs.Prelude.{◌≡◌, ◌<◌, ◌-◌, false, [], ◌∷◌, length, count_by, All, IfOk, IsTrue, replicate};
 ghost use Rattle.std.specs.List.{range_with_len};
-ghost use Rattle.hz_net.specs.Network.{network_of, driver_at, bit_at};
+ghost use Rattle.hz_net.specs.Network.{network_of, driver_at, bit_at, IsVariable};
 ghost use Rattle.hz_core.specs.Least.{IsLeastOf};
 ghost use Rattle.hz_gmw.specs.CurrentState.{IsCounted, IsExact, with_marks};
 ghost use Rattle.hz_gmw.specs.Watches.{WatchFits, lapses, is_watched, watched_variables, unstable_unchanged, RecordsStable};
@@ -39,7 +39,7 @@ impl Watch {
     pub(crate) fn note(&mut self, net: &Net, current: &CurrentState, flips: &[u32])
         requires counted { IsCounted net.now current.now }
         requires fits { WatchFits net.now self.old }
-        requires inside { All (λ var. var < length (network_of net.now)) flips.now }
+        requires inside { All (IsVariable net.now) flips.now }
         ensures changed { self.new.changed ≡ with_marks self.old.changed flips.now }
         ensures been_stable { RecordsStable (network_of net.now) current.now.input.items current.now.state.items flips.now self.old.been_stable self.new.been_stable }
     {
@@ -62,7 +62,7 @@ impl Watch {
     pub(crate) fn least(&self, net: &Net, current: &CurrentState) -> Option<u32>
         requires exact { IsExact net.now current.now }
         requires fits { WatchFits net.now self.now }
-        ensures { IsLeastOf (λ i. (i < length (network_of net.now)) × IsTrue (bit_at (watched_variables (network_of net.now) current.now.input.items current.now.state.items (bit_at self.now.changed) (bit_at self.now.been_stable)) i)) result }
+        ensures { IsLeastOf (λ i. (IsVariable net.now i) × IsTrue (bit_at (watched_variables (network_of net.now) current.now.input.items current.now.state.items (bit_at self.now.changed) (bit_at self.now.been_stable)) i)) result }
     {
         if self.count(net, current) == 0 {
             return None;
@@ -105,7 +105,7 @@ impl Watch {
     fn contains(&self, net: &Net, current: &CurrentState, var: u32) -> bool
         requires counted { IsCounted net.now current.now }
         requires fits { WatchFits net.now self.now }
-        requires var { var < length (network_of net.now) }
+        requires var { IsVariable net.now var }
         ensures { result ≡ is_watched (network_of net.now) current.now.input.items current.now.state.items (bit_at self.now.changed) (bit_at self.now.been_stable) var }
     {
         current.is_unstable(net, var) && !self.lapsed(net, var)
@@ -114,7 +114,7 @@ impl Watch {
     // Whether something happened for which a variable is watched no longer.
     fn lapsed(&self, net: &Net, var: u32) -> bool
         requires fits { WatchFits net.now self.now }
-        requires var { var < length (network_of net.now) }
+        requires var { IsVariable net.now var }
         ensures { result ≡ lapses (driver_at (network_of net.now) var) (bit_at self.now.changed) (bit_at self.now.been_stable) var }
     {
         match kind_at(net, var) {
@@ -128,7 +128,7 @@ impl Watch {
     fn note_gate(&mut self, net: &Net, current: &CurrentState, var: u32)
         requires counted { IsCounted net.now current.now }
         requires fits { WatchFits net.now self.old }
-        requires var { var < length (network_of net.now) }
+        requires var { IsVariable net.now var }
         ensures changed { self.new.changed ≡ self.old.changed }
         ensures been_stable { RecordsStable (network_of net.now) current.now.input.items current.now.state.items (var ∷ []) self.old.been_stable self.new.been_stable }
     {

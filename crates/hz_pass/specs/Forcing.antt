@@ -5,7 +5,7 @@ use Rattle.hz_core.specs.declared.tri.Tri.TheVariants.{Zero, One, Unknown}
 use Rattle.hz_core.specs.Ternary.{tri_of, unknown_count}
 use Rattle.hz_core.specs.Extension.{extension}
 use Rattle.hz_core.specs.Netlist.{Netlist, IsCircuit, IsGateNumber, gate_at}
-use Rattle.hz_net.specs.Network.{network_of, Source, driver_at, value_at}
+use Rattle.hz_net.specs.Network.{network_of, Source, driver_at, value_at, IsState}
 use Rattle.hz_net.specs.Variables.{at_wires}
 use Rattle.hz_net.specs.Starts.{IsForced, IsOpen}
 use Rattle.hz_pass.specs.CutLists.{IsDataOf}
@@ -40,7 +40,7 @@ SetsNode Unknown One gate values values' waiting waiting' =
 -- gates one of whose wires was set: what is set is forced, and nothing else holds a cut back whose data node is known, nor a gate
 -- whose extension is.
 pub record ForcedSoFar (netlist : Netlist) (listed : List (Option Bool)) (values : List Tri) (waiting due cuts touched : List ℕ) : Type 0 where
-  pub long : length values ≡ length (network_of netlist)
+  pub long : IsState netlist values
   pub agrees : (node : ℕ) (bit : Bool) → slice_get listed node ≡ Some (Some bit) → value_at values node ≡ tri_of bit
   pub sound : (node : ℕ) (bit : Bool) → node < length netlist.names → value_at values node ≡ tri_of bit → IsForced netlist listed node bit
   pub carried : (wire node : ℕ) → driver_at (network_of netlist) wire ≡ Source node → (value_at values wire ≡ Unknown) ⊎ (value_at values wire ≡ value_at values node)
@@ -51,7 +51,7 @@ pub record ForcedSoFar (netlist : Netlist) (listed : List (Option Bool)) (values
 
 -- a node has the bit to which it is forced, and is X where it is open
 pub record AreForcedValues (netlist : Netlist) (listed : List (Option Bool)) (values : List Tri) : Type 0 where
-  pub long : length values ≡ length (network_of netlist)
+  pub long : IsState netlist values
   pub forced : (node : ℕ) (bit : Bool) → node < length netlist.names → value_at values node ≡ tri_of bit → IsForced netlist listed node bit
   pub opens : (node : ℕ) → node < length netlist.names → value_at values node ≡ Unknown → IsOpen netlist listed node
 

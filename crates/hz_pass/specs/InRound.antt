@@ -1,15 +1,15 @@
 -- The words of a round and of a pass, as the code has them: what each begins with, and what it makes.
 use Rattle.std.specs.Prelude.{◌≡◌, ℕ, ◌<◌, ◌≤◌, List, length}
 use Rattle.hz_core.specs.declared.tri.Tri.{Tri}
-use Rattle.hz_net.specs.Network.{network_of}
+use Rattle.hz_net.specs.Network.{network_of, IsState, IsInput, IsVariable}
 use Rattle.hz_pass.specs.declared.round.Round.{Round}
 use Rattle.hz_pass.specs.declared.rounds.Pass.{Pass}
 use Rattle.hz_pass.specs.Frontier.{round_states, Falls, IsMade, IsQuiet, IsRound, IsRoundSoFar}
 
 -- the input and the state are of the network, and the rule may go on from them
 pub record CanBeMade (round : Round) : Type 0 where
-  pub input : length round.input.now ≡ round.net.now.inputs
-  pub state : length round.state.now ≡ length (network_of round.net.now)
+  pub input : IsInput round.net.now round.input.now
+  pub state : IsState round.net.now round.state.now
   pub falls : Falls round.rule (network_of round.net.now) round.input.now round.state.now
 
 -- variable i has the value that the round makes
@@ -23,7 +23,7 @@ KeepsMade round before after = (i : ℕ) → IsMadeIn round before i → IsMadeI
 -- the round leaves the variables from a number on as they are
 abbrev pub LeavesFrom : ℕ → Round → Type 0
 LeavesFrom first round =
-    (i : ℕ) → first ≤ i → i < length (network_of round.net.now) → IsMadeIn round round.state.now i
+    (i : ℕ) → first ≤ i → IsVariable round.net.now i → IsMadeIn round round.state.now i
 
 -- the round leaves each variable as it is that reads none of the listed ones
 abbrev pub IsQuietIn : Round → List ℕ → Type 0
@@ -44,9 +44,9 @@ states_from pass first = round_states pass.rule (network_of pass.net.now) pass.i
 
 -- the pass may begin with a state: it is of the network, and the first round may leave out what it leaves out
 pub record CanBegin (pass : Pass) (values : List Tri) : Type 0 where
-  pub input : length pass.input.now ≡ pass.net.now.inputs
-  pub state : length values ≡ length (network_of pass.net.now)
+  pub input : IsInput pass.net.now pass.input.now
+  pub state : IsState pass.net.now values
   pub falls : Falls pass.rule (network_of pass.net.now) pass.input.now values
   pub first : pass.first ≤ length (network_of pass.net.now)
-  pub rest : (i : ℕ) → pass.first ≤ i → i < length (network_of pass.net.now) →
+  pub rest : (i : ℕ) → pass.first ≤ i → IsVariable pass.net.now i →
       IsMade pass.rule (network_of pass.net.now) pass.input.now values values i

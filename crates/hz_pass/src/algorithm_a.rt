@@ -1,7 +1,7 @@
 //! Algorithm A.
 ghost use Rattle.std.specs.Prelude.{◌≡◌, ◌+◌, ◌*◌, ◌≤◌, length, map};
 ghost use Rattle.hz_core.specs.Ternary.{tri_of, AllBelow};
-ghost use Rattle.hz_net.specs.Network.{network_of, wires_of};
+ghost use Rattle.hz_net.specs.Network.{network_of, wires_of, IsState, AreByVariable, IsInput};
 ghost use Rattle.hz_net.specs.Passes.{excitations, algorithm_a, AreRounds, AreRanks};
 ghost use Rattle.hz_net.specs.Starts.{IsStableStart};
 ghost use Rattle.hz_net.specs.TernaryStarts.{algorithm_a_from};
@@ -32,11 +32,11 @@ pub fn spread<L: Ledger>(
     front: &mut Front,
     steps: &mut Steps<L>,
 ) -> u32
-    requires input { length input.now ≡ net.now.inputs }
-    requires start { length start.now ≡ length (network_of net.now) }
-    requires out { length out.old ≡ length (network_of net.now) }
-    requires rank { length rank.old ≡ length (network_of net.now) }
-    requires work { length work.old ≡ length (network_of net.now) }
+    requires input { IsInput net.now input.now }
+    requires start { IsState net.now start.now }
+    requires out { IsState net.now out.old }
+    requires rank { AreByVariable net.now rank.old }
+    requires work { IsState net.now work.old }
     requires front { front.old ≡ length (network_of net.now) }
     ensures rounds { AreRounds (algorithm_a (network_of net.now) input.now start.now) result }
     ensures out { out.new ≡ algorithm_a (network_of net.now) input.now start.now result }
@@ -70,10 +70,10 @@ pub fn spread_stable<L: Ledger>(
     steps: &mut Steps<L>,
 ) -> u32
     requires start { IsStableStart net.now start.now }
-    requires input { length input.now ≡ net.now.inputs }
-    requires out { length out.old ≡ length (network_of net.now) }
-    requires rank { length rank.old ≡ length (network_of net.now) }
-    requires work { length work.old ≡ length (network_of net.now) }
+    requires input { IsInput net.now input.now }
+    requires out { IsState net.now out.old }
+    requires rank { AreByVariable net.now rank.old }
+    requires work { IsState net.now work.old }
     requires front { front.old ≡ length (network_of net.now) }
     ensures rounds { AreRounds (algorithm_a (network_of net.now) input.now start.now) result }
     ensures out { out.new ≡ algorithm_a (network_of net.now) input.now start.now result }
@@ -107,10 +107,10 @@ pub fn spread_from<L: Ledger>(
     front: &mut Front,
     steps: &mut Steps<L>,
 ) -> u32
-    requires input { length input.now ≡ net.now.inputs }
-    requires state { length state.old ≡ length (network_of net.now) }
-    requires rank { length rank.old ≡ length (network_of net.now) }
-    requires work { length work.old ≡ length (network_of net.now) }
+    requires input { IsInput net.now input.now }
+    requires state { IsState net.now state.old }
+    requires rank { AreByVariable net.now rank.old }
+    requires work { IsState net.now work.old }
     requires front { front.old ≡ length (network_of net.now) }
     ensures rounds { AreRounds (algorithm_a_from (network_of net.now) input.now state.old) result }
     ensures state { state.new ≡ algorithm_a_from (network_of net.now) input.now state.old result }

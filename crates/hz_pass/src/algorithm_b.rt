@@ -1,7 +1,7 @@
 //! Algorithm B.
 ghost use Rattle.std.specs.Prelude.{◌≡◌, ◌+◌, ◌*◌, ◌≤◌, length};
 ghost use Rattle.hz_core.specs.Ternary.{AllBelow};
-ghost use Rattle.hz_net.specs.Network.{network_of, wires_of};
+ghost use Rattle.hz_net.specs.Network.{network_of, wires_of, IsState, AreByVariable, IsInput};
 ghost use Rattle.hz_net.specs.Passes.{excitations, algorithm_b, AreRounds, AreSettlingRounds};
 ghost use Rattle.hz_pass.specs.Changes.{differing_count};
 
@@ -31,10 +31,10 @@ pub fn settle<L: Ledger>(
     front: &mut Front,
     steps: &mut Steps<L>,
 ) -> u32
-    requires input { length input.now ≡ net.now.inputs }
-    requires state { length state.old ≡ length (network_of net.now) }
-    requires when { length when.old ≡ length (network_of net.now) }
-    requires work { length work.old ≡ length (network_of net.now) }
+    requires input { IsInput net.now input.now }
+    requires state { IsState net.now state.old }
+    requires when { AreByVariable net.now when.old }
+    requires work { IsState net.now work.old }
     requires below { AllBelow (excitations (network_of net.now) input.now state.old) state.old }
     requires front { front.old ≡ length (network_of net.now) }
     ensures rounds { AreRounds (algorithm_b (network_of net.now) input.now state.old) result }

@@ -2,7 +2,7 @@
 ghost use Rattle.std.specs.Prelude.{◌≡◌, ◌≢◌, ℕ, ◌<◌, ◌≤◌, length, map, take, MatchResult, MatchOption, IfOk};
 ghost use Rattle.hz_core.specs.declared.tri.Tri.TheVariants.{Unknown};
 ghost use Rattle.hz_core.specs.Netlist.{IsCircuit, IsGateNumber, primary_inputs};
-ghost use Rattle.hz_net.specs.Network.{network_of, value_at, bit_at, excitation};
+ghost use Rattle.hz_net.specs.Network.{network_of, value_at, bit_at, excitation, IsState};
 ghost use Rattle.hz_net.specs.Variables.{expansion_of};
 ghost use Rattle.hz_net.specs.Starts.{ListsInputs, IsAcceptedStart};
 ghost use Rattle.hz_pass.specs.Completed.{IsStartFault, bit_or_zero, IsLeastUnknown, IsLeastUnstableIn};
@@ -56,7 +56,7 @@ pub fn complete(alloc: Global, net: &Net, listed: &[Option<bool>]) -> Result<Vec
 // The least node that is X. The primary inputs are listed.
 fn least_open(net: &Net, values: &[Tri]) -> Option<u32>
     requires circuit { IsCircuit net.now }
-    requires values { length values.now ≡ length (network_of net.now) }
+    requires values { IsState net.now values.now }
     ensures { MatchOption result ((node : ℕ) → primary_inputs net.now ≤ node → node < length net.now.names → value_at values.now node ≢ Unknown)
         (λ node. IsLeastUnknown net.now values.now node) }
 {
@@ -72,7 +72,7 @@ fn least_open(net: &Net, values: &[Tri]) -> Option<u32>
 // The state in which each node has its value and each wire its source's.
 fn state_of(alloc: Global, net: &Net, values: &[Tri]) -> Result<Vec<bool>, Memory>
     requires circuit { IsCircuit net.now }
-    requires values { length values.now ≡ length (network_of net.now) }
+    requires values { IsState net.now values.now }
     ensures { IfOk result (λ state. state.items ≡ expansion_of net.now (map bit_or_zero (take (length net.now.names) values.now))) }
 {
     let nodes = bits_of(alloc, &values[..net.circuit().nodes() as usize])?;
@@ -100,7 +100,7 @@ fn bits_of(alloc: Global, values: &[Tri]) -> Result<Vec<bool>, Memory>
 // The least gate that is unstable under the inputs of the state.
 fn least_unstable(net: &Net, state: &[bool]) -> Option<u32>
     requires circuit { IsCircuit net.now }
-    requires state { length state.now ≡ length (network_of net.now) }
+    requires state { IsState net.now state.now }
     ensures { MatchOption result
         ((gate : ℕ) → IsGateNumber net.now gate → bit_at state.now gate ≡ excitation (network_of net.now) (take net.now.inputs state.now) state.now gate)
         (λ gate. IsLeastUnstableIn net.now state.now gate) }

@@ -15,7 +15,7 @@ ghost use Rattle.std.specs.Prelude.{◌≡◌, ◌≢◌, ◌+◌, ◌<◌, ◌�
 ghost use Rattle.hz_core.specs.declared.tri.Tri.TheVariants.{Unknown};
 ghost use Rattle.hz_core.specs.Ternary.{unknown_count};
 ghost use Rattle.hz_core.specs.Netlist.{IsCircuit, IsGateNumber};
-ghost use Rattle.hz_net.specs.Network.{network_of, value_at};
+ghost use Rattle.hz_net.specs.Network.{network_of, value_at, IsState, IsVariable};
 ghost use Rattle.hz_net.specs.Variables.{fan_out_of};
 ghost use Rattle.hz_net.specs.Reads.{IsWireInto};
 ghost use Rattle.hz_pass.specs.CutLists.{IsDataOf};
@@ -84,7 +84,7 @@ fn carry(
     requires circuit { IsCircuit net.now }
     requires cuts { All (IsDataOf net.now node) cuts.now }
     requires node { node < length net.now.names }
-    requires values { length values.old ≡ length (network_of net.now) }
+    requires values { IsState net.now values.old }
     requires known { value_at values.old node ≢ Unknown }
     ensures forced { (listed : List (Option Bool)) → length listed ≡ length net.now.names
         → ForcedSoFar net.now listed values.old waiting.old.items (fan_out_of net.now node) cuts.now []
@@ -132,7 +132,7 @@ fn set_cut(cut: u32, value: Tri, values: &mut [Tri], waiting: &mut Vec<u32>) -> 
 fn deliver(net: &Net, node: u32, values: &mut [Tri], waiting: &mut Vec<u32>) -> Result<(), Memory>
     requires circuit { IsCircuit net.now }
     requires node { node < length net.now.names }
-    requires values { length values.old ≡ length (network_of net.now) }
+    requires values { IsState net.now values.old }
     requires known { value_at values.old node ≢ Unknown }
     ensures forced { (listed : List (Option Bool)) → length listed ≡ length net.now.names
         → ForcedSoFar net.now listed values.old waiting.old.items (fan_out_of net.now node) [] []
@@ -151,7 +151,7 @@ fn deliver(net: &Net, node: u32, values: &mut [Tri], waiting: &mut Vec<u32>) -> 
 fn gate_of(net: &Net, wire: u32) -> u32
     requires circuit { IsCircuit net.now }
     requires above { length net.now.names ≤ wire }
-    requires below { wire < length (network_of net.now) }
+    requires below { IsVariable net.now wire }
     ensures gate { IsGateNumber net.now result }
     ensures into { IsWireInto (network_of net.now) result wire }
 {
@@ -166,7 +166,7 @@ fn gate_of(net: &Net, wire: u32) -> u32
 fn set_gate(net: &Net, gate: u32, values: &mut [Tri], waiting: &mut Vec<u32>) -> Result<(), Memory>
     requires circuit { IsCircuit net.now }
     requires gate { IsGateNumber net.now gate }
-    requires values { length values.old ≡ length (network_of net.now) }
+    requires values { IsState net.now values.old }
     ensures { OnOk result (SetsNode (value_at values.old gate) (gate_extension net.now values.old gate) gate
         values.old values.new waiting.old.items waiting.new.items) }
 {
@@ -187,7 +187,7 @@ fn set_gate(net: &Net, gate: u32, values: &mut [Tri], waiting: &mut Vec<u32>) ->
 // The ternary extension of a gate's function on its wires.
 fn extend(net: &Net, gate: u32, values: &[Tri]) -> Tri
     requires gate { IsGateNumber net.now gate }
-    requires values { length values.now ≡ length (network_of net.now) }
+    requires values { IsState net.now values.now }
     ensures { result ≡ gate_extension net.now values.now gate }
 {
     let (first, pins) = net.wires_in(gate);

@@ -1,7 +1,7 @@
 //! One round of a pass, which evaluates some of the variables.
 ghost use Rattle.std.specs.Prelude.{◌≡◌, ◌+◌, ◌<◌, ◌≤◌, [], length, not, fold, slice_set, sum_by, vec_capacity, All};
 ghost use Rattle.hz_core.specs.Netlist.{IsCircuit};
-ghost use Rattle.hz_net.specs.Network.{network_of};
+ghost use Rattle.hz_net.specs.Network.{network_of, IsVariable};
 ghost use Rattle.hz_pass.specs.Frontier.{next_value, is_open, reader_count, with_values_of};
 ghost use Rattle.hz_pass.specs.InRound.{CanBeMade, IsMadeIn, IsQuietIn, KeepsMade, LeavesFrom, Makes, MakesSoFar};
 
@@ -86,7 +86,7 @@ impl Round<'_> {
         requires circuit { IsCircuit self.now.net.now }
         requires round { CanBeMade self.now }
         requires quiet { IsQuietIn self.now due.now }
-        requires due { All (λ var. var < length (network_of self.now.net.now)) due.now }
+        requires due { All (IsVariable self.now.net.now) due.now }
         requires next { next.old ≡ self.now.state.now }
         requires none { changed.old.items ≡ [] }
         requires room { length (network_of self.now.net.now) ≤ vec_capacity changed.old }
@@ -109,7 +109,7 @@ impl Round<'_> {
         steps: &mut Steps<L>,
     )
         requires round { CanBeMade self.now }
-        requires inside { All (λ var. var < length (network_of self.now.net.now)) list.now }
+        requires inside { All (IsVariable self.now.net.now) list.now }
         requires so_far { MakesSoFar self.now next.old changed.old.items }
         requires room { length (network_of self.now.net.now) ≤ vec_capacity changed.old }
         ensures so_far { MakesSoFar self.now next.new changed.new.items }
@@ -134,7 +134,7 @@ impl Round<'_> {
         steps: &mut Steps<L>,
     )
         requires round { CanBeMade self.now }
-        requires var { var < length (network_of self.now.net.now) }
+        requires var { IsVariable self.now.net.now var }
         requires so_far { MakesSoFar self.now next.old changed.old.items }
         requires room { length (network_of self.now.net.now) ≤ vec_capacity changed.old }
         ensures so_far { MakesSoFar self.now next.new changed.new.items }

@@ -1,6 +1,6 @@
 //! The rounds of a pass.
 ghost use Rattle.std.specs.Prelude.{◌≡◌, ◌+◌, ◌*◌, ◌≤◌, length};
-ghost use Rattle.hz_net.specs.Network.{network_of, wires_of};
+ghost use Rattle.hz_net.specs.Network.{network_of, wires_of, AreByVariable};
 ghost use Rattle.hz_net.specs.Passes.{AreRounds};
 ghost use Rattle.hz_pass.specs.Changes.{differing_count};
 ghost use Rattle.hz_pass.specs.Frontier.{AreFirstRounds};
@@ -37,8 +37,8 @@ impl Pass<'_> {
         steps: &mut Steps<L>,
     ) -> u32
         requires pass { CanBegin self.now state.old }
-        requires noted { length noted.old ≡ length (network_of self.now.net.now) }
-        requires work { length work.old ≡ length (network_of self.now.net.now) }
+        requires noted { AreByVariable self.now.net.now noted.old }
+        requires work { AreByVariable self.now.net.now work.old }
         requires front { front.old ≡ length (network_of self.now.net.now) }
         ensures rounds { AreRounds (states_from self.now state.old) result }
         ensures state { state.new ≡ states_from self.now state.old result }

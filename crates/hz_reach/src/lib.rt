@@ -9,9 +9,9 @@
 //! | `counts` | laws on the length of runs |
 #![tactic(auto)]
 
-ghost use Rattle.std.specs.Prelude.{◌≡◌, ℕ, Bool, List, length};
+ghost use Rattle.std.specs.Prelude.{ℕ, Bool, List};
 ghost use Rattle.hz_core.specs.Netlist.{Netlist, IsCircuit};
-ghost use Rattle.hz_net.specs.Network.{network_of, value_at, IsStable};
+ghost use Rattle.hz_net.specs.Network.{network_of, value_at, IsStable, IsState};
 ghost use Rattle.hz_net.specs.Passes.{algorithm_a, AreRounds};
 ghost use Rattle.hz_gmw.specs.Runs.{IsReachable, JoinsTo};
 
@@ -33,7 +33,7 @@ pub use turn::{is_gate, take_turn};
 /// join of the values that the variable has in the reachable states. So if the result is X, one reachable state has 0
 /// there and another has 1.
 pub fn a_is_exact()
-    ensures { (netlist : Netlist) (input own start : List Bool) (rounds i : ℕ) → IsCircuit netlist → length start ≡ length (network_of netlist) → IsStable (network_of netlist) own start → AreRounds (algorithm_a (network_of netlist) input start) rounds → JoinsTo (IsReachable (network_of netlist) input start) i (value_at (algorithm_a (network_of netlist) input start rounds) i) }
+    ensures { (netlist : Netlist) (input own start : List Bool) (rounds i : ℕ) → IsCircuit netlist → IsState netlist start → IsStable (network_of netlist) own start → AreRounds (algorithm_a (network_of netlist) input start) rounds → JoinsTo (IsReachable (network_of netlist) input start) i (value_at (algorithm_a (network_of netlist) input start rounds) i) }
 {
     a_covers();
 }

@@ -10,11 +10,11 @@
 //!
 //! What breaks if you add a change: a wire before its source, or a gate before its wires, is stable then, and the step is
 //! none. A second change of a variable falsifies `IsSpreadRun`, and the room. A new kind of gate needs its canonical pattern.
-ghost use Rattle.std.specs.Prelude.{◌≡◌, ℕ, ◌+◌, ◌<◌, ◌≤◌, Bool, true, false, not, ◌&&◌, List, [], length, MatchBool};
+ghost use Rattle.std.specs.Prelude.{◌≡◌, ℕ, ◌+◌, ◌≤◌, Bool, true, false, not, ◌&&◌, List, [], length, MatchBool};
 ghost use Rattle.hz_core.specs.Ternary.{is_unknown};
 ghost use Rattle.hz_core.specs.Netlist.{IsCircuit, IsGateNumber, gate_at};
 ghost use Rattle.hz_core.specs.Pattern.{differs, IsCandidate};
-ghost use Rattle.hz_net.specs.Network.{network_of, bit_at};
+ghost use Rattle.hz_net.specs.Network.{network_of, bit_at, IsState, AreByVariable, IsInput};
 ghost use Rattle.hz_net.specs.Variables.{at_wires};
 ghost use Rattle.hz_gmw.specs.Runs.{end_of};
 ghost use Rattle.hz_reach.specs.Order.{IsInKeyOrder};
@@ -136,8 +136,8 @@ pub fn sparing_in_order(
 /// Adds the last step of the spread run to the run of [`sparing_in_order`]: the wires that are X in the result of Algorithm A and
 /// have not changed. The scratch stays as it is, in the state before that step.
 pub fn add_unused(net: &Net, start: &[bool], a: &[Tri], scratch: &mut Scratch, run: &mut Run)
-    requires start { length start.now ≡ length (network_of net.now) }
-    requires a { length a.now ≡ length (network_of net.now) }
+    requires start { IsState net.now start.now }
+    requires a { IsState net.now a.now }
     requires scratch { IsScratchFor net.now scratch.old }
     requires room { HasRoomForStep (unchanged_wires net.now a.now start.now scratch.old.state) run.old }
     ensures steps { run.new.steps ≡ with_step_if_any run.old.steps (unchanged_wires net.now a.now start.now scratch.old.state) }
@@ -153,8 +153,8 @@ pub fn add_unused(net: &Net, start: &[bool], a: &[Tri], scratch: &mut Scratch, r
 // Marks the inputs that differ from the new input.
 fn mark_inputs(net: &Net, start: &[bool], input: &[bool], scratch: &mut Scratch)
     requires circuit { IsCircuit net.now }
-    requires start { length start.now ≡ length (network_of net.now) }
-    requires input { length input.now ≡ net.now.inputs }
+    requires start { IsState net.now start.now }
+    requires input { IsInput net.now input.now }
     requires scratch { IsScratchFor net.now scratch.old }
     ensures marked { scratch.new.marked ≡ changed_inputs net.now start.now input.now }
     ensures state { scratch.new.state ≡ scratch.old.state }
@@ -170,7 +170,7 @@ fn mark_inputs(net: &Net, start: &[bool], input: &[bool], scratch: &mut Scratch)
 // A gate's turn, in which those of its wires are free that become X before it. It changes alone.
 fn turn_by_rank(net: &Net, rank: &[u32], gate: u32, scratch: &mut Scratch, run: &mut Run)
     requires circuit { IsCircuit net.now }
-    requires rank { length rank.now ≡ length (network_of net.now) }
+    requires rank { AreByVariable net.now rank.now }
     requires gate { IsGateNumber net.now gate }
     requires possible { (list : List Bool) × IsCandidate (gate_at net.now gate).kind
         (at_wires net.now gate scratch.old.state) (earlier_pins net.now rank.now gate) (not (bit_at scratch.old.state gate)) list }
@@ -207,8 +207,8 @@ fn list_free(own: u32, ranks: &[u32], free: &mut [bool])
 // Marks the wires that are X in the result of Algorithm A and have not changed.
 fn mark_unchanged(net: &Net, start: &[bool], a: &[Tri], scratch: &mut Scratch)
     requires circuit { IsCircuit net.now }
-    requires start { length start.now ≡ length (network_of net.now) }
-    requires a { length a.now ≡ length (network_of net.now) }
+    requires start { IsState net.now start.now }
+    requires a { IsState net.now a.now }
     requires scratch { IsScratchFor net.now scratch.old }
     ensures marked { scratch.new.marked ≡ unchanged_wires net.now a.now start.now scratch.old.state }
     ensures state { scratch.new.state ≡ scratch.old.state }

@@ -6,12 +6,12 @@
 //!
 //! What must stay true: each free pin differs from its source, else its wire is stable and the first step is none. The gate is
 //! unstable only after its wires, so the two can't be one step.
-ghost use Rattle.std.specs.Prelude.{◌≡◌, ℕ, ◌+◌, ◌<◌, ◌≤◌, Bool, true, IsTrue, not, List, [], ◌∷◌, ◌++◌, length};
+ghost use Rattle.std.specs.Prelude.{◌≡◌, ℕ, ◌+◌, ◌≤◌, Bool, true, IsTrue, not, List, [], ◌∷◌, ◌++◌, length};
 ghost use Rattle.std.specs.List.{slice_range};
 ghost use Rattle.hz_core.specs.Netlist.{IsCircuit, IsGateNumber, gate_at};
 ghost use Rattle.hz_core.specs.Pattern.{IsCandidate};
 ghost use Rattle.hz_core.specs.Limits.{most_variables};
-ghost use Rattle.hz_net.specs.Network.{network_of, bit_at};
+ghost use Rattle.hz_net.specs.Network.{network_of, bit_at, IsVariable};
 ghost use Rattle.hz_net.specs.Variables.{at_wires};
 ghost use Rattle.hz_gmw.specs.Runs.{state_after};
 ghost use Rattle.hz_reach.specs.Given.{IsScratchFor};
@@ -25,7 +25,7 @@ use hz_net::Net;
 
 /// Whether a variable is a gate.
 pub fn is_gate(net: &Net, var: u32) -> bool
-    requires { var < length (network_of net.now) }
+    requires { IsVariable net.now var }
     ensures gate { result ≡ is_gate_in (network_of net.now) var }
     ensures number { IsTrue result → IsGateNumber net.now var }
 {
