@@ -24,7 +24,7 @@ use Rattle.hz_cycle.specs.Pass.{IsFixed}
 use Rattle.hz_cycle.specs.Turns.{has_turn_in}
 use Rattle.hz_cycle.proofs.SettledVariables.{refines-state_after, unknown-inside, wire-source, source-is_gate, same-known, no-input}
 use Rattle.hz_cycle.proofs.PassInvariant.{IsInside, HasPatternInside}
-use Rattle.hz_reach.proofs.FlipCounts.{not-not}
+use Rattle.std.proofs.Math.Bool.{not-not}
 
 -- What a gate's turn makes of a state: the gate has the complement of its bit, the wires of its fan-out have the bit that it
 -- had, its other pins have the pattern's bits, and everything else stays.

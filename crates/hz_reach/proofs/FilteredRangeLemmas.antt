@@ -96,14 +96,7 @@ filtered_range-below test first count var i next there =
     omega (arith, next, is.is, is.few)
 
 -- the next number is picked, or not
-pub filtered_range-more : (test : ℕ → Bool) (first count var : ℕ) → var ≡ first + count → test var ≡ true → filtered_range test first count ++ var ∷ [] ≡ filtered_range test first (count + 1)
-filtered_range-more test first count var next passes =
-    let here : test (first + count) ≡ true = subst (λ (n : ℕ). test n ≡ true) next passes in
-    ap (λ (n : ℕ). filtered_range test first count ++ n ∷ []) next
-    ∙ (sym (ap (λ (b : Bool). filtered_range test first count ++ cond b ((first + count) ∷ []) []) here) ∙ (sym (filtered_range-last test first count) ∙ ap (filtered_range test first) (sym (add-one count))))
-
-pub filtered_range-skip : (test : ℕ → Bool) (first count var : ℕ) → var ≡ first + count → test var ≡ false → filtered_range test first count ≡ filtered_range test first (count + 1)
-filtered_range-skip test first count var next fails =
-    let here : test (first + count) ≡ false = subst (λ (n : ℕ). test n ≡ false) next fails in
-    sym (append-nil (filtered_range test first count))
-    ∙ (sym (ap (λ (b : Bool). filtered_range test first count ++ cond b ((first + count) ∷ []) []) here) ∙ (sym (filtered_range-last test first count) ∙ ap (filtered_range test first) (sym (add-one count))))
+pub filtered_range-next : (test : ℕ → Bool) (first count var : ℕ) → var ≡ first + count → filtered_range test first count ++ cond (test var) (var ∷ []) [] ≡ filtered_range test first (count + 1)
+filtered_range-next test first count var next =
+    ap (λ (n : ℕ). filtered_range test first count ++ cond (test n) (n ∷ []) []) next
+    ∙ (sym (filtered_range-last test first count) ∙ ap (filtered_range test first) (sym (add-one count)))

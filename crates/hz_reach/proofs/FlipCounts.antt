@@ -7,6 +7,7 @@ use Rattle.std.proofs.lemmas.List.Sums.{sum_by-cons, sum_by-le, sum_by-le-sum_by
 use Rattle.std.proofs.lemmas.List.{ext_get_or, length-map, get_or-map}
 use Rattle.std.proofs.lemmas.List.FromFn.{length-range_with_len, length-map-range_with_len, get_or-map-range_with_len}
 use Rattle.std.proofs.lemmas.Grind.{get_or_default_zero}
+use Rattle.std.proofs.Math.Bool.{not-not}
 use Rattle.std.proofs.Math.Nat.{mul-add, mul_comm, mul-suc, mul-zero}
 use Rattle.hz_core.specs.declared.tri.Tri.{Tri}
 use Rattle.hz_core.specs.declared.tri.Tri.TheVariants.{Zero, One, Unknown}
@@ -147,10 +148,6 @@ flips_of_spread_run net input start a steps long spread =
     )
 
 -- The end of a run
-
-pub not-not : (bit : Bool) → not (not bit) ≡ bit
-not-not false = refl
-not-not true = refl
 
 -- one change more
 turn-odd : (here : Bool) (changes : ℕ) (bit : Bool) →

@@ -20,11 +20,6 @@ listed-place (x ∷ list) i there =
       | inr later ↦ (let place = listed-place list i later in let inside : place.0 < length list = place.1 in (suc place.0, omega arith, place.2))
     ]
 
--- a list without elements
-pub no-element : {X : Type 0} (list : List X) → length list ≡ 0 → list ≡ []
-no-element [] empty = refl
-no-element (x ∷ list) empty = absurd (omega (arith, empty))
-
 -- what has a key is a variable
 pub key-inside : (keys : List ℕ) (i : ℕ) → key_at keys i ≢ 0 → i < length keys
 key-inside keys i some = elim (cases_lt i (length keys)) [ inl few ↦ few | inr past ↦ absurd (some (get_or_past keys i 0 past)) ]

@@ -8,9 +8,9 @@ use Rattle.hz_net.specs.Starts.{IsStableStart}
 use Rattle.hz_gmw.specs.RunRecord.{RunRecord}
 use Rattle.hz_reach.specs.ScratchState.{ScratchState}
 
--- A change goes from a start that is stable under its own inputs to an input with a bit for each input of the circuit; what
--- Algorithm A gives for it are its result and the ranks.
-pub record AreResultsOfA (netlist : Netlist) (input start : List Bool) (a : List Tri) (ranks : List ℕ) : Type 0 where
+-- A change goes from a start that is stable under its own inputs to an input with a bit for each input of the circuit. Algorithm A
+-- gives its result and the ranks for it.
+pub record AreResultsOfA (netlist : Netlist) (start input : List Bool) (a : List Tri) (ranks : List ℕ) : Type 0 where
   pub begins : IsStableStart netlist start
   pub input_long : IsInput netlist input
   pub a_result : IsResult (algorithm_a (network_of netlist) input start) a

@@ -23,8 +23,8 @@ ghost use Rattle.hz_reach.specs.Given.{AreResultsOfA, IsScratchFor, IsEmptyRun};
 ghost use Rattle.hz_reach.specs.Spread.{IsSpreadRun, IsSparingRun};
 ghost use Rattle.hz_reach.specs.Turn.{changed_inputs, free_pins, earlier_pins, AreTurnWires, IsTurn, unchanged_wires};
 
-use crate::Scratch;
 use crate::turn::{is_gate, take_turn};
+use crate::{Change, Scratch};
 use hz_core::{MAX_PINS, Tri};
 use hz_gmw::Run;
 use hz_net::Net;
@@ -49,7 +49,7 @@ pub fn spread_run(
     scratch: &mut Scratch,
     run: &mut Run,
 )
-    requires change { AreResultsOfA net.now input.now start.now a.now rank.now }
+    requires change { AreResultsOfA net.now start.now input.now a.now rank.now }
     requires scratch { IsScratchFor net.now scratch.old }
     requires run { IsEmptyRun (length (network_of net.now)) run.old }
     ensures run { MatchBool keep_unused
@@ -61,37 +61,38 @@ pub fn spread_run(
     ensures room { Spends run.old run.new }
 {
     scratch.sort(rank);
-    spread_in_order(net, start, input, a, rank, keep_unused, scratch, run);
+    let change = Change { net, start, input };
+    spread_in_order(&change, a, rank, keep_unused, scratch, run);
 }
 
 /// The spread run, if the variables of `scratch` are sorted by rank already. They stay so.
 pub fn spread_in_order(
-    net: &Net,
-    start: &[bool],
-    input: &[bool],
+    change: &Change,
     a: &[Tri],
     rank: &[u32],
     keep_unused: bool,
     scratch: &mut Scratch,
     run: &mut Run,
 )
-    requires change { AreResultsOfA net.now input.now start.now a.now rank.now }
-    requires scratch { IsScratchFor net.now scratch.old }
+    requires change { AreResultsOfA change.now.net.now change.now.start.now change.now.input.now a.now rank.now }
+    requires scratch { IsScratchFor change.now.net.now scratch.old }
     requires sorted { IsInKeyOrder rank.now scratch.old.sorted }
-    requires run { IsEmptyRun (length (network_of net.now)) run.old }
+    requires run { IsEmptyRun (length (network_of change.now.net.now)) run.old }
     ensures run { MatchBool keep_unused
-        (IsSparingRun (network_of net.now) input.now start.now a.now rank.now run.new.steps)
-        (IsSpreadRun (network_of net.now) input.now start.now a.now run.new.steps) }
-    ensures state { scratch.new.state ≡ end_of start.now run.new.steps }
+        (IsSparingRun (network_of change.now.net.now) change.now.input.now change.now.start.now
+        a.now rank.now run.new.steps)
+        (IsSpreadRun (network_of change.now.net.now) change.now.input.now change.now.start.now
+        a.now run.new.steps) }
+    ensures state { scratch.new.state ≡ end_of change.now.start.now run.new.steps }
     ensures marked { scratch.new.marked ≡ [] }
     ensures sorted { IsInKeyOrder rank.now scratch.new.sorted }
     ensures room { Spends run.old run.new }
 {
     // A getter of the network says that its circuit is one.
-    let _variables = net.len();
-    sparing_in_order(net, start, input, a, rank, scratch, run);
+    let _variables = change.net.len();
+    sparing_in_order(change, a, rank, scratch, run);
     if !keep_unused {
-        mark_unchanged(net, start, a, scratch);
+        mark_unchanged(change.net, change.start, a, scratch);
         scratch.step(run);
     }
 }
@@ -99,36 +100,37 @@ pub fn spread_in_order(
 /// The spread run without the wires that it does not need, if the variables of `scratch` are sorted by rank already. They stay
 /// so. With the wires that have not changed as one more step, it is the whole spread run: [`add_unused`] adds them.
 pub fn sparing_in_order(
-    net: &Net,
-    start: &[bool],
-    input: &[bool],
+    change: &Change,
     a: &[Tri],
     rank: &[u32],
     scratch: &mut Scratch,
     run: &mut Run,
 )
-    requires change { AreResultsOfA net.now input.now start.now a.now rank.now }
-    requires scratch { IsScratchFor net.now scratch.old }
+    requires change { AreResultsOfA change.now.net.now change.now.start.now change.now.input.now a.now rank.now }
+    requires scratch { IsScratchFor change.now.net.now scratch.old }
     requires sorted { IsInKeyOrder rank.now scratch.old.sorted }
-    requires run { IsEmptyRun (length (network_of net.now)) run.old }
-    ensures sparing { IsSparingRun (network_of net.now) input.now start.now a.now rank.now run.new.steps }
-    ensures whole { IsSpreadRun (network_of net.now) input.now start.now a.now
-        (with_step_if_any run.new.steps (unchanged_wires net.now a.now start.now scratch.new.state)) }
-    ensures room_for_unused { HasRoomForStep (unchanged_wires net.now a.now start.now scratch.new.state) run.new }
-    ensures state { scratch.new.state ≡ end_of start.now run.new.steps }
+    requires run { IsEmptyRun (length (network_of change.now.net.now)) run.old }
+    ensures sparing { IsSparingRun (network_of change.now.net.now) change.now.input.now change.now.start.now
+        a.now rank.now run.new.steps }
+    ensures whole { IsSpreadRun (network_of change.now.net.now) change.now.input.now change.now.start.now a.now
+        (with_step_if_any run.new.steps
+        (unchanged_wires change.now.net.now a.now change.now.start.now scratch.new.state)) }
+    ensures room_for_unused { HasRoomForStep
+        (unchanged_wires change.now.net.now a.now change.now.start.now scratch.new.state) run.new }
+    ensures state { scratch.new.state ≡ end_of change.now.start.now run.new.steps }
     ensures marked { scratch.new.marked ≡ [] }
     ensures sorted { IsInKeyOrder rank.now scratch.new.sorted }
     ensures room { Spends run.old run.new }
 {
     // A getter of the network says that its circuit is one.
-    let _variables = net.len();
-    scratch.begin(start);
-    mark_inputs(net, start, input, scratch);
+    let _variables = change.net.len();
+    scratch.begin(change.start);
+    mark_inputs(change.net, change.start, change.input, scratch);
     scratch.step(run);
     for place in 0..scratch.sorted().len() {
         let var = scratch.sorted()[place];
-        if is_gate(net, var) {
-            turn_by_rank(net, rank, var, scratch, run);
+        if is_gate(change.net, var) {
+            turn_by_rank(change.net, rank, var, scratch, run);
         }
     }
 }
@@ -140,7 +142,8 @@ pub fn add_unused(net: &Net, start: &[bool], a: &[Tri], scratch: &mut Scratch, r
     requires a { IsState net.now a.now }
     requires scratch { IsScratchFor net.now scratch.old }
     requires room { HasRoomForStep (unchanged_wires net.now a.now start.now scratch.old.state) run.old }
-    ensures steps { run.new.steps ≡ with_step_if_any run.old.steps (unchanged_wires net.now a.now start.now scratch.old.state) }
+    ensures steps { run.new.steps ≡
+        with_step_if_any run.old.steps (unchanged_wires net.now a.now start.now scratch.old.state) }
     ensures room { Spends run.old run.new }
     ensures same { scratch.new ≡ scratch.old }
 {
@@ -161,9 +164,7 @@ fn mark_inputs(net: &Net, start: &[bool], input: &[bool], scratch: &mut Scratch)
     ensures sorted { scratch.new.sorted ≡ scratch.old.sorted }
 {
     for var in 0..net.circuit().inputs() {
-        if start[var as usize] != input[var as usize] {
-            scratch.mark(var);
-        }
+        scratch.mark_if(start[var as usize] != input[var as usize], var);
     }
 }
 
@@ -218,9 +219,7 @@ fn mark_unchanged(net: &Net, start: &[bool], a: &[Tri], scratch: &mut Scratch)
     for wire in net.circuit().nodes()..net.len() {
         let place = wire as usize;
         let now = scratch.state()[place];
-        if has_yet_to_change(a[place], start[place], now) {
-            scratch.mark(wire);
-        }
+        scratch.mark_if(has_yet_to_change(a[place], start[place], now), wire);
     }
 }
 

@@ -100,9 +100,8 @@ fn mark_changed(first: u32, pattern: &[bool], scratch: &mut Scratch)
 {
     for pin in 0..pattern.len() {
         let wire = first + pin as u32;
-        if scratch.state()[wire as usize] != pattern[pin] {
-            scratch.mark(wire);
-        }
+        let now = scratch.state()[wire as usize];
+        scratch.mark_if(now != pattern[pin], wire);
     }
 }
 
@@ -134,8 +133,7 @@ fn mark_with_fan_out(net: &Net, node: u32, scratch: &mut Scratch)
     let now = scratch.state()[node as usize];
     scratch.mark(node);
     for wire in net.fan_out(node) {
-        if scratch.state()[*wire as usize] != now {
-            scratch.mark(*wire);
-        }
+        let own = scratch.state()[*wire as usize];
+        scratch.mark_if(own != now, *wire);
     }
 }

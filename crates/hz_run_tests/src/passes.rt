@@ -89,7 +89,7 @@ fn make_passes<L: Ledger>(
     requires name { ledger.name ≡ L.name }
     requires parts { ledger.parts ≡ L.parts }
     requires some { 0 < ledger.parts }
-    ensures { AreResultsOfBoth net.now input.now start.now a.new ranks.new when.new b.new }
+    ensures { AreResultsOfBoth net.now start.now input.now a.new ranks.new b.new when.new }
 {
     let (book, share) = ledger.open::<L>();
     let mut steps = Steps::new(book, share);
@@ -119,7 +119,7 @@ fn push_runs(
     b: &[Tri],
     text: &mut String,
 ) -> Result<(), Fail>
-    requires { AreResultsOfBoth net.now input.now start.now a.now ranks.now when.now b.now }
+    requires { AreResultsOfBoth net.now start.now input.now a.now ranks.now b.now when.now }
 {
     push_spread(alloc, net, start, input, a, ranks, text)?;
     let variables = net.len() as usize;
@@ -151,7 +151,7 @@ fn push_spread(
     ranks: &[u32],
     text: &mut String,
 ) -> Result<(), Fail>
-    requires { AreResultsOfA net.now input.now start.now a.now ranks.now }
+    requires { AreResultsOfA net.now start.now input.now a.now ranks.now }
 {
     let variables = net.len() as usize;
     let mut scratch = Scratch::new(alloc, net)?;
