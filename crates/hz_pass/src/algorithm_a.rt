@@ -40,11 +40,13 @@ pub fn spread<L: Ledger>(
     requires front { front.old ≡ length (network_of net.now) }
     ensures rounds { AreRounds (algorithm_a (network_of net.now) input.now start.now) result }
     ensures out { out.new ≡ algorithm_a (network_of net.now) input.now start.now result }
-    ensures rank { AreRanks (algorithm_a (network_of net.now) input.now start.now) out.new rank.new }
+    ensures rank { AreRanks (algorithm_a (network_of net.now) input.now start.now)
+        out.new rank.new }
     ensures bound { result ≤ length (network_of net.now) + 1 }
     ensures front { front.new ≡ front.old }
     ensures least_steps { steps.old + differing_count (map tri_of start.now) out.new ≤ steps.new }
-    ensures most_steps { steps.new ≤ steps.old + (length (network_of net.now) + 2 * length (wires_of net.now)) }
+    ensures most_steps { steps.new
+        ≤ steps.old + (length (network_of net.now) + 2 * length (wires_of net.now)) }
 {
     let variables = net.len();
     write_bits(start, out);
@@ -77,7 +79,8 @@ pub fn spread_stable<L: Ledger>(
     requires front { front.old ≡ length (network_of net.now) }
     ensures rounds { AreRounds (algorithm_a (network_of net.now) input.now start.now) result }
     ensures out { out.new ≡ algorithm_a (network_of net.now) input.now start.now result }
-    ensures rank { AreRanks (algorithm_a (network_of net.now) input.now start.now) out.new rank.new }
+    ensures rank { AreRanks (algorithm_a (network_of net.now) input.now start.now)
+        out.new rank.new }
     ensures bound { result ≤ length (network_of net.now) + 1 }
     ensures front { front.new ≡ front.old }
     ensures least_steps { steps.old + differing_count (map tri_of start.now) out.new ≤ steps.new }
@@ -114,12 +117,14 @@ pub fn spread_from<L: Ledger>(
     requires front { front.old ≡ length (network_of net.now) }
     ensures rounds { AreRounds (algorithm_a_from (network_of net.now) input.now state.old) result }
     ensures state { state.new ≡ algorithm_a_from (network_of net.now) input.now state.old result }
-    ensures rank { AreRanks (algorithm_a_from (network_of net.now) input.now state.old) state.new rank.new }
+    ensures rank { AreRanks (algorithm_a_from (network_of net.now) input.now state.old)
+        state.new rank.new }
     ensures below { AllBelow (excitations (network_of net.now) input.now state.new) state.new }
     ensures bound { result ≤ length (network_of net.now) + 1 }
     ensures front { front.new ≡ front.old }
     ensures least_steps { steps.old + differing_count state.old state.new ≤ steps.new }
-    ensures most_steps { steps.new ≤ steps.old + (length (network_of net.now) + 2 * length (wires_of net.now)) }
+    ensures most_steps { steps.new
+        ≤ steps.old + (length (network_of net.now) + 2 * length (wires_of net.now)) }
 {
     let count = net.len();
     let pass = Pass {

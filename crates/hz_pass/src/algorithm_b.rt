@@ -39,11 +39,13 @@ pub fn settle<L: Ledger>(
     requires front { front.old ≡ length (network_of net.now) }
     ensures rounds { AreRounds (algorithm_b (network_of net.now) input.now state.old) result }
     ensures state { state.new ≡ algorithm_b (network_of net.now) input.now state.old result }
-    ensures when { AreSettlingRounds (algorithm_b (network_of net.now) input.now state.old) state.old state.new when.new }
+    ensures when { AreSettlingRounds
+        (algorithm_b (network_of net.now) input.now state.old) state.old state.new when.new }
     ensures bound { result ≤ length (network_of net.now) + 1 }
     ensures front { front.new ≡ front.old }
     ensures least_steps { steps.old + differing_count state.old state.new ≤ steps.new }
-    ensures most_steps { steps.new ≤ steps.old + (length (network_of net.now) + 2 * length (wires_of net.now)) }
+    ensures most_steps { steps.new
+        ≤ steps.old + (length (network_of net.now) + 2 * length (wires_of net.now)) }
 {
     let variables = net.len();
     let pass = Pass {

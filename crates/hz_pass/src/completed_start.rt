@@ -35,7 +35,8 @@ pub enum StartFault {
 pub fn complete(alloc: Global, net: &Net, listed: &[Option<bool>]) -> Result<Vec<bool>, StartFault>
     requires listed { length listed.now ≡ length net.now.names }
     requires inputs { ListsInputs net.now listed.now }
-    ensures start { MatchResult result (λ state. IsAcceptedStart net.now listed.now state.items) (IsStartFault net.now listed.now) }
+    ensures start { MatchResult result (λ state. IsAcceptedStart net.now listed.now state.items)
+        (IsStartFault net.now listed.now) }
 {
     let Ok(values) = forced_values(alloc, net, listed) else {
         return Err(StartFault::Memory);
@@ -57,7 +58,8 @@ pub fn complete(alloc: Global, net: &Net, listed: &[Option<bool>]) -> Result<Vec
 fn least_open(net: &Net, values: &[Tri]) -> Option<u32>
     requires circuit { IsCircuit net.now }
     requires values { IsState net.now values.now }
-    ensures { MatchOption result ((node : ℕ) → primary_inputs net.now ≤ node → node < length net.now.names → value_at values.now node ≢ Unknown)
+    ensures { MatchOption result ((node : ℕ) → primary_inputs net.now ≤ node
+        → node < length net.now.names → value_at values.now node ≢ Unknown)
         (λ node. IsLeastUnknown net.now values.now node) }
 {
     let circuit = net.circuit();
@@ -73,12 +75,11 @@ fn least_open(net: &Net, values: &[Tri]) -> Option<u32>
 fn state_of(alloc: Global, net: &Net, values: &[Tri]) -> Result<Vec<bool>, Memory>
     requires circuit { IsCircuit net.now }
     requires values { IsState net.now values.now }
-    ensures { IfOk result (λ state. state.items ≡ expansion_of net.now (map bit_or_zero (take (length net.now.names) values.now))) }
+    ensures { IfOk result (λ state. state.items
+        ≡ expansion_of net.now (map bit_or_zero (take (length net.now.names) values.now))) }
 {
     let nodes = bits_of(alloc, &values[..net.circuit().nodes() as usize])?;
-    let Ok(mut state) = vec![in alloc; false; net.len() as usize] else {
-        return Err(Memory);
-    };
+    let mut state = vec![in alloc; false; net.len() as usize]?;
     net.expand(nodes.as_slice(), state.as_mut_slice());
     Ok(state)
 }
@@ -87,13 +88,10 @@ fn state_of(alloc: Global, net: &Net, values: &[Tri]) -> Result<Vec<bool>, Memor
 fn bits_of(alloc: Global, values: &[Tri]) -> Result<Vec<bool>, Memory>
     ensures { IfOk result (λ bits. bits.items ≡ map bit_or_zero values.now) }
 {
-    let Ok(bits) = values
+    let bits = values
         .iter()
         .map(|value| value.bit().unwrap_or(false))
-        .collect(alloc)
-    else {
-        return Err(Memory);
-    };
+        .collect(alloc)?;
     Ok(bits)
 }
 
@@ -102,7 +100,8 @@ fn least_unstable(net: &Net, state: &[bool]) -> Option<u32>
     requires circuit { IsCircuit net.now }
     requires state { IsState net.now state.now }
     ensures { MatchOption result
-        ((gate : ℕ) → IsGateNumber net.now gate → bit_at state.now gate ≡ excitation (network_of net.now) (take net.now.inputs state.now) state.now gate)
+        ((gate : ℕ) → IsGateNumber net.now gate → bit_at state.now gate
+        ≡ excitation (network_of net.now) (take net.now.inputs state.now) state.now gate)
         (λ gate. IsLeastUnstableIn net.now state.now gate) }
 {
     let circuit = net.circuit();

@@ -10,7 +10,7 @@ use hz_net::Net;
 use hz_outside::Steps;
 use std::sync::ledger::Ledger;
 
-// How a round makes the next value of a variable of its value and its excitation.
+/// How a round makes the next value of a variable of its value and its excitation.
 #[derive(Clone, Copy, Debug)]
 pub(crate) enum Rule {
     // Algorithm A joins them.
@@ -41,7 +41,7 @@ impl Rule {
     }
 }
 
-// A round from a state. What it makes is written into another list, so no evaluation sees a value of this round.
+/// A round from a state. What it makes is written into another list, so no evaluation sees a value of this round.
 #[derive(Clone, Copy, Debug)]
 pub(crate) struct Round<'a> {
     pub rule: Rule,
@@ -51,7 +51,7 @@ pub(crate) struct Round<'a> {
 }
 
 impl Round<'_> {
-    // Evaluates the variables below a number. The round leaves all others as they are.
+    /// Evaluates the variables below a number. The round leaves all others as they are.
     pub(crate) fn evaluate_first<L: Ledger>(
         &self,
         count: u32,
@@ -75,7 +75,7 @@ impl Round<'_> {
         }
     }
 
-    // Evaluates the readers of the variables that the round before changed, which are due.
+    /// Evaluates the readers of the variables that the round before changed, which are due.
     pub(crate) fn evaluate_readers<L: Ledger>(
         &self,
         due: &[u32],
@@ -117,7 +117,8 @@ impl Round<'_> {
         ensures kept { KeepsMade self.now next.old next.new }
         ensures room { vec_capacity changed.new ≡ vec_capacity changed.old }
         ensures steps { steps.new ≡ steps.old + length list.now }
-        ensures counted { steps.old + length changed.new.items ≤ steps.new + length changed.old.items }
+        ensures counted { steps.old + length changed.new.items
+            ≤ steps.new + length changed.old.items }
     {
         for var in list {
             self.evaluate(*var, next, changed, steps);
@@ -142,7 +143,8 @@ impl Round<'_> {
         ensures kept { KeepsMade self.now next.old next.new }
         ensures room { vec_capacity changed.new ≡ vec_capacity changed.old }
         ensures steps { steps.new ≡ steps.old + 1 }
-        ensures counted { steps.old + length changed.new.items ≤ steps.new + length changed.old.items }
+        ensures counted { steps.old + length changed.new.items
+            ≤ steps.new + length changed.old.items }
     {
         if self.rule.is_final(next[var as usize]) {
             steps.tick();
@@ -157,7 +159,7 @@ impl Round<'_> {
     }
 }
 
-// Takes the changed values over into the state, and notes the round at each of them.
+/// Takes the changed values over into the state, and notes the round at each of them.
 pub(crate) fn take_over(
     changed: &[u32],
     next: &[Tri],
@@ -169,7 +171,8 @@ pub(crate) fn take_over(
     requires state { length state.old ≡ length next.now }
     requires noted { length noted.old ≡ length next.now }
     ensures state { state.new ≡ with_values_of next.now state.old changed.now }
-    ensures noted { noted.new ≡ fold (λ noted var. slice_set noted var round) noted.old changed.now }
+    ensures noted { noted.new ≡ fold
+        (λ noted var. slice_set noted var round) noted.old changed.now }
 {
     for var in changed {
         state[*var as usize] = next[*var as usize];
