@@ -138,12 +138,12 @@ module _ {net : List Driver} {input : List Bool} {ranks : List ℕ} {b : List Tr
             };
             lasts = λ waits. elim (either-value (value_at b waits.0)) [
               | inl unknown ↦ (
-                  let other = both waits.0 (not waits.2) unknown in
-                  let holds = all-contains (λ (now : List Bool). (bit_at now waits.0 ≡ waits.2) × IsUnstable net input now waits.0) (states_of state (first ++ second)) other.0 waits.3 other.1 in
-                  not-itself waits.2 (sym other.2 ∙ holds.0)
+                  let other = both waits.0 (not waits.2.0) unknown in
+                  let holds = all-contains (λ (now : List Bool). (bit_at now waits.0 ≡ waits.2.0) × IsUnstable net input now waits.0) (states_of state (first ++ second)) other.0 waits.2.1 other.1 in
+                  not-itself waits.2.0 (sym other.2 ∙ holds.0)
                   )
               | inr known ↦ (
-                  let holds = all-contains (λ (now : List Bool). (bit_at now waits.0 ≡ waits.2) × IsUnstable net input now waits.0) (states_of state (first ++ second)) state waits.3 (contains-begin state (first ++ second)) in
+                  let holds = all-contains (λ (now : List Bool). (bit_at now waits.0 ≡ waits.2.0) × IsUnstable net input now waits.0) (states_of state (first ++ second)) state waits.2.1 (contains-begin state (first ++ second)) in
                   holds.1 (known-stable fixed state waits.0 turned.settled waits.1 known)
                   )
             ];

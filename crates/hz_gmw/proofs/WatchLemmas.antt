@@ -21,7 +21,8 @@ use Rattle.hz_net.proofs.Wired.{wired-network_of, is_gate_of}
 use Rattle.hz_gmw.specs.Runs.{is_listed, IsRepeatFree, IsStep, state_after}
 use Rattle.hz_gmw.specs.Instability.{is_unstable, unstable_variables, unstable_count}
 use Rattle.hz_gmw.specs.VariableSets.{AreMembers}
-use Rattle.hz_gmw.specs.CurrentState.{IsKindAt, unstable_from, with_marks}
+use Rattle.hz_gmw.specs.CurrentState.{unstable_from, with_marks}
+use Rattle.hz_net.specs.Driven.{IsDrivenAs}
 use Rattle.hz_gmw.specs.Replayer.{Replayer, watched_after}
 use Rattle.hz_gmw.specs.Watches.{lapses, is_watched, watched_variables, unstable_unchanged, RecordsStable}
 use Rattle.hz_gmw.proofs.Bits.{beq-same}
@@ -78,9 +79,9 @@ node-into netlist node gate circuit inside into =
     omega (arith, place, above, inside)
 
 -- a variable that is no wire goes into none
-pub no-wire-into : (netlist : Netlist) (var : ℕ) (kind : VarKind) → IsCircuit netlist → IsKindAt netlist var kind → ((gate pin source : ℕ) → kind ≡ WireVariable gate pin source → ⊥) → (gate : ℕ) → IsWireInto (network_of netlist) gate var → ⊥
-no-wire-into netlist var (Input number) circuit at other gate into = node-into netlist var gate circuit at.2 into
-no-wire-into netlist var (GateVariable kind) circuit at other gate into = node-into netlist var gate circuit at.1.1 into
+pub no-wire-into : (netlist : Netlist) (var : ℕ) (kind : VarKind) → IsCircuit netlist → IsDrivenAs netlist var kind → ((gate pin source : ℕ) → kind ≡ WireVariable gate pin source → ⊥) → (gate : ℕ) → IsWireInto (network_of netlist) gate var → ⊥
+no-wire-into netlist var (Input number) circuit at other gate into = node-into netlist var gate circuit at.is_node into
+no-wire-into netlist var (GateVariable kind) circuit at other gate into = node-into netlist var gate circuit at.is_gate.1 into
 no-wire-into netlist var (WireVariable named pin source) circuit at other gate into = other named pin source refl
 
 -- a wire whose gate is unstable

@@ -41,6 +41,11 @@ abbrev pub end_of : List Bool → List (List ℕ) → List Bool
 end_of state [] = state
 end_of state (flips ∷ steps) = end_of (state_after flips state) steps
 
+-- the states of a run, its first one included
+abbrev pub states_of : List Bool → List (List ℕ) → List (List Bool)
+states_of state [] = state ∷ []
+states_of state (flips ∷ steps) = state ∷ states_of (state_after flips state) steps
+
 -- some run from the start ends in the state
 abbrev pub IsReachable : List Driver → List Bool → List Bool → List Bool → Type 0
 IsReachable net input start state =

@@ -37,7 +37,8 @@ impl<'n> Model for Follower<'n> {
 impl<'n> Follower<'n> {
     /// It begins where every input and every variable is 0.
     pub fn new(alloc: Global, net: &'n Net) -> Result<Follower<'n>, Memory>
-        ensures { IfOk result (λ follower. follower ≡ follower_at net.now (replicate net.now.inputs false) (replicate (length (network_of net.now)) false)) }
+        ensures { IfOk result (λ follower. follower ≡ follower_at net.now
+            (replicate net.now.inputs false) (replicate (length (network_of net.now)) false)) }
     {
         let current = CurrentState::new(alloc, net)?;
         Ok(Follower { net, current })
@@ -64,7 +65,8 @@ impl<'n> Follower<'n> {
 
     /// How many variables are unstable in the current state.
     pub fn unstable_count(&self) -> u32
-        ensures { result ≡ unstable_count (network_of self.now.circuit) self.now.input self.now.state }
+        ensures { result
+            ≡ unstable_count (network_of self.now.circuit) self.now.input self.now.state }
     {
         self.current.unstable
     }

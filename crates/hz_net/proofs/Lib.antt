@@ -24,3 +24,5 @@ pub mod Readers
 pub mod StartLemmas
 -- Algorithm A from a ternary state: how long its states are, how they grow, and where the sequences of both passes stop
 pub mod TernaryStarts
+-- What a variable is says how it is driven
+pub mod DrivenLemmas

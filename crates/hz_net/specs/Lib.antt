@@ -28,6 +28,7 @@
 -- IsStableStart netlist state: a state that is stable under its own inputs
 -- IsAcceptedStart netlist listed state: a completed start that is stable
 -- IsLeastOpen netlist listed node, IsLeastUnstable netlist listed gate: why a start is refused
+-- IsDrivenAs netlist var kind: how a variable is driven, by what it is
 -- algorithm_a_from net input first round: the states of Algorithm A from a ternary state
 -- SettlesTo net input first settled: Algorithm A from a ternary state, and Algorithm B from its result, lead to another
 -- unknown_start net held: each held node has its bit, and every other variable is X
@@ -37,6 +38,7 @@
 pub mod Network
 pub mod Variables
 pub mod Reads
+pub mod Driven
 pub mod Entries
 pub mod Parts
 pub mod FanOuts

@@ -15,8 +15,8 @@ use hz_net::Net;
 use hz_outside::Steps;
 use std::sync::ledger::Ledger;
 
-/// Algorithm A of Brzozowski and Seger: from the start, under the new input, each round joins every variable with its
-/// ternary excitation, until a round changes nothing.
+/// Algorithm A of Brzozowski and Seger (*Asynchronous Circuits*, Springer 1995): from the start, under the new input, each round
+/// joins every variable with its ternary excitation, until a round changes nothing.
 ///
 /// Writes the result into `out` and the rank of each variable into `rank`, and returns the rounds, the last one
 /// included, which changes nothing. The first round evaluates every variable, a later one only the readers of what the

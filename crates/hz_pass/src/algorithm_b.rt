@@ -13,9 +13,9 @@ use hz_net::Net;
 use hz_outside::Steps;
 use std::sync::ledger::Ledger;
 
-/// Algorithm B of Brzozowski and Seger: each round puts the ternary excitations in place of the state, until a round
-/// changes nothing. From the result of Algorithm A it finds the values that may persist. The excitations of the state that
-/// it begins with lie below that state.
+/// Algorithm B of Brzozowski and Seger (*Asynchronous Circuits*, Springer 1995): each round puts the ternary excitations in
+/// place of the state, until a round changes nothing. From the result of Algorithm A it finds the values that may persist.
+/// The excitations of the state that it begins with lie below that state.
 ///
 /// Turns `state` into the result, writes into `when` the first round in which a variable that was X is 0 or 1, and 0
 /// for every other variable, and returns the rounds, the last one included, which changes nothing. The first round
