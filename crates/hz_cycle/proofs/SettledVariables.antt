@@ -15,9 +15,10 @@ use Rattle.hz_core.proofs.Patterns.{candidate-extension}
 use Rattle.hz_net.specs.Network.{Driver, External, Function, Source, driver_at, bit_at, value_at, driver_value3, excitation}
 use Rattle.hz_net.specs.Passes.{algorithm_b, IsKnown, IsUnknown, AreRounds}
 use Rattle.hz_net.proofs.Excitations.{admits-driver_value, at-excitations}
-use Rattle.hz_net.proofs.PartLemmas.{length-part}
+use Rattle.hz_lists.proofs.PartLemmas.{length-part}
 use Rattle.hz_net.proofs.Sequences.{length-algorithm_b}
-use Rattle.hz_gmw.specs.Runs.{is_listed, state_after}
+use Rattle.hz_lists.specs.Listed.{is_listed}
+use Rattle.hz_gmw.specs.Runs.{state_after}
 use Rattle.hz_gmw.proofs.Flips.{length-state_after, at-state_after}
 use Rattle.hz_net.specs.Reads.{IsWired}
 use Rattle.hz_reach.specs.Turn.{is_gate_in}

@@ -6,7 +6,7 @@ ghost use Rattle.hz_desk.specs.ResultsOfPasses.{ArePassResults, HavePassRoom};
 
 use hz_core::{Memory, Tri};
 use hz_net::Net;
-use hz_outside::Steps;
+use hz_lists::Steps;
 use hz_pass::{Front, settle, spread_stable};
 use std::alloc::Global;
 use std::marker::Brand;

@@ -12,7 +12,7 @@ use crate::round::Rule;
 use crate::rounds::make_rounds;
 use hz_core::Tri;
 use hz_net::Net;
-use hz_outside::Steps;
+use hz_lists::Steps;
 use std::sync::ledger::Ledger;
 
 /// Algorithm A of Brzozowski and Seger: from the start, under the new input, each round joins every variable with its

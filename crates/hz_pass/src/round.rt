@@ -6,7 +6,7 @@ ghost use Rattle.hz_pass.specs.Frontier.{next_value, is_open, Falls, IsMade, IsQ
 
 use hz_core::Tri;
 use hz_net::Net;
-use hz_outside::Steps;
+use hz_lists::Steps;
 use std::sync::ledger::Ledger;
 
 // How a round makes the next value of a variable of its value and its excitation.

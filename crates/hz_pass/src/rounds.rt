@@ -9,7 +9,7 @@ use crate::front::Front;
 use crate::round::{Round, Rule, take_over};
 use hz_core::Tri;
 use hz_net::Net;
-use hz_outside::Steps;
+use hz_lists::Steps;
 use std::mem::swap;
 use std::sync::ledger::Ledger;
 

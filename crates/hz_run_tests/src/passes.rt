@@ -9,7 +9,7 @@ use hz_core::Tri;
 use hz_cycle::{cycle_run, settle_run};
 use hz_gmw::Run;
 use hz_net::Net;
-use hz_outside::Steps;
+use hz_lists::Steps;
 use hz_pass::{Front, settle, spread};
 use hz_reach::{Scratch, spread_run};
 use hz_samples::{LATCH, TWO_WIRES, net_of, push_numbers, push_values, runs_of};
