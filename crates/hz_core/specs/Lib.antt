@@ -1,6 +1,5 @@
 -- Words, with their arguments, in the order in which one needs them.
 --
--- option_min one other: the lesser of two numbers that may be there
 -- tri_of bit: the ternary value 0 or 1
 -- known_bit value: the bit of a value that is not X
 -- is_unknown value: the value is X

@@ -3,6 +3,7 @@
 -- is_listed list i, IsRepeatFree list: a list names a number; it names none twice
 -- parts_from start ends list: a list that is cut into parts
 -- IsLeast holds i, IsLeastOf holds found: the least number for which something holds
+-- option_min one other: the lesser of two numbers that may be there
 -- least_of marks, greatest_of marks: the first and the last place that is marked
 -- most_numbers: the greatest count of a set of numbers
 -- slot_bit words place: a bit in words of 64

@@ -5,8 +5,8 @@ ghost use Rattle.hz_net.specs.Network.{network_of, IsState, IsInput, IsVariable}
 ghost use Rattle.hz_pass.specs.Frontier.{next_value, is_open, Falls, IsMade, IsQuiet, IsRoundSoFar, IsRound, reader_count, with_values_of};
 
 use hz_core::Tri;
-use hz_net::Net;
 use hz_lists::Steps;
+use hz_net::Net;
 use std::sync::ledger::Ledger;
 
 // How a round makes the next value of a variable of its value and its excitation.

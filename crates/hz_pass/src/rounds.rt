@@ -8,8 +8,8 @@ ghost use Rattle.hz_pass.specs.Frontier.{Falls, IsMade, round_states, AreFirstRo
 use crate::front::Front;
 use crate::round::{Round, Rule, take_over};
 use hz_core::Tri;
-use hz_net::Net;
 use hz_lists::Steps;
+use hz_net::Net;
 use std::mem::swap;
 use std::sync::ledger::Ledger;
 
