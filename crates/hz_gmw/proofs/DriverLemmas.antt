@@ -11,20 +11,9 @@ use Rattle.hz_net.proofs.Places.{no_wire, length-network_of}
 use Rattle.hz_net.proofs.Wires.{IsWireFrom-driver_at, driver_at-IsWireFrom, Contains-fan_out_of, IsWireFrom-fan_out_of, variable_kinds-wire}
 use Rattle.hz_net.proofs.Wired.{is_gate_of, gate-named, named-into}
 use Rattle.hz_net.proofs.Readers.{node-readers, wire-readers, readers-inside}
-use Rattle.hz_gmw.specs.Runs.{is_listed, IsRepeatFree}
+use Rattle.hz_lists.specs.Listed.{is_listed, IsRepeatFree}
 use Rattle.hz_gmw.specs.CurrentState.{with_readers}
-use Rattle.hz_gmw.proofs.LeastLemmas.{listed-cases, listed-other, listed-Contains}
-
-pub Contains-listed : (list : List ℕ) (i : ℕ) → is_listed list i ≡ true → Contains list i
-Contains-listed [] i there = absurd (false≢true there)
-Contains-listed (x ∷ list) i there = elim (listed-cases i x list there) [
-  | inl same ↦ (0, omega arith, sym same)
-  | inr rest ↦ (
-      let found = Contains-listed list i rest in
-      let few : found.0 < length list = found.1 in
-      (suc found.0, omega (arith, few), found.2)
-      )
-]
+use Rattle.hz_lists.proofs.ListedLemmas.{first-or-later, listed-other, listed-Contains, Contains-listed}
 
 -- a wire from a node is driven by it
 pub fan-driver : (netlist : Netlist) (node wire : ℕ) → IsCircuit netlist → is_listed (fan_out_of netlist node) wire ≡ true → driver_at (network_of netlist) wire ≡ Source node
@@ -44,7 +33,7 @@ driver-fan netlist node wire circuit driven =
 readers-above : (first : ℕ) (wires : List Wire) (node i : ℕ) → is_listed (readers_from first wires node) i ≡ true → first ≤ i
 readers-above first [] node i there = absurd (false≢true there)
 readers-above first (wire ∷ wires) node i there = elim (cases_Bool (nat_eq wire.source node)) [
-  | inl same ↦ elim (listed-cases i first (readers_from (suc first) wires node) (rw same at there)) [
+  | inl same ↦ elim (first-or-later i first (readers_from (suc first) wires node) (rw same at there)) [
     | inl here ↦ omega (arith, here)
     | inr rest ↦ (let later = readers-above (suc first) wires node i rest in omega (arith, later))
   ]

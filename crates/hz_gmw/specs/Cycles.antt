@@ -3,7 +3,6 @@ use Rattle.std.specs.Prelude.{◌≡◌, ℕ, ◌<◌, Bool, List, [], length, C
 use Rattle.std.specs.List.{AllByRecursion}
 use Rattle.hz_net.specs.Network.{Driver, bit_at, IsUnstable, IsStable}
 use Rattle.hz_gmw.specs.Runs.{IsRun, end_of, IsReachable}
-
 -- the states of a run, for those who speak of cycles
 pub use Rattle.hz_gmw.specs.Runs.{states_of}
 

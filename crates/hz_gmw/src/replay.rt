@@ -2,7 +2,7 @@
 ghost use Rattle.std.specs.Prelude.{◌≡◌, ◌<◌, ◌↔◌, ◌≢◌, ℕ, List, [], ◌∷◌, ◌++◌, false, length, replicate, All, MatchOption, IfOk, IfErr, OnOk, IsTrue, is_ok, if◌then◌else◌};
 ghost use Rattle.hz_net.specs.Network.{network_of, bit_at, IsUnstable, IsState, IsInput, IsVariable};
 ghost use Rattle.hz_gmw.specs.Instability.{unstable_count};
-ghost use Rattle.hz_core.specs.Least.{IsLeastOf};
+ghost use Rattle.hz_lists.specs.Least.{IsLeastOf};
 ghost use Rattle.hz_gmw.specs.Replayer.{StandsFor, replayer_at, initial_replayer, replayer_after};
 ghost use Rattle.hz_gmw.specs.ReplayAnswers.{IsStepFor, IsStepFaultFor, IsCycleFor, IsCycleFaultFor};
 ghost use Rattle.hz_gmw.specs.CurrentState.{with_bits_of};
