@@ -1,13 +1,8 @@
 -- Variables in a list, by their places.
-use Rattle.std.proofs.Common.{◌≡◌, ◌≢◌, ℕ, ◌<◌, List, [], ◌∷◌, length, refl, arith, inl, inr}
+use Rattle.std.proofs.Common.{◌≢◌, ℕ, ◌<◌, List, length, arith, inl, inr}
 use Rattle.std.proofs.lemmas.Bool.{cases_lt}
 use Rattle.std.proofs.lemmas.List.{get_or_past}
 use Rattle.hz_reach.specs.Order.{key_at}
-
--- a list without elements
-pub no-element : {X : Type 0} (list : List X) → length list ≡ 0 → list ≡ []
-no-element [] empty = refl
-no-element (x ∷ list) empty = absurd (omega (arith, empty))
 
 -- what has a key is a variable
 pub key-inside : (keys : List ℕ) (i : ℕ) → key_at keys i ≢ 0 → i < length keys

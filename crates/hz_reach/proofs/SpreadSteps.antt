@@ -19,7 +19,7 @@ use Rattle.hz_reach.specs.Room.{with_step_if_any, Spends, HasRoomFor, HasRoomFor
 use Rattle.hz_reach.specs.ScratchState.{ScratchState}
 use Rattle.hz_reach.specs.Spread.{IsSpreadRun, IsSparingRun}
 use Rattle.hz_reach.specs.Turn.{is_gate_in, changed_inputs, earlier_pins, unchanged_wires, AreTurnWires, IsTurn}
-use Rattle.hz_lists.proofs.ListedLemmas.{listed-cases, listed-left, listed-right, is_repeat_free-append, listed-at}
+use Rattle.hz_lists.proofs.ListedLemmas.{listed-cases, listed-left, listed-right, is_repeat_free-append}
 use Rattle.hz_reach.proofs.FilteredRangeLemmas.{filtered_range-is, is-filtered_range, filtered_range-once, differs-true, true-differs}
 use Rattle.hz_reach.proofs.RanksOrderGates.{IsChangedAfter, AreTurns, turns-of}
 use Rattle.hz_reach.proofs.Order.{had_before, also, IsNext, all-had, after-turns, order-found}
