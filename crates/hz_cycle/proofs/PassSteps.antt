@@ -9,7 +9,8 @@ use Rattle.hz_core.specs.Ternary.{is_unknown}
 use Rattle.hz_core.specs.Pattern.{IsPattern}
 use Rattle.hz_net.specs.Network.{Driver, Function, Source, driver_at, bit_at, value_at, External}
 use Rattle.hz_net.specs.Passes.{IsKnown, IsUnknown}
-use Rattle.hz_gmw.specs.Runs.{is_listed, IsRun, state_after, end_of}
+use Rattle.hz_lists.specs.Listed.{is_listed}
+use Rattle.hz_gmw.specs.Runs.{IsRun, state_after, end_of}
 use Rattle.hz_gmw.specs.Cycles.{states_of}
 use Rattle.hz_reach.specs.Order.{IsEarlier}
 use Rattle.hz_reach.specs.Room.{with_step_if_any}

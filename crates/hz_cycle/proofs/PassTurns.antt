@@ -18,7 +18,7 @@ use Rattle.hz_net.specs.Network.{Driver, External, Function, Source, network_of,
 use Rattle.hz_net.specs.Variables.{first_wire, at_wires}
 use Rattle.hz_net.specs.Passes.{IsUnknown}
 use Rattle.hz_net.proofs.Places.{driver_at-gate}
-use Rattle.hz_net.proofs.PartLemmas.{length-part}
+use Rattle.hz_lists.proofs.PartLemmas.{length-part}
 use Rattle.hz_net.proofs.Wired.{wired-network_of}
 use Rattle.hz_gmw.specs.Runs.{state_after}
 use Rattle.hz_gmw.specs.RunRecord.{RunRecord}
@@ -32,7 +32,7 @@ use Rattle.hz_reach.proofs.FlipCounts.{flips_are_changes}
 use Rattle.hz_reach.proofs.GateTurn.{IsFunction, gate-number, pin-inside, unknown-is, is-unknown}
 use Rattle.hz_reach.proofs.Order.{had_before, also, IsNext, all-had, after-turns, order-found}
 use Rattle.hz_reach.proofs.TurnLoop.{AreTurnsThatKeep, IsAtPlace, at-begin}
-use Rattle.hz_reach.proofs.ListPlaces.{key-inside, listed-at}
+use Rattle.hz_reach.proofs.ListPlaces.{key-inside}
 use Rattle.hz_reach.proofs.Room.{flips-after, room-left, spends-none}
 use Rattle.hz_cycle.specs.Pass.{IsFixed, AreFixedAndRanked, MayBegin, AreEnough, HasRoom, IsPass, IsPassMade}
 use Rattle.hz_cycle.specs.Turns.{has_turn_in, unsettled_pins}

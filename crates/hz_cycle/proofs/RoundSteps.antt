@@ -11,7 +11,8 @@ use Rattle.hz_net.specs.Network.{Driver, driver_at, bit_at, value_at, excitation
 use Rattle.hz_net.specs.Passes.{excitations, algorithm_b, IsKnown, IsUnknown, IsFirstRound, IsSettlingRound}
 use Rattle.hz_net.proofs.Excitations.{admits-driver_value, at-excitations}
 use Rattle.hz_net.proofs.Sequences.{length-algorithm_b, AllBelow-algorithm_b}
-use Rattle.hz_gmw.specs.Runs.{is_listed, IsRepeatFree, IsStep, IsRun, state_after, end_of}
+use Rattle.hz_lists.specs.Listed.{is_listed, IsRepeatFree}
+use Rattle.hz_gmw.specs.Runs.{IsStep, IsRun, state_after, end_of}
 use Rattle.hz_gmw.proofs.CoverB.{length-end_of}
 use Rattle.hz_reach.specs.FilteredRange.{filtered_range}
 use Rattle.hz_reach.specs.Order.{key_at}

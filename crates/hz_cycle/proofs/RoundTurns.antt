@@ -7,15 +7,15 @@ use Rattle.std.proofs.lemmas.List.Elements.{filter-append}
 use Rattle.hz_core.specs.declared.tri.Tri.{Tri}
 use Rattle.hz_core.specs.Ternary.{admits}
 use Rattle.hz_net.specs.Network.{Driver, bit_at, value_at}
-use Rattle.hz_gmw.specs.Runs.{is_listed, state_after}
+use Rattle.hz_lists.specs.Listed.{is_listed}
+use Rattle.hz_gmw.specs.Runs.{state_after}
 use Rattle.hz_gmw.specs.RunRecord.{RunRecord}
 use Rattle.hz_gmw.proofs.Flips.{length-state_after}
 use Rattle.hz_reach.specs.Order.{key_at, IsEarlier, IsInKeyOrder}
 use Rattle.hz_reach.specs.Room.{with_step_if_any, Spends, HasRoomFor, HasRoomForStep}
 use Rattle.hz_reach.specs.ScratchState.{ScratchState}
-use Rattle.hz_reach.proofs.ListPlaces.{listed-at, listed-place}
+use Rattle.hz_lists.proofs.ListedLemmas.{listed-at, listed-place, Ascends, ascends-once, ascends-filter, filtered-is, is-filtered}
 use Rattle.hz_cycle.specs.Rounds.{differing_variables, IsOneRound, AreRoundsOf, AreRoundsMade}
-use Rattle.hz_reach.proofs.DistinctLists.{Ascends, ascends-once, ascends-filter, filtered-is, is-filtered}
 use Rattle.hz_reach.proofs.FlipCounts.{flips_per_variable}
 use Rattle.hz_reach.proofs.ListPlaces.{key-inside}
 use Rattle.hz_reach.proofs.Room.{steps-after, flips-after, room-for-step, room-left, spends-none, spends-more}

@@ -15,9 +15,10 @@ use Rattle.hz_core.proofs.Patterns.{candidate-extension}
 use Rattle.hz_net.specs.Network.{Driver, External, Function, Source, driver_at, bit_at, value_at, driver_value3, excitation}
 use Rattle.hz_net.specs.Passes.{algorithm_b, IsKnown, IsUnknown, AreRounds}
 use Rattle.hz_net.proofs.Excitations.{admits-driver_value, at-excitations}
-use Rattle.hz_net.proofs.PartLemmas.{length-part}
+use Rattle.hz_lists.proofs.PartLemmas.{length-part}
 use Rattle.hz_net.proofs.Sequences.{length-algorithm_b}
-use Rattle.hz_gmw.specs.Runs.{is_listed, state_after, end_of}
+use Rattle.hz_lists.specs.Listed.{is_listed}
+use Rattle.hz_gmw.specs.Runs.{state_after, end_of}
 use Rattle.hz_gmw.proofs.CoverB.{length-end_of}
 use Rattle.hz_reach.specs.Spread.{changes_in}
 use Rattle.hz_reach.proofs.FlipCounts.{changes-more}

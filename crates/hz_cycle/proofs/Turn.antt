@@ -13,8 +13,9 @@ use Rattle.hz_core.proofs.Refinements.{length-Refines}
 use Rattle.hz_net.specs.Network.{Driver, Function, Source, driver_at, bit_at, value_at, External}
 use Rattle.hz_net.specs.Passes.{IsUnknown, IsKnown}
 use Rattle.hz_net.specs.Reads.{IsWired, IsWireInto}
-use Rattle.hz_net.proofs.PartLemmas.{length-part, at-part}
-use Rattle.hz_gmw.specs.Runs.{is_listed, state_after}
+use Rattle.hz_lists.proofs.PartLemmas.{length-part, at-part}
+use Rattle.hz_lists.specs.Listed.{is_listed}
+use Rattle.hz_gmw.specs.Runs.{state_after}
 use Rattle.hz_gmw.proofs.Flips.{length-state_after}
 use Rattle.hz_reach.specs.Order.{key_at, IsEarlier}
 use Rattle.hz_reach.specs.Turn.{is_gate_in}

@@ -5,8 +5,8 @@ ghost use Rattle.hz_net.specs.Starts.{IsStableStart};
 ghost use Rattle.hz_desk.specs.ResultsOfPasses.{ArePassResults, HavePassRoom};
 
 use hz_core::{Memory, Tri};
+use hz_lists::Steps;
 use hz_net::Net;
-use hz_outside::Steps;
 use hz_pass::{Front, settle, spread_stable};
 use std::alloc::Global;
 use std::marker::Brand;

@@ -8,7 +8,7 @@ use Rattle.hz_net.specs.Reads.{Reads}
 use Rattle.hz_net.specs.Variables.{first_wire}
 use Rattle.hz_net.specs.declared.variable.VarKind.{VarKind}
 use Rattle.hz_net.specs.declared.variable.VarKind.TheVariants.{Input, Gate as GateVariable, Wire as WireVariable}
-use Rattle.hz_gmw.specs.Runs.{is_listed}
+use Rattle.hz_lists.specs.Listed.{is_listed}
 use Rattle.hz_word.specs.declared.word.Word.{Word}
 use Rattle.hz_word.specs.Word.{IsWord, AreWords}
 use Rattle.hz_word.specs.Walk.{IsWordOf}

@@ -3,7 +3,7 @@
 ghost use Rattle.std.specs.Prelude.{◌≡◌, ◌↔◌, ℕ, ◌+◌, ◌^◌, ◌<◌, ◌≤◌, true, List, [], None, length, map, IfOk, OnOk, MatchOption, IsTrue, All, nat_eq, position};
 ghost use Rattle.hz_net.specs.Network.{Driver, network_of, bit_at, IsVariable};
 ghost use Rattle.hz_net.specs.Reads.{IsWired};
-ghost use Rattle.hz_gmw.specs.Runs.{is_listed};
+ghost use Rattle.hz_lists.specs.Listed.{is_listed};
 ghost use Rattle.hz_free.specs.Chains.{IsFeedbackFree};
 ghost use Rattle.hz_free.specs.Feedback.{IsChoice};
 ghost use Rattle.hz_free.specs.FreePart.{AreMarks, AreFeedback};

@@ -8,7 +8,8 @@ use Rattle.hz_net.specs.Network.{Driver, bit_at, driver_at, driver_value3, excit
 use Rattle.hz_net.specs.Passes.{excitations, algorithm_a, algorithm_b, AreRounds}
 use Rattle.hz_core.proofs.Refinements.{known-admits, Refines-get_or}
 use Rattle.hz_net.proofs.Excitations.{admits-driver_value, length-excitations, at-excitations}
-use Rattle.hz_gmw.specs.Runs.{is_listed, IsStep, state_after, IsRun, end_of, IsReachable}
+use Rattle.hz_lists.specs.Listed.{is_listed}
+use Rattle.hz_gmw.specs.Runs.{IsStep, state_after, IsRun, end_of, IsReachable}
 use Rattle.hz_gmw.specs.Cycles.{states_of, IsNontransient, IsOutcome}
 use Rattle.hz_gmw.proofs.Flips.{length-state_after, at-state_after}
 use Rattle.hz_gmw.proofs.CoverA.{covers}

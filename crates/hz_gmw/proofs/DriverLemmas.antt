@@ -1,8 +1,9 @@
 -- What a variable of a network is and how it is driven; the variables around it, each once.
 use Rattle.std.proofs.Common.{◌≡◌, ◌≢◌, ℕ, zero, suc, ◌+◌, ◌-◌, ◌<◌, ◌≤◌, true, List, [], ◌∷◌, length, get_or, Some, All, IsTrue, slice_get, refl, sym, ap, ◌∙◌, subst, arith, inl, inr}
-use Rattle.std.specs.Prelude.{nat_eq, Contains}
+use Rattle.std.specs.Prelude.{nat_eq}
 use Rattle.std.proofs.lemmas.Bool.{cases_lt, cases_Bool, false≢true, false_from_ne_true}
 use Rattle.std.proofs.lemmas.List.Elements.{All-cons}
+use Rattle.hz_net.specs.declared.entry.Entry.TheVariants.{Input as InputEntry, Gate as GateEntry, Wire as WireEntry}
 use Rattle.hz_core.specs.Gate.{takes}
 use Rattle.hz_core.specs.Netlist.{Netlist, IsCircuit, IsWhole, variable_count}
 use Rattle.hz_net.specs.Network.{Wire, Function, Source, network_of, wires_of, driver_at}
@@ -10,15 +11,14 @@ use Rattle.hz_net.specs.Variables.{variable_kinds, first_wire, readers_from, fan
 use Rattle.hz_net.specs.Reads.{IsWireInto, readers_of}
 use Rattle.hz_net.specs.Entries.{driver_of, entry_kind, entries_of, IsEntryAt}
 use Rattle.hz_net.specs.declared.entry.Entry.{Entry}
-use Rattle.hz_net.specs.declared.entry.Entry.TheVariants.{Input as InputEntry, Gate as GateEntry, Wire as WireEntry}
 use Rattle.hz_net.specs.declared.variable.VarKind.{VarKind}
 use Rattle.hz_net.proofs.Places.{no_wire, length-network_of, length-entries_of, driver_at-entry, variable_kinds-entry, IsEntryAt-entries_of}
 use Rattle.hz_net.proofs.Wires.{IsWireFrom-driver_at, driver_at-IsWireFrom, Contains-fan_out_of, IsWireFrom-fan_out_of, variable_kinds-wire}
 use Rattle.hz_net.proofs.Wired.{is_gate_of, gate-named, named-into}
 use Rattle.hz_net.proofs.Readers.{node-readers, wire-readers, readers-inside}
-use Rattle.hz_gmw.specs.Runs.{is_listed, IsRepeatFree}
+use Rattle.hz_lists.specs.Listed.{is_listed, IsRepeatFree}
 use Rattle.hz_gmw.specs.CurrentState.{IsKindAt, with_readers}
-use Rattle.hz_gmw.proofs.LeastLemmas.{listed-cases, listed-other, listed-Contains}
+use Rattle.hz_lists.proofs.ListedLemmas.{first-or-later, listed-other, listed-Contains, Contains-listed}
 
 entry-kind : (netlist : Netlist) (var : ℕ) (entry : Entry) → IsCircuit netlist → var < variable_count netlist → IsEntryAt netlist var entry → driver_at (network_of netlist) var ≡ driver_of entry → slice_get (variable_kinds netlist) var ≡ Some (entry_kind entry) → IsKindAt netlist var (entry_kind entry)
 entry-kind netlist var (InputEntry number) circuit within at driven seen =
@@ -56,17 +56,6 @@ kind-at netlist var kind circuit whole within seen =
     subst (IsKindAt netlist var) (some-same (entry_kind entry) kind (sym told ∙ seen))
     (entry-kind netlist var entry circuit few (IsEntryAt-entries_of netlist var (InputEntry 0) circuit whole few) (driver_at-entry netlist var entry circuit few read) told)
 
-pub Contains-listed : (list : List ℕ) (i : ℕ) → is_listed list i ≡ true → Contains list i
-Contains-listed [] i there = absurd (false≢true there)
-Contains-listed (x ∷ list) i there = elim (listed-cases i x list there) [
-  | inl same ↦ (0, omega arith, sym same)
-  | inr rest ↦ (
-      let found = Contains-listed list i rest in
-      let few : found.0 < length list = found.1 in
-      (suc found.0, omega (arith, few), found.2)
-      )
-]
-
 -- a wire from a node is driven by it
 pub fan-driver : (netlist : Netlist) (node wire : ℕ) → IsCircuit netlist → is_listed (fan_out_of netlist node) wire ≡ true → driver_at (network_of netlist) wire ≡ Source node
 fan-driver netlist node wire circuit there =
@@ -85,7 +74,7 @@ driver-fan netlist node wire circuit driven =
 readers-above : (first : ℕ) (wires : List Wire) (node i : ℕ) → is_listed (readers_from first wires node) i ≡ true → first ≤ i
 readers-above first [] node i there = absurd (false≢true there)
 readers-above first (wire ∷ wires) node i there = elim (cases_Bool (nat_eq wire.source node)) [
-  | inl same ↦ elim (listed-cases i first (readers_from (suc first) wires node) (rw same at there)) [
+  | inl same ↦ elim (first-or-later i first (readers_from (suc first) wires node) (rw same at there)) [
     | inl here ↦ omega (arith, here)
     | inr rest ↦ (let later = readers-above (suc first) wires node i rest in omega (arith, later))
   ]

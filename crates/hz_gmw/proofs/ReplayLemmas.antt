@@ -6,10 +6,11 @@ use Rattle.std.proofs.lemmas.List.{ext_get_or, length-set, length-replicate, get
 use Rattle.std.proofs.lemmas.List.FromFn.{get_or-map-range_with_len, fill_by_all}
 use Rattle.hz_net.specs.Network.{Driver, network_of, bit_at, excitation, IsUnstable}
 use Rattle.hz_core.specs.Netlist.{Netlist}
-use Rattle.hz_gmw.specs.Runs.{is_listed, IsStep, state_after, end_of}
+use Rattle.hz_lists.specs.Listed.{is_listed}
+use Rattle.hz_gmw.specs.Runs.{IsStep, state_after, end_of}
 use Rattle.hz_gmw.specs.Cycles.{WaitsAt, IsNontransient}
 use Rattle.hz_gmw.specs.Instability.{is_unstable, unstable_variables, unstable_count}
-use Rattle.hz_core.specs.Least.{IsLeast, IsLeastOf}
+use Rattle.hz_lists.specs.Least.{IsLeast, IsLeastOf}
 use Rattle.hz_gmw.specs.LeastListed.{least_from}
 use Rattle.hz_gmw.specs.Replayer.{Replayer, StandsFor, replayer_at, watched_after, replayer_after}
 use Rattle.hz_gmw.specs.ReplayFaults.{times_listed, IsStepFault, IsCycleFault}
@@ -22,8 +23,9 @@ use Rattle.hz_gmw.specs.CurrentState.{with_marks, with_bits_of}
 use Rattle.hz_gmw.proofs.Flips.{length-state_after, at-state_after}
 use Rattle.hz_gmw.proofs.Paths.{end_of-append, IsRun-append}
 use Rattle.hz_gmw.proofs.CoverB.{length-end_of}
-use Rattle.hz_core.proofs.LeastLemmas.{IsLeastOf-same}
-use Rattle.hz_gmw.proofs.LeastLemmas.{listed-other, All-listed, least-listed, IsRepeatFree-times_listed, times_listed-IsRepeatFree}
+use Rattle.hz_lists.proofs.LeastLemmas.{IsLeastOf-same}
+use Rattle.hz_lists.proofs.ListedLemmas.{listed-other, All-listed}
+use Rattle.hz_gmw.proofs.LeastLemmas.{least-listed, IsRepeatFree-times_listed, times_listed-IsRepeatFree}
 use Rattle.hz_gmw.proofs.Bits.{beq-same, beq-refl}
 use Rattle.hz_gmw.proofs.Counting.{weight}
 use Rattle.hz_gmw.proofs.Counts.{one-bound}

@@ -1,9 +1,10 @@
 -- Why a list is no step, and why the states since a mark are no nontransient cycle.
 use Rattle.std.specs.Prelude.{◌≡◌, ◌≢◌, ℕ, ◌<◌, ◌≤◌, Bool, List, [], length, IsTrue, nat_eq, count_by}
 use Rattle.hz_net.specs.Network.{Driver, bit_at, excitation, IsUnstable}
-use Rattle.hz_gmw.specs.Runs.{is_listed, IsRepeatFree, end_of}
+use Rattle.hz_lists.specs.Listed.{is_listed, IsRepeatFree}
+use Rattle.hz_gmw.specs.Runs.{end_of}
 use Rattle.hz_gmw.specs.Cycles.{WaitsAt}
-use Rattle.hz_core.specs.Least.{IsLeast}
+use Rattle.hz_lists.specs.Least.{IsLeast}
 use Rattle.hz_gmw.specs.declared.replay_fault.StepFault.{StepFault}
 use Rattle.hz_gmw.specs.declared.replay_fault.StepFault.TheVariants.{Empty, Repeated, Stable}
 use Rattle.hz_gmw.specs.declared.replay_fault.CycleFault.{CycleFault}

@@ -3,7 +3,8 @@ use Rattle.std.specs.Prelude.{◌≡◌, ◌≢◌, ◌↔◌, ℕ, Bool, true, 
 use Rattle.std.specs.List.{range_with_len}
 use Rattle.hz_core.specs.Netlist.{Netlist}
 use Rattle.hz_net.specs.Network.{network_of, bit_at, IsVariable}
-use Rattle.hz_gmw.specs.Runs.{is_listed, state_after, IsRun, end_of}
+use Rattle.hz_lists.specs.Listed.{is_listed}
+use Rattle.hz_gmw.specs.Runs.{state_after, IsRun, end_of}
 use Rattle.hz_gmw.specs.Cycles.{WaitsAt}
 use Rattle.hz_gmw.specs.Instability.{is_unstable, unstable_variables}
 

@@ -16,14 +16,16 @@ ghost use Rattle.hz_core.specs.Netlist.{IsCircuit};
 ghost use Rattle.hz_net.specs.Network.{network_of, driver_at, excitation, Source, bit_at, IsState, IsInput, IsVariable};
 ghost use Rattle.hz_net.specs.Reads.{IsWireInto};
 ghost use Rattle.hz_net.specs.Variables.{fan_out_of};
-ghost use Rattle.hz_gmw.specs.Runs.{IsRepeatFree, state_after};
+ghost use Rattle.hz_lists.specs.Listed.{IsRepeatFree};
+ghost use Rattle.hz_gmw.specs.Runs.{state_after};
 ghost use Rattle.hz_gmw.specs.Instability.{is_unstable, unstable_count};
 ghost use Rattle.hz_gmw.specs.LeastListed.{least_from};
 ghost use Rattle.hz_gmw.specs.CurrentState.{IsKindAt};
 ghost use Rattle.hz_core.specs.Limits.{most_variables};
 
 use crate::ones::value_of_ones;
-use hz_core::{Memory, lesser};
+use hz_core::Memory;
+use hz_lists::lesser;
 use hz_net::{Net, VarKind};
 use std::alloc::Global;
 

@@ -1,7 +1,7 @@
 //! Following runs.
 ghost use Rattle.std.specs.Prelude.{◌≡◌, false, length, replicate, All, IfOk};
 ghost use Rattle.hz_net.specs.Network.{network_of, IsState, IsInput, IsVariable};
-ghost use Rattle.hz_gmw.specs.Runs.{IsRepeatFree};
+ghost use Rattle.hz_lists.specs.Listed.{IsRepeatFree};
 ghost use Rattle.hz_gmw.specs.Instability.{unstable_count};
 ghost use Rattle.hz_gmw.specs.Follower.{follower_at, follower_after};
 

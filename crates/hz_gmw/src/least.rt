@@ -5,7 +5,7 @@ ghost use Rattle.hz_net.specs.Network.{bit_at};
 ghost use Rattle.hz_gmw.specs.LeastListed.{least_from, least_repeat};
 
 use crate::variable_set::VariableSet;
-use hz_core::lesser;
+use hz_lists::lesser;
 
 // The least listed variable at which two states differ.
 pub(crate) fn least_differing(list: &[u32], left: &[bool], right: &[bool]) -> Option<u32>

@@ -4,7 +4,7 @@ ghost use Rattle.hz_net.specs.Network.{network_of, bit_at, IsUnstable, IsState, 
 ghost use Rattle.hz_gmw.specs.Runs.{IsStep};
 ghost use Rattle.hz_gmw.specs.Cycles.{IsNontransient};
 ghost use Rattle.hz_gmw.specs.Instability.{unstable_count};
-ghost use Rattle.hz_core.specs.Least.{IsLeastOf};
+ghost use Rattle.hz_lists.specs.Least.{IsLeastOf};
 ghost use Rattle.hz_gmw.specs.Replayer.{StandsFor, replayer_at, initial_replayer, replayer_after};
 ghost use Rattle.hz_gmw.specs.ReplayFaults.{IsStepFault, IsCycleFault};
 ghost use Rattle.hz_gmw.specs.CurrentState.{with_bits_of};

@@ -4,7 +4,7 @@ ghost use Rattle.std.specs.Vec.{vec_len, vec_capacity};
 ghost use Rattle.hz_gmw.specs.RunRecord.{flip_count, no_steps};
 
 use hz_core::Memory;
-use hz_net::part_at;
+use hz_lists::part_at;
 use std::alloc::Global;
 use std::marker::Model;
 

@@ -2,7 +2,7 @@
 ghost use Rattle.std.specs.Prelude.{◌≡◌, ◌<◌, ◌-◌, false, [], ◌∷◌, length, count_by, All, IfOk, IsTrue, replicate};
 ghost use Rattle.std.specs.List.{range_with_len};
 ghost use Rattle.hz_net.specs.Network.{network_of, driver_at, bit_at, IsVariable};
-ghost use Rattle.hz_core.specs.Least.{IsLeastOf};
+ghost use Rattle.hz_lists.specs.Least.{IsLeastOf};
 ghost use Rattle.hz_gmw.specs.CurrentState.{IsCounted, IsExact, with_marks};
 ghost use Rattle.hz_gmw.specs.Watches.{WatchFits, lapses, is_watched, watched_variables, unstable_unchanged, RecordsStable};
 

@@ -1,7 +1,5 @@
 -- Where each variable of a circuit's network stands, and what drives it there
 pub mod Places
--- Parts of a list by their elements, and a list that is cut into parts: one part more, and the part with a number
-pub mod PartLemmas
 -- The fan-outs of all nodes: how they are gathered, and that they are those of the circuit
 pub mod FanOutLemmas
 -- What a network's fields tell of each variable

@@ -31,14 +31,12 @@
 -- algorithm_a_from net input first round: the states of Algorithm A from a ternary state
 -- SettlesTo net input first settled: Algorithm A from a ternary state, and Algorithm B from its result, lead to another
 -- unknown_start net held: each held node has its bit, and every other variable is X
--- parts_from start ends list: a list that is cut into parts
 -- HoldsNetwork fields: the fields of the code's Net stand for the network
 
 pub mod Network
 pub mod Variables
 pub mod Reads
 pub mod Entries
-pub mod Parts
 pub mod FanOuts
 pub mod Inside
 pub mod Passes

@@ -17,7 +17,7 @@ use Rattle.hz_net.specs.Reads.{IsWireInto}
 use Rattle.hz_net.proofs.Wired.{pin-into, wired-network_of}
 use Rattle.hz_net.specs.Starts.{IsForced}
 use Rattle.hz_net.proofs.Places.{length-network_of, driver_at-pin}
-use Rattle.hz_net.proofs.PartLemmas.{same-parts}
+use Rattle.hz_lists.proofs.PartLemmas.{same-parts}
 use Rattle.hz_net.proofs.Derivations.{AreForced, IsClosed, forced_once, forced-listed, forced-data, forced-extension, closed-forced}
 use Rattle.hz_net.proofs.Wires.{IsWireFrom, IsWireFrom-driver_at, IsWireFrom-node, Contains-fan_out_of, length-at_wires, get_or-at_wires}
 use Rattle.hz_core.proofs.CircuitLemmas.{data_of-node}

@@ -11,8 +11,8 @@ use crate::front::Front;
 use crate::round::Rule;
 use crate::rounds::Pass;
 use hz_core::Tri;
+use hz_lists::Steps;
 use hz_net::Net;
-use hz_outside::Steps;
 use std::sync::ledger::Ledger;
 
 /// Algorithm A of Brzozowski and Seger: from the start, under the new input, each round joins every variable with its

@@ -9,8 +9,8 @@ use crate::front::Front;
 use crate::round::Rule;
 use crate::rounds::Pass;
 use hz_core::Tri;
+use hz_lists::Steps;
 use hz_net::Net;
-use hz_outside::Steps;
 use std::sync::ledger::Ledger;
 
 /// Algorithm B of Brzozowski and Seger: each round puts the ternary excitations in place of the state, until a round

@@ -6,8 +6,8 @@ ghost use Rattle.hz_pass.specs.Frontier.{next_value, is_open, reader_count, with
 ghost use Rattle.hz_pass.specs.InRound.{CanBeMade, IsMadeIn, IsQuietIn, KeepsMade, LeavesFrom, Makes, MakesSoFar};
 
 use hz_core::Tri;
+use hz_lists::Steps;
 use hz_net::Net;
-use hz_outside::Steps;
 use std::sync::ledger::Ledger;
 
 /// How a round makes the next value of a variable of its value and its excitation.

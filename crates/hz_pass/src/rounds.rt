@@ -9,8 +9,8 @@ ghost use Rattle.hz_pass.specs.InRound.{states_from, CanBegin};
 use crate::front::Front;
 use crate::round::{Round, Rule, take_over};
 use hz_core::Tri;
+use hz_lists::Steps;
 use hz_net::Net;
-use hz_outside::Steps;
 use std::mem::swap;
 use std::sync::ledger::Ledger;
 

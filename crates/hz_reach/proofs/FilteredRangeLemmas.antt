@@ -5,11 +5,9 @@ use Rattle.std.proofs.lemmas.List.Elements.{filter-append}
 use Rattle.std.proofs.lemmas.List.FromFn.{length-range_with_len, get_or-range_with_len}
 use Rattle.std.proofs.lemmas.Bool.{or_cases, eqb-true, eq-eqb, or_left, false_from_ne_true}
 use Rattle.hz_core.specs.Pattern.{differs}
-use Rattle.hz_gmw.specs.Runs.{is_listed, IsRepeatFree}
-use Rattle.hz_gmw.proofs.DriverLemmas.{Contains-listed}
-use Rattle.hz_gmw.proofs.LeastLemmas.{listed-Contains}
+use Rattle.hz_lists.specs.Listed.{is_listed, IsRepeatFree}
+use Rattle.hz_lists.proofs.ListedLemmas.{Contains-listed, listed-Contains, listed-cases, is_repeat_free-append, is_repeat_free-bound, Ascends, ascends-lower, ascends-filter, ascends-once, filtered-is, is-filtered}
 use Rattle.hz_reach.specs.FilteredRange.{filtered_range}
-use Rattle.hz_reach.proofs.DistinctLists.{listed-cases, is_repeat_free-append, is_repeat_free-bound, Ascends, ascends-lower, ascends-filter, ascends-once, filtered-is, is-filtered}
 
 -- a list of one
 pub only-one : (x i : ℕ) → i ≡ x → is_listed (x ∷ []) i ≡ true

@@ -14,12 +14,13 @@ use Rattle.hz_core.specs.declared.tri.Tri.TheVariants.{Zero, One, Unknown}
 use Rattle.hz_core.specs.Ternary.{is_unknown, unknown_count}
 use Rattle.hz_net.specs.Network.{bit_at, value_at}
 use Rattle.hz_net.specs.Passes.{IsKnown, IsUnknown}
-use Rattle.hz_gmw.specs.Runs.{is_listed, IsRepeatFree, state_after}
+use Rattle.hz_lists.specs.Listed.{is_listed, IsRepeatFree}
+use Rattle.hz_gmw.specs.Runs.{state_after}
 use Rattle.hz_gmw.proofs.Counting.{list-same, list-turned, range-listed}
 use Rattle.hz_gmw.proofs.Counts.{nothing, zeros}
 use Rattle.hz_gmw.proofs.Flips.{length-state_after, at-state_after}
 use Rattle.hz_reach.specs.Spread.{changes_in}
-use Rattle.hz_reach.proofs.ListPlaces.{listed-at}
+use Rattle.hz_lists.proofs.ListedLemmas.{listed-at}
 use Rattle.hz_reach.specs.Counts.{FlipsAreChanges, StepsAreNoMoreThanFlips, FlipsPerVariable, FlipsPerUnknown, FlipsOfSpreadRun, EndsByChanges}
 
 -- Sums

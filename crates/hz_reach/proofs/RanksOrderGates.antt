@@ -20,7 +20,7 @@ use Rattle.hz_core.specs.Extension.{extension, IsValueOver}
 use Rattle.hz_core.proofs.Refinements.{known-admits, length-Refines, get_or-Refines}
 use Rattle.hz_core.proofs.Extensions.{IsExtension-extension}
 use Rattle.hz_net.proofs.Wired.{wired-network_of}
-use Rattle.hz_net.proofs.PartLemmas.{length-part, at-part}
+use Rattle.hz_lists.proofs.PartLemmas.{length-part, at-part}
 use Rattle.hz_net.proofs.Sequences.{length-algorithm_a}
 use Rattle.hz_net.proofs.Ranks.{unknown-later, unknown-or-start, one-round, at-tri_of, turns-before-rank}
 use Rattle.hz_reach.proofs.GateTurn.{driver-inside, not-itself}

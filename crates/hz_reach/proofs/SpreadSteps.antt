@@ -10,7 +10,8 @@ use Rattle.hz_net.specs.Network.{Driver, External, Function, Source, driver_at, 
 use Rattle.hz_net.specs.Variables.{first_wire, at_wires}
 use Rattle.hz_net.proofs.Places.{length-network_of, driver_at-input, driver_at-gate, driver_at-wire}
 use Rattle.hz_net.proofs.Wires.{IsWireFrom-driver_at}
-use Rattle.hz_gmw.specs.Runs.{is_listed, IsRepeatFree, IsRun, state_after, end_of}
+use Rattle.hz_lists.specs.Listed.{is_listed, IsRepeatFree}
+use Rattle.hz_gmw.specs.Runs.{IsRun, state_after, end_of}
 use Rattle.hz_gmw.specs.RunRecord.{RunRecord, flip_count}
 use Rattle.hz_reach.specs.Given.{AreResultsOfA, IsEmptyRun}
 use Rattle.hz_reach.specs.Order.{key_at, IsInKeyOrder}
@@ -18,11 +19,10 @@ use Rattle.hz_reach.specs.Room.{with_step_if_any, Spends, HasRoomFor, HasRoomFor
 use Rattle.hz_reach.specs.ScratchState.{ScratchState}
 use Rattle.hz_reach.specs.Spread.{IsSpreadRun, IsSparingRun}
 use Rattle.hz_reach.specs.Turn.{is_gate_in, changed_inputs, earlier_pins, unchanged_wires, AreTurnWires, IsTurn}
-use Rattle.hz_reach.proofs.DistinctLists.{listed-cases, listed-left, listed-right, is_repeat_free-append}
+use Rattle.hz_lists.proofs.ListedLemmas.{listed-cases, listed-left, listed-right, is_repeat_free-append}
 use Rattle.hz_reach.proofs.FilteredRangeLemmas.{filtered_range-is, is-filtered_range, filtered_range-once, differs-true, true-differs}
 use Rattle.hz_reach.proofs.RanksOrderGates.{IsChangedAfter, AreTurns, turns-of}
 use Rattle.hz_reach.proofs.Order.{had_before, also, IsNext, all-had, after-turns, order-found}
-use Rattle.hz_reach.proofs.ListPlaces.{listed-at}
 use Rattle.hz_reach.proofs.Room.{end_of-after, run-after, flips-after, room-for-step, room-left}
 use Rattle.hz_reach.proofs.GateTurn.{IsFunction, gate-number, unknown-is, same-or-differ}
 use Rattle.hz_reach.proofs.TurnLoop.{AreTurnsThatKeep, IsAtPlace, at-begin}

@@ -10,7 +10,8 @@ use Rattle.hz_reach.specs.Order.{IsInKeyOrder}
 use Rattle.hz_reach.specs.Room.{with_step_if_any, Spends, HasRoomFor}
 use Rattle.hz_reach.specs.ScratchState.{ScratchState}
 use Rattle.hz_reach.specs.Turn.{AreTurnWires, changed_wires, turn_flips, turn_end, turn_steps, IsTurn}
-use Rattle.hz_reach.proofs.ListPlaces.{key-inside, listed-at}
+use Rattle.hz_lists.proofs.ListedLemmas.{listed-at}
+use Rattle.hz_reach.proofs.ListPlaces.{key-inside}
 use Rattle.hz_reach.proofs.Order.{had_before, also, IsNext, place-next, turn-comes, none-comes, none-yet}
 use Rattle.hz_reach.proofs.Room.{steps-after, spends-more, flips-after, room-left}
 

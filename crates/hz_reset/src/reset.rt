@@ -7,8 +7,8 @@ ghost use Rattle.hz_net.specs.TernaryStarts.{SettlesTo, held_value, unknown_star
 ghost use Rattle.hz_reset.specs.Room.{IsRoomFor};
 
 use hz_core::{Memory, Tri};
+use hz_lists::Steps;
 use hz_net::Net;
-use hz_outside::Steps;
 use hz_pass::{Front, settle, spread_from};
 use std::alloc::Global;
 use std::marker::{Brand, Model};

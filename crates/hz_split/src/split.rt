@@ -6,7 +6,7 @@ ghost use Rattle.hz_net.specs.Network.{network_of, IsState, IsInput, IsVariable}
 ghost use Rattle.hz_net.specs.Starts.{IsStableStart};
 ghost use Rattle.hz_desk.specs.Finding.{finding_of, values_b};
 ghost use Rattle.hz_desk.specs.RightFinding.{IsRightFinding};
-ghost use Rattle.hz_gmw.specs.Runs.{IsRepeatFree};
+ghost use Rattle.hz_lists.specs.Listed.{IsRepeatFree};
 ghost use Rattle.hz_split.specs.Attempts.{runs_found, outcome_of, most_fronts};
 ghost use Rattle.hz_split.specs.FoundRuns.{HasRoomFor, with_attempt, with_attempts};
 ghost use Rattle.hz_split.specs.Splits.{AreSettledRuns};
