@@ -98,7 +98,8 @@ struct Room {
 
 // Writes the values of a start where nothing is known but what is held.
 fn hold(held: &[Option<bool>], values: &mut [Tri])
-    ensures { values.new ≡ map (λ i. held_value (slice_index_or held.now i None)) (range_with_len 0 (length values.old)) }
+    ensures { values.new ≡ map (λ i. held_value (slice_index_or held.now i None))
+        (range_with_len 0 (length values.old)) }
 {
     for i in 0..values.len() {
         values[i] = held_value(held, i);
