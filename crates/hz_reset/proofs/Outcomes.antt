@@ -5,10 +5,11 @@ use Rattle.std.specs.List.{list_any, AllByRecursion, IsDistinct}
 use Rattle.std.proofs.lemmas.Bool.{cases_Bool, cases_lt, false≢true, or_cases, eqb-true}
 use Rattle.std.proofs.lemmas.Map.Steps.{length-le_from_distinct_below}
 use Rattle.hz_net.specs.Network.{Driver, bit_at, IsUnstable}
-use Rattle.hz_gmw.specs.Runs.{is_listed, state_after, IsStep, IsRun, end_of, IsReachable, states_of}
+use Rattle.hz_lists.specs.Listed.{is_listed}
+use Rattle.hz_gmw.specs.Runs.{state_after, IsStep, IsRun, end_of, IsReachable, states_of}
 use Rattle.hz_gmw.specs.Cycles.{WaitsAt, IsOutcome}
 use Rattle.hz_gmw.specs.Instability.{is_unstable}
-use Rattle.hz_gmw.proofs.LeastLemmas.{listed-head, listed-cases}
+use Rattle.hz_lists.proofs.ListedLemmas.{listed-first, first-or-later}
 use Rattle.hz_gmw.proofs.Flips.{length-state_after, at-state_after}
 use Rattle.hz_gmw.proofs.CoverB.{length-end_of}
 use Rattle.hz_gmw.proofs.Paths.{IsRun-append, end_of-append, IsReachable-onward}
@@ -144,11 +145,11 @@ module _ (net : List Driver) (input : List Bool) where
   }
     where
       only : (other : ℕ) → IsTrue (is_listed (i ∷ []) other) → other ≡ i
-      only other there = elim (listed-cases other i [] there) [ inl same ↦ same | inr none ↦ absurd (false≢true none) ]
+      only other there = elim (first-or-later other i [] there) [ inl same ↦ same | inr none ↦ absurd (false≢true none) ]
 
   flipped : (state : List Bool) (i : ℕ) → i < length state → bit_at (state_after (i ∷ []) state) i ≡ not (bit_at state i)
   flipped state i inside =
-      at-state_after (i ∷ []) state i inside ∙ ap (λ (there : Bool). cond there (not (bit_at state i)) (bit_at state i)) (listed-head i i [] refl)
+      at-state_after (i ∷ []) state i inside ∙ ap (λ (there : Bool). cond there (not (bit_at state i)) (bit_at state i)) (listed-first i i [] refl)
 
   sweep : (state : List Bool) (count : ℕ) → length state ≡ length net → count ≤ length net → (steps : List (List ℕ)) × IsSweep net input state count steps
   sweep state zero long few = ([], record { run = tt; moves = λ i bit below waits. absurd (omega (arith, below)) })
