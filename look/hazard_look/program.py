@@ -21,7 +21,7 @@ def find(named, home):
         places = [place for place in beside if _is_program(place)] + [shutil.which("hazard")]
     if not places[0]:
         where = f"{named} is no program" if named else "not beside this command, not in its repository, not on the path"
-        raise Failure(f"no program `hazard` is found: {where}; name it by --hazard or ${VARIABLE}", NO_PROGRAM)
+        raise Failure(f"no program `hazard` is found: {where}; ./prove builds it, and --hazard or ${VARIABLE} names another", NO_PROGRAM)
     return Program(places[0])
 
 

@@ -40,10 +40,7 @@ fn add_inputs(circuit: &mut Circuit, entries: &[Entry]) -> Result<(), Memory>
         ≡ fold with_input_of circuit.old (element_list entries.now)) }
 {
     for entry in entries {
-        match add_input(circuit, entry) {
-            Ok(()) => {}
-            Err(Memory) => return Err(Memory),
-        }
+        add_input(circuit, entry)?;
     }
     Ok(())
 }
@@ -68,10 +65,7 @@ fn add_cuts(circuit: &mut Circuit, entries: &[Entry]) -> Result<(), Memory>
     ensures { OnOk result (circuit.new ≡ fold with_cut_of circuit.old (element_list entries.now)) }
 {
     for entry in entries {
-        match add_cut(circuit, entry) {
-            Ok(()) => {}
-            Err(Memory) => return Err(Memory),
-        }
+        add_cut(circuit, entry)?;
     }
     Ok(())
 }
@@ -96,10 +90,7 @@ fn add_gates(circuit: &mut Circuit, entries: &[Entry]) -> Result<(), Memory>
     ensures { OnOk result (circuit.new ≡ fold with_gate_of circuit.old (element_list entries.now)) }
 {
     for entry in entries {
-        match add_gate(circuit, entry) {
-            Ok(()) => {}
-            Err(Memory) => return Err(Memory),
-        }
+        add_gate(circuit, entry)?;
     }
     Ok(())
 }
@@ -146,10 +137,7 @@ fn connect_nodes(circuit: &mut Circuit, entries: &[Entry], nodes: &[u32]) -> Res
             }
             Form::Gate(_) => {
                 let (sources, rest) = left.split_at(entry.pins);
-                match connect_gate(circuit, gate, sources) {
-                    Ok(()) => {}
-                    Err(Memory) => return Err(Memory),
-                }
+                connect_gate(circuit, gate, sources)?;
                 gate += 1;
                 left = rest;
             }

@@ -37,10 +37,7 @@ fn print_inputs(text: &mut Vec<u8>, circuit: &Circuit) -> Result<(), Memory>
         ++ port_lines (codes "INPUT") (take (primary_inputs circuit.now) circuit.now.names)) }
 {
     for node in 0..circuit.primary_inputs() {
-        match print_port(text, b"INPUT", circuit, node) {
-            Ok(()) => {}
-            Err(Memory) => return Err(Memory),
-        }
+        print_port(text, b"INPUT", circuit, node)?;
     }
     Ok(())
 }
@@ -52,10 +49,7 @@ fn print_outputs(text: &mut Vec<u8>, circuit: &Circuit) -> Result<(), Memory>
 {
     let outputs = circuit.outputs();
     for node in outputs {
-        match print_port(text, b"OUTPUT", circuit, *node) {
-            Ok(()) => {}
-            Err(Memory) => return Err(Memory),
-        }
+        print_port(text, b"OUTPUT", circuit, *node)?;
     }
     Ok(())
 }
@@ -79,10 +73,7 @@ fn print_cuts(text: &mut Vec<u8>, circuit: &Circuit) -> Result<(), Memory>
         ++ cut_lines circuit.now.names (primary_inputs circuit.now) circuit.now.cuts) }
 {
     for cut in circuit.primary_inputs()..circuit.inputs() {
-        match print_cut(text, circuit, cut) {
-            Ok(()) => {}
-            Err(Memory) => return Err(Memory),
-        }
+        print_cut(text, circuit, cut)?;
     }
     Ok(())
 }
@@ -116,10 +107,7 @@ fn print_gates(text: &mut Vec<u8>, circuit: &Circuit) -> Result<(), Memory>
         ++ gate_texts circuit.now.names circuit.now.inputs circuit.now.gates) }
 {
     for gate in circuit.inputs()..circuit.nodes() {
-        match print_gate(text, circuit, gate) {
-            Ok(()) => {}
-            Err(Memory) => return Err(Memory),
-        }
+        print_gate(text, circuit, gate)?;
     }
     Ok(())
 }
@@ -170,10 +158,7 @@ fn print_rest(text: &mut Vec<u8>, circuit: &Circuit, rest: &[u32]) -> Result<(),
         ++ more_sources circuit.now.names rest.now) }
 {
     for source in rest {
-        match print_more(text, circuit, *source) {
-            Ok(()) => {}
-            Err(Memory) => return Err(Memory),
-        }
+        print_more(text, circuit, *source)?;
     }
     Ok(())
 }

@@ -36,9 +36,7 @@ fn number_nodes(alloc: Global, statements: &Statements) -> Result<Vec<u32>, Memo
     requires { IsResolvable statements.now }
     ensures { IfOk result (λ nodes. AreNodesOf statements.now nodes.items) }
 {
-    let Ok(mut nodes) = vec![in alloc; 0u32; statements.names.len()] else {
-        return Err(Memory);
-    };
+    let mut nodes = vec![in alloc; 0u32; statements.names.len()]?;
     let entries = statements.nodes.as_slice();
     let cuts = statements.notes.inputs;
     let gates = cuts + statements.notes.cuts;

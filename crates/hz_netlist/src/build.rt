@@ -1,6 +1,6 @@
-// The steps of building a circuit that every format takes.
+//! The steps of building a circuit that every format takes.
 
-ghost use Rattle.std.specs.Prelude.{◌≡◌, ◌<◌, All, IfOk, OnOk, fold, length, map, true};
+ghost use Rattle.std.specs.Prelude.{◌≡◌, ◌<◌, ℕ, All, IfOk, OnErr, OnOk, fold, length, map, take, true};
 ghost use Rattle.std.specs.List.{slice_set};
 ghost use Rattle.hz_core.specs.Netlist.{data_of, with_output};
 ghost use Rattle.hz_netlist.specs.Build.{with_data_output, with_data_outputs, with_pin_from, AreAdmissibleSteps, AreMarked, HasNode, MayAddPinFrom};
@@ -13,13 +13,12 @@ use std::alloc::Global;
 pub fn connect_gate(circuit: &mut Circuit, gate: u32, sources: &[u32]) -> Result<(), Memory>
     requires { AreAdmissibleSteps (MayAddPinFrom gate)
         (with_pin_from gate) circuit.old sources.now }
-    ensures { OnOk result (circuit.new ≡ fold (with_pin_from gate) circuit.old sources.now) }
+    ensures ok { OnOk result (circuit.new ≡ fold (with_pin_from gate) circuit.old sources.now) }
+    ensures err { OnErr result ((done : ℕ) × (circuit.new
+        ≡ fold (with_pin_from gate) circuit.old (take done sources.now))) }
 {
     for source in sources {
-        match circuit.connect(gate, *source) {
-            Ok(()) => {}
-            Err(Memory) => return Err(Memory),
-        }
+        circuit.connect(gate, *source)?;
     }
     Ok(())
 }
@@ -29,13 +28,9 @@ pub fn resolve(alloc: Global, names: &[u32], nodes: &[u32]) -> Result<Vec<u32>, 
     requires { All (λ number. number < length nodes.now) names.now }
     ensures { IfOk result (λ found. found.items ≡ map (node_of nodes.now) names.now) }
 {
-    let Ok(mut found) = Vec::with_capacity(alloc, names.len()) else {
-        return Err(Memory);
-    };
+    let mut found = Vec::with_capacity(alloc, names.len())?;
     for name in names {
-        let Ok(()) = found.push(nodes[*name as usize]) else {
-            return Err(Memory);
-        };
+        found.push(nodes[*name as usize])?;
     }
     Ok(found)
 }
@@ -45,9 +40,7 @@ pub fn add_outputs(alloc: Global, circuit: &mut Circuit, outputs: &[u32]) -> Res
     requires { AreAdmissibleSteps HasNode with_output circuit.old outputs.now }
     ensures { OnOk result (circuit.new ≡ fold with_output circuit.old outputs.now) }
 {
-    let Ok(mut marks) = vec![in alloc; false; circuit.nodes() as usize] else {
-        return Err(Memory);
-    };
+    let mut marks = vec![in alloc; false; circuit.nodes() as usize]?;
     mark_outputs(circuit, &mut marks, outputs)
 }
 
@@ -62,9 +55,7 @@ pub fn add_outputs_and_data(
     ensures { OnOk result (circuit.new
         ≡ with_data_outputs (fold with_output circuit.old outputs.now)) }
 {
-    let Ok(mut marks) = vec![in alloc; false; circuit.nodes() as usize] else {
-        return Err(Memory);
-    };
+    let mut marks = vec![in alloc; false; circuit.nodes() as usize]?;
     mark_outputs(circuit, &mut marks, outputs)?;
     mark_data(circuit, &mut marks)
 }
@@ -77,10 +68,7 @@ fn mark_outputs(circuit: &mut Circuit, marks: &mut Vec<bool>, outputs: &[u32]) -
     ensures marks { OnOk result (AreMarked circuit.new marks.new.items) }
 {
     for node in outputs {
-        match mark_output(circuit, marks, *node) {
-            Ok(()) => {}
-            Err(Memory) => return Err(Memory),
-        }
+        mark_output(circuit, marks, *node)?;
     }
     Ok(())
 }
@@ -91,10 +79,7 @@ fn mark_data(circuit: &mut Circuit, marks: &mut Vec<bool>) -> Result<(), Memory>
     ensures { OnOk result (circuit.new ≡ with_data_outputs circuit.old) }
 {
     for cut in circuit.primary_inputs()..circuit.inputs() {
-        match mark_data_node(circuit, marks, cut) {
-            Ok(()) => {}
-            Err(Memory) => return Err(Memory),
-        }
+        mark_data_node(circuit, marks, cut)?;
     }
     Ok(())
 }

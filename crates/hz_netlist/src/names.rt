@@ -1,4 +1,4 @@
-// Names that have a number at first sight.
+//! Names that have a number at first sight.
 
 ghost use Rattle.std.specs.Prelude.{◌≡◌, ◌<◌, ◌++◌, ◌∷◌, [], IfOk, OnErr, OnOk, Some, length, map, position};
 ghost use Rattle.std.specs.List.{IsDistinct};
@@ -16,7 +16,7 @@ use std::marker::Model;
 // How many names a table has room for at first.
 const FIRST_ROOM: usize = 1000;
 
-// A name, and the lines that define and use it first. The name borrows the text.
+/// A name, and the lines that define and use it first. The name borrows the text.
 #[derive(Clone, Copy)]
 pub(crate) struct Entry<'a> {
     pub(crate) name: &'a [u8],
@@ -185,6 +185,7 @@ impl<'a> NameTable<'a> {
         ensures names { OnOk result (self.new ≡ with_definition self.old name.now line) }
         ensures number { IfOk result (λ one. place_in self.new name.now ≡ Some one.number) }
         ensures first { IfOk result (λ one. one.first ≡ definer_in self.old name.now) }
+        ensures err { OnErr result (self.new ≡ self.old) }
     {
         let number = self.sight(name)?;
         let first = self.define(number, line);
@@ -195,6 +196,7 @@ impl<'a> NameTable<'a> {
     pub fn use_name(&mut self, name: &'a [u8], line: u32) -> Result<u32, Memory>
         ensures names { OnOk result (self.new ≡ with_use self.old name.now line) }
         ensures number { IfOk result (λ number. place_in self.new name.now ≡ Some number) }
+        ensures err { OnErr result (self.new ≡ self.old) }
     {
         let number = self.sight(name)?;
         self.note_use(number, line);
@@ -204,8 +206,7 @@ impl<'a> NameTable<'a> {
     /// The first line that uses a name which no line defines.
     #[tactic(auto, using(crate::proofs::NameTableLemmas::min_assoc, crate::proofs::NameTableLemmas::min_none))]
     pub fn first_undefined(&self) -> Option<u32>
-        ensures first { result ≡ first_undefined self.now }
-        ensures distinct { IsDistinct bytes_eq (seen_names self.now) }
+        ensures { result ≡ first_undefined self.now }
     {
         let mut first = None;
         for entry in &self.entries {
@@ -233,9 +234,7 @@ impl<'a> NameTable<'a> {
     fn reserve(&mut self, more: usize) -> Result<(), Memory>
         ensures { self.new ≡ self.old }
     {
-        let Ok(()) = self.entries.reserve(more) else {
-            return Err(Memory);
-        };
+        self.entries.reserve(more)?;
         self.chains.reserve(self.entries.len().saturating_add(more))
     }
 
@@ -281,15 +280,12 @@ fn hash_names(entries: &[Entry], hashing: &NameHashing, chains: &mut Chains) -> 
         ++ map (hash_of hashing.now) (entry_names entries.now)) }
 {
     for entry in entries {
-        match chains.push(hashing.hash(entry.name)) {
-            Ok(()) => {}
-            Err(Memory) => return Err(Memory),
-        }
+        chains.push(hashing.hash(entry.name))?;
     }
     Ok(())
 }
 
-// What a search for a name comes to: its place, or its hash if no entry has it.
+/// What a search for a name comes to: its place, or its hash if no entry has it.
 #[derive(Clone, Copy)]
 pub(crate) enum Search {
     Found(usize),
@@ -327,12 +323,8 @@ fn add_entry<'a>(
     ensures err { OnErr result ((entries.new.items ≡ entries.old.items)
         × (chains.new ≡ chains.old)) }
 {
-    let Ok(()) = entries.reserve(1) else {
-        return Err(Memory);
-    };
-    let Ok(()) = chains.push(hash) else {
-        return Err(Memory);
-    };
+    entries.reserve(1)?;
+    chains.push(hash)?;
     entries.push_reserved(Entry {
         name,
         definer: None,

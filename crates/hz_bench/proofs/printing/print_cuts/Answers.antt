@@ -15,5 +15,5 @@ loop-cut-preserved c =
     let node = get_or all.cuts (cut - first) None in
     text_more c.args.text.now.items c.loop-cut.text.items c.print_cut.new.text.items (cut_lines names first (take (cut - first) all.cuts)) (cut_text names (node_name names cut) node) (cut_lines names first (take (cut + 1 - first) all.cuts))
     c.loop-cut.invariant
-    (c.in-Ok.ensures ∙ ap (λ node. c.loop-cut.text.items ++ cut_text names (node_name names cut) node) (data_of-cut all cut (omega (arith, c.loop-cut.auto.cut, c.primary_inputs-cut.ensures.inputs))))
+    (c.in_ok-print_cut.ensures ∙ ap (λ node. c.loop-cut.text.items ++ cut_text names (node_name names cut) node) (data_of-cut all cut (omega (arith, c.loop-cut.auto.cut, c.primary_inputs-cut.ensures.inputs))))
     (cuts_more names first all.cuts cut (omega (arith, c.loop-cut.auto.cut, c.primary_inputs-cut.ensures.inputs)) (omega (arith, c.loop-cut-test.true, c.inputs-cut-end.ensures.inputs, circuit.cuts)))

@@ -10,5 +10,5 @@ loop-gate-preserved c =
     let all = c.args.circuit.now in
     let gate = c.loop-gate.gate in
     text_more c.args.text.now.items c.loop-gate.text.items c.print_gate.new.text.items (gate_texts all.names all.inputs (take (gate - all.inputs) all.gates)) (gate_line all.names (node_name all.names gate) (gate_at all gate)) (gate_texts all.names all.inputs (take (gate + 1 - all.inputs) all.gates))
-    c.loop-gate.invariant c.in-Ok.ensures (gates_more all.names all.inputs all.gates gate (record { kind = And; sources = [] })
+    c.loop-gate.invariant c.in_ok-print_gate.ensures (gates_more all.names all.inputs all.gates gate (record { kind = And; sources = [] })
     (omega (arith, c.loop-gate.auto.gate, c.inputs-gate.ensures.inputs)) (omega (arith, c.loop-gate-test.true, c.nodes-gate-end.ensures.nodes, c.inputs-gate.ensures.circuit.nodes)))

@@ -10,4 +10,4 @@ loop-node-preserved c =
     let outputs = c.outputs-outputs.result.now in
     let index = c.loop-node.node-index in
     text_more c.args.text.now.items c.loop-node.text.items c.print_port.new.text.items (port_lines (codes "OUTPUT") (map (node_name names) (take index outputs))) (port_line (codes "OUTPUT") (node_name names (get_or outputs index 0))) (port_lines (codes "OUTPUT") (map (node_name names) (take (index + 1) outputs)))
-    c.loop-node.invariant c.in-Ok.ensures (outputs_more (codes "OUTPUT") names outputs index c.loop-node-test.true)
+    c.loop-node.invariant c.in_ok-print_port.ensures (outputs_more (codes "OUTPUT") names outputs index c.loop-node-test.true)

@@ -10,4 +10,4 @@ loop-source-preserved c =
     let rest = c.args.rest.now in
     let index = c.loop-source.source-index in
     text_more c.args.text.now.items c.loop-source.text.items c.print_more.new.text.items (more_sources names (take index rest)) (codes ", " ++ node_name names (get_or rest index 0)) (more_sources names (take (index + 1) rest))
-    c.loop-source.invariant c.in-Ok.ensures (sources_more names rest index c.loop-source-test.true)
+    c.loop-source.invariant c.in_ok-print_more.ensures (sources_more names rest index c.loop-source-test.true)

@@ -8,7 +8,7 @@ overflow_add-gates c = omega (arith, c.requires.few, c.requires.inputs, c.requir
 
 pub place_nodes-requires-clause-defined : goal.place_nodes-requires-clause-defined
 place_nodes-requires-clause-defined c =
-    rw c.as_slice.ensures.value (defined-below c.args.statements.now c.in-Ok.nodes.items c.requires (omega (arith, c.in-Ok.nodes.ok, c.in-Ok.ensures.len, c.len.ensures)))
+    rw c.as_slice.ensures.value (defined-below c.args.statements.now c.in_ok-nodes.nodes.items c.requires (omega (arith, c.in_ok-nodes.nodes.ok, c.in_ok-nodes.ensures.len, c.len.ensures)))
 
 pub place_nodes-requires-clause-each : goal.place_nodes-requires-clause-each
 place_nodes-requires-clause-each c = rw (c.as_slice.ensures.value, c.as_slice-entries.ensures.value) (numbers-each c.args.statements.now c.requires)
@@ -23,5 +23,5 @@ place_nodes-requires-clause-gates c =
 
 pub returns : goal.returns
 returns c =
-    nodes-made c.args.statements.now c.in-Ok.nodes.items _ c.args.statements.now.notes.inputs (c.args.statements.now.notes.inputs + c.args.statements.now.notes.cuts) c.requires
-    (omega (arith, c.in-Ok.nodes.ok, c.in-Ok.ensures.len, c.len.ensures)) refl refl (rw (c.as_slice.ensures.value, c.as_slice-entries.ensures.value) at c.place_nodes.ensures)
+    nodes-made c.args.statements.now c.in_ok-nodes.nodes.items _ c.args.statements.now.notes.inputs (c.args.statements.now.notes.inputs + c.args.statements.now.notes.cuts) c.requires
+    (omega (arith, c.in_ok-nodes.nodes.ok, c.in_ok-nodes.ensures.len, c.len.ensures)) refl refl (rw (c.as_slice.ensures.value, c.as_slice-entries.ensures.value) at c.place_nodes.ensures)

@@ -1,0 +1,705 @@
+"""The inputs of `bench/doubling`: for each job, texts and circuits that grow in one thing.
+
+Each is a function of a size. It gives the netlist and the second text. The least sizes are chosen so that eight times as much stays
+within the limits of the program, and takes valgrind some seconds.
+"""
+import random
+from collections import namedtuple
+
+# A row: the job, its name, the function, the least size, the status that is expected, whether the netlist is BLIF, and further words.
+Case = namedtuple("Case", "job name make least status is_blif options", defaults=(0, False, []))
+
+ONE = "INPUT(a)\ny = NOT(a)\n"
+START = "start a=0\n"
+CHANGE = "start a=0\nchange a=1\n"
+# Names of 33 bytes with this front share the plain hash: the third block equals the state of the hasher, so its product is zero.
+COLLIDING = "iIxfjvsYoPef0VLDchaq2xkq"
+
+
+def lines(count, make):
+    return "".join(make(k) for k in range(1, count + 1))
+
+
+# ---- netlists in .bench that are only read
+
+def outputs(n):
+    return "INPUT(a)\n" + "OUTPUT(a)\n" * n, START
+
+
+def own_outputs(n):
+    return "INPUT(a)\n" + lines(n, lambda k: f"OUTPUT(g{k})\n") + lines(n, lambda k: f"g{k}=NOT(a)\n"), START
+
+
+def comments(n):
+    return "# c\n" * n, "start\n"
+
+
+def long_comment(n):
+    return "#" + "c" * n, "start\n"
+
+
+def blanks(n):
+    return " " * n, "start\n"
+
+
+def line_feeds(n):
+    return "\n" * n, "start\n"
+
+
+def long_name(n):
+    return "INPUT(" + "n" * n + ")\n", "start\n"
+
+
+def long_line(n):
+    return "INPUT(a)\ng = AND(" + "a, " * n + "a)\n", START
+
+
+def line_of_words(n):
+    return "a " * n, START
+
+
+def unclosed(n):
+    return "g = AND(" + "a," * n, START
+
+
+def undefined_sources(n):
+    return "g = AND(" + ", ".join(f"u{k}" for k in range(n)) + ")\n", START
+
+
+def many_gates(n):
+    """So many that they are refused as variables."""
+    return "INPUT(a)\n" + lines(n, lambda k: f"g{k}=NOT(a)\n"), START
+
+
+def waiting_gates(n):
+    return lines(n, lambda k: f"g{k}=NOT(a)\n") + "INPUT(a)\n", START
+
+
+def shuffled_gates(n):
+    made = [f"g{k}=NOT(a)\n" for k in range(n)]
+    random.Random(1).shuffle(made)
+    return "INPUT(a)\n" + "".join(made), START
+
+
+def colliding_gates(n):
+    return "INPUT(a)\n" + lines(n, lambda k: f"{COLLIDING}{k:08d}x=NOT(a)\n"), START
+
+
+def twice(n):
+    return "INPUT(a)\n" * n, START
+
+
+def all_twice(n):
+    return lines(n, lambda k: f"INPUT(i{k})\n") * 2, START
+
+
+def last_form(n):
+    return "INPUT(a)\n" + "OUTPUT(a)\n" * n + "OUTPUT(", START
+
+
+def last_undefined(n):
+    return "INPUT(a)\n" + lines(n, lambda k: f"g{k}=NOT(a)\n") + "OUTPUT(b)\n", START
+
+
+def last_kind(n):
+    return "INPUT(a)\n" + lines(n, lambda k: f"g{k}=NOT(a)\n") + "h = FOO(a)\n", START
+
+
+def last_twice(n):
+    return "INPUT(a)\n" + lines(n, lambda k: f"g{k}=NOT(a)\n") + "INPUT(a)\n", START
+
+
+def last_name(n):
+    return "INPUT(a)\n" + lines(n, lambda k: f"g{k}=NOT(a)\n") + "INPUT(" + "n" * 256 + ")\n", START
+
+
+def last_pins(n):
+    return "INPUT(a)\n" + lines(n, lambda k: f"g{k}=NOT(a)\n") + "h = NOT(a, a)\n", START
+
+
+# ---- netlists in BLIF that are only read
+
+def blif_inputs(n):
+    return ".inputs " + " ".join(f"{k:x}" for k in range(n)), "start\n"
+
+
+def blif_colliding(n):
+    return ".inputs " + " ".join(f"{COLLIDING}{k:08x}" for k in range(n)), "start\n"
+
+
+def blif_rows(n):
+    return ".inputs a\n.names a y\n" + "1 1\n" * n, START
+
+
+def blif_constants(n):
+    return "".join(f".names x{k:07}\n" for k in range(n)), "start\n"
+
+
+def blif_used_constant(n):
+    return "".join(f".names x{k:07}\n" for k in range(n)) + f".outputs x{n - 1:07}\n", "start\n"
+
+
+def blif_covers(n):
+    return ".inputs a b\n" + lines(n, lambda k: f".names a b g{k}\n10 1\n01 1\n"), "start a=0 b=0\nchange a=1\n"
+
+
+def blif_chain(n):
+    return ".inputs g0\n" + lines(n, lambda k: f".names g{k - 1} g{k}\n1 1\n"), "start g0=0\nchange g0=1\n"
+
+
+def blif_wide(n):
+    plane = "".join("01-"[(k * k) % 3] for k in range(128))
+    pins = " ".join(f"p{k}" for k in range(128))
+    return f".inputs {pins}\n" + lines(n, lambda k: f".names {pins} y{k}\n{plane} 1\n{plane[1:]}0 1\n"), "start " + " ".join(f"p{k}=0" for k in range(128)) + "\nchange p0=1\n"
+
+
+def blif_inverted(n):
+    """Covers of 64 pins and rows, each with its own inverters."""
+    pins = " ".join(f"p{k}" for k in range(16))
+    rows = "".join("".join("01"[(row >> k) & 1] for k in range(16)) + " 1\n" for row in range(64))
+    return f".inputs {pins}\n" + lines(n, lambda k: f".names {pins} y{k}\n{rows}"), "start\n"
+
+
+def blif_joined(n):
+    return "\\\n" * n, "start\n"
+
+
+def blif_joined_words(n):
+    return ".outputs " + "\\\na" * n, "start\n"
+
+
+def blif_line(n):
+    return ".outputs " + "a " * n, "start\n"
+
+
+def blif_name(n):
+    return ".inputs " + "a" * n, "start\n"
+
+
+def blif_twice(n):
+    return ".inputs " + "a " * n, "start\n"
+
+
+def blif_last_form(n):
+    return ".inputs a\n" + lines(n, lambda k: f".names a g{k}\n1 1\n") + "( 1\n", START
+
+
+def blif_last_construct(n):
+    return ".inputs a\n" + lines(n, lambda k: f".names a g{k}\n1 1\n") + ".latch a b\n", START
+
+
+def blif_last_undefined(n):
+    return ".inputs a\n" + lines(n, lambda k: f".names a g{k}\n1 1\n") + ".outputs b\n", START
+
+
+def blif_last_cover(n):
+    return ".inputs a\n" + lines(n, lambda k: f".names a g{k}\n1 1\n") + "0 0\n", START
+
+
+# ---- circuits
+
+def chain(n):
+    return "INPUT(g0)\n" + lines(n, lambda k: f"g{k}=BUFF(g{k - 1})\n"), "start g0=0\nchange g0=1\n"
+
+
+def reversed_chain(n):
+    return "INPUT(g0)\n" + "".join(f"g{k}=BUFF(g{k - 1})\n" for k in range(n, 0, -1)), "start g0=0\nchange g0=1\n"
+
+
+def star(n):
+    return "INPUT(a)\n" + lines(n, lambda k: f"g{k}=NOT(a)\n"), CHANGE
+
+
+def collected(n):
+    """One gate behind each 256 others, of all of them."""
+    made = lines(n, lambda k: f"g{k}=NOT(a)\n")
+    return "INPUT(a)\n" + made + lines(n // 256, lambda k: f"h{k}=OR({','.join(f'g{p}' for p in range(256 * k - 255, 256 * k + 1))})\n"), CHANGE
+
+
+def wide(n):
+    return "INPUT(a)\n" + lines(n, lambda k: f"g{k}=XOR({','.join('a' * 256)})\n"), CHANGE
+
+
+def wide_layers(n):
+    """Layers of eight gates, each of which reads the eight before it 32 times."""
+    made = lambda k: "".join(f"g{k}x{i}=NAND({','.join(f'g{k - 1}x{j}' for j in range(8) for _ in range(32))})\n" for i in range(8))
+    return lines(8, lambda k: f"INPUT(g0x{k - 1})\n") + lines(n, made), "start " + " ".join(f"g0x{i}=0" for i in range(8)) + "\nchange g0x0=1 g0x3=1\n"
+
+
+def reconvergent(n):
+    """Each gate reads the one before it twice: the numbers of changes double."""
+    return "INPUT(g0)\n" + lines(n, lambda k: f"g{k}=XOR(g{k - 1},g{k - 1})\n"), "start g0=0\nchange g0=1\n"
+
+
+def ladder(n):
+    return ("INPUT(g0)\nINPUT(h0)\n" + lines(n, lambda k: f"g{k}=NAND(g{k - 1},h{k - 1})\nh{k}=NOR(g{k - 1},h{k - 1})\n"), "start g0=0 h0=0\nchange g0=1 h0=1\n")
+
+
+def reversed_ladder(n):
+    made = (f"g{k}=NAND(g{k - 1},h{k - 1})\nh{k}=NOR(g{k - 1},h{k - 1})\n" for k in range(n, 0, -1))
+    return "INPUT(g0)\nINPUT(h0)\n" + "".join(made), "start g0=0 h0=0\nchange g0=1 h0=1\n"
+
+
+def grid(n):
+    """Sums along both sides of a square: long paths, and many of them meet."""
+    side = max(2, int(n**0.5))
+    cell = lambda r, c: f"g{r}x{c}" if r and c else "a"
+    return "INPUT(a)\n" + "".join(f"g{r}x{c}=OR({cell(r - 1, c)},{cell(r, c - 1)})\n" for r in range(1, side + 1) for c in range(1, side + 1)), CHANGE
+
+
+def random_gates(n, back=False):
+    choose = random.Random(5)
+    kinds = ["AND", "NAND", "OR", "NOR", "XOR"]
+    made = []
+    for k in range(16, n + 16):
+        pins = [choose.randrange(k) for _ in range(2)]
+        if back and choose.random() < 0.1:
+            pins[1] = choose.randrange(16, n + 16)
+        made.append(f"g{k}={choose.choice(kinds)}(g{pins[0]},g{pins[1]})\n")
+    head = "".join(f"INPUT(g{k})\n" for k in range(16))
+    return head + "".join(made), "start " + " ".join(f"g{k}=0" for k in range(16)) + "\nchange " + " ".join(f"g{k}=1" for k in range(16)) + "\n"
+
+
+def random_feedback(n):
+    """Gates that read gates behind them too, with a start in which all that is open is held."""
+    choose = random.Random(6)
+    made = []
+    for k in range(n):
+        near, far = choose.randrange(max(1, k)), choose.randrange(n)
+        made.append(f"g{k}={'AND' if choose.random() < 0.5 else 'OR'}(a,g{near},g{far})\n")
+    return "INPUT(a)\n" + "".join(made), "start a=0 " + " ".join(f"g{k}=0" for k in range(n)) + "\nchange a=1\n"
+
+
+def random_nands(n):
+    """Gates that all rise while `a` is 0, and read any others once it rises."""
+    choose = random.Random(8)
+    return "INPUT(a)\n" + lines(n, lambda k: f"g{k}=NAND(a,g{choose.randrange(1, n + 1)},g{choose.randrange(1, n + 1)})\n"), CHANGE
+
+
+def oscillators(n):
+    return "INPUT(a)\n" + lines(n, lambda k: f"g{k}=NAND(a,g{k})\n"), CHANGE
+
+
+def ring(n):
+    """Gates in one loop, which never settles once `a` rises."""
+    return f"INPUT(a)\ng1=NAND(a,g{n})\n" + "".join(f"g{k}=BUFF(g{k - 1})\n" for k in range(2, n + 1)), CHANGE
+
+
+def reversed_ring(n):
+    return "INPUT(a)\n" + "".join(f"g{k}=BUFF(g{k - 1})\n" for k in range(n, 1, -1)) + f"g1=NAND(a,g{n})\n", CHANGE
+
+
+def settled_ring(n):
+    """Gates in one loop, which hold 1 from their first rise on."""
+    return f"INPUT(a)\ng1=OR(a,g{n})\n" + "".join(f"g{k}=BUFF(g{k - 1})\n" for k in range(2, n + 1)), "start a=0 " + " ".join(f"g{k}=0" for k in range(1, n + 1)) + "\nchange a=1\n"
+
+
+def both_ways(n):
+    """Each gate reads both neighbours: all are in one loop."""
+    made = lambda k: f"g{k}=OR(g{k - 1},g{k + 1})\n" if k < n else f"g{k}=BUFF(g{k - 1})\n"
+    return "INPUT(g0)\n" + lines(n, made), "start g0=0 " + " ".join(f"g{k}=0" for k in range(1, n + 1)) + "\nchange g0=1\n"
+
+
+def both_ways_reversed(n):
+    made = lambda k: f"g{k}=OR(g{k - 1},g{k + 1})\n" if k < n else f"g{k}=BUFF(g{k - 1})\n"
+    return "INPUT(g0)\n" + "".join(made(k) for k in range(n, 0, -1)), "start g0=0 " + " ".join(f"g{k}=0" for k in range(1, n + 1)) + "\nchange g0=1\n"
+
+
+def latches(n):
+    made = lines(n, lambda k: f"q{k}=NOR(r,p{k})\np{k}=NOR(s,q{k})\n")
+    return "INPUT(r)\nINPUT(s)\n" + made, "start r=1 s=1\nchange r=0 s=0\n"
+
+
+def settled_latches(n):
+    made = lines(n, lambda k: f"q{k}=NOR(r,p{k})\np{k}=NOR(s,q{k})\n")
+    return "INPUT(r)\nINPUT(s)\n" + made, "start r=1 s=0\nchange r=0 s=1\n"
+
+
+def latches_in_row(n):
+    """Each latch sets and resets the next one."""
+    made = lines(n, lambda k: f"q{k}=NOR(p{k - 1},p{k})\np{k}=NOR(q{k - 1},q{k})\n")
+    return "INPUT(q0)\nINPUT(p0)\n" + made, "start q0=1 p0=0\nchange q0=0 p0=1\n"
+
+
+def driving_nand(n):
+    """A NAND that oscillates and drives buffers."""
+    return "INPUT(a)\ny=NAND(a,y)\n" + lines(n, lambda k: f"g{k}=BUFF(y)\n"), CHANGE
+
+
+def flip_flops(n):
+    return "INPUT(a)\n" + lines(n, lambda k: f"q{k}=DFF({f'q{k - 1}' if k > 1 else 'a'})\n"), "start a=0\nchange a=1\n"
+
+
+def flip_flops_of_one(n):
+    return "INPUT(a)\n" + lines(n, lambda k: f"q{k}=DFF(a)\n") + lines(n // 4, lambda k: f"OUTPUT(q{k})\n"), CHANGE
+
+
+def counter(n):
+    """Flip-flops with a carry through all of them."""
+    made = lambda k: f"q{k}=DFF(d{k})\nd{k}=XOR(q{k},c{k - 1})\nc{k}=AND(q{k},c{k - 1})\n"
+    return "INPUT(c0)\n" + lines(n, made), "start c0=1 " + " ".join(f"q{k}=1" for k in range(1, n + 1)) + "\nchange " + " ".join(f"q{k}=0" for k in range(1, n + 1)) + "\n"
+
+
+def inputs(n):
+    made = lines(n, lambda k: f"INPUT(i{k})\n")
+    return made, "start" + lines(n, lambda k: f" i{k}=0") + "\nchange" + lines(n, lambda k: f" i{k}=1") + "\n"
+
+
+def pairs(n):
+    """Gates of two inputs of their own, all changed."""
+    made = lines(n, lambda k: f"INPUT(i{k})\nINPUT(j{k})\ng{k}=XOR(i{k},j{k})\n")
+    return made, "start" + lines(n, lambda k: f" i{k}=0 j{k}=1") + "\nchange" + lines(n, lambda k: f" i{k}=1 j{k}=0") + "\n"
+
+
+def colliding_listed(n):
+    return "INPUT(a)\n" + lines(n, lambda k: f"{COLLIDING}{k:08d}x=NOT(a)\n"), "start a=0" + lines(n, lambda k: f" {COLLIDING}{k:08d}x=1") + "\nchange a=1\n"
+
+
+# ---- scripts
+
+def changes(n):
+    return ONE, START + lines(n, lambda k: f"change a={k % 2}\n")
+
+
+def changes_of_many(n):
+    """A tenth as many changes, of a circuit of a hundred latches."""
+    return settled_latches(100)[0], "start r=1 s=0\n" + lines(n, lambda k: f"change r={1 - k % 2} s={k % 2}\n")
+
+
+def changes_stopped(n):
+    return "INPUT(a)\ny=NAND(a,y)\n", START + lines(n, lambda k: f"change a={k % 2}\n")
+
+
+def same_assigned(n):
+    return ONE, "start a=0\nchange " + "a=1 " * n + "\n"
+
+
+def unknown_assigned(n):
+    return ONE, "start a=0 " + lines(n, lambda k: f"u{k}=1 ") + "\n"
+
+
+def marks(n):
+    return ONE, "start " + "=" * n
+
+
+def script_word(n):
+    return ONE, "start " + "a" * n
+
+
+def script_comments(n):
+    return ONE, START + "# c\n" * n
+
+
+def script_last_form(n):
+    return ONE, START + lines(n, lambda k: f"change a={k % 2}\n") + "change a"
+
+
+def script_last_bit(n):
+    return ONE, START + lines(n, lambda k: f"change a={k % 2}\n") + "change a=2"
+
+
+def script_last_name(n):
+    return ONE, START + lines(n, lambda k: f"change a={k % 2}\n") + "change b=1"
+
+
+def script_too_many(n):
+    return ONE, START + "change a=1\n" * n
+
+
+def missing_input(n):
+    made = lines(n, lambda k: f"INPUT(i{k})\n")
+    return made, "start" + lines(n - 1, lambda k: f" i{k}=0") + "\n"
+
+
+def script_feedback_open(n):
+    """The start leaves the last gate open."""
+    return "INPUT(a)\n" + lines(n, lambda k: f"g{k}=BUFF(a)\n") + "y=OR(a,y)\n", START
+
+
+# ---- run texts
+
+RING = "INPUT(e)\ny = NAND(e, y)\n"
+RING_HEAD = "runs 1\nstart e=0 y=1\ninput e=1\nrun\nstep e\nstep y(1)\n"
+
+
+def ring_steps(n):
+    return RING, RING_HEAD + "step y\nstep y(2)\n" * n + "end\n"
+
+
+def ring_cycle(n):
+    return RING, RING_HEAD + "cycle\n" + "step y\nstep y(2)\nstep y\nstep y(2)\n" * n + "end\n"
+
+
+def runs_of_chain(n):
+    """Short runs on a network of 2,000 variables."""
+    return chain(999)[0], "runs 1\nstart" + "".join(f" g{k}=0" for k in range(1000)) + "\ninput g0=1\n" + "run\nstep g0\n" * n + "end\n"
+
+
+def runs_and_size(n):
+    """As many short runs as there are gates."""
+    return chain(n)[0], "runs 1\nstart" + "".join(f" g{k}=0" for k in range(n + 1)) + "\ninput g0=1\n" + "run\nstep g0\ncycle\nstep g1(1)\n" * n + "end\n"
+
+
+def cycles_and_size(n):
+    """As many cycles as there are gates, each refused at its end but the last; the first is refused."""
+    return chain(n)[0], "runs 1\nstart" + "".join(f" g{k}=0" for k in range(n + 1)) + "\ninput g0=0\n" + "run\ncycle\n" * n + "end\n"
+
+
+def empty_runs(n):
+    return RING, "runs 1\nstart e=0 y=1\ninput e=1\n" + "run\n" * n + "end\n"
+
+
+def one_step(n):
+    """One step of all gates of a star, and one of their wires."""
+    names = [f"g{k}" for k in range(1, n + 1)]
+    head = "runs 1\nstart a=0" + "".join(f" {name}=1" for name in names) + "\ninput a=1\nrun\nstep a\n"
+    return star(n)[0], head + "step" + "".join(f" {name}(1)" for name in names) + "\nstep " + " ".join(names) + "\ncycle\nend\n"
+
+
+def steps_of_star(n):
+    names = [f"g{k}" for k in range(1, n + 1)]
+    head = "runs 1\nstart a=0" + "".join(f" {name}=1" for name in names) + "\ninput a=1\nrun\nstep a\n"
+    return star(n)[0], head + "".join(f"step {name}(1)\nstep {name}\n" for name in names) + "cycle\nend\n"
+
+
+def steps_of_nand(n):
+    """A NAND that drives n buffers oscillates n times, with a cycle at the end."""
+    head = "runs 1\nstart a=0 y=1" + "".join(f" g{k}=1" for k in range(1, n + 1)) + "\ninput a=1\nrun\nstep a\nstep y(1)\n"
+    return driving_nand(n)[0], head + "step y\nstep y(2)\n" * n + "end\n"
+
+
+def steps_of_wide(n):
+    """The pins of wide gates, one after the other."""
+    head = "runs 1\nstart a=0" + "".join(f" g{k}=0" for k in range(1, n + 1)) + "\ninput a=1\nrun\nstep a\n"
+    return wide(n)[0], head + "".join(f"step g{k}({pin})\nstep g{k}\n" for k in range(1, n + 1) for pin in range(1, 257)) + "end\n"
+
+
+def repeated_variable(n):
+    return RING, "runs 1\nstart e=0 y=1\ninput e=1\nrun\nstep" + " e" * n + "\nend\n"
+
+
+def runs_last(last):
+    return lambda n: (RING, RING_HEAD + "step y\nstep y(2)\n" * n + last)
+
+
+def runs_start(n):
+    return star(n)[0], "runs 2\nnet 1 %d %d\nstart a=0" % (n, n) + "".join(f" g{k}=1" for k in range(1, n + 1)) + "\ninput a=1\nend\n"
+
+
+def runs_colliding(n):
+    netlist, _ = colliding_listed(n)
+    names = [f"{COLLIDING}{k:08d}x" for k in range(1, n + 1)]
+    return netlist, "runs 1\nstart a=0" + "".join(f" {name}=1" for name in names) + "\ninput a=1\nrun\nstep a\n" + "".join(f"step {name}(1)\n" for name in names) + "end\n"
+
+
+# ---- patterns
+
+def patterned(n, netlist, inputs_count, head=""):
+    choose = random.Random(9)
+    bits = lambda: "".join(choose.choice("01") for _ in range(inputs_count))
+    return netlist, head + "".join(f"from {bits()} to {bits()}\n" for _ in range(n))
+
+
+def ladder_of(inputs_count, gates, with_outputs=True):
+    made = "".join(f"INPUT(i{k})\n" for k in range(inputs_count))
+    name = lambda k: f"i{k}" if k < inputs_count else f"g{k}"
+    body = "".join(f"g{k}={'NAND' if k % 3 else 'XOR'}({name(k - inputs_count)},{name(k - 1)})\n" for k in range(inputs_count, inputs_count + gates))
+    return made + (f"OUTPUT(g{inputs_count + gates - 1})\n" if with_outputs else "") + body
+
+
+def patterns(n):
+    return patterned(n, ladder_of(8, 30), 8)
+
+
+def patterns_of_many(n):
+    return patterned(1024, ladder_of(16, n), 16)
+
+
+def patterns_of_inputs(n):
+    return patterned(512, ladder_of(n, n), n)
+
+
+def patterns_and_outputs(n):
+    made = "INPUT(a)\nINPUT(b)\n" + lines(n, lambda k: f"OUTPUT(g{k})\n") + lines(n, lambda k: f"g{k}=AND(a,b)\n")
+    return patterned(512, made, 2)
+
+
+def patterns_of_latches(n):
+    made = "INPUT(r)\nINPUT(s)\nOUTPUT(q1)\n" + lines(n, lambda k: f"q{k}=NOR(r,p{k})\np{k}=NOR(s,q{k})\n")
+    return patterned(1024, made, 2)
+
+
+def patterns_of_ring(n):
+    return patterned(1024, "OUTPUT(g1)\n" + settled_ring(n)[0], 1)
+
+
+def patterns_of_reversed_ring(n):
+    return patterned(1024, "OUTPUT(g1)\n" + reversed_ring(n)[0], 1)
+
+
+def patterns_both_ways(n):
+    return patterned(1024, "OUTPUT(g1)\n" + both_ways(n)[0], 1)
+
+
+def patterns_both_ways_reversed(n):
+    return patterned(1024, "OUTPUT(g1)\n" + both_ways_reversed(n)[0], 1)
+
+
+def held_both_ways(n, is_reversed=False):
+    hold = "hold" + lines(n, lambda k: f" g{k}=0") + "\n"
+    return patterned(1024, "OUTPUT(g1)\n" + (both_ways_reversed if is_reversed else both_ways)(n)[0], 1, hold)
+
+
+def held_both_ways_reversed(n):
+    return held_both_ways(n, True)
+
+
+def held_two_chains(n):
+    """Two chains of OR gates, each of which reads its neighbours, against the way of the change."""
+    made = "".join(f"{c}{k}=OR({c}{k - 1},{c}{k + 1})\n" if k < n else f"{c}{k}=BUFF({c}{k - 1})\n" for k in range(n, 0, -1) for c in "gh")
+    hold = "hold" + lines(n, lambda k: f" g{k}=0 h{k}=0") + "\n"
+    return patterned(512, "INPUT(g0)\nINPUT(h0)\n" + made, 2, hold)
+
+
+def held_reversed_chain(n):
+    hold = "hold" + lines(n, lambda k: f" g{k}=0") + "\n"
+    return patterned(1024, reversed_chain(n)[0], 1, hold)
+
+
+def patterns_of_reversed_chain(n):
+    return patterned(1024, reversed_chain(n)[0], 1)
+
+
+def patterns_of_wide(n):
+    return patterned(1024, wide(n)[0], 1)
+
+
+def patterns_of_feedback(n):
+    return patterned(1024, random_feedback(n)[0], 1)
+
+
+def patterns_long_hold(n):
+    return star(n)[0], "hold" + lines(n, lambda k: f" g{k}=1") + "\nfrom 0 to 1\n"
+
+
+def hold_twice(n):
+    return ONE, "hold" + " y=1" * n + "\nfrom 0 to 1\n"
+
+
+def hold_unknown(n):
+    return ONE, "hold" + lines(n, lambda k: f" u{k}=1") + "\nfrom 0 to 1\n"
+
+
+def patterns_last(last):
+    return lambda n: (ONE, "from 0 to 1\n" * n + last)
+
+
+def patterns_spread(n):
+    """Not as they are printed, so read statement by statement."""
+    return ONE, "from  0  to 1  # c\n" * n
+
+
+def patterns_word(n):
+    return ONE, "from " + "0" * n + " to 1\n"
+
+
+def patterns_comments(n):
+    return ONE, "# c\n" * n
+
+
+def patterns_open(n):
+    return patterned(n, "INPUT(a)\nOUTPUT(y)\ny=OR(a,y)\n", 1)
+
+
+def reading():
+    """The texts of netlists, by `analyse`."""
+    for name, make, least, status in (
+            ("lines OUTPUT of one node", outputs, 180_000, 0), ("outputs of their own", own_outputs, 12_000, 0), ("comments", comments, 500_000, 0),
+            ("one comment", long_comment, 2_000_000, 0), ("blanks", blanks, 2_000_000, 0), ("line feeds", line_feeds, 2_000_000, 0),
+            ("one name", long_name, 2_000_000, 3), ("a gate of many pins", long_line, 600_000, 3), ("a line of words", line_of_words, 1_000_000, 3),
+            ("a gate that is not closed", unclosed, 1_000_000, 3), ("a gate of undefined names", undefined_sources, 200_000, 3),
+            ("too many gates", many_gates, 130_000, 3), ("too many gates that wait", waiting_gates, 130_000, 3), ("too many gates in no order", shuffled_gates, 130_000, 3),
+            ("names chosen to collide", colliding_gates, 12_000, 0), ("too many names chosen to collide", colliding_gates, 48_000, 3), ("one name defined again and again", twice, 200_000, 3), ("each name defined twice", all_twice, 60_000, 3),
+            ("last line: form", last_form, 180_000, 3), ("last line: undefined", last_undefined, 12_000, 3), ("last line: undefined, too many", last_undefined, 120_000, 3),
+            ("last line: kind", last_kind, 120_000, 3), ("last line: twice", last_twice, 120_000, 3), ("last line: name", last_name, 120_000, 3), ("last line: pins", last_pins, 120_000, 3)):
+        yield Case("analyse", "bench: " + name, make, least, status)
+    for name, make, least, status in (
+            ("names of inputs", blif_inputs, 24_000, 4), ("too many names of inputs", blif_inputs, 250_000, 3), ("names chosen to collide", blif_colliding, 24_000, 4), ("too many names chosen to collide", blif_colliding, 48_000, 3), ("rows of one cover", blif_rows, 400_000, 3),
+            ("constant covers", blif_constants, 120_000, 0), ("a constant that is used", blif_used_constant, 120_000, 3), ("covers of two rows", blif_covers, 1_400, 0),
+            ("a chain of covers", blif_chain, 12_000, 0), ("covers of 128 pins", blif_wide, 50, 0), ("covers of 64 rows, too many", blif_inverted, 800, 3),
+            ("joined lines", blif_joined, 1_000_000, 0), ("words on joined lines", blif_joined_words, 600_000, 3), ("a line of words", blif_line, 1_000_000, 3), ("one name", blif_name, 2_000_000, 3),
+            ("one name defined again and again", blif_twice, 900_000, 3), ("last line: form", blif_last_form, 80_000, 3), ("last line: construct", blif_last_construct, 80_000, 3),
+            ("last line: undefined", blif_last_undefined, 80_000, 3), ("last line: cover", blif_last_cover, 80_000, 3)):
+        yield Case("analyse", "blif: " + name, make, least, status, True)
+
+
+CIRCUITS = (
+    ("chain", chain, 12_000), ("chain against the order", reversed_chain, 12_000), ("one input read by all", star, 12_000), ("gates of 256 gates", collected, 8_000), ("gates of 256 pins", wide, 90),
+    ("layers of 256 pins", wide_layers, 12), ("reconvergent chain", reconvergent, 6_000), ("ladder", ladder, 4_000), ("ladder against the order", reversed_ladder, 4_000), ("grid", grid, 8_000),
+    ("random gates", random_gates, 8_000), ("random gates with feedback", random_feedback, 5_000), ("random gates that all read each other", random_nands, 5_000), ("gates that oscillate", oscillators, 8_000), ("ring that never settles", ring, 12_000), ("ring against the order", reversed_ring, 12_000),
+    ("ring that settles", settled_ring, 12_000), ("all gates in one loop", both_ways, 8_000), ("all in one loop against the order", both_ways_reversed, 8_000), ("latches, critical", latches, 4_000),
+    ("latches that settle", settled_latches, 4_000), ("latches in a row", latches_in_row, 4_000), ("NAND that drives buffers", driving_nand, 12_000), ("flip-flops in a row", flip_flops, 24_000),
+    ("flip-flops of one node", flip_flops_of_one, 20_000), ("counter", counter, 3_000), ("inputs", inputs, 24_000), ("gates of two inputs", pairs, 5_000), ("names chosen to collide", colliding_listed, 10_000))
+
+
+def analyses():
+    """The circuits and the scripts, by `analyse`."""
+    for name, make, least in CIRCUITS:
+        yield Case("analyse", name, make, least)
+    for name, make, least in (("ladder", ladder, 4_000), ("reconvergent chain", reconvergent, 6_000)):
+        yield Case("analyse", name + ", all, cap 1000000", make, least, options=["--show", "all", "--cap", "1000000"])
+    for name, make, least, status in (
+            ("changes", changes, 1_250, 0), ("changes of a hundred latches", changes_of_many, 250, 0), ("changes after one that does not settle", changes_stopped, 1_250, 0), ("one name assigned again and again", same_assigned, 400_000, 4),
+            ("names that are unknown", unknown_assigned, 150_000, 4), ("marks", marks, 2_000_000, 4), ("one word", script_word, 2_000_000, 4), ("comments", script_comments, 500_000, 0), ("last line: form", script_last_form, 1_250, 4),
+            ("last line: bit", script_last_bit, 1_250, 4), ("last line: name", script_last_name, 1_250, 4), ("too many changes", script_too_many, 180_000, 4), ("an input without value", missing_input, 24_000, 4), ("a gate that is open", script_feedback_open, 12_000, 5)):
+        yield Case("analyse", "script: " + name, make, least, status)
+
+
+def replays():
+    """Run texts, by `replay`, `convert` and `vcd`."""
+    texts = (
+        ("one long run", ring_steps, 60_000, 0), ("one long cycle", ring_cycle, 30_000, 0), ("short runs of 2,000 variables", runs_of_chain, 100_000, 0), ("as many runs as gates", runs_and_size, 6_000, 1),
+        ("cycles without a step", cycles_and_size, 6_000, 0), ("empty runs", empty_runs, 500_000, 0), ("one step of all", one_step, 12_000, 0), ("a step for each gate", steps_of_star, 12_000, 0),
+        ("NAND that drives buffers", steps_of_nand, 3_000, 0), ("pins of wide gates", steps_of_wide, 60, 0), ("a start of all", runs_start, 12_000, 0), ("names chosen to collide", runs_colliding, 8_000, 0))
+    for job in ("replay", "convert", "vcd"):
+        for name, make, least, status in texts:
+            yield Case(job, name, make, least, 0 if job == "convert" else status)
+    yield Case("replay", "a step that repeats a variable", repeated_variable, 200_000, 1)
+    for name, last in (("form", "step (\n"), ("name", "step z\nend\n"), ("bit", "start e=2\nend\n"), ("order", "step y\n"), ("pin", "step y(3)\nend\n"), ("stable", "step e\nend\n")):
+        yield Case("replay", "last line: " + name, runs_last(last), 60_000, 1 if name == "stable" else 4)
+
+
+def pattern_cases():
+    """Patterns, by `batch` and `reset`."""
+    circuits = (
+        ("patterns", patterns, 8_000, 0), ("gates", patterns_of_many, 2_000, 0), ("inputs", patterns_of_inputs, 1_000, 0), ("outputs", patterns_and_outputs, 1_000, 0), ("latches", patterns_of_latches, 1_000, 0),
+        ("ring", patterns_of_ring, 2_000, 0), ("ring against the order", patterns_of_reversed_ring, 2_000, 0), ("all gates in one loop", patterns_both_ways, 2_000, 0), ("all in one loop against the order", patterns_both_ways_reversed, 2_000, 0),
+        ("held: all in one loop", held_both_ways, 2_000, 0), ("held: all in one loop against the order", held_both_ways_reversed, 2_000, 0), ("held: two chains against the order", held_two_chains, 2_000, 0),
+        ("held: chain against the order", held_reversed_chain, 2_000, 0), ("chain against the order", patterns_of_reversed_chain, 2_000, 0), ("gates of 256 pins", patterns_of_wide, 20, 0), ("random gates with feedback", patterns_of_feedback, 1_000, 0),
+        ("a hold of all gates", patterns_long_hold, 12_000, 0), ("a start that is open", patterns_open, 8_000, 0))
+    for job in ("batch", "reset"):
+        for name, make, least, status in circuits:
+            yield Case(job, name, make, least, status)
+    for name, make, least, status in (
+            ("not as printed", patterns_spread, 8_000, 0), ("one word", patterns_word, 2_000_000, 4), ("comments", patterns_comments, 500_000, 0), ("hold: one name again and again", hold_twice, 400_000, 4),
+            ("hold: unknown names", hold_unknown, 150_000, 4), ("too many", patterns_last(""), 150_000, 4), ("last line: form", patterns_last("from 0 to"), 8_000, 4), ("last line: bit", patterns_last("from 0 to 2\n"), 8_000, 4),
+            ("last line: order", patterns_last("hold y=1\n"), 8_000, 4), ("last line: name", patterns_last("hold z=1\n"), 8_000, 4)):
+        yield Case("batch", "text: " + name, make, least, status)
+
+
+def splits():
+    """Circuits by `split`. The NAND takes a flip of each buffer in every other turn, so it is not linear: MEASURED says why."""
+    for name, make, least in (
+            ("ring", ring, 500), ("ring against the order", reversed_ring, 500), ("latches, critical", latches, 4_000), ("latches that settle", settled_latches, 4_000), ("gates that oscillate", oscillators, 500),
+            ("random gates that all read each other", random_nands, 500), ("all gates in one loop, settled", both_ways, 4_000), ("NAND that drives buffers", driving_nand, 100)):
+        yield Case("split", name, make, least)
+
+
+def cases():
+    """All rows."""
+    yield from reading()
+    yield from analyses()
+    yield from replays()
+    yield from pattern_cases()
+    yield from splits()
+    yield Case("demo", "NUMBER", None, 2_000)
