@@ -27,6 +27,11 @@ abbrev pub unread_by : LineFault → StatementFault
 unread_by fault.Forbidden = unread.Form
 unread_by fault.Memory = unread.Memory
 
+-- what a grammar makes of the tokens of a line: nothing, where the line has no list of tokens
+abbrev pub by_tokens : {A : Type 0} → (List TokenOf → Option A) → Option (List TokenOf) → Option A
+by_tokens grammar None = None
+by_tokens grammar (Some tokens) = grammar tokens
+
 -- why nothing was read: it is not there; memory may always run out
 abbrev pub IsUnread : {A : Type 0} → Option A → StatementFault → Type 0
 IsUnread read why = OrThat unread.Memory (λ _. read ≡ None) why

@@ -1,12 +1,12 @@
 // The statements of a text in a grammar.
 
-ghost use Rattle.std.specs.Prelude.{◌≡◌, ◌≤◌, length, map, All, Some, IfOk, IfSome, MatchResult};
+ghost use Rattle.std.specs.Prelude.{◌≡◌, ◌≤◌, ◌∷◌, length, map, All, Some, IfOk, IfSome, MatchResult};
 ghost use Rattle.hz_line.specs.Statement.{meaning_of, Means};
-ghost use Rattle.hz_line.specs.Token.{token_of};
-ghost use Rattle.hz_line.specs.Reading.{numbered_by, meaning_read, AreStatementsOf, IsUnread, IsUnreadLine, IsUnreadText};
+ghost use Rattle.hz_line.specs.Token.{TokenOf, token_of, tokens_of};
+ghost use Rattle.hz_line.specs.Reading.{by_tokens, numbered_by, meaning_read, AreStatementsOf, IsUnread, IsUnreadLine, IsUnreadText};
 
 use crate::lines::split_line;
-use crate::tokens::{LineFault, Token, read_tokens};
+use crate::tokens::{LineFault, Next, Token, next_token};
 use std::alloc::{AllocFailed, Global};
 use thiserror::Error;
 
@@ -72,7 +72,7 @@ pub struct Numbered<H> {
     pub held: H,
 }
 
-/// How the tokens of a line are read: each line of a text that has tokens is one statement.
+/// How a line is read: each line of a text that has tokens is one statement.
 ///
 /// `Held` is what the reader holds of a statement, and `stated` says which statement that is. `Context` is what
 /// statements are read over, as a circuit whose names they use; reading changes nothing of it. `grammar` gives the
@@ -95,11 +95,14 @@ pub trait Grammar<'t> {
 
     ghost IsSound: { Context → Self.Held → Type 0 };
 
-    /// Reads the statement that tokens are.
-    fn statement(&mut self, tokens: &[Token<'t>]) -> Result<Self::Held, StatementFault>
+    /// Reads the statement of a line that begins with this token, and goes on with this rest. It may stop at the first
+    /// token with which no statement goes on.
+    fn statement(&mut self, first: Token<'t>, rest: &'t [u8]) -> Result<Self::Held, StatementFault>
         ensures read { MatchResult result
-            (λ held. grammar (context self.old) (map token_of tokens.now) ≡ Some (stated held))
-            (λ why. IsUnread (grammar (context self.old) (map token_of tokens.now)) why) }
+            (λ held. by_tokens (λ later. grammar (context self.old) (token_of first.entry ∷ later)) (tokens_of rest.now)
+            ≡ Some (stated held))
+            (λ why. IsUnread (by_tokens (λ later. grammar (context self.old) (token_of first.entry ∷ later))
+            (tokens_of rest.now)) why) }
         ensures sound { IfOk result (IsSound (context self.old)) }
         ensures same { context self.new ≡ context self.old };
 
@@ -124,13 +127,12 @@ pub fn read_statements<'t, G: Grammar<'t>>(
     ensures same { G.context grammar.new ≡ G.context grammar.old }
 {
     let mut entries = Vec::new(alloc);
-    let mut tokens = Vec::new(alloc);
     let mut rest = Some(text);
     let mut line = 0;
     while let Some(left) = rest {
         let cut = split_line(left);
         line += 1;
-        match read_line(grammar, cut.line, &mut tokens) {
+        match read_line(grammar, cut.line) {
             Ok(None) => {}
             Ok(Some(held)) => entries.push(Numbered { line, held })?,
             Err(StatementFault::Form) => return Err(StatementsFault::Form { line }),
@@ -141,11 +143,10 @@ pub fn read_statements<'t, G: Grammar<'t>>(
     Ok(entries)
 }
 
-// The statement of a line, if it has tokens. The tokens are those of an earlier line, and are replaced.
+// The statement of a line, if it has tokens.
 fn read_line<'t, G: Grammar<'t>>(
     grammar: &mut G,
     line: &'t [u8],
-    tokens: &mut Vec<Token<'t>>,
 ) -> Result<Option<G::Held>, StatementFault>
     ensures read { MatchResult result
         (λ read. meaning_of (G.grammar (G.context grammar.old)) line.now ≡ meaning_read G.stated read)
@@ -156,10 +157,12 @@ fn read_line<'t, G: Grammar<'t>>(
     if let Some(held) = grammar.short(line) {
         return Ok(Some(held));
     }
-    read_tokens(line, tokens)?;
-    if tokens.is_empty() {
-        return Ok(None);
+    match next_token(line) {
+        Next::End => Ok(None),
+        Next::Forbidden => Err(StatementFault::Form),
+        Next::Token(first, rest) => {
+            let held = grammar.statement(first, rest)?;
+            Ok(Some(held))
+        }
     }
-    let held = grammar.statement(tokens.as_slice())?;
-    Ok(Some(held))
 }

@@ -1,6 +1,6 @@
 -- Numbers of pins, and wires by them.
-use Rattle.std.proofs.Common.{◌≡◌, ◌∙◌, ℕ, ◌+◌, ◌*◌, ◌-◌, ◌<◌, ◌≤◌, Bool, true, false, ◌&&◌, nat_le, List, [], ◌∷◌, ◌++◌, Option, Some, None, length, get_or, take, drop, zero, suc, map, refl, ap, sym, arith, fold, take-append-drop, cond, append_assoc}
-use Rattle.std.specs.Option.{IfSome, option_map}
+use Rattle.std.proofs.Common.{◌≡◌, ◌∙◌, ℕ, ◌+◌, ◌*◌, ◌-◌, ◌<◌, ◌≤◌, Bool, true, false, ◌&&◌, nat_le, List, [], ◌∷◌, ◌++◌, Option, Some, None, length, take, drop, refl, ap, sym, arith, fold, take-append-drop, cond}
+use Rattle.std.specs.Option.{IfSome}
 use Rattle.std.specs.Str.{bytes_eq}
 use Rattle.std.proofs.lemmas.Bool.Decides.{nat_tests}
 use Rattle.std.proofs.lemmas.List.Quantifiers.{position-Some}
@@ -8,10 +8,8 @@ use Rattle.hz_core.proofs.CircuitLemmas.{most_pins-bound}
 use Rattle.hz_core.specs.declared.kind.Kind.TheVariants.{And}
 use Rattle.hz_core.specs.Netlist.{Netlist, IsCircuit, gate_at, node_named}
 use Rattle.hz_net.specs.Variables.{first_wire}
-use Rattle.hz_line.specs.declared.tokens.Token.{Token}
-use Rattle.hz_line.specs.Token.{WordOf, token_of}
-use Rattle.hz_text.specs.RunStatement.{Variable, Pin, variables_of_tokens, with_first, number_by}
-use Rattle.hz_text.specs.RunResolution.{wire_into, variable_named, variables_by}
+use Rattle.hz_text.specs.RunStatement.{number_by}
+use Rattle.hz_text.specs.RunResolution.{wire_into}
 use Rattle.hz_core.specs.Limits.{most_gate_pins}
 
 -- the number that digits stand for after a number before them
@@ -53,43 +51,3 @@ wire_into-above netlist node pin circuit within gate above =
     both-false true true = refl
     both-false true false = refl
     both-false false b = refl
-
-drop-nil : {A : Type 0} (n : ℕ) → drop {A = A} n [] ≡ []
-drop-nil zero = refl
-drop-nil (suc n) = refl
-
-drop-drop : {A : Type 0} (a b : ℕ) (xs : List A) → drop b (drop a xs) ≡ drop (a + b) xs
-drop-drop zero b xs = ap (λ n. drop n xs) (omega arith)
-drop-drop (suc a) b [] = drop-nil b ∙ sym (drop-nil (suc a + b))
-drop-drop (suc a) b (x ∷ xs) =
-    let more : suc (a + b) ≡ suc a + b = omega arith in drop-drop a b xs ∙ ap (λ n. drop n (x ∷ xs)) more
-
-more_read : (read more : List (Option ℕ)) (variable : Option ℕ) (rest : Option (List (Option ℕ))) → more ≡ read ++ variable ∷ [] → option_map (λ later. read ++ later) (with_first variable rest) ≡ option_map (λ later. more ++ later) rest
-more_read read more variable None e = refl
-more_read read more variable (Some later) e = ap Some (sym (append_assoc read (variable ∷ []) later) ∙ ap (λ front. front ++ later) (sym e))
-
--- one variable more
-pub variable_step :
-    (netlist : Netlist) (tokens : List Token) (place taken : ℕ) (variable : Option ℕ) (read more : List (Option ℕ)) →
-    variables_by netlist (map token_of tokens) ≡ option_map (λ later. read ++ later) (variables_by netlist (map token_of (drop place tokens))) →
-    variables_by netlist (map token_of (drop place tokens)) ≡ with_first variable (variables_by netlist (map token_of (drop taken (drop place tokens)))) →
-    more ≡ read ++ variable ∷ [] →
-    variables_by netlist (map token_of tokens) ≡ option_map (λ later. more ++ later) (variables_by netlist (map token_of (drop (place + taken) tokens)))
-variable_step netlist tokens place taken variable read more so_far first pushed =
-    so_far
-    ∙ ap (option_map (λ later. read ++ later)) (first ∙ ap (λ rest. with_first variable (variables_by netlist (map token_of rest))) (drop-drop place taken tokens))
-    ∙ more_read read more variable _ pushed
-
-looked_first : (netlist : Netlist) (variable : Variable) (rest : Option (List Variable)) → option_map (map (variable_named netlist)) (with_first variable rest) ≡ with_first (variable_named netlist variable) (option_map (map (variable_named netlist)) rest)
-looked_first netlist variable None = refl
-looked_first netlist variable (Some later) = refl
-
--- the first variable, where a pin stands after the name
-pub pin_first :
-    (netlist : Netlist) (tokens : List Token) (name number : List ℕ) (d : Token) → 0 < length tokens → token_of (get_or tokens 0 d) ≡ WordOf name →
-    ((name : List ℕ) → variables_of_tokens (WordOf name ∷ map token_of (drop 1 tokens)) ≡ with_first (Pin name number) (variables_of_tokens (map token_of (drop 3 (drop 1 tokens))))) →
-    variables_by netlist (map token_of tokens) ≡ with_first (variable_named netlist (Pin name number)) (variables_by netlist (map token_of (drop 4 tokens)))
-pin_first netlist [] name number d some is read = absurd (omega (arith, some))
-pin_first netlist (first ∷ rest) name number d some is read =
-    ap (λ token. variables_by netlist (token ∷ map token_of rest)) is ∙ ap (option_map (map (variable_named netlist))) (read name)
-    ∙ looked_first netlist (Pin name number) (variables_of_tokens (map token_of (drop 3 rest)))

@@ -2,14 +2,15 @@
 
 ghost use Rattle.std.specs.Prelude.{◌≡◌, ◌<◌, ◌≤◌, length, map, Some, None, IfOk, IfSome, MatchResult, vec_len, slice_index, EachIndex, not, position};
 ghost use Rattle.std.specs.List.{range_with_len};
-ghost use Rattle.hz_line.specs.Reading.{IsUnread};
-ghost use Rattle.hz_line.specs.Token.{token_of};
+ghost use Rattle.hz_line.specs.Reading.{by_tokens, IsUnread};
+ghost use Rattle.hz_line.specs.Token.{tokens_of};
+ghost use Rattle.hz_text.specs.AssignmentsRead.{IsAssignmentFirst};
 ghost use Rattle.hz_text.specs.Assignment.{bit_of, assigned_of, assigned_by, is_not_allowed, any_unknown, any_bitless, assigns};
 ghost use Rattle.hz_text.specs.Bits.{allowed_by};
 ghost use Rattle.hz_text.specs.Rules.{AreBelow, repeats_node, least_unassigned, with_node_marked};
 
 use hz_core::{Circuit, Memory};
-use hz_line::{Punctuation, StatementFault, Token};
+use hz_line::{Punctuation, StatementFault, first_punctuation, first_word, is_blank_line};
 use std::alloc::Global;
 use std::marker::Model;
 
@@ -36,33 +37,49 @@ pub(crate) enum Allowed {
     Gates,
 }
 
-// The assignments that tokens are.
+// An assignment as it is written, and the line after it.
+#[derive(Clone, Copy)]
+struct Written<'a> {
+    name: &'a [u8],
+    word: &'a [u8],
+    rest: &'a [u8],
+}
+
+// The assignments that the tokens of a line are.
 pub(crate) fn read_assignments(
     alloc: Global,
     circuit: &Circuit,
-    tokens: &[Token],
+    line: &[u8],
 ) -> Result<Vec<Assigned>, StatementFault>
     ensures read { MatchResult result
-        (λ read. assigned_by circuit.now (map token_of tokens.now) ≡ Some read.items)
-        (λ why. IsUnread (assigned_by circuit.now (map token_of tokens.now)) why) }
+        (λ read. by_tokens (assigned_by circuit.now) (tokens_of line.now) ≡ Some read.items)
+        (λ why. IsUnread (by_tokens (assigned_by circuit.now) (tokens_of line.now)) why) }
     ensures below { IfOk result (λ read. AreBelow (length circuit.now.names) read.items) }
 {
     let mut read = Vec::new(alloc);
-    let mut rest = tokens;
-    while let [
-        Token::Word(name),
-        Token::Punct(Punctuation::Equals),
-        Token::Word(word),
-        after @ ..,
-    ] = rest
-    {
-        read.push(assignment(circuit, name, word))?;
-        rest = after;
+    let mut rest = line;
+    while !is_blank_line(rest) {
+        let Some(first) = first_assignment(rest) else {
+            return Err(StatementFault::Form);
+        };
+        read.push(assignment(circuit, first.name, first.word))?;
+        rest = first.rest;
     }
-    if rest.is_empty() {
-        Ok(read)
-    } else {
-        Err(StatementFault::Form)
+    Ok(read)
+}
+
+// The assignment with which a line begins that has tokens.
+fn first_assignment<'a>(line: &'a [u8]) -> Option<Written<'a>>
+    ensures { IsAssignmentFirst line.now result }
+{
+    let (name, after) = first_word(line)?;
+    let (mark, value) = first_punctuation(after)?;
+    let (word, rest) = first_word(value)?;
+    match mark {
+        Punctuation::Equals => Some(Written { name, word, rest }),
+        Punctuation::Open => None,
+        Punctuation::Close => None,
+        Punctuation::Comma => None,
     }
 }
 

@@ -1,9 +1,9 @@
 // What all texts of statements share: the frame that reads one, and the passes that are the same for each.
 
-ghost use Rattle.std.specs.Prelude.{◌≡◌, ◌≤◌, length, map, All, Some, None, IfOk, IfSome, MatchResult};
-ghost use Rattle.hz_line.specs.Reading.{numbered_by, IsUnread};
+ghost use Rattle.std.specs.Prelude.{◌≡◌, ◌≤◌, ◌∷◌, length, map, All, Some, None, IfOk, IfSome, MatchResult};
+ghost use Rattle.hz_line.specs.Reading.{by_tokens, numbered_by, IsUnread};
 ghost use Rattle.hz_line.specs.Statement.{first_passing_line, meaning_of, Means};
-ghost use Rattle.hz_line.specs.Token.{token_of};
+ghost use Rattle.hz_line.specs.Token.{token_of, tokens_of};
 ghost use Rattle.hz_text.specs.Rules.{AreBelow, repeats_node, first_fault_in, first_fault_of, IsFaultOrMemory, IsChecked};
 ghost use Rattle.hz_line.specs.Line.{most_text_bytes};
 
@@ -39,11 +39,13 @@ pub(crate) trait Text<'t>: Drop {
 
     ghost node_count: { Context → ℕ };
 
-    // The statement that tokens are.
-    fn statement(&mut self, tokens: &[Token<'t>]) -> Result<Self::Held, StatementFault>
+    // The statement of a line that begins with this token, and goes on with this rest.
+    fn statement(&mut self, first: Token<'t>, rest: &'t [u8]) -> Result<Self::Held, StatementFault>
         ensures read { MatchResult result
-            (λ held. grammar (context self.old) (map token_of tokens.now) ≡ Some (stated held))
-            (λ why. IsUnread (grammar (context self.old) (map token_of tokens.now)) why) }
+            (λ held. by_tokens (λ later. grammar (context self.old) (token_of first.entry ∷ later)) (tokens_of rest.now)
+            ≡ Some (stated held))
+            (λ why. IsUnread (by_tokens (λ later. grammar (context self.old) (token_of first.entry ∷ later))
+            (tokens_of rest.now)) why) }
         ensures below { IfOk result (λ held. AreBelow (node_count (context self.old)) ((rules (context self.old)).assigned (stated held))) }
         ensures same { context self.new ≡ context self.old };
 
@@ -112,8 +114,8 @@ impl<'t, T: Text<'t>> Grammar<'t> for Lines<T> {
 
     ghost IsSound = { λ context held. AreBelow (T.node_count context) ((T.rules context).assigned (T.stated held)) };
 
-    fn statement(&mut self, tokens: &[Token<'t>]) -> Result<T::Held, StatementFault> {
-        self.text.statement(tokens)
+    fn statement(&mut self, first: Token<'t>, rest: &'t [u8]) -> Result<T::Held, StatementFault> {
+        self.text.statement(first, rest)
     }
 
     fn short(&self, line: &'t [u8]) -> Option<T::Held> {

@@ -2,8 +2,8 @@
 
 ghost use Rattle.std.specs.Prelude.{◌≡◌, length, map, Some, IfOk, MatchResult};
 ghost use Rattle.std.specs.Option.{option_map};
-ghost use Rattle.hz_line.specs.Reading.{IsUnread};
-ghost use Rattle.hz_line.specs.Token.{token_of};
+ghost use Rattle.hz_line.specs.Reading.{by_tokens, IsUnread};
+ghost use Rattle.hz_line.specs.Token.{tokens_of};
 ghost use Rattle.hz_text.specs.PatternStatement.{Pattern, pattern_keyword_of, pattern_by, is_to};
 ghost use Rattle.hz_text.specs.PatternResolution.{pattern_resolution_of, pattern_keyword_by, resolve_pattern_tokens, resolve_pattern_keyword};
 ghost use Rattle.hz_text.specs.PatternFault.{assignments_in};
@@ -19,7 +19,7 @@ use crate::patterns::short::read_short;
 use crate::patterns::word::Letters;
 use crate::text::Text;
 use hz_core::{Circuit, Memory};
-use hz_line::{Numbered, StatementFault, Token, is_keyword};
+use hz_line::{Numbered, StatementFault, Token, first_word, is_blank_line, is_keyword};
 use std::alloc::Global;
 
 /// What a statement begins with.
@@ -70,8 +70,8 @@ impl<'c, 't> Text<'t> for Statements<'c> {
 
     ghost node_count = { λ netlist. length netlist.names };
 
-    fn statement(&mut self, tokens: &[Token<'t>]) -> Result<Held<'t>, StatementFault> {
-        let [Token::Word(word), rest @ ..] = tokens else {
+    fn statement(&mut self, first: Token<'t>, rest: &'t [u8]) -> Result<Held<'t>, StatementFault> {
+        let Token::Word(word) = first else {
             return Err(StatementFault::Form);
         };
         let Some(keyword) = read_keyword(word) else {
@@ -122,16 +122,18 @@ impl<'c, 't> Text<'t> for Statements<'c> {
     }
 }
 
-// The statement of a keyword and the tokens after it.
+// The statement of a keyword and the line after it.
 fn read_statement_of<'t>(
     alloc: Global,
     circuit: &Circuit,
     keyword: Keyword,
-    rest: &[Token<'t>],
+    rest: &'t [u8],
 ) -> Result<Held<'t>, StatementFault>
     ensures read { MatchResult result
-        (λ held. resolve_pattern_keyword circuit.now (Some (pattern_keyword_by keyword)) (map token_of rest.now) ≡ Some (pattern_resolution_of held))
-        (λ why. IsUnread (resolve_pattern_keyword circuit.now (Some (pattern_keyword_by keyword)) (map token_of rest.now)) why) }
+        (λ held. by_tokens (resolve_pattern_keyword circuit.now (Some (pattern_keyword_by keyword))) (tokens_of rest.now)
+        ≡ Some (pattern_resolution_of held))
+        (λ why. IsUnread (by_tokens (resolve_pattern_keyword circuit.now (Some (pattern_keyword_by keyword)))
+        (tokens_of rest.now)) why) }
     ensures below { IfOk result (λ held. AreBelow (length circuit.now.names) (assignments_in (pattern_resolution_of held))) }
 {
     match keyword {
@@ -143,22 +145,22 @@ fn read_statement_of<'t>(
     }
 }
 
-// The two words of the pattern that the tokens after `from` are: a word, the word `to`, a word.
-fn read_words<'t>(tokens: &[Token<'t>]) -> Result<(&'t [u8], &'t [u8]), StatementFault>
+// The two words of the pattern that a line after `from` is: a word, the word `to`, a word.
+fn read_words<'t>(line: &'t [u8]) -> Result<(&'t [u8], &'t [u8]), StatementFault>
     ensures { MatchResult result
-        (λ words. pattern_by (map token_of tokens.now) ≡ Some (Pattern words.0.now words.1.now))
-        (λ why. IsUnread (pattern_by (map token_of tokens.now)) why) }
+        (λ words. by_tokens pattern_by (tokens_of line.now) ≡ Some (Pattern words.0.now words.1.now))
+        (λ why. IsUnread (by_tokens pattern_by (tokens_of line.now)) why) }
 {
-    let [Token::Word(from), later @ ..] = tokens else {
+    let Some((from, later)) = first_word(line) else {
         return Err(StatementFault::Form);
     };
-    let [Token::Word(middle), last @ ..] = later else {
+    let Some((middle, last)) = first_word(later) else {
         return Err(StatementFault::Form);
     };
-    let [Token::Word(to), after @ ..] = last else {
+    let Some((to, after)) = first_word(last) else {
         return Err(StatementFault::Form);
     };
-    if after.is_empty() && is_to(middle) {
+    if is_blank_line(after) && is_to(middle) {
         Ok((from, to))
     } else {
         Err(StatementFault::Form)

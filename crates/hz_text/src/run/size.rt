@@ -1,14 +1,14 @@
 // The size of a network, as a run text has it.
 
-ghost use Rattle.std.specs.Prelude.{◌≡◌, map, Some, MatchResult};
-ghost use Rattle.hz_line.specs.Reading.{IsUnread};
-ghost use Rattle.hz_line.specs.Token.{token_of};
+ghost use Rattle.std.specs.Prelude.{◌≡◌, Some, MatchResult};
+ghost use Rattle.hz_line.specs.Reading.{by_tokens, IsUnread};
+ghost use Rattle.hz_line.specs.Token.{tokens_of};
 ghost use Rattle.hz_text.specs.RunStatement.{count_of, size_with, size_by};
 ghost use Rattle.hz_text.specs.RunSize.{size_of, difference};
 
 use crate::run::number::read_count;
 use hz_core::Circuit;
-use hz_line::{StatementFault, Token};
+use hz_line::{StatementFault, first_word, is_blank_line};
 
 /// How many inputs, gates and wires there are.
 #[derive(Clone, Copy, Debug)]
@@ -18,22 +18,22 @@ pub(crate) struct Size {
     pub(crate) wires: u32,
 }
 
-// The size that tokens are: three numbers.
-pub(crate) fn read_size(tokens: &[Token]) -> Result<Size, StatementFault>
+// The size that the tokens of a line are: three numbers.
+pub(crate) fn read_size(line: &[u8]) -> Result<Size, StatementFault>
     ensures { MatchResult result
-        (λ size. size_by (map token_of tokens.now) ≡ Some size)
-        (λ why. IsUnread (size_by (map token_of tokens.now)) why) }
+        (λ size. by_tokens size_by (tokens_of line.now) ≡ Some size)
+        (λ why. IsUnread (by_tokens size_by (tokens_of line.now)) why) }
 {
-    let [Token::Word(inputs), later @ ..] = tokens else {
+    let Some((inputs, later)) = first_word(line) else {
         return Err(StatementFault::Form);
     };
-    let [Token::Word(gates), last @ ..] = later else {
+    let Some((gates, last)) = first_word(later) else {
         return Err(StatementFault::Form);
     };
-    let [Token::Word(wires), after @ ..] = last else {
+    let Some((wires, after)) = first_word(last) else {
         return Err(StatementFault::Form);
     };
-    if !after.is_empty() {
+    if !is_blank_line(after) {
         return Err(StatementFault::Form);
     }
     read_counts(inputs, gates, wires)

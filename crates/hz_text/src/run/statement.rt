@@ -1,9 +1,9 @@
 // The statements of a run text, looked up in a network.
 
-ghost use Rattle.std.specs.Prelude.{◌≡◌, length, map, IfOk, MatchResult, Some};
+ghost use Rattle.std.specs.Prelude.{◌≡◌, length, IfOk, MatchResult, Some};
 ghost use Rattle.std.specs.Option.{option_map};
-ghost use Rattle.hz_line.specs.Reading.{IsUnread};
-ghost use Rattle.hz_line.specs.Token.{token_of};
+ghost use Rattle.hz_line.specs.Reading.{by_tokens, IsUnread};
+ghost use Rattle.hz_line.specs.Token.{tokens_of};
 ghost use Rattle.hz_text.specs.Assignment.{assigned_by};
 ghost use Rattle.hz_text.specs.Rules.{AreBelow};
 ghost use Rattle.hz_text.specs.RunKeyword.{Step as StepWord};
@@ -25,7 +25,7 @@ use crate::run::version::{Version, read_version};
 use crate::text::Text;
 use bumpalo::Bump;
 use hz_core::{Circuit, Memory};
-use hz_line::{Numbered, StatementFault, Token, is_keyword};
+use hz_line::{Numbered, StatementFault, Token, is_blank_line, is_keyword};
 use hz_net::Net;
 use std::alloc::Global;
 
@@ -80,8 +80,12 @@ impl<'a, 'n, 't> Text<'t> for RunStatements<'a, 'n> {
 
     ghost node_count = { λ netlist. length netlist.names };
 
-    fn statement(&mut self, tokens: &[Token<'t>]) -> Result<RunHeld<'a>, StatementFault> {
-        let [Token::Word(word), rest @ ..] = tokens else {
+    fn statement(
+        &mut self,
+        first: Token<'t>,
+        rest: &'t [u8],
+    ) -> Result<RunHeld<'a>, StatementFault> {
+        let Token::Word(word) = first else {
             return Err(StatementFault::Form);
         };
         let Some(keyword) = run_keyword(word) else {
@@ -97,7 +101,7 @@ impl<'a, 'n, 't> Text<'t> for RunStatements<'a, 'n> {
         )
     }
 
-    // Each line is read by its tokens.
+    // No line has a form of its own.
     fn short(&self, _line: &'t [u8]) -> Option<RunHeld<'a>> {
         None
     }
@@ -139,18 +143,20 @@ impl<'a, 'n, 't> Text<'t> for RunStatements<'a, 'n> {
     }
 }
 
-// The statement of a keyword and the tokens after it.
+// The statement of a keyword and the line after it.
 fn read_statement_of<'a>(
     alloc: Global,
     arena: &'a Bump,
     net: &Net,
     keyword: RunKeyword,
-    rest: &[Token],
+    rest: &[u8],
     variables: &mut Vec<Option<u32>>,
 ) -> Result<RunHeld<'a>, StatementFault>
     ensures read { MatchResult result
-        (λ held. resolve_run_keyword net.now (Some (run_keyword_by keyword)) (map token_of rest.now) ≡ Some (run_resolution_of held))
-        (λ why. IsUnread (resolve_run_keyword net.now (Some (run_keyword_by keyword)) (map token_of rest.now)) why) }
+        (λ held. by_tokens (resolve_run_keyword net.now (Some (run_keyword_by keyword))) (tokens_of rest.now)
+        ≡ Some (run_resolution_of held))
+        (λ why. IsUnread (by_tokens (resolve_run_keyword net.now (Some (run_keyword_by keyword)))
+        (tokens_of rest.now)) why) }
     ensures below { IfOk result (λ held. AreBelow (length net.now.names) (assignments_in (run_resolution_of held))) }
 {
     match keyword {
@@ -158,26 +164,26 @@ fn read_statement_of<'a>(
         RunKeyword::Net => Ok(RunHeld::Net(read_size(rest)?)),
         RunKeyword::Start => Ok(RunHeld::Start(boxed_assignments(alloc, net.circuit(), rest)?)),
         RunKeyword::Input => Ok(RunHeld::Input(boxed_assignments(alloc, net.circuit(), rest)?)),
-        RunKeyword::Run if rest.is_empty() => Ok(RunHeld::Run),
+        RunKeyword::Run if is_blank_line(rest) => Ok(RunHeld::Run),
         RunKeyword::Run => Err(StatementFault::Form),
         RunKeyword::Step => read_step(arena, net, rest, variables),
-        RunKeyword::Cycle if rest.is_empty() => Ok(RunHeld::Cycle),
+        RunKeyword::Cycle if is_blank_line(rest) => Ok(RunHeld::Cycle),
         RunKeyword::Cycle => Err(StatementFault::Form),
-        RunKeyword::End if rest.is_empty() => Ok(RunHeld::End),
+        RunKeyword::End if is_blank_line(rest) => Ok(RunHeld::End),
         RunKeyword::End => Err(StatementFault::Form),
     }
 }
 
-// The step that tokens after the keyword are. Its variables are gathered in the vector before.
+// The step that a line after the keyword is. Its variables are gathered in the vector before.
 fn read_step<'a>(
     arena: &'a Bump,
     net: &Net,
-    rest: &[Token],
+    rest: &[u8],
     variables: &mut Vec<Option<u32>>,
 ) -> Result<RunHeld<'a>, StatementFault>
     ensures read { MatchResult result
-        (λ held. resolve_run_keyword net.now (Some StepWord) (map token_of rest.now) ≡ Some (run_resolution_of held))
-        (λ why. IsUnread (resolve_run_keyword net.now (Some StepWord) (map token_of rest.now)) why) }
+        (λ held. by_tokens (resolve_run_keyword net.now (Some StepWord)) (tokens_of rest.now) ≡ Some (run_resolution_of held))
+        (λ why. IsUnread (by_tokens (resolve_run_keyword net.now (Some StepWord)) (tokens_of rest.now)) why) }
     ensures below { IfOk result (λ held. AreBelow (length net.now.names) (assignments_in (run_resolution_of held))) }
 {
     read_variables(net, rest, variables)?;
@@ -190,18 +196,18 @@ fn read_step<'a>(
     Ok(RunHeld::Step(laid))
 }
 
-// The assignments that tokens are, on the heap.
+// The assignments that the tokens of a line are, on the heap.
 fn boxed_assignments(
     alloc: Global,
     circuit: &Circuit,
-    tokens: &[Token],
+    line: &[u8],
 ) -> Result<Box<Vec<Assigned>>, StatementFault>
     ensures read { MatchResult result
-        (λ read. assigned_by circuit.now (map token_of tokens.now) ≡ Some read.value.items)
-        (λ why. IsUnread (assigned_by circuit.now (map token_of tokens.now)) why) }
+        (λ read. by_tokens (assigned_by circuit.now) (tokens_of line.now) ≡ Some read.value.items)
+        (λ why. IsUnread (by_tokens (assigned_by circuit.now) (tokens_of line.now)) why) }
     ensures below { IfOk result (λ read. AreBelow (length circuit.now.names) read.value.items) }
 {
-    let read = read_assignments(alloc, circuit, tokens)?;
+    let read = read_assignments(alloc, circuit, line)?;
     Ok(Box::new(alloc, read)?)
 }
 

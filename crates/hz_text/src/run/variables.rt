@@ -1,86 +1,67 @@
 // The variables of a step, looked up in a network.
 
-ghost use Rattle.std.specs.Prelude.{◌≡◌, ◌<◌, ◌∷◌, length, map, Some, IsTrue, IfSome, MatchResult};
+ghost use Rattle.std.specs.Prelude.{◌≡◌, ◌<◌, length, Some, IsTrue, IfSome, MatchResult};
 ghost use Rattle.std.specs.List.{list_all};
 ghost use Rattle.hz_line.specs.declared.bytes.Punctuation.TheVariants.{Open};
-ghost use Rattle.hz_line.specs.declared.tokens.Token.TheVariants.{Punct};
-ghost use Rattle.hz_line.specs.Token.{token_of};
-ghost use Rattle.hz_line.specs.Reading.{IsUnread};
+ghost use Rattle.hz_line.specs.Token.{PunctuationOf, tokens_of, with_token};
+ghost use Rattle.hz_line.specs.Reading.{by_tokens, IsUnread};
 ghost use Rattle.hz_text.specs.RunStatement.{is_digit, number_by};
 ghost use Rattle.hz_text.specs.RunResolution.{wire_into, variables_by};
 ghost use Rattle.hz_text.specs.VariablesRead.{IsPinAfter, IsFirstVariable};
 
 use crate::run::number::{is_decimal, number_within};
 use hz_core::MAX_PINS;
-use hz_line::{Punctuation, StatementFault, Token};
+use hz_line::{Punctuation, StatementFault, first_punctuation, first_word, is_blank_line};
 use hz_net::Net;
 
-// What stands after a name: no pin, what is none, or a pin with this number.
+// What stands after a name: no pin, what is none, or a pin with this number, and the line after it.
 #[derive(Clone, Copy)]
 enum PinAfter<'a> {
     Absent,
     Malformed,
-    Pin(&'a [u8]),
+    Pin(&'a [u8], &'a [u8]),
 }
 
-// How many tokens a pin is.
-const PIN_TOKENS: usize = 3;
-
-// What comes first in tokens: what is no variable, or a variable, looked up, of so many tokens.
-#[derive(Clone, Copy)]
-enum First {
-    Malformed,
-    Variable(Option<u32>, usize),
-}
-
-// The variables that tokens are, each looked up, in place of those that the vector had.
+// The variables that the tokens of a line are, each looked up, in place of those that the vector had.
 pub(crate) fn read_variables(
     net: &Net,
-    tokens: &[Token],
+    line: &[u8],
     read: &mut Vec<Option<u32>>,
 ) -> Result<(), StatementFault>
     ensures { MatchResult result
-        (λ _. variables_by net.now (map token_of tokens.now) ≡ Some read.new.items)
-        (λ why. IsUnread (variables_by net.now (map token_of tokens.now)) why) }
+        (λ _. by_tokens (variables_by net.now) (tokens_of line.now) ≡ Some read.new.items)
+        (λ why. IsUnread (by_tokens (variables_by net.now) (tokens_of line.now)) why) }
 {
     read.clear();
-    let mut place = 0;
-    while place < tokens.len() {
-        match first_variable(net, &tokens[place..]) {
-            First::Malformed => return Err(StatementFault::Form),
-            First::Variable(variable, taken) => {
-                read.push(variable)?;
-                place += taken;
-            }
-        }
+    let mut rest = line;
+    while !is_blank_line(rest) {
+        let Some((variable, after)) = first_variable(net, rest) else {
+            return Err(StatementFault::Form);
+        };
+        read.push(variable)?;
+        rest = after;
     }
     Ok(())
 }
 
-// The first variable, looked up.
-fn first_variable(net: &Net, tokens: &[Token]) -> First
-    requires { 0 < length tokens.now }
-    ensures { IsFirstVariable net.now tokens.now result }
+// The variable with which a line begins that has tokens, looked up, and the line after it.
+fn first_variable<'a>(net: &Net, line: &'a [u8]) -> Option<(Option<u32>, &'a [u8])>
+    ensures { IsFirstVariable net.now line.now result }
 {
-    let [first, after @ ..] = tokens else {
-        return First::Malformed;
-    };
-    let Token::Word(name) = first else {
-        return First::Malformed;
-    };
+    let (name, after) = first_word(line)?;
     let node = net.circuit().find(name);
     match pin_after(after) {
-        PinAfter::Absent => First::Variable(node, 1),
-        PinAfter::Malformed => First::Malformed,
-        PinAfter::Pin(number) => First::Variable(wire_into(net, node, number), 1 + PIN_TOKENS),
+        PinAfter::Absent => Some((node, after)),
+        PinAfter::Malformed => None,
+        PinAfter::Pin(number, rest) => Some((wire_into(net, node, number), rest)),
     }
 }
 
-// The pin after a name.
-fn pin_after<'a>(tokens: &[Token<'a>]) -> PinAfter<'a>
-    ensures { IsPinAfter tokens.now result }
+// The pin with which the line after a name begins.
+fn pin_after<'a>(line: &'a [u8]) -> PinAfter<'a>
+    ensures { IsPinAfter (length line.now) (tokens_of line.now) result }
 {
-    let [Token::Punct(mark), after @ ..] = tokens else {
+    let Some((mark, after)) = first_punctuation(line) else {
         return PinAfter::Absent;
     };
     match mark {
@@ -91,18 +72,18 @@ fn pin_after<'a>(tokens: &[Token<'a>]) -> PinAfter<'a>
     }
 }
 
-// The pin whose opening sign stands before these tokens.
-fn pin_within<'a>(tokens: &[Token<'a>]) -> PinAfter<'a>
-    ensures { IsPinAfter (Punct Open ∷ tokens.now) result }
+// The pin whose opening sign stands before this line.
+fn pin_within<'a>(line: &'a [u8]) -> PinAfter<'a>
+    ensures { IsPinAfter (length line.now) (with_token (PunctuationOf Open) (tokens_of line.now)) result }
 {
-    let [Token::Word(number), after @ ..] = tokens else {
+    let Some((number, after)) = first_word(line) else {
         return PinAfter::Malformed;
     };
-    let [Token::Punct(mark), ..] = after else {
+    let Some((mark, rest)) = first_punctuation(after) else {
         return PinAfter::Malformed;
     };
     match mark {
-        Punctuation::Close if is_decimal(number) => PinAfter::Pin(number),
+        Punctuation::Close if is_decimal(number) => PinAfter::Pin(number, rest),
         Punctuation::Close => PinAfter::Malformed,
         Punctuation::Open => PinAfter::Malformed,
         Punctuation::Comma => PinAfter::Malformed,

@@ -1,34 +1,34 @@
-// The versions of run texts.
+// The formats of run texts.
 
-ghost use Rattle.std.specs.Prelude.{◌≡◌, map, Some, MatchResult};
-ghost use Rattle.hz_line.specs.Reading.{IsUnread};
-ghost use Rattle.hz_line.specs.Token.{token_of};
+ghost use Rattle.std.specs.Prelude.{◌≡◌, Some, MatchResult};
+ghost use Rattle.hz_line.specs.Reading.{by_tokens, IsUnread};
+ghost use Rattle.hz_line.specs.Token.{tokens_of};
 ghost use Rattle.hz_text.specs.RunStatement.{version_of};
 
-use hz_line::{StatementFault, Token};
+use hz_line::{StatementFault, first_word, is_blank_line};
 
-/// A version of run texts. The second one names the size of its network.
+/// A format of run texts. The second one names the size of its network.
 #[derive(Clone, Copy, Debug)]
 pub(crate) enum Version {
     One,
     Two,
 }
 
-// The version that tokens are.
-pub(crate) fn read_version(tokens: &[Token]) -> Result<Version, StatementFault>
+// The version that the tokens of a line are.
+pub(crate) fn read_version(line: &[u8]) -> Result<Version, StatementFault>
     ensures { MatchResult result
-        (λ version. version_of (map token_of tokens.now) ≡ Some version)
-        (λ why. IsUnread (version_of (map token_of tokens.now)) why) }
+        (λ version. by_tokens version_of (tokens_of line.now) ≡ Some version)
+        (λ why. IsUnread (by_tokens version_of (tokens_of line.now)) why) }
 {
-    let [Token::Word(version), after @ ..] = tokens else {
+    let Some((version, after)) = first_word(line) else {
         return Err(StatementFault::Form);
     };
-    if !after.is_empty() {
+    if !is_blank_line(after) {
         return Err(StatementFault::Form);
     }
-    if *version == b"1".as_slice() {
+    if version == b"1".as_slice() {
         Ok(Version::One)
-    } else if *version == b"2".as_slice() {
+    } else if version == b"2".as_slice() {
         Ok(Version::Two)
     } else {
         Err(StatementFault::Form)

@@ -60,8 +60,8 @@ impl<'c, 't> Text<'t> for Statements<'c> {
 
     ghost node_count = { λ netlist. length netlist.names };
 
-    fn statement(&mut self, tokens: &[Token<'t>]) -> Result<Held, StatementFault> {
-        let [Token::Word(word), rest @ ..] = tokens else {
+    fn statement(&mut self, first: Token<'t>, rest: &'t [u8]) -> Result<Held, StatementFault> {
+        let Token::Word(word) = first else {
             return Err(StatementFault::Form);
         };
         let Some(keyword) = read_keyword(word) else {
@@ -71,7 +71,7 @@ impl<'c, 't> Text<'t> for Statements<'c> {
         Ok(Held { keyword, assigned })
     }
 
-    // Each line is read by its tokens.
+    // No line has a form of its own.
     fn short(&self, _line: &'t [u8]) -> Option<Held> {
         None
     }
